@@ -1,0 +1,12 @@
+use Rattle.std.proofs.Common.{◌≡◌, ◌+◌, ◌-◌, ◌<◌, ◌≤◌, length, take, drop, get_or, IsTrue, ℕ, rules, arith, refl, sym, ap, ◌∙◌}
+use Rattle.wcps_text.proofs.Bytes.{every_more, stops_at, stops_end}
+use Rattle.wcps_text.proofs.runs.run.Goals as goal
+
+pub loop-count-preserved : goal.loop-count-preserved
+loop-count-preserved c =
+    let e : c.loop-count.count + 1 - 1 ≡ c.loop-count.count = omega arith in
+    record {
+      within = omega arith;
+      last = λ lt. rw e (c.is_of.ensures.ascii (rw c.if-is_of.true refl));
+      front = every_more _ _ c.loop-count.count _ 0 (omega arith) (omega arith) c.loop-count.invariant.front (rw (← c.is_of.ensures.value, c.if-is_of.true) refl);
+    }

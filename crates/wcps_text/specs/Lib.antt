@@ -1,0 +1,6 @@
+pub mod Token
+pub mod Tree
+pub mod Grammar
+pub mod Limits
+pub mod Lexing
+pub mod Runs

@@ -1,0 +1,36 @@
+//! Why a text has no tokens.
+
+ghost use Rattle.std.specs.Prelude.{◌≡◌};
+ghost use Rattle.wcps_text.specs.declared.error.LexError.TheVariants.{NoMemory};
+
+use std::alloc::{AllocError, AllocFailed};
+
+/// Why a text was not cut into tokens.
+#[derive(Debug, Drop, thiserror::Error)]
+pub enum LexError {
+    /// Bytes that begin no token, a string without its end, or a name of more than 64 bytes.
+    #[error("no token is written so")]
+    BadToken,
+    /// A number above 9223372036854775807.
+    #[error("the number is too large")]
+    NumberTooLarge,
+    /// Memory ran out. It says nothing of the text.
+    #[error("out of memory")]
+    NoMemory,
+}
+
+impl From<AllocError> for LexError {
+    ghost from_gives = { λ _ e. e ≡ NoMemory };
+
+    fn from(_e: AllocError) -> LexError {
+        LexError::NoMemory
+    }
+}
+
+impl<T: Drop> From<AllocFailed<T>> for LexError {
+    ghost from_gives = { λ _ e. e ≡ NoMemory };
+
+    fn from(_e: AllocFailed<T>) -> LexError {
+        LexError::NoMemory
+    }
+}

@@ -1,0 +1,24 @@
+//! The text of a query: its tokens, and the syntax trees that tokens spell.
+//!
+//! The language is the WCPS Language Interface Standard, OGC 08-068r2, in this project's own profile.
+#![tactic(auto)]
+
+mod error;
+mod keyword;
+mod lexer;
+mod name;
+mod number;
+mod piece;
+mod runs;
+mod symbol;
+mod token;
+mod tree;
+
+pub use error::LexError;
+pub use lexer::lex;
+pub use name::QueryName;
+pub use token::{Keyword, Kind, Literal, Symbol, Token};
+pub use tree::{
+    BinaryOp, Binding, CondenseOp, Expr, Interval, Item, Iter, ListItem, Part, Place, Query,
+    ReduceOp, Sub, UnaryOp,
+};

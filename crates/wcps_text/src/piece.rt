@@ -1,0 +1,129 @@
+//! What the first bytes of a text are: how many belong to the token, and what it is.
+
+ghost use Rattle.std.specs.Prelude.{◌≡◌, ◌+◌, ◌-◌, ◌<◌, ◌≤◌, length, take, drop, get_or, IfOk, IsTrue};
+ghost use Rattle.std.specs.Char.{is_ascii_digit};
+ghost use Rattle.wcps_text.specs.Lexing.{begins_name};
+
+use crate::error::LexError;
+use crate::keyword::keyword_of;
+use crate::number::decimal;
+use crate::runs::{Class, run};
+use crate::symbol::{double, single};
+use crate::token::Kind;
+
+/// The greatest length of a name in bytes, its `$` among them.
+const MAX_NAME: usize = 64;
+
+/// The token at the front.
+pub fn front(bytes: &[u8]) -> Result<(usize, Kind), LexError>
+    requires { 0 < length bytes.now }
+    ensures within { IfOk result (λ x. x.0 ≤ length bytes.now) }
+    ensures some { IfOk result (λ x. 0 < x.0) }
+    ensures first { IfOk result (λ x. get_or bytes.now 0 0 < 128) }
+    ensures last { IfOk result (λ x. get_or bytes.now (x.0 - 1) 0 < 128) }
+{
+    let first = bytes[0];
+    if first.is_ascii_digit() {
+        return number(bytes);
+    }
+    if begins_name(first) {
+        return name(bytes);
+    }
+    if first == b'$' {
+        return variable(bytes);
+    }
+    if first == b'"' {
+        return string(bytes);
+    }
+    symbol(bytes)
+}
+
+fn begins_name(byte: u8) -> bool
+    ensures { result ≡ begins_name byte }
+{
+    byte.is_ascii_alphabetic() || byte == b'_'
+}
+
+fn number(bytes: &[u8]) -> Result<(usize, Kind), LexError>
+    requires some { 0 < length bytes.now }
+    requires digit { IsTrue (is_ascii_digit (get_or bytes.now 0 0)) }
+    ensures within { IfOk result (λ x. x.0 ≤ length bytes.now) }
+    ensures some { IfOk result (λ x. 0 < x.0) }
+    ensures last { IfOk result (λ x. get_or bytes.now (x.0 - 1) 0 < 128) }
+{
+    let count = 1 + run(Class::Digit, &bytes[1..]);
+    match decimal(&bytes[..count]) {
+        Some(value) => Ok((count, Kind::Number(value))),
+        None => Err(LexError::NumberTooLarge),
+    }
+}
+
+fn name(bytes: &[u8]) -> Result<(usize, Kind), LexError>
+    requires some { 0 < length bytes.now }
+    requires letter { IsTrue (begins_name (get_or bytes.now 0 0)) }
+    ensures within { IfOk result (λ x. x.0 ≤ length bytes.now) }
+    ensures some { IfOk result (λ x. 0 < x.0) }
+    ensures last { IfOk result (λ x. get_or bytes.now (x.0 - 1) 0 < 128) }
+{
+    let count = 1 + run(Class::Name, &bytes[1..]);
+    if count > MAX_NAME {
+        return Err(LexError::BadToken);
+    }
+    match keyword_of(&bytes[..count]) {
+        Some(word) => Ok((count, Kind::Keyword(word))),
+        None => Ok((count, Kind::Name)),
+    }
+}
+
+/// A name behind `$`.
+fn variable(bytes: &[u8]) -> Result<(usize, Kind), LexError>
+    requires some { 0 < length bytes.now }
+    requires dollar { get_or bytes.now 0 0 ≡ 36 }
+    ensures within { IfOk result (λ x. x.0 ≤ length bytes.now) }
+    ensures some { IfOk result (λ x. 0 < x.0) }
+    ensures last { IfOk result (λ x. get_or bytes.now (x.0 - 1) 0 < 128) }
+{
+    let rest = &bytes[1..];
+    match rest.first() {
+        Some(byte) if begins_name(*byte) => {}
+        _ => return Err(LexError::BadToken),
+    }
+    let count = 1 + run(Class::Name, rest);
+    if count > MAX_NAME {
+        return Err(LexError::BadToken);
+    }
+    Ok((count, Kind::Variable))
+}
+
+/// A string, with its quotes.
+fn string(bytes: &[u8]) -> Result<(usize, Kind), LexError>
+    requires some { 0 < length bytes.now }
+    requires quote { get_or bytes.now 0 0 ≡ 34 }
+    ensures within { IfOk result (λ x. x.0 ≤ length bytes.now) }
+    ensures some { IfOk result (λ x. 0 < x.0) }
+    ensures last { IfOk result (λ x. get_or bytes.now (x.0 - 1) 0 < 128) }
+{
+    let inside = run(Class::Quotable, &bytes[1..]);
+    match bytes.get(1 + inside) {
+        Some(b'"') => Ok((inside + 2, Kind::Text)),
+        _ => Err(LexError::BadToken),
+    }
+}
+
+fn symbol(bytes: &[u8]) -> Result<(usize, Kind), LexError>
+    requires { 0 < length bytes.now }
+    ensures first { IfOk result (λ x. get_or bytes.now 0 0 < 128) }
+    ensures within { IfOk result (λ x. x.0 ≤ length bytes.now) }
+    ensures some { IfOk result (λ x. 0 < x.0) }
+    ensures last { IfOk result (λ x. get_or bytes.now (x.0 - 1) 0 < 128) }
+{
+    if let Some(b'=') = bytes.get(1) {
+        if let Some(symbol) = double(bytes[0]) {
+            return Ok((2, Kind::Symbol(symbol)));
+        }
+    }
+    match single(bytes[0]) {
+        Some(symbol) => Ok((1, Kind::Symbol(symbol))),
+        None => Err(LexError::BadToken),
+    }
+}

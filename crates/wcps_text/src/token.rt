@@ -1,0 +1,91 @@
+//! Tokens, which borrow the text that they were read from.
+
+ghost use Rattle.std.specs.Prelude.{◌<◌, ◌^◌};
+
+/// A mark of one or two characters.
+#[derive(Clone, Copy, Debug, PartialEq, Eq)]
+pub enum Symbol {
+    LeftParen,
+    RightParen,
+    LeftBracket,
+    RightBracket,
+    LeftBrace,
+    RightBrace,
+    Comma,
+    Semicolon,
+    Colon,
+    Dot,
+    Less,
+    LessEqual,
+    Greater,
+    GreaterEqual,
+    Equal,
+    NotEqual,
+    Plus,
+    Minus,
+    Star,
+    Slash,
+}
+
+/// A word of the language. It is written in any ASCII case, and is no name.
+#[derive(Clone, Copy, Debug, PartialEq, Eq)]
+pub enum Keyword {
+    For,
+    In,
+    Where,
+    Return,
+    Encode,
+    Csv,
+    Coverage,
+    Over,
+    Values,
+    Value,
+    List,
+    Condense,
+    Using,
+    And,
+    Or,
+    Xor,
+    Not,
+    Abs,
+    Bit,
+    True,
+    False,
+    Count,
+    Some,
+    All,
+    Add,
+    Avg,
+    Min,
+    Max,
+    ImageCrsDomain,
+}
+
+/// A number as a query writes it, without a sign: at most 9223372036854775807.
+#[derive(Clone, Copy, Debug, PartialEq, Eq)]
+pub struct Literal {
+    pub value: u64,
+    ghost small: { value < 2 ^ 63 },
+}
+
+/// What a token is.
+#[derive(Clone, Copy, Debug, PartialEq, Eq)]
+pub enum Kind {
+    Number(Literal),
+    /// A name without `$` that is no word of the language.
+    Name,
+    /// A name with `$`.
+    Variable,
+    /// A text between double quotes, which are part of the token.
+    Text,
+    Keyword(Keyword),
+    Symbol(Symbol),
+}
+
+/// One token: what it is, its bytes, and at which byte of the text it starts.
+#[derive(Clone, Copy, Debug)]
+pub struct Token<'a> {
+    pub kind: Kind,
+    pub text: &'a str,
+    pub start: usize,
+}
