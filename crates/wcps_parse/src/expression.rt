@@ -1,0 +1,487 @@
+//! Expressions, by recursive descent. Each function gives what it read and the tokens behind it.
+
+ghost use Rattle.std.specs.Prelude.{◌<◌, ◌≤◌, length, IfOk};
+
+use crate::error::ParseError;
+use crate::front::{
+    Postfix, Start, binary_at, bounds_at, condenser_at, item_at, name_at, postfix_at, prefix_at,
+    rank_of, sign_at, start_at, variable_at, word_at,
+};
+use crate::grown;
+use crate::grown::Grown;
+use std::alloc::Global;
+use wcps_text::{
+    Expr, Interval, Iter, Keyword, ListItem, Part, Place, QueryName, Sub, Symbol, Token, UnaryOp,
+};
+
+/// The rank of the loosest operators.
+pub const MAX_RANK: u8 = 5;
+
+/// An expression with no operator looser than the rank.
+///
+/// Of the operators behind an operand, each takes as its right operand what binds tighter than itself: so operators
+/// of one rank group to the left.
+#[cycle(expression)]
+pub fn level<'t, 'a>(
+    alloc: Global,
+    rank: u8,
+    tokens: &'t [Token<'a>],
+) -> Result<(Grown<Expr>, &'t [Token<'a>]), ParseError>
+    ensures shorter { IfOk result (λ x. length x.1.now < length tokens.now) }
+{
+    let (mut left, mut rest) = operand(alloc, tokens)?;
+    while let Some((op, after)) = binary_at(rank, rest) {
+        let (right, after) = level(alloc, rank_of(op) - 1, after)?;
+        left = grown::binary(alloc, op, left, right)?;
+        rest = after;
+    }
+    Ok((left, rest))
+}
+
+/// The operators before an operand.
+fn prefixes<'t, 'a>(
+    alloc: Global,
+    tokens: &'t [Token<'a>],
+) -> Result<(Vec<UnaryOp>, &'t [Token<'a>]), ParseError>
+    ensures shorter { IfOk result (λ x. length x.1.now ≤ length tokens.now) }
+{
+    let mut ops = Vec::new(alloc);
+    while let Some((op, _)) = prefix_at(&tokens[ops.len()..]) {
+        ops.push(op)?;
+    }
+    let rest = &tokens[ops.len()..];
+    Ok((ops, rest))
+}
+
+/// An operand with the operators before it.
+#[cycle(expression)]
+fn operand<'t, 'a>(
+    alloc: Global,
+    tokens: &'t [Token<'a>],
+) -> Result<(Grown<Expr>, &'t [Token<'a>]), ParseError>
+    ensures shorter { IfOk result (λ x. length x.1.now < length tokens.now) }
+{
+    let (ops, rest) = prefixes(alloc, tokens)?;
+    let (inner, rest) = post(alloc, rest)?;
+    Ok((grown::prefixed(alloc, ops, inner)?, rest))
+}
+
+/// An expression without an operator before it, with the fields and brackets behind it.
+#[cycle(expression)]
+fn post<'t, 'a>(
+    alloc: Global,
+    tokens: &'t [Token<'a>],
+) -> Result<(Grown<Expr>, &'t [Token<'a>]), ParseError>
+    ensures shorter { IfOk result (λ x. length x.1.now < length tokens.now) }
+{
+    let (mut whole, mut rest) = prim(alloc, tokens)?;
+    while let Some((kind, after)) = postfix_at(rest) {
+        let (next, after) = postfix(alloc, kind, whole, after)?;
+        whole = next;
+        rest = after;
+    }
+    Ok((whole, rest))
+}
+
+/// What follows a dot or an opening bracket.
+#[cycle(expression)]
+fn postfix<'t, 'a>(
+    alloc: Global,
+    kind: Postfix,
+    whole: Grown<Expr>,
+    tokens: &'t [Token<'a>],
+) -> Result<(Grown<Expr>, &'t [Token<'a>]), ParseError>
+    ensures shorter { IfOk result (λ x. length x.1.now < length tokens.now) }
+{
+    match kind {
+        Postfix::Field => {
+            let Some((name, rest)) = name_at(tokens) else {
+                return Err(ParseError::BadSyntax);
+            };
+            Ok((grown::field(alloc, whole, name)?, rest))
+        }
+        Postfix::Brackets => {
+            let (list, rest) = subs(alloc, tokens)?;
+            let Some(rest) = sign_at(Symbol::RightBracket, rest) else {
+                return Err(ParseError::BadSyntax);
+            };
+            Ok((grown::brackets(alloc, whole, list)?, rest))
+        }
+    }
+}
+
+/// An expression without an operator before it.
+#[cycle(expression)]
+fn prim<'t, 'a>(
+    alloc: Global,
+    tokens: &'t [Token<'a>],
+) -> Result<(Grown<Expr>, &'t [Token<'a>]), ParseError>
+    ensures shorter { IfOk result (λ x. length x.1.now < length tokens.now) }
+{
+    let Some((start, rest)) = start_at(tokens) else {
+        return Err(ParseError::BadSyntax);
+    };
+    match start {
+        Start::Number(literal) => Ok((Grown::Fits(Expr::Number(literal), 1), rest)),
+        Start::Truth(truth) => Ok((Grown::Fits(Expr::Truth(truth), 1), rest)),
+        Start::Variable(name) => {
+            let name = QueryName::new(alloc, name)?;
+            Ok((Grown::Fits(Expr::Variable(name), 1), rest))
+        }
+        Start::Paren => enclosed(alloc, rest),
+        Start::Brace => record(alloc, rest),
+        Start::Abs => {
+            let (value, rest) = in_parens(alloc, rest)?;
+            Ok((grown::unary(alloc, UnaryOp::Abs, value)?, rest))
+        }
+        Start::Bit => bit(alloc, rest),
+        Start::Reduce(op) => {
+            let (value, rest) = in_parens(alloc, rest)?;
+            Ok((grown::reduce(alloc, op, value)?, rest))
+        }
+        Start::Coverage => coverage(alloc, rest),
+        Start::Condense => condense(alloc, rest),
+    }
+}
+
+/// An expression in parentheses.
+#[cycle(expression)]
+fn in_parens<'t, 'a>(
+    alloc: Global,
+    tokens: &'t [Token<'a>],
+) -> Result<(Grown<Expr>, &'t [Token<'a>]), ParseError>
+    ensures shorter { IfOk result (λ x. length x.1.now < length tokens.now) }
+{
+    let Some(rest) = sign_at(Symbol::LeftParen, tokens) else {
+        return Err(ParseError::BadSyntax);
+    };
+    enclosed(alloc, rest)
+}
+
+/// An expression and the parenthesis behind it.
+#[cycle(expression)]
+fn enclosed<'t, 'a>(
+    alloc: Global,
+    tokens: &'t [Token<'a>],
+) -> Result<(Grown<Expr>, &'t [Token<'a>]), ParseError>
+    ensures shorter { IfOk result (λ x. length x.1.now < length tokens.now) }
+{
+    let (value, rest) = level(alloc, MAX_RANK, tokens)?;
+    let Some(rest) = sign_at(Symbol::RightParen, rest) else {
+        return Err(ParseError::BadSyntax);
+    };
+    Ok((value, rest))
+}
+
+/// What follows the word `bit`.
+#[cycle(expression)]
+fn bit<'t, 'a>(
+    alloc: Global,
+    tokens: &'t [Token<'a>],
+) -> Result<(Grown<Expr>, &'t [Token<'a>]), ParseError>
+    ensures shorter { IfOk result (λ x. length x.1.now < length tokens.now) }
+{
+    let Some(rest) = sign_at(Symbol::LeftParen, tokens) else {
+        return Err(ParseError::BadSyntax);
+    };
+    let (value, rest) = level(alloc, MAX_RANK, rest)?;
+    let Some(rest) = sign_at(Symbol::Comma, rest) else {
+        return Err(ParseError::BadSyntax);
+    };
+    let (place, rest) = enclosed(alloc, rest)?;
+    Ok((grown::bit(alloc, value, place)?, rest))
+}
+
+/// What follows an opening brace.
+#[cycle(expression)]
+fn record<'t, 'a>(
+    alloc: Global,
+    tokens: &'t [Token<'a>],
+) -> Result<(Grown<Expr>, &'t [Token<'a>]), ParseError>
+    ensures shorter { IfOk result (λ x. length x.1.now < length tokens.now) }
+{
+    let (list, rest) = parts(alloc, tokens)?;
+    let Some(rest) = sign_at(Symbol::RightBrace, rest) else {
+        return Err(ParseError::BadSyntax);
+    };
+    Ok((grown::record(list), rest))
+}
+
+/// Parts of `{..}` with semicolons between them.
+#[cycle(expression)]
+fn parts<'t, 'a>(
+    alloc: Global,
+    tokens: &'t [Token<'a>],
+) -> Result<(Grown<Vec<Part>>, &'t [Token<'a>]), ParseError>
+    ensures shorter { IfOk result (λ x. length x.1.now < length tokens.now) }
+{
+    let (first, mut rest) = part_at(alloc, tokens)?;
+    let mut list = grown::pushed(Grown::Fits(Vec::new(alloc), 0), first)?;
+    while let Some(next) = sign_at(Symbol::Semicolon, rest) {
+        let (one, after) = part_at(alloc, next)?;
+        list = grown::pushed(list, one)?;
+        rest = after;
+    }
+    Ok((list, rest))
+}
+
+#[cycle(expression)]
+fn part_at<'t, 'a>(
+    alloc: Global,
+    tokens: &'t [Token<'a>],
+) -> Result<(Grown<Part>, &'t [Token<'a>]), ParseError>
+    ensures shorter { IfOk result (λ x. length x.1.now < length tokens.now) }
+{
+    let Some((name, rest)) = name_at(tokens) else {
+        return Err(ParseError::BadSyntax);
+    };
+    let Some(rest) = sign_at(Symbol::Colon, rest) else {
+        return Err(ParseError::BadSyntax);
+    };
+    let (value, rest) = level(alloc, MAX_RANK, rest)?;
+    Ok((grown::part(alloc, name, value)?, rest))
+}
+
+/// Parts of a bracket with commas between them.
+#[cycle(expression)]
+fn subs<'t, 'a>(
+    alloc: Global,
+    tokens: &'t [Token<'a>],
+) -> Result<(Grown<Vec<Sub>>, &'t [Token<'a>]), ParseError>
+    ensures shorter { IfOk result (λ x. length x.1.now < length tokens.now) }
+{
+    let (first, mut rest) = sub_at(alloc, tokens)?;
+    let mut list = grown::pushed(Grown::Fits(Vec::new(alloc), 0), first)?;
+    while let Some(next) = sign_at(Symbol::Comma, rest) {
+        let (one, after) = sub_at(alloc, next)?;
+        list = grown::pushed(list, one)?;
+        rest = after;
+    }
+    Ok((list, rest))
+}
+
+#[cycle(expression)]
+fn sub_at<'t, 'a>(
+    alloc: Global,
+    tokens: &'t [Token<'a>],
+) -> Result<(Grown<Sub>, &'t [Token<'a>]), ParseError>
+    ensures shorter { IfOk result (λ x. length x.1.now < length tokens.now) }
+{
+    let Some((axis, rest)) = name_at(tokens) else {
+        return Err(ParseError::BadSyntax);
+    };
+    let Some(rest) = sign_at(Symbol::LeftParen, rest) else {
+        return Err(ParseError::BadSyntax);
+    };
+    let (place, rest) = place(alloc, rest)?;
+    let Some(rest) = sign_at(Symbol::RightParen, rest) else {
+        return Err(ParseError::BadSyntax);
+    };
+    Ok((grown::sub(alloc, axis, place)?, rest))
+}
+
+/// An interval of an axis, or a position on it.
+#[cycle(expression)]
+fn place<'t, 'a>(
+    alloc: Global,
+    tokens: &'t [Token<'a>],
+) -> Result<(Grown<Place>, &'t [Token<'a>]), ParseError>
+    ensures shorter { IfOk result (λ x. length x.1.now < length tokens.now) }
+{
+    if let Some((bounds, rest)) = bounds_at(tokens) {
+        return Ok((Grown::Fits(Place::Trim(bounds), 0), rest));
+    }
+    if let Some(rest) = word_at(Keyword::ImageCrsDomain, tokens) {
+        let (interval, rest) = domain(alloc, rest)?;
+        return Ok((grown::trim(interval), rest));
+    }
+    let (position, rest) = level(alloc, MAX_RANK, tokens)?;
+    Ok((grown::at(alloc, position)?, rest))
+}
+
+#[cycle(expression)]
+fn interval<'t, 'a>(
+    alloc: Global,
+    tokens: &'t [Token<'a>],
+) -> Result<(Grown<Interval>, &'t [Token<'a>]), ParseError>
+    ensures shorter { IfOk result (λ x. length x.1.now < length tokens.now) }
+{
+    if let Some((bounds, rest)) = bounds_at(tokens) {
+        return Ok((Grown::Fits(bounds, 0), rest));
+    }
+    let Some(rest) = word_at(Keyword::ImageCrsDomain, tokens) else {
+        return Err(ParseError::BadSyntax);
+    };
+    domain(alloc, rest)
+}
+
+/// What follows the word `imageCrsDomain`.
+#[cycle(expression)]
+fn domain<'t, 'a>(
+    alloc: Global,
+    tokens: &'t [Token<'a>],
+) -> Result<(Grown<Interval>, &'t [Token<'a>]), ParseError>
+    ensures shorter { IfOk result (λ x. length x.1.now < length tokens.now) }
+{
+    let Some(rest) = sign_at(Symbol::LeftParen, tokens) else {
+        return Err(ParseError::BadSyntax);
+    };
+    let (value, rest) = level(alloc, MAX_RANK, rest)?;
+    let Some(rest) = sign_at(Symbol::Comma, rest) else {
+        return Err(ParseError::BadSyntax);
+    };
+    let Some((axis, rest)) = name_at(rest) else {
+        return Err(ParseError::BadSyntax);
+    };
+    let Some(rest) = sign_at(Symbol::RightParen, rest) else {
+        return Err(ParseError::BadSyntax);
+    };
+    Ok((grown::domain(alloc, value, axis)?, rest))
+}
+
+/// Iterators with commas between them.
+#[cycle(expression)]
+fn iters<'t, 'a>(
+    alloc: Global,
+    tokens: &'t [Token<'a>],
+) -> Result<(Grown<Vec<Iter>>, &'t [Token<'a>]), ParseError>
+    ensures shorter { IfOk result (λ x. length x.1.now < length tokens.now) }
+{
+    let (first, mut rest) = iter_at(alloc, tokens)?;
+    let mut list = grown::pushed(Grown::Fits(Vec::new(alloc), 0), first)?;
+    while let Some(next) = sign_at(Symbol::Comma, rest) {
+        let (one, after) = iter_at(alloc, next)?;
+        list = grown::pushed(list, one)?;
+        rest = after;
+    }
+    Ok((list, rest))
+}
+
+#[cycle(expression)]
+fn iter_at<'t, 'a>(
+    alloc: Global,
+    tokens: &'t [Token<'a>],
+) -> Result<(Grown<Iter>, &'t [Token<'a>]), ParseError>
+    ensures shorter { IfOk result (λ x. length x.1.now < length tokens.now) }
+{
+    let Some((variable, rest)) = variable_at(tokens) else {
+        return Err(ParseError::BadSyntax);
+    };
+    let Some((axis, rest)) = name_at(rest) else {
+        return Err(ParseError::BadSyntax);
+    };
+    let Some(rest) = sign_at(Symbol::LeftParen, rest) else {
+        return Err(ParseError::BadSyntax);
+    };
+    let (interval, rest) = interval(alloc, rest)?;
+    let Some(rest) = sign_at(Symbol::RightParen, rest) else {
+        return Err(ParseError::BadSyntax);
+    };
+    Ok((grown::iter(alloc, variable, axis, interval)?, rest))
+}
+
+/// What follows the word `coverage`: a form with a body, or one with a list of values.
+#[cycle(expression)]
+fn coverage<'t, 'a>(
+    alloc: Global,
+    tokens: &'t [Token<'a>],
+) -> Result<(Grown<Expr>, &'t [Token<'a>]), ParseError>
+    ensures shorter { IfOk result (λ x. length x.1.now < length tokens.now) }
+{
+    let Some((_, rest)) = name_at(tokens) else {
+        return Err(ParseError::BadSyntax);
+    };
+    let Some(rest) = word_at(Keyword::Over, rest) else {
+        return Err(ParseError::BadSyntax);
+    };
+    let (iterators, rest) = iters(alloc, rest)?;
+    if let Some(rest) = word_at(Keyword::Values, rest) {
+        let (body, rest) = level(alloc, MAX_RANK, rest)?;
+        return Ok((grown::coverage(alloc, iterators, body)?, rest));
+    }
+    let (items, rest) = listed(alloc, rest)?;
+    Ok((grown::value_list(iterators, items), rest))
+}
+
+/// `value list <..>`
+fn listed<'t, 'a>(
+    alloc: Global,
+    tokens: &'t [Token<'a>],
+) -> Result<(Vec<ListItem>, &'t [Token<'a>]), ParseError>
+    ensures shorter { IfOk result (λ x. length x.1.now < length tokens.now) }
+{
+    let Some(rest) = word_at(Keyword::Value, tokens) else {
+        return Err(ParseError::BadSyntax);
+    };
+    let Some(rest) = word_at(Keyword::List, rest) else {
+        return Err(ParseError::BadSyntax);
+    };
+    let Some(rest) = sign_at(Symbol::Less, rest) else {
+        return Err(ParseError::BadSyntax);
+    };
+    let (items, rest) = items(alloc, rest)?;
+    let Some(rest) = sign_at(Symbol::Greater, rest) else {
+        return Err(ParseError::BadSyntax);
+    };
+    Ok((items, rest))
+}
+
+/// Values with semicolons between them.
+fn items<'t, 'a>(
+    alloc: Global,
+    tokens: &'t [Token<'a>],
+) -> Result<(Vec<ListItem>, &'t [Token<'a>]), ParseError>
+    ensures shorter { IfOk result (λ x. length x.1.now < length tokens.now) }
+{
+    let Some((first, mut rest)) = item_at(tokens) else {
+        return Err(ParseError::BadSyntax);
+    };
+    let mut list = Vec::new(alloc);
+    list.push(first)?;
+    while let Some(next) = sign_at(Symbol::Semicolon, rest) {
+        let Some((one, after)) = item_at(next) else {
+            return Err(ParseError::BadSyntax);
+        };
+        list.push(one)?;
+        rest = after;
+    }
+    Ok((list, rest))
+}
+
+/// The condition behind the word `where`, if it is there.
+#[cycle(expression)]
+pub fn condition<'t, 'a>(
+    alloc: Global,
+    tokens: &'t [Token<'a>],
+) -> Result<(Grown<Option<Box<Expr>>>, &'t [Token<'a>]), ParseError>
+    ensures shorter { IfOk result (λ x. length x.1.now ≤ length tokens.now) }
+{
+    let Some(rest) = word_at(Keyword::Where, tokens) else {
+        return Ok((Grown::Fits(None, 0), tokens));
+    };
+    let (test, rest) = level(alloc, MAX_RANK, rest)?;
+    Ok((grown::condition(alloc, test)?, rest))
+}
+
+/// What follows the word `condense`.
+#[cycle(expression)]
+fn condense<'t, 'a>(
+    alloc: Global,
+    tokens: &'t [Token<'a>],
+) -> Result<(Grown<Expr>, &'t [Token<'a>]), ParseError>
+    ensures shorter { IfOk result (λ x. length x.1.now < length tokens.now) }
+{
+    let Some((op, rest)) = condenser_at(tokens) else {
+        return Err(ParseError::BadSyntax);
+    };
+    let Some(rest) = word_at(Keyword::Over, rest) else {
+        return Err(ParseError::BadSyntax);
+    };
+    let (iterators, rest) = iters(alloc, rest)?;
+    let (test, rest) = condition(alloc, rest)?;
+    let Some(rest) = word_at(Keyword::Using, rest) else {
+        return Err(ParseError::BadSyntax);
+    };
+    let (body, rest) = level(alloc, MAX_RANK, rest)?;
+    Ok((grown::condense(alloc, op, iterators, test, body)?, rest))
+}

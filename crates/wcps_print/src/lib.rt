@@ -1,0 +1,11 @@
+//! Queries as text again.
+#![tactic(auto)]
+
+mod expression;
+mod query;
+mod words;
+
+pub use query::print;
+
+#[cfg(test)]
+mod tests;
