@@ -1,0 +1,5 @@
+pub mod Caps
+pub mod Applied
+pub mod Domains
+pub mod Parts
+pub mod Choices

@@ -1,0 +1,15 @@
+pub mod Typed
+pub mod WellTyped
+pub mod Names
+pub mod Shapes
+pub mod Operators
+pub mod Work
+pub mod Cells
+pub mod Brackets
+pub mod Records
+pub mod Boxes
+pub mod Variables
+pub mod Bindings
+pub mod Typing
+pub mod Queries
+pub mod Refusals

@@ -1,0 +1,27 @@
+-- Looking names up in lists: the place of the first one of that name.
+use Rattle.std.specs.Prelude.{ℕ, List, Option, Some, None, Bool, false, position}
+use Rattle.std.specs.Str.{bytes_eq}
+use Rattle.arr_core.specs.declared.domain.Axis.{Axis}
+use Rattle.arr_core.specs.declared.signature.Signature.{Signature}
+use Rattle.wcps_types.specs.declared.names.Bound.{Bound}
+
+-- the place of the axis of that name
+abbrev pub axis_place : List ℕ → List Axis → Option ℕ
+axis_place name axes = position (λ (a : Axis). bytes_eq a.name name) axes
+
+-- the place of the coverage of that name
+abbrev pub coverage_place : List ℕ → List Signature → Option ℕ
+coverage_place name coverages = position (λ (s : Signature). bytes_eq s.name name) coverages
+
+-- the place of the variable of that name
+abbrev pub bound_place : List ℕ → List Bound → Option ℕ
+bound_place name bound = position (λ (b : Bound). bytes_eq b.variable name) bound
+
+-- the place of a name among others
+abbrev pub name_place : List ℕ → List (List ℕ) → Option ℕ
+name_place name names = position (λ (n : List ℕ). bytes_eq n name) names
+
+-- an optional name is that one
+abbrev pub is_name_of : List ℕ → Option (List ℕ) → Bool
+is_name_of name None = false
+is_name_of name (Some own) = bytes_eq own name

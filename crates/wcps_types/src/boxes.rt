@@ -1,0 +1,282 @@
+//! Iterator lists, and the forms over a box.
+
+ghost use Rattle.std.specs.Prelude.{◌≡◌, ◌++◌, IfOk, map};
+ghost use Rattle.std.specs.Option.{option_map};
+ghost use Rattle.std.specs.List.{list_all};
+ghost use Rattle.wcps_types.specs.Typed.{typed_view};
+ghost use Rattle.wcps_types.specs.Shapes.{Says, shape_view, scalar_of_view};
+ghost use Rattle.wcps_types.specs.Brackets.{bounds_view};
+ghost use Rattle.wcps_types.specs.Boxes.{iterators_view, no_iterators, is_taken, axis_of, with_iterator, box_of, array_on, condition_of, condensed, integers_condensed, booleans_condensed, is_truth, item_number, first_is_truth, has_kind, other_kind, listed_on, value_list};
+
+use crate::bounds::Bounds;
+use crate::names::{Bound, bound_place, name_place};
+use crate::nodes::{array_node, condense_node};
+use crate::refusal::{CheckError, TypeRefusal};
+use crate::shape::{OneScalar, Shape, unnamed, unnamed_scalar};
+use crate::typed::{Condenser, Node};
+use arr_core::{Axis, Domain, Name, NameError};
+use std::alloc::{AllocError, Global};
+use wcps_text::{CondenseOp, ListItem, QueryName};
+
+/// Iterators so far: their variables, and the axes that they go over.
+#[derive(Debug, Drop)]
+pub struct Iterators {
+    pub variables: Vec<QueryName>,
+    pub axes: Vec<Axis>,
+}
+
+impl Iterators {
+    /// None yet.
+    pub fn new(alloc: Global) -> Iterators
+        ensures { iterators_view result ≡ no_iterators }
+    {
+        Iterators {
+            variables: Vec::new(alloc),
+            axes: Vec::new(alloc),
+        }
+    }
+}
+
+/// Whether a variable is bound by `for`, by an iterator in scope, or by one before it in its list.
+pub fn is_taken(
+    bound: &[Bound],
+    scope: &[QueryName],
+    before: &[QueryName],
+    name: &QueryName,
+) -> bool
+    ensures { result ≡ is_taken bound.now scope.now before.now name.now }
+{
+    bound_place(bound, name).is_some()
+        || name_place(scope, name).is_some()
+        || name_place(before, name).is_some()
+}
+
+/// An axis with those bounds. The grammar spells names alone.
+fn axis_of(alloc: Global, name: &QueryName, bounds: Bounds) -> Result<Axis, CheckError>
+    ensures { Says (λ a. a) result (axis_of name.now (bounds_view bounds)) }
+{
+    match Name::new(alloc, name.as_str()) {
+        Ok(name) => Ok(Axis {
+            name,
+            lo: bounds.lo,
+            hi: bounds.hi,
+        }),
+        Err(NameError::BadName) => Err(CheckError::Refused(TypeRefusal::NoSuchAxis)),
+        Err(NameError::NoMemory) => Err(CheckError::NoMemory),
+    }
+}
+
+/// The iterators with one more.
+pub fn with_iterator(
+    alloc: Global,
+    iterators: Iterators,
+    variable: &QueryName,
+    axis: &QueryName,
+    bounds: Bounds,
+) -> Result<Iterators, CheckError>
+    ensures { Says iterators_view result (with_iterator variable.now axis.now (bounds_view bounds) (iterators_view iterators)) }
+{
+    let Iterators {
+        mut variables,
+        mut axes,
+    } = iterators;
+    let axis = axis_of(alloc, axis, bounds)?;
+    let variable = QueryName::new(alloc, variable.as_str())?;
+    variables.push(variable)?;
+    axes.push(axis)?;
+    Ok(Iterators { variables, axes })
+}
+
+/// The iterators in scope and those of a list, innermost last.
+pub fn inner_scope(
+    alloc: Global,
+    scope: &[QueryName],
+    variables: &[QueryName],
+) -> Result<Vec<QueryName>, AllocError>
+    ensures { IfOk result (λ v. v.items ≡ scope.now ++ variables.now) }
+{
+    let mut inner = Vec::new(alloc);
+    for name in scope {
+        inner.push(QueryName::new(alloc, name.as_str())?)?;
+    }
+    for name in variables {
+        inner.push(QueryName::new(alloc, name.as_str())?)?;
+    }
+    Ok(inner)
+}
+
+/// The box of the axes.
+pub fn box_of(axes: Vec<Axis>) -> Result<Domain, CheckError>
+    ensures { Says (λ d. d) result (box_of axes.items) }
+{
+    match Domain::new(axes) {
+        Ok(domain) => Ok(domain),
+        Err(_) => Err(CheckError::Refused(TypeRefusal::BadInterval)),
+    }
+}
+
+/// `coverage .. values` of a scalar.
+pub fn array(alloc: Global, domain: Domain, body: OneScalar) -> Result<Shape, CheckError>
+    ensures { Says shape_view result (array_on domain (scalar_of_view body)) }
+{
+    let OneScalar { boolean, node } = body;
+    let node = array_node(alloc, node)?;
+    Ok(unnamed(alloc, domain, boolean, node)?)
+}
+
+/// A condition: a Boolean scalar.
+pub fn condition_of(condition: OneScalar) -> Result<Node, CheckError>
+    ensures { Says typed_view result (condition_of (scalar_of_view condition)) }
+{
+    if !condition.boolean {
+        return Err(CheckError::Refused(TypeRefusal::NeedsBoolean));
+    }
+    Ok(condition.node)
+}
+
+/// `condense`.
+pub fn condensed(
+    alloc: Global,
+    op: CondenseOp,
+    domain: Domain,
+    condition: Option<Node>,
+    body: OneScalar,
+) -> Result<Shape, CheckError>
+    ensures { Says shape_view result (condensed op domain (option_map typed_view condition) (scalar_of_view body)) }
+{
+    match op {
+        CondenseOp::Add => integers_condensed(alloc, Condenser::Add, domain, condition, body),
+        CondenseOp::Multiply => integers_condensed(
+            alloc,
+            Condenser::Multiply,
+            domain,
+            condition,
+            body,
+        ),
+        CondenseOp::Max => integers_condensed(alloc, Condenser::Max, domain, condition, body),
+        CondenseOp::Min => integers_condensed(alloc, Condenser::Min, domain, condition, body),
+        CondenseOp::And => booleans_condensed(alloc, Condenser::And, domain, condition, body),
+        CondenseOp::Or => booleans_condensed(alloc, Condenser::Or, domain, condition, body),
+    }
+}
+
+fn integers_condensed(
+    alloc: Global,
+    op: Condenser,
+    domain: Domain,
+    condition: Option<Node>,
+    body: OneScalar,
+) -> Result<Shape, CheckError>
+    ensures { Says shape_view result (integers_condensed op domain (option_map typed_view condition) (scalar_of_view body)) }
+{
+    let OneScalar { boolean, node } = body;
+    if boolean {
+        return Err(CheckError::Refused(TypeRefusal::NeedsInteger));
+    }
+    let node = condense_node(alloc, op, domain, condition, node)?;
+    Ok(unnamed_scalar(alloc, false, node)?)
+}
+
+fn booleans_condensed(
+    alloc: Global,
+    op: Condenser,
+    domain: Domain,
+    condition: Option<Node>,
+    body: OneScalar,
+) -> Result<Shape, CheckError>
+    ensures { Says shape_view result (booleans_condensed op domain (option_map typed_view condition) (scalar_of_view body)) }
+{
+    let OneScalar { boolean, node } = body;
+    if !boolean {
+        return Err(CheckError::Refused(TypeRefusal::NeedsBoolean));
+    }
+    let node = condense_node(alloc, op, domain, condition, node)?;
+    Ok(unnamed_scalar(alloc, true, node)?)
+}
+
+/// Whether an item is a Boolean.
+fn is_truth(item: ListItem) -> bool
+    ensures { result ≡ is_truth item }
+{
+    match item {
+        ListItem::Int(_) => false,
+        ListItem::Truth(_) => true,
+    }
+}
+
+/// An item as a number: 1 for true, 0 for false.
+fn item_number(item: ListItem) -> i64
+    ensures { result ≡ item_number item }
+{
+    match item {
+        ListItem::Int(z) => z,
+        ListItem::Truth(b) => i64::from(b),
+    }
+}
+
+/// Whether an item is a Boolean, or whether it is none.
+fn has_kind(boolean: bool, item: ListItem) -> bool
+    ensures { result ≡ has_kind boolean item }
+{
+    if boolean {
+        is_truth(item)
+    } else {
+        !is_truth(item)
+    }
+}
+
+/// What refuses an item of another kind than the first.
+fn other_kind(boolean: bool) -> TypeRefusal
+    ensures { result ≡ other_kind boolean }
+{
+    if boolean {
+        TypeRefusal::NeedsBoolean
+    } else {
+        TypeRefusal::NeedsInteger
+    }
+}
+
+/// Whether the first item is a Boolean.
+fn first_is_truth(items: &[ListItem]) -> bool
+    ensures { result ≡ first_is_truth items.now }
+{
+    match items {
+        [] => false,
+        [first, ..] => is_truth(*first),
+    }
+}
+
+/// The numbers of the items.
+fn item_numbers(alloc: Global, items: &[ListItem]) -> Result<Vec<i64>, AllocError>
+    ensures { IfOk result (λ v. v.items ≡ map item_number items.now) }
+{
+    let mut numbers = Vec::new(alloc);
+    for item in items {
+        numbers.push(item_number(*item))?;
+    }
+    Ok(numbers)
+}
+
+/// Whether all items are Booleans, or none is.
+fn are_of_kind(boolean: bool, items: &[ListItem]) -> bool
+    ensures { result ≡ list_all (has_kind boolean) items.now }
+{
+    items.iter().all(|item| has_kind(boolean, *item))
+}
+
+/// `coverage .. value list`.
+pub fn value_list(alloc: Global, domain: Domain, items: &[ListItem]) -> Result<Shape, CheckError>
+    ensures { Says shape_view result (value_list domain items.now) }
+{
+    if items.len() as u64 != domain.points() {
+        return Err(CheckError::Refused(TypeRefusal::ListLength));
+    }
+    let boolean = first_is_truth(items);
+    if !are_of_kind(boolean, items) {
+        return Err(CheckError::Refused(other_kind(boolean)));
+    }
+    let items = item_numbers(alloc, items)?;
+    let own = domain.copy(alloc)?;
+    let node = Node::List { domain: own, items };
+    Ok(unnamed(alloc, domain, boolean, node)?)
+}

@@ -1,0 +1,305 @@
+//! Brackets: narrowing axes, and taking axes out at positions.
+
+ghost use Rattle.std.specs.Prelude.{◌≡◌, ◌≤ℤ◌, IfOk, map, slice_get};
+ghost use Rattle.std.specs.Option.{option_map};
+ghost use Rattle.arr_core.specs.Domains.{AreOrdered};
+ghost use Rattle.wcps_types.specs.Typed.{typed_view};
+ghost use Rattle.wcps_types.specs.Shapes.{Says, shape_view, slot_view, slots_view};
+ghost use Rattle.wcps_types.specs.Brackets.{bounds_view, cut_view, bracket_view, written_bounds, bounds_of, bounds_of_axis, opened, place_to_cut, with_trim, position_of, with_position, sliced_slot, cut_out, all_cut_out, bracketed_slot, bracketed, closed};
+
+use crate::bounds::Bounds;
+use crate::names::{axis_place, name_place};
+use crate::nodes::{bracket_node, slice_node};
+use crate::refusal::{CheckError, TypeRefusal};
+use crate::shape::{OneScalar, Shape, Slot, only_scalar};
+use crate::typed::Node;
+use arr_core::{Axis, Domain};
+use std::alloc::{AllocError, Global};
+use wcps_text::QueryName;
+
+/// An axis that is taken out, and where.
+#[derive(Debug, Drop)]
+pub struct Cut {
+    pub axis: QueryName,
+    pub position: Node,
+}
+
+/// Bounds as they are written.
+pub fn written_bounds(lo: i64, hi: i64) -> Result<Bounds, CheckError>
+    ensures { Says bounds_view result (written_bounds lo hi) }
+{
+    if lo <= hi && -2_147_483_648 <= lo && hi <= 2_147_483_647 {
+        return Ok(Bounds {
+            lo: lo as i32,
+            hi: hi as i32,
+        });
+    }
+    Err(CheckError::Refused(TypeRefusal::BadInterval))
+}
+
+/// The bounds of an axis.
+fn bounds_of(axis: &Axis) -> Bounds
+    requires { axis.now.lo ≤ℤ axis.now.hi }
+    ensures { bounds_view result ≡ bounds_of axis.now }
+{
+    Bounds {
+        lo: axis.lo,
+        hi: axis.hi,
+    }
+}
+
+/// The bounds of the axis at a place.
+fn bounds_at(axes: &[Axis], place: usize) -> Option<Bounds>
+    requires { AreOrdered axes.now }
+    ensures { option_map bounds_view result ≡ option_map bounds_of (slice_get axes.now place) }
+{
+    match axes {
+        [] => None,
+        [axis, rest @ ..] => {
+            if place == 0 {
+                Some(bounds_of(axis))
+            } else {
+                bounds_at(rest, place - 1)
+            }
+        }
+    }
+}
+
+/// The bounds of the axis of that name.
+pub fn bounds_of_axis(domain: &Domain, name: &QueryName) -> Result<Bounds, CheckError>
+    ensures { Says bounds_view result (bounds_of_axis name.now domain.now) }
+{
+    let axes = domain.axes();
+    match axis_place(axes, name) {
+        None => Err(CheckError::Refused(TypeRefusal::NoSuchAxis)),
+        Some(place) => match bounds_at(axes, place) {
+            None => Err(CheckError::Refused(TypeRefusal::NoSuchAxis)),
+            Some(bounds) => Ok(bounds),
+        },
+    }
+}
+
+/// A bracket so far: the domain with the axes that are trimmed narrowed, the axes that are named, and the positions.
+#[derive(Debug, Drop)]
+pub struct Bracket {
+    pub domain: Domain,
+    pub named: Vec<QueryName>,
+    pub cuts: Vec<Cut>,
+}
+
+impl Bracket {
+    /// Nothing yet.
+    pub fn new(alloc: Global, domain: Domain) -> Bracket
+        ensures { bracket_view result ≡ opened domain }
+    {
+        Bracket {
+            domain,
+            named: Vec::new(alloc),
+            cuts: Vec::new(alloc),
+        }
+    }
+}
+
+/// The place of the next axis that a bracket names.
+pub fn place_to_cut(bracket: &Bracket, axis: &QueryName) -> Result<usize, CheckError>
+    ensures { Says (λ k. k) result (place_to_cut axis.now (bracket_view bracket.now)) }
+{
+    match axis_place(bracket.domain.axes(), axis) {
+        None => Err(CheckError::Refused(TypeRefusal::NoSuchAxis)),
+        Some(place) => {
+            if name_place(&bracket.named, axis).is_some() {
+                Err(CheckError::Refused(TypeRefusal::AxisTwice))
+            } else {
+                Ok(place)
+            }
+        }
+    }
+}
+
+/// The bracket with the axis at a place trimmed, if the bounds are inside it.
+pub fn with_trim(
+    alloc: Global,
+    bracket: Bracket,
+    place: usize,
+    name: &QueryName,
+    bounds: Bounds,
+) -> Result<Bracket, CheckError>
+    ensures { Says bracket_view result (with_trim place name.now (bounds_view bounds) (bracket_view bracket)) }
+{
+    let Bracket {
+        domain,
+        mut named,
+        cuts,
+    } = bracket;
+    match bounds_at(domain.axes(), place) {
+        None => return Err(CheckError::Refused(TypeRefusal::TrimOutside)),
+        Some(own) => {
+            if bounds.lo < own.lo || own.hi < bounds.hi {
+                return Err(CheckError::Refused(TypeRefusal::TrimOutside));
+            }
+        }
+    }
+    let domain = domain.narrow(alloc, place, bounds.lo, bounds.hi)?;
+    named.push(QueryName::new(alloc, name.as_str())?)?;
+    Ok(Bracket {
+        domain,
+        named,
+        cuts,
+    })
+}
+
+/// A position: an integer scalar.
+pub fn position_of(shape: Shape) -> Result<Node, CheckError>
+    ensures { Says typed_view result (position_of (shape_view shape)) }
+{
+    let OneScalar { boolean, node } = only_scalar(shape)?;
+    if boolean {
+        return Err(CheckError::Refused(TypeRefusal::NeedsInteger));
+    }
+    Ok(node)
+}
+
+/// The bracket with an axis taken out at a position.
+pub fn with_position(
+    alloc: Global,
+    bracket: Bracket,
+    name: &QueryName,
+    position: Node,
+) -> Result<Bracket, AllocError>
+    ensures { IfOk result (λ b. bracket_view b ≡ with_position name.now (typed_view position) (bracket_view bracket)) }
+{
+    let Bracket {
+        domain,
+        mut named,
+        mut cuts,
+    } = bracket;
+    named.push(QueryName::new(alloc, name.as_str())?)?;
+    let axis = QueryName::new(alloc, name.as_str())?;
+    cuts.push(Cut { axis, position })?;
+    Ok(Bracket {
+        domain,
+        named,
+        cuts,
+    })
+}
+
+/// A field sliced at a position of the axis at a place.
+fn sliced_slot(
+    alloc: Global,
+    place: usize,
+    bounds: Bounds,
+    position: &Node,
+    slot: Slot,
+) -> Result<Slot, AllocError>
+    ensures { IfOk result (λ s. slot_view s ≡ sliced_slot place bounds.lo bounds.hi (typed_view position.now) (slot_view slot)) }
+{
+    let Slot {
+        name,
+        boolean,
+        node,
+    } = slot;
+    let position = position.copy(alloc)?;
+    let node = slice_node(alloc, node, place, bounds.lo, bounds.hi, position)?;
+    Ok(Slot {
+        name,
+        boolean,
+        node,
+    })
+}
+
+/// Each field sliced at a position of the axis at a place.
+fn sliced(
+    alloc: Global,
+    fields: Vec<Slot>,
+    place: usize,
+    bounds: Bounds,
+    position: &Node,
+) -> Result<Vec<Slot>, AllocError>
+    ensures { IfOk result (λ v. slots_view v.items ≡ map (sliced_slot place bounds.lo bounds.hi (typed_view position.now)) (slots_view fields.items)) }
+{
+    let mut slices = Vec::new(alloc);
+    for slot in fields {
+        slices.push(sliced_slot(alloc, place, bounds, position, slot)?)?;
+    }
+    Ok(slices)
+}
+
+/// The shape with one axis taken out.
+fn cut_out(alloc: Global, shape: Shape, cut: Cut) -> Result<Shape, AllocError>
+    ensures { IfOk result (λ s. shape_view s ≡ cut_out (cut_view cut) (shape_view shape)) }
+{
+    let Cut { axis, position } = cut;
+    let Shape { domain, fields } = shape;
+    let place = match axis_place(domain.axes(), &axis) {
+        None => return Ok(Shape { domain, fields }),
+        Some(place) => place,
+    };
+    let bounds = match bounds_at(domain.axes(), place) {
+        None => return Ok(Shape { domain, fields }),
+        Some(bounds) => bounds,
+    };
+    let fields = sliced(alloc, fields, place, bounds, &position)?;
+    let domain = domain.drop_axis(alloc, place)?;
+    Ok(Shape { domain, fields })
+}
+
+/// The shape with the axes taken out, the last one first, so that the slice of the first one stands outermost.
+fn all_cut_out(alloc: Global, shape: Shape, cuts: Vec<Cut>) -> Result<Shape, AllocError>
+    ensures { IfOk result (λ s. shape_view s ≡ all_cut_out (map cut_view cuts.items) (shape_view shape)) }
+{
+    let mut shape = shape;
+    let mut cuts = cuts;
+    while let Some(cut) = cuts.pop() {
+        shape = cut_out(alloc, shape, cut)?;
+    }
+    Ok(shape)
+}
+
+/// A field in its bracket.
+fn bracketed_slot(alloc: Global, slot: Slot) -> Result<Slot, AllocError>
+    ensures { IfOk result (λ s. slot_view s ≡ bracketed_slot (slot_view slot)) }
+{
+    let Slot {
+        name,
+        boolean,
+        node,
+    } = slot;
+    let node = bracket_node(alloc, node)?;
+    Ok(Slot {
+        name,
+        boolean,
+        node,
+    })
+}
+
+/// Each field in its bracket.
+fn bracketed(alloc: Global, shape: Shape) -> Result<Shape, AllocError>
+    ensures { IfOk result (λ s. shape_view s ≡ bracketed (shape_view shape)) }
+{
+    let Shape { domain, fields } = shape;
+    let mut brackets = Vec::new(alloc);
+    for slot in fields {
+        brackets.push(bracketed_slot(alloc, slot)?)?;
+    }
+    Ok(Shape {
+        domain,
+        fields: brackets,
+    })
+}
+
+/// The shape of a whole bracket on those fields.
+pub fn closed_bracket(
+    alloc: Global,
+    bracket: Bracket,
+    fields: Vec<Slot>,
+) -> Result<Shape, AllocError>
+    ensures { IfOk result (λ s. shape_view s ≡ closed (bracket_view bracket) (slots_view fields.items)) }
+{
+    let Bracket {
+        domain,
+        named: _,
+        cuts,
+    } = bracket;
+    let shape = all_cut_out(alloc, Shape { domain, fields }, cuts)?;
+    bracketed(alloc, shape)
+}

@@ -1,0 +1,33 @@
+//! How many cells a result has.
+
+ghost use Rattle.std.specs.Prelude.{◌≡◌, ◌≤◌, ◌+◌, ◌*◌, ◌^◌, map, [], ◌∷◌};
+ghost use Rattle.wcps_types.specs.Typed.{combination_view};
+ghost use Rattle.wcps_types.specs.Cells.{result_cells, capped_cells};
+
+use crate::typed::Combination;
+
+/// How many result cells are allowed.
+pub const MAX_CELLS: u64 = 1_048_576;
+
+/// One more than that, at which counting stops.
+const TOO_MANY: u64 = MAX_CELLS + 1;
+
+/// The cells of one item.
+fn item_cells(combination: &Combination) -> u64
+    ensures { result ≡ capped_cells (result_cells (combination_view combination.now ∷ [])) }
+{
+    let fields = (combination.item.fields.len() as u64).min(TOO_MANY);
+    let points = combination.item.domain.points();
+    (points * fields).min(TOO_MANY)
+}
+
+/// The cells of all items, or one more than `MAX_CELLS` where they are more.
+pub fn combinations_cells(combinations: &[Combination]) -> u64
+    ensures { result ≡ capped_cells (result_cells (map combination_view combinations.now)) }
+{
+    let mut total: u64 = 0;
+    for combination in combinations {
+        total = (total + item_cells(combination)).min(TOO_MANY);
+    }
+    total
+}

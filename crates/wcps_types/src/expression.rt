@@ -1,0 +1,243 @@
+//! Expressions: parts from left to right, then the form's own checks. Each call is given the coverages of the query, the
+//! variables of its `for` list, and the variables of the iterators in scope, outermost first.
+
+ghost use Rattle.std.specs.Prelude.{◌≡◌};
+ghost use Rattle.std.specs.Option.{option_map};
+ghost use Rattle.wcps_text.specs.Tree.{view, view_place, view_interval, parts_of, subs_of, iters_of, condition_of};
+ghost use Rattle.wcps_types.specs.Typed.{typed_view};
+ghost use Rattle.wcps_types.specs.Shapes.{Says, then_of, shape_view};
+ghost use Rattle.wcps_types.specs.Brackets.{bounds_view, bracket_view, opened, place_to_cut};
+ghost use Rattle.wcps_types.specs.Records.{no_pieces};
+ghost use Rattle.wcps_types.specs.Boxes.{iterators_view, no_iterators};
+ghost use Rattle.wcps_types.specs.Typing.{typ, typ_parts, typ_subs, typ_place, typ_interval, typ_iters, typ_condition};
+
+use crate::bounds::Bounds;
+use crate::boxes::{
+    Iterators, array, box_of, condensed, condition_of, inner_scope, is_taken, value_list,
+    with_iterator,
+};
+use crate::brackets::{
+    Bracket, bounds_of_axis, closed_bracket, place_to_cut, position_of, with_position, with_trim,
+    written_bounds,
+};
+use crate::names::{Bound, axis_place};
+use crate::operators::{binary, bit, reduction, selected, unary};
+use crate::records::{Pieces, finished, is_part, with_part};
+use crate::refusal::{CheckError, TypeRefusal};
+use crate::shape::{Shape, only_field, only_scalar, unnamed_scalar};
+use crate::typed::Node;
+use crate::variables::variable;
+use arr_core::{Domain, Signature};
+use std::alloc::Global;
+use wcps_text::{Expr, Interval, Iter, Part, Place, QueryName, Sub};
+
+/// The shape of an expression, or its first refusal.
+#[cycle(expression)]
+pub fn expression(
+    alloc: Global,
+    coverages: &[Signature],
+    bound: &[Bound],
+    scope: &[QueryName],
+    e: &Expr,
+) -> Result<Shape, CheckError>
+    ensures { Says shape_view result (typ coverages.now bound.now scope.now (view e.now)) }
+{
+    match e {
+        Expr::Number(n) => Ok(unnamed_scalar(alloc, false, Node::Number(n.value as i64))?),
+        Expr::Truth(b) => Ok(unnamed_scalar(alloc, true, Node::Number(i64::from(*b)))?),
+        Expr::Variable(name) => variable(alloc, coverages, bound, scope, name),
+        Expr::Unary(op, a) => {
+            let a = expression(alloc, coverages, bound, scope, a)?;
+            unary(alloc, *op, a)
+        }
+        Expr::Binary(op, l, r) => {
+            let l = expression(alloc, coverages, bound, scope, l)?;
+            let r = expression(alloc, coverages, bound, scope, r)?;
+            binary(alloc, *op, l, r)
+        }
+        Expr::Bit(value, place) => {
+            let value = expression(alloc, coverages, bound, scope, value)?;
+            let place = expression(alloc, coverages, bound, scope, place)?;
+            bit(alloc, value, place)
+        }
+        Expr::Reduce(op, a) => {
+            let a = expression(alloc, coverages, bound, scope, a)?;
+            reduction(alloc, *op, a)
+        }
+        Expr::Record(parts) => record(alloc, coverages, bound, scope, parts),
+        Expr::ValueList { iterators, items } => {
+            let over = iterator_list(alloc, coverages, bound, scope, iterators)?;
+            let domain = box_of(over.axes)?;
+            value_list(alloc, domain, items)
+        }
+        Expr::Field(a, name) => {
+            let a = expression(alloc, coverages, bound, scope, a)?;
+            selected(alloc, a, name)
+        }
+        Expr::Brackets(a, subs) => {
+            let Shape { domain, fields } = expression(alloc, coverages, bound, scope, a)?;
+            let bracket = subscripts(alloc, coverages, bound, scope, domain, subs)?;
+            Ok(closed_bracket(alloc, bracket, fields)?)
+        }
+        Expr::Coverage { iterators, body } => {
+            let Iterators { variables, axes } = iterator_list(
+                alloc, coverages, bound, scope, iterators,
+            )?;
+            let domain = box_of(axes)?;
+            let inner = inner_scope(alloc, scope, &variables)?;
+            let body = expression(alloc, coverages, bound, &inner, body)?;
+            array(alloc, domain, only_scalar(body)?)
+        }
+        Expr::Condense {
+            op,
+            iterators,
+            condition,
+            body,
+        } => {
+            let Iterators { variables, axes } = iterator_list(
+                alloc, coverages, bound, scope, iterators,
+            )?;
+            let domain = box_of(axes)?;
+            let inner = inner_scope(alloc, scope, &variables)?;
+            let condition = condition_node(alloc, coverages, bound, &inner, condition)?;
+            let body = expression(alloc, coverages, bound, &inner, body)?;
+            condensed(alloc, *op, domain, condition, only_scalar(body)?)
+        }
+    }
+}
+
+/// The tree of a condition, if there is one.
+#[cycle(expression)]
+pub fn condition_node(
+    alloc: Global,
+    coverages: &[Signature],
+    bound: &[Bound],
+    scope: &[QueryName],
+    condition: &Option<Box<Expr>>,
+) -> Result<Option<Node>, CheckError>
+    ensures { Says (option_map typed_view) result (typ_condition coverages.now bound.now scope.now (condition_of condition.now)) }
+{
+    match condition {
+        None => Ok(None),
+        Some(c) => {
+            let shape = expression(alloc, coverages, bound, scope, c)?;
+            let node = condition_of(only_scalar(shape)?)?;
+            Ok(Some(node))
+        }
+    }
+}
+
+/// The parts of a record.
+#[cycle(expression)]
+fn record(
+    alloc: Global,
+    coverages: &[Signature],
+    bound: &[Bound],
+    scope: &[QueryName],
+    parts: &[Part],
+) -> Result<Shape, CheckError>
+    ensures { Says shape_view result (typ_parts coverages.now bound.now scope.now no_pieces (parts_of parts.now)) }
+{
+    let mut pieces = Pieces::new(alloc);
+    for part in parts {
+        if is_part(&pieces.list, &part.name) {
+            return Err(CheckError::Refused(TypeRefusal::NameTaken));
+        }
+        let value = expression(alloc, coverages, bound, scope, &part.value)?;
+        pieces = with_part(alloc, pieces, &part.name, only_field(value)?)?;
+    }
+    Ok(finished(alloc, pieces)?)
+}
+
+/// The axes of a bracket on a domain.
+#[cycle(expression)]
+fn subscripts(
+    alloc: Global,
+    coverages: &[Signature],
+    bound: &[Bound],
+    scope: &[QueryName],
+    domain: Domain,
+    subs: &[Sub],
+) -> Result<Bracket, CheckError>
+    ensures { Says bracket_view result (typ_subs coverages.now bound.now scope.now (opened domain) (subs_of subs.now)) }
+{
+    let mut bracket = Bracket::new(alloc, domain);
+    for sub in subs {
+        bracket = subscript(
+            alloc, coverages, bound, scope, bracket, &sub.axis, &sub.place,
+        )?;
+    }
+    Ok(bracket)
+}
+
+/// A bracket with one axis more: first whether it is there and was not named before.
+#[cycle(expression)]
+fn subscript(
+    alloc: Global,
+    coverages: &[Signature],
+    bound: &[Bound],
+    scope: &[QueryName],
+    bracket: Bracket,
+    axis: &QueryName,
+    subscript: &Place,
+) -> Result<Bracket, CheckError>
+    ensures { Says bracket_view result (then_of (place_to_cut axis.now (bracket_view bracket)) (λ k. typ_place coverages.now bound.now scope.now k axis.now (bracket_view bracket) (view_place subscript.now))) }
+{
+    let place = place_to_cut(&bracket, axis)?;
+    match subscript {
+        Place::Trim(interval) => {
+            let bounds = interval_bounds(alloc, coverages, bound, scope, interval)?;
+            with_trim(alloc, bracket, place, axis, bounds)
+        }
+        Place::At(position) => {
+            let shape = expression(alloc, coverages, bound, scope, position)?;
+            let position = position_of(shape)?;
+            Ok(with_position(alloc, bracket, axis, position)?)
+        }
+    }
+}
+
+/// The bounds of an interval.
+#[cycle(expression)]
+fn interval_bounds(
+    alloc: Global,
+    coverages: &[Signature],
+    bound: &[Bound],
+    scope: &[QueryName],
+    interval: &Interval,
+) -> Result<Bounds, CheckError>
+    ensures { Says bounds_view result (typ_interval coverages.now bound.now scope.now (view_interval interval.now)) }
+{
+    match interval {
+        Interval::Bounds(lo, hi) => written_bounds(*lo, *hi),
+        Interval::Domain(e, axis) => {
+            let shape = expression(alloc, coverages, bound, scope, e)?;
+            bounds_of_axis(&shape.domain, axis)
+        }
+    }
+}
+
+/// The iterators of a list.
+#[cycle(expression)]
+fn iterator_list(
+    alloc: Global,
+    coverages: &[Signature],
+    bound: &[Bound],
+    scope: &[QueryName],
+    list: &[Iter],
+) -> Result<Iterators, CheckError>
+    ensures { Says iterators_view result (typ_iters coverages.now bound.now scope.now no_iterators (iters_of list.now)) }
+{
+    let mut iterators = Iterators::new(alloc);
+    for iter in list {
+        if is_taken(bound, scope, &iterators.variables, &iter.variable) {
+            return Err(CheckError::Refused(TypeRefusal::NameTaken));
+        }
+        if axis_place(&iterators.axes, &iter.axis).is_some() {
+            return Err(CheckError::Refused(TypeRefusal::AxisTwice));
+        }
+        let bounds = interval_bounds(alloc, coverages, bound, scope, &iter.interval)?;
+        iterators = with_iterator(alloc, iterators, &iter.variable, &iter.axis, bounds)?;
+    }
+    Ok(iterators)
+}

@@ -1,0 +1,30 @@
+//! Typing of WCPS queries (OGC 08-068r2, in this project's profile): from the syntax tree and the signatures of the
+//! coverages to a query whose names are resolved, or the first refusal.
+#![tactic(auto)]
+
+mod bindings;
+mod bounds;
+mod boxes;
+mod brackets;
+mod cells;
+mod effort;
+mod expression;
+mod names;
+mod nodes;
+mod operators;
+mod query;
+mod records;
+mod refusal;
+mod shape;
+#[cfg(test)]
+mod tests;
+mod typed;
+mod variables;
+
+pub use effort::work;
+pub use query::check;
+pub use refusal::{CheckError, TypeRefusal};
+pub use typed::{
+    Combination, Condenser, Node, Operation1, Operation2, Reduction, TypedField, TypedItem,
+    TypedQuery,
+};

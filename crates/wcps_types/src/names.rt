@@ -1,0 +1,75 @@
+//! Looking names up.
+
+ghost use Rattle.std.specs.Prelude.{◌≡◌, is_some};
+ghost use Rattle.std.specs.Str.{bytes_eq};
+ghost use Rattle.wcps_types.specs.Names.{axis_place, coverage_place, bound_place, name_place, is_name_of};
+
+use crate::shape::Slot;
+use arr_core::{Axis, Signature};
+use wcps_text::QueryName;
+
+/// A variable of the `for` list, and the place of the coverage that it stands for in one combination.
+#[derive(Debug, Drop)]
+pub struct Bound {
+    pub variable: QueryName,
+    pub coverage: usize,
+}
+
+/// Whether two texts are the same.
+pub fn is_same(a: &str, b: &str) -> bool
+    ensures { result ≡ bytes_eq a.now b.now }
+{
+    a == b
+}
+
+/// The place of the axis of that name.
+pub fn axis_place(axes: &[Axis], name: &QueryName) -> Option<usize>
+    ensures { result ≡ axis_place name.now axes.now }
+{
+    axes.iter()
+        .position(|axis| is_same(axis.name.as_str(), name.as_str()))
+}
+
+/// The place of the coverage of that name.
+pub fn coverage_place(coverages: &[Signature], name: &QueryName) -> Option<usize>
+    ensures { result ≡ coverage_place name.now coverages.now }
+{
+    coverages
+        .iter()
+        .position(|coverage| is_same(coverage.name.as_str(), name.as_str()))
+}
+
+/// The place of a variable of the `for` list.
+pub fn bound_place(bound: &[Bound], name: &QueryName) -> Option<usize>
+    ensures { result ≡ bound_place name.now bound.now }
+{
+    bound
+        .iter()
+        .position(|b| is_same(b.variable.as_str(), name.as_str()))
+}
+
+/// The place of a name in a list.
+pub fn name_place(names: &[QueryName], name: &QueryName) -> Option<usize>
+    ensures { result ≡ name_place name.now names.now }
+{
+    names
+        .iter()
+        .position(|n| is_same(n.as_str(), name.as_str()))
+}
+
+/// Whether an optional name is that one.
+pub fn is_name_of(own: &Option<QueryName>, name: &QueryName) -> bool
+    ensures { result ≡ is_name_of name.now own.now }
+{
+    match own {
+        Some(own) => is_same(own.as_str(), name.as_str()),
+        None => false,
+    }
+}
+
+/// Whether a field has that name.
+pub fn is_named(slot: &Slot, name: &QueryName) -> bool
+    ensures { result ≡ is_name_of name.now slot.now.name }
+{
+    is_name_of(&slot.name, name)
+}

@@ -1,0 +1,148 @@
+//! Typed queries. Names are resolved: a coverage is its place in the query's list, a field its place in the coverage,
+//! an iterator its level among those in scope (outermost first, from 0), an axis its place in the domain. Each field of
+//! a value has a tree of its own, and a Boolean is 0 or 1 in it.
+
+use arr_core::{Domain, Signature};
+
+/// An operation on one value.
+#[derive(Clone, Copy, PartialEq, Eq, Debug)]
+pub enum Operation1 {
+    Negate,
+    Plus,
+    Not,
+    Absolute,
+}
+
+/// An operation on two values. `Bit` is the bit of the left operand whose number is the right one.
+#[derive(Clone, Copy, PartialEq, Eq, Debug)]
+pub enum Operation2 {
+    Multiply,
+    Divide,
+    Add,
+    Subtract,
+    Less,
+    LessEqual,
+    Greater,
+    GreaterEqual,
+    Equal,
+    NotEqual,
+    And,
+    Or,
+    Xor,
+    Bit,
+}
+
+/// What a condenser makes of the values of its box.
+#[derive(Clone, Copy, PartialEq, Eq, Debug)]
+pub enum Condenser {
+    Add,
+    Multiply,
+    Max,
+    Min,
+    And,
+    Or,
+}
+
+/// What a reduction makes of the values of a coverage.
+#[derive(Clone, Copy, PartialEq, Eq, Debug)]
+pub enum Reduction {
+    Count,
+    Some,
+    All,
+    Add,
+    Avg,
+    Min,
+    Max,
+}
+
+/// What gives one field of a value at each point of its domain, under the iterators in scope.
+#[derive(Debug, Drop)]
+pub enum Node {
+    /// A number, or 1 for true and 0 for false.
+    Number(i64),
+    /// The number that the iterator of that level is bound to.
+    Iterator(usize),
+    /// The cell at the point, of a field of a coverage.
+    Cell {
+        coverage: usize,
+        field: usize,
+    },
+    /// An operation on the operand at the point.
+    Unary(Operation1, Box<Node>),
+    /// An operation on both operands at the point, the left one first.
+    Binary(Operation2, Box<Node>, Box<Node>),
+    /// A scalar beside a value with axes: taken at the empty point.
+    Scalar(Box<Node>),
+    /// A field that is selected by its name: the same at the point.
+    Select(Box<Node>),
+    /// A bracket: the same at the point, which lies in a domain with narrower intervals. The slices of the bracket
+    /// stand directly below it.
+    Bracket(Box<Node>),
+    /// The value at a coordinate of one axis, which lies from `lo` to `hi` and is taken out of the domain. `axis` is
+    /// its place among the axes of `value`. The position is a scalar. Of several positions in a bracket the first one
+    /// stands outermost.
+    Slice {
+        value: Box<Node>,
+        axis: usize,
+        lo: i32,
+        hi: i32,
+        position: Box<Node>,
+    },
+    /// `values e`: a scalar, in whose scope the coordinates of the point are further iterators.
+    Array(Box<Node>),
+    /// `value list`: the item at the place of the point in row-major order.
+    List {
+        domain: Domain,
+        items: Vec<i64>,
+    },
+    /// `condense .. using body`: of a scalar over the points of a box, whose coordinates are further iterators in it.
+    Condense {
+        op: Condenser,
+        domain: Domain,
+        body: Box<Node>,
+    },
+    /// `condense .. where condition using body`: the same of the points where the condition is true, a scalar too.
+    CondenseWhere {
+        op: Condenser,
+        domain: Domain,
+        condition: Box<Node>,
+        body: Box<Node>,
+    },
+    /// `add` and its kin: of the values of `body` at all points of its domain.
+    Reduce {
+        op: Reduction,
+        domain: Domain,
+        body: Box<Node>,
+    },
+}
+
+/// One field of an item: what gives it, and whether it is Boolean (else it is an integer).
+#[derive(Debug, Drop)]
+pub struct TypedField {
+    pub boolean: bool,
+    pub node: Node,
+}
+
+/// What a combination returns: a value on a domain, which has no axis where the item is a scalar.
+#[derive(Debug, Drop)]
+pub struct TypedItem {
+    pub domain: Domain,
+    pub fields: Vec<TypedField>,
+}
+
+/// The query with one choice of coverages for its variables. The condition is the query's `where`, a scalar.
+#[derive(Debug, Drop)]
+pub struct Combination {
+    pub condition: Option<Node>,
+    pub item: TypedItem,
+}
+
+/// A typed query. It owns all that it needs.
+#[derive(Debug, Drop)]
+pub struct TypedQuery {
+    /// The coverages that the `for` list names, each once, in the order of their first mention. Trees refer to them by
+    /// their place.
+    pub coverages: Vec<Signature>,
+    /// One for each choice of coverages, the first variable outermost, in listed order.
+    pub combinations: Vec<Combination>,
+}
