@@ -1,0 +1,12 @@
+use Rattle.std.proofs.Common.{◌≡◌, [], take, map, Ok}
+use Rattle.wcps_types.specs.Typed.{combination_view}
+use Rattle.wcps_mean.specs.Answer.{combination_answer, joined}
+use Rattle.wcps_mean.proofs.answer.eval_plain.Given as goal
+
+abbrev pub invariant-loop-combination : goal.invariant-loop-combination
+invariant-loop-combination g l = record {
+  same : g.C.Cells.cells l.cells ≡ g.C.Cells.cells l.fn.cells;
+  scope : l.env.items ≡ [];
+  spot : l.points.items ≡ [];
+  pushed : joined (map (λ c. combination_answer (g.C.Cells.cells l.fn.cells) (combination_view c)) (take l.combination-index l.query.combinations.items)) ≡ Ok l.items.items;
+}

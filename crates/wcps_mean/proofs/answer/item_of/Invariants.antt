@@ -1,0 +1,13 @@
+use Rattle.std.proofs.Common.{◌≡◌, [], take, map, Ok}
+use Rattle.arr_core.specs.Domains.{points}
+use Rattle.wcps_types.specs.Typed.{field_view}
+use Rattle.wcps_mean.specs.Answer.{cells_at, joined}
+use Rattle.wcps_mean.proofs.answer.item_of.Given as goal
+
+abbrev pub invariant-loop-place : goal.invariant-loop-place
+invariant-loop-place g l = record {
+  same : g.C.Cells.cells l.cells ≡ g.C.Cells.cells l.fn.cells;
+  scope : l.env.items ≡ [];
+  spot : l.points.items ≡ [];
+  pushed : joined (map (cells_at (g.C.Cells.cells l.fn.cells) (map field_view l.item.fields.items)) (take l.place (points l.item.domain))) ≡ Ok l.list.items;
+}

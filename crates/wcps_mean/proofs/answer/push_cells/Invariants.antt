@@ -1,0 +1,15 @@
+use Rattle.std.proofs.Common.{◌≡◌, [], ◌∷◌, take, map}
+use Rattle.wcps_types.specs.Typed.{typed_view}
+use Rattle.wcps_types.specs.declared.typed.TypedField.{TypedField}
+use Rattle.wcps_mean.specs.Meaning.{val}
+use Rattle.wcps_mean.specs.Answer.{joined, given, cell_of}
+use Rattle.wcps_mean.specs.Errors.{PushesCells}
+use Rattle.wcps_mean.proofs.answer.push_cells.Given as goal
+
+abbrev pub invariant-loop-field : goal.invariant-loop-field
+invariant-loop-field g l = record {
+  same : g.C.Cells.cells l.cells ≡ g.C.Cells.cells l.fn.cells;
+  scope : l.env.items ≡ [];
+  place : l.points.items ≡ l.fn.points.items;
+  pushed : PushesCells (joined (map (λ (f : TypedField). given (λ z. cell_of f.boolean z ∷ []) (val (g.C.Cells.cells l.fn.cells) (typed_view f.node) [] l.fn.points.items)) (take l.field-index l.fields))) l.fn.list.items l.list.items;
+}

@@ -1,0 +1,12 @@
+pub mod Faults
+pub mod Cells
+pub mod Condensers
+pub mod Magnitudes
+pub mod Products
+pub mod Best
+pub mod Feeding
+pub mod Aggregates
+pub mod Meaning
+pub mod Answer
+pub mod Errors
+pub mod Parts

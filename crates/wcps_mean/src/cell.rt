@@ -1,0 +1,205 @@
+//! Outcomes at a point, and the operations on cells.
+//!
+//! A Boolean stands as 0 or 1; the static kind of an expression says which it is. Arithmetic is exact and then tested
+//! against 64 bits. (WCPS, OGC 08-068r2: induced operations; the range of the integers is this server's own.)
+
+ghost use Rattle.std.specs.Prelude.{◌≡◌, ℤ, ◌+ℤ◌, ◌-ℤ◌, ◌*ℤ◌, neg_ℤ, pos, nat_abs, int_lt, int_le, SomeIff, FitsSigned, not, ◌&&◌, ◌||◌};
+ghost use Rattle.std.specs.Int.{w64};
+ghost use Rattle.wcps_mean.specs.Cells.{ranged, truth, is_true, quotient, bit, int_eq, exact1, exact2, operate1, operate2};
+
+use wcps_types::{Operation1, Operation2};
+
+/// Why a point has no value.
+#[derive(Clone, Copy, PartialEq, Eq, Debug)]
+pub enum PointFault {
+    /// A result outside 64 bits.
+    Overflow,
+    /// A divisor that is 0.
+    DivideByZero,
+    /// A position outside its axis interval.
+    OutOfDomain,
+    /// A greatest, a least or an average of no value.
+    EmptyCondense,
+    /// A bit number outside 0 to 63.
+    BadBit,
+}
+
+impl PointFault {
+    ghost use Rattle.wcps_mean.specs.Faults.{number_of};
+
+    /// Its refusal number: 60 to 64.
+    pub fn number(self) -> u16
+        ensures { result ≡ number_of self }
+    {
+        match self {
+            PointFault::Overflow => 60,
+            PointFault::DivideByZero => 61,
+            PointFault::OutOfDomain => 62,
+            PointFault::EmptyCondense => 63,
+            PointFault::BadBit => 64,
+        }
+    }
+}
+
+/// What a point gives: a value, where a Boolean is 0 or 1, or a fault.
+#[derive(Clone, Copy, PartialEq, Eq, Debug)]
+pub enum Outcome {
+    Value(i64),
+    Fault(PointFault),
+}
+
+/// The range test on an exact result that is there exactly where it has 64 bits.
+fn tested(exact: Option<i64>) -> Outcome
+    ensures { (z : ℤ) → SomeIff exact (FitsSigned w64 z) z → result ≡ ranged z }
+{
+    match exact {
+        Some(z) => Outcome::Value(z),
+        None => Outcome::Fault(PointFault::Overflow),
+    }
+}
+
+/// The range test on an exact result.
+pub(crate) fn range_test(exact: i128) -> Outcome
+    ensures { result ≡ ranged exact }
+{
+    match i64::try_from(exact) {
+        Ok(z) => Outcome::Value(z),
+        Err(_) => Outcome::Fault(PointFault::Overflow),
+    }
+}
+
+/// A truth value as a cell's number: 1 or 0.
+pub(crate) fn truth_value(b: bool) -> Outcome
+    ensures { result ≡ truth b }
+{
+    Outcome::Value(if b { 1 } else { 0 })
+}
+
+/// The sum, tested.
+fn add(x: i64, y: i64) -> Outcome
+    ensures { result ≡ ranged (x +ℤ y) }
+{
+    tested(x.checked_add(y))
+}
+
+/// The difference, tested.
+fn subtract(x: i64, y: i64) -> Outcome
+    ensures { result ≡ ranged (x -ℤ y) }
+{
+    tested(x.checked_sub(y))
+}
+
+/// The product, tested.
+fn multiply(x: i64, y: i64) -> Outcome
+    ensures { result ≡ ranged (x *ℤ y) }
+{
+    tested(x.checked_mul(y))
+}
+
+/// The quotient truncated toward zero, tested: only -2^63 / -1 leaves the range.
+fn divide(x: i64, y: i64) -> Outcome
+    ensures { result ≡ quotient x y }
+{
+    if y == 0 {
+        Outcome::Fault(PointFault::DivideByZero)
+    } else {
+        tested(x.checked_div(y))
+    }
+}
+
+/// The negative, tested.
+fn negate(x: i64) -> Outcome
+    ensures { result ≡ ranged (neg_ℤ x) }
+{
+    tested(x.checked_neg())
+}
+
+/// The magnitude, tested.
+fn magnitude(x: i64) -> Outcome
+    ensures { result ≡ ranged (pos (nat_abs x)) }
+{
+    if x < 0 { negate(x) } else { Outcome::Value(x) }
+}
+
+/// Whether a bit of the two's complement of `x` is set; its number is 0 to 63.
+fn bit_of(x: i64, place: i64) -> Outcome
+    ensures { result ≡ bit x place }
+{
+    if 0 <= place && place < 64 {
+        truth_value((x.cast_unsigned() >> place as u32) % 2 == 1)
+    } else {
+        Outcome::Fault(PointFault::BadBit)
+    }
+}
+
+/// Whether a Boolean that stands as a number is true.
+pub(crate) fn is_set(x: i64) -> bool
+    ensures { result ≡ is_true x }
+{
+    x != 0
+}
+
+/// An operation on a value.
+fn operate_on_value(op: Operation1, x: i64) -> Outcome
+    ensures { result ≡ exact1 op x }
+{
+    match op {
+        Operation1::Negate => negate(x),
+        Operation1::Plus => Outcome::Value(x),
+        Operation1::Not => truth_value(!is_set(x)),
+        Operation1::Absolute => magnitude(x),
+    }
+}
+
+/// An operation on two values.
+fn operate_on_values(op: Operation2, x: i64, y: i64) -> Outcome
+    ensures { result ≡ exact2 op x y }
+{
+    match op {
+        Operation2::Multiply => multiply(x, y),
+        Operation2::Divide => divide(x, y),
+        Operation2::Add => add(x, y),
+        Operation2::Subtract => subtract(x, y),
+        Operation2::Less => truth_value(x < y),
+        Operation2::LessEqual => truth_value(x <= y),
+        Operation2::Greater => truth_value(y < x),
+        Operation2::GreaterEqual => truth_value(y <= x),
+        Operation2::Equal => truth_value(are_equal(x, y)),
+        Operation2::NotEqual => truth_value(!are_equal(x, y)),
+        Operation2::And => truth_value(is_set(x) && is_set(y)),
+        Operation2::Or => truth_value(is_set(x) || is_set(y)),
+        Operation2::Xor => truth_value(is_set(x) != is_set(y)),
+        Operation2::Bit => bit_of(x, y),
+    }
+}
+
+/// Whether two values are the same.
+fn are_equal(x: i64, y: i64) -> bool
+    ensures { result ≡ int_eq x y }
+{
+    x <= y && y <= x
+}
+
+/// An operation on the outcome of its operand: the operand's fault, else the exact result, tested.
+pub fn operate(op: Operation1, operand: Outcome) -> Outcome
+    ensures { result ≡ operate1 op operand }
+{
+    match operand {
+        Outcome::Fault(f) => Outcome::Fault(f),
+        Outcome::Value(x) => operate_on_value(op, x),
+    }
+}
+
+/// An operation on the outcomes of both operands: the left one's fault, else the right one's, else the exact result,
+/// tested. `and` and `or` look at both operands too.
+pub fn operate_both(op: Operation2, left: Outcome, right: Outcome) -> Outcome
+    ensures { result ≡ operate2 op left right }
+{
+    match left {
+        Outcome::Fault(f) => Outcome::Fault(f),
+        Outcome::Value(x) => match right {
+            Outcome::Fault(f) => Outcome::Fault(f),
+            Outcome::Value(y) => operate_on_values(op, x, y),
+        },
+    }
+}

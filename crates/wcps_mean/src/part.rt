@@ -1,0 +1,151 @@
+//! The outcome of a part of a query at a point.
+
+ghost use Rattle.std.specs.Prelude.{◌≡◌, List, [], IfOk, Option, Some, None, option_map};
+ghost use Rattle.wcps_types.specs.Typed.{typed_view, combination_view, query_view};
+ghost use Rattle.wcps_mean.specs.Meaning.{val};
+ghost use Rattle.wcps_mean.specs.Parts.{part_value, of_combination, condition_value, body_value};
+
+use crate::cell::Outcome;
+use crate::cells::{CellError, Cells};
+use crate::eval::eval;
+use std::alloc::Global;
+use wcps_types::{Combination, Node, TypedQuery};
+
+/// Which part of a combination.
+#[derive(Clone, Copy, PartialEq, Eq, Debug)]
+pub enum Part {
+    /// The condition of the query; its point is the empty one.
+    Condition,
+    /// A field of the item, at a point of its domain.
+    Field(usize),
+    /// The condition of the condenser that a field of the item is, at a point of its box.
+    CondenserCondition(usize),
+    /// What the condenser or the reduction that a field of the item is goes over, at a point of its box.
+    CondenserValue(usize),
+}
+
+/// The outcome of a part of one combination at a point; none where there is no such part.
+pub fn value_at<C: Cells>(
+    alloc: Global,
+    cells: &mut C,
+    query: &TypedQuery,
+    combination: usize,
+    part: Part,
+    point: &[i32],
+) -> Result<Option<Outcome>, CellError>
+    ensures value { IfOk result (λ o. o ≡ part_value (C.cells cells.old) (query_view query.now) combination part point.now) }
+    ensures same { C.cells cells.new ≡ C.cells cells.old }
+{
+    if combination < query.combinations.len() {
+        let o = part_of(alloc, cells, &query.combinations[combination], part, point)?;
+        return Ok(o);
+    }
+    Ok(None)
+}
+
+/// The outcome of a part of a combination.
+fn part_of<C: Cells>(
+    alloc: Global,
+    cells: &mut C,
+    combination: &Combination,
+    part: Part,
+    point: &[i32],
+) -> Result<Option<Outcome>, CellError>
+    ensures value { IfOk result (λ o. o ≡ of_combination (C.cells cells.old) point.now part (combination_view combination.now)) }
+    ensures same { C.cells cells.new ≡ C.cells cells.old }
+{
+    let fields = &combination.item.fields;
+    match part {
+        Part::Condition => match &combination.condition {
+            None => Ok(None),
+            Some(node) => {
+                let o = outcome_at(alloc, cells, node, &[], point)?;
+                Ok(Some(o))
+            }
+        },
+        Part::Field(f) => {
+            if f < fields.len() {
+                let o = outcome_at(alloc, cells, &fields[f].node, &[], point)?;
+                return Ok(Some(o));
+            }
+            Ok(None)
+        }
+        Part::CondenserCondition(f) => {
+            if f < fields.len() {
+                let o = condition_at(alloc, cells, &fields[f].node, point)?;
+                return Ok(o);
+            }
+            Ok(None)
+        }
+        Part::CondenserValue(f) => {
+            if f < fields.len() {
+                let o = body_at(alloc, cells, &fields[f].node, point)?;
+                return Ok(o);
+            }
+            Ok(None)
+        }
+    }
+}
+
+/// The outcome of the condition of a condenser.
+fn condition_at<C: Cells>(
+    alloc: Global,
+    cells: &mut C,
+    node: &Node,
+    point: &[i32],
+) -> Result<Option<Outcome>, CellError>
+    ensures value { IfOk result (λ o. o ≡ condition_value (C.cells cells.old) point.now (typed_view node.now)) }
+    ensures same { C.cells cells.new ≡ C.cells cells.old }
+{
+    match node {
+        Node::CondenseWhere { condition, .. } => {
+            let o = outcome_at(alloc, cells, condition, point, &[])?;
+            Ok(Some(o))
+        }
+        _ => Ok(None),
+    }
+}
+
+/// The outcome of what a condenser or a reduction goes over.
+fn body_at<C: Cells>(
+    alloc: Global,
+    cells: &mut C,
+    node: &Node,
+    point: &[i32],
+) -> Result<Option<Outcome>, CellError>
+    ensures value { IfOk result (λ o. o ≡ body_value (C.cells cells.old) point.now (typed_view node.now)) }
+    ensures same { C.cells cells.new ≡ C.cells cells.old }
+{
+    match node {
+        Node::Condense { body, .. } => {
+            let o = outcome_at(alloc, cells, body, point, &[])?;
+            Ok(Some(o))
+        }
+        Node::CondenseWhere { body, .. } => {
+            let o = outcome_at(alloc, cells, body, point, &[])?;
+            Ok(Some(o))
+        }
+        Node::Reduce { body, .. } => {
+            let o = outcome_at(alloc, cells, body, &[], point)?;
+            Ok(Some(o))
+        }
+        _ => Ok(None),
+    }
+}
+
+/// The outcome of a tree at a point, its iterators bound to a list of numbers.
+fn outcome_at<C: Cells>(
+    alloc: Global,
+    cells: &mut C,
+    node: &Node,
+    iterators: &[i32],
+    point: &[i32],
+) -> Result<Outcome, CellError>
+    ensures value { IfOk result (λ o. o ≡ val (C.cells cells.old) (typed_view node.now) iterators.now point.now) }
+    ensures same { C.cells cells.new ≡ C.cells cells.old }
+{
+    let mut env = iterators.to_vec(alloc)?;
+    let mut points = point.to_vec(alloc)?;
+    let o = eval(cells, node, &mut env, &mut points, 0)?;
+    Ok(o)
+}
