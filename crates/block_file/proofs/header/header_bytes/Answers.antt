@@ -1,0 +1,7 @@
+use Rattle.std.proofs.Common.{arith, refl, sym, ◌∙◌}
+use Rattle.block_file.proofs.Headers.{header_made}
+use Rattle.block_file.proofs.header.header_bytes.Goals as goal
+
+pub returns : goal.returns
+returns c =
+    header_made c.args.state c.args.blocks c.args.first c.args.length _ _ _ _ _ _ (omega arith) c.blank_header-bytes.ensures.magic c.blank_header-bytes.ensures.zeros c.put_u32.ensures (rw (← c.number.ensures) c.put_u32-2.ensures) c.put_u32-3.ensures c.put_u32-4.ensures c.put_u64.ensures

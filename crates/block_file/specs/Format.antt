@@ -1,0 +1,107 @@
+-- The bytes of a store file, version 1. Numbers stand lowest byte first. Blocks have 4,096 bytes, and block 0
+-- is the header.
+use Rattle.std.specs.Prelude.{◌≡◌, ◌≢◌, ℕ, zero, suc, ◌+◌, ◌*◌, ◌/◌, ◌%◌, ◌<◌, ◌≤◌, max, List, length, take, slice_index, codes}
+use Rattle.byteorder.specs.Endian.{little_from}
+use Rattle.block_file.specs.Blocks.{block_at}
+use Rattle.block_file.specs.declared.header.State.{State}
+use Rattle.block_file.specs.declared.header.State.TheVariants.{Open, Closed}
+
+-- the number in the n bytes from place `at` on, the lowest first
+unfoldable pub number_at : ℕ → ℕ → List ℕ → ℕ
+number_at at n bytes = little_from at n bytes
+
+-- a number of n bytes was written at a place, and nothing else
+pub record Put (at n x : ℕ) (old new : List ℕ) : Type 0 where
+  pub number : number_at at n new ≡ x
+  pub below : (i : ℕ) → i < at → slice_index new i ≡ slice_index old i
+  pub above : (i : ℕ) → at + n ≤ i → slice_index new i ≡ slice_index old i
+  pub same_length : length new ≡ length old
+
+-- the bytes that each store file begins with
+abbrev pub magic_bytes : List ℕ
+magic_bytes = codes "WCPSTORE"
+
+-- a header is there, of a store file of version 1
+pub record IsStoreFile (content : List ℕ) : Type 0 where
+  pub whole : 4096 ≤ length content
+  pub magic : take 8 content ≡ magic_bytes
+  pub version : number_at 8 4 content ≡ 1
+
+-- how a header writes its state
+abbrev pub state_number : State → ℕ
+state_number Open = 1
+state_number Closed = 2
+
+-- the header of a file in this state, with so many blocks, whose metadata of so many bytes begins in block `from`
+pub record IsHeader (content : List ℕ) (in_state : State) (block_count from byte_count : ℕ) : Type 0 where
+  pub store : IsStoreFile content
+  pub state : number_at 12 4 content ≡ state_number in_state
+  pub blocks : number_at 16 4 content ≡ block_count
+  pub first : number_at 20 4 content ≡ from
+  pub size : number_at 24 8 content ≡ byte_count
+  pub zeros : (i : ℕ) → 32 ≤ i → i < 4096 → slice_index content i ≡ 0
+
+-- the block after block k in a chain, or 0 at the last: the number in its first four bytes
+abbrev pub next_of : (ℕ → List ℕ) → ℕ → ℕ
+next_of block k = number_at 0 4 (block k)
+
+-- the block that stands at place i of the chain from block `first` on
+unfoldable pub link : (ℕ → List ℕ) → ℕ → ℕ → ℕ
+link block first zero = first
+link block first (suc i) = next_of block (link block first i)
+
+-- how many blocks a chain needs for so many bytes: each holds 4,092 behind the number of the next
+abbrev pub chain_blocks : ℕ → ℕ
+chain_blocks size = (size + 4091) / 4092
+
+-- The metadata lies in a chain of blocks from block `first` on: whole blocks, distinct, none of them the header,
+-- exactly as many as it fills.
+pub record IsChain (block : ℕ → List ℕ) (first : ℕ) (metadata : List ℕ) : Type 0 where
+  pub some : 0 < length metadata
+  pub above_zero : (i : ℕ) → i < chain_blocks (length metadata) → 0 < link block first i
+  pub whole : (i : ℕ) → i < chain_blocks (length metadata) → length (block (link block first i)) ≡ 4096
+  pub distinct : (i j : ℕ) → i < chain_blocks (length metadata) → j < chain_blocks (length metadata) → link block first i ≡ link block first j → i ≡ j
+  pub ends : link block first (chain_blocks (length metadata)) ≡ 0
+  pub bytes : (j : ℕ) → j < length metadata → slice_index metadata j ≡ slice_index (block (link block first (j / 4092))) (4 + j % 4092)
+
+-- the first metadata block, as the header has it
+abbrev pub first_of : List ℕ → ℕ
+first_of content = number_at 20 4 content
+
+-- a closed store file with this metadata
+pub record IsClosed (content metadata : List ℕ) : Type 0 where
+  pub header : IsHeader content Closed (length content / 4096) (first_of content) (length metadata)
+  pub whole : 4096 * (length content / 4096) ≡ length content
+  pub few : length content / 4096 ≤ 1048576
+  pub chain : IsChain (block_at content) (first_of content) metadata
+
+-- a store file that is neither open nor closed, whatever its metadata: its header or its chain departs from the format
+pub record IsDamaged (content : List ℕ) : Type 0 where
+  pub store : IsStoreFile content
+  pub not_open : number_at 12 4 content ≢ 1
+  pub not_closed : (metadata : List ℕ) → IsClosed content metadata → ⊥
+
+-- How a header is written: the file then has whole blocks, as few as hold what it held and the header. What was
+-- added past its end are zeros, and no byte outside the header has changed.
+pub record HeaderWritten (state : State) (first size : ℕ) (old new : List ℕ) : Type 0 where
+  pub header : IsHeader new state (length new / 4096) first size
+  pub whole : 4096 * (length new / 4096) ≡ length new
+  pub fewest : length new / 4096 ≡ max 1 ((length old + 4095) / 4096)
+  pub kept : (i : ℕ) → 4096 ≤ i → i < length old → slice_index new i ≡ slice_index old i
+  pub filled : (i : ℕ) → 4096 ≤ i → length old ≤ i → slice_index new i ≡ 0
+
+-- a last block that was cut short is filled with zeros; the number of blocks counts the header
+pub record Filled (old new : List ℕ) (blocks : ℕ) : Type 0 where
+  pub whole : length new ≡ 4096 * ((length old + 4095) / 4096)
+  pub count : blocks ≡ max 1 ((length old + 4095) / 4096)
+  pub zeros : (i : ℕ) → length old ≤ i → slice_index new i ≡ 0
+
+-- what was there still is, and no block was begun
+pub record Extends (old new : List ℕ) : Type 0 where
+  pub no_shorter : length old ≤ length new
+  pub no_longer : length new ≤ 4096 * ((length old + 4095) / 4096)
+  pub kept : (i : ℕ) → i < length old → slice_index new i ≡ slice_index old i
+
+-- A byte of the header has changed only where all that lies behind the header was synced before.
+abbrev pub HeaderLast : List ℕ → List ℕ → List ℕ → Type 0
+HeaderLast old new synced = (i : ℕ) → i < 4096 → i < length old → slice_index new i ≢ slice_index old i → (j : ℕ) → 4096 ≤ j → slice_index synced j ≡ slice_index new j

@@ -1,0 +1,127 @@
+//! The header of a store file, and the numbers in its bytes.
+ghost use Rattle.std.specs.Prelude.{◌≡◌, ◌≢◌, ◌≤◌, ◌<◌, ◌+◌, ℕ, take, length, slice_index, IfOk, IsErrOf, IsTrue, ◌↔◌};
+ghost use Rattle.block_file.specs.Format.{number_at, magic_bytes, state_number, Put, IsStoreFile, IsHeader};
+
+use crate::OpenFault;
+use byteorder::{ByteOrder, LittleEndian};
+
+/// What each store file begins with.
+const MAGIC: &[u8; 8] = b"WCPSTORE";
+
+/// The version of the format.
+const VERSION: u32 = 1;
+
+/// Whether a session has the file open, or closed it.
+#[derive(Clone, Copy, Debug, PartialEq, Eq)]
+pub enum State {
+    Open,
+    Closed,
+}
+
+impl State {
+    fn number(self) -> u32
+        ensures { result ≡ state_number self }
+    {
+        match self {
+            State::Open => 1,
+            State::Closed => 2,
+        }
+    }
+}
+
+/// What a closed header tells: the number of blocks, the first metadata block, and the metadata's length in bytes.
+#[derive(Clone, Copy)]
+pub(crate) struct Header {
+    pub blocks: u32,
+    pub first: u32,
+    pub length: u64,
+}
+
+/// The number in four bytes from `at` on, the lowest first.
+pub(crate) fn u32_at(bytes: &[u8], at: usize) -> u32
+    requires { at + 4 ≤ length bytes.now }
+    ensures { result ≡ number_at at 4 bytes.now }
+{
+    LittleEndian::read_u32(&bytes[at..])
+}
+
+/// The number in eight bytes from `at` on, the lowest first.
+fn u64_at(bytes: &[u8], at: usize) -> u64
+    requires { at + 8 ≤ length bytes.now }
+    ensures { result ≡ number_at at 8 bytes.now }
+{
+    LittleEndian::read_u64(&bytes[at..])
+}
+
+/// Writes a number into four bytes from `at` on.
+fn put_u32(bytes: &mut [u8], at: usize, n: u32)
+    requires { at + 4 ≤ length bytes.old }
+    ensures { Put at 4 n bytes.old bytes.new }
+{
+    LittleEndian::write_u32(&mut bytes[at..at + 4], n);
+}
+
+/// Writes a number into eight bytes from `at` on.
+fn put_u64(bytes: &mut [u8], at: usize, n: u64)
+    requires { at + 8 ≤ length bytes.old }
+    ensures { Put at 8 n bytes.old bytes.new }
+{
+    LittleEndian::write_u64(&mut bytes[at..at + 8], n);
+}
+
+/// A header whose fields are all zero.
+fn blank_header() -> [u8; 4096]
+    ensures magic { take 8 result ≡ magic_bytes }
+    ensures zeros { (i : ℕ) → 8 ≤ i → slice_index result i ≡ 0 }
+{
+    let mut bytes = [0u8; 4096];
+    bytes[..8].copy_from_slice(MAGIC);
+    bytes
+}
+
+/// The bytes of a header.
+pub(crate) fn header_bytes(state: State, blocks: u32, first: u32, length: u64) -> [u8; 4096]
+    ensures { IsHeader result state blocks first length }
+{
+    let mut bytes = blank_header();
+    put_u32(&mut bytes, 8, VERSION);
+    put_u32(&mut bytes, 12, state.number());
+    put_u32(&mut bytes, 16, blocks);
+    put_u32(&mut bytes, 20, first);
+    put_u64(&mut bytes, 24, length);
+    bytes
+}
+
+/// Reads the header of a closed store file. Refused as no store file for another magic or version, then as not closed
+/// for the state of an open one, then as damaged for another state or bytes behind the fields that are not zero.
+pub(crate) fn parse_header(bytes: &[u8; 4096]) -> Result<Header, OpenFault>
+    ensures ok { IfOk result (λ header. IsHeader bytes.now State.Closed header.blocks header.first header.length) }
+    ensures no_store { IsErrOf result OpenFault.NotAStore → IsStoreFile bytes.now → ⊥ }
+    ensures left_open { IsErrOf result OpenFault.NotClosed → IsStoreFile bytes.now × (number_at 12 4 bytes.now ≡ 1) }
+    ensures damaged { IsErrOf result OpenFault.Damaged → IsStoreFile bytes.now × (number_at 12 4 bytes.now ≢ 1) × ((blocks first size : ℕ) → IsHeader bytes.now State.Closed blocks first size → ⊥) }
+    ensures memory { IsErrOf result OpenFault.NoMemory → ⊥ }
+    ensures disk { IsErrOf result OpenFault.DiskFault → ⊥ }
+{
+    if bytes[..8] != MAGIC[..] || u32_at(bytes, 8) != VERSION {
+        return Err(OpenFault::NotAStore);
+    }
+    let state = u32_at(bytes, 12);
+    if state == State::Open.number() {
+        return Err(OpenFault::NotClosed);
+    }
+    if state != State::Closed.number() || !all_zero(&bytes[32..]) {
+        return Err(OpenFault::Damaged);
+    }
+    Ok(Header {
+        blocks: u32_at(bytes, 16),
+        first: u32_at(bytes, 20),
+        length: u64_at(bytes, 24),
+    })
+}
+
+/// Whether each byte is zero.
+fn all_zero(bytes: &[u8]) -> bool
+    ensures { IsTrue result ↔ ((i : ℕ) → i < length bytes.now → slice_index bytes.now i ≡ 0) }
+{
+    bytes.iter().all(|byte| *byte == 0)
+}

@@ -1,0 +1,111 @@
+//! Blocks of 4,096 bytes in a disk: which are free, what each holds, and the header and the chain of metadata blocks
+//! of a closed store file. Block 0 is the header.
+#![tactic(auto)]
+
+ghost use Rattle.std.specs.Prelude.{◌≡◌, ◌≤◌, ◌<◌, ◌+◌, ℕ, Bool, List, length, IsTrue, OnOk, OnErr, IfOk, IsErrOf};
+ghost use Rattle.disk_face.specs.Disk.{Counts};
+ghost use Rattle.block_file.specs.Blocks.{block_at, Takes, AreInUse, GivesBack, OthersKept};
+ghost use Rattle.block_file.specs.Format.{HeaderWritten, HeaderLast};
+
+mod block_file;
+mod chain;
+mod fault;
+mod free_list;
+mod header;
+#[cfg(test)]
+mod tests;
+
+pub use block_file::{BlockFile, Opened, Refused};
+use disk_face::DiskFault;
+pub use fault::{Damaged, OpenFault, TakeFault};
+pub use header::State;
+
+/// How many bytes a block has.
+pub const BLOCK_BYTES: usize = 4096;
+
+/// How many blocks a file has at most.
+pub const MAX_BLOCKS: usize = 1048576;
+
+/// How many bytes of metadata a block of the chain holds, behind the number of the next block.
+pub const CHAIN_BYTES: usize = 4092;
+
+/// The blocks of a file, each with a count of its uses. A block is free where its count is 0; the header never is.
+pub trait Blocks {
+    /// The bytes of the file.
+    ghost content: { Self → List ℕ };
+
+    /// The bytes that are there whatever comes.
+    ghost synced: { Self → List ℕ };
+
+    /// How often a block is in use.
+    ghost uses: { Self → ℕ → ℕ };
+
+    /// How many blocks are free.
+    ghost free_blocks: { Self → ℕ };
+
+    /// How many calls of the disk have failed, in a `u64`.
+    ghost failures: { Self → ℕ };
+
+    /// The disk gives back what was written.
+    ghost honest: { Self → Bool };
+
+    /// What block k holds as of its last write. Refused only where the disk has counted a failure.
+    fn read(&mut self, k: u32, bytes: &mut [u8; 4096]) -> Result<(), DiskFault>
+        requires { 0 < uses self.old k }
+        ensures read { OnOk result (IsTrue (honest self.old) → bytes.new ≡ block_at (content self.old) k) }
+        ensures content { content self.new ≡ content self.old }
+        ensures uses { uses self.new ≡ uses self.old }
+        ensures free { free_blocks self.new ≡ free_blocks self.old }
+        ensures honest { honest self.new ≡ honest self.old }
+        ensures counts { Counts result (failures self.old) (failures self.new) };
+
+    /// Writes block k. A write that fails leaves any bytes in it, and each other whole block as it was. Refused only
+    /// where the disk has counted a failure.
+    fn write(&mut self, k: u32, bytes: &[u8; 4096]) -> Result<(), DiskFault>
+        requires { uses self.old k ≡ 1 }
+        ensures written { OnOk result (IsTrue (honest self.old) → block_at (content self.new) k ≡ bytes.now) }
+        ensures others { OthersKept k (block_at (content self.old)) (block_at (content self.new)) }
+        ensures uses { uses self.new ≡ uses self.old }
+        ensures free { free_blocks self.new ≡ free_blocks self.old }
+        ensures honest { honest self.new ≡ honest self.old }
+        ensures counts { Counts result (failures self.old) (failures self.new) };
+
+    /// Takes n distinct free blocks. Refused for room only where fewer are free, else for memory; nothing is taken
+    /// then.
+    fn take(&mut self, n: usize) -> Result<Vec<u32>, TakeFault>
+        ensures len { IfOk result (λ ks. length ks.items ≡ n) }
+        ensures takes { IfOk result (λ ks. Takes ks.items (uses self.old) (uses self.new)) }
+        ensures free { OnOk result (free_blocks self.new + n ≡ free_blocks self.old) }
+        ensures room { IsErrOf result TakeFault.NoRoom → free_blocks self.old < n }
+        ensures err_uses { OnErr result (uses self.new ≡ uses self.old) }
+        ensures err_free { OnErr result (free_blocks self.new ≡ free_blocks self.old) }
+        ensures content { content self.new ≡ content self.old }
+        ensures honest { honest self.new ≡ honest self.old }
+        ensures failures { failures self.new ≡ failures self.old };
+
+    /// Makes blocks free that are in use once. Takes no memory.
+    fn give_back(&mut self, ks: &[u32])
+        requires { AreInUse ks.now (uses self.old) }
+        ensures gives { GivesBack ks.now (uses self.old) (uses self.new) }
+        ensures free { free_blocks self.new ≡ free_blocks self.old + length ks.now }
+        ensures content { content self.new ≡ content self.old }
+        ensures honest { honest self.new ≡ honest self.old }
+        ensures failures { failures self.new ≡ failures self.old };
+
+    /// How many blocks may still be taken.
+    fn free(&self) -> u32
+        ensures { result ≡ free_blocks self.now };
+
+    /// Writes the header, after a sync of all the rest, and syncs it: the state, the number of the file's blocks,
+    /// and where its metadata of `length` bytes begins. A last block that a failed write cut short is filled with
+    /// zeros before. Refused only where the disk has counted a failure; the header then holds any bytes.
+    fn write_header(&mut self, state: State, first: u32, length: u64) -> Result<(), DiskFault>
+        ensures written { OnOk result (IsTrue (honest self.old) → HeaderWritten state first length (content self.old) (content self.new)) }
+        ensures others { IsTrue (honest self.old) → OthersKept 0 (block_at (content self.old)) (block_at (content self.new)) }
+        ensures last { IsTrue (honest self.old) → HeaderLast (content self.old) (content self.new) (synced self.new) }
+        ensures synced { OnOk result (synced self.new ≡ content self.new) }
+        ensures uses { uses self.new ≡ uses self.old }
+        ensures free { free_blocks self.new ≡ free_blocks self.old }
+        ensures honest { honest self.new ≡ honest self.old }
+        ensures counts { Counts result (failures self.old) (failures self.new) };
+}

@@ -1,0 +1,37 @@
+-- What the calls of a disk do to the bytes that it holds.
+use Rattle.std.specs.Prelude.{◌≡◌, ℕ, ◌+◌, ◌-◌, ◌^◌, ◌<◌, ◌≤◌, min, max, List, length, slice_index, Result, OnOk, OnErr}
+
+-- A disk in memory as callers see it: its bytes, and how many of its calls have failed.
+pub record Memory : Type 0 where
+  pub content : List ℕ
+  pub failures : ℕ
+
+-- the content has these bytes from this place on
+pub record Holds (content : List ℕ) (at : ℕ) (bytes : List ℕ) : Type 0 where
+  pub within : at + length bytes ≤ length content
+  pub each : (i : ℕ) → i < length bytes → slice_index content (at + i) ≡ slice_index bytes i
+
+-- After a write of n bytes that may have been cut short: any bytes in its range, and in the gap between
+-- the old end and its range; the others are as they were.
+pub record Torn (at n : ℕ) (old new : List ℕ) : Type 0 where
+  pub no_shorter : length old ≤ length new
+  pub no_longer : length new ≤ max (length old) (at + n)
+  pub below : (i : ℕ) → i < length old → i < at → slice_index new i ≡ slice_index old i
+  pub above : (i : ℕ) → i < length old → at + n ≤ i → slice_index new i ≡ slice_index old i
+
+-- after a write that was done: the bytes stand there, a gap past the old end holds zeros, and the others
+-- are as they were
+pub record Written (at : ℕ) (bytes old new : List ℕ) : Type 0 where
+  pub holds : Holds new at bytes
+  pub gap : (i : ℕ) → length old ≤ i → i < at → slice_index new i ≡ 0
+  pub others : Torn at (length bytes) old new
+
+-- the count rose, or stands at the last value of a `u64`
+abbrev pub Rose : ℕ → ℕ → Type 0
+Rose old new = min (old + 1) (2 ^ 64 - 1) ≤ new
+
+-- how a call changes the count of failures: a call that was done not at all, and a refused one is counted
+pub record Counts {T E : Type 0} (result : Result T E) (old new : ℕ) : Type 0 where
+  pub no_fewer : old ≤ new
+  pub done : OnOk result (new ≡ old)
+  pub refused : OnErr result (Rose old new)
