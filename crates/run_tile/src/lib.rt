@@ -1,0 +1,14 @@
+//! The cells of a tile as bytes: runs of equal cells, each a count of 16 bits and a value in the
+//! width of the field's type, both with the lowest byte first.
+#![tactic(auto)]
+
+mod decoding;
+mod encoding;
+mod error;
+mod run;
+#[cfg(test)]
+mod tests;
+
+pub use decoding::decode;
+pub use encoding::encode;
+pub use error::DecodeError;

@@ -1,0 +1,64 @@
+//! One run of equal cells, and its bytes.
+
+ghost use Rattle.std.specs.Prelude.{◌≡◌, ◌+◌, ◌≤◌, ◌↔◌, length, IsTrue};
+ghost use Rattle.run_tile.specs.Types.{width_of, value_of};
+ghost use Rattle.run_tile.specs.Runs.{run_size, run_of, IsRun};
+ghost use Rattle.byteorder.specs.Endian.{little_number};
+
+use arr_core::FieldType;
+use byteorder::{ByteOrder, LittleEndian};
+
+/// How many cells a run may have.
+pub const MAX_COUNT: u16 = 4096;
+
+/// A run: `count` cells of one value.
+#[derive(Clone, Copy, PartialEq, Eq, Debug)]
+pub struct Run {
+    pub count: u16,
+    pub value: i64,
+}
+
+/// How many bytes a value of a type takes.
+pub fn width(kind: FieldType) -> usize
+    ensures { result ≡ width_of kind }
+{
+    match kind {
+        FieldType::Bool | FieldType::U8 => 1,
+        FieldType::I16 => 2,
+        FieldType::I32 => 4,
+        FieldType::I64 => 8,
+    }
+}
+
+/// The value in the first bytes.
+fn read_value(kind: FieldType, bytes: &[u8]) -> i64
+    requires { width_of kind ≤ length bytes.now }
+    ensures { result ≡ value_of kind (little_number (width_of kind) bytes.now) }
+{
+    match kind {
+        FieldType::Bool | FieldType::U8 => i64::from(bytes[0]),
+        FieldType::I16 => LittleEndian::read_int(bytes, 2),
+        FieldType::I32 => LittleEndian::read_int(bytes, 4),
+        FieldType::I64 => LittleEndian::read_int(bytes, 8),
+    }
+}
+
+impl Run {
+    /// The run that the first bytes read as.
+    pub fn read(kind: FieldType, bytes: &[u8]) -> Run
+        requires { run_size kind ≤ length bytes.now }
+        ensures { result ≡ run_of kind bytes.now }
+    {
+        Run {
+            count: LittleEndian::read_u16(bytes),
+            value: read_value(kind, &bytes[2..]),
+        }
+    }
+
+    /// Whether it has 1 to 4,096 cells, of a type.
+    pub fn is_run(self, kind: FieldType) -> bool
+        ensures { IsTrue result ↔ IsRun kind self }
+    {
+        1 <= self.count && self.count <= MAX_COUNT && kind.fits(self.value)
+    }
+}

@@ -1,0 +1,4 @@
+pub mod Lists
+pub mod Merging
+pub mod Changed
+pub mod Codes

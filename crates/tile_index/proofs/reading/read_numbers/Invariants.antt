@@ -1,0 +1,9 @@
+use Rattle.std.proofs.Common.{◌≡◌, ◌++◌, flat_map, length}
+use Rattle.tile_index.specs.Bytes.{number_bytes}
+use Rattle.tile_index.proofs.reading.read_numbers.Given as goal
+
+abbrev pub invariant-loop : goal.invariant-loop
+invariant-loop l = record {
+  read : l.initial.bytes ≡ flat_map number_bytes l.numbers.items ++ l.bytes;
+  counted : length l.numbers.items ≡ l.counter;
+}

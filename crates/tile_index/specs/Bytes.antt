@@ -1,0 +1,17 @@
+-- The bytes of an index, every number in 32 bits with the lowest byte first: how many entries there
+-- are, and then for each entry its tile, its length, and its blocks.
+use Rattle.std.specs.Prelude.{ℕ, List, ◌++◌, length, flat_map}
+use Rattle.byteorder.specs.Endian.{little_bytes}
+use Rattle.tile_index.specs.declared.entry.Entry.{Entry}
+
+-- the bytes of one number
+abbrev pub number_bytes : ℕ → List ℕ
+number_bytes n = little_bytes 4 n
+
+-- the bytes of one tile and its entry
+unfoldable pub entry_bytes : ℕ × Entry → List ℕ
+entry_bytes x = number_bytes x.0 ++ (number_bytes x.1.length ++ flat_map number_bytes x.1.blocks)
+
+-- the bytes of an index
+unfoldable pub index_bytes : List (ℕ × Entry) → List ℕ
+index_bytes index = number_bytes (length index) ++ flat_map entry_bytes index

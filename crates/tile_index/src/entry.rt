@@ -1,0 +1,50 @@
+//! Where the bytes of a tile lie.
+
+ghost use Rattle.std.specs.Prelude.{◌≡◌, ◌<◌, ◌^◌, All};
+
+use std::marker::Model;
+
+/// The numbers of the blocks of a tile, in the order of its bytes.
+#[derive(Debug, Drop)]
+pub struct BlockList {
+    numbers: Vec<u32>,
+}
+
+impl Model for BlockList {
+    ghost use Rattle.std.specs.Prelude.{List, ℕ};
+
+    ghost Value = { List ℕ };
+
+    ghost view = { λ b. b.numbers.items };
+}
+
+impl BlockList {
+    /// The blocks of a list, in its order.
+    pub fn new(numbers: Vec<u32>) -> BlockList
+        ensures blocks { result ≡ numbers.items }
+        ensures numbers { All (λ b. b < 2 ^ 32) numbers.items }
+    {
+        BlockList { numbers }
+    }
+
+    /// The blocks as a slice.
+    pub fn as_slice(&self) -> &[u32]
+        ensures { result.now ≡ self.now }
+    {
+        &self.numbers
+    }
+
+    /// The blocks as a list of their own.
+    pub fn into_vec(self) -> Vec<u32>
+        ensures { result.items ≡ self }
+    {
+        self.numbers
+    }
+}
+
+/// A tile's bytes: how many there are, and the blocks that they lie in.
+#[derive(Debug, Drop)]
+pub struct Entry {
+    pub length: u32,
+    pub blocks: BlockList,
+}

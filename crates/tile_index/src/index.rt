@@ -1,0 +1,120 @@
+//! The index, and what it says of a tile.
+
+ghost use Rattle.std.specs.Prelude.{◌≡◌, ◌<◌, ◌≤◌, ◌^◌, ℕ, [], ◌++◌, length, flat_map, All, Option, None, Some, IfOk, OnOk, OnErr, option_copied, get_or, slice_index_or};
+ghost use Rattle.tile_index.specs.declared.entry.Entry.{Entry};
+ghost use Rattle.tile_index.specs.Entries.{IsEntry};
+ghost use Rattle.tile_index.specs.Index.{found_at, changed_at, IsRising, AreSmall, IsPair, ArePairs, IsIndex};
+
+use crate::changes::merged;
+use crate::entry::Entry;
+use std::alloc::{AllocError, Global};
+use std::marker::Model;
+use std::mem;
+
+/// Which tiles of a field have bytes, and where: a finite map from tile numbers to entries.
+#[derive(Debug, Drop)]
+pub struct TileIndex {
+    entries: Vec<(u64, Entry)>,
+}
+
+impl Model for TileIndex {
+    ghost use Rattle.std.specs.Prelude.{List, ℕ};
+    ghost use Rattle.tile_index.specs.declared.entry.Entry.{Entry};
+
+    ghost Value = { List (ℕ × Entry) };
+
+    ghost use Rattle.tile_index.specs.Index.{IsIndex};
+
+    ghost view = { λ i. i.entries.items };
+
+    ghost invariant = { λ i. IsIndex i.entries.items };
+}
+
+/// The first place whose tile is not before a tile.
+fn place_of(entries: &[(u64, Entry)], tile: u64) -> usize
+    requires { IsRising entries.now }
+    ensures within { result ≤ length entries.now }
+    ensures before { (k : ℕ) (d : ℕ × Entry) → k < result → (get_or entries.now k d).0 < tile }
+    ensures from { (k : ℕ) (d : ℕ × Entry) → result ≤ k → k < length entries.now → tile ≤ (get_or entries.now k d).0 }
+{
+    let mut low = 0;
+    let mut high = entries.len();
+    while low < high {
+        let middle = low + (high - low) / 2;
+        if entries[middle].0 < tile {
+            low = middle + 1;
+        } else {
+            high = middle;
+        }
+    }
+    low
+}
+
+impl TileIndex {
+    /// An index without tiles.
+    pub fn new(alloc: Global) -> TileIndex
+        ensures { result ≡ [] }
+    {
+        TileIndex {
+            entries: Vec::new(alloc),
+        }
+    }
+
+    /// The index of a list of pairs.
+    pub(crate) fn from_entries(entries: Vec<(u64, Entry)>) -> TileIndex
+        requires { IsIndex entries.items }
+        ensures { result ≡ entries.items }
+    {
+        TileIndex { entries }
+    }
+
+    /// The entry of a tile. Takes no memory.
+    pub fn get(&self, tile: u64) -> Option<&Entry>
+        ensures { option_copied result ≡ found_at tile self.now }
+    {
+        let entries = self.as_slice();
+        let place = place_of(entries, tile);
+        if place == entries.len() {
+            return None;
+        }
+        let (number, entry) = &entries[place];
+        if *number == tile { Some(entry) } else { None }
+    }
+
+    /// The pairs of a tile and its entry, in rising order.
+    pub fn as_slice(&self) -> &[(u64, Entry)]
+        ensures pairs { result.now ≡ self.now }
+        ensures index { IsIndex self.now }
+    {
+        &self.entries
+    }
+
+    /// Gives each listed tile its entry, or none, and leaves the others as they are. Where memory
+    /// is wanting, all stay as they are.
+    pub fn replace_all(&mut self, changes: Vec<(u64, Option<Entry>)>) -> Result<(), AllocError>
+        requires rising { IsRising changes.items }
+        requires small { AreSmall changes.items }
+        requires entries { (tile : ℕ) (entry : Entry) → found_at tile changes.items ≡ Some (Some entry) → IsEntry entry }
+        requires room { (tile : ℕ) × (tile < 2 ^ 32) × (changed_at tile changes.items self.old ≡ None) }
+        ensures changed { OnOk result ((tile : ℕ) → found_at tile self.new ≡ changed_at tile changes.items self.old) }
+        ensures unchanged { OnErr result (self.new ≡ self.old) }
+        ensures index { IsIndex self.new }
+    {
+        let alloc = *self.entries.allocator();
+        let room = Vec::with_capacity(alloc, self.entries.len() + changes.len())?;
+        let entries = mem::replace(&mut self.entries, Vec::new(alloc));
+        self.entries = merged(entries, changes, room);
+        Ok(())
+    }
+
+    /// The blocks of all entries, in the order of the tiles.
+    pub fn blocks(&self, alloc: Global) -> Result<Vec<u32>, AllocError>
+        ensures { IfOk result (λ blocks. blocks.items ≡ flat_map (λ (x : ℕ × Entry). x.1.blocks) self.now) }
+    {
+        let mut blocks = Vec::new(alloc);
+        for (_tile, entry) in &self.entries {
+            blocks.extend_from_slice(entry.blocks.as_slice())?;
+        }
+        Ok(blocks)
+    }
+}

@@ -1,0 +1,16 @@
+//! The index of a field: which tiles lie in which blocks of the file. A tile that it does not list
+//! is 0 or false everywhere.
+#![tactic(auto)]
+
+mod changes;
+mod entry;
+mod error;
+mod index;
+mod reading;
+#[cfg(test)]
+mod tests;
+mod writing;
+
+pub use entry::{BlockList, Entry};
+pub use error::IndexError;
+pub use index::TileIndex;
