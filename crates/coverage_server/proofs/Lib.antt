@@ -1,0 +1,10 @@
+pub mod BufferLemmas
+pub mod HeadLemmas
+pub mod StreamLemmas
+pub mod TakenLemmas
+pub mod SpellingLemmas
+pub mod RequestLemmas
+pub mod ReplyLemmas
+pub mod HoldingLemmas
+pub mod ServingLemmas
+pub mod MachineLemmas

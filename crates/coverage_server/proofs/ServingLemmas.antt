@@ -1,0 +1,132 @@
+-- A connection that is being served, and how it ends.
+use Rattle.std.proofs.Common.{◌≡◌, ◌≢◌, ℕ, ◌+◌, ◌<◌, ◌≤◌, Bool, true, false, ◌||◌, List, [], ◌∷◌, ◌++◌, length, Option, Result, Ok, Err, IfSome, refl, sym, ap, ◌∙◌, subst, arith, append_assoc, append-nil, eq-eqb}
+use Rattle.std.proofs.lemmas.List.{length-append}
+use Rattle.std.specs.Io.KnownBytes.{Appends, Consumes, IsAtEnd}
+use Rattle.std.proofs.KnownBytes.{Appends-trans, Consumes-trans}
+use Rattle.coverage_server.specs.declared.front.reply.Reply.{Reply}
+use Rattle.arr_core.specs.Stores.{Store}
+use Rattle.coverage_server.specs.Bytes.{AppendsPrefix}
+use Rattle.coverage_server.specs.Replies.{reply_bytes}
+use Rattle.std.specs.Prelude.{◌==◌}
+use Rattle.httparse.specs.Grammar.{RequestHead}
+use Rattle.coverage_server.specs.Head.{is_last}
+use Rattle.coverage_server.specs.Stream.{HasNoHead, Item, Whole, at_end, at_fault, Messages, Begins, Taken, Fronts}
+use Rattle.coverage_server.proofs.BufferLemmas.{prefix_after}
+use Rattle.coverage_server.proofs.TakenLemmas.{Taken-append, Taken-push, Messages-after, Begins-after, rest_of, rest_at_end, all_of, last_message, one_message, whole_message, room_after}
+use Rattle.coverage_server.specs.declared.server.ConnEnd.TheVariants.{Finished, ReadFault, WriteFault}
+use Rattle.coverage_server.specs.Machine.{MessageStep, Run}
+use Rattle.coverage_server.specs.Serves.{ServesConnection}
+
+pub Run-push : (items : List Item) (old mid new : Store) (text : List ℕ) (item : Item) (reply : Reply) → Run old items text mid
+    → MessageStep mid item.asked reply new → Run old (items ++ item ∷ []) (text ++ reply_bytes item.last item.bare reply) new
+Run-push [] old mid new text item reply x s = (
+  new,
+  reply,
+  [],
+  subst (λ o. MessageStep o item.asked reply new) x.1 s,
+  ap (λ (l : List ℕ). l ++ reply_bytes item.last item.bare reply) x.0 ∙ sym (append-nil (reply_bytes item.last item.bare reply)),
+  (refl, refl),
+)
+Run-push (first ∷ items) old mid new text item reply x s = (
+  x.0,
+  x.1,
+  x.2 ++ reply_bytes item.last item.bare reply,
+  x.3,
+  ap (λ (l : List ℕ). l ++ reply_bytes item.last item.bare reply) x.4 ∙ append_assoc (reply_bytes first.last first.bare x.1) x.2 (reply_bytes item.last item.bare reply),
+  Run-push items x.0 mid new x.2 item reply x.5 s,
+)
+
+-- What has come, the messages in it, and their replies, which went out.
+pub record Serving (before now held holds : Option (List ℕ)) (old new : Store) (buffer : List ℕ) (count : ℕ) : Type 0 where
+  pub came : List ℕ
+  pub took : Consumes before now came
+  pub items : List Item
+  pub taken : Taken 0 came items buffer
+  pub replies : List ℕ
+  pub run : Run old items replies new
+  pub sent : Appends held holds replies
+  pub counted : count ≡ length items
+
+module _ {before now held holds : Option (List ℕ)} {old new : Store} {buffer : List ℕ} {count : ℕ}
+    (s : Serving before now held holds old new buffer count) (later : Option (List ℕ)) (more : List ℕ) (took : Consumes now later more) where
+  taken_all : Taken 0 ((s.came ++ more) ++ rest_of later) s.items ((buffer ++ more) ++ rest_of later)
+  taken_all =
+      Taken-append 0 (s.came ++ more) s.items (buffer ++ more) (rest_of later) (Taken-append 0 s.came s.items buffer more s.taken)
+
+  took_all : Consumes before later (s.came ++ more)
+  took_all = Consumes-trans before now later s.came more s.took took
+
+  from_zero : count ≡ 0 + length s.items
+  from_zero = omega (arith, s.counted)
+
+  pub ended : IsAtEnd later → buffer ++ more ≡ [] → ServesConnection before later held holds old new Finished
+  ended end none =
+      let nothing : (buffer ++ more) ++ rest_of later ≡ [] =
+      ap (λ (l : List ℕ). (buffer ++ more) ++ l) (rest_at_end later end) ∙ append-nil (buffer ++ more) ∙ none in
+      let messages = Messages-after at_end 0 count _ s.items [] _ from_zero taken_all nothing in (
+        (s.came ++ more) ++ rest_of later,
+        all_of before later (s.came ++ more) took_all,
+        s.items,
+        subst (Messages at_end 0 ((s.came ++ more) ++ rest_of later)) (append-nil s.items) messages,
+        s.replies,
+        s.run,
+        s.sent,
+      )
+
+  pub faulted : HasNoHead (buffer ++ more) → ServesConnection before later held holds old new ReadFault
+  faulted none =
+      let messages = Messages-after at_fault 0 count _ s.items [] _ from_zero (Taken-append 0 s.came s.items buffer more s.taken) none in (
+        s.came ++ more,
+        took_all,
+        s.items,
+        subst (Messages at_fault 0 (s.came ++ more)) (append-nil s.items) messages,
+        s.replies,
+        s.run,
+        s.sent,
+      )
+
+  module _ (left : List ℕ) (item : Item) (x : Fronts count (buffer ++ more) left later item) (newer : Store) (reply : Reply)
+      (step : MessageStep new item.asked reply newer) (last bare : Bool) (is : last ≡ item.last) (shown : bare ≡ item.bare) (gone : Option (List ℕ)) where
+    pub answered : last ≡ true → Appends holds gone (reply_bytes last bare reply) → ServesConnection before later held gone old newer Finished
+    answered closed sent = (
+      (s.came ++ more) ++ rest_of later,
+      all_of before later (s.came ++ more) took_all,
+      s.items ++ item ∷ [],
+      Messages-after at_end 0 count _ s.items (item ∷ []) _ from_zero taken_all
+          (last_message count (buffer ++ more) left later item x (sym is ∙ closed)),
+      s.replies ++ reply_bytes item.last item.bare reply,
+      Run-push s.items old new newer s.replies item reply s.run step,
+      Appends-trans held holds gone s.replies (reply_bytes item.last item.bare reply) s.sent (subst (λ b. Appends holds gone (reply_bytes b item.bare reply)) is (subst (λ d. Appends holds gone (reply_bytes last d reply)) shown sent)),
+    )
+
+    pub unwritten : AppendsPrefix holds gone (reply_bytes last bare reply) → ServesConnection before later held gone old newer WriteFault
+    unwritten sent = (
+      (s.came ++ more) ++ rest_of later,
+      all_of before later (s.came ++ more) took_all,
+      s.items ++ item ∷ [],
+      Begins-after 0 count _ s.items (item ∷ []) _ from_zero taken_all (one_message count (buffer ++ more) left later item x),
+      s.replies ++ reply_bytes item.last item.bare reply,
+      Run-push s.items old new newer s.replies item reply s.run step,
+      prefix_after held holds gone s.replies (reply_bytes item.last item.bare reply) s.sent (subst (λ b. AppendsPrefix holds gone (reply_bytes b item.bare reply)) is (subst (λ d. AppendsPrefix holds gone (reply_bytes last d reply)) shown sent)),
+    )
+
+    pub continued : (number : ℕ) → number ≡ count + 1 → last ≡ false → Appends holds gone (reply_bytes last bare reply)
+        → Serving before later held gone old newer left number
+    continued number numbered goes_on sent =
+        let whole = whole_message count (buffer ++ more) left later item x (sym is ∙ goes_on) in
+        record {
+          came = s.came ++ more;
+          took = took_all;
+          items = s.items ++ item ∷ [];
+          taken =
+              Taken-push 0 count (s.came ++ more) s.items item (buffer ++ more) left from_zero
+              (Taken-append 0 s.came s.items buffer more s.taken) whole (sym is ∙ goes_on);
+          replies = s.replies ++ reply_bytes item.last item.bare reply;
+          run = Run-push s.items old new newer s.replies item reply s.run step;
+          sent = Appends-trans held holds gone s.replies (reply_bytes item.last item.bare reply) s.sent (subst (λ b. Appends holds gone (reply_bytes b item.bare reply)) is (subst (λ d. Appends holds gone (reply_bytes last d reply)) shown sent));
+          counted = omega (arith, numbered, s.counted, length-append s.items (item ∷ []));
+        }
+
+    pub roomy : (number : ℕ) → number ≡ count + 1 → last ≡ false → count < 1000 → number < 1000
+    roomy number numbered goes_on room =
+        let less : count + 1 < 1000 = room_after count (buffer ++ more) left item (whole_message count (buffer ++ more) left later item x (sym is ∙ goes_on)) (sym is ∙ goes_on) room in omega arith

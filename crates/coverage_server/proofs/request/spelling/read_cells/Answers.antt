@@ -1,0 +1,40 @@
+use Rattle.std.proofs.Common.{◌≡◌, ◌∷◌, [], ◌++◌, Ok, Err, lit<, refl, sym, ap, ◌∙◌, subst, inl, inr, rules}
+use Rattle.std.proofs.lemmas.Result.{err_from_is_err_and}
+use Rattle.coverage_server.specs.Spelling.{cells_in, cell_in}
+use Rattle.coverage_server.proofs.SpellingLemmas.{Left, cut_of, pieces_whole, left_more, left_refused, left_last, refused_or_out}
+use Rattle.coverage_server.proofs.request.spelling.read_cells.Goals as goal
+
+pub returns-in_err-cell-in-Some : goal.returns-in_err-cell-in-Some
+returns-in_err-cell-in-Some c =
+    let whole = cells_in c.args.text.now in
+    let rest = c.pieces.rest.now in
+    let cut = cut_of rest c.in-Some.piece c.in-Some.after (c.in-Some.ensures.byte (lit< tt) (λ w o x. x)) in
+    let p = err_from_is_err_and c.from_residual.result c.from_residual.ensures.1 in
+    rw (p.1, p.2)
+    (refused_or_out (cell_in c.in-Some.piece.now) whole _ (λ e. left_refused cell_in whole _ rest _ _ _ cut e c.pieces.invariant.1) c.in_err-cell-in-Some.ensures)
+
+pub pieces-preserved : goal.pieces-preserved
+pieces-preserved c =
+    let whole = cells_in c.args.text.now in
+    let rest = c.pieces.rest.now in
+    let cut = cut_of rest c.in-Some.piece c.in-Some.after (c.in-Some.ensures.byte (lit< tt) (λ w o x. x)) in (
+      search rules,
+      subst (λ done. Left cell_in whole done c.in-Some.after.now) (sym c.in_ok-push-in-Some.ensures.items)
+          (left_more cell_in whole c.pieces.list.items rest c.in-Some.piece.now c.in-Some.after.now c.in_ok-cell-in-Some.cell cut c.in_ok-cell-in-Some.ensures c.pieces.invariant.1),
+    )
+
+pub returns-in_err-cell-in-None : goal.returns-in_err-cell-in-None
+returns-in_err-cell-in-None c =
+    let whole = cells_in c.args.text.now in
+    let rest = c.pieces.rest.now in
+    let cut = pieces_whole rest (c.in-None.ensures.byte (lit< tt) (λ w o x. x)) in
+    let p = err_from_is_err_and c.from_residual-in_err-cell-in-None.result c.from_residual-in_err-cell-in-None.ensures.1 in
+    rw (p.1, p.2)
+    (refused_or_out (cell_in rest) whole _ (λ e. left_refused cell_in whole _ rest _ _ _ cut e c.pieces.invariant.1) c.in_err-cell-in-None.ensures)
+
+pub returns-in-None : goal.returns-in-None
+returns-in-None c =
+    let whole = cells_in c.args.text.now in
+    let rest = c.pieces.rest.now in
+    let cut = pieces_whole rest (c.in-None.ensures.byte (lit< tt) (λ w o x. x)) in
+    left_last cell_in whole _ rest _ cut c.in_ok-cell-in-None.ensures c.pieces.invariant.1 ∙ ap Ok (sym c.in_ok-push-in-None.ensures.items)

@@ -1,0 +1,15 @@
+pub mod Bytes
+pub mod Head
+pub mod Stream
+pub mod Values
+pub mod Spelling
+pub mod Contents
+pub mod Requests
+pub mod Replies
+pub mod Holding
+pub mod Writing
+pub mod Machine
+pub mod Arguments
+pub mod Answered
+pub mod Serves
+pub mod Asking

@@ -1,0 +1,140 @@
+-- The machine: its state is a store of coverages. A request leads to a reply and a next state; the refusals come in the order in
+-- which they stand here, and leave the state as it was.
+use Rattle.std.specs.Prelude.{◌≡◌, ℕ, ◌<◌, ◌≤◌, ◌==◌, ◌⊎◌, Bool, ℤ, List, [], ◌∷◌, ◌++◌, length, map, replicate, slice_get, All, Option, Result, Ok, Err, MatchBool, MatchOption, nat_lt, codes, string_bytes, ⊤, FitsSigned, Some}
+use Rattle.std.specs.Int.{w32}
+use Rattle.std.specs.List.{flat_map}
+use Rattle.arr_core.specs.declared.cell.Cell.{Cell}
+use Rattle.arr_core.specs.declared.cell.FieldType.{FieldType}
+use Rattle.arr_core.specs.declared.domain.Axis.{Axis}
+use Rattle.arr_core.specs.declared.field.Field.{Field}
+use Rattle.arr_core.specs.Cells.{stored, Holds}
+use Rattle.arr_core.specs.Domains.{points, IsDomain, IsBoxOf}
+use Rattle.arr_core.specs.Fields.{AreFields, place_of as field_place}
+use Rattle.arr_core.specs.Stores.{Coverage, Store, inserted, updated_coverage}
+use Rattle.coverage_server.specs.Contents.{Cells, fill, values}
+use Rattle.coverage_server.specs.Requests.{Asks, insert_coverage, update_coverage, list_coverages, process_coverages, spelled, number_of}
+use Rattle.coverage_server.specs.Holding.{place_of, changed_at}
+use Rattle.coverage_server.specs.Replies.{reply_bytes}
+use Rattle.coverage_server.specs.Stream.{Item}
+use Rattle.coverage_server.specs.declared.request.Interval.{Interval}
+use Rattle.coverage_server.specs.declared.request.RequestError.{RequestError}
+use Rattle.coverage_server.specs.declared.front.reply.Reply.{Reply}
+use Rattle.coverage_server.specs.declared.front.reply.Reply.TheVariants.{Text, Csv, Refused}
+
+-- a reply with this text
+abbrev pub IsText : Reply → List ℕ → Type 0
+IsText (Text text) expected = string_bytes text ≡ expected
+IsText (Csv text) expected = ⊥
+IsText (Refused code) expected = ⊥
+
+-- a refusal, which changes nothing
+abbrev pub Refuses : ℕ → Store → Reply → Store → Type 0
+Refuses code old reply new = (reply ≡ Refused code) × (new ≡ old)
+
+-- `ok` on a line, and this is the next state
+abbrev pub Does : Store → Reply → Store → Type 0
+Does next reply new = IsText reply (codes "ok\n") × (new ≡ next)
+
+-- one refusal where a condition fails, and what comes next where it holds
+abbrev pub Unless : Type 0 → ℕ → (Store → Reply → Store → Type 0) → Store → Reply → Store → Type 0
+Unless condition code next old reply new = ((¬ condition) × Refuses code old reply new) ⊎ (condition × next old reply new)
+
+-- the axes that intervals spell
+abbrev pub axis_of : Interval → Axis
+axis_of i = record { name = i.axis; lo = i.lo; hi = i.hi }
+
+abbrev pub axes_of : List Interval → List Axis
+axes_of intervals = map axis_of intervals
+
+-- both bounds fit 32 bits
+abbrev pub FitBounds : Interval → Type 0
+FitBounds i = FitsSigned w32 i.lo × FitsSigned w32 i.hi
+
+-- intervals that spell a domain, which may be without axes
+abbrev pub SpellDomain : List Interval → Type 0
+SpellDomain intervals = All FitBounds intervals × IsDomain (axes_of intervals)
+
+-- intervals that spell the domain of a coverage
+abbrev pub SpellWhole : List Interval → Type 0
+SpellWhole intervals = SpellDomain intervals × (0 < length intervals)
+
+-- InsertCoverage: 21 for a name that is there, 22 for what is no domain, 23 for what are no fields, 27 where 1,024 coverages are held
+abbrev pub Inserts : List ℕ → List Interval → List Field → Store → Reply → Store → Type 0
+Inserts name intervals fields old reply new =
+    MatchOption (place_of name old)
+    (Unless (SpellWhole intervals) 22
+    (Unless (AreFields fields) 23
+    (Unless (length old < 1024) 27 (λ before. Does (inserted name (axes_of intervals) fields before)))) old reply new)
+    (λ n. Refuses 21 old reply new)
+
+-- the new numbers stand in the box
+abbrev pub Writes : ℕ → ℕ → List Axis → List ℤ → Store → Reply → Store → Type 0
+Writes n field box numbers old = Does (changed_at n (updated_coverage field box numbers) old)
+
+-- 25 where there are not as many cells as points, 26 where one is none of the field's type
+abbrev pub UpdatesCells : ℕ → ℕ → List Axis → FieldType → Cells → Store → Reply → Store → Type 0
+UpdatesCells n field box kind (fill cell) =
+    Unless (Holds kind cell) 26 (Writes n field box (replicate (length (points box)) (stored cell)))
+UpdatesCells n field box kind (values cells) =
+    Unless (length cells ≡ length (points box)) 25 (Unless (All (Holds kind) cells) 26 (Writes n field box (map stored cells)))
+
+-- 24 for what is no box of the coverage's domain
+abbrev pub UpdatesBox : ℕ → Coverage → ℕ → Field → List Interval → Cells → Store → Reply → Store → Type 0
+UpdatesBox n c field f intervals cells =
+    Unless (SpellDomain intervals × IsBoxOf c.domain (axes_of intervals)) 24 (UpdatesCells n field (axes_of intervals) f.kind cells)
+
+-- 42 for a field that the coverage lacks
+abbrev pub UpdatesField : ℕ → Coverage → List ℕ → List Interval → Cells → Store → Reply → Store → Type 0
+UpdatesField n c field intervals cells old reply new =
+    MatchOption (field_place field c.fields) (Refuses 42 old reply new)
+    (λ k. (f : Field) × (slice_get c.fields k ≡ Some f) × UpdatesBox n c k f intervals cells old reply new)
+
+-- UpdateCoverage: 20 for a name that is not there
+abbrev pub Updates : List ℕ → List ℕ → List Interval → Cells → Store → Reply → Store → Type 0
+Updates name field intervals cells old reply new =
+    MatchOption (place_of name old) (Refuses 20 old reply new)
+    (λ n. (c : Coverage) × (slice_get old n ≡ Some c) × UpdatesField n c field intervals cells old reply new)
+
+-- ListCoverages: each name on a line, in order of insertion
+abbrev pub line_of : Coverage → List ℕ
+line_of c = c.name ++ codes "\n"
+
+abbrev pub Lists : Store → Reply → Store → Type 0
+Lists old reply new = IsText reply (flat_map line_of old) × (new ≡ old)
+
+-- ProcessCoverages: comma-separated values or a refusal, and nothing changes
+abbrev pub IsAnswer : Reply → Type 0
+IsAnswer (Text text) = ⊥
+IsAnswer (Csv text) = ⊤
+IsAnswer (Refused code) = ⊤
+
+abbrev pub Answers : List ℕ → Store → Reply → Store → Type 0
+Answers query old reply new = IsAnswer reply × (new ≡ old)
+
+-- what the machine does where it has memory
+abbrev pub Serves : Asks → Store → Reply → Store → Type 0
+Serves (insert_coverage name intervals fields) = Inserts name intervals fields
+Serves (update_coverage name field intervals cells) = Updates name field intervals cells
+Serves list_coverages = Lists
+Serves (process_coverages query) = Answers query
+
+-- a step: in place of any reply want of memory may be told, with the state unchanged
+abbrev pub Step : Asks → Store → Reply → Store → Type 0
+Step asks old reply new = Serves asks old reply new ⊎ Refuses 90 old reply new
+
+-- the step of what the pairs of a message spell, or of their refusal
+abbrev pub SpelledStep : Result Asks RequestError → Store → Reply → Store → Type 0
+SpelledStep (Ok asks) old reply new = Step asks old reply new
+SpelledStep (Err e) old reply new = Refuses (number_of e) old reply new ⊎ Refuses 90 old reply new
+
+-- the step of a message: its pairs are read, or it is refused
+abbrev pub MessageStep : Store → Result (List ℕ) ℕ → Reply → Store → Type 0
+MessageStep old (Ok pairs) reply new = SpelledStep (spelled pairs) old reply new
+MessageStep old (Err code) reply new = Refuses code old reply new ⊎ Refuses 90 old reply new
+
+-- The messages lead from one state to the other, and these bytes are their replies.
+abbrev pub Run : Store → List Item → List ℕ → Store → Type 0
+Run old [] bytes new = (bytes ≡ []) × (new ≡ old)
+Run old (item ∷ items) bytes new =
+    (mid : Store) × (reply : Reply) × (later : List ℕ) × MessageStep old item.asked reply mid
+    × (bytes ≡ reply_bytes item.last item.bare reply ++ later) × Run mid items later new

@@ -1,0 +1,7 @@
+//! What the words after the program's name may ask.
+
+/// To serve standard input to standard output as one connection, over a file. The file `-` is an empty store in memory.
+#[derive(Clone, Copy, Debug, PartialEq, Eq)]
+pub enum Command<'a> {
+    Run(&'a str),
+}
