@@ -1,3 +1,4 @@
 pub mod Spelling
 pub mod Values
 pub mod Pushes
+pub mod Counts

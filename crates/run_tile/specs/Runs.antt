@@ -1,5 +1,6 @@
 -- Tiles written as runs of equal cells, and which bytes spell which cells.
-use Rattle.std.specs.Prelude.{◌≡◌, ◌≢◌, ℕ, ◌+◌, ◌*◌, ◌/◌, ◌<◌, ◌≤◌, ℤ, List, length, drop, map, flat_map, replicate}
+use Rattle.std.specs.Prelude.{◌≡◌, ◌≢◌, ℕ, ◌+◌, ◌*◌, ◌/◌, ◌<◌, ◌≤◌, ℤ, List, [], ◌∷◌, length, drop, map, flat_map, replicate, cond}
+use Rattle.std.specs.Ordering.{int_eq}
 use Rattle.std.specs.List.{range_with_len}
 use Rattle.byteorder.specs.Endian.{little_number}
 use Rattle.arr_core.specs.declared.cell.FieldType.{FieldType}
@@ -43,3 +44,9 @@ pub record IsSpelling (kind : FieldType) (bytes : List ℕ) (cells : List ℤ) :
   pub runs : (k : ℕ) → k < run_count kind bytes → IsRun kind (run_at kind bytes k)
   pub maximal : (k : ℕ) → k + 1 < run_count kind bytes → (run_at kind bytes k).value ≢ (run_at kind bytes (k + 1)).value
   pub cells_are : cells ≡ cells_of (first_runs kind bytes (run_count kind bytes))
+
+-- how many runs spell the cells: one more than there are cells that differ from the one before
+abbrev pub runs_in : List ℤ → ℕ
+runs_in [] = 0
+runs_in (x ∷ []) = 1
+runs_in (x ∷ y ∷ ys) = cond (int_eq x y) 0 1 + runs_in (y ∷ ys)

@@ -1,8 +1,8 @@
 //! Cells to bytes.
 
-ghost use Rattle.std.specs.Prelude.{◌≡◌, ◌≢◌, ◌+◌, ◌<◌, ◌≤◌, ℕ, ℤ, List, length, ◌++◌, All, IfOk, OnOk, get_or, slice_index_or, pos};
+ghost use Rattle.std.specs.Prelude.{◌≡◌, ◌≢◌, ◌+◌, ◌*◌, ◌<◌, ◌≤◌, ℕ, ℤ, List, length, ◌++◌, All, IfOk, OnOk, get_or, slice_index_or, pos};
 ghost use Rattle.arr_core.specs.Cells.{Fits};
-ghost use Rattle.run_tile.specs.Runs.{IsSpelling, IsRun};
+ghost use Rattle.run_tile.specs.Runs.{IsSpelling, IsRun, runs_in, run_size};
 ghost use Rattle.run_tile.specs.Bytes.{run_bytes};
 
 use crate::run::{Run, width};
@@ -41,12 +41,15 @@ fn push_run(bytes: &mut Vec<u8>, kind: FieldType, run: Run) -> Result<(), AllocE
     Ok(())
 }
 
-/// The bytes that spell the cells, each run as long as it can be.
+/// The bytes that spell the cells, each run as long as it can be: 1 to 40,960 of them.
 pub fn encode(alloc: Global, kind: FieldType, cells: &[i64]) -> Result<Vec<u8>, AllocError>
     requires some { 1 ≤ length cells.now }
     requires few { length cells.now ≤ 4096 }
     requires of_type { All (Fits kind) cells.now }
-    ensures { IfOk result (λ bytes. IsSpelling kind bytes.items cells.now) }
+    ensures spelled { IfOk result (λ bytes. IsSpelling kind bytes.items cells.now) }
+    ensures length { IfOk result (λ bytes. length bytes.items ≡ runs_in cells.now * run_size kind) }
+    ensures some { IfOk result (λ bytes. 1 ≤ length bytes.items) }
+    ensures few { IfOk result (λ bytes. length bytes.items ≤ 40960) }
 {
     let mut bytes = Vec::with_capacity(alloc, cells.len() * (2 + width(kind)))?;
     let mut at = 0;

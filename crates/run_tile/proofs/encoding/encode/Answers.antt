@@ -1,9 +1,12 @@
-use Rattle.std.proofs.Common.{◌≡◌, ◌≢◌, ◌+◌, ◌-◌, ◌<◌, ◌≤◌, ℕ, ℤ, pos, List, [], ◌∷◌, ◌++◌, length, take, replicate, get_or, sym, ap, subst, ◌∙◌, arith, rules, take_all, SFits, w64, to_z, of_z, to_z-of_z}
+use Rattle.std.proofs.Common.{◌≡◌, ◌≢◌, ◌+◌, ◌-◌, ◌*◌, ◌<◌, ◌≤◌, ℕ, ℤ, pos, List, [], ◌∷◌, ◌++◌, length, take, replicate, get_or, sym, ap, subst, ◌∙◌, arith, rules, take_all, SFits, w64, to_z, of_z, to_z-of_z}
 use Rattle.std.specs.Vec.{vec_items}
-use Rattle.run_tile.specs.Runs.{IsSpelling, IsRun, run_at, run_count}
+use Rattle.std.proofs.Math.Nat.{one-le-mul}
+use Rattle.std.proofs.lemmas.Nat.{mul-le}
+use Rattle.run_tile.specs.Runs.{IsSpelling, IsRun, run_at, run_count, run_size, runs_in}
 use Rattle.run_tile.specs.Bytes.{run_bytes}
 use Rattle.run_tile.specs.declared.run.Run.{Run}
 use Rattle.run_tile.proofs.Pushes.{spelling-none, spelling-push, take-run, run_at-pushed, run_count-pushed, no-run}
+use Rattle.run_tile.proofs.Counts.{length-spelling, runs-few, runs-some, run_size-small, run_size-some}
 use Rattle.run_tile.proofs.encoding.encode.Goals as goal
 
 pub loop-at-init : goal.loop-at-init
@@ -43,3 +46,22 @@ loop-at-preserved c =
           ∙ ap (λ (j : ℕ). (run_at kind (bytes ++ run_bytes kind run) j).value) (omega (arith, e, ap (run_count kind) pushed, count))
           ∙ ap (λ (r : Run). r.value) last);
     }
+
+pub returns-clause-length : goal.returns-clause-length
+returns-clause-length c =
+    let cells = c.args.cells.now in
+    let all : take c.loop-at.at cells ≡ cells = take_all c.loop-at.at cells (omega (arith, c.loop-at-test.false)) in
+    length-spelling c.args.kind c.loop-at.bytes.items cells (subst (IsSpelling c.args.kind c.loop-at.bytes.items) all c.loop-at.invariant.spelled)
+
+pub returns-clause-some : goal.returns-clause-some
+returns-clause-some c =
+    let cells = c.args.cells.now in
+    let size : length c.loop-at.bytes.items ≡ runs_in cells * run_size c.args.kind = returns-clause-length c in
+    rw size (one-le-mul (runs-some cells c.requires.some) (run_size-some c.args.kind))
+
+pub returns-clause-few : goal.returns-clause-few
+returns-clause-few c =
+    let cells = c.args.cells.now in
+    let size : length c.loop-at.bytes.items ≡ runs_in cells * run_size c.args.kind = returns-clause-length c in
+    let most : runs_in cells * run_size c.args.kind ≤ 4096 * 10 = mul-le (runs_in cells) (run_size c.args.kind) 4096 10 (omega (arith, runs-few cells, c.requires.few)) (run_size-small c.args.kind) in
+    omega (arith, size, most)
