@@ -4,3 +4,4 @@ pub mod Grammar
 pub mod Limits
 pub mod Lexing
 pub mod Runs
+pub mod Fronts

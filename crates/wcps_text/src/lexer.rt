@@ -1,6 +1,10 @@
 //! Tokens of a text.
 
-ghost use Rattle.std.specs.Prelude.{◌≡◌, ◌+◌, ◌-◌, ◌<◌, ◌≤◌, length, take, drop, get_or, IfOk, IsTrue};
+ghost use Rattle.std.specs.Prelude.{◌≡◌, ◌≢◌, ◌+◌, ◌-◌, ◌<◌, ◌≤◌, length, map, drop, IfOk, IfErr, Ok, MatchResult};
+ghost use Rattle.wcps_text.specs.Lexing.{piece, is_space, IsLongest, Lexed, Refused};
+ghost use Rattle.wcps_text.specs.Runs.{Stops};
+ghost use Rattle.wcps_text.specs.Token.{tok};
+ghost use Rattle.wcps_text.specs.declared.error.LexError.TheVariants.{NoMemory};
 
 use crate::error::LexError;
 use crate::piece::front;
@@ -13,7 +17,10 @@ use std::alloc::Global;
 /// Spaces, tabs, carriage returns and line feeds may stand between tokens; each token is the longest that fits. The
 /// first thing in the text that is no token is refused: `NumberTooLarge` for a number above 9223372036854775807, else
 /// `BadToken`.
-pub fn lex<'a>(alloc: Global, text: &'a str) -> Result<Vec<Token<'a>>, LexError> {
+pub fn lex<'a>(alloc: Global, text: &'a str) -> Result<Vec<Token<'a>>, LexError>
+    ensures tokens { IfOk result (λ ts. Lexed 0 text.now (map piece ts.items)) }
+    ensures refused { IfErr result (λ e. e ≢ NoMemory → Refused text.now e) }
+{
     let mut tokens = Vec::new(alloc);
     let mut at = run(Class::Space, text.as_bytes());
     while at < text.len() {
@@ -27,7 +34,12 @@ pub fn lex<'a>(alloc: Global, text: &'a str) -> Result<Vec<Token<'a>>, LexError>
 
 /// The token that begins at that place.
 fn token_at<'a>(text: &'a str, start: usize) -> Result<Token<'a>, LexError>
-    requires { start < length text.now }
+    requires inside { start < length text.now }
+    requires begun { Stops is_space (drop start text.now) }
+    ensures exact { MatchResult result
+        (λ t. IsLongest t.text.now (Ok (tok t)) (drop (start + length t.text.now) text.now) (drop start text.now))
+        (λ e. Refused (drop start text.now) e) }
+    ensures place { IfOk result (λ t. t.start ≡ start) }
     ensures within { IfOk result (λ t. start + length t.text.now ≤ length text.now) }
     ensures some { IfOk result (λ t. 0 < length t.text.now) }
 {

@@ -1,22 +1,26 @@
 //! What the first bytes of a text are: how many belong to the token, and what it is.
 
-ghost use Rattle.std.specs.Prelude.{◌≡◌, ◌+◌, ◌-◌, ◌<◌, ◌≤◌, length, take, drop, get_or, IfOk, IsTrue};
+ghost use Rattle.std.specs.Prelude.{◌≡◌, ◌≢◌, ◌==◌, false, cond, None, ◌+◌, ◌-◌, ◌<◌, ◌≤◌, length, take, drop, get_or, IfOk, MatchResult, IsTrue};
 ghost use Rattle.std.specs.Char.{is_ascii_digit};
-ghost use Rattle.wcps_text.specs.Lexing.{begins_name};
+ghost use Rattle.wcps_text.specs.Fronts.{IsFront};
+ghost use Rattle.wcps_text.specs.Lexing.{begins_name, double, is_space, Refused};
+ghost use Rattle.wcps_text.specs.Runs.{Stops};
 
 use crate::error::LexError;
 use crate::keyword::keyword_of;
 use crate::number::decimal;
 use crate::runs::{Class, run};
 use crate::symbol::{double, single};
-use crate::token::Kind;
+use crate::token::{Kind, Symbol};
 
 /// The greatest length of a name in bytes, its `$` among them.
 const MAX_NAME: usize = 64;
 
 /// The token at the front.
 pub fn front(bytes: &[u8]) -> Result<(usize, Kind), LexError>
-    requires { 0 < length bytes.now }
+    requires some { 0 < length bytes.now }
+    requires begun { Stops is_space bytes.now }
+    ensures exact { MatchResult result (λ x. IsFront bytes.now x.0 x.1) (λ e. Refused bytes.now e) }
     ensures within { IfOk result (λ x. x.0 ≤ length bytes.now) }
     ensures some { IfOk result (λ x. 0 < x.0) }
     ensures first { IfOk result (λ x. get_or bytes.now 0 0 < 128) }
@@ -47,6 +51,7 @@ fn begins_name(byte: u8) -> bool
 fn number(bytes: &[u8]) -> Result<(usize, Kind), LexError>
     requires some { 0 < length bytes.now }
     requires digit { IsTrue (is_ascii_digit (get_or bytes.now 0 0)) }
+    ensures exact { MatchResult result (λ x. IsFront bytes.now x.0 x.1) (λ e. Refused bytes.now e) }
     ensures within { IfOk result (λ x. x.0 ≤ length bytes.now) }
     ensures some { IfOk result (λ x. 0 < x.0) }
     ensures last { IfOk result (λ x. get_or bytes.now (x.0 - 1) 0 < 128) }
@@ -61,6 +66,7 @@ fn number(bytes: &[u8]) -> Result<(usize, Kind), LexError>
 fn name(bytes: &[u8]) -> Result<(usize, Kind), LexError>
     requires some { 0 < length bytes.now }
     requires letter { IsTrue (begins_name (get_or bytes.now 0 0)) }
+    ensures exact { MatchResult result (λ x. IsFront bytes.now x.0 x.1) (λ e. Refused bytes.now e) }
     ensures within { IfOk result (λ x. x.0 ≤ length bytes.now) }
     ensures some { IfOk result (λ x. 0 < x.0) }
     ensures last { IfOk result (λ x. get_or bytes.now (x.0 - 1) 0 < 128) }
@@ -79,51 +85,77 @@ fn name(bytes: &[u8]) -> Result<(usize, Kind), LexError>
 fn variable(bytes: &[u8]) -> Result<(usize, Kind), LexError>
     requires some { 0 < length bytes.now }
     requires dollar { get_or bytes.now 0 0 ≡ 36 }
+    ensures exact { MatchResult result (λ x. IsFront bytes.now x.0 x.1) (λ e. Refused bytes.now e) }
     ensures within { IfOk result (λ x. x.0 ≤ length bytes.now) }
     ensures some { IfOk result (λ x. 0 < x.0) }
     ensures last { IfOk result (λ x. get_or bytes.now (x.0 - 1) 0 < 128) }
 {
     let rest = &bytes[1..];
-    match rest.first() {
-        Some(byte) if begins_name(*byte) => {}
-        _ => return Err(LexError::BadToken),
-    }
-    let count = 1 + run(Class::Name, rest);
-    if count > MAX_NAME {
+    if !begins_name(byte_at(rest, 0)) {
         return Err(LexError::BadToken);
     }
-    Ok((count, Kind::Variable))
+    let letters = run(Class::Name, rest);
+    if letters >= MAX_NAME {
+        return Err(LexError::BadToken);
+    }
+    Ok((letters + 1, Kind::Variable))
 }
 
 /// A string, with its quotes.
 fn string(bytes: &[u8]) -> Result<(usize, Kind), LexError>
     requires some { 0 < length bytes.now }
     requires quote { get_or bytes.now 0 0 ≡ 34 }
+    ensures exact { MatchResult result (λ x. IsFront bytes.now x.0 x.1) (λ e. Refused bytes.now e) }
     ensures within { IfOk result (λ x. x.0 ≤ length bytes.now) }
     ensures some { IfOk result (λ x. 0 < x.0) }
     ensures last { IfOk result (λ x. get_or bytes.now (x.0 - 1) 0 < 128) }
 {
     let inside = run(Class::Quotable, &bytes[1..]);
-    match bytes.get(1 + inside) {
-        Some(b'"') => Ok((inside + 2, Kind::Text)),
-        _ => Err(LexError::BadToken),
+    if byte_at(bytes, 1 + inside) != b'"' {
+        return Err(LexError::BadToken);
     }
+    Ok((inside + 2, Kind::Text))
 }
 
 fn symbol(bytes: &[u8]) -> Result<(usize, Kind), LexError>
-    requires { 0 < length bytes.now }
+    requires some { 0 < length bytes.now }
+    requires begun { Stops is_space bytes.now }
+    requires no_digit { is_ascii_digit (get_or bytes.now 0 0) ≡ false }
+    requires no_letter { begins_name (get_or bytes.now 0 0) ≡ false }
+    requires no_dollar { get_or bytes.now 0 0 ≢ 36 }
+    requires no_quote { get_or bytes.now 0 0 ≢ 34 }
     ensures first { IfOk result (λ x. get_or bytes.now 0 0 < 128) }
+    ensures exact { MatchResult result (λ x. IsFront bytes.now x.0 x.1) (λ e. Refused bytes.now e) }
     ensures within { IfOk result (λ x. x.0 ≤ length bytes.now) }
     ensures some { IfOk result (λ x. 0 < x.0) }
     ensures last { IfOk result (λ x. get_or bytes.now (x.0 - 1) 0 < 128) }
 {
-    if let Some(b'=') = bytes.get(1) {
-        if let Some(symbol) = double(bytes[0]) {
-            return Ok((2, Kind::Symbol(symbol)));
-        }
+    if let Some(symbol) = wide(bytes) {
+        return Ok((2, Kind::Symbol(symbol)));
     }
     match single(bytes[0]) {
         Some(symbol) => Ok((1, Kind::Symbol(symbol))),
         None => Err(LexError::BadToken),
+    }
+}
+
+/// The symbol that the first two bytes are.
+fn wide(bytes: &[u8]) -> Option<Symbol>
+    requires { 0 < length bytes.now }
+    ensures { result ≡ cond (get_or bytes.now 1 0 == 61) (double (get_or bytes.now 0 0)) None }
+{
+    if byte_at(bytes, 1) != b'=' {
+        return None;
+    }
+    double(bytes[0])
+}
+
+/// The byte at that place, and 0 behind the last one.
+fn byte_at(bytes: &[u8], place: usize) -> u8
+    ensures { result ≡ get_or bytes.now place 0 }
+{
+    match bytes.get(place) {
+        Some(byte) => *byte,
+        None => 0,
     }
 }
