@@ -1,5 +1,5 @@
 -- What the scan for the limits rests on.
-use Rattle.std.proofs.Common.{◌≡◌, ℕ, zero, suc, ◌+◌, ◌<◌, ◌≤◌, List, [], ◌∷◌, max, refl, sym, ap, ◌∙◌, arith, drop, get_or, length, drop-cons, add-one, subst}
+use Rattle.std.proofs.Common.{◌≡◌, ℕ, suc, ◌+◌, ◌<◌, ◌≤◌, List, [], ◌∷◌, refl, arith, drop, get_or, length, drop-cons}
 use Rattle.wcps_text.specs.declared.token.Kind.{Kind}
 use Rattle.wcps_text.specs.declared.token.Kind.TheVariants as kinds
 use Rattle.wcps_text.specs.declared.token.Symbol.TheVariants as signs

@@ -1,5 +1,5 @@
 -- What stands at the front of tokens, and the tokens behind it.
-use Rattle.std.specs.Prelude.{◌≡◌, ℕ, zero, suc, ℤ, pos, ◌-ℤ◌, List, [], ◌∷◌, Bool, true, false, ◌||◌, Option, Some, None, option_and_then, if◌then◌else◌, codes, map, nat_le}
+use Rattle.std.specs.Prelude.{ℕ, ℤ, pos, ◌-ℤ◌, List, [], ◌∷◌, Bool, true, false, ◌||◌, Option, Some, None, option_and_then, if◌then◌else◌, codes, map, nat_le}
 use Rattle.std.specs.Str.{bytes_eq}
 use Rattle.std.specs.Char.{to_ascii_lowercase}
 use denote.Enum.Bare.{sameb}

@@ -1,2 +1,8 @@
 pub mod Marks
 pub mod Front
+pub mod Comes
+pub mod Reading
+pub mod Prefixes
+pub mod Fit
+pub mod Views
+pub mod Outcome

@@ -1,6 +1,13 @@
 //! Expressions, by recursive descent. Each function gives what it read and the tokens behind it.
 
 ghost use Rattle.std.specs.Prelude.{◌<◌, ◌≤◌, length, IfOk};
+ghost use Rattle.wcps_text.specs.Token.{toks};
+ghost use Rattle.wcps_text.specs.Tree.{Tree, view, view_place, view_interval, condition_of};
+ghost use Rattle.wcps_text.specs.Limits.{height, place_height, interval_height, condition_height};
+ghost use Rattle.wcps_parse.specs.Reading.{level, operand, post, postfix, prim, in_parens, enclosed, bit, fields, parts, part_at, subs, sub_at, place, interval, domain, iters, iter_at, coverage, items, listed, condition, condense};
+ghost use Rattle.wcps_parse.specs.Fit.{Fit, highest, Gives, Reads};
+ghost use Rattle.wcps_parse.specs.Views.{part_view, sub_view, iter_view, parts_view, subs_view, iters_view, part_height, sub_height, iter_height};
+ghost use Rattle.wcps_parse.specs.Prefixes.{IsBehind};
 
 use crate::error::ParseError;
 use crate::front::{
@@ -9,7 +16,7 @@ use crate::front::{
 };
 use crate::grown;
 use crate::grown::Grown;
-use std::alloc::Global;
+use std::alloc::{AllocError, Global};
 use wcps_text::{
     Expr, Interval, Iter, Keyword, ListItem, Part, Place, QueryName, Sub, Symbol, Token, UnaryOp,
 };
@@ -27,6 +34,7 @@ pub fn level<'t, 'a>(
     rank: u8,
     tokens: &'t [Token<'a>],
 ) -> Result<(Grown<Expr>, &'t [Token<'a>]), ParseError>
+    ensures exact { Reads view height (λ x. x.0) (λ x. toks x.1.now) result (λ n m. level n rank (toks tokens.now)) }
     ensures shorter { IfOk result (λ x. length x.1.now < length tokens.now) }
 {
     let (mut left, mut rest) = operand(alloc, tokens)?;
@@ -42,7 +50,8 @@ pub fn level<'t, 'a>(
 fn prefixes<'t, 'a>(
     alloc: Global,
     tokens: &'t [Token<'a>],
-) -> Result<(Vec<UnaryOp>, &'t [Token<'a>]), ParseError>
+) -> Result<(Vec<UnaryOp>, &'t [Token<'a>]), AllocError>
+    ensures exact { IfOk result (λ x. IsBehind x.0.items (toks x.1.now) (toks tokens.now)) }
     ensures shorter { IfOk result (λ x. length x.1.now ≤ length tokens.now) }
 {
     let mut ops = Vec::new(alloc);
@@ -59,6 +68,7 @@ fn operand<'t, 'a>(
     alloc: Global,
     tokens: &'t [Token<'a>],
 ) -> Result<(Grown<Expr>, &'t [Token<'a>]), ParseError>
+    ensures exact { Reads view height (λ x. x.0) (λ x. toks x.1.now) result (λ n m. operand m (level n) (toks tokens.now)) }
     ensures shorter { IfOk result (λ x. length x.1.now < length tokens.now) }
 {
     let (ops, rest) = prefixes(alloc, tokens)?;
@@ -72,6 +82,7 @@ fn post<'t, 'a>(
     alloc: Global,
     tokens: &'t [Token<'a>],
 ) -> Result<(Grown<Expr>, &'t [Token<'a>]), ParseError>
+    ensures exact { Reads view height (λ x. x.0) (λ x. toks x.1.now) result (λ n m. post m (level n) (toks tokens.now)) }
     ensures shorter { IfOk result (λ x. length x.1.now < length tokens.now) }
 {
     let (mut whole, mut rest) = prim(alloc, tokens)?;
@@ -91,6 +102,7 @@ fn postfix<'t, 'a>(
     whole: Grown<Expr>,
     tokens: &'t [Token<'a>],
 ) -> Result<(Grown<Expr>, &'t [Token<'a>]), ParseError>
+    ensures exact { (e : Tree) → Fit view height whole e → Reads view height (λ x. x.0) (λ x. toks x.1.now) result (λ n m. postfix m (level n) kind e (toks tokens.now)) }
     ensures shorter { IfOk result (λ x. length x.1.now < length tokens.now) }
 {
     match kind {
@@ -116,6 +128,7 @@ fn prim<'t, 'a>(
     alloc: Global,
     tokens: &'t [Token<'a>],
 ) -> Result<(Grown<Expr>, &'t [Token<'a>]), ParseError>
+    ensures exact { Reads view height (λ x. x.0) (λ x. toks x.1.now) result (λ n m. prim m (level n) (toks tokens.now)) }
     ensures shorter { IfOk result (λ x. length x.1.now < length tokens.now) }
 {
     let Some((start, rest)) = start_at(tokens) else {
@@ -150,6 +163,7 @@ fn in_parens<'t, 'a>(
     alloc: Global,
     tokens: &'t [Token<'a>],
 ) -> Result<(Grown<Expr>, &'t [Token<'a>]), ParseError>
+    ensures exact { Reads view height (λ x. x.0) (λ x. toks x.1.now) result (λ n m. in_parens (level n) (toks tokens.now)) }
     ensures shorter { IfOk result (λ x. length x.1.now < length tokens.now) }
 {
     let Some(rest) = sign_at(Symbol::LeftParen, tokens) else {
@@ -164,6 +178,7 @@ fn enclosed<'t, 'a>(
     alloc: Global,
     tokens: &'t [Token<'a>],
 ) -> Result<(Grown<Expr>, &'t [Token<'a>]), ParseError>
+    ensures exact { Reads view height (λ x. x.0) (λ x. toks x.1.now) result (λ n m. enclosed (level n) (toks tokens.now)) }
     ensures shorter { IfOk result (λ x. length x.1.now < length tokens.now) }
 {
     let (value, rest) = level(alloc, MAX_RANK, tokens)?;
@@ -179,6 +194,7 @@ fn bit<'t, 'a>(
     alloc: Global,
     tokens: &'t [Token<'a>],
 ) -> Result<(Grown<Expr>, &'t [Token<'a>]), ParseError>
+    ensures exact { Reads view height (λ x. x.0) (λ x. toks x.1.now) result (λ n m. bit (level n) (toks tokens.now)) }
     ensures shorter { IfOk result (λ x. length x.1.now < length tokens.now) }
 {
     let Some(rest) = sign_at(Symbol::LeftParen, tokens) else {
@@ -198,6 +214,7 @@ fn record<'t, 'a>(
     alloc: Global,
     tokens: &'t [Token<'a>],
 ) -> Result<(Grown<Expr>, &'t [Token<'a>]), ParseError>
+    ensures exact { Reads view height (λ x. x.0) (λ x. toks x.1.now) result (λ n m. fields m (level n) (toks tokens.now)) }
     ensures shorter { IfOk result (λ x. length x.1.now < length tokens.now) }
 {
     let (list, rest) = parts(alloc, tokens)?;
@@ -213,13 +230,14 @@ fn parts<'t, 'a>(
     alloc: Global,
     tokens: &'t [Token<'a>],
 ) -> Result<(Grown<Vec<Part>>, &'t [Token<'a>]), ParseError>
+    ensures exact { Reads parts_view (highest part_height) (λ x. x.0) (λ x. toks x.1.now) result (λ n m. parts m (level n) (toks tokens.now)) }
     ensures shorter { IfOk result (λ x. length x.1.now < length tokens.now) }
 {
     let (first, mut rest) = part_at(alloc, tokens)?;
-    let mut list = grown::pushed(Grown::Fits(Vec::new(alloc), 0), first)?;
+    let mut list = grown::push_part(Grown::Fits(Vec::new(alloc), 0), first)?;
     while let Some(next) = sign_at(Symbol::Semicolon, rest) {
         let (one, after) = part_at(alloc, next)?;
-        list = grown::pushed(list, one)?;
+        list = grown::push_part(list, one)?;
         rest = after;
     }
     Ok((list, rest))
@@ -230,6 +248,7 @@ fn part_at<'t, 'a>(
     alloc: Global,
     tokens: &'t [Token<'a>],
 ) -> Result<(Grown<Part>, &'t [Token<'a>]), ParseError>
+    ensures exact { Reads part_view part_height (λ x. x.0) (λ x. toks x.1.now) result (λ n m. part_at (level n) (toks tokens.now)) }
     ensures shorter { IfOk result (λ x. length x.1.now < length tokens.now) }
 {
     let Some((name, rest)) = name_at(tokens) else {
@@ -248,13 +267,14 @@ fn subs<'t, 'a>(
     alloc: Global,
     tokens: &'t [Token<'a>],
 ) -> Result<(Grown<Vec<Sub>>, &'t [Token<'a>]), ParseError>
+    ensures exact { Reads subs_view (highest sub_height) (λ x. x.0) (λ x. toks x.1.now) result (λ n m. subs m (level n) (toks tokens.now)) }
     ensures shorter { IfOk result (λ x. length x.1.now < length tokens.now) }
 {
     let (first, mut rest) = sub_at(alloc, tokens)?;
-    let mut list = grown::pushed(Grown::Fits(Vec::new(alloc), 0), first)?;
+    let mut list = grown::push_sub(Grown::Fits(Vec::new(alloc), 0), first)?;
     while let Some(next) = sign_at(Symbol::Comma, rest) {
         let (one, after) = sub_at(alloc, next)?;
-        list = grown::pushed(list, one)?;
+        list = grown::push_sub(list, one)?;
         rest = after;
     }
     Ok((list, rest))
@@ -265,6 +285,7 @@ fn sub_at<'t, 'a>(
     alloc: Global,
     tokens: &'t [Token<'a>],
 ) -> Result<(Grown<Sub>, &'t [Token<'a>]), ParseError>
+    ensures exact { Reads sub_view sub_height (λ x. x.0) (λ x. toks x.1.now) result (λ n m. sub_at (level n) (toks tokens.now)) }
     ensures shorter { IfOk result (λ x. length x.1.now < length tokens.now) }
 {
     let Some((axis, rest)) = name_at(tokens) else {
@@ -286,6 +307,7 @@ fn place<'t, 'a>(
     alloc: Global,
     tokens: &'t [Token<'a>],
 ) -> Result<(Grown<Place>, &'t [Token<'a>]), ParseError>
+    ensures exact { Reads view_place place_height (λ x. x.0) (λ x. toks x.1.now) result (λ n m. place (level n) (toks tokens.now)) }
     ensures shorter { IfOk result (λ x. length x.1.now < length tokens.now) }
 {
     if let Some((bounds, rest)) = bounds_at(tokens) {
@@ -304,6 +326,7 @@ fn interval<'t, 'a>(
     alloc: Global,
     tokens: &'t [Token<'a>],
 ) -> Result<(Grown<Interval>, &'t [Token<'a>]), ParseError>
+    ensures exact { Reads view_interval interval_height (λ x. x.0) (λ x. toks x.1.now) result (λ n m. interval (level n) (toks tokens.now)) }
     ensures shorter { IfOk result (λ x. length x.1.now < length tokens.now) }
 {
     if let Some((bounds, rest)) = bounds_at(tokens) {
@@ -321,6 +344,7 @@ fn domain<'t, 'a>(
     alloc: Global,
     tokens: &'t [Token<'a>],
 ) -> Result<(Grown<Interval>, &'t [Token<'a>]), ParseError>
+    ensures exact { Reads view_interval interval_height (λ x. x.0) (λ x. toks x.1.now) result (λ n m. domain (level n) (toks tokens.now)) }
     ensures shorter { IfOk result (λ x. length x.1.now < length tokens.now) }
 {
     let Some(rest) = sign_at(Symbol::LeftParen, tokens) else {
@@ -345,13 +369,14 @@ fn iters<'t, 'a>(
     alloc: Global,
     tokens: &'t [Token<'a>],
 ) -> Result<(Grown<Vec<Iter>>, &'t [Token<'a>]), ParseError>
+    ensures exact { Reads iters_view (highest iter_height) (λ x. x.0) (λ x. toks x.1.now) result (λ n m. iters m (level n) (toks tokens.now)) }
     ensures shorter { IfOk result (λ x. length x.1.now < length tokens.now) }
 {
     let (first, mut rest) = iter_at(alloc, tokens)?;
-    let mut list = grown::pushed(Grown::Fits(Vec::new(alloc), 0), first)?;
+    let mut list = grown::push_iter(Grown::Fits(Vec::new(alloc), 0), first)?;
     while let Some(next) = sign_at(Symbol::Comma, rest) {
         let (one, after) = iter_at(alloc, next)?;
-        list = grown::pushed(list, one)?;
+        list = grown::push_iter(list, one)?;
         rest = after;
     }
     Ok((list, rest))
@@ -362,6 +387,7 @@ fn iter_at<'t, 'a>(
     alloc: Global,
     tokens: &'t [Token<'a>],
 ) -> Result<(Grown<Iter>, &'t [Token<'a>]), ParseError>
+    ensures exact { Reads iter_view iter_height (λ x. x.0) (λ x. toks x.1.now) result (λ n m. iter_at (level n) (toks tokens.now)) }
     ensures shorter { IfOk result (λ x. length x.1.now < length tokens.now) }
 {
     let Some((variable, rest)) = variable_at(tokens) else {
@@ -386,6 +412,7 @@ fn coverage<'t, 'a>(
     alloc: Global,
     tokens: &'t [Token<'a>],
 ) -> Result<(Grown<Expr>, &'t [Token<'a>]), ParseError>
+    ensures exact { Reads view height (λ x. x.0) (λ x. toks x.1.now) result (λ n m. coverage m (level n) (toks tokens.now)) }
     ensures shorter { IfOk result (λ x. length x.1.now < length tokens.now) }
 {
     let Some((_, rest)) = name_at(tokens) else {
@@ -408,6 +435,7 @@ fn listed<'t, 'a>(
     alloc: Global,
     tokens: &'t [Token<'a>],
 ) -> Result<(Vec<ListItem>, &'t [Token<'a>]), ParseError>
+    ensures exact { Gives (λ x. (x.0.items, toks x.1.now)) result (λ n m. listed m (toks tokens.now)) }
     ensures shorter { IfOk result (λ x. length x.1.now < length tokens.now) }
 {
     let Some(rest) = word_at(Keyword::Value, tokens) else {
@@ -431,6 +459,7 @@ fn items<'t, 'a>(
     alloc: Global,
     tokens: &'t [Token<'a>],
 ) -> Result<(Vec<ListItem>, &'t [Token<'a>]), ParseError>
+    ensures exact { Gives (λ x. (x.0.items, toks x.1.now)) result (λ n m. items m (toks tokens.now)) }
     ensures shorter { IfOk result (λ x. length x.1.now < length tokens.now) }
 {
     let Some((first, mut rest)) = item_at(tokens) else {
@@ -454,6 +483,7 @@ pub fn condition<'t, 'a>(
     alloc: Global,
     tokens: &'t [Token<'a>],
 ) -> Result<(Grown<Option<Box<Expr>>>, &'t [Token<'a>]), ParseError>
+    ensures exact { Reads condition_of condition_height (λ x. x.0) (λ x. toks x.1.now) result (λ n m. condition (level n) (toks tokens.now)) }
     ensures shorter { IfOk result (λ x. length x.1.now ≤ length tokens.now) }
 {
     let Some(rest) = word_at(Keyword::Where, tokens) else {
@@ -469,6 +499,7 @@ fn condense<'t, 'a>(
     alloc: Global,
     tokens: &'t [Token<'a>],
 ) -> Result<(Grown<Expr>, &'t [Token<'a>]), ParseError>
+    ensures exact { Reads view height (λ x. x.0) (λ x. toks x.1.now) result (λ n m. condense m (level n) (toks tokens.now)) }
     ensures shorter { IfOk result (λ x. length x.1.now < length tokens.now) }
 {
     let Some((op, rest)) = condenser_at(tokens) else {

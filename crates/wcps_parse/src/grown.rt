@@ -3,10 +3,19 @@
 //! A tree that would be higher is let go at once, and only that it is too high is kept: so no tree that lives is
 //! ever higher than the limit, however long the chain of operators in the text is.
 
+ghost use Rattle.std.specs.Prelude.{◌≡◌, ◌≤◌, ◌<◌, ◌+◌, ◌++◌, ◌∷◌, List, [], ℕ, max, IfOk, IfSome, Option, None, map};
+ghost use Rattle.wcps_text.specs.Tree as tree;
+ghost use Rattle.wcps_text.specs.Tree.{Tree, PlaceTree, IntervalTree, Condition, ItemTree, view, view_place, view_interval, condition_of, bindings_of, item_view, query_view};
+ghost use Rattle.wcps_text.specs.Limits.{height, place_height, interval_height, condition_height, item_height, query_height};
+ghost use Rattle.wcps_parse.specs.Reading.{NamedTree, NamedPlace, NamedInterval, parts_from, subs_from, iters_from};
+ghost use Rattle.wcps_parse.specs.Fit.{Fit, highest};
+ghost use Rattle.wcps_parse.specs.Prefixes.{wrapped};
+ghost use Rattle.wcps_parse.specs.Views.{part_view, sub_view, iter_view, parts_view, subs_view, iters_view, part_height, sub_height, iter_height};
+
 use std::alloc::{AllocError, Global};
 use wcps_text::{
-    BinaryOp, CondenseOp, Expr, Interval, Iter, ListItem, Part, Place, QueryName, ReduceOp, Sub,
-    UnaryOp,
+    BinaryOp, Binding, CondenseOp, Expr, Interval, Item, Iter, ListItem, Part, Place, Query,
+    QueryName, ReduceOp, Sub, UnaryOp,
 };
 
 /// The greatest height of a query's tree.
@@ -20,7 +29,10 @@ pub enum Grown<T> {
 }
 
 /// The height of what stands on parts of that height, if it is not too high.
-fn above(height: u8) -> Option<u8> {
+fn above(height: u8) -> Option<u8>
+    ensures some { IfSome result (λ h. (h ≡ height + 1) × (h ≤ 64)) }
+    ensures none { result ≡ None → 64 ≤ height }
+{
     if height < MAX_HEIGHT {
         Some(height + 1)
     } else {
@@ -28,8 +40,32 @@ fn above(height: u8) -> Option<u8> {
     }
 }
 
-/// A list and one more.
-pub fn pushed<T: Drop>(list: Grown<Vec<T>>, one: Grown<T>) -> Result<Grown<Vec<T>>, AllocError> {
+/// Parts of `{..}` and one more.
+pub fn push_part(list: Grown<Vec<Part>>, one: Grown<Part>) -> Result<Grown<Vec<Part>>, AllocError>
+    ensures { IfOk result (λ g. (xs : List NamedTree) (x : NamedTree) → Fit parts_view (highest part_height) list xs → Fit part_view part_height one x → Fit parts_view (highest part_height) g (xs ++ x ∷ [])) }
+{
+    let (Grown::Fits(mut list, height), Grown::Fits(one, other)) = (list, one) else {
+        return Ok(Grown::High);
+    };
+    list.push(one)?;
+    Ok(Grown::Fits(list, height.max(other)))
+}
+
+/// Parts of a bracket and one more.
+pub fn push_sub(list: Grown<Vec<Sub>>, one: Grown<Sub>) -> Result<Grown<Vec<Sub>>, AllocError>
+    ensures { IfOk result (λ g. (xs : List NamedPlace) (x : NamedPlace) → Fit subs_view (highest sub_height) list xs → Fit sub_view sub_height one x → Fit subs_view (highest sub_height) g (xs ++ x ∷ [])) }
+{
+    let (Grown::Fits(mut list, height), Grown::Fits(one, other)) = (list, one) else {
+        return Ok(Grown::High);
+    };
+    list.push(one)?;
+    Ok(Grown::Fits(list, height.max(other)))
+}
+
+/// Iterators and one more.
+pub fn push_iter(list: Grown<Vec<Iter>>, one: Grown<Iter>) -> Result<Grown<Vec<Iter>>, AllocError>
+    ensures { IfOk result (λ g. (xs : List NamedInterval) (x : NamedInterval) → Fit iters_view (highest iter_height) list xs → Fit iter_view iter_height one x → Fit iters_view (highest iter_height) g (xs ++ x ∷ [])) }
+{
     let (Grown::Fits(mut list, height), Grown::Fits(one, other)) = (list, one) else {
         return Ok(Grown::High);
     };
@@ -38,7 +74,9 @@ pub fn pushed<T: Drop>(list: Grown<Vec<T>>, one: Grown<T>) -> Result<Grown<Vec<T
 }
 
 /// `op e`
-pub fn unary(alloc: Global, op: UnaryOp, operand: Grown<Expr>) -> Result<Grown<Expr>, AllocError> {
+pub fn unary(alloc: Global, op: UnaryOp, operand: Grown<Expr>) -> Result<Grown<Expr>, AllocError>
+    ensures { IfOk result (λ g. (e : Tree) → Fit view height operand e → Fit view height g (tree.unary op e)) }
+{
     let Grown::Fits(operand, height) = operand else {
         return Ok(Grown::High);
     };
@@ -54,7 +92,9 @@ pub fn prefixed(
     alloc: Global,
     mut ops: Vec<UnaryOp>,
     operand: Grown<Expr>,
-) -> Result<Grown<Expr>, AllocError> {
+) -> Result<Grown<Expr>, AllocError>
+    ensures { IfOk result (λ g. (e : Tree) → Fit view height operand e → Fit view height g (wrapped ops.items e)) }
+{
     let mut whole = operand;
     while let Some(op) = ops.pop() {
         whole = unary(alloc, op, whole)?;
@@ -68,7 +108,9 @@ pub fn binary(
     op: BinaryOp,
     left: Grown<Expr>,
     right: Grown<Expr>,
-) -> Result<Grown<Expr>, AllocError> {
+) -> Result<Grown<Expr>, AllocError>
+    ensures { IfOk result (λ g. (a b : Tree) → Fit view height left a → Fit view height right b → Fit view height g (tree.binary op a b)) }
+{
     let (Grown::Fits(left, one), Grown::Fits(right, other)) = (left, right) else {
         return Ok(Grown::High);
     };
@@ -80,11 +122,9 @@ pub fn binary(
 }
 
 /// `bit(a, b)`
-pub fn bit(
-    alloc: Global,
-    left: Grown<Expr>,
-    right: Grown<Expr>,
-) -> Result<Grown<Expr>, AllocError> {
+pub fn bit(alloc: Global, left: Grown<Expr>, right: Grown<Expr>) -> Result<Grown<Expr>, AllocError>
+    ensures { IfOk result (λ g. (a b : Tree) → Fit view height left a → Fit view height right b → Fit view height g (tree.bit a b)) }
+{
     let (Grown::Fits(left, one), Grown::Fits(right, other)) = (left, right) else {
         return Ok(Grown::High);
     };
@@ -96,11 +136,9 @@ pub fn bit(
 }
 
 /// A reduction of a value.
-pub fn reduce(
-    alloc: Global,
-    op: ReduceOp,
-    operand: Grown<Expr>,
-) -> Result<Grown<Expr>, AllocError> {
+pub fn reduce(alloc: Global, op: ReduceOp, operand: Grown<Expr>) -> Result<Grown<Expr>, AllocError>
+    ensures { IfOk result (λ g. (e : Tree) → Fit view height operand e → Fit view height g (tree.reduce op e)) }
+{
     let Grown::Fits(operand, height) = operand else {
         return Ok(Grown::High);
     };
@@ -112,7 +150,9 @@ pub fn reduce(
 }
 
 /// `e.name`
-pub fn field(alloc: Global, value: Grown<Expr>, name: &str) -> Result<Grown<Expr>, AllocError> {
+pub fn field(alloc: Global, value: Grown<Expr>, name: &str) -> Result<Grown<Expr>, AllocError>
+    ensures { IfOk result (λ g. (e : Tree) → Fit view height value e → Fit view height g (tree.field e name.now)) }
+{
     let Grown::Fits(value, height) = value else {
         return Ok(Grown::High);
     };
@@ -124,11 +164,14 @@ pub fn field(alloc: Global, value: Grown<Expr>, name: &str) -> Result<Grown<Expr
 }
 
 /// `e[..]`
+#[tactic(auto, using(crate::proofs::Trees::brackets_shown, crate::proofs::Trees::subs_high))]
 pub fn brackets(
     alloc: Global,
     value: Grown<Expr>,
     subs: Grown<Vec<Sub>>,
-) -> Result<Grown<Expr>, AllocError> {
+) -> Result<Grown<Expr>, AllocError>
+    ensures { IfOk result (λ g. (e : Tree) (ss : List NamedPlace) → Fit view height value e → Fit subs_view (highest sub_height) subs ss → Fit view height g (tree.brackets e (subs_from ss))) }
+{
     let (Grown::Fits(value, one), Grown::Fits(subs, other)) = (value, subs) else {
         return Ok(Grown::High);
     };
@@ -139,7 +182,10 @@ pub fn brackets(
 }
 
 /// `{..}`
-pub fn record(parts: Grown<Vec<Part>>) -> Grown<Expr> {
+#[tactic(auto, using(crate::proofs::Trees::record_shown, crate::proofs::Trees::parts_high))]
+pub fn record(parts: Grown<Vec<Part>>) -> Grown<Expr>
+    ensures { (ps : List NamedTree) → Fit parts_view (highest part_height) parts ps → Fit view height result (tree.parts (parts_from ps)) }
+{
     let Grown::Fits(parts, height) = parts else {
         return Grown::High;
     };
@@ -150,7 +196,10 @@ pub fn record(parts: Grown<Vec<Part>>) -> Grown<Expr> {
 }
 
 /// A coverage whose values are listed.
-pub fn value_list(iterators: Grown<Vec<Iter>>, items: Vec<ListItem>) -> Grown<Expr> {
+#[tactic(auto, using(crate::proofs::Trees::iters_high))]
+pub fn value_list(iterators: Grown<Vec<Iter>>, items: Vec<ListItem>) -> Grown<Expr>
+    ensures { (is : List NamedInterval) → Fit iters_view (highest iter_height) iterators is → Fit view height result (tree.value_list (iters_from is) items.items) }
+{
     let Grown::Fits(iterators, height) = iterators else {
         return Grown::High;
     };
@@ -161,11 +210,14 @@ pub fn value_list(iterators: Grown<Vec<Iter>>, items: Vec<ListItem>) -> Grown<Ex
 }
 
 /// A coverage whose values are those of a body.
+#[tactic(auto, using(crate::proofs::Trees::coverage_shown, crate::proofs::Trees::iters_high))]
 pub fn coverage(
     alloc: Global,
     iterators: Grown<Vec<Iter>>,
     body: Grown<Expr>,
-) -> Result<Grown<Expr>, AllocError> {
+) -> Result<Grown<Expr>, AllocError>
+    ensures { IfOk result (λ g. (is : List NamedInterval) (e : Tree) → Fit iters_view (highest iter_height) iterators is → Fit view height body e → Fit view height g (tree.coverage (iters_from is) e)) }
+{
     let (Grown::Fits(iterators, one), Grown::Fits(body, other)) = (iterators, body) else {
         return Ok(Grown::High);
     };
@@ -177,13 +229,16 @@ pub fn coverage(
 }
 
 /// A condenser.
+#[tactic(auto, using(crate::proofs::Trees::iters_high))]
 pub fn condense(
     alloc: Global,
     op: CondenseOp,
     iterators: Grown<Vec<Iter>>,
     condition: Grown<Option<Box<Expr>>>,
     body: Grown<Expr>,
-) -> Result<Grown<Expr>, AllocError> {
+) -> Result<Grown<Expr>, AllocError>
+    ensures { IfOk result (λ g. (is : List NamedInterval) (c : Condition) (e : Tree) → Fit iters_view (highest iter_height) iterators is → Fit condition_of condition_height condition c → Fit view height body e → Fit view height g (tree.condense op (iters_from is) c e)) }
+{
     let (Grown::Fits(iterators, one), Grown::Fits(condition, other)) = (iterators, condition) else {
         return Ok(Grown::High);
     };
@@ -204,7 +259,9 @@ pub fn condense(
 }
 
 /// What follows `where`.
-pub fn condition(alloc: Global, test: Grown<Expr>) -> Result<Grown<Option<Box<Expr>>>, AllocError> {
+pub fn condition(alloc: Global, test: Grown<Expr>) -> Result<Grown<Option<Box<Expr>>>, AllocError>
+    ensures { IfOk result (λ g. (e : Tree) → Fit view height test e → Fit condition_of condition_height g (tree.only e)) }
+{
     let Grown::Fits(test, height) = test else {
         return Ok(Grown::High);
     };
@@ -212,7 +269,9 @@ pub fn condition(alloc: Global, test: Grown<Expr>) -> Result<Grown<Option<Box<Ex
 }
 
 /// A position on an axis.
-pub fn at(alloc: Global, position: Grown<Expr>) -> Result<Grown<Place>, AllocError> {
+pub fn at(alloc: Global, position: Grown<Expr>) -> Result<Grown<Place>, AllocError>
+    ensures { IfOk result (λ g. (e : Tree) → Fit view height position e → Fit view_place place_height g (tree.at e)) }
+{
     let Grown::Fits(position, height) = position else {
         return Ok(Grown::High);
     };
@@ -220,7 +279,9 @@ pub fn at(alloc: Global, position: Grown<Expr>) -> Result<Grown<Place>, AllocErr
 }
 
 /// An interval of an axis, in a bracket.
-pub fn trim(interval: Grown<Interval>) -> Grown<Place> {
+pub fn trim(interval: Grown<Interval>) -> Grown<Place>
+    ensures { (i : IntervalTree) → Fit view_interval interval_height interval i → Fit view_place place_height result (tree.trim i) }
+{
     let Grown::Fits(interval, height) = interval else {
         return Grown::High;
     };
@@ -228,11 +289,9 @@ pub fn trim(interval: Grown<Interval>) -> Grown<Place> {
 }
 
 /// `imageCrsDomain(e, axis)`
-pub fn domain(
-    alloc: Global,
-    value: Grown<Expr>,
-    axis: &str,
-) -> Result<Grown<Interval>, AllocError> {
+pub fn domain(alloc: Global, value: Grown<Expr>, axis: &str) -> Result<Grown<Interval>, AllocError>
+    ensures { IfOk result (λ g. (e : Tree) → Fit view height value e → Fit view_interval interval_height g (tree.domain e axis.now)) }
+{
     let Grown::Fits(value, height) = value else {
         return Ok(Grown::High);
     };
@@ -241,7 +300,9 @@ pub fn domain(
 }
 
 /// One part of `{..}`.
-pub fn part(alloc: Global, name: &str, value: Grown<Expr>) -> Result<Grown<Part>, AllocError> {
+pub fn part(alloc: Global, name: &str, value: Grown<Expr>) -> Result<Grown<Part>, AllocError>
+    ensures { IfOk result (λ g. (e : Tree) → Fit view height value e → Fit part_view part_height g (name.now, e)) }
+{
     let Grown::Fits(value, height) = value else {
         return Ok(Grown::High);
     };
@@ -250,7 +311,9 @@ pub fn part(alloc: Global, name: &str, value: Grown<Expr>) -> Result<Grown<Part>
 }
 
 /// One part of a bracket.
-pub fn sub(alloc: Global, axis: &str, place: Grown<Place>) -> Result<Grown<Sub>, AllocError> {
+pub fn sub(alloc: Global, axis: &str, place: Grown<Place>) -> Result<Grown<Sub>, AllocError>
+    ensures { IfOk result (λ g. (p : PlaceTree) → Fit view_place place_height place p → Fit sub_view sub_height g (axis.now, p)) }
+{
     let Grown::Fits(place, height) = place else {
         return Ok(Grown::High);
     };
@@ -264,7 +327,9 @@ pub fn iter(
     variable: &str,
     axis: &str,
     interval: Grown<Interval>,
-) -> Result<Grown<Iter>, AllocError> {
+) -> Result<Grown<Iter>, AllocError>
+    ensures { IfOk result (λ g. (i : IntervalTree) → Fit view_interval interval_height interval i → Fit iter_view iter_height g (variable.now, axis.now, i)) }
+{
     let Grown::Fits(interval, height) = interval else {
         return Ok(Grown::High);
     };
@@ -276,4 +341,43 @@ pub fn iter(
         interval,
     };
     Ok(Grown::Fits(whole, height))
+}
+
+/// An expression that a query returns as it is.
+pub fn plain(value: Grown<Expr>) -> Grown<Item>
+    ensures { (e : Tree) → Fit view height value e → Fit item_view item_height result (tree.plain e) }
+{
+    match value {
+        Grown::Fits(value, height) => Grown::Fits(Item::Plain(value), height),
+        Grown::High => Grown::High,
+    }
+}
+
+/// An expression that a query returns encoded.
+pub fn encode(value: Grown<Expr>) -> Grown<Item>
+    ensures { (e : Tree) → Fit view height value e → Fit item_view item_height result (tree.encode e) }
+{
+    match value {
+        Grown::Fits(value, height) => Grown::Fits(Item::Encode(value), height),
+        Grown::High => Grown::High,
+    }
+}
+
+/// A whole query.
+pub fn query(
+    bindings: Vec<Binding>,
+    condition: Grown<Option<Box<Expr>>>,
+    item: Grown<Item>,
+) -> Grown<Query>
+    ensures { (c : Condition) (i : ItemTree) → Fit condition_of condition_height condition c → Fit item_view item_height item i → Fit query_view query_height result (record { bindings = bindings_of bindings.items; condition = c; item = i }) }
+{
+    let (Grown::Fits(condition, one), Grown::Fits(item, other)) = (condition, item) else {
+        return Grown::High;
+    };
+    let whole = Query {
+        bindings,
+        condition,
+        item,
+    };
+    Grown::Fits(whole, one.max(other))
 }

@@ -9,4 +9,4 @@ mod limits;
 mod query;
 
 pub use error::ParseError;
-pub use query::parse;
+pub use query::{one_query, parse};

@@ -1,10 +1,19 @@
 //! Whole queries.
 
-ghost use Rattle.std.specs.Prelude.{◌<◌, ◌≤◌, length, IfOk};
+ghost use Rattle.std.specs.Prelude.{◌≡◌, ◌<◌, ◌≤◌, length, IfOk, IfErr, List};
+ghost use Rattle.wcps_text.specs.Token.{Tok, toks};
+ghost use Rattle.wcps_text.specs.Tree.{QueryTree, condition_of, binding_view, bindings_of, item_view, query_view};
+ghost use Rattle.wcps_text.specs.Limits.{condition_height, item_height, query_height};
+ghost use Rattle.wcps_text.specs.Grammar.{IsSpelled};
+ghost use Rattle.wcps_parse.specs.Reading.{level, names, binding_at, bindings, encoded, item, query};
+ghost use Rattle.wcps_parse.specs.Fit.{Fit, Gives, Reads, ReadsAll};
+ghost use Rattle.wcps_parse.specs.Outcome.{IsWithinLimits, IsTooHigh, IsTooDeep};
+ghost use Rattle.wcps_parse.specs.declared.error.ParseError.TheVariants.{BadSyntax, TooDeep};
 
 use crate::error::ParseError;
 use crate::expression::{MAX_RANK, condition, level};
 use crate::front::{format_at, name_at, sign_at, variable_at, word_at};
+use crate::grown;
 use crate::grown::Grown;
 use crate::limits::is_too_deep;
 use std::alloc::Global;
@@ -14,7 +23,15 @@ use wcps_text::{Binding, Item, Keyword, Query, QueryName, Symbol, Token};
 ///
 /// More than 512 brackets open at once, or more than 256 words `condense` and `coverage`, are `TooDeep`; then tokens
 /// that spell no query are `BadSyntax`; then a query with an expression higher than 64 is `TooDeep`.
-pub fn parse(alloc: Global, tokens: &[Token]) -> Result<Query, ParseError> {
+pub fn parse(alloc: Global, tokens: &[Token]) -> Result<Query, ParseError>
+    ensures within { IfOk result (λ q. IsWithinLimits (toks tokens.now)) }
+    ensures spelled { IfOk result (λ q. IsSpelled (toks tokens.now) (query_view q)) }
+    ensures only { IfOk result (λ q. (p : QueryTree) → IsSpelled (toks tokens.now) p → p ≡ query_view q) }
+    ensures low { IfOk result (λ q. query_height (query_view q) ≤ 64) }
+    ensures syntax { IfErr result (λ e. e ≡ BadSyntax → IsWithinLimits (toks tokens.now)) }
+    ensures no_query { IfErr result (λ e. e ≡ BadSyntax → (p : QueryTree) → IsSpelled (toks tokens.now) p → ⊥) }
+    ensures deep { IfErr result (λ e. e ≡ TooDeep → IsTooDeep (toks tokens.now)) }
+{
     if is_too_deep(tokens) {
         return Err(ParseError::TooDeep);
     }
@@ -24,7 +41,9 @@ pub fn parse(alloc: Global, tokens: &[Token]) -> Result<Query, ParseError> {
     }
 }
 
-fn query(alloc: Global, tokens: &[Token]) -> Result<Grown<Query>, ParseError> {
+fn query(alloc: Global, tokens: &[Token]) -> Result<Grown<Query>, ParseError>
+    ensures { ReadsAll query_view query_height result (λ n m. query n m (level n) (toks tokens.now)) }
+{
     let Some(rest) = word_at(Keyword::For, tokens) else {
         return Err(ParseError::BadSyntax);
     };
@@ -34,19 +53,13 @@ fn query(alloc: Global, tokens: &[Token]) -> Result<Grown<Query>, ParseError> {
         return Err(ParseError::BadSyntax);
     };
     let item = item(alloc, rest)?;
-    let (Grown::Fits(condition, one), Grown::Fits(item, other)) = (condition, item) else {
-        return Ok(Grown::High);
-    };
-    let whole = Query {
-        bindings,
-        condition,
-        item,
-    };
-    Ok(Grown::Fits(whole, one.max(other)))
+    Ok(grown::query(bindings, condition, item))
 }
 
 /// What a query returns, to the end.
-fn item(alloc: Global, tokens: &[Token]) -> Result<Grown<Item>, ParseError> {
+fn item(alloc: Global, tokens: &[Token]) -> Result<Grown<Item>, ParseError>
+    ensures { ReadsAll item_view item_height result (λ n m. item (level n) (toks tokens.now)) }
+{
     if let Some(rest) = word_at(Keyword::Encode, tokens) {
         return encoded(alloc, rest);
     }
@@ -54,14 +67,13 @@ fn item(alloc: Global, tokens: &[Token]) -> Result<Grown<Item>, ParseError> {
     if !rest.is_empty() {
         return Err(ParseError::BadSyntax);
     }
-    match value {
-        Grown::Fits(value, height) => Ok(Grown::Fits(Item::Plain(value), height)),
-        Grown::High => Ok(Grown::High),
-    }
+    Ok(grown::plain(value))
 }
 
 /// What follows the word `encode`, to the end.
-fn encoded(alloc: Global, tokens: &[Token]) -> Result<Grown<Item>, ParseError> {
+fn encoded(alloc: Global, tokens: &[Token]) -> Result<Grown<Item>, ParseError>
+    ensures { ReadsAll item_view item_height result (λ n m. encoded (level n) (toks tokens.now)) }
+{
     let Some(rest) = sign_at(Symbol::LeftParen, tokens) else {
         return Err(ParseError::BadSyntax);
     };
@@ -78,10 +90,7 @@ fn encoded(alloc: Global, tokens: &[Token]) -> Result<Grown<Item>, ParseError> {
     if !rest.is_empty() {
         return Err(ParseError::BadSyntax);
     }
-    match value {
-        Grown::Fits(value, height) => Ok(Grown::Fits(Item::Encode(value), height)),
-        Grown::High => Ok(Grown::High),
-    }
+    Ok(grown::encode(value))
 }
 
 /// Bindings with commas between them.
@@ -89,6 +98,7 @@ fn bindings<'t, 'a>(
     alloc: Global,
     tokens: &'t [Token<'a>],
 ) -> Result<(Vec<Binding>, &'t [Token<'a>]), ParseError>
+    ensures exact { Gives (λ x. (bindings_of x.0.items, toks x.1.now)) result (λ n m. bindings n m (toks tokens.now)) }
     ensures shorter { IfOk result (λ x. length x.1.now < length tokens.now) }
 {
     let (first, mut rest) = binding_at(alloc, tokens)?;
@@ -106,6 +116,7 @@ fn binding_at<'t, 'a>(
     alloc: Global,
     tokens: &'t [Token<'a>],
 ) -> Result<(Binding, &'t [Token<'a>]), ParseError>
+    ensures exact { Gives (λ x. (binding_view x.0, toks x.1.now)) result (λ n m. binding_at m (toks tokens.now)) }
     ensures shorter { IfOk result (λ x. length x.1.now < length tokens.now) }
 {
     let Some((variable, rest)) = variable_at(tokens) else {
@@ -134,6 +145,7 @@ fn names<'t, 'a>(
     alloc: Global,
     tokens: &'t [Token<'a>],
 ) -> Result<(Vec<QueryName>, &'t [Token<'a>]), ParseError>
+    ensures exact { Gives (λ x. (x.0.items, toks x.1.now)) result (λ n m. names m (toks tokens.now)) }
     ensures shorter { IfOk result (λ x. length x.1.now < length tokens.now) }
 {
     let Some((first, mut rest)) = name_at(tokens) else {
@@ -150,3 +162,8 @@ fn names<'t, 'a>(
     }
     Ok((list, rest))
 }
+
+/// No tokens spell two queries.
+pub fn one_query()
+    ensures { (ts : List Tok) (p q : QueryTree) → IsSpelled ts p → IsSpelled ts q → p ≡ q }
+{}

@@ -1,6 +1,4 @@
-use Rattle.std.proofs.Common.{◌≡◌, ◌<◌, refl, arith, subst, get_or, length}
-use Rattle.wcps_text.specs.Token.{toks}
-use Rattle.wcps_text.specs.Limits.{deepest}
+use Rattle.std.proofs.Common.{refl}
 use Rattle.wcps_parse.proofs.Scanning.{overflows}
 use Rattle.wcps_parse.proofs.limits.has_deep_brackets.Goals as goal
 

@@ -1,0 +1,8 @@
+use Rattle.std.proofs.Common.{arith}
+use Rattle.wcps_parse.proofs.Trees.{value_list_fits}
+use Rattle.wcps_parse.proofs.grown.value_list.Goals as goal
+
+pub returns : goal.returns
+returns c = λ is fit.
+    let k = value_list_fits c.args.iterators c.in-Fits.iterators c.in-Fits.height c.args.items is c.in-Fits.is fit in
+    (k.0, omega (arith, k.1, c.in-Some.ensures.some.0), c.in-Some.ensures.some.1)

@@ -1,0 +1,30 @@
+use Rattle.std.proofs.lemmas.Result.{err_from_is_err_and}
+use Rattle.wcps_parse.specs.Reading.{binding_at}
+use Rattle.wcps_parse.proofs.Coming.{comes_now, comes_then, fails_then}
+use Rattle.wcps_parse.proofs.query.binding_at.Goals as goal
+
+pub returns-in_default-clause-exact : goal.returns-in_default-clause-exact
+unfolding binding_at
+returns-in_default-clause-exact c = rw c.in_default.ensures.value (comes_now _)
+
+pub returns-in_default-word_at-clause-exact : goal.returns-in_default-word_at-clause-exact
+unfolding binding_at
+returns-in_default-word_at-clause-exact c = rw (c.in-Some.ensures.value, c.in_default-word_at.ensures.value) (comes_now _)
+
+pub returns-in_default-sign_at-clause-exact : goal.returns-in_default-sign_at-clause-exact
+unfolding binding_at
+returns-in_default-sign_at-clause-exact c = rw (c.in-Some.ensures.value, c.in-Some-word_at.ensures.value, c.in_default-sign_at.ensures.value) (comes_now _)
+
+pub returns-in_err-coverages-clause-exact : goal.returns-in_err-coverages-clause-exact
+unfolding binding_at
+returns-in_err-coverages-clause-exact c =
+    let p = err_from_is_err_and c.from_residual.result c.from_residual.ensures.1 in
+    rw (p.1, p.2) (fails_then c.in_err-coverages.field-0.0 c.in_err-coverages.ensures.exact (λ none. rw (c.in-Some.ensures.value, c.in-Some-word_at.ensures.value, c.in-Some-sign_at.ensures.value) (comes_then _ none (comes_now _))))
+
+pub returns-in_default-sign_at-2-clause-exact : goal.returns-in_default-sign_at-2-clause-exact
+unfolding binding_at
+returns-in_default-sign_at-2-clause-exact c = rw (c.in-Some.ensures.value, c.in-Some-word_at.ensures.value, c.in-Some-sign_at.ensures.value) (comes_then _ c.in_ok-coverages.ensures.exact (rw c.in_default-sign_at-2.ensures.value (comes_now _)))
+
+pub returns-clause-exact : goal.returns-clause-exact
+unfolding binding_at
+returns-clause-exact c = rw c.in_ok-variable.ensures (rw (c.in-Some.ensures.value, c.in-Some-word_at.ensures.value, c.in-Some-sign_at.ensures.value) (comes_then _ c.in_ok-coverages.ensures.exact (rw c.in-Some-sign_at-2.ensures.value (comes_now _))))
