@@ -5,3 +5,5 @@ pub mod Feeds
 pub mod Stacks
 pub mod Positions
 pub mod Joins
+pub mod Told
+pub mod Rows

@@ -8,5 +8,6 @@ pub mod Feeding
 pub mod Aggregates
 pub mod Meaning
 pub mod Answer
+pub mod Reports
 pub mod Errors
 pub mod Parts

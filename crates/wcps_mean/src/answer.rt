@@ -3,7 +3,7 @@
 ghost use Rattle.std.specs.Prelude.{◌≡◌, List, [], ◌∷◌, ◌++◌, Ok, Err, Result, IfOk, IfErr, OnOk, MatchResult, map, option_map};
 ghost use Rattle.wcps_types.specs.Typed.{typed_view, field_view, item_view, combination_view, query_view};
 ghost use Rattle.wcps_mean.specs.Answer.{answer, combination_answer, chosen, item_answer, cells_at, cell_of, line_of, field_count};
-ghost use Rattle.wcps_mean.specs.Errors.{TellsFault, PushesCells};
+ghost use Rattle.wcps_mean.specs.Errors.{TellsFault, PushesCells, PassesOn};
 
 use crate::cell::{Outcome, PointFault, is_set};
 use crate::cells::{CellError, Cells};
@@ -68,9 +68,11 @@ pub fn eval_plain<C: Cells>(
     cells: &mut C,
     query: &TypedQuery,
 ) -> Result<Vec<Item>, EvalError>
-    ensures items { IfOk result (λ items. answer (C.cells cells.old) (query_view query.now) ≡ Ok items.items) }
-    ensures fault { IfErr result (λ e. TellsFault e (answer (C.cells cells.old) (query_view query.now))) }
+    ensures items { IfOk result (λ items. C.intact cells.old → answer (C.cells cells.old) (query_view query.now) ≡ Ok items.items) }
+    ensures fault { IfErr result (λ e. C.intact cells.old → TellsFault e (answer (C.cells cells.old) (query_view query.now))) }
     ensures same { C.cells cells.new ≡ C.cells cells.old }
+    ensures intact { C.intact cells.old → C.intact cells.new }
+    ensures reports { PassesOn result (C.intact cells.old) (C.failures cells.old) (C.failures cells.new) }
 {
     let mut items = Vec::new(alloc);
     let mut env = Vec::new(alloc);
@@ -92,11 +94,13 @@ fn push_combination<C: Cells>(
 ) -> Result<(), EvalError>
     requires scope_empty { env.old.items ≡ [] }
     requires place_empty { points.old.items ≡ [] }
-    ensures value { OnOk result (PushesCells (combination_answer (C.cells cells.old) (combination_view combination.now)) items.old.items items.new.items) }
-    ensures fault { IfErr result (λ e. TellsFault e (combination_answer (C.cells cells.old) (combination_view combination.now))) }
+    ensures value { OnOk result (C.intact cells.old → PushesCells (combination_answer (C.cells cells.old) (combination_view combination.now)) items.old.items items.new.items) }
+    ensures fault { IfErr result (λ e. C.intact cells.old → TellsFault e (combination_answer (C.cells cells.old) (combination_view combination.now))) }
     ensures scope { OnOk result (env.new.items ≡ []) }
     ensures place { OnOk result (points.new.items ≡ []) }
     ensures same { C.cells cells.new ≡ C.cells cells.old }
+    ensures intact { C.intact cells.old → C.intact cells.new }
+    ensures reports { PassesOn result (C.intact cells.old) (C.failures cells.old) (C.failures cells.new) }
 {
     let gives_item = is_chosen(cells, combination, env, points)?;
     if !gives_item {
@@ -116,11 +120,13 @@ fn is_chosen<C: Cells>(
 ) -> Result<bool, EvalError>
     requires scope_empty { env.old.items ≡ [] }
     requires place_empty { points.old.items ≡ [] }
-    ensures value { IfOk result (λ b. chosen (C.cells cells.old) (option_map typed_view combination.now.condition) ≡ Ok b) }
-    ensures fault { IfErr result (λ e. TellsFault e (chosen (C.cells cells.old) (option_map typed_view combination.now.condition))) }
+    ensures value { IfOk result (λ b. C.intact cells.old → chosen (C.cells cells.old) (option_map typed_view combination.now.condition) ≡ Ok b) }
+    ensures fault { IfErr result (λ e. C.intact cells.old → TellsFault e (chosen (C.cells cells.old) (option_map typed_view combination.now.condition))) }
     ensures scope { OnOk result (env.new.items ≡ []) }
     ensures place { OnOk result (points.new.items ≡ []) }
     ensures same { C.cells cells.new ≡ C.cells cells.old }
+    ensures intact { C.intact cells.old → C.intact cells.new }
+    ensures reports { PassesOn result (C.intact cells.old) (C.failures cells.old) (C.failures cells.new) }
 {
     match &combination.condition {
         None => Ok(true),
@@ -144,11 +150,13 @@ fn item_of<C: Cells>(
 ) -> Result<Item, EvalError>
     requires scope_empty { env.old.items ≡ [] }
     requires place_empty { points.old.items ≡ [] }
-    ensures value { IfOk result (λ i. item_answer (C.cells cells.old) (item_view item.now) ≡ Ok i) }
-    ensures fault { IfErr result (λ e. TellsFault e (item_answer (C.cells cells.old) (item_view item.now))) }
+    ensures value { IfOk result (λ i. C.intact cells.old → item_answer (C.cells cells.old) (item_view item.now) ≡ Ok i) }
+    ensures fault { IfErr result (λ e. C.intact cells.old → TellsFault e (item_answer (C.cells cells.old) (item_view item.now))) }
     ensures scope { OnOk result (env.new.items ≡ []) }
     ensures place { OnOk result (points.new.items ≡ []) }
     ensures same { C.cells cells.new ≡ C.cells cells.old }
+    ensures intact { C.intact cells.old → C.intact cells.new }
+    ensures reports { PassesOn result (C.intact cells.old) (C.failures cells.old) (C.failures cells.new) }
 {
     let fields = count_fields(item.fields.len());
     let count = (item.domain.points() as usize).saturating_mul(fields as usize);
@@ -174,11 +182,13 @@ fn push_cells<C: Cells>(
     list: &mut Vec<Cell>,
 ) -> Result<(), EvalError>
     requires scope_empty { env.old.items ≡ [] }
-    ensures value { OnOk result (PushesCells (cells_at (C.cells cells.old) (map field_view fields.now) points.old.items) list.old.items list.new.items) }
-    ensures fault { IfErr result (λ e. TellsFault e (cells_at (C.cells cells.old) (map field_view fields.now) points.old.items)) }
+    ensures value { OnOk result (C.intact cells.old → PushesCells (cells_at (C.cells cells.old) (map field_view fields.now) points.old.items) list.old.items list.new.items) }
+    ensures fault { IfErr result (λ e. C.intact cells.old → TellsFault e (cells_at (C.cells cells.old) (map field_view fields.now) points.old.items)) }
     ensures scope { OnOk result (env.new.items ≡ []) }
     ensures place { OnOk result (points.new.items ≡ points.old.items) }
     ensures same { C.cells cells.new ≡ C.cells cells.old }
+    ensures intact { C.intact cells.old → C.intact cells.new }
+    ensures reports { PassesOn result (C.intact cells.old) (C.failures cells.old) (C.failures cells.new) }
 {
     for field in fields {
         let o = eval(cells, &field.node, env, points, 0)?;

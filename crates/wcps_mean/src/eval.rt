@@ -6,6 +6,7 @@ ghost use Rattle.wcps_mean.specs.declared.cell.Outcome.{Outcome};
 ghost use Rattle.wcps_mean.specs.Cells.{at_position};
 ghost use Rattle.wcps_mean.specs.Condensers.{condensed};
 ghost use Rattle.wcps_mean.specs.Meaning.{val};
+ghost use Rattle.wcps_mean.specs.Reports.{Reports};
 ghost use Rattle.wcps_types.specs.Typed.{typed_view};
 
 use crate::aggregate::{Aggregate, of_condenser, of_reduction};
@@ -28,10 +29,12 @@ pub(crate) fn eval<C: Cells>(
     base: usize,
 ) -> Result<Outcome, CellError>
     requires { base ≤ vec_len points.old }
-    ensures value { IfOk result (λ o. o ≡ val (C.cells cells.old) (typed_view e.now) env.old.items (drop base points.old.items)) }
+    ensures value { IfOk result (λ o. C.intact cells.old → o ≡ val (C.cells cells.old) (typed_view e.now) env.old.items (drop base points.old.items)) }
     ensures scope { OnOk result (env.new.items ≡ env.old.items) }
     ensures place { OnOk result (points.new.items ≡ points.old.items) }
     ensures same { C.cells cells.new ≡ C.cells cells.old }
+    ensures intact { C.intact cells.old → C.intact cells.new }
+    ensures reports { Reports result (C.intact cells.old) (C.failures cells.old) (C.failures cells.new) }
 {
     match e {
         Node::Number(z) => Ok(Outcome::Value(*z)),
@@ -118,10 +121,12 @@ fn at_iterators<C: Cells>(
     base: usize,
 ) -> Result<Outcome, CellError>
     requires { base ≤ vec_len points.old }
-    ensures value { IfOk result (λ o. o ≡ val (C.cells cells.old) (typed_view e.now) (env.old.items ++ drop base points.old.items) []) }
+    ensures value { IfOk result (λ o. C.intact cells.old → o ≡ val (C.cells cells.old) (typed_view e.now) (env.old.items ++ drop base points.old.items) []) }
     ensures scope { OnOk result (env.new.items ≡ env.old.items) }
     ensures place { OnOk result (points.new.items ≡ points.old.items) }
     ensures same { C.cells cells.new ≡ C.cells cells.old }
+    ensures intact { C.intact cells.old → C.intact cells.new }
+    ensures reports { Reports result (C.intact cells.old) (C.failures cells.old) (C.failures cells.new) }
 {
     let depth = env.len();
     env.extend_from_slice(&points[base..])?;
@@ -143,10 +148,12 @@ fn at_coordinate<C: Cells>(
     z: i32,
 ) -> Result<Outcome, CellError>
     requires { base ≤ vec_len points.old }
-    ensures value { IfOk result (λ o. o ≡ val (C.cells cells.old) (typed_view e.now) env.old.items (insert (drop base points.old.items) axis z)) }
+    ensures value { IfOk result (λ o. C.intact cells.old → o ≡ val (C.cells cells.old) (typed_view e.now) env.old.items (insert (drop base points.old.items) axis z)) }
     ensures scope { OnOk result (env.new.items ≡ env.old.items) }
     ensures place { OnOk result (points.new.items ≡ points.old.items) }
     ensures same { C.cells cells.new ≡ C.cells cells.old }
+    ensures intact { C.intact cells.old → C.intact cells.new }
+    ensures reports { Reports result (C.intact cells.old) (C.failures cells.old) (C.failures cells.new) }
 {
     let at = base + axis.min(points.len() - base);
     put_in(points, at, z)?;
@@ -165,10 +172,12 @@ fn condense<C: Cells>(
     env: &mut Vec<i32>,
     points: &mut Vec<i32>,
 ) -> Result<Outcome, CellError>
-    ensures value { IfOk result (λ o. o ≡ condensed op (map (λ x. val (C.cells cells.old) (typed_view e.now) (env.old.items ++ x) []) (box_points domain.now))) }
+    ensures value { IfOk result (λ o. C.intact cells.old → o ≡ condensed op (map (λ x. val (C.cells cells.old) (typed_view e.now) (env.old.items ++ x) []) (box_points domain.now))) }
     ensures scope { OnOk result (env.new.items ≡ env.old.items) }
     ensures place { OnOk result (points.new.items ≡ points.old.items) }
     ensures same { C.cells cells.new ≡ C.cells cells.old }
+    ensures intact { C.intact cells.old → C.intact cells.new }
+    ensures reports { Reports result (C.intact cells.old) (C.failures cells.old) (C.failures cells.new) }
 {
     let mut running = Running::new(op);
     let depth = env.len();
@@ -192,10 +201,12 @@ fn reduce<C: Cells>(
     env: &mut Vec<i32>,
     points: &mut Vec<i32>,
 ) -> Result<Outcome, CellError>
-    ensures value { IfOk result (λ o. o ≡ condensed op (map (λ x. val (C.cells cells.old) (typed_view e.now) env.old.items x) (box_points domain.now))) }
+    ensures value { IfOk result (λ o. C.intact cells.old → o ≡ condensed op (map (λ x. val (C.cells cells.old) (typed_view e.now) env.old.items x) (box_points domain.now))) }
     ensures scope { OnOk result (env.new.items ≡ env.old.items) }
     ensures place { OnOk result (points.new.items ≡ points.old.items) }
     ensures same { C.cells cells.new ≡ C.cells cells.old }
+    ensures intact { C.intact cells.old → C.intact cells.new }
+    ensures reports { Reports result (C.intact cells.old) (C.failures cells.old) (C.failures cells.new) }
 {
     let mut running = Running::new(op);
     let top = points.len();

@@ -3,6 +3,7 @@
 ghost use Rattle.std.specs.Prelude.{◌≡◌, List, [], IfOk, Option, Some, None, option_map};
 ghost use Rattle.wcps_types.specs.Typed.{typed_view, combination_view, query_view};
 ghost use Rattle.wcps_mean.specs.Meaning.{val};
+ghost use Rattle.wcps_mean.specs.Reports.{Reports};
 ghost use Rattle.wcps_mean.specs.Parts.{part_value, of_combination, condition_value, body_value};
 
 use crate::cell::Outcome;
@@ -33,8 +34,10 @@ pub fn value_at<C: Cells>(
     part: Part,
     point: &[i32],
 ) -> Result<Option<Outcome>, CellError>
-    ensures value { IfOk result (λ o. o ≡ part_value (C.cells cells.old) (query_view query.now) combination part point.now) }
+    ensures value { IfOk result (λ o. C.intact cells.old → o ≡ part_value (C.cells cells.old) (query_view query.now) combination part point.now) }
     ensures same { C.cells cells.new ≡ C.cells cells.old }
+    ensures intact { C.intact cells.old → C.intact cells.new }
+    ensures reports { Reports result (C.intact cells.old) (C.failures cells.old) (C.failures cells.new) }
 {
     if combination < query.combinations.len() {
         let o = part_of(alloc, cells, &query.combinations[combination], part, point)?;
@@ -51,8 +54,10 @@ fn part_of<C: Cells>(
     part: Part,
     point: &[i32],
 ) -> Result<Option<Outcome>, CellError>
-    ensures value { IfOk result (λ o. o ≡ of_combination (C.cells cells.old) point.now part (combination_view combination.now)) }
+    ensures value { IfOk result (λ o. C.intact cells.old → o ≡ of_combination (C.cells cells.old) point.now part (combination_view combination.now)) }
     ensures same { C.cells cells.new ≡ C.cells cells.old }
+    ensures intact { C.intact cells.old → C.intact cells.new }
+    ensures reports { Reports result (C.intact cells.old) (C.failures cells.old) (C.failures cells.new) }
 {
     let fields = &combination.item.fields;
     match part {
@@ -94,8 +99,10 @@ fn condition_at<C: Cells>(
     node: &Node,
     point: &[i32],
 ) -> Result<Option<Outcome>, CellError>
-    ensures value { IfOk result (λ o. o ≡ condition_value (C.cells cells.old) point.now (typed_view node.now)) }
+    ensures value { IfOk result (λ o. C.intact cells.old → o ≡ condition_value (C.cells cells.old) point.now (typed_view node.now)) }
     ensures same { C.cells cells.new ≡ C.cells cells.old }
+    ensures intact { C.intact cells.old → C.intact cells.new }
+    ensures reports { Reports result (C.intact cells.old) (C.failures cells.old) (C.failures cells.new) }
 {
     match node {
         Node::CondenseWhere { condition, .. } => {
@@ -113,8 +120,10 @@ fn body_at<C: Cells>(
     node: &Node,
     point: &[i32],
 ) -> Result<Option<Outcome>, CellError>
-    ensures value { IfOk result (λ o. o ≡ body_value (C.cells cells.old) point.now (typed_view node.now)) }
+    ensures value { IfOk result (λ o. C.intact cells.old → o ≡ body_value (C.cells cells.old) point.now (typed_view node.now)) }
     ensures same { C.cells cells.new ≡ C.cells cells.old }
+    ensures intact { C.intact cells.old → C.intact cells.new }
+    ensures reports { Reports result (C.intact cells.old) (C.failures cells.old) (C.failures cells.new) }
 {
     match node {
         Node::Condense { body, .. } => {
@@ -141,8 +150,10 @@ fn outcome_at<C: Cells>(
     iterators: &[i32],
     point: &[i32],
 ) -> Result<Outcome, CellError>
-    ensures value { IfOk result (λ o. o ≡ val (C.cells cells.old) (typed_view node.now) iterators.now point.now) }
+    ensures value { IfOk result (λ o. C.intact cells.old → o ≡ val (C.cells cells.old) (typed_view node.now) iterators.now point.now) }
     ensures same { C.cells cells.new ≡ C.cells cells.old }
+    ensures intact { C.intact cells.old → C.intact cells.new }
+    ensures reports { Reports result (C.intact cells.old) (C.failures cells.old) (C.failures cells.new) }
 {
     let mut env = iterators.to_vec(alloc)?;
     let mut points = point.to_vec(alloc)?;

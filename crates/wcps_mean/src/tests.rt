@@ -26,6 +26,45 @@ impl Cells for Constant {
     }
 }
 
+/// Each call of the disk fails.
+#[derive(Drop)]
+struct Failing {
+    failures: u64,
+}
+
+impl Cells for Failing {
+    ghost use Rattle.std.specs.Prelude.{ℕ, ℤ, pos, List, ⊤};
+
+    ghost cells = { λ s c f p. pos 0 };
+
+    ghost failures = { λ s. s.failures };
+
+    ghost intact = { λ _. ⊤ };
+
+    fn cell(&mut self, _: usize, _: usize, _: &[i32]) -> Result<i64, CellError> {
+        self.failures = self.failures.saturating_add(1);
+        Err(CellError::DiskFault)
+    }
+}
+
+/// What is read is no tile.
+#[derive(Drop)]
+struct Broken;
+
+impl Cells for Broken {
+    ghost use Rattle.std.specs.Prelude.{ℕ, ℤ, pos, List};
+
+    ghost cells = { λ s c f p. pos 0 };
+
+    ghost failures = { λ _. 0 };
+
+    ghost intact = { λ _. ⊥ };
+
+    fn cell(&mut self, _: usize, _: usize, _: &[i32]) -> Result<i64, CellError> {
+        Err(CellError::Damaged)
+    }
+}
+
 #[test]
 fn operations_are_exact_and_then_tested(rt: HostRuntime) {
     let v = Outcome::Value;
@@ -334,5 +373,33 @@ fn faults_stand_where_they_are_demanded(rt: HostRuntime) -> Result<(), Fail> {
         let outcome = value_at(alloc, &mut cells, &typed, 0, Part::Field(0), &[])?;
         assert_eq!(rt; outcome, Some(wanted));
     }
+    Ok(())
+}
+
+#[test]
+fn reports_of_the_store_pass_through(rt: HostRuntime) -> Result<(), Fail> {
+    let alloc = rt.alloc();
+    let typed = maximum(alloc)?;
+    let mut failing = Failing { failures: 0 };
+    let answer = eval_plain(alloc, &mut failing, &typed);
+    assert!(rt; matches!(answer, Err(EvalError::Cells(CellError::DiskFault))));
+    assert_eq!(rt; failing.failures, 1);
+    let part = value_at(
+        alloc,
+        &mut failing,
+        &typed,
+        0,
+        Part::CondenserValue(0),
+        &[0],
+    );
+    assert!(rt; matches!(part, Err(CellError::DiskFault)));
+    assert_eq!(rt; failing.failures, 2);
+    let answer = eval_plain(alloc, &mut Broken, &typed);
+    assert!(rt; matches!(answer, Err(EvalError::Cells(CellError::Damaged))));
+
+    // what demands no cell reports nothing
+    let typed = query(alloc, None, no_axes(alloc)?, false, Node::Number(1))?;
+    let item = only_item(eval_plain(alloc, &mut Broken, &typed))?;
+    assert_eq!(rt; item.cells.as_slice(), [Cell::Int(1)].as_slice());
     Ok(())
 }

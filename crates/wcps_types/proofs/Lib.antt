@@ -3,3 +3,4 @@ pub mod Applied
 pub mod Domains
 pub mod Parts
 pub mod Choices
+pub mod Rows

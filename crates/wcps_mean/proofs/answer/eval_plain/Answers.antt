@@ -2,6 +2,7 @@ use Rattle.std.proofs.Common.{◌<◌, ◌∙◌, ap, sym, arith, length, get_or
 use Rattle.std.proofs.lemmas.Result.{err_from_is_err_and}
 use Rattle.wcps_types.specs.Typed.{combination_view}
 use Rattle.wcps_mean.specs.Answer.{combination_answer, joined}
+use Rattle.wcps_mean.proofs.Told.{passes-from}
 use Rattle.wcps_mean.proofs.Joins.{turn-more, turn-stop, turns-all, map-map, tells-on, pushed-ok}
 use Rattle.wcps_mean.proofs.answer.eval_plain.Goals as goal
 
@@ -15,10 +16,10 @@ returns-in_err-push_combination-clause-fault g c =
     let lt : c.loop-combination.combination-index < length c.args.query.now.combinations.items = omega (arith, ap length c.deref-combination-items.ensures.value) in
     let same = ap (λ s. combination_answer s (combination_view x)) inv.same in
     let p = err_from_is_err_and c.from_residual.result c.from_residual.ensures.1 in
-    rw (p.1, p.2) (tells-on _ _ _
+    rw (p.1, p.2) (λ h. tells-on _ _ _
     (λ f e. ap joined (map-map (combination_answer s) combination_view all)
-    ∙ turn-stop (λ t. combination_answer s (combination_view t)) all c.loop-combination.combination-index x x c.loop-combination.items.items f lt is inv.pushed (sym same ∙ e))
-    c.in_err-push_combination.ensures.fault)
+    ∙ turn-stop (λ t. combination_answer s (combination_view t)) all c.loop-combination.combination-index x x c.loop-combination.items.items f lt is (inv.pushed h) (sym same ∙ e))
+    (c.in_err-push_combination.ensures.fault (inv.intact h)))
 
 pub loop-combination-preserved : goal.loop-combination-preserved
 loop-combination-preserved g c =
@@ -29,19 +30,27 @@ loop-combination-preserved g c =
     let is = c.combination-item.is ∙ ap (λ l. get_or l c.loop-combination.combination-index x) c.deref-combination-items.ensures.value in
     let lt : c.loop-combination.combination-index < length c.args.query.now.combinations.items = omega (arith, ap length c.deref-combination-items.ensures.value) in
     let same = ap (λ s. combination_answer s (combination_view x)) inv.same in
-    let w = pushed-ok _ _ _ c.in_ok-push_combination.ensures.value in
     record {
       same = c.in_ok-push_combination.ensures.same ∙ inv.same;
+      intact = λ h. c.in_ok-push_combination.ensures.intact (inv.intact h);
+      failures = c.in_ok-push_combination.ensures.reports ∙ inv.failures;
       scope = c.in_ok-push_combination.ensures.scope;
       spot = c.in_ok-push_combination.ensures.place;
-      pushed = turn-more (λ t. combination_answer s (combination_view t)) all c.loop-combination.combination-index x x c.loop-combination.items.items w.0 lt is inv.pushed (sym same ∙ w.1) ∙ ap Ok (sym w.2);
+      pushed = λ h. let w = pushed-ok _ _ _ (c.in_ok-push_combination.ensures.value (inv.intact h)) in
+          turn-more (λ t. combination_answer s (combination_view t)) all c.loop-combination.combination-index x x c.loop-combination.items.items w.0 lt is (inv.pushed h) (sym same ∙ w.1) ∙ ap Ok (sym w.2);
     }
 
 pub returns-clause-items : goal.returns-clause-items
-returns-clause-items g c =
+returns-clause-items g c h =
     let inv = c.loop-combination.invariant in
     let s = g.C.Cells.cells c.args.cells.now in
     let all = c.args.query.now.combinations.items in
     ap joined (map-map (combination_answer s) combination_view all)
     ∙ sym (turns-all (λ t. combination_answer s (combination_view t)) all c.loop-combination.combination-index (omega (arith, ap length c.deref-combination-items.ensures.value)))
-    ∙ inv.pushed
+    ∙ inv.pushed h
+
+pub returns-in_err-push_combination-clause-reports : goal.returns-in_err-push_combination-clause-reports
+returns-in_err-push_combination-clause-reports g c =
+    let inv = c.loop-combination.invariant in
+    let p = err_from_is_err_and c.from_residual.result c.from_residual.ensures.1 in
+    rw (p.1, p.2) (passes-from _ _ _ _ inv.intact inv.failures c.in_err-push_combination.ensures.reports)

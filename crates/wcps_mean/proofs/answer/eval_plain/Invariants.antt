@@ -6,7 +6,9 @@ use Rattle.wcps_mean.proofs.answer.eval_plain.Given as goal
 abbrev pub invariant-loop-combination : goal.invariant-loop-combination
 invariant-loop-combination g l = record {
   same : g.C.Cells.cells l.cells ≡ g.C.Cells.cells l.fn.cells;
+  intact : g.C.Cells.intact l.fn.cells → g.C.Cells.intact l.cells;
+  failures : g.C.Cells.failures l.cells ≡ g.C.Cells.failures l.fn.cells;
   scope : l.env.items ≡ [];
   spot : l.points.items ≡ [];
-  pushed : joined (map (λ c. combination_answer (g.C.Cells.cells l.fn.cells) (combination_view c)) (take l.combination-index l.query.combinations.items)) ≡ Ok l.items.items;
+  pushed : g.C.Cells.intact l.fn.cells → joined (map (λ c. combination_answer (g.C.Cells.cells l.fn.cells) (combination_view c)) (take l.combination-index l.query.combinations.items)) ≡ Ok l.items.items;
 }

@@ -3,6 +3,7 @@ use Rattle.std.proofs.lemmas.Result.{err_from_is_err_and}
 use Rattle.arr_core.specs.Domains.{points}
 use Rattle.wcps_types.specs.Typed.{field_view, item_view}
 use Rattle.wcps_mean.specs.Answer.{cells_at}
+use Rattle.wcps_mean.proofs.Told.{passes-from}
 use Rattle.wcps_mean.proofs.Joins.{turn-more, turn-stop, pushed-ok, tells-on, item-err}
 use Rattle.wcps_mean.proofs.answer.item_of.Goals as goal
 
@@ -18,9 +19,9 @@ returns-in_err-push_cells-clause-fault g c =
     ∙ ap (cells_at s fields) (c.in_ok-push_point.ensures ∙ ap (λ l. l ++ x) inv.spot) in
     let lt : c.loop-place.place < length box = omega (arith, c.points-place-end.ensures.value) in
     let p = err_from_is_err_and c.from_residual-in_err-push_cells.result c.from_residual-in_err-push_cells.ensures.1 in
-    rw (p.1, p.2) (tells-on _ _ _
-    (λ f e. item-err s (item_view c.args.item.now) f (turn-stop (cells_at s fields) box c.loop-place.place x [] c.loop-place.list.items f lt refl inv.pushed (sym here ∙ e)))
-    c.in_err-push_cells.ensures.fault)
+    rw (p.1, p.2) (λ h. tells-on _ _ _
+    (λ f e. item-err s (item_view c.args.item.now) f (turn-stop (cells_at s fields) box c.loop-place.place x [] c.loop-place.list.items f lt refl (inv.pushed h) (sym here ∙ e)))
+    (c.in_err-push_cells.ensures.fault (inv.intact h)))
 
 pub loop-place-preserved : goal.loop-place-preserved
 loop-place-preserved g c =
@@ -33,10 +34,18 @@ loop-place-preserved g c =
     let here = ap (λ s. cells_at s (map field_view c.deref.result.now) c.push_point.new.list.items) inv.same
     ∙ ap (λ l. cells_at s (map field_view l) c.push_point.new.list.items) c.deref.ensures.value
     ∙ ap (cells_at s fields) (c.in_ok-push_point.ensures ∙ ap (λ l. l ++ x) inv.spot) in
-    let w = pushed-ok _ _ _ c.in_ok-push_cells.ensures.value in
     record {
       same = c.in_ok-push_cells.ensures.same ∙ inv.same;
+      intact = λ h. c.in_ok-push_cells.ensures.intact (inv.intact h);
+      failures = c.in_ok-push_cells.ensures.reports ∙ inv.failures;
       scope = c.in_ok-push_cells.ensures.scope;
       spot = c.truncate.ensures.items;
-      pushed = turn-more (cells_at s fields) box c.loop-place.place x [] c.loop-place.list.items w.0 lt refl inv.pushed (sym here ∙ w.1) ∙ ap Ok (sym w.2);
+      pushed = λ h. let w = pushed-ok _ _ _ (c.in_ok-push_cells.ensures.value (inv.intact h)) in
+          turn-more (cells_at s fields) box c.loop-place.place x [] c.loop-place.list.items w.0 lt refl (inv.pushed h) (sym here ∙ w.1) ∙ ap Ok (sym w.2);
     }
+
+pub returns-in_err-push_cells-clause-reports : goal.returns-in_err-push_cells-clause-reports
+returns-in_err-push_cells-clause-reports g c =
+    let inv = c.loop-place.invariant in
+    let p = err_from_is_err_and c.from_residual-in_err-push_cells.result c.from_residual-in_err-push_cells.ensures.1 in
+    rw (p.1, p.2) (passes-from _ _ _ _ inv.intact inv.failures c.in_err-push_cells.ensures.reports)

@@ -7,7 +7,9 @@ use Rattle.wcps_mean.proofs.answer.item_of.Given as goal
 abbrev pub invariant-loop-place : goal.invariant-loop-place
 invariant-loop-place g l = record {
   same : g.C.Cells.cells l.cells ≡ g.C.Cells.cells l.fn.cells;
+  intact : g.C.Cells.intact l.fn.cells → g.C.Cells.intact l.cells;
+  failures : g.C.Cells.failures l.cells ≡ g.C.Cells.failures l.fn.cells;
   scope : l.env.items ≡ [];
   spot : l.points.items ≡ [];
-  pushed : joined (map (cells_at (g.C.Cells.cells l.fn.cells) (map field_view l.item.fields.items)) (take l.place (points l.item.domain))) ≡ Ok l.list.items;
+  pushed : g.C.Cells.intact l.fn.cells → joined (map (cells_at (g.C.Cells.cells l.fn.cells) (map field_view l.item.fields.items)) (take l.place (points l.item.domain))) ≡ Ok l.list.items;
 }

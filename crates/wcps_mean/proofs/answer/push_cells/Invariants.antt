@@ -9,7 +9,9 @@ use Rattle.wcps_mean.proofs.answer.push_cells.Given as goal
 abbrev pub invariant-loop-field : goal.invariant-loop-field
 invariant-loop-field g l = record {
   same : g.C.Cells.cells l.cells ≡ g.C.Cells.cells l.fn.cells;
+  intact : g.C.Cells.intact l.fn.cells → g.C.Cells.intact l.cells;
+  failures : g.C.Cells.failures l.cells ≡ g.C.Cells.failures l.fn.cells;
   scope : l.env.items ≡ [];
   place : l.points.items ≡ l.fn.points.items;
-  pushed : PushesCells (joined (map (λ (f : TypedField). given (λ z. cell_of f.boolean z ∷ []) (val (g.C.Cells.cells l.fn.cells) (typed_view f.node) [] l.fn.points.items)) (take l.field-index l.fields))) l.fn.list.items l.list.items;
+  pushed : g.C.Cells.intact l.fn.cells → PushesCells (joined (map (λ (f : TypedField). given (λ z. cell_of f.boolean z ∷ []) (val (g.C.Cells.cells l.fn.cells) (typed_view f.node) [] l.fn.points.items)) (take l.field-index l.fields))) l.fn.list.items l.list.items;
 }

@@ -10,29 +10,35 @@ use Rattle.wcps_mean.proofs.eval.+eval.Given as goal
 abbrev pub invariant-condense-loop-place : goal.invariant-condense-loop-place
 invariant-condense-loop-place g l = record {
   same : g.C.Cells.cells l.cells ≡ g.C.Cells.cells l.fn.cells;
+  intact : g.C.Cells.intact l.fn.cells → g.C.Cells.intact l.cells;
+  failures : g.C.Cells.failures l.cells ≡ g.C.Cells.failures l.fn.cells;
   scope : l.env.items ≡ l.fn.env.items;
   spot : l.points.items ≡ l.fn.points.items;
   op : l.running.op ≡ l.fn.op;
   counted : l.running.count ≡ l.place;
-  fed : Fed l.running (take l.place (map (λ x. val (g.C.Cells.cells l.fn.cells) (typed_view l.e) (l.fn.env.items ++ x) []) (points l.domain)));
+  fed : g.C.Cells.intact l.fn.cells → Fed l.running (take l.place (map (λ x. val (g.C.Cells.cells l.fn.cells) (typed_view l.e) (l.fn.env.items ++ x) []) (points l.domain)));
 }
 
 abbrev pub invariant-reduce-loop-place : goal.invariant-reduce-loop-place
 invariant-reduce-loop-place g l = record {
   same : g.C.Cells.cells l.cells ≡ g.C.Cells.cells l.fn.cells;
+  intact : g.C.Cells.intact l.fn.cells → g.C.Cells.intact l.cells;
+  failures : g.C.Cells.failures l.cells ≡ g.C.Cells.failures l.fn.cells;
   scope : l.env.items ≡ l.fn.env.items;
   spot : l.points.items ≡ l.fn.points.items;
   op : l.running.op ≡ l.fn.op;
   counted : l.running.count ≡ l.place;
-  fed : Fed l.running (take l.place (map (λ x. val (g.C.Cells.cells l.fn.cells) (typed_view l.e) l.fn.env.items x) (points l.domain)));
+  fed : g.C.Cells.intact l.fn.cells → Fed l.running (take l.place (map (λ x. val (g.C.Cells.cells l.fn.cells) (typed_view l.e) l.fn.env.items x) (points l.domain)));
 }
 
 abbrev pub invariant-eval-loop-place : goal.invariant-eval-loop-place
 invariant-eval-loop-place g l = record {
   same : g.C.Cells.cells l.cells ≡ g.C.Cells.cells l.fn.cells;
+  intact : g.C.Cells.intact l.fn.cells → g.C.Cells.intact l.cells;
+  failures : g.C.Cells.failures l.cells ≡ g.C.Cells.failures l.fn.cells;
   scope : l.env.items ≡ l.fn.env.items;
   spot : l.points.items ≡ l.fn.points.items;
   op : l.running.op ≡ l.initial.running.op;
   counted : l.running.count ≤ l.place;
-  fed : Fed l.running (flat_map (λ x. demanded (val (g.C.Cells.cells l.fn.cells) (typed_view l.condition.value) (l.fn.env.items ++ x) []) (val (g.C.Cells.cells l.fn.cells) (typed_view l.body.value) (l.fn.env.items ++ x) [])) (take l.place (points l.domain)));
+  fed : g.C.Cells.intact l.fn.cells → Fed l.running (flat_map (λ x. demanded (val (g.C.Cells.cells l.fn.cells) (typed_view l.condition.value) (l.fn.env.items ++ x) []) (val (g.C.Cells.cells l.fn.cells) (typed_view l.body.value) (l.fn.env.items ++ x) [])) (take l.place (points l.domain)));
 }
