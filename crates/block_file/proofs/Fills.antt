@@ -1,13 +1,13 @@
 -- A last block that is filled, and the header that is written after.
-use Rattle.std.proofs.Common.{◌≡◌, ◌≢◌, ℕ, ◌+◌, ◌-◌, ◌*◌, ◌/◌, ◌%◌, ◌<◌, ◌≤◌, ◌⊎◌, inl, inr, max, List, length, replicate, get_or, arith, ap, zero-add, sym, ◌∙◌}
+use Rattle.std.proofs.Common.{◌≡◌, ℕ, ◌+◌, ◌-◌, ◌*◌, ◌/◌, ◌%◌, ◌<◌, ◌≤◌, inl, inr, max, List, length, replicate, get_or, arith, ap, zero-add, sym, ◌∙◌}
 use Rattle.std.proofs.lemmas.Bool.{cases_lt}
 use Rattle.std.proofs.lemmas.List.{get_or_past, length-replicate}
 use borrow.Rule.Slice.PartMut.{mid_of}
-use Rattle.disk_face.specs.Disk.{Written, Torn, Holds}
+use Rattle.disk_face.specs.Disk.{Written, Torn}
 use Rattle.block_file.specs.declared.header.State.{State}
 use Rattle.block_file.specs.Format.{IsHeader, Filled, Extends, HeaderWritten, HeaderLast}
 use Rattle.block_file.specs.Blocks.{block_at, OthersKept}
-use Rattle.block_file.proofs.Places.{same_blocks}
+use Rattle.block_file.proofs.Places.{same_blocks, whole_inside}
 use Rattle.block_file.proofs.Headers.{header_in}
 use Rattle.block_file.proofs.Numbers.{length-mid, zeros_mid}
 
@@ -68,8 +68,8 @@ pub last_kept : (old new synced : List ℕ) → ((i : ℕ) → i < length old �
 last_kept old new synced kept = λ i lt inside changed j behind. absurd (changed (kept i inside))
 
 -- the header is written over a content of whole blocks
-pub header_done : (state : State) (blocks first size : ℕ) (bytes old mid new : List ℕ) → Extends old mid → Filled old mid blocks → length bytes ≡ 4096 → IsHeader bytes state blocks first size → Written 0 bytes mid new → HeaderWritten state first size old new
-header_done state blocks first size bytes old mid new extends filled len header done =
+pub header_done : (state : State) (blocks first size : ℕ) (bytes old mid new : List ℕ) → length old ≤ 4096 * 1048576 → Extends old mid → Filled old mid blocks → length bytes ≡ 4096 → IsHeader bytes state blocks first size → Written 0 bytes mid new → HeaderWritten state first size old new
+header_done state blocks first size bytes old mid new most extends filled len header done =
     let start = done.holds.within in
     let end = done.others.no_longer in
     let short = done.others.no_shorter in
@@ -80,6 +80,8 @@ header_done state blocks first size bytes old mid new extends filled len header 
       fewest = omega (arith, filled.whole, filled.count);
       kept = λ i a b. let there = extends.no_shorter in done.others.above i (omega arith) (omega arith) ∙ extends.kept i b;
       filled = λ i a b. header_behind bytes old mid new len filled.zeros done i a b;
+      few = omega (arith, filled.whole, filled.count);
+      inside = λ k whole. let within = whole_inside old k whole in let longer = extends.no_shorter in omega arith;
     }
 
 pub extends_blocks : (old new : List ℕ) → Extends old new → OthersKept 0 (block_at old) (block_at new)

@@ -1,8 +1,9 @@
 -- How a header is put together, and what a part of a content tells of it.
-use Rattle.std.proofs.Common.{◌≡◌, ℕ, ◌+◌, ◌<◌, ◌≤◌, ◌⊎◌, inl, inr, List, length, get_or, take, arith, ◌∙◌}
+use Rattle.std.proofs.Common.{◌≡◌, ℕ, ◌+◌, ◌*◌, ◌<◌, ◌≤◌, List, length, get_or, take, arith, ◌∙◌}
 use Rattle.std.proofs.lemmas.Grind.{common_steps, elements, same_number_lists}
+use Rattle.disk_face.specs.Disk.{Torn}
 use Rattle.block_file.specs.declared.header.State.{State}
-use Rattle.block_file.specs.Format.{number_at, magic_bytes, state_number, IsStoreFile, IsHeader, Put}
+use Rattle.block_file.specs.Format.{number_at, magic_bytes, state_number, IsStoreFile, IsHeader, KeepsHeader, Put}
 use Rattle.block_file.proofs.Numbers.{same_number}
 
 kept : (at n at' n' x : ℕ) (old new : List ℕ) → at + n ≤ at' → Put at' n' x old new → number_at at n new ≡ number_at at n old
@@ -48,3 +49,10 @@ header_in state blocks first size bytes content short long same h =
       size = same_number 24 8 content bytes (λ j a b. same j (omega arith)) ∙ h.size;
       zeros = λ i a b. same i b ∙ h.zeros i a b;
     }
+
+-- a write to another block keeps the header
+pub header_torn : (k n : ℕ) (old new : List ℕ) → Torn (4096 * k) n old new → 0 < k → KeepsHeader old new
+header_torn k n old new torn above = λ state blocks first size h.
+    let whole = h.store.whole in
+    let longer = torn.no_shorter in
+    header_in state blocks first size old new whole (omega arith) (λ i lt. torn.below i (omega arith) (omega arith)) h

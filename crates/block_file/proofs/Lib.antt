@@ -1,6 +1,8 @@
 pub mod Chains
+pub mod Closing
 pub mod Fills
 pub mod Headers
+pub mod Links
 pub mod Marks
 pub mod Numbers
 pub mod Opening

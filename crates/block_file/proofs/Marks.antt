@@ -1,12 +1,12 @@
 -- Marks of blocks, and lists of free blocks.
-use Rattle.std.proofs.Common.{◌≡◌, ◌≢◌, ℕ, zero, suc, ◌+◌, ◌-◌, ◌<◌, ◌≤◌, ◌⊎◌, inl, inr, List, [], ◌∷◌, ◌++◌, length, get_or, set, take, drop, min, max, nat_eq, cond, arith, refl, length-append, length-set, drop-cons, sym, ◌∙◌, ap}
+use Rattle.std.proofs.Common.{◌≡◌, ◌≢◌, ℕ, zero, suc, ◌+◌, ◌<◌, ◌≤◌, ◌⊎◌, inl, inr, List, [], ◌∷◌, ◌++◌, length, get_or, set, take, drop, min, arith, refl, length-append, length-set, drop-cons, sym, ◌∙◌, ap}
 use Rattle.std.proofs.lemmas.Grind.{common_steps, elements, same_number_lists}
 use Rattle.std.proofs.lemmas.Bool.Decides.{nat_tests}
 use Rattle.std.proofs.lemmas.Bool.{cases_eq}
 use Rattle.std.proofs.lemmas.List.{get_or_past, get_or-set_same, get_or-set_other}
 use Rattle.std.proofs.lemmas.List.Sums.{sum_by-set, sum_by-append, sum_by-cons}
 use Rattle.block_file.specs.Blocks.{IsDistinct, IsOutside, Takes}
-use Rattle.block_file.specs.View.{IsFreeList, uses_of, use_count, used_in, free_in, CanClaim, Claims}
+use Rattle.block_file.specs.View.{IsFreeList, uses_of, use_count, used_in, CanClaim, Claims}
 
 -- a number that a list has above 0 stands in it
 pub reads_within : (xs : List ℕ) (k : ℕ) → 0 < get_or xs k 0 → k < length xs
@@ -43,6 +43,17 @@ used-cons m marks = sum_by-cons (λ mark. min (use_count mark) 1) m marks
 pub used_le : (marks : List ℕ) → used_in marks ≤ length marks
 used_le [] = omega (arith, used-nil)
 used_le (m ∷ marks) = omega (arith, used-cons m marks, used_le marks)
+
+-- where as many are in use as there are, all are
+pub all_used : (marks : List ℕ) (k : ℕ) → used_in marks ≡ length marks → k < length marks → 0 < uses_of marks k
+all_used marks k full lt = elim (cases_eq (uses_of marks k) 0) [
+  | inl free ↦ absurd (omega (arith, used-set marks k 1 lt, used_le (set marks k 1), length-set marks k 1))
+  | inr used ↦ omega arith
+]
+
+-- a list that was lent whole
+pub whole_back : (n : ℕ) (new old : List ℕ) → n ≡ length old → length new ≡ length old → take n (new ++ drop (length new) old) ≡ new
+whole_back n new old e same = grind (arith, common_steps)
 
 pub distinct-append : (ks : List ℕ) (k : ℕ) → IsDistinct ks → ((i : ℕ) → i < length ks → get_or ks i 0 ≢ k) → IsDistinct (ks ++ k ∷ [])
 distinct-append ks k d out = λ i j hi hj same. grind (arith, common_steps, d i j, out i, out j)

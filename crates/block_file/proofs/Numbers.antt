@@ -1,5 +1,5 @@
 -- Numbers at places of bytes.
-use Rattle.std.proofs.Common.{◌≡◌, ℕ, zero, suc, ◌+◌, ◌-◌, ◌*◌, ◌^◌, ◌<◌, ◌≤◌, ◌⊎◌, inl, inr, List, ◌++◌, length, get_or, take, drop, replicate, arith, refl, ap, sym, ◌∙◌, add-zero, add-suc}
+use Rattle.std.proofs.Common.{◌≡◌, ℕ, zero, suc, ◌+◌, ◌-◌, ◌^◌, ◌<◌, ◌≤◌, inl, inr, List, ◌++◌, length, get_or, take, drop, replicate, arith, refl, ap, sym, ◌∙◌, add-zero, add-suc}
 use Rattle.std.proofs.lemmas.Grind.{common_steps, elements}
 use Rattle.std.proofs.lemmas.Bool.{cases_lt}
 use Rattle.std.proofs.lemmas.List.{get_or-replicate, get_or_past, length-replicate}
@@ -104,4 +104,11 @@ pub zeros_mid : (at k n i : ℕ) → get_or {A = ℕ} (mid_of at k (replicate n 
 zeros_mid at k n i = elim (cases_lt i k) [
   | inl lt ↦ byte-mid at k i (replicate n 0) lt ∙ get_or-zeros n (at + i)
   | inr past ↦ get_or_past (mid_of at k (replicate n 0)) i 0 (omega (arith, mid_short at k (replicate n 0)))
+]
+
+-- a part that was put among zeros, and the zeros behind it
+pub part_among_zeros : (n at k j : ℕ) (part : List ℕ) → at + k ≤ n → length part ≡ k → get_or (put_mid at k (replicate n 0) part) (at + j) 0 ≡ get_or part j 0
+part_among_zeros n at k j part fits len = elim (cases_lt j k) [
+  | inl lt ↦ sym (put_inside at k j (replicate n 0) part (omega (arith, length-replicate {A = ℕ} n 0)) len lt)
+  | inr past ↦ put_above at k (at + j) (replicate n 0) part (omega (arith, length-replicate {A = ℕ} n 0)) len (omega arith) ∙ get_or-zeros n (at + j) ∙ sym (get_or_past part j 0 (omega arith))
 ]

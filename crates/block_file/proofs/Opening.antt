@@ -1,9 +1,9 @@
 -- What the header of a content says of its opening.
-use Rattle.std.proofs.Common.{◌≡◌, ◌≢◌, ℕ, ◌+◌, ◌*◌, ◌/◌, ◌<◌, ◌≤◌, max, List, length, get_or, arith, ap, sym, ◌∙◌, zero-add}
+use Rattle.std.proofs.Common.{◌≡◌, ◌≢◌, ℕ, ◌*◌, ◌/◌, ◌<◌, ◌≤◌, List, length, get_or, arith, ap, sym, ◌∙◌, zero-add}
 use Rattle.disk_face.specs.Disk.{Holds}
 use Rattle.block_file.specs.declared.header.State.TheVariants.{Closed}
 use Rattle.block_file.specs.Blocks.{block_at}
-use Rattle.block_file.specs.Format.{number_at, first_of, IsStoreFile, IsHeader, IsChain, IsClosed, IsDamaged}
+use Rattle.block_file.specs.Format.{number_at, IsStoreFile, IsHeader, IsChain, IsClosed, IsDamaged}
 use Rattle.block_file.proofs.Headers.{header_in, store_in}
 use Rattle.block_file.proofs.Numbers.{same_number}
 

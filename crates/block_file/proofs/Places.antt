@@ -1,5 +1,5 @@
 -- Blocks of a content.
-use Rattle.std.proofs.Common.{◌≡◌, ◌≢◌, ℕ, ◌+◌, ◌*◌, ◌<◌, ◌≤◌, ◌⊎◌, inl, inr, suc, List, length, get_or, take, drop, arith, ap, sym, ◌∙◌}
+use Rattle.std.proofs.Common.{◌≡◌, ◌≢◌, ℕ, ◌+◌, ◌*◌, ◌<◌, ◌≤◌, ◌⊎◌, inl, inr, suc, List, length, get_or, take, drop, arith}
 use Rattle.std.proofs.lemmas.Grind.{common_steps, elements, same_number_lists}
 use Rattle.std.proofs.lemmas.List.{same_lists}
 use Rattle.std.proofs.lemmas.Bool.{cases_lt}

@@ -1,5 +1,5 @@
 -- What calls on blocks of 4,096 bytes do: which blocks are in use, and what each holds.
-use Rattle.std.specs.Prelude.{◌≡◌, ◌≢◌, ℕ, ◌+◌, ◌*◌, ◌<◌, ◌≤◌, List, length, take, drop, slice_index}
+use Rattle.std.specs.Prelude.{◌≡◌, ◌≢◌, ℕ, ◌*◌, ◌<◌, List, length, take, drop, slice_index}
 
 -- block k of a file's bytes: 4,096 of them where the file reaches so far, else fewer
 unfoldable pub block_at : List ℕ → ℕ → List ℕ

@@ -64,6 +64,10 @@ pub record IsChain (block : ℕ → List ℕ) (first : ℕ) (metadata : List ℕ
   pub ends : link block first (chain_blocks (length metadata)) ≡ 0
   pub bytes : (j : ℕ) → j < length metadata → slice_index metadata j ≡ slice_index (block (link block first (j / 4092))) (4 + j % 4092)
 
+-- what a chain of so many bytes has behind them is zeros
+abbrev pub IsPadded : (ℕ → List ℕ) → ℕ → ℕ → Type 0
+IsPadded block first size = (i j : ℕ) → i < chain_blocks size → j < 4092 → size ≤ 4092 * i + j → slice_index (block (link block first i)) (4 + j) ≡ 0
+
 -- the first metadata block, as the header has it
 abbrev pub first_of : List ℕ → ℕ
 first_of content = number_at 20 4 content
@@ -89,6 +93,27 @@ pub record HeaderWritten (state : State) (first size : ℕ) (old new : List ℕ)
   pub fewest : length new / 4096 ≡ max 1 ((length old + 4095) / 4096)
   pub kept : (i : ℕ) → 4096 ≤ i → i < length old → slice_index new i ≡ slice_index old i
   pub filled : (i : ℕ) → 4096 ≤ i → length old ≤ i → slice_index new i ≡ 0
+  pub few : length new / 4096 ≤ 1048576
+  pub inside : (k : ℕ) → length (block_at old k) ≡ 4096 → k < length new / 4096
+
+-- However the write of a header ended: no byte behind the header has changed, and no block was begun but the header.
+pub record HeaderTorn (old new : List ℕ) : Type 0 where
+  pub no_shorter : length old ≤ length new
+  pub no_longer : length new ≤ 4096 * max 1 ((length old + 4095) / 4096)
+  pub kept : (i : ℕ) → 4096 ≤ i → i < length old → slice_index new i ≡ slice_index old i
+
+-- a header that was there still is
+abbrev pub KeepsHeader : List ℕ → List ℕ → Type 0
+KeepsHeader old new = (state : State) (block_count from byte_count : ℕ) → IsHeader old state block_count from byte_count → IsHeader new state block_count from byte_count
+
+-- a closed file with this metadata, whose chain has the blocks that it had from block `first` on
+pub record ClosedWith (first : ℕ) (old new metadata : List ℕ) : Type 0 where
+  pub closed : IsClosed new metadata
+  pub links : (i : ℕ) → i < chain_blocks (length metadata) → link (block_at new) (first_of new) i ≡ link (block_at old) first i
+
+-- Closing makes the metadata that a chain from block `first` on held before that of the closed file.
+abbrev pub Closes : ℕ → ℕ → List ℕ → List ℕ → Type 0
+Closes first size old new = (metadata : List ℕ) → length metadata ≡ size → IsChain (block_at old) first metadata → ClosedWith first old new metadata
 
 -- a last block that was cut short is filled with zeros; the number of blocks counts the header
 pub record Filled (old new : List ℕ) (blocks : ℕ) : Type 0 where

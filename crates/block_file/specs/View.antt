@@ -1,10 +1,10 @@
 -- A block file as callers see it, what `open` and `claim` make of its blocks, and what is true of its lists.
-use Rattle.std.specs.Prelude.{◌≡◌, ◌≢◌, ℕ, ◌+◌, ◌-◌, ◌*◌, ◌/◌, ◌<◌, ◌≤◌, min, nat_eq, if◌then◌else◌, Bool, IsTrue, true, false, List, [], ◌∷◌, length, slice_index, sum_by, Result, IsErrOf}
+use Rattle.std.specs.Prelude.{◌≡◌, ◌≢◌, ℕ, ◌+◌, ◌-◌, ◌*◌, ◌<◌, ◌≤◌, min, nat_eq, if◌then◌else◌, Bool, IsTrue, false, List, [], length, slice_index, sum_by, Result, IsErrOf}
 use Rattle.disk_face.specs.Disk.{Rose}
 use Rattle.block_file.specs.declared.fault.OpenFault.{OpenFault}
 use Rattle.block_file.specs.declared.fault.OpenFault.TheVariants.{DiskFault}
 use Rattle.block_file.specs.Blocks.{IsDistinct, IsOutside}
-use Rattle.block_file.specs.Format.{link, chain_blocks, next_of}
+use Rattle.block_file.specs.Format.{number_at, link, chain_blocks, next_of}
 
 -- The file's bytes and those that are synced, a mark for each of its blocks, and what is known of the disk.
 -- A mark is how often the block is in use, or 255 for a free block that holds metadata and may not be claimed.
@@ -82,6 +82,13 @@ pub record ReadsLink (block : ℕ → List ℕ) (k following part : ℕ) (old ne
   pub size : length new ≡ length old + part
   pub kept : (j : ℕ) → j < length old → slice_index new j ≡ slice_index old j
   pub added : (j : ℕ) → j < part → slice_index new (length old + j) ≡ slice_index (block k) (4 + j)
+
+-- These are the bytes of the block at place i of a chain that lies in the blocks ks: the number of the next one, or 0
+-- at the last, then its part of the metadata, and zeros.
+pub record HoldsLink (bytes : List ℕ) (i : ℕ) (ks metadata : List ℕ) : Type 0 where
+  pub whole : length bytes ≡ 4096
+  pub next : number_at 0 4 bytes ≡ slice_index ks (i + 1)
+  pub part : (j : ℕ) → j < 4092 → slice_index bytes (4 + j) ≡ slice_index metadata (4092 * i + j)
 
 -- a call of an opening counts a failure of the disk where it is refused for one, and nowhere else
 pub record OpenCounts {T : Type 0} (result : Result T OpenFault) (old new : ℕ) : Type 0 where

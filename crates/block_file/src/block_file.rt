@@ -1,9 +1,9 @@
 //! A store file in a disk.
-ghost use Rattle.std.specs.Prelude.{◌≡◌, ◌≢◌, ◌≤◌, ◌<◌, ◌+◌, ◌-◌, ◌*◌, ◌/◌, ◌^◌, max, [], ◌∷◌, ℕ, length, slice_index, vec_capacity, IfOk, IfErr, OnOk, OnErr, IsErrOf, IsTrue};
+ghost use Rattle.std.specs.Prelude.{◌≡◌, ◌≢◌, ◌≤◌, ◌<◌, ◌+◌, ◌-◌, ◌*◌, ◌/◌, ◌^◌, max, [], ◌∷◌, ℕ, List, length, slice_index, vec_capacity, IfOk, IfErr, OnOk, OnErr, IsErrOf, IsTrue};
 ghost use Rattle.disk_face.specs.Disk.{Rose, Counts};
 ghost use Rattle.block_file.specs.Blocks.{block_at};
 ghost use Rattle.block_file.specs.Format.{number_at, first_of, IsStoreFile, IsHeader, IsClosed, IsDamaged, HeaderWritten, HeaderLast, Filled, Extends};
-ghost use Rattle.block_file.specs.View.{IsFresh, MarksChain, CanClaim, Claims, OpenCounts};
+ghost use Rattle.block_file.specs.View.{IsFresh, MarksChain, CanClaim, Claims, OpenCounts, free_in};
 
 use crate::chain::{Layout, blank_marks, read_chain};
 use crate::free_list::{claim_all, give_back_all, make_list, take_all};
@@ -66,8 +66,10 @@ impl<D: Disk> BlockFile<D> {
     pub fn open(alloc: Global, mut disk: D) -> Result<Opened<D>, Refused<D>>
         ensures new_file { IfOk result (λ opened. IsTrue (D.honest disk) → D.content disk ≡ [] → opened.metadata.items ≡ []) }
         ensures closed { IfOk result (λ opened. IsTrue (D.honest disk) → 0 < length (D.content disk) → IsClosed (D.content disk) opened.metadata.items) }
+        ensures unique { IfOk result (λ opened. IsTrue (D.honest disk) → (metadata : List ℕ) → IsClosed (D.content disk) metadata → opened.metadata.items ≡ metadata) }
         ensures marks { IfOk result (λ opened. IsTrue (D.honest disk) → 0 < length (D.content disk) → MarksChain (block_at (D.content disk)) (first_of (D.content disk)) (length opened.metadata.items) opened.file.marks) }
         ensures blocks { IfOk result (λ opened. IsTrue (D.honest disk) → length opened.file.marks ≡ max 1 (length (D.content disk) / 4096)) }
+        ensures whole { IfOk result (λ opened. IsTrue (D.honest disk) → (k : ℕ) → 0 < k → k < length opened.file.marks → length (block_at (D.content disk) k) ≡ 4096) }
         ensures fresh { IfOk result (λ opened. IsFresh opened.file.marks) }
         ensures content { IfOk result (λ opened. opened.file.content ≡ D.content disk) }
         ensures synced { IfOk result (λ opened. opened.file.synced ≡ D.synced disk) }
@@ -106,6 +108,7 @@ impl<D: Disk> BlockFile<D> {
     /// one of the metadata's or is past the end of the file. To be called before any `take`. Takes no memory.
     pub fn claim(&mut self, ks: &[u32]) -> Result<(), Damaged>
         ensures claims { OnOk result (Claims ks.now self.old.marks self.new.marks) }
+        ensures free { OnOk result (free_in self.new.marks + length ks.now ≡ free_in self.old.marks) }
         ensures refused { OnErr result (CanClaim ks.now self.old.marks → ⊥) }
         ensures err { OnErr result (self.new.marks ≡ self.old.marks) }
         ensures content { self.new.content ≡ self.old.content }
@@ -142,6 +145,7 @@ impl<D: Disk> BlockFile<D> {
 }
 
 impl<D: Disk> Blocks for BlockFile<D> {
+    ghost use Rattle.std.specs.Prelude.{length};
     ghost use Rattle.block_file.specs.View.{uses_of, free_in};
 
     ghost content = { λ s. s.content };
@@ -149,6 +153,8 @@ impl<D: Disk> Blocks for BlockFile<D> {
     ghost synced = { λ s. s.synced };
 
     ghost uses = { λ s. uses_of s.marks };
+
+    ghost extent = { λ s. length s.marks };
 
     ghost free_blocks = { λ s. free_in s.marks };
 

@@ -1,12 +1,13 @@
-//! The chain of metadata blocks.
+//! The chain of metadata blocks: how it is read and how it is written.
 ghost use Rattle.std.specs.Prelude.{◌≡◌, ◌≢◌, ◌≤◌, ◌<◌, ◌+◌, ◌*◌, ◌/◌, ℕ, List, length, slice_index, slice_set, IsTrue, IfOk, OnOk, IsErrOf};
 ghost use Rattle.std.specs.Bool.{OnTrue, OnFalse};
-ghost use Rattle.block_file.specs.Blocks.{block_at};
-ghost use Rattle.block_file.specs.Format.{IsChain};
-ghost use Rattle.block_file.specs.View.{IsFresh, MarksChain, OpenCounts, ReadsLink};
+ghost use Rattle.disk_face.specs.Disk.{Rose, Counts};
+ghost use Rattle.block_file.specs.Blocks.{block_at, IsOutside, AreInUse};
+ghost use Rattle.block_file.specs.Format.{number_at, link, chain_blocks, IsChain, IsPadded, KeepsHeader};
+ghost use Rattle.block_file.specs.View.{IsFresh, MarksChain, OpenCounts, ReadsLink, HoldsLink};
 
-use crate::header::{Header, u32_at};
-use crate::{CHAIN_BYTES, OpenFault};
+use crate::header::{Header, put_u32, u32_at};
+use crate::{Blocks, CHAIN_BYTES, ChainFault, OpenFault, TakeFault};
 use disk_face::{Disk, DiskFault};
 use std::alloc::{AllocError, Global};
 
@@ -115,4 +116,77 @@ pub(crate) fn read_chain<D: Disk>(
         return Err(OpenFault::Damaged);
     }
     Ok(Layout { marks, metadata })
+}
+
+/// Writes metadata, of at least one byte, as a chain into blocks that are free and stay so, and gives the first of
+/// them. As many blocks have to be free as it fills. What the blocks in use hold is kept. Refused for memory, or for
+/// a fault of the disk.
+pub fn write_chain<B: Blocks>(blocks: &mut B, metadata: &[u8]) -> Result<u32, ChainFault>
+    requires some { 0 < length metadata.now }
+    requires room { chain_blocks (length metadata.now) ≤ B.free_blocks blocks.old }
+    ensures chain { IfOk result (λ first. IsTrue (B.honest blocks.old) → IsChain (block_at (B.content blocks.new)) first metadata.now) }
+    ensures padded { IfOk result (λ first. IsTrue (B.honest blocks.old) → IsPadded (block_at (B.content blocks.new)) first (length metadata.now)) }
+    ensures unused { IfOk result (λ first. IsTrue (B.honest blocks.old) → (i : ℕ) → i < chain_blocks (length metadata.now) → B.uses blocks.new (link (block_at (B.content blocks.new)) first i) ≡ 0) }
+    ensures kept { (k : ℕ) → 0 < B.uses blocks.old k → length (block_at (B.content blocks.old) k) ≡ 4096 → block_at (B.content blocks.new) k ≡ block_at (B.content blocks.old) k }
+    ensures header { KeepsHeader (B.content blocks.old) (B.content blocks.new) }
+    ensures uses { (k : ℕ) → B.uses blocks.new k ≡ B.uses blocks.old k }
+    ensures free { B.free_blocks blocks.new ≡ B.free_blocks blocks.old }
+    ensures honest { B.honest blocks.new ≡ B.honest blocks.old }
+    ensures no_fewer { B.failures blocks.old ≤ B.failures blocks.new }
+    ensures disk_fault { IsErrOf result ChainFault.DiskFault → Rose (B.failures blocks.old) (B.failures blocks.new) }
+    ensures other { (IsErrOf result ChainFault.DiskFault → ⊥) → B.failures blocks.new ≡ B.failures blocks.old }
+{
+    let taken = match blocks.take(metadata.len().div_ceil(CHAIN_BYTES)) {
+        Ok(taken) => taken,
+        Err(TakeFault::NoMemory) => return Err(ChainFault::NoMemory),
+        Err(TakeFault::NoRoom) => unreachable!(),
+    };
+    let ks: &[u32] = &taken;
+    let written = write_links(blocks, ks, metadata);
+    blocks.give_back(ks);
+    match written {
+        Ok(()) => Ok(ks[0]),
+        Err(DiskFault) => Err(ChainFault::DiskFault),
+    }
+}
+
+/// Writes metadata into these blocks, each with the number of the next before its part, and 0 in the last.
+fn write_links<B: Blocks>(blocks: &mut B, ks: &[u32], metadata: &[u8]) -> Result<(), DiskFault>
+    requires used { AreInUse ks.now (B.uses blocks.old) }
+    requires enough { length ks.now ≡ chain_blocks (length metadata.now) }
+    ensures links { OnOk result (IsTrue (B.honest blocks.old) → (i : ℕ) → i < length ks.now → HoldsLink (block_at (B.content blocks.new) (slice_index ks.now i)) i ks.now metadata.now) }
+    ensures kept { (k : ℕ) → IsOutside ks.now k → length (block_at (B.content blocks.old) k) ≡ 4096 → block_at (B.content blocks.new) k ≡ block_at (B.content blocks.old) k }
+    ensures header { KeepsHeader (B.content blocks.old) (B.content blocks.new) }
+    ensures uses { B.uses blocks.new ≡ B.uses blocks.old }
+    ensures free { B.free_blocks blocks.new ≡ B.free_blocks blocks.old }
+    ensures honest { B.honest blocks.new ≡ B.honest blocks.old }
+    ensures counts { Counts result (B.failures blocks.old) (B.failures blocks.new) }
+{
+    for i in 0..ks.len() {
+        let from = CHAIN_BYTES * i;
+        let to = metadata.len().min(from + CHAIN_BYTES);
+        let bytes = link_bytes(next_in(ks, i), &metadata[from..to]);
+        blocks.write(ks[i], &bytes)?;
+    }
+    Ok(())
+}
+
+/// The number behind place i, or 0 at the last.
+fn next_in(ks: &[u32], i: usize) -> u32
+    requires { i < length ks.now }
+    ensures { result ≡ slice_index ks.now (i + 1) }
+{
+    if i + 1 < ks.len() { ks[i + 1] } else { 0 }
+}
+
+/// The bytes of a block of the chain: the number of the next one, a part of the metadata, and zeros.
+fn link_bytes(next: u32, part: &[u8]) -> [u8; 4096]
+    requires { length part.now ≤ 4092 }
+    ensures next { number_at 0 4 result ≡ next }
+    ensures part { (j : ℕ) → slice_index result (4 + j) ≡ slice_index part.now j }
+{
+    let mut bytes = [0u8; 4096];
+    bytes[4..4 + part.len()].copy_from_slice(part);
+    put_u32(&mut bytes, 0, next);
+    bytes
 }

@@ -23,6 +23,15 @@ impl From<AllocError> for TakeFault {
     }
 }
 
+/// Why a chain was not written.
+#[derive(Clone, Copy, Debug, PartialEq, Eq, Error)]
+pub enum ChainFault {
+    #[error("out of memory")]
+    NoMemory,
+    #[error("disk fault")]
+    DiskFault,
+}
+
 /// Blocks were claimed that may not be: the header, one that was claimed before, one of the metadata, or one past
 /// the end of the file.
 #[derive(Clone, Copy, Debug, PartialEq, Eq, Error)]

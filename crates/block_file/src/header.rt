@@ -54,7 +54,7 @@ fn u64_at(bytes: &[u8], at: usize) -> u64
 }
 
 /// Writes a number into four bytes from `at` on.
-fn put_u32(bytes: &mut [u8], at: usize, n: u32)
+pub(crate) fn put_u32(bytes: &mut [u8], at: usize, n: u32)
     requires { at + 4 ≤ length bytes.old }
     ensures { Put at 4 n bytes.old bytes.new }
 {

@@ -6,6 +6,12 @@ pub record Memory : Type 0 where
   pub content : List ℕ
   pub failures : ℕ
 
+-- A disk in memory of which one call fails: how many calls are left until then, or 0 for none.
+pub record Failing : Type 0 where
+  pub content : List ℕ
+  pub failures : ℕ
+  pub left : ℕ
+
 -- the content has these bytes from this place on
 pub record Holds (content : List ℕ) (at : ℕ) (bytes : List ℕ) : Type 0 where
   pub within : at + length bytes ≤ length content

@@ -6,9 +6,13 @@
 ghost use Rattle.std.specs.Prelude.{◌≡◌, ℕ, Bool, List, length, IsTrue, OnOk, OnErr};
 ghost use Rattle.disk_face.specs.Disk.{Holds, Torn, Written, Counts};
 
+mod fail;
 mod file;
 mod memory;
+#[cfg(test)]
+mod tests;
 
+pub use fail::FailDisk;
 pub use file::FileDisk;
 pub use memory::MemDisk;
 use thiserror::Error;

@@ -39,7 +39,7 @@ impl MemDisk {
     }
 
     /// Counts a failure, up to the last value of a `u64`.
-    fn refuse(&mut self) -> DiskFault
+    pub(crate) fn refuse(&mut self) -> DiskFault
         ensures same { self.new.content ≡ self.old.content }
         ensures counted { self.new.failures ≡ min (self.old.failures + 1) (2 ^ 64 - 1) }
         ensures no_fewer { self.old.failures ≤ self.new.failures }

@@ -1,5 +1,4 @@
-use Rattle.std.proofs.Common.{◌%◌, arith, refl, sym, ◌∙◌}
-use Rattle.std.proofs.lemmas.Grind.{common_steps}
+use Rattle.std.proofs.Common.{◌%◌, arith, refl}
 use Rattle.block_file.proofs.Fills.{filled_zeros, filled_whole}
 use Rattle.block_file.proofs.block_file.fill_last_block.Goals as goal
 use Rattle.block_file.proofs.block_file.fill_last_block.Goals.{then-over-ne0+in_ok-write_at, else-over-ne0}

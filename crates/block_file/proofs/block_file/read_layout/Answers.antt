@@ -1,4 +1,3 @@
-use Rattle.std.proofs.Common.{arith, sym, ◌∙◌}
 use Rattle.block_file.proofs.Opening.{closed_file}
 use Rattle.block_file.proofs.block_file.read_layout.Goals as goal
 

@@ -1,5 +1,4 @@
-use Rattle.std.proofs.Common.{◌≡◌, ◌<◌, ◌*◌, ◌+◌, length, length-set, refl, ap, arith, sym, ◌∙◌}
-use Rattle.std.proofs.lemmas.Grind.{common_steps}
+use Rattle.std.proofs.Common.{length, length-set, refl, ap, arith, ◌∙◌}
 use Rattle.block_file.proofs.Chains.{followed_none, followed_more, fresh_kept, refuted}
 use Rattle.block_file.proofs.chain.read_chain.Goals as goal
 

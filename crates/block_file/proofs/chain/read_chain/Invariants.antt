@@ -1,4 +1,4 @@
-use Rattle.std.proofs.Common.{◌≡◌, ◌*◌, ℕ, min, length, IsTrue}
+use Rattle.std.proofs.Common.{◌≡◌, ◌*◌, min, length, IsTrue}
 use Rattle.block_file.specs.Blocks.{block_at}
 use Rattle.block_file.specs.View.{IsFresh}
 use Rattle.block_file.proofs.Chains.{Followed}

@@ -1,5 +1,5 @@
 use Rattle.std.proofs.Common.{◌-◌, length, ap, arith}
-use Rattle.block_file.proofs.Marks.{listed_none, listed_push, listed_skip, listed_all}
+use Rattle.block_file.proofs.Marks.{listed_none, listed_push, listed_skip}
 use Rattle.block_file.proofs.free_list.list_free.Goals as goal
 
 pub loop-k-init : goal.loop-k-init

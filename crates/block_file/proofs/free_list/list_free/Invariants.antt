@@ -1,4 +1,4 @@
-use Rattle.std.proofs.Common.{◌≤◌, length, vec_capacity}
+use Rattle.std.proofs.Common.{◌≤◌, vec_capacity}
 use Rattle.block_file.proofs.Marks.{ListedFrom}
 use Rattle.block_file.proofs.free_list.list_free.Given as goal
 

@@ -1,5 +1,4 @@
 use Rattle.std.proofs.Common.{arith, length-set, length-append, set, [], ◌∷◌}
-use Rattle.std.proofs.lemmas.Grind.{common_steps}
 use Rattle.block_file.proofs.Marks.{taken_last, taken_last_used, taken_new, used-push, used_le}
 use Rattle.block_file.proofs.free_list.take_one.Goals as goal
 

@@ -1,4 +1,4 @@
-use Rattle.std.proofs.Common.{arith, refl, sym, ◌∙◌}
+use Rattle.std.proofs.Common.{arith}
 use Rattle.block_file.proofs.Headers.{header_made}
 use Rattle.block_file.proofs.header.header_bytes.Goals as goal
 

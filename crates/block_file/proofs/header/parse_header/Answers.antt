@@ -1,6 +1,5 @@
-use Rattle.std.proofs.Common.{rules, ◌≡◌, ◌≤◌, ◌<◌, ◌+◌, ◌-◌, ◌∙◌, ℕ, length, get_or, arith, sym}
-use Rattle.std.proofs.lemmas.Grind.{common_steps}
-use Rattle.block_file.specs.Format.{IsStoreFile, number_at}
+use Rattle.std.proofs.Common.{rules, ◌≡◌, ◌<◌, ◌+◌, ◌-◌, ◌∙◌, ℕ, length, get_or, arith, sym}
+use Rattle.block_file.specs.Format.{IsStoreFile}
 use Rattle.block_file.proofs.Numbers.{byte-mid, length-mid}
 use borrow.Rule.Slice.PartMut.{mid_of}
 use Rattle.block_file.proofs.header.parse_header.Goals as goal

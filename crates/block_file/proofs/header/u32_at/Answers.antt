@@ -1,6 +1,4 @@
 use Rattle.std.proofs.Common.{◌∙◌, ◌-◌, length, arith}
-use Rattle.std.proofs.lemmas.Grind.{common_steps}
-use Rattle.byteorder.specs.Endian.{little_from}
 use Rattle.block_file.proofs.Numbers.{number-cut}
 use Rattle.block_file.proofs.header.u32_at.Goals as goal
 

@@ -1,6 +1,7 @@
-use Rattle.std.proofs.Common.{arith, sym, ◌∙◌, ◌≤◌, ◌<◌, ◌≡◌, ℕ, length, get_or}
-use Rattle.block_file.proofs.Places.{same_blocks}
+use Rattle.std.proofs.Common.{arith}
 use Rattle.block_file.proofs.Fills.{torn_blocks, extends_blocks, header_done}
+use Rattle.block_file.specs.declared.header.State.TheVariants as State
+use Rattle.block_file.proofs.Closing.{closes}
 use Rattle.block_file.proofs.block_file.BlockFileBlocks.write_header.Goals as goal
 
 pub returns-in_err-blocks-clause-others : goal.returns-in_err-blocks-clause-others
@@ -21,7 +22,17 @@ returns-clause-others g c = rw (c.in_ok-sync-2.ensures.same, ← c.self.view_is)
 pub returns-clause-written : goal.returns-clause-written
 returns-clause-written g c = rw (c.in_ok-sync-2.ensures.same, ← c.self.view_is) (λ honest.
     let few = c.self.invariant.within honest in
-    header_done c.args.state c.in_ok-blocks.blocks c.args.first c.args.length c.header_bytes-header.result _ _ _
+    header_done c.args.state c.in_ok-blocks.blocks c.args.first c.args.length c.header_bytes-header.result _ _ _ (omega (arith, c.self.invariant.few))
     (rw c.in_ok-sync.ensures.same (c.fill_last_block.ensures.extends honest))
     (rw c.in_ok-sync.ensures.same (c.in_ok-blocks.ensures.filled honest (omega (arith, c.self.invariant.few))))
     (omega arith) c.header_bytes-header.ensures (c.in_ok-write_at.ensures.written (rw (c.in_ok-sync.ensures.honest, c.fill_last_block.ensures.honest) honest)))
+
+pub returns-clause-closes : goal.returns-clause-closes
+returns-clause-closes g c = rw (c.in_ok-sync-2.ensures.same, ← c.self.view_is) (λ honest closed.
+    let few = c.self.invariant.within honest in
+    closes c.args.first c.args.length _ _
+    (header_done State.Closed c.in_ok-blocks.blocks c.args.first c.args.length c.header_bytes-header.result _ _ _ (omega (arith, c.self.invariant.few))
+    (rw c.in_ok-sync.ensures.same (c.fill_last_block.ensures.extends honest))
+    (rw c.in_ok-sync.ensures.same (c.in_ok-blocks.ensures.filled honest (omega (arith, c.self.invariant.few))))
+    (omega arith) (rw (← closed) c.header_bytes-header.ensures) (c.in_ok-write_at.ensures.written (rw (c.in_ok-sync.ensures.honest, c.fill_last_block.ensures.honest) honest)))
+    (torn_blocks _ _ _ _ _ (omega arith) (c.fill_last_block.ensures.extends honest) c.in_ok-sync.ensures.same c.in_ok-write_at.ensures.torn))
