@@ -1,0 +1,81 @@
+#!/usr/bin/env python3
+"""Seconds and bytes a second for reading queries of 65,536 bytes, each beside a loop in C that sorts the same bytes into
+classes.
+
+usage: bench/parsing.py [the program, else crates/query_bench/out/query_bench]
+
+The program cuts the text into tokens and reads them as a query, as often as it is told; the figure is the time that one
+more reading takes. `rt lib` or `rt run` in its folder builds it.
+"""
+import os
+import subprocess
+import sys
+import tempfile
+import time
+
+TOP = os.path.dirname(os.path.dirname(os.path.abspath(__file__)))
+PROGRAM = sys.argv[1] if len(sys.argv) > 1 else f"{TOP}/crates/query_bench/out/query_bench"
+LENGTH = 65536
+
+LOOP = r"""
+#include <ctype.h>
+#include <stdio.h>
+#include <string.h>
+#include <time.h>
+static double now(void) { struct timespec t; clock_gettime(CLOCK_MONOTONIC, &t); return t.tv_sec + t.tv_nsec / 1e9; }
+int main(void) {
+    static char text[70000];
+    size_t n = fread(text, 1, sizeof text, stdin);
+    long classes[4] = {0};
+    double t = now();
+    for (int r = 0; r < 200; r++) {
+        for (size_t i = 0; i < n; i++) {
+            unsigned char c = text[i];
+            classes[isspace(c) ? 0 : isdigit(c) ? 1 : isalpha(c) ? 2 : 3]++;
+        }
+        __asm__ volatile("" : : "r"(classes) : "memory");
+    }
+    printf("%.9f\n", (now() - t) / 200);
+    return classes[0] == 1;
+}
+"""
+
+
+def filled(front, piece, back=""):
+    """The front, as many pieces as fit, and the back: at most 65,536 bytes."""
+    return front + piece * ((LENGTH - len(front) - len(back)) // len(piece)) + back
+
+
+HEAD = "for c in (lai) return "
+ROWS = [
+    ("many short operands: {a0: c + 1; ..}", filled(HEAD + "{x: c", "; a: c[x(0:9)] + 2 * c", "}")),
+    ("a sum of 1: 1+1+..", filled(HEAD + "1", "+1")),
+    ("signs: - - ..", filled(HEAD, "- ", "1")),
+    ("fields: c.b.b..", filled(HEAD + "c", ".b")),
+    ("brackets: c[x(0)][x(0)]..", filled(HEAD + "c", "[x(0)]")),
+    ("512 parentheses, then a sum", filled(HEAD + "(" * 512 + "1" + ")" * 512, "+1")),
+    ("a value list", filled(HEAD + "coverage m over $i x(0:0) value list <1", ";1", ">")),
+]
+
+
+def seconds(text, rounds):
+    begun = time.monotonic()
+    found = subprocess.run([PROGRAM, str(rounds)], input=text.encode(), capture_output=True, check=True).stdout
+    return time.monotonic() - begun, found.decode().strip()
+
+
+def main():
+    with tempfile.TemporaryDirectory() as folder:
+        with open(f"{folder}/loop.c", "w") as out:
+            out.write(LOOP)
+        subprocess.run(["cc", "-O2", "-o", f"{folder}/loop", f"{folder}/loop.c"], check=True)
+        print(f"{'a query of 64 KiB':40} {'found':10} {'ms':>8} {'MB/s':>8} {'to C':>8}")
+        for name, text in ROWS:
+            few, found = seconds(text, 5)
+            many, _ = seconds(text, 105)
+            once = (many - few) / 100
+            loop = float(subprocess.run([f"{folder}/loop"], input=text.encode(), capture_output=True, check=True).stdout)
+            print(f"{name:40} {found:10} {once * 1e3:8.2f} {len(text) / once / 1e6:8.1f} {once / loop:8.1f}")
+
+
+main()
