@@ -8,3 +8,4 @@ pub mod ReplyLemmas
 pub mod HoldingLemmas
 pub mod ServingLemmas
 pub mod MachineLemmas
+pub mod AskingLemmas

@@ -11,7 +11,6 @@ use Rattle.std.specs.Prelude.{◌==◌}
 use Rattle.httparse.specs.Grammar.{RequestHead}
 use Rattle.coverage_server.specs.Head.{is_last}
 use Rattle.coverage_server.specs.Stream.{HasNoHead, Item, Whole, at_end, at_fault, Messages, Begins, Taken, Fronts}
-use Rattle.coverage_server.proofs.BufferLemmas.{prefix_after}
 use Rattle.coverage_server.proofs.TakenLemmas.{Taken-append, Taken-push, Messages-after, Begins-after, rest_of, rest_at_end, all_of, last_message, one_message, whole_message, room_after}
 use Rattle.coverage_server.specs.declared.server.ConnEnd.TheVariants.{Finished, ReadFault, WriteFault}
 use Rattle.coverage_server.specs.Machine.{MessageStep, Run}
@@ -103,11 +102,17 @@ module _ {before now held holds : Option (List ℕ)} {old new : Store} {buffer :
     unwritten sent = (
       (s.came ++ more) ++ rest_of later,
       all_of before later (s.came ++ more) took_all,
-      s.items ++ item ∷ [],
+      s.items,
+      item,
       Begins-after 0 count _ s.items (item ∷ []) _ from_zero taken_all (one_message count (buffer ++ more) left later item x),
-      s.replies ++ reply_bytes item.last item.bare reply,
-      Run-push s.items old new newer s.replies item reply s.run step,
-      prefix_after held holds gone s.replies (reply_bytes item.last item.bare reply) s.sent (subst (λ b. AppendsPrefix holds gone (reply_bytes b item.bare reply)) is (subst (λ d. AppendsPrefix holds gone (reply_bytes last d reply)) shown sent)),
+      s.replies,
+      new,
+      s.run,
+      holds,
+      s.sent,
+      reply,
+      step,
+      subst (λ b. AppendsPrefix holds gone (reply_bytes b item.bare reply)) is (subst (λ d. AppendsPrefix holds gone (reply_bytes last d reply)) shown sent),
     )
 
     pub continued : (number : ℕ) → number ≡ count + 1 → last ≡ false → Appends holds gone (reply_bytes last bare reply)

@@ -1,13 +1,80 @@
--- The cells that a query asks of the store.
-use Rattle.std.specs.Prelude.{ℕ, ℤ, pos, List, Option, Some, None, slice_get, slice_index_or, if◌then◌else◌}
+-- The answer to the text of a query over a store: its comma-separated values, or the number of the refusal that it gets.
+use Rattle.std.specs.Prelude.{◌≡◌, ℕ, ◌<◌, ◌≤◌, ◌⊎◌, ℤ, pos, List, map, length, Option, Some, None, Result, Ok, Err, slice_get, option_and_then, nat_le, if◌then◌else◌}
+use Rattle.arr_core.specs.declared.signature.Signature.{Signature}
 use Rattle.arr_core.specs.Domains.{is_inside}
-use Rattle.arr_core.specs.Stores.{Coverage, Store, value_at}
+use Rattle.arr_core.specs.Stores.{Coverage, Store, found, value_at}
+use Rattle.wcps_text.specs.declared.error.LexError.{LexError}
+use Rattle.wcps_text.specs.declared.error.LexError.TheVariants as lexing
+use Rattle.wcps_text.specs.Token.{Tok}
+use Rattle.wcps_text.specs.Lexing.{Piece, Lexed, Refused}
+use Rattle.wcps_text.specs.Limits.{deepest, forms, query_height}
+use Rattle.wcps_text.specs.Grammar.{IsSpelled}
+use Rattle.wcps_text.specs.Tree.{QueryTree}
+use Rattle.wcps_types.specs.declared.refusal.TypeRefusal.{TypeRefusal}
+use Rattle.wcps_types.specs.Refusals.{number_of as type_number}
+use Rattle.wcps_types.specs.Typed.{TypedTree}
+use Rattle.wcps_types.specs.Queries.{typ_query}
+use Rattle.wcps_mean.specs.declared.cell.PointFault.{PointFault}
+use Rattle.wcps_mean.specs.declared.item.Item.{Item}
+use Rattle.wcps_mean.specs.Faults.{number_of as fault_number}
+use Rattle.wcps_mean.specs.Answer.{answer}
+use Rattle.csv_out.specs.Csv.{csv}
+use Rattle.coverage_server.specs.Holding.{signature_of}
 
--- the stored number of a field at a point, and 0 where there is none
+-- comma-separated values, or the number of a refusal
+abbrev pub QueryAnswer : Type 0
+QueryAnswer = Result (List ℕ) ℕ
+
+-- 30 for bytes that are no token, 31 for a number that is too large
+abbrev pub token_number : LexError → ℕ
+token_number lexing.BadToken = 30
+token_number lexing.NumberTooLarge = 31
+token_number lexing.NoMemory = 90
+
+-- the tokens of a text, without where they stand
+abbrev pub tokens_in : List Piece → List Tok
+tokens_in pieces = map (λ (p : Piece). p.is) pieces
+
+-- more than 512 brackets are open at once, or the words `condense` and `coverage` stand there more than 256 times
+abbrev pub AreTooDeep : List Tok → Type 0
+AreTooDeep tokens = (512 < deepest 0 tokens) ⊎ (256 < forms tokens)
+
+-- the stored number of a field of a coverage at a point, and 0 where there is none
 abbrev pub number_in : Option Coverage → ℕ → List ℤ → ℤ
 number_in None field point = pos 0
 number_in (Some c) field point = if is_inside c.domain point then value_at c field point else pos 0
 
--- the same of a query's coverage, whose places in the store are listed
-abbrev pub cell_at : Store → List ℕ → ℕ → ℕ → List ℤ → ℤ
-cell_at store places coverage field point = number_in (slice_get store (slice_index_or places coverage 0)) field point
+-- the coverage of the store that has the name of the one at a place
+abbrev pub listed_in : Store → List Signature → ℕ → Option Coverage
+listed_in store coverages n = option_and_then (λ (c : Signature). found c.name store) (slice_get coverages n)
+
+-- the cells of some coverages of the store: by a coverage's place among them, a field's place in it, and a point
+abbrev pub cells_of : Store → List Signature → ℕ → ℕ → List ℤ → ℤ
+cells_of store coverages n field point = number_in (listed_in store coverages n) field point
+
+-- items as comma-separated values, or the number of a fault, 60 to 64
+abbrev pub items_answer : Result (List Item) PointFault → QueryAnswer
+items_answer (Ok items) = Ok (csv items)
+items_answer (Err fault) = Err (fault_number fault)
+
+-- a typed query's value over the store's cells, or the number of the first refusal by types and limits, 20 or 40 to 56
+abbrev pub typed_answer : Store → Result TypedTree TypeRefusal → QueryAnswer
+typed_answer store (Ok q) = items_answer (answer (cells_of store q.coverages) q)
+typed_answer store (Err refusal) = Err (type_number refusal)
+
+-- a query higher than 64 is refused as 33; else its types count, and then its value
+abbrev pub tree_answer : Store → QueryTree → QueryAnswer
+tree_answer store q = if nat_le (query_height q) 64 then typed_answer store (typ_query (map signature_of store) q) else Err 33
+
+-- tokens are too deep and refused as 33, else they spell nothing and are refused as 32, else they spell a query
+pub data TokensAnswer : Store → List Tok → QueryAnswer → Type 0 where
+  too_deep : {store : Store} {ts : List Tok} → AreTooDeep ts → TokensAnswer store ts (Err 33)
+  no_query : {store : Store} {ts : List Tok} → ¬ (AreTooDeep ts) → ((q : QueryTree) → ¬ (IsSpelled ts q)) → TokensAnswer store ts (Err 32)
+  query : {store : Store} {ts : List Tok} (q : QueryTree) → ¬ (AreTooDeep ts) → IsSpelled ts q → TokensAnswer store ts (tree_answer store q)
+
+-- a text of more than 65,536 bytes is refused as 14, else it has no tokens and is refused as 30 or 31, else it has tokens
+pub data TextAnswer : Store → List ℕ → QueryAnswer → Type 0 where
+  too_long : {store : Store} {text : List ℕ} → 65536 < length text → TextAnswer store text (Err 14)
+  no_tokens : {store : Store} {text : List ℕ} (e : LexError) → length text ≤ 65536 → Refused text e → TextAnswer store text (Err (token_number e))
+  lexed : {store : Store} {text : List ℕ} {a : QueryAnswer} (pieces : List Piece) → length text ≤ 65536 → Lexed 0 text pieces
+      → TokensAnswer store (tokens_in pieces) a → TextAnswer store text a

@@ -8,8 +8,9 @@ pub mod Requests
 pub mod Replies
 pub mod Holding
 pub mod Writing
+pub mod Asking
 pub mod Machine
 pub mod Arguments
 pub mod Answered
 pub mod Serves
-pub mod Asking
+pub mod Stages

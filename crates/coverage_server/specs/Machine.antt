@@ -13,6 +13,7 @@ use Rattle.arr_core.specs.Fields.{AreFields, place_of as field_place}
 use Rattle.arr_core.specs.Stores.{Coverage, Store, inserted, updated_coverage}
 use Rattle.coverage_server.specs.Contents.{Cells, fill, values}
 use Rattle.coverage_server.specs.Requests.{Asks, insert_coverage, update_coverage, list_coverages, process_coverages, spelled, number_of}
+use Rattle.coverage_server.specs.Asking.{QueryAnswer, TextAnswer}
 use Rattle.coverage_server.specs.Holding.{place_of, changed_at}
 use Rattle.coverage_server.specs.Replies.{reply_bytes}
 use Rattle.coverage_server.specs.Stream.{Item}
@@ -102,14 +103,18 @@ line_of c = c.name ++ codes "\n"
 abbrev pub Lists : Store → Reply → Store → Type 0
 Lists old reply new = IsText reply (flat_map line_of old) × (new ≡ old)
 
--- ProcessCoverages: comma-separated values or a refusal, and nothing changes
-abbrev pub IsAnswer : Reply → Type 0
-IsAnswer (Text text) = ⊥
-IsAnswer (Csv text) = ⊤
-IsAnswer (Refused code) = ⊤
+-- the reply to a query with this answer
+abbrev pub Tells : QueryAnswer → Reply → Type 0
+Tells (Ok bytes) (Csv text) = string_bytes text ≡ bytes
+Tells (Ok bytes) (Text text) = ⊥
+Tells (Ok bytes) (Refused code) = ⊥
+Tells (Err number) (Refused code) = code ≡ number
+Tells (Err number) (Csv text) = ⊥
+Tells (Err number) (Text text) = ⊥
 
+-- ProcessCoverages: the answer to the query, and nothing changes
 abbrev pub Answers : List ℕ → Store → Reply → Store → Type 0
-Answers query old reply new = IsAnswer reply × (new ≡ old)
+Answers query old reply new = (a : QueryAnswer) × TextAnswer old query a × Tells a reply × (new ≡ old)
 
 -- what the machine does where it has memory
 abbrev pub Serves : Asks → Store → Reply → Store → Type 0

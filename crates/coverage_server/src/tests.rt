@@ -1,6 +1,9 @@
 //! Whole connections: worked requests and their replies, and streams that are cut, long or no messages.
 ghost use Rattle.std.specs.Prelude.{◌<◌};
 
+mod memory;
+mod queries;
+
 use super::*;
 use std::alloc::{AllocError, Global};
 use std::io;

@@ -1,0 +1,10 @@
+use Rattle.std.proofs.Common.{◌≡◌, ◌≤◌, length, map, ap, ◌∙◌, arith}
+use Rattle.std.proofs.lemmas.List.{take_all}
+use Rattle.arr_core.specs.declared.signature.Signature.{Signature}
+use Rattle.coverage_server.specs.Holding.{place_of}
+use Rattle.coverage_server.proofs.query.places_of.Goals as goal
+
+pub returns : goal.returns
+returns c =
+    let all : length c.args.coverages.now ≤ c.loop-coverage.coverage-index = omega arith in
+    c.loop-coverage.invariant ∙ ap (map (λ (s : Signature). place_of s.name c.args.store.now)) (take_all c.loop-coverage.coverage-index c.args.coverages.now all)

@@ -1,0 +1,57 @@
+-- What the steps from the text of a query to its answer give. Want of memory says nothing of it.
+use Rattle.std.specs.Prelude.{◌≡◌, ℕ, ◌≤◌, ℤ, List, map, Option, Result, Ok, Err, Vec, String, string_bytes, slice_get, option_and_then, ⊤}
+use Rattle.std.specs.Option.{option_flatten}
+use Rattle.std.specs.declared.alloc.Global.{Global}
+use Rattle.arr_core.specs.Stores.{Store}
+use Rattle.wcps_text.specs.declared.token.Token.{Token}
+use Rattle.wcps_text.specs.declared.tree.Query.{Query}
+use Rattle.wcps_text.specs.declared.error.LexError.{LexError}
+use Rattle.wcps_text.specs.Token.{Tok}
+use Rattle.wcps_text.specs.Lexing.{Lexed, Refused, piece}
+use Rattle.wcps_text.specs.Limits.{query_height}
+use Rattle.wcps_text.specs.Grammar.{IsSpelled}
+use Rattle.wcps_text.specs.Tree.{query_view}
+use Rattle.wcps_types.specs.declared.refusal.TypeRefusal.{TypeRefusal}
+use Rattle.wcps_types.specs.declared.typed.TypedQuery.{TypedQuery}
+use Rattle.wcps_types.specs.Refusals.{number_of as type_number}
+use Rattle.wcps_types.specs.Typed.{TypedTree, query_view as typed_view}
+use Rattle.wcps_mean.specs.declared.cell.PointFault.{PointFault}
+use Rattle.wcps_mean.specs.declared.item.Item.{Item}
+use Rattle.wcps_mean.specs.Faults.{number_of as fault_number}
+use Rattle.coverage_server.specs.Asking.{QueryAnswer, token_number, AreTooDeep, TokensAnswer, number_in}
+use Rattle.coverage_server.specs.declared.arguments.Refusal.{Refusal}
+use Rattle.coverage_server.specs.declared.arguments.Refusal.TheVariants.{Numbered, NoMemory}
+
+-- the tokens of a text, or what is wrong with it
+abbrev pub GivesTokens : List ℕ → Result (Vec Token Global) Refusal → Type 0
+GivesTokens text (Ok tokens) = Lexed 0 text (map piece tokens.items)
+GivesTokens text (Err (Numbered code)) = (e : LexError) × Refused text e × (code ≡ token_number e)
+GivesTokens text (Err NoMemory) = ⊤
+
+-- a query within the limits that the tokens spell, or their refusal, which is the same over each store
+abbrev pub GivesQuery : List Tok → Result Query Refusal → Type 0
+GivesQuery ts (Ok q) = (¬ (AreTooDeep ts)) × IsSpelled ts (query_view q) × (query_height (query_view q) ≤ 64)
+GivesQuery ts (Err (Numbered code)) = (store : Store) → TokensAnswer store ts (Err code)
+GivesQuery ts (Err NoMemory) = ⊤
+
+-- a typed query, or its refusal
+abbrev pub GivesTyped : Result TypedTree TypeRefusal → Result TypedQuery Refusal → Type 0
+GivesTyped checked (Ok q) = checked ≡ Ok (typed_view q)
+GivesTyped checked (Err (Numbered code)) = (refusal : TypeRefusal) × (checked ≡ Err refusal) × (code ≡ type_number refusal)
+GivesTyped checked (Err NoMemory) = ⊤
+
+-- the items of an answer, or its fault
+abbrev pub GivesItems : Result (List Item) PointFault → Result (Vec Item Global) Refusal → Type 0
+GivesItems answered (Ok items) = answered ≡ Ok items.items
+GivesItems answered (Err (Numbered code)) = (fault : PointFault) × (answered ≡ Err fault) × (code ≡ fault_number fault)
+GivesItems answered (Err NoMemory) = ⊤
+
+-- the text of an answer, or its number
+abbrev pub GivesValues : QueryAnswer → Result (String Global) Refusal → Type 0
+GivesValues answered (Ok text) = answered ≡ Ok (string_bytes text)
+GivesValues answered (Err (Numbered code)) = answered ≡ Err code
+GivesValues answered (Err NoMemory) = ⊤
+
+-- the cells of coverages whose places in the store are listed
+abbrev pub cell_at : Store → List (Option ℕ) → ℕ → ℕ → List ℤ → ℤ
+cell_at store places n field point = number_in (option_and_then (slice_get store) (option_flatten (slice_get places n))) field point
