@@ -2,8 +2,10 @@
 //! at the end.
 #![tactic(auto)]
 
-ghost use Rattle.std.specs.Prelude.{◌≡◌, ◌<◌, ◌≤◌, ℕ, List, [], ◌∷◌, ◌++◌, length, MatchOption, OnOk};
+ghost use Rattle.std.specs.Prelude.{◌≡◌, ◌<◌, ◌≤◌, ◌^◌, ℕ, List, [], ◌∷◌, ◌++◌, length, MatchOption, IfSome, OnOk, FitsSigned};
+ghost use Rattle.std.specs.Int.{w32};
 ghost use Rattle.byteorder.specs.Endian.{little_bytes};
+ghost use Rattle.file_bytes.specs.Codes.{signed_bytes, IsRead};
 
 use byteorder::{ByteOrder, LittleEndian};
 use std::alloc::AllocError;
@@ -63,9 +65,19 @@ impl<'a> Reader<'a> {
     pub fn read_u32(&mut self) -> Option<u32>
         ensures read { MatchOption result (length self.old < 4) (λ number. self.old ≡ little_bytes 4 number ++ self.new) }
         ensures left { MatchOption result (self.new ≡ self.old) (λ _. Unit {0}) }
+        ensures only { IfSome result (λ number. IsRead (λ n. n < 2 ^ 32) (little_bytes 4) self.old number self.new) }
     {
         let bytes = self.take(4)?;
         Some(number_of(bytes))
+    }
+
+    /// The signed number in the next 4 bytes, in two's complement, or none where fewer are left.
+    pub fn read_i32(&mut self) -> Option<i32>
+        ensures read { MatchOption result (length self.old < 4) (λ number. IsRead (FitsSigned w32) signed_bytes self.old number self.new) }
+        ensures left { MatchOption result (self.new ≡ self.old) (λ _. Unit {0}) }
+    {
+        let bytes = self.take(4)?;
+        Some(signed_number_of(bytes))
     }
 }
 
@@ -77,12 +89,30 @@ fn number_of(bytes: &[u8]) -> u32
     LittleEndian::read_u32(bytes)
 }
 
+/// The signed number whose bytes these are in two's complement, the lowest first.
+fn signed_number_of(bytes: &[u8]) -> i32
+    requires { length bytes.now ≡ 4 }
+    ensures { bytes.now ≡ signed_bytes result }
+{
+    LittleEndian::read_i32(bytes)
+}
+
 /// Writes a number in 4 bytes after the others.
 pub fn push_u32(bytes: &mut Vec<u8>, number: u32) -> Result<(), AllocError>
     ensures { OnOk result (bytes.new.items ≡ bytes.old.items ++ little_bytes 4 number) }
 {
     let mut piece = [0; 4];
     LittleEndian::write_u32(&mut piece, number);
+    bytes.extend_from_slice(&piece)?;
+    Ok(())
+}
+
+/// Writes a signed number in 4 bytes after the others, in two's complement.
+pub fn push_i32(bytes: &mut Vec<u8>, number: i32) -> Result<(), AllocError>
+    ensures { OnOk result (bytes.new.items ≡ bytes.old.items ++ signed_bytes number) }
+{
+    let mut piece = [0; 4];
+    LittleEndian::write_i32(&mut piece, number);
     bytes.extend_from_slice(&piece)?;
     Ok(())
 }

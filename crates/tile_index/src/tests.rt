@@ -23,7 +23,9 @@ fn a_tile_is_listed_and_taken_out(rt: HostRuntime) -> Result<(), Fail> {
     let entry = Entry { length: 4, blocks };
     index.replace_all(vec![in rt.alloc(); (0, Some(entry))]?)?;
     assert_eq!(rt; index.to_bytes(rt.alloc())?.as_slice(), ONE_TILE.as_slice());
-    assert!(rt; index.get(0).is_some());
+    let found = index.get(0).ok_or("tile 0 is not listed")?;
+    assert_eq!(rt; found.length, 4);
+    assert_eq!(rt; found.blocks.as_slice(), [1].as_slice());
     index.replace_all(vec![in rt.alloc(); (0, None)]?)?;
     assert!(rt; index.get(0).is_none());
     Ok(())

@@ -1,0 +1,4 @@
+pub mod Signatures
+pub mod Bytes
+pub mod Held
+pub mod Reading
