@@ -1,0 +1,6 @@
+pub mod Written
+pub mod Again
+pub mod Puts
+pub mod Cuts
+pub mod Views
+pub mod Whole

@@ -1,17 +1,24 @@
 //! Expressions as text, every operand in parentheses.
 
+ghost use Rattle.std.specs.Prelude.{[], ◌∷◌, true, string_bytes, OnOk};
+ghost use Rattle.wcps_text.specs.Token.{sign};
+ghost use Rattle.wcps_text.specs.Tree.{view, view_interval, view_place, iters_of, parts_of, subs_of, condition_of};
+ghost use Rattle.wcps_text.specs.Tree as tree;
+ghost use Rattle.wcps_text.specs.declared.token.Symbol.TheVariants as signs;
+ghost use Rattle.wcps_print.specs.Printing.{condition_tokens, expr_tokens, head_tokens, interval_tokens, items_tokens, iters_tokens, parts_tokens, place_tokens, subs_tokens, Puts};
+
 use crate::words::{
-    put_binary, put_condense, put_int, put_name, put_number, put_reduce, put_symbol, put_truth,
-    put_word,
+    put_any_name, put_binary, put_condense, put_int, put_name, put_number, put_reduce,
+    put_separator, put_symbol, put_truth, put_unary_op, put_word,
 };
 use std::alloc::AllocError;
-use wcps_text::{
-    Expr, Interval, Iter, Keyword, ListItem, Part, Place, QueryName, Sub, Symbol, UnaryOp,
-};
+use wcps_text::{Expr, Interval, Iter, Keyword, ListItem, Part, Place, Sub, Symbol, UnaryOp};
 
 /// An expression.
 #[cycle(printing)]
-pub fn put_expr(out: &mut String, expr: &Expr) -> Result<(), AllocError> {
+pub fn put_expr(out: &mut String, expr: &Expr) -> Result<(), AllocError>
+    ensures { OnOk result (Puts (string_bytes out.old) (expr_tokens (view expr.now)) (string_bytes out.new)) }
+{
     match expr {
         Expr::Number(literal) => put_number(out, literal.value),
         Expr::Truth(truth) => put_truth(out, *truth),
@@ -60,10 +67,7 @@ pub fn put_expr(out: &mut String, expr: &Expr) -> Result<(), AllocError> {
             put_condense(out, *op)?;
             put_word(out, Keyword::Over)?;
             put_iters(out, iterators)?;
-            if let Some(test) = condition {
-                put_word(out, Keyword::Where)?;
-                put_grouped(out, test)?;
-            }
+            put_condition(out, condition)?;
             put_word(out, Keyword::Using)?;
             put_grouped(out, body)
         }
@@ -72,31 +76,44 @@ pub fn put_expr(out: &mut String, expr: &Expr) -> Result<(), AllocError> {
 
 /// An expression in parentheses.
 #[cycle(printing)]
-pub fn put_grouped(out: &mut String, expr: &Expr) -> Result<(), AllocError> {
+pub fn put_grouped(out: &mut String, expr: &Expr) -> Result<(), AllocError>
+    ensures { OnOk result (Puts (string_bytes out.old) (λ rest. sign signs.LeftParen ∷ expr_tokens (view expr.now) (sign signs.RightParen ∷ rest)) (string_bytes out.new)) }
+{
     put_symbol(out, Symbol::LeftParen)?;
     put_expr(out, expr)?;
     put_symbol(out, Symbol::RightParen)
 }
 
+/// `where` and a condition in parentheses, if there is one.
 #[cycle(printing)]
-fn put_unary(out: &mut String, op: UnaryOp, operand: &Expr) -> Result<(), AllocError> {
-    match op {
-        UnaryOp::Negate => put_symbol(out, Symbol::Minus)?,
-        UnaryOp::Plus => put_symbol(out, Symbol::Plus)?,
-        UnaryOp::Not => put_word(out, Keyword::Not)?,
-        UnaryOp::Abs => put_word(out, Keyword::Abs)?,
+pub fn put_condition(out: &mut String, condition: &Option<Box<Expr>>) -> Result<(), AllocError>
+    ensures { OnOk result (Puts (string_bytes out.old) (condition_tokens (condition_of condition.now)) (string_bytes out.new)) }
+{
+    match condition {
+        Some(test) => {
+            put_word(out, Keyword::Where)?;
+            put_grouped(out, test)
+        }
+        None => Ok(()),
     }
+}
+
+#[cycle(printing)]
+fn put_unary(out: &mut String, op: UnaryOp, operand: &Expr) -> Result<(), AllocError>
+    ensures { OnOk result (Puts (string_bytes out.old) (expr_tokens (tree.unary op (view operand.now))) (string_bytes out.new)) }
+{
+    put_unary_op(out, op)?;
     put_grouped(out, operand)
 }
 
 #[cycle(printing)]
-fn put_record(out: &mut String, parts: &[Part]) -> Result<(), AllocError> {
+fn put_record(out: &mut String, parts: &[Part]) -> Result<(), AllocError>
+    ensures { OnOk result (Puts (string_bytes out.old) (expr_tokens (tree.parts (parts_of parts.now))) (string_bytes out.new)) }
+{
     put_symbol(out, Symbol::LeftBrace)?;
     let mut is_first = true;
     for part in parts {
-        if !is_first {
-            put_symbol(out, Symbol::Semicolon)?;
-        }
+        put_separator(out, is_first, Symbol::Semicolon)?;
         is_first = false;
         put_name(out, &part.name)?;
         put_symbol(out, Symbol::Colon)?;
@@ -106,13 +123,13 @@ fn put_record(out: &mut String, parts: &[Part]) -> Result<(), AllocError> {
 }
 
 #[cycle(printing)]
-fn put_subs(out: &mut String, subs: &[Sub]) -> Result<(), AllocError> {
+fn put_subs(out: &mut String, subs: &[Sub]) -> Result<(), AllocError>
+    ensures { OnOk result (Puts (string_bytes out.old) (λ rest. sign signs.LeftBracket ∷ subs_tokens true (subs_of subs.now) (sign signs.RightBracket ∷ rest)) (string_bytes out.new)) }
+{
     put_symbol(out, Symbol::LeftBracket)?;
     let mut is_first = true;
     for sub in subs {
-        if !is_first {
-            put_symbol(out, Symbol::Comma)?;
-        }
+        put_separator(out, is_first, Symbol::Comma)?;
         is_first = false;
         put_name(out, &sub.axis)?;
         put_symbol(out, Symbol::LeftParen)?;
@@ -123,7 +140,9 @@ fn put_subs(out: &mut String, subs: &[Sub]) -> Result<(), AllocError> {
 }
 
 #[cycle(printing)]
-fn put_place(out: &mut String, place: &Place) -> Result<(), AllocError> {
+fn put_place(out: &mut String, place: &Place) -> Result<(), AllocError>
+    ensures { OnOk result (Puts (string_bytes out.old) (place_tokens (view_place place.now)) (string_bytes out.new)) }
+{
     match place {
         Place::Trim(interval) => put_interval(out, interval),
         Place::At(position) => put_expr(out, position),
@@ -131,7 +150,9 @@ fn put_place(out: &mut String, place: &Place) -> Result<(), AllocError> {
 }
 
 #[cycle(printing)]
-fn put_interval(out: &mut String, interval: &Interval) -> Result<(), AllocError> {
+fn put_interval(out: &mut String, interval: &Interval) -> Result<(), AllocError>
+    ensures { OnOk result (Puts (string_bytes out.old) (interval_tokens (view_interval interval.now)) (string_bytes out.new)) }
+{
     match interval {
         Interval::Bounds(low, high) => {
             put_int(out, *low)?;
@@ -150,12 +171,12 @@ fn put_interval(out: &mut String, interval: &Interval) -> Result<(), AllocError>
 }
 
 #[cycle(printing)]
-fn put_iters(out: &mut String, iterators: &[Iter]) -> Result<(), AllocError> {
+fn put_iters(out: &mut String, iterators: &[Iter]) -> Result<(), AllocError>
+    ensures { OnOk result (Puts (string_bytes out.old) (iters_tokens true (iters_of iterators.now)) (string_bytes out.new)) }
+{
     let mut is_first = true;
     for iterator in iterators {
-        if !is_first {
-            put_symbol(out, Symbol::Comma)?;
-        }
+        put_separator(out, is_first, Symbol::Comma)?;
         is_first = false;
         put_name(out, &iterator.variable)?;
         put_name(out, &iterator.axis)?;
@@ -168,9 +189,11 @@ fn put_iters(out: &mut String, iterators: &[Iter]) -> Result<(), AllocError> {
 
 /// The words before what a coverage holds. Its name has no effect: any one serves.
 #[cycle(printing)]
-fn put_head(out: &mut String, iterators: &[Iter]) -> Result<(), AllocError> {
+fn put_head(out: &mut String, iterators: &[Iter]) -> Result<(), AllocError>
+    ensures { OnOk result (Puts (string_bytes out.old) (λ rest. head_tokens (iters_tokens true (iters_of iterators.now) rest)) (string_bytes out.new)) }
+{
     put_word(out, Keyword::Coverage)?;
-    out.push_str("c ")?;
+    put_any_name(out)?;
     put_word(out, Keyword::Over)?;
     put_iters(out, iterators)
 }
@@ -180,7 +203,9 @@ fn put_value_list(
     out: &mut String,
     iterators: &[Iter],
     items: &[ListItem],
-) -> Result<(), AllocError> {
+) -> Result<(), AllocError>
+    ensures { OnOk result (Puts (string_bytes out.old) (expr_tokens (tree.value_list (iters_of iterators.now) items.now)) (string_bytes out.new)) }
+{
     put_head(out, iterators)?;
     put_word(out, Keyword::Value)?;
     put_word(out, Keyword::List)?;
@@ -189,17 +214,23 @@ fn put_value_list(
     put_symbol(out, Symbol::Greater)
 }
 
-fn put_items(out: &mut String, items: &[ListItem]) -> Result<(), AllocError> {
+fn put_items(out: &mut String, items: &[ListItem]) -> Result<(), AllocError>
+    ensures { OnOk result (Puts (string_bytes out.old) (items_tokens true items.now) (string_bytes out.new)) }
+{
     let mut is_first = true;
     for item in items {
-        if !is_first {
-            put_symbol(out, Symbol::Semicolon)?;
-        }
+        put_separator(out, is_first, Symbol::Semicolon)?;
         is_first = false;
-        match item {
-            ListItem::Int(int) => put_int(out, *int)?,
-            ListItem::Truth(truth) => put_truth(out, *truth)?,
-        }
+        put_item(out, *item)?;
     }
     Ok(())
+}
+
+fn put_item(out: &mut String, item: ListItem) -> Result<(), AllocError>
+    ensures { OnOk result (Puts (string_bytes out.old) (λ rest. items_tokens true (item ∷ []) rest) (string_bytes out.new)) }
+{
+    match item {
+        ListItem::Int(int) => put_int(out, int),
+        ListItem::Truth(truth) => put_truth(out, truth),
+    }
 }

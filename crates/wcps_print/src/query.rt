@@ -1,44 +1,66 @@
 //! Whole queries as text.
 
-use crate::expression::{put_expr, put_grouped};
-use crate::words::{put_name, put_symbol, put_word};
-use std::alloc::{AllocError, Global};
-use wcps_text::{Binding, Item, Keyword, Query, QueryName, Symbol};
+ghost use Rattle.std.specs.Prelude.{◌≡◌, ◌++◌, [], ◌∷◌, ℕ, List, true, string_bytes, IfOk, OnOk};
+ghost use Rattle.wcps_text.specs.Token.{sign, word};
+ghost use Rattle.wcps_text.specs.Tree.{bindings_of, item_view, query_view, view};
+ghost use Rattle.wcps_text.specs.declared.token.Keyword.TheVariants as words;
+ghost use Rattle.wcps_text.specs.declared.token.Symbol.TheVariants as signs;
+ghost use Rattle.wcps_print.specs.Printed.{IsTextOf};
+ghost use Rattle.wcps_print.specs.Printing.{bindings_tokens, expr_tokens, item_tokens, names_tokens, query_tokens, text_of, Puts};
 
-/// The query as text, every operand in parentheses. Its tokens spell the query.
-pub fn print(alloc: Global, query: &Query) -> Result<String, AllocError> {
+use crate::expression::{put_condition, put_expr};
+use crate::words::{put_name, put_separator, put_symbol, put_word};
+use std::alloc::{AllocError, Global};
+use wcps_text::{Binding, Expr, Item, Keyword, Query, QueryName, Symbol};
+
+/// The query as text, every operand in parentheses.
+///
+/// If the tokens of some text spell the query, as they do of any query that was parsed, then the printed text has
+/// tokens, and they spell the same query. It calls itself as deep as the query is high. The only error is want of memory.
+pub fn print(alloc: Global, query: &Query) -> Result<String, AllocError>
+    ensures { IfOk result (λ printed. (text : List ℕ) → IsTextOf text (query_view query.now) → IsTextOf (string_bytes printed) (query_view query.now)) }
+{
     let mut out = String::new(alloc);
-    put_word(&mut out, Keyword::For)?;
-    put_bindings(&mut out, &query.bindings)?;
-    if let Some(test) = &query.condition {
-        put_word(&mut out, Keyword::Where)?;
-        put_grouped(&mut out, test)?;
-    }
-    put_word(&mut out, Keyword::Return)?;
-    put_item(&mut out, &query.item)?;
+    put_query(&mut out, query)?;
     Ok(out)
 }
 
-fn put_item(out: &mut String, item: &Item) -> Result<(), AllocError> {
+fn put_query(out: &mut String, query: &Query) -> Result<(), AllocError>
+    ensures { OnOk result (string_bytes out.new ++ text_of [] ≡ string_bytes out.old ++ text_of (query_tokens (query_view query.now))) }
+{
+    put_word(out, Keyword::For)?;
+    put_bindings(out, &query.bindings)?;
+    put_condition(out, &query.condition)?;
+    put_word(out, Keyword::Return)?;
+    put_item(out, &query.item)
+}
+
+fn put_item(out: &mut String, item: &Item) -> Result<(), AllocError>
+    ensures { OnOk result (Puts (string_bytes out.old) (item_tokens (item_view item.now)) (string_bytes out.new)) }
+{
     match item {
         Item::Plain(value) => put_expr(out, value),
-        Item::Encode(value) => {
-            put_word(out, Keyword::Encode)?;
-            put_symbol(out, Symbol::LeftParen)?;
-            put_expr(out, value)?;
-            put_symbol(out, Symbol::Comma)?;
-            put_word(out, Keyword::Csv)?;
-            put_symbol(out, Symbol::RightParen)
-        }
+        Item::Encode(value) => put_encoded(out, value),
     }
 }
 
-fn put_bindings(out: &mut String, bindings: &[Binding]) -> Result<(), AllocError> {
+fn put_encoded(out: &mut String, value: &Expr) -> Result<(), AllocError>
+    ensures { OnOk result (Puts (string_bytes out.old) (λ rest. word words.Encode ∷ sign signs.LeftParen ∷ expr_tokens (view value.now) (sign signs.Comma ∷ word words.Csv ∷ sign signs.RightParen ∷ rest)) (string_bytes out.new)) }
+{
+    put_word(out, Keyword::Encode)?;
+    put_symbol(out, Symbol::LeftParen)?;
+    put_expr(out, value)?;
+    put_symbol(out, Symbol::Comma)?;
+    put_word(out, Keyword::Csv)?;
+    put_symbol(out, Symbol::RightParen)
+}
+
+fn put_bindings(out: &mut String, bindings: &[Binding]) -> Result<(), AllocError>
+    ensures { OnOk result (Puts (string_bytes out.old) (bindings_tokens true (bindings_of bindings.now)) (string_bytes out.new)) }
+{
     let mut is_first = true;
     for binding in bindings {
-        if !is_first {
-            put_symbol(out, Symbol::Comma)?;
-        }
+        put_separator(out, is_first, Symbol::Comma)?;
         is_first = false;
         put_name(out, &binding.variable)?;
         put_word(out, Keyword::In)?;
@@ -49,12 +71,12 @@ fn put_bindings(out: &mut String, bindings: &[Binding]) -> Result<(), AllocError
     Ok(())
 }
 
-fn put_names(out: &mut String, names: &[QueryName]) -> Result<(), AllocError> {
+fn put_names(out: &mut String, names: &[QueryName]) -> Result<(), AllocError>
+    ensures { OnOk result (Puts (string_bytes out.old) (names_tokens true names.now) (string_bytes out.new)) }
+{
     let mut is_first = true;
     for name in names {
-        if !is_first {
-            put_symbol(out, Symbol::Comma)?;
-        }
+        put_separator(out, is_first, Symbol::Comma)?;
         is_first = false;
         put_name(out, name)?;
     }

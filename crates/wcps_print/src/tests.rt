@@ -129,6 +129,26 @@ fn tokens_are_counted_and_refused(rt: HostRuntime) {
 }
 
 #[test]
+fn tokens_are_the_longest_that_fit(rt: HostRuntime) {
+    let alloc = rt.alloc();
+    for (text, want) in [
+        ("a<=b", 3),
+        ("a< =b", 4),
+        ("a!=b", 3),
+        ("forin", 1),
+        ("for in", 2),
+        ("12ab", 2),
+        ("$a$b", 2),
+        ("9223372036854775807", 1),
+    ] {
+        match lex(alloc, text) {
+            Ok(tokens) => assert_eq!(rt; tokens.len(), want, "{text}"),
+            Err(_) => assert!(rt; false, "{text}"),
+        }
+    }
+}
+
+#[test]
 fn names_have_at_most_64_bytes(rt: HostRuntime) {
     let alloc = rt.alloc();
     for (count, want) in [(63, Outcome::Fits), (64, Outcome::BadToken)] {

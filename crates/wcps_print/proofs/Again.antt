@@ -1,0 +1,565 @@
+-- What some tokens spell, the printed tokens spell too.
+use Rattle.std.proofs.Common.{◌≡◌, ℕ, zero, suc, ◌-◌, ◌^◌, ◌<◌, cond, ltb, ℤ, pos, negsuc, ◌-ℤ◌, Bool, true, false, IsTrue, List, [], ◌∷◌, length, map, codes, Ok, refl, sym, ap, ◌∙◌, arith, subst}
+use Rattle.std.proofs.lemmas.Bool.Decides.{nat_tests}
+use Rattle.std.specs.Char.{to_ascii_lowercase}
+use Rattle.wcps_text.specs.declared.token.Symbol.TheVariants as signs
+use Rattle.wcps_text.specs.declared.token.Keyword.{Keyword}
+use Rattle.wcps_text.specs.declared.token.Keyword.TheVariants as words
+use Rattle.wcps_text.specs.declared.tree.UnaryOp.{UnaryOp}
+use Rattle.wcps_text.specs.declared.tree.UnaryOp.TheVariants as unaries
+use Rattle.wcps_text.specs.declared.tree.BinaryOp.{BinaryOp}
+use Rattle.wcps_text.specs.declared.tree.BinaryOp.TheVariants as binaries
+use Rattle.wcps_text.specs.declared.tree.CondenseOp.{CondenseOp}
+use Rattle.wcps_text.specs.declared.tree.CondenseOp.TheVariants as condensers
+use Rattle.wcps_text.specs.declared.tree.ReduceOp.{ReduceOp}
+use Rattle.wcps_text.specs.declared.tree.ListItem.{ListItem}
+use Rattle.wcps_text.specs.declared.tree.ListItem.TheVariants as list_items
+use Rattle.wcps_text.specs.Token.{Tok, number, name, dollar, quoted, word, sign}
+use Rattle.wcps_text.specs.Tree as tree
+use Rattle.wcps_text.specs.Tree.{Tree, Parts, no_parts, part, Subs, no_subs, sub, PlaceTree, trim, at, IntervalTree, bounds, domain, Iters, no_iters, iter, Condition, always, only, BindingTree, ItemTree, encode, plain, QueryTree}
+use Rattle.wcps_text.specs.Lexing.{keyword_text, IsWritten, is_name, Reads, plain as plain_form}
+use Rattle.wcps_text.specs.Grammar.{Prefixes, negate, plus, not, binary_token, condense_token, reduce_word, truth_word, rank_of, max_rank, Openness, closed, open_ended, SpellsInt, unsigned, positive, negative, SpellsItem, int_item, truth_item, SpellsItems, last_item, more_items, SpellsVariable, plain_name, dollar_name, Spells, post, coverage, condense, unary, tighter, binary, SpellsInParens, parens, SpellsPost, literal, truth, variable, grouped, abs, bit, reduce, parts, value_list, field, brackets, SpellsPart, named, SpellsParts, last_part, more_parts, SpellsSub, of_axis, SpellsSubs, last_sub, more_subs, SpellsPlace, trimmed, position, SpellsInterval, between, domain_of, SpellsIter, iterator, SpellsIters, last_iter, more_iters, SpellsCondition, unconditional, conditional, SpellsNames, last_name, more_names, SpellsBinding, stands_for, SpellsBindings, last_binding, more_bindings, IsFormat, csv_word, SpellsReturn, encoded, unencoded, SpellsEnd, for_all, for_some, IsSpelled, query}
+use Rattle.wcps_print.specs.Printing.{name_token, int_tokens, unary_token, items_tokens, head_tokens, expr_tokens, parts_tokens, subs_tokens, place_tokens, interval_tokens, iters_tokens, condition_tokens, names_tokens, bindings_tokens, item_tokens, query_tokens}
+use Rattle.wcps_print.proofs.Written.{Proper, Written, Each, name_as_name, dollar_as_dollar}
+
+-- what an expression is printed as spells it, before any rest
+pub record Again (e : Tree) : Type 0 where
+  pub openness : Openness
+  pub spelled : (rest : List Tok) → Spells openness max_rank (expr_tokens e rest) e rest
+  pub written : (rest : List Tok) → Each Written rest → Each Written (expr_tokens e rest)
+
+up1 : {o : Openness} {ts rest : List Tok} {e : Tree} → Spells o 0 ts e rest → Spells o 1 ts e rest
+up1 s = tighter {r = 0} s
+
+up2 : {o : Openness} {ts rest : List Tok} {e : Tree} → Spells o 0 ts e rest → Spells o 2 ts e rest
+up2 s = tighter {r = 1} (up1 s)
+
+up3 : {o : Openness} {ts rest : List Tok} {e : Tree} → Spells o 0 ts e rest → Spells o 3 ts e rest
+up3 s = tighter {r = 2} (up2 s)
+
+up4 : {o : Openness} {ts rest : List Tok} {e : Tree} → Spells o 0 ts e rest → Spells o 4 ts e rest
+up4 s = tighter {r = 3} (up3 s)
+
+up5 : {o : Openness} {ts rest : List Tok} {e : Tree} → Spells o 0 ts e rest → Spells o max_rank ts e rest
+up5 s = tighter {r = 4} (up4 s)
+
+-- an operator between two operands in parentheses
+at_rank_1 : {ts mid rest : List Tok} {a b : Tree} (op : BinaryOp) → rank_of op ≡ 1 → Spells closed 0 ts a (binary_token op ∷ mid) → Spells closed 0 mid b rest → Spells closed max_rank ts (tree.binary op a b) rest
+at_rank_1 op same sa sb = tighter {r = 4} (tighter {r = 3} (tighter {r = 2} (tighter {r = 1} (binary {r = 0} op same (up1 sa) sb))))
+
+at_rank_2 : {ts mid rest : List Tok} {a b : Tree} (op : BinaryOp) → rank_of op ≡ 2 → Spells closed 0 ts a (binary_token op ∷ mid) → Spells closed 0 mid b rest → Spells closed max_rank ts (tree.binary op a b) rest
+at_rank_2 op same sa sb = tighter {r = 4} (tighter {r = 3} (tighter {r = 2} (binary {r = 1} op same (up2 sa) (up1 sb))))
+
+at_rank_3 : {ts mid rest : List Tok} {a b : Tree} (op : BinaryOp) → rank_of op ≡ 3 → Spells closed 0 ts a (binary_token op ∷ mid) → Spells closed 0 mid b rest → Spells closed max_rank ts (tree.binary op a b) rest
+at_rank_3 op same sa sb = tighter {r = 4} (tighter {r = 3} (binary {r = 2} op same (up3 sa) (up2 sb)))
+
+at_rank_4 : {ts mid rest : List Tok} {a b : Tree} (op : BinaryOp) → rank_of op ≡ 4 → Spells closed 0 ts a (binary_token op ∷ mid) → Spells closed 0 mid b rest → Spells closed max_rank ts (tree.binary op a b) rest
+at_rank_4 op same sa sb = tighter {r = 4} (binary {r = 3} op same (up4 sa) (up3 sb))
+
+at_rank_5 : {ts mid rest : List Tok} {a b : Tree} (op : BinaryOp) → rank_of op ≡ 5 → Spells closed 0 ts a (binary_token op ∷ mid) → Spells closed 0 mid b rest → Spells closed max_rank ts (tree.binary op a b) rest
+at_rank_5 op same sa sb = binary {r = 4} op same (up5 sa) (up4 sb)
+
+between_operands : {ts mid rest : List Tok} {a b : Tree} (op : BinaryOp) → Spells closed 0 ts a (binary_token op ∷ mid) → Spells closed 0 mid b rest → Spells closed max_rank ts (tree.binary op a b) rest
+between_operands binaries.Multiply sa sb = at_rank_1 binaries.Multiply refl sa sb
+between_operands binaries.Divide sa sb = at_rank_1 binaries.Divide refl sa sb
+between_operands binaries.Add sa sb = at_rank_2 binaries.Add refl sa sb
+between_operands binaries.Subtract sa sb = at_rank_2 binaries.Subtract refl sa sb
+between_operands binaries.Less sa sb = at_rank_3 binaries.Less refl sa sb
+between_operands binaries.LessEqual sa sb = at_rank_3 binaries.LessEqual refl sa sb
+between_operands binaries.Greater sa sb = at_rank_3 binaries.Greater refl sa sb
+between_operands binaries.GreaterEqual sa sb = at_rank_3 binaries.GreaterEqual refl sa sb
+between_operands binaries.Equal sa sb = at_rank_3 binaries.Equal refl sa sb
+between_operands binaries.NotEqual sa sb = at_rank_3 binaries.NotEqual refl sa sb
+between_operands binaries.And sa sb = at_rank_4 binaries.And refl sa sb
+between_operands binaries.Or sa sb = at_rank_5 binaries.Or refl sa sb
+between_operands binaries.Xor sa sb = at_rank_5 binaries.Xor refl sa sb
+
+written_binary : (op : BinaryOp) → Written (binary_token op)
+written_binary binaries.Multiply = tt
+written_binary binaries.Divide = tt
+written_binary binaries.Add = tt
+written_binary binaries.Subtract = tt
+written_binary binaries.Less = tt
+written_binary binaries.LessEqual = tt
+written_binary binaries.Greater = tt
+written_binary binaries.GreaterEqual = tt
+written_binary binaries.Equal = tt
+written_binary binaries.NotEqual = tt
+written_binary binaries.And = tt
+written_binary binaries.Or = tt
+written_binary binaries.Xor = tt
+
+written_condense : (op : CondenseOp) → Written (condense_token op)
+written_condense condensers.Add = tt
+written_condense condensers.Multiply = tt
+written_condense condensers.Max = tt
+written_condense condensers.Min = tt
+written_condense condensers.And = tt
+written_condense condensers.Or = tt
+
+no_keyword : (k : Keyword) → IsWritten k (codes "c") → ⊥
+no_keyword k same = short k (ap length same)
+  where
+    short : (k : Keyword) → 1 ≡ length (map to_ascii_lowercase (keyword_text k)) → ⊥
+    short words.For e = omega arith
+    short words.In e = omega arith
+    short words.Where e = omega arith
+    short words.Return e = omega arith
+    short words.Encode e = omega arith
+    short words.Csv e = omega arith
+    short words.Coverage e = omega arith
+    short words.Over e = omega arith
+    short words.Values e = omega arith
+    short words.Value e = omega arith
+    short words.List e = omega arith
+    short words.Condense e = omega arith
+    short words.Using e = omega arith
+    short words.And e = omega arith
+    short words.Or e = omega arith
+    short words.Xor e = omega arith
+    short words.Not e = omega arith
+    short words.Abs e = omega arith
+    short words.Bit e = omega arith
+    short words.True e = omega arith
+    short words.False e = omega arith
+    short words.Count e = omega arith
+    short words.Some e = omega arith
+    short words.All e = omega arith
+    short words.Add e = omega arith
+    short words.Avg e = omega arith
+    short words.Min e = omega arith
+    short words.Max e = omega arith
+    short words.ImageCrsDomain e = omega arith
+
+any_name : Written (name (codes "c"))
+any_name = plain_form (is_name refl tt) (omega arith) no_keyword
+
+-- a name without `$` is printed as one
+pub record AgainName (x : List ℕ) : Type 0 where
+  pub same : name_token x ≡ name x
+  pub written : Written (name_token x)
+
+name_again : (x : List ℕ) → Proper (name x) → AgainName x
+name_again x p = record { same = name_as_name x p; written = rw (name_as_name x p) p }
+
+pub record AgainVariable (x : List ℕ) : Type 0 where
+  pub spelled : (rest : List Tok) → SpellsVariable (name_token x ∷ rest) x rest
+  pub written : Written (name_token x)
+
+again_variable : {ts rest : List Tok} {x : List ℕ} → SpellsVariable ts x rest → Each Proper ts → AgainVariable x × Each Proper rest
+again_variable (plain_name {x}) p = (record { spelled = λ rest. rw (name_as_name x p.0) plain_name; written = rw (name_as_name x p.0) p.0 }, p.1)
+again_variable (dollar_name {x}) p = (record { spelled = λ rest. rw (dollar_as_dollar x p.0) dollar_name; written = rw (dollar_as_dollar x p.0) p.0 }, p.1)
+
+pub record AgainInt (z : ℤ) : Type 0 where
+  pub spelled : (rest : List Tok) → SpellsInt (int_tokens z rest) z rest
+  pub written : (rest : List Tok) → Each Written rest → Each Written (int_tokens z rest)
+
+below_zero : (n : ℕ) → pos 0 -ℤ pos (suc n) ≡ negsuc n
+below_zero n = chosen (ltb 0 (suc n)) (suc n - 1) n (0 - suc n) (grind (arith, nat_tests)) (omega arith)
+  where
+    chosen : (b : Bool) (m n k : ℕ) → b ≡ true → m ≡ n → cond b (negsuc m) (pos k) ≡ negsuc n
+    chosen true m n k e same = ap negsuc same
+    chosen false m n k e same = absurd cc
+
+int_negative : (n : ℕ) → n < 2 ^ 63 → AgainInt (pos 0 -ℤ pos n)
+int_negative zero small = record { spelled = λ rest. unsigned; written = λ rest w. (small, w) }
+int_negative (suc n) small =
+    subst AgainInt (sym (below_zero n)) (record {
+      spelled = λ rest. subst (λ (z : ℤ). SpellsInt (sign signs.Minus ∷ number (suc n) ∷ rest) z rest) (below_zero n) negative;
+      written = λ rest w. (tt, (small, w));
+    })
+
+again_int : {ts rest : List Tok} {z : ℤ} → SpellsInt ts z rest → Each Proper ts → AgainInt z × Each Proper rest
+again_int unsigned p = (record { spelled = λ rest. unsigned; written = λ rest w. (p.0, w) }, p.1)
+again_int positive p = (record { spelled = λ rest. unsigned; written = λ rest w. (p.1.0, w) }, p.1.1)
+again_int (negative {n}) p = (int_negative n p.1.0, p.1.1)
+
+-- what one value of a value list is printed as
+abbrev value_tokens : ListItem → List Tok → List Tok
+value_tokens (list_items.Int z) rest = int_tokens z rest
+value_tokens (list_items.Truth b) rest = word (truth_word b) ∷ rest
+
+pub record AgainItem (x : ListItem) : Type 0 where
+  pub spelled : (rest : List Tok) → SpellsItem (value_tokens x rest) x rest
+  pub written : (rest : List Tok) → Each Written rest → Each Written (value_tokens x rest)
+
+again_item : {ts rest : List Tok} {x : ListItem} → SpellsItem ts x rest → Each Proper ts → AgainItem x × Each Proper rest
+again_item (int_item s) p = let z = again_int s p in (record { spelled = λ rest. int_item (z.0.spelled rest); written = z.0.written }, z.1)
+again_item truth_item p = (record { spelled = λ rest. truth_item; written = λ rest w. (tt, w) }, p.1)
+
+pub record AgainItems (xs : List ListItem) : Type 0 where
+  pub spelled : (rest : List Tok) → SpellsItems (items_tokens true xs rest) xs rest
+  pub separated : (rest : List Tok) → items_tokens false xs rest ≡ sign signs.Semicolon ∷ items_tokens true xs rest
+  pub written : (rest : List Tok) → Each Written rest → Each Written (items_tokens true xs rest)
+
+items_first : (x : ListItem) (xs : List ListItem) (rest : List Tok) → items_tokens true (x ∷ xs) rest ≡ value_tokens x (items_tokens false xs rest)
+unfolding items_tokens
+items_first (list_items.Int z) xs rest = refl
+items_first (list_items.Truth b) xs rest = refl
+
+items_separated : (x : ListItem) (xs : List ListItem) (rest : List Tok) → items_tokens false (x ∷ xs) rest ≡ sign signs.Semicolon ∷ items_tokens true (x ∷ xs) rest
+unfolding items_tokens
+items_separated (list_items.Int z) xs rest = refl
+items_separated (list_items.Truth b) xs rest = refl
+
+items_none : (rest : List Tok) → items_tokens false [] rest ≡ rest
+unfolding items_tokens
+items_none rest = refl
+
+again_items : {ts rest : List Tok} {xs : List ListItem} → SpellsItems ts xs rest → Each Proper ts → AgainItems xs × Each Proper rest
+again_items (last_item {x} s) p =
+    let v = again_item s p in (
+      record {
+        spelled = λ rest. rw (items_first x [] rest, items_none rest) (last_item (v.0.spelled rest));
+        separated = λ rest. items_separated x [] rest;
+        written = λ rest w. rw (items_first x [] rest, items_none rest) (v.0.written rest w);
+      },
+      v.1,
+    )
+again_items (more_items {x} {xs} s more) p =
+    let v = again_item s p in
+    let vs = again_items more v.1.1 in (
+      record {
+        spelled = λ rest. rw (items_first x xs rest, vs.0.separated rest) (more_items (v.0.spelled (sign signs.Semicolon ∷ items_tokens true xs rest)) (vs.0.spelled rest));
+        separated = λ rest. items_separated x xs rest;
+        written = λ rest w. rw (items_first x xs rest, vs.0.separated rest) (v.0.written (sign signs.Semicolon ∷ items_tokens true xs rest) (tt, vs.0.written rest w));
+      },
+      vs.1,
+    )
+
+pub record AgainParts (ps : Parts) : Type 0 where
+  pub spelled : (rest : List Tok) → SpellsParts (parts_tokens true ps rest) ps rest
+  pub separated : (rest : List Tok) → parts_tokens false ps rest ≡ sign signs.Semicolon ∷ parts_tokens true ps rest
+  pub written : (rest : List Tok) → Each Written rest → Each Written (parts_tokens true ps rest)
+
+pub record AgainSubs (ss : Subs) : Type 0 where
+  pub spelled : (rest : List Tok) → SpellsSubs (subs_tokens true ss rest) ss rest
+  pub separated : (rest : List Tok) → subs_tokens false ss rest ≡ sign signs.Comma ∷ subs_tokens true ss rest
+  pub written : (rest : List Tok) → Each Written rest → Each Written (subs_tokens true ss rest)
+
+pub record AgainPlace (p : PlaceTree) : Type 0 where
+  pub spelled : (rest : List Tok) → SpellsPlace (place_tokens p rest) p rest
+  pub written : (rest : List Tok) → Each Written rest → Each Written (place_tokens p rest)
+
+pub record AgainInterval (i : IntervalTree) : Type 0 where
+  pub spelled : (rest : List Tok) → SpellsInterval (interval_tokens i rest) i rest
+  pub written : (rest : List Tok) → Each Written rest → Each Written (interval_tokens i rest)
+
+pub record AgainIters (is : Iters) : Type 0 where
+  pub spelled : (rest : List Tok) → SpellsIters (iters_tokens true is rest) is rest
+  pub separated : (rest : List Tok) → iters_tokens false is rest ≡ sign signs.Comma ∷ iters_tokens true is rest
+  pub written : (rest : List Tok) → Each Written rest → Each Written (iters_tokens true is rest)
+
+-- iterators and the condition behind them
+pub record AgainCondition (is : Iters) (c : Condition) : Type 0 where
+  pub spelled : (rest : List Tok) → SpellsCondition (iters_tokens true is (condition_tokens c rest)) is c rest
+  pub written : (rest : List Tok) → Each Written rest → Each Written (iters_tokens true is (condition_tokens c rest))
+
+-- an expression in parentheses
+in_parens : {e : Tree} → Again e → (rest : List Tok) → SpellsInParens (sign signs.LeftParen ∷ expr_tokens e (sign signs.RightParen ∷ rest)) e rest
+in_parens a rest = parens (a.spelled (sign signs.RightParen ∷ rest))
+
+operand : {e : Tree} → Again e → (rest : List Tok) → Spells closed 0 (sign signs.LeftParen ∷ expr_tokens e (sign signs.RightParen ∷ rest)) e rest
+operand a rest = post (grouped (in_parens a rest))
+
+written_operand : {e : Tree} → Again e → (rest : List Tok) → Each Written rest → Each Written (sign signs.LeftParen ∷ expr_tokens e (sign signs.RightParen ∷ rest))
+written_operand a rest w = (tt, a.written (sign signs.RightParen ∷ rest) (tt, w))
+
+unary_again : {e : Tree} (op : UnaryOp) → Prefixes op (unary_token op) → Written (unary_token op) → Again e → Again (tree.unary op e)
+unfolding expr_tokens
+unary_again op prefix token a = record {
+  openness = closed;
+  spelled = λ rest. up5 (unary prefix (operand a rest));
+  written = λ rest w. (token, written_operand a rest w);
+}
+
+binary_again : {a b : Tree} (op : BinaryOp) → Again a → Again b → Again (tree.binary op a b)
+unfolding expr_tokens
+binary_again {a} {b} op x y = record {
+  openness = closed;
+  spelled = λ rest. between_operands op (operand x (binary_token op ∷ sign signs.LeftParen ∷ expr_tokens b (sign signs.RightParen ∷ rest))) (operand y rest);
+  written = λ rest w. written_operand x _ (written_binary op, written_operand y rest w);
+}
+
+mutual
+  unfolding expr_tokens
+
+  pub again : {o : Openness} {r : ℕ} {ts rest : List Tok} {e : Tree} → Spells o r ts e rest → Each Proper ts → Again e × Each Proper rest
+  again (post s) p = again_post s p
+  again (coverage si s) p =
+      let i = again_iters si p.1.1.1 in
+      let b = again s i.1.1 in (
+        record {
+          openness = open_ended;
+          spelled = λ rest. up5 (coverage (i.0.spelled _) (up5 (operand b.0 rest)));
+          written = λ rest w. (tt, (any_name, (tt, i.0.written _ (tt, written_operand b.0 rest w))));
+        },
+        b.1,
+      )
+  again (condense op sc s) p =
+      let c = again_condition sc p.1.1.1 in
+      let b = again s c.1.1 in (
+        record {
+          openness = open_ended;
+          spelled = λ rest. up5 (condense op (c.0.spelled _) (up5 (operand b.0 rest)));
+          written = λ rest w. (tt, (written_condense op, (tt, c.0.written _ (tt, written_operand b.0 rest w))));
+        },
+        b.1,
+      )
+  again (unary negate s) p = let a = again s p.1 in (unary_again unaries.Negate negate tt a.0, a.1)
+  again (unary plus s) p = let a = again s p.1 in (unary_again unaries.Plus plus tt a.0, a.1)
+  again (unary not s) p = let a = again s p.1 in (unary_again unaries.Not not tt a.0, a.1)
+  again (tighter s) p = again s p
+  again (binary op same sa sb) p =
+      let a = again sa p in
+      let b = again sb a.1.1 in
+      (binary_again op a.0 b.0, b.1)
+
+  again_parens : {ts rest : List Tok} {e : Tree} → SpellsInParens ts e rest → Each Proper ts → Again e × Each Proper rest
+  again_parens (parens s) p = let a = again s p.1 in (a.0, a.1.1)
+
+  again_post : {ts rest : List Tok} {e : Tree} → SpellsPost ts e rest → Each Proper ts → Again e × Each Proper rest
+  again_post literal p = (record { openness = closed; spelled = λ rest. up5 (post literal); written = λ rest w. (p.0, w) }, p.1)
+  again_post truth p = (record { openness = closed; spelled = λ rest. up5 (post truth); written = λ rest w. (tt, w) }, p.1)
+  again_post (variable sv) p =
+      let v = again_variable sv p in
+      (record { openness = closed; spelled = λ rest. up5 (post (variable (v.0.spelled rest))); written = λ rest w. (v.0.written, w) }, v.1)
+  again_post (grouped s) p = again_parens s p
+  again_post (abs s) p =
+      let a = again_parens s p.1 in
+      (record { openness = closed; spelled = λ rest. up5 (post (abs (in_parens a.0 rest))); written = λ rest w. (tt, written_operand a.0 rest w) }, a.1)
+  again_post (bit sa sb) p =
+      let a = again sa p.1.1 in
+      let b = again sb a.1.1 in (
+        record {
+          openness = closed;
+          spelled = λ rest. up5 (post (bit (a.0.spelled _) (b.0.spelled _)));
+          written = λ rest w. (tt, (tt, a.0.written _ (tt, b.0.written _ (tt, w))));
+        },
+        b.1.1,
+      )
+  again_post (reduce op s) p =
+      let a = again_parens s p.1 in
+      (record { openness = closed; spelled = λ rest. up5 (post (reduce op (in_parens a.0 rest))); written = λ rest w. (tt, written_operand a.0 rest w) }, a.1)
+  again_post (parts s) p =
+      let a = again_parts s p.1 in
+      (record { openness = closed; spelled = λ rest. up5 (post (parts (a.0.spelled _))); written = λ rest w. (tt, a.0.written _ (tt, w)) }, a.1.1)
+  again_post (value_list si sx) p =
+      let i = again_iters si p.1.1.1 in
+      let x = again_items sx i.1.1.1.1 in (
+        record {
+          openness = closed;
+          spelled = λ rest. up5 (post (value_list (i.0.spelled _) (x.0.spelled _)));
+          written = λ rest w. (tt, (any_name, (tt, i.0.written _ (tt, (tt, (tt, x.0.written _ (tt, w)))))));
+        },
+        x.1.1,
+      )
+  again_post (field {x} s) p =
+      let a = again_post s p in
+      let n = name_again x a.1.1.0 in (
+        record {
+          openness = closed;
+          spelled = λ rest. rw n.same (up5 (post (field (grouped (in_parens a.0 (sign signs.Dot ∷ name x ∷ rest))))));
+          written = λ rest w. written_operand a.0 _ (tt, (n.written, w));
+        },
+        a.1.1.1,
+      )
+  again_post (brackets s ss) p =
+      let a = again_post s p in
+      let b = again_subs ss a.1.1 in (
+        record {
+          openness = closed;
+          spelled = λ rest. up5 (post (brackets (grouped (in_parens a.0 _)) (b.0.spelled _)));
+          written = λ rest w. written_operand a.0 _ (tt, b.0.written _ (tt, w));
+        },
+        b.1.1,
+      )
+
+  again_parts : {ts rest : List Tok} {ps : Parts} → SpellsParts ts ps rest → Each Proper ts → AgainParts ps × Each Proper rest
+  again_parts (last_part (named {x} s)) p =
+      let n = name_again x p.0 in
+      let a = again s p.1.1 in (
+        record {
+          spelled = λ rest. rw n.same (last_part (named (a.0.spelled rest)));
+          separated = λ rest. refl;
+          written = λ rest w. (n.written, (tt, a.0.written rest w));
+        },
+        a.1,
+      )
+  again_parts (more_parts {ps} (named {x} s) more) p =
+      let n = name_again x p.0 in
+      let a = again s p.1.1 in
+      let b = again_parts more a.1.1 in (
+        record {
+          spelled = λ rest. rw (n.same, b.0.separated rest) (more_parts (named (a.0.spelled _)) (b.0.spelled rest));
+          separated = λ rest. refl;
+          written = λ rest w. (n.written, (tt, a.0.written _ (rw (b.0.separated rest) (tt, b.0.written rest w))));
+        },
+        b.1,
+      )
+
+  again_subs : {ts rest : List Tok} {ss : Subs} → SpellsSubs ts ss rest → Each Proper ts → AgainSubs ss × Each Proper rest
+  again_subs (last_sub (of_axis {a} s)) p =
+      let n = name_again a p.0 in
+      let q = again_place s p.1.1 in (
+        record {
+          spelled = λ rest. rw n.same (last_sub (of_axis (q.0.spelled _)));
+          separated = λ rest. refl;
+          written = λ rest w. (n.written, (tt, q.0.written _ (tt, w)));
+        },
+        q.1.1,
+      )
+  again_subs (more_subs {ss} (of_axis {a} s) more) p =
+      let n = name_again a p.0 in
+      let q = again_place s p.1.1 in
+      let b = again_subs more q.1.1.1 in (
+        record {
+          spelled = λ rest. rw (n.same, b.0.separated rest) (more_subs (of_axis (q.0.spelled _)) (b.0.spelled rest));
+          separated = λ rest. refl;
+          written = λ rest w. (n.written, (tt, q.0.written _ (tt, rw (b.0.separated rest) (tt, b.0.written rest w))));
+        },
+        b.1,
+      )
+
+  again_place : {ts rest : List Tok} {q : PlaceTree} → SpellsPlace ts q rest → Each Proper ts → AgainPlace q × Each Proper rest
+  again_place (trimmed s) p = let i = again_interval s p in (record { spelled = λ rest. trimmed (i.0.spelled rest); written = i.0.written }, i.1)
+  again_place (position s) p = let a = again s p in (record { spelled = λ rest. position (a.0.spelled rest); written = a.0.written }, a.1)
+
+  again_interval : {ts rest : List Tok} {i : IntervalTree} → SpellsInterval ts i rest → Each Proper ts → AgainInterval i × Each Proper rest
+  again_interval (between sl sh) p =
+      let l = again_int sl p in
+      let h = again_int sh l.1.1 in
+      (record { spelled = λ rest. between (l.0.spelled _) (h.0.spelled rest); written = λ rest w. l.0.written _ (tt, h.0.written rest w) }, h.1)
+  again_interval (domain_of {a = x} s) p =
+      let a = again s p.1.1 in
+      let n = name_again x a.1.1.0 in (
+        record {
+          spelled = λ rest. rw n.same (domain_of (a.0.spelled _));
+          written = λ rest w. (tt, (tt, a.0.written _ (tt, (n.written, (tt, w)))));
+        },
+        a.1.1.1.1,
+      )
+
+  again_iters : {ts rest : List Tok} {is : Iters} → SpellsIters ts is rest → Each Proper ts → AgainIters is × Each Proper rest
+  again_iters (last_iter (iterator {a = x} sv si)) p =
+      let v = again_variable sv p in
+      let n = name_again x v.1.0 in
+      let i = again_interval si v.1.1.1 in (
+        record {
+          spelled = λ rest. rw n.same (last_iter (iterator (v.0.spelled _) (i.0.spelled _)));
+          separated = λ rest. refl;
+          written = λ rest w. (v.0.written, (n.written, (tt, i.0.written _ (tt, w))));
+        },
+        i.1.1,
+      )
+  again_iters (more_iters {is} (iterator {a = x} sv si) more) p =
+      let v = again_variable sv p in
+      let n = name_again x v.1.0 in
+      let i = again_interval si v.1.1.1 in
+      let b = again_iters more i.1.1.1 in (
+        record {
+          spelled = λ rest. rw (n.same, b.0.separated rest) (more_iters (iterator (v.0.spelled _) (i.0.spelled _)) (b.0.spelled rest));
+          separated = λ rest. refl;
+          written = λ rest w. (v.0.written, (n.written, (tt, i.0.written _ (tt, rw (b.0.separated rest) (tt, b.0.written rest w)))));
+        },
+        b.1,
+      )
+
+  again_condition : {ts rest : List Tok} {is : Iters} {c : Condition} → SpellsCondition ts is c rest → Each Proper ts → AgainCondition is c × Each Proper rest
+  again_condition (unconditional s) p = let i = again_iters s p in (record { spelled = λ rest. unconditional (i.0.spelled rest); written = λ rest w. i.0.written rest w }, i.1)
+  again_condition (conditional si s) p =
+      let i = again_iters si p in
+      let c = again s i.1.1 in (
+        record {
+          spelled = λ rest. conditional (i.0.spelled _) (up5 (operand c.0 rest));
+          written = λ rest w. i.0.written _ (tt, written_operand c.0 rest w);
+        },
+        c.1,
+      )
+
+-- whole queries
+pub record AgainNames (xs : List (List ℕ)) : Type 0 where
+  pub spelled : (rest : List Tok) → SpellsNames (names_tokens true xs rest) xs rest
+  pub separated : (rest : List Tok) → names_tokens false xs rest ≡ sign signs.Comma ∷ names_tokens true xs rest
+  pub written : (rest : List Tok) → Each Written rest → Each Written (names_tokens true xs rest)
+
+again_names : {ts rest : List Tok} {xs : List (List ℕ)} → SpellsNames ts xs rest → Each Proper ts → AgainNames xs × Each Proper rest
+unfolding names_tokens
+again_names (last_name {x}) p =
+    let n = name_again x p.0 in
+    (record { spelled = λ rest. rw n.same last_name; separated = λ rest. refl; written = λ rest w. (n.written, w) }, p.1)
+again_names (more_names {x} {xs} more) p =
+    let n = name_again x p.0 in
+    let b = again_names more p.1.1 in (
+      record {
+        spelled = λ rest. rw (n.same, b.0.separated rest) (more_names (b.0.spelled rest));
+        separated = λ rest. refl;
+        written = λ rest w. (n.written, rw (b.0.separated rest) (tt, b.0.written rest w));
+      },
+      b.1,
+    )
+
+pub record AgainBindings (bs : List BindingTree) : Type 0 where
+  pub spelled : (rest : List Tok) → SpellsBindings (bindings_tokens true bs rest) bs rest
+  pub separated : (rest : List Tok) → bindings_tokens false bs rest ≡ sign signs.Comma ∷ bindings_tokens true bs rest
+  pub written : (rest : List Tok) → Each Written rest → Each Written (bindings_tokens true bs rest)
+
+again_bindings : {ts rest : List Tok} {bs : List BindingTree} → SpellsBindings ts bs rest → Each Proper ts → AgainBindings bs × Each Proper rest
+unfolding bindings_tokens
+again_bindings (last_binding (stands_for sv sn)) p =
+    let v = again_variable sv p in
+    let n = again_names sn v.1.1.1 in (
+      record {
+        spelled = λ rest. last_binding (stands_for (v.0.spelled _) (n.0.spelled _));
+        separated = λ rest. refl;
+        written = λ rest w. (v.0.written, (tt, (tt, n.0.written _ (tt, w))));
+      },
+      n.1.1,
+    )
+again_bindings (more_bindings {bs} (stands_for sv sn) more) p =
+    let v = again_variable sv p in
+    let n = again_names sn v.1.1.1 in
+    let b = again_bindings more n.1.1.1 in (
+      record {
+        spelled = λ rest. rw (b.0.separated rest) (more_bindings (stands_for (v.0.spelled _) (n.0.spelled _)) (b.0.spelled rest));
+        separated = λ rest. refl;
+        written = λ rest w. (v.0.written, (tt, (tt, n.0.written _ (tt, rw (b.0.separated rest) (tt, b.0.written rest w)))));
+      },
+      b.1,
+    )
+
+pub record AgainItemOf (i : ItemTree) : Type 0 where
+  pub spelled : SpellsReturn (item_tokens i []) i
+  pub written : Each Written (item_tokens i [])
+
+again_return : {ts : List Tok} {i : ItemTree} → SpellsReturn ts i → Each Proper ts → AgainItemOf i
+unfolding item_tokens
+again_return (encoded s format) p =
+    let a = again s p.1.1 in
+    record { spelled = encoded (a.0.spelled _) csv_word; written = (tt, (tt, a.0.written _ (tt, (tt, (tt, tt))))) }
+again_return (unencoded s) p =
+    let a = again s p in
+    record { spelled = unencoded (a.0.spelled []); written = a.0.written [] tt }
+
+pub record AgainEnd (c : Condition) (i : ItemTree) : Type 0 where
+  pub spelled : SpellsEnd (condition_tokens c (word words.Return ∷ item_tokens i [])) c i
+  pub written : Each Written (condition_tokens c (word words.Return ∷ item_tokens i []))
+
+again_end : {ts : List Tok} {c : Condition} {i : ItemTree} → SpellsEnd ts c i → Each Proper ts → AgainEnd c i
+unfolding condition_tokens
+again_end (for_all s) p = let r = again_return s p.1 in record { spelled = for_all r.spelled; written = (tt, r.written) }
+again_end (for_some s sr) p =
+    let a = again s p.1 in
+    let r = again_return sr a.1.1 in
+    record { spelled = for_some (up5 (operand a.0 _)) r.spelled; written = (tt, written_operand a.0 _ (tt, r.written)) }
+
+pub record AgainQuery (q : QueryTree) : Type 0 where
+  pub spelled : IsSpelled (query_tokens q) q
+  pub written : Each Written (query_tokens q)
+
+pub again_query : {ts : List Tok} {q : QueryTree} → IsSpelled ts q → Each Proper ts → AgainQuery q
+unfolding query_tokens
+again_query (query sb se) p =
+    let b = again_bindings sb p.1 in
+    let e = again_end se b.1 in
+    record { spelled = query (b.0.spelled _) e.spelled; written = (tt, b.0.written _ e.written) }

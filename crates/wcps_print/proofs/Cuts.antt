@@ -1,0 +1,232 @@
+-- The text of tokens, with a space behind each, is cut into just these tokens.
+use Rattle.std.proofs.Common.{◌≡◌, ◌≢◌, ◌==◌, ℕ, zero, suc, ◌+◌, ◌-◌, ◌*◌, ◌/◌, ◌%◌, ◌^◌, ◌<◌, ◌≤◌, Bool, true, false, cond, not, ◌&&◌, ◌||◌, ltb, leb, IsTrue, List, [], ◌∷◌, ◌++◌, length, map, codes, get_or, ◌⊎◌, inl, inr, ⊎_elim, Option, Some, None, Result, Ok, Err, decimal as decimal_text, refl, sym, ap, ◌∙◌, arith, subst, append_assoc}
+use Rattle.std.proofs.lemmas.Bool.Decides.{nat_tests, eqb_tells}
+use Rattle.std.proofs.lemmas.Fmt.{decimal_by_steps}
+use Rattle.std.specs.Char.{is_ascii_digit, to_ascii_lowercase}
+use Rattle.wcps_text.specs.declared.token.Symbol.{Symbol}
+use Rattle.wcps_text.specs.declared.token.Symbol.TheVariants as signs
+use Rattle.wcps_text.specs.declared.token.Keyword.{Keyword}
+use Rattle.wcps_text.specs.declared.token.Keyword.TheVariants as words
+use Rattle.wcps_text.specs.declared.error.LexError.{LexError}
+use Rattle.wcps_text.specs.Token.{Tok, number, name, dollar, quoted, word, sign}
+use Rattle.wcps_text.specs.Lexing.{is_space, begins_name, continues_name, is_quotable, Every, decimal, decimal_from, keyword_text, symbol_text, IsWritten, single, double, IsName, is_name, IsDigits, is_digits, Reads, numeral, large_numeral, plain, reserved, long_plain, marked, long_marked, text_between, one_byte, two_bytes, IsLongest, Piece, Lexed, at_end, past_space, past_token}
+use Rattle.wcps_print.specs.Printing.{bytes_of, text_of}
+use Rattle.wcps_print.specs.Printed.{tokens_of}
+use Rattle.wcps_print.proofs.Written.{Written, Each}
+
+-- the digits of a number
+record IsText (n : ℕ) (ds : List ℕ) : Type 0 where
+  digits : IsDigits ds
+  value : decimal ds ≡ n
+
+every_push : (p : ℕ → Bool) (ds : List ℕ) (d : ℕ) → Every p ds → p d ≡ true → Every p (ds ++ d ∷ [])
+every_push p [] d all h = (h, tt)
+every_push p (x ∷ ds) d all h = (all.0, every_push p ds d all.1 h)
+
+decimal_push : (m : ℕ) (ds : List ℕ) (d : ℕ) → decimal_from m (ds ++ d ∷ []) ≡ decimal_from m ds * 10 + (d - 48)
+decimal_push m [] d = refl
+decimal_push m (x ∷ ds) d = decimal_push (m * 10 + (x - 48)) ds d
+
+digits_push : (ds : List ℕ) (d : ℕ) → IsDigits ds → is_ascii_digit d ≡ true → IsDigits (ds ++ d ∷ [])
+digits_push ds d (is_digits {d = x} {ds = xs} first more) h = is_digits first (every_push is_ascii_digit xs d more h)
+
+digit : (n : ℕ) → n < 10 → is_ascii_digit (48 + n) ≡ true
+digit n lt = grind (arith, nat_tests)
+
+one_digit : (n : ℕ) → n < 10 → IsText n ((48 + n) ∷ [])
+one_digit n lt = record { digits = is_digits (digit n lt) tt; value = omega arith }
+
+more_digits : (n : ℕ) (ds : List ℕ) → 10 ≤ n → IsText (n / 10) ds → IsText n (ds ++ ((48 + n % 10) ∷ []))
+more_digits n ds le t =
+    let small : n % 10 < 10 = omega arith in
+    record {
+      digits = digits_push ds (48 + n % 10) t.digits (digit (n % 10) small);
+      value = decimal_push 0 ds (48 + n % 10) ∙ rw t.value (omega arith);
+    }
+
+number_text : (n : ℕ) → n < 2 ^ 64 → IsText n (decimal_text n)
+number_text n lt = decimal_by_steps IsText one_digit more_digits n lt
+
+word_text : (k : Keyword) → IsName (keyword_text k) × (length (keyword_text k) ≤ 64)
+word_text words.For = (is_name refl (refl, (refl, tt)), omega arith)
+word_text words.In = (is_name refl (refl, tt), omega arith)
+word_text words.Where = (is_name refl (refl, (refl, (refl, (refl, tt)))), omega arith)
+word_text words.Return = (is_name refl (refl, (refl, (refl, (refl, (refl, tt))))), omega arith)
+word_text words.Encode = (is_name refl (refl, (refl, (refl, (refl, (refl, tt))))), omega arith)
+word_text words.Csv = (is_name refl (refl, (refl, tt)), omega arith)
+word_text words.Coverage = (is_name refl (refl, (refl, (refl, (refl, (refl, (refl, (refl, tt))))))), omega arith)
+word_text words.Over = (is_name refl (refl, (refl, (refl, tt))), omega arith)
+word_text words.Values = (is_name refl (refl, (refl, (refl, (refl, (refl, tt))))), omega arith)
+word_text words.Value = (is_name refl (refl, (refl, (refl, (refl, tt)))), omega arith)
+word_text words.List = (is_name refl (refl, (refl, (refl, tt))), omega arith)
+word_text words.Condense = (is_name refl (refl, (refl, (refl, (refl, (refl, (refl, (refl, tt))))))), omega arith)
+word_text words.Using = (is_name refl (refl, (refl, (refl, (refl, tt)))), omega arith)
+word_text words.And = (is_name refl (refl, (refl, tt)), omega arith)
+word_text words.Or = (is_name refl (refl, tt), omega arith)
+word_text words.Xor = (is_name refl (refl, (refl, tt)), omega arith)
+word_text words.Not = (is_name refl (refl, (refl, tt)), omega arith)
+word_text words.Abs = (is_name refl (refl, (refl, tt)), omega arith)
+word_text words.Bit = (is_name refl (refl, (refl, tt)), omega arith)
+word_text words.True = (is_name refl (refl, (refl, (refl, tt))), omega arith)
+word_text words.False = (is_name refl (refl, (refl, (refl, (refl, tt)))), omega arith)
+word_text words.Count = (is_name refl (refl, (refl, (refl, (refl, tt)))), omega arith)
+word_text words.Some = (is_name refl (refl, (refl, (refl, tt))), omega arith)
+word_text words.All = (is_name refl (refl, (refl, tt)), omega arith)
+word_text words.Add = (is_name refl (refl, (refl, tt)), omega arith)
+word_text words.Avg = (is_name refl (refl, (refl, tt)), omega arith)
+word_text words.Min = (is_name refl (refl, (refl, tt)), omega arith)
+word_text words.Max = (is_name refl (refl, (refl, tt)), omega arith)
+word_text words.ImageCrsDomain = (is_name refl (refl, (refl, (refl, (refl, (refl, (refl, (refl, (refl, (refl, (refl, (refl, (refl, (refl, tt))))))))))))), omega arith)
+
+sign_text : (s : Symbol) → Reads (symbol_text s) (Ok (sign s))
+sign_text signs.LeftParen = one_byte refl
+sign_text signs.RightParen = one_byte refl
+sign_text signs.LeftBracket = one_byte refl
+sign_text signs.RightBracket = one_byte refl
+sign_text signs.LeftBrace = one_byte refl
+sign_text signs.RightBrace = one_byte refl
+sign_text signs.Comma = one_byte refl
+sign_text signs.Semicolon = one_byte refl
+sign_text signs.Colon = one_byte refl
+sign_text signs.Dot = one_byte refl
+sign_text signs.Less = one_byte refl
+sign_text signs.LessEqual = two_bytes refl
+sign_text signs.Greater = one_byte refl
+sign_text signs.GreaterEqual = two_bytes refl
+sign_text signs.Equal = one_byte refl
+sign_text signs.NotEqual = two_bytes refl
+sign_text signs.Plus = one_byte refl
+sign_text signs.Minus = one_byte refl
+sign_text signs.Star = one_byte refl
+sign_text signs.Slash = one_byte refl
+
+-- each token reads as itself
+reads_again : (t : Tok) → Written t → Reads (bytes_of t) (Ok t)
+reads_again (number n) small =
+    let t = number_text n (omega arith) in
+    subst (λ (m : ℕ). Reads (decimal_text n) (Ok (number m))) t.value (numeral t.digits (rw t.value small))
+reads_again (name x) h = h
+reads_again (dollar x) h = h
+reads_again (quoted x) h = absurd h
+reads_again (word k) h = let t = word_text k in reserved t.0 t.1 refl
+reads_again (sign s) h = sign_text s
+
+-- no space
+abbrev dense : ℕ → Bool
+dense b = not (b == 32)
+
+digit_dense : (b : ℕ) → is_ascii_digit b ≡ true → dense b ≡ true
+digit_dense b h = grind (arith, nat_tests)
+
+letter_dense : (b : ℕ) → begins_name b ≡ true → dense b ≡ true
+letter_dense b h = grind (arith, nat_tests)
+
+continued_dense : (b : ℕ) → continues_name b ≡ true → dense b ≡ true
+continued_dense b h = grind (arith, nat_tests)
+
+every_dense : (p : ℕ → Bool) (bs : List ℕ) → ((b : ℕ) → p b ≡ true → dense b ≡ true) → Every p bs → Every dense bs
+every_dense p [] f all = tt
+every_dense p (b ∷ bs) f all = (f b all.0, every_dense p bs f all.1)
+
+none_some : {s : Symbol} → None ≡ Some s → ⊥
+none_some e = cc
+
+single_dense : (b : ℕ) (s : Symbol) → single b ≡ Some s → dense b ≡ true
+single_dense b s e =
+    ⊎_elim (λ same. absurd (none_some (subst (λ (c : ℕ). single c ≡ Some s) same.1 e))) (λ other. rw other.0 refl) (eqb_tells b 32)
+
+double_dense : (b : ℕ) (s : Symbol) → double b ≡ Some s → dense b ≡ true
+double_dense b s e =
+    ⊎_elim (λ same. absurd (none_some (subst (λ (c : ℕ). double c ≡ Some s) same.1 e))) (λ other. rw other.0 refl) (eqb_tells b 32)
+
+name_dense : {w : List ℕ} → IsName w → Every dense w
+name_dense (is_name {c} {cs} begin more) = (letter_dense c begin, every_dense continues_name cs continued_dense more)
+
+digits_dense : {w : List ℕ} → IsDigits w → Every dense w
+digits_dense (is_digits {d} {ds} begin more) = (digit_dense d begin, every_dense is_ascii_digit ds digit_dense more)
+
+-- only in strings are there spaces
+unspaced : {v : List ℕ} {q : Result Tok LexError} → Reads v q → get_or v 0 0 ≢ 34 → Every dense v
+unspaced (numeral is small) h = digits_dense is
+unspaced (large_numeral is large) h = digits_dense is
+unspaced (plain is short free) h = name_dense is
+unspaced (reserved is short same) h = name_dense is
+unspaced (long_plain is long) h = name_dense is
+unspaced (marked is short) h = (refl, name_dense is)
+unspaced (long_marked is long) h = (refl, name_dense is)
+unspaced (text_between cs all same) h = absurd (h (ap (λ (w : List ℕ). get_or w 0 0) same))
+unspaced (one_byte {b} {s} alone) h = (single_dense b s alone, tt)
+unspaced (two_bytes {b} {s} both) h = (double_dense b s both, (refl, tt))
+
+-- a token that is no string has a first byte, and that is no quote
+record Begins (w : List ℕ) : Type 0 where
+  some : 0 < length w
+  unquoted : get_or w 0 0 ≢ 34
+
+name_begins : {w : List ℕ} → IsName w → Begins w
+name_begins (is_name {c} {cs} begin more) = record { some = omega arith; unquoted = λ same. absurd (omega (arith, low c begin)) }
+  where
+    low : (c : ℕ) → begins_name c ≡ true → 65 ≤ c
+    low c h = grind (arith, nat_tests)
+
+digits_begin : {w : List ℕ} → IsDigits w → Begins w
+digits_begin (is_digits {d} {ds} begin more) = record { some = omega arith; unquoted = λ same. absurd (omega (arith, low d begin)) }
+  where
+    low : (c : ℕ) → is_ascii_digit c ≡ true → 48 ≤ c
+    low c h = grind (arith, nat_tests)
+
+begins : {w : List ℕ} {t : Tok} → Reads w (Ok t) → Written t → Begins w
+begins (numeral is small) h = digits_begin is
+begins (plain is short free) h = name_begins is
+begins (reserved is short same) h = name_begins is
+begins (marked is short) h = record { some = omega arith; unquoted = λ same. absurd (omega arith) }
+begins (text_between cs all same) h = absurd h
+begins (one_byte {b} {s} alone) h = record { some = omega arith; unquoted = λ same. absurd (none_some (subst (λ (c : ℕ). single c ≡ Some s) same alone)) }
+begins (two_bytes {b} {s} both) h = record { some = omega arith; unquoted = λ same. absurd (none_some (subst (λ (c : ℕ). double c ≡ Some s) same both)) }
+
+cons_ahead : {a b : ℕ} {xs ys : List ℕ} → a ∷ xs ≡ b ∷ ys → a ≡ b
+cons_ahead e = cc
+
+cons_behind : {a b : ℕ} {xs ys : List ℕ} → a ∷ xs ≡ b ∷ ys → xs ≡ ys
+cons_behind e = cc
+
+no_space : (x : ℕ) → 32 ≡ x → dense x ≡ true → ⊥
+no_space x same h = false_true (subst (λ (b : ℕ). dense b ≡ true) (sym same) h)
+  where
+    false_true : false ≡ true → ⊥
+    false_true e = cc
+
+before_space : (w r v us : List ℕ) → Every dense v → w ++ 32 ∷ r ≡ v ++ us → length v ≤ length w
+before_space w r [] us all e = omega arith
+before_space [] r (x ∷ v) us all e = absurd (no_space x (cons_ahead e) all.0)
+before_space (b ∷ w) r (x ∷ v) us all e = omega (arith, before_space w r v us all.1 (cons_behind e))
+
+same_first : (w r v us : List ℕ) → Begins w → w ++ 32 ∷ r ≡ v ++ us → get_or v 0 0 ≢ 34
+same_first [] r v us h e = absurd (omega (arith, h.some))
+same_first (b ∷ w) r [] us h e = λ same. absurd (omega arith)
+same_first (b ∷ w) r (x ∷ v) us h e = λ same. h.unquoted (cons_ahead e ∙ same)
+
+longest_here : (w r : List ℕ) (t : Tok) → Reads w (Ok t) → Written t → IsLongest w (Ok t) (32 ∷ r) (w ++ 32 ∷ r)
+longest_here w r t reads h = record {
+  cut = refl;
+  reads = reads;
+  longest = λ v us q form same. before_space w r v us (unspaced form (same_first w r v us (begins reads h) same)) same;
+}
+
+-- the text of tokens has these tokens
+pub record Cut (at : ℕ) (ts : List Tok) : Type 0 where
+  pub pieces : List Piece
+  pub lexed : Lexed at (text_of ts) pieces
+  pub same : tokens_of pieces ≡ ts
+
+pub cut : (ts : List Tok) (at : ℕ) → Each Written ts → Cut at ts
+unfolding text_of
+cut [] at h = record { pieces = []; lexed = at_end; same = refl }
+cut (t ∷ ts) at h =
+    let w = bytes_of t in
+    let more = cut ts (at + length w + 1) h.1 in
+    record {
+      pieces = record { start = at; bytes = w; is = t } ∷ more.pieces;
+      lexed = past_token (longest_here w (text_of ts) t (reads_again t h.0) h.0) (past_space refl more.lexed);
+      same = ap (λ (us : List Tok). t ∷ us) more.same;
+    }

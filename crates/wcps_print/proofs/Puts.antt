@@ -1,0 +1,42 @@
+-- Text that is written a token at a time.
+use Rattle.std.proofs.Common.{◌≡◌, ◌==◌, ℕ, Bool, true, false, cond, ℤ, pos, negsuc, ◌<ℤ◌, ◌≤ℤ◌, unsigned_abs, List, [], ◌∷◌, ◌++◌, get_or, Result, Ok, Err, refl, sym, ap, ◌∙◌, append_assoc, arith}
+use Rattle.std.specs.Result.{OnOk}
+use Rattle.std.proofs.lemmas.Int.{ints}
+use Rattle.wcps_text.specs.declared.token.Symbol.TheVariants as signs
+use Rattle.wcps_text.specs.Token.{Tok, number, name, dollar, sign}
+use Rattle.wcps_print.specs.Printing.{bytes_of, text_of, name_token, int_tokens, Puts}
+
+pub put_token : (t : Tok) (before after text : List ℕ) → text ≡ bytes_of t → after ≡ (before ++ text) ++ 32 ∷ [] → Puts before (λ rest. t ∷ rest) after
+unfolding text_of
+put_token t before after text same e rest =
+    rw (e, same) (append_assoc (before ++ bytes_of t) (32 ∷ []) (text_of rest) ∙ append_assoc before (bytes_of t) (32 ∷ text_of rest))
+
+-- a name is written with its `$`
+pub bytes_of_name : (x : List ℕ) → x ≡ bytes_of (name_token x)
+unfolding name_token
+bytes_of_name x = chosen (get_or x 0 0 == 36)
+  where
+    chosen : (b : Bool) → x ≡ bytes_of (cond b (dollar x) (name x))
+    chosen true = refl
+    chosen false = refl
+
+-- a negative number
+pub int_below : (z : ℤ) (rest : List Tok) → z <ℤ pos 0 → sign signs.Minus ∷ number (unsigned_abs z) ∷ rest ≡ int_tokens z rest
+int_below (pos n) rest lt = absurd (omega (arith, ints))
+int_below (negsuc n) rest lt = refl
+
+pub int_above : (z : ℤ) (rest : List Tok) → pos 0 ≤ℤ z → number (unsigned_abs z) ∷ rest ≡ int_tokens z rest
+int_above (pos n) rest le = refl
+int_above (negsuc n) rest le = absurd (omega (arith, ints))
+
+-- what follows where a call succeeds
+pub on_ok : {A E P Q : Type 0} (r : Result A E) → (P → Q) → OnOk r P → OnOk r Q
+on_ok (Ok x) f h = f h
+on_ok (Err e) f h = tt
+
+pub same_text : (before : List ℕ) {ts us : List Tok} → ts ≡ us → before ++ text_of ts ≡ before ++ text_of us
+same_text before e = ap (λ (ts : List Tok). before ++ text_of ts) e
+
+-- the last of several calls, behind what the others have written
+pub last_puts : {A E : Type 0} (r : Result A E) (before mid after : List ℕ) (g k : List Tok → List Tok) → OnOk r (Puts mid g after) → ((rest : List Tok) → mid ++ text_of (g rest) ≡ before ++ text_of (k rest)) → OnOk r (Puts before k after)
+last_puts r before mid after g k h same = on_ok r (λ (last : Puts mid g after) rest. last rest ∙ same rest) h

@@ -1,0 +1,260 @@
+-- What expressions show, and the tokens of each form.
+use Rattle.std.proofs.Common.{◌≡◌, ℕ, zero, suc, ◌+◌, ◌<◌, ◌≤◌, ℤ, Bool, true, false, List, [], ◌∷◌, length, get_or, drop, Vec, Box, Option, Some, None, Global, refl, sym, ap, ◌∙◌}
+use Rattle.std.proofs.lemmas.List.{drop_more, drop_all}
+use Rattle.wcps_text.specs.declared.token.Literal.{Literal}
+use Rattle.wcps_text.specs.declared.token.Symbol.TheVariants as signs
+use Rattle.wcps_text.specs.declared.token.Keyword.TheVariants as words
+use Rattle.wcps_text.specs.declared.tree.UnaryOp.{UnaryOp}
+use Rattle.wcps_text.specs.declared.tree.BinaryOp.{BinaryOp}
+use Rattle.wcps_text.specs.declared.tree.ReduceOp.{ReduceOp}
+use Rattle.wcps_text.specs.declared.tree.CondenseOp.{CondenseOp}
+use Rattle.wcps_text.specs.declared.tree.ListItem.{ListItem}
+use Rattle.wcps_text.specs.declared.tree.ListItem.TheVariants as list_items
+use Rattle.wcps_text.specs.declared.tree.Interval.{Interval}
+use Rattle.wcps_text.specs.declared.tree.Interval.TheVariants.{Bounds, Domain}
+use Rattle.wcps_text.specs.declared.tree.Place.{Place}
+use Rattle.wcps_text.specs.declared.tree.Place.TheVariants.{Trim, At}
+use Rattle.wcps_text.specs.declared.tree.Item.{Item}
+use Rattle.wcps_text.specs.declared.tree.Item.TheVariants as items
+use Rattle.wcps_text.specs.declared.tree.Binding.{Binding}
+use Rattle.wcps_text.specs.declared.tree.Query.{Query}
+use Rattle.wcps_text.specs.declared.tree.Expr as exprs
+use Rattle.wcps_text.specs.declared.tree.Expr.{Expr, Record', ValueList', Brackets', Coverage', Condense', Row_of-Part, end_of-Part, more_of-Part, items-the_row-Part, Row_of-Sub, end_of-Sub, more_of-Sub, items-the_row-Sub, Row_of-Iter, end_of-Iter, more_of-Iter, items-the_row-Iter}
+use Rattle.wcps_text.specs.declared.tree.Part.{Part}
+use Rattle.wcps_text.specs.declared.tree.Sub.{Sub}
+use Rattle.wcps_text.specs.declared.tree.Iter.{Iter}
+use Rattle.wcps_text.specs.Token.{Tok, number, name, word, sign}
+use Rattle.wcps_text.specs.Tree as tree
+use Rattle.wcps_text.specs.Tree.{Tree, unary, binary, bit, reduce, parts, value_list, field, brackets, coverage, condense, Parts, no_parts, part, Subs, no_subs, sub, Iters, no_iters, iter, Condition, always, only, at, domain, view, view_place, view_interval, view_parts, parts_of, view_subs, subs_of, view_iters, iters_of, condition_of, item_view, bindings_of, query_view}
+use Rattle.wcps_text.specs.Grammar.{binary_token, condense_token, reduce_word, truth_word}
+use Rattle.wcps_print.specs.Printing.{name_token, int_tokens, unary_token, separator, items_tokens, head_tokens, expr_tokens, parts_tokens, subs_tokens, place_tokens, interval_tokens, iters_tokens, condition_tokens, names_tokens, bindings_tokens, item_tokens, query_tokens}
+use mathlib.Core.Former.{Count}
+
+parts_are : (n : Count) (row : Row_of-Part n) → view_parts row ≡ parts_of (items-the_row-Part n row)
+parts_are n end_of-Part = refl
+parts_are n (more_of-Part x value rest) = ap (part x (view value)) (parts_are _ rest)
+
+abbrev parts_row : Expr → (n : Count) × Row_of-Part n
+parts_row (Record' shape row) = (_, row)
+parts_row _ = (_, end_of-Part)
+
+view-Record : (v : Vec Part Global) → view (exprs.Record v) ≡ parts (parts_of v.items)
+view-Record v =
+    let row = parts_row (exprs.Record v) in
+    ap parts (parts_are row.0 row.1 ∙ ap parts_of (exprs.items_hidden-the_row-Part-0 v))
+
+subs_are : (n : Count) (row : Row_of-Sub n) → view_subs row ≡ subs_of (items-the_row-Sub n row)
+subs_are n end_of-Sub = refl
+subs_are n (more_of-Sub axis place rest) = ap (sub axis (view_place place)) (subs_are _ rest)
+
+abbrev subs_row : Expr → (n : Count) × Row_of-Sub n
+subs_row (Brackets' p e shape row) = (_, row)
+subs_row _ = (_, end_of-Sub)
+
+view-Brackets : (b : Box Expr Global) (v : Vec Sub Global) → view (exprs.Brackets b v) ≡ brackets (view b.value) (subs_of v.items)
+view-Brackets b v =
+    let row = subs_row (exprs.Brackets b v) in
+    ap (brackets (view b.value)) (subs_are row.0 row.1 ∙ ap subs_of (exprs.items_hidden-the_row-Sub-2 v))
+
+iters_are : (n : Count) (row : Row_of-Iter n) → view_iters row ≡ iters_of (items-the_row-Iter n row)
+iters_are n end_of-Iter = refl
+iters_are n (more_of-Iter v a i rest) = ap (iter v a (view_interval i)) (iters_are _ rest)
+
+abbrev iters_row : Expr → (n : Count) × Row_of-Iter n
+iters_row (ValueList' shape row its) = (_, row)
+iters_row (Coverage' shape row p e) = (_, row)
+iters_row (Condense' op shape row c p e) = (_, row)
+iters_row _ = (_, end_of-Iter)
+
+view-ValueList : (v : Vec Iter Global) (w : Vec ListItem Global) → view (exprs.ValueList v w) ≡ value_list (iters_of v.items) w.items
+view-ValueList v w =
+    let row = iters_row (exprs.ValueList v w) in
+    ap (λ is. value_list is w.items) (iters_are row.0 row.1 ∙ ap iters_of (exprs.items_hidden-the_row-Iter-1 v))
+
+view-Coverage : (v : Vec Iter Global) (b : Box Expr Global) → view (exprs.Coverage v b) ≡ coverage (iters_of v.items) (view b.value)
+view-Coverage v b =
+    let row = iters_row (exprs.Coverage v b) in
+    ap (λ is. coverage is (view b.value)) (iters_are row.0 row.1 ∙ ap iters_of (exprs.items_hidden-the_row-Iter-1 v))
+
+view-Condense : (op : CondenseOp) (v : Vec Iter Global) (o : Option (Box Expr Global)) (b : Box Expr Global) → view (exprs.Condense op v o b) ≡ condense op (iters_of v.items) (condition_of o) (view b.value)
+view-Condense op v None b =
+    let row = iters_row (exprs.Condense op v None b) in
+    ap (λ is. condense op is always (view b.value)) (iters_are row.0 row.1 ∙ ap iters_of (exprs.items_hidden-the_row-Iter-1 v))
+view-Condense op v (Some c) b =
+    let row = iters_row (exprs.Condense op v (Some c) b) in
+    ap (λ is. condense op is (only (view c.value)) (view b.value)) (iters_are row.0 row.1 ∙ ap iters_of (exprs.items_hidden-the_row-Iter-1 v))
+
+pub number_of : (e : Expr) (n : Literal) → e ≡ exprs.Number n → (rest : List Tok) → number n.value ∷ rest ≡ expr_tokens (view e) rest
+unfolding expr_tokens
+number_of e n is rest = rw is refl
+
+pub truth_of : (e : Expr) (b : Bool) → e ≡ exprs.Truth b → (rest : List Tok) → word (truth_word b) ∷ rest ≡ expr_tokens (view e) rest
+unfolding expr_tokens
+truth_of e b is rest = rw is refl
+
+pub variable_of : (e : Expr) (x : List ℕ) → e ≡ exprs.Variable x → (rest : List Tok) → name_token x ∷ rest ≡ expr_tokens (view e) rest
+unfolding expr_tokens
+variable_of e x is rest = rw is refl
+
+pub binary_of : (e x y : Expr) (op : BinaryOp) (a b : Box Expr Global) → e ≡ exprs.Binary op a b → x ≡ a.value → y ≡ b.value → (rest : List Tok) → sign signs.LeftParen ∷ expr_tokens (view x) (sign signs.RightParen ∷ binary_token op ∷ sign signs.LeftParen ∷ expr_tokens (view y) (sign signs.RightParen ∷ rest)) ≡ expr_tokens (view e) rest
+unfolding expr_tokens
+binary_of e x y op a b is left right rest = rw (is, left, right) refl
+
+pub bit_of : (e x y : Expr) (a b : Box Expr Global) → e ≡ exprs.Bit a b → x ≡ a.value → y ≡ b.value → (rest : List Tok) → word words.Bit ∷ sign signs.LeftParen ∷ expr_tokens (view x) (sign signs.Comma ∷ expr_tokens (view y) (sign signs.RightParen ∷ rest)) ≡ expr_tokens (view e) rest
+unfolding expr_tokens
+bit_of e x y a b is left right rest = rw (is, left, right) refl
+
+pub reduce_of : (e x : Expr) (op : ReduceOp) (a : Box Expr Global) → e ≡ exprs.Reduce op a → x ≡ a.value → (rest : List Tok) → word (reduce_word op) ∷ sign signs.LeftParen ∷ expr_tokens (view x) (sign signs.RightParen ∷ rest) ≡ expr_tokens (view e) rest
+unfolding expr_tokens
+reduce_of e x op a is same rest = rw (is, same) refl
+
+pub record_of : (e : Expr) (ps : List Part) (v : Vec Part Global) → e ≡ exprs.Record v → ps ≡ v.items → (rest : List Tok) → expr_tokens (parts (parts_of ps)) rest ≡ expr_tokens (view e) rest
+unfolding expr_tokens
+record_of e ps v is same rest = ap (λ (t : Tree). expr_tokens t rest) (ap (λ (qs : List Part). parts (parts_of qs)) same ∙ sym (view-Record v) ∙ ap view (sym is))
+
+pub value_list_of : (e : Expr) (its : List Iter) (xs : List ListItem) (v : Vec Iter Global) (w : Vec ListItem Global) → e ≡ exprs.ValueList v w → its ≡ v.items → xs ≡ w.items → (rest : List Tok) → expr_tokens (value_list (iters_of its) xs) rest ≡ expr_tokens (view e) rest
+unfolding expr_tokens
+value_list_of e its xs v w is same equal rest = ap (λ (t : Tree). expr_tokens t rest) (ap (λ (is : List Iter). value_list (iters_of is) xs) same ∙ ap (value_list (iters_of v.items)) equal ∙ sym (view-ValueList v w) ∙ ap view (sym is))
+
+pub field_of : (e x : Expr) (a : Box Expr Global) (f : List ℕ) → e ≡ exprs.Field a f → x ≡ a.value → (rest : List Tok) → sign signs.LeftParen ∷ expr_tokens (view x) (sign signs.RightParen ∷ sign signs.Dot ∷ name_token f ∷ rest) ≡ expr_tokens (view e) rest
+unfolding expr_tokens
+field_of e x a f is same rest = rw (is, same) refl
+
+brackets_tree : (e x : Expr) (a : Box Expr Global) (ss : List Sub) (v : Vec Sub Global) → e ≡ exprs.Brackets a v → x ≡ a.value → ss ≡ v.items → brackets (view x) (subs_of ss) ≡ view e
+brackets_tree e x a ss v is same equal = ap (λ (y : Expr). brackets (view y) (subs_of ss)) same ∙ ap (λ (ts : List Sub). brackets (view a.value) (subs_of ts)) equal ∙ sym (view-Brackets a v) ∙ ap view (sym is)
+
+coverage_tree : (e x : Expr) (a : Box Expr Global) (its : List Iter) (v : Vec Iter Global) → e ≡ exprs.Coverage v a → x ≡ a.value → its ≡ v.items → coverage (iters_of its) (view x) ≡ view e
+coverage_tree e x a its v is same equal = ap (λ (y : Expr). coverage (iters_of its) (view y)) same ∙ ap (λ (js : List Iter). coverage (iters_of js) (view a.value)) equal ∙ sym (view-Coverage v a) ∙ ap view (sym is)
+
+condense_tree : (e x : Expr) (op : CondenseOp) (a : Box Expr Global) (o : Option (Box Expr Global)) (its : List Iter) (v : Vec Iter Global) → e ≡ exprs.Condense op v o a → x ≡ a.value → its ≡ v.items → condense op (iters_of its) (condition_of o) (view x) ≡ view e
+condense_tree e x op a o its v is same equal = ap (λ (y : Expr). condense op (iters_of its) (condition_of o) (view y)) same ∙ ap (λ (js : List Iter). condense op (iters_of js) (condition_of o) (view a.value)) equal ∙ sym (view-Condense op v o a) ∙ ap view (sym is)
+
+pub brackets_of : (e x : Expr) (a : Box Expr Global) (ss : List Sub) (v : Vec Sub Global) → e ≡ exprs.Brackets a v → x ≡ a.value → ss ≡ v.items → (rest : List Tok) → sign signs.LeftParen ∷ expr_tokens (view x) (sign signs.RightParen ∷ sign signs.LeftBracket ∷ subs_tokens true (subs_of ss) (sign signs.RightBracket ∷ rest)) ≡ expr_tokens (view e) rest
+unfolding expr_tokens
+brackets_of e x a ss v is same equal rest = ap (λ (t : Tree). expr_tokens t rest) (brackets_tree e x a ss v is same equal)
+
+pub coverage_of : (e x : Expr) (a : Box Expr Global) (its : List Iter) (v : Vec Iter Global) → e ≡ exprs.Coverage v a → x ≡ a.value → its ≡ v.items → (rest : List Tok) → head_tokens (iters_tokens true (iters_of its) (word words.Values ∷ sign signs.LeftParen ∷ expr_tokens (view x) (sign signs.RightParen ∷ rest))) ≡ expr_tokens (view e) rest
+unfolding expr_tokens
+coverage_of e x a its v is same equal rest = ap (λ (t : Tree). expr_tokens t rest) (coverage_tree e x a its v is same equal)
+
+pub condense_of : (e x : Expr) (op : CondenseOp) (a : Box Expr Global) (o : Option (Box Expr Global)) (its : List Iter) (v : Vec Iter Global) → e ≡ exprs.Condense op v o a → x ≡ a.value → its ≡ v.items → (rest : List Tok) → word words.Condense ∷ condense_token op ∷ word words.Over ∷ iters_tokens true (iters_of its) (condition_tokens (condition_of o) (word words.Using ∷ sign signs.LeftParen ∷ expr_tokens (view x) (sign signs.RightParen ∷ rest))) ≡ expr_tokens (view e) rest
+unfolding expr_tokens
+condense_of e x op a o its v is same equal rest = ap (λ (t : Tree). expr_tokens t rest) (condense_tree e x op a o its v is same equal)
+
+pub unary_of : (op : UnaryOp) (e : Tree) → (rest : List Tok) → unary_token op ∷ sign signs.LeftParen ∷ expr_tokens e (sign signs.RightParen ∷ rest) ≡ expr_tokens (unary op e) rest
+unfolding expr_tokens
+unary_of op e rest = refl
+
+pub record_tokens : (ps : Parts) → (rest : List Tok) → sign signs.LeftBrace ∷ parts_tokens true ps (sign signs.RightBrace ∷ rest) ≡ expr_tokens (parts ps) rest
+unfolding expr_tokens
+record_tokens ps rest = refl
+
+pub value_list_tokens : (is : Iters) (xs : List ListItem) → (rest : List Tok) → head_tokens (iters_tokens true is (word words.Value ∷ word words.List ∷ sign signs.Less ∷ items_tokens true xs (sign signs.Greater ∷ rest))) ≡ expr_tokens (value_list is xs) rest
+unfolding expr_tokens
+value_list_tokens is xs rest = refl
+
+pub some_condition : (o : Option (Box Expr Global)) (x : Expr) (a : Box Expr Global) → o ≡ Some a → x ≡ a.value → (rest : List Tok) → word words.Where ∷ sign signs.LeftParen ∷ expr_tokens (view x) (sign signs.RightParen ∷ rest) ≡ condition_tokens (condition_of o) rest
+unfolding expr_tokens
+some_condition o x a is same rest = rw (is, same) refl
+
+pub no_condition : (o : Option (Box Expr Global)) → o ≡ None → (rest : List Tok) → rest ≡ condition_tokens (condition_of o) rest
+unfolding expr_tokens
+no_condition o is rest = rw is refl
+
+pub bounds_of : (i : Interval) (x y lo hi : ℤ) → i ≡ Bounds lo hi → x ≡ lo → y ≡ hi → (rest : List Tok) → int_tokens x (sign signs.Colon ∷ int_tokens y rest) ≡ interval_tokens (view_interval i) rest
+unfolding expr_tokens
+bounds_of i x y lo hi is low high rest = rw (is, low, high) refl
+
+pub domain_of : (i : Interval) (x : Expr) (a : Box Expr Global) (f : List ℕ) → i ≡ Domain a f → x ≡ a.value → (rest : List Tok) → word words.ImageCrsDomain ∷ sign signs.LeftParen ∷ expr_tokens (view x) (sign signs.Comma ∷ name_token f ∷ sign signs.RightParen ∷ rest) ≡ interval_tokens (view_interval i) rest
+unfolding expr_tokens
+domain_of i x a f is same rest = rw (is, same) refl
+
+pub position_of : (p : Place) (x : Expr) (a : Box Expr Global) → p ≡ At a → x ≡ a.value → (rest : List Tok) → expr_tokens (view x) rest ≡ place_tokens (view_place p) rest
+unfolding expr_tokens
+position_of p x a is same rest = rw (is, same) refl
+
+pub trim_of : (p : Place) (i : Interval) → p ≡ Trim i → (rest : List Tok) → interval_tokens (view_interval i) rest ≡ place_tokens (view_place p) rest
+unfolding expr_tokens
+trim_of p i is rest = rw is refl
+
+pub int_item_of : (x : ListItem) (y z : ℤ) → x ≡ list_items.Int z → y ≡ z → (rest : List Tok) → int_tokens y rest ≡ items_tokens true (x ∷ []) rest
+unfolding items_tokens
+int_item_of x y z is same rest = rw (is, same) refl
+
+pub truth_item_of : (x : ListItem) (b : Bool) → x ≡ list_items.Truth b → (rest : List Tok) → word (truth_word b) ∷ rest ≡ items_tokens true (x ∷ []) rest
+unfolding items_tokens
+truth_item_of x b is rest = rw is refl
+
+pub parts_end : (first : Bool) (xs : List Part) (i : ℕ) → length xs ≤ i → (rest : List Tok) → rest ≡ parts_tokens first (parts_of (drop i xs)) rest
+unfolding expr_tokens
+parts_end first xs i le rest = rw (drop_all i xs le) refl
+
+pub parts_step : (first : Bool) (xs : List Part) (i : ℕ) (p : Part) → i < length xs → p ≡ get_or xs i p → (rest : List Tok) → separator first signs.Semicolon (name_token p.name ∷ sign signs.Colon ∷ expr_tokens (view p.value) (parts_tokens false (parts_of (drop (i + 1) xs)) rest)) ≡ parts_tokens first (parts_of (drop i xs)) rest
+unfolding expr_tokens
+parts_step first xs i p lt is rest =
+    let here : drop i xs ≡ p ∷ drop (i + 1) xs = drop_more xs i p lt ∙ ap (λ (y : Part). y ∷ drop (i + 1) xs) (sym is) in
+    rw here refl
+
+pub subs_end : (first : Bool) (xs : List Sub) (i : ℕ) → length xs ≤ i → (rest : List Tok) → rest ≡ subs_tokens first (subs_of (drop i xs)) rest
+unfolding expr_tokens
+subs_end first xs i le rest = rw (drop_all i xs le) refl
+
+pub subs_step : (first : Bool) (xs : List Sub) (i : ℕ) (s : Sub) → i < length xs → s ≡ get_or xs i s → (rest : List Tok) → separator first signs.Comma (name_token s.axis ∷ sign signs.LeftParen ∷ place_tokens (view_place s.place) (sign signs.RightParen ∷ subs_tokens false (subs_of (drop (i + 1) xs)) rest)) ≡ subs_tokens first (subs_of (drop i xs)) rest
+unfolding expr_tokens
+subs_step first xs i s lt is rest =
+    let here : drop i xs ≡ s ∷ drop (i + 1) xs = drop_more xs i s lt ∙ ap (λ (y : Sub). y ∷ drop (i + 1) xs) (sym is) in
+    rw here refl
+
+pub iters_end : (first : Bool) (xs : List Iter) (i : ℕ) → length xs ≤ i → (rest : List Tok) → rest ≡ iters_tokens first (iters_of (drop i xs)) rest
+unfolding expr_tokens
+iters_end first xs i le rest = rw (drop_all i xs le) refl
+
+pub iters_step : (first : Bool) (xs : List Iter) (i : ℕ) (v : Iter) → i < length xs → v ≡ get_or xs i v → (rest : List Tok) → separator first signs.Comma (name_token v.variable ∷ name_token v.axis ∷ sign signs.LeftParen ∷ interval_tokens (view_interval v.interval) (sign signs.RightParen ∷ iters_tokens false (iters_of (drop (i + 1) xs)) rest)) ≡ iters_tokens first (iters_of (drop i xs)) rest
+unfolding expr_tokens
+iters_step first xs i v lt is rest =
+    let here : drop i xs ≡ v ∷ drop (i + 1) xs = drop_more xs i v lt ∙ ap (λ (y : Iter). y ∷ drop (i + 1) xs) (sym is) in
+    rw here refl
+
+pub names_end : (first : Bool) (xs : List (List ℕ)) (i : ℕ) → length xs ≤ i → (rest : List Tok) → rest ≡ names_tokens first (drop i xs) rest
+unfolding names_tokens
+names_end first xs i le rest = rw (drop_all i xs le) refl
+
+pub names_step : (first : Bool) (xs : List (List ℕ)) (i : ℕ) (x : (List ℕ)) → i < length xs → x ≡ get_or xs i x → (rest : List Tok) → separator first signs.Comma (name_token x ∷ names_tokens false (drop (i + 1) xs) rest) ≡ names_tokens first (drop i xs) rest
+unfolding names_tokens
+names_step first xs i x lt is rest =
+    let here : drop i xs ≡ x ∷ drop (i + 1) xs = drop_more xs i x lt ∙ ap (λ (y : (List ℕ)). y ∷ drop (i + 1) xs) (sym is) in
+    rw here refl
+
+pub bindings_end : (first : Bool) (xs : List Binding) (i : ℕ) → length xs ≤ i → (rest : List Tok) → rest ≡ bindings_tokens first (bindings_of (drop i xs)) rest
+unfolding bindings_tokens
+bindings_end first xs i le rest = rw (drop_all i xs le) refl
+
+pub bindings_step : (first : Bool) (xs : List Binding) (i : ℕ) (b : Binding) → i < length xs → b ≡ get_or xs i b → (rest : List Tok) → separator first signs.Comma (name_token b.variable ∷ word words.In ∷ sign signs.LeftParen ∷ names_tokens true b.coverages.items (sign signs.RightParen ∷ bindings_tokens false (bindings_of (drop (i + 1) xs)) rest)) ≡ bindings_tokens first (bindings_of (drop i xs)) rest
+unfolding bindings_tokens
+bindings_step first xs i b lt is rest =
+    let here : drop i xs ≡ b ∷ drop (i + 1) xs = drop_more xs i b lt ∙ ap (λ (y : Binding). y ∷ drop (i + 1) xs) (sym is) in
+    rw here refl
+
+items_cons : (first : Bool) (x : ListItem) (xs : List ListItem) (rest : List Tok) → separator first signs.Semicolon (items_tokens true (x ∷ []) (items_tokens false xs rest)) ≡ items_tokens first (x ∷ xs) rest
+unfolding items_tokens
+items_cons first (list_items.Int z) xs rest = refl
+items_cons first (list_items.Truth b) xs rest = refl
+
+pub items_end : (first : Bool) (xs : List ListItem) (i : ℕ) → length xs ≤ i → (rest : List Tok) → rest ≡ items_tokens first (drop i xs) rest
+unfolding items_tokens
+items_end first xs i le rest = rw (drop_all i xs le) refl
+
+pub items_step : (first : Bool) (xs : List ListItem) (i : ℕ) (d : ListItem) → i < length xs → (rest : List Tok) → separator first signs.Semicolon (items_tokens true (get_or xs i d ∷ []) (items_tokens false (drop (i + 1) xs) rest)) ≡ items_tokens first (drop i xs) rest
+items_step first xs i d lt rest = rw (drop_more xs i d lt) (items_cons first (get_or xs i d) (drop (i + 1) xs) rest)
+
+pub plain_of : (i : Item) (e : Expr) → i ≡ items.Plain e → (rest : List Tok) → expr_tokens (view e) rest ≡ item_tokens (item_view i) rest
+unfolding item_tokens
+plain_of i e is rest = rw is refl
+
+pub encode_of : (i : Item) (e : Expr) → i ≡ items.Encode e → (rest : List Tok) → word words.Encode ∷ sign signs.LeftParen ∷ expr_tokens (view e) (sign signs.Comma ∷ word words.Csv ∷ sign signs.RightParen ∷ rest) ≡ item_tokens (item_view i) rest
+unfolding item_tokens
+encode_of i e is rest = rw is refl
+
+pub query_of : (q : Query) (bs : List Binding) → bs ≡ q.bindings.items → word words.For ∷ bindings_tokens true (bindings_of bs) (condition_tokens (condition_of q.condition) (word words.Return ∷ item_tokens (item_view q.item) [])) ≡ query_tokens (query_view q)
+unfolding query_tokens
+query_of q bs same = rw same refl

@@ -1,0 +1,10 @@
+use Rattle.std.proofs.Common.{◌≡◌}
+use Rattle.wcps_print.proofs.Puts.{last_puts, same_text}
+use Rattle.wcps_print.proofs.Views.{plain_of, encode_of}
+use Rattle.wcps_print.proofs.query.put_item.Goals as goal
+
+pub returns-in-Plain : goal.returns-in-Plain
+returns-in-Plain c = last_puts c.put_expr.result _ _ _ _ _ c.put_expr.ensures (λ rest. same_text _ (plain_of c.args.item.now c.in-Plain.value c.in-Plain.is rest))
+
+pub returns-in-Encode : goal.returns-in-Encode
+returns-in-Encode c = last_puts c.put_encoded.result _ _ _ _ _ c.put_encoded.ensures (λ rest. same_text _ (encode_of c.args.item.now c.in-Encode.value c.in-Encode.is rest))

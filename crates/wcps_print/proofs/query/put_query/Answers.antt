@@ -1,0 +1,14 @@
+use Rattle.std.proofs.Common.{◌≡◌, ◌∙◌, ◌++◌, ◌∷◌, [], List, ℕ, true, ap}
+use Rattle.std.specs.String.{string_bytes}
+use Rattle.wcps_text.specs.declared.tree.Binding.{Binding}
+use Rattle.wcps_text.specs.Token.{Tok}
+use Rattle.wcps_text.specs.Tree.{bindings_of, item_view, condition_of, query_view}
+use Rattle.wcps_print.specs.Printing.{bindings_tokens, condition_tokens, item_tokens, query_tokens, text_of, Puts}
+use Rattle.wcps_print.proofs.Puts.{on_ok, same_text}
+use Rattle.wcps_print.proofs.Views.{query_of}
+use Rattle.wcps_print.proofs.query.put_query.Goals as goal
+
+pub returns : goal.returns
+returns c =
+    on_ok c.put_item.result (λ (last : Puts (string_bytes c.put_word-2.new.out) (item_tokens (item_view c.args.query.now.item)) (string_bytes c.put_item.new.out)).
+    last [] ∙ (c.in_ok-put_word-2.ensures _ ∙ (c.in_ok-put_condition.ensures _ ∙ (c.in_ok-put_bindings.ensures _ ∙ (c.in_ok-put_word.ensures _ ∙ same_text _ (query_of c.args.query.now c.deref.result.now c.deref.ensures.value)))))) c.put_item.ensures

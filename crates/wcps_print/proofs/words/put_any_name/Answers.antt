@@ -1,0 +1,7 @@
+use Rattle.std.proofs.Common.{◌≡◌, ◌∷◌, ◌∙◌, sym, ap, refl, codes, ℕ, List, ℤ}
+use Rattle.wcps_text.specs.Token as tokens
+use Rattle.wcps_print.proofs.Puts.{put_token, on_ok}
+use Rattle.wcps_print.proofs.words.put_any_name.Goals as goal
+
+pub returns : goal.returns
+returns c = on_ok c.put.result (put_token (tokens.name (codes "c")) _ _ _ refl) c.put.ensures
