@@ -2,6 +2,9 @@
 //! at the end.
 #![tactic(auto)]
 
+#[cfg(test)]
+mod tests;
+
 ghost use Rattle.std.specs.Prelude.{◌≡◌, ◌<◌, ◌≤◌, ◌^◌, ℕ, List, [], ◌∷◌, ◌++◌, length, MatchOption, IfSome, OnOk, FitsSigned};
 ghost use Rattle.std.specs.Int.{w32};
 ghost use Rattle.byteorder.specs.Endian.{little_bytes};

@@ -1,0 +1,11 @@
+use Rattle.std.proofs.Common.{◌≡◌}
+use Rattle.raster_store.proofs.bytes.read_bytes.Given as goal
+
+abbrev pub invariant-loop-k : goal.invariant-loop-k
+invariant-loop-k g l = let B = g.B.Blocks in record {
+  content : B.content l.blocks ≡ B.content l.fn.blocks;
+  uses : B.uses l.blocks ≡ B.uses l.fn.blocks;
+  free : B.free_blocks l.blocks ≡ B.free_blocks l.fn.blocks;
+  honest : B.honest l.blocks ≡ B.honest l.fn.blocks;
+  failures : B.failures l.blocks ≡ B.failures l.fn.blocks;
+}

@@ -1,0 +1,98 @@
+//! The refusals of a store.
+
+use block_file::TakeFault;
+use disk_face::DiskFault;
+use run_tile::DecodeError;
+use std::alloc::{AllocError, AllocFailed};
+use thiserror::Error;
+
+/// A refusal that comes from the device or from memory, and not from the arguments.
+#[derive(Clone, Copy, Debug, PartialEq, Eq, Error)]
+pub enum Fault {
+    #[error("out of memory")]
+    NoMemory,
+    #[error("disk fault")]
+    DiskFault,
+    #[error("too few blocks are free")]
+    NoRoom,
+    #[error("damaged")]
+    Damaged,
+}
+
+impl From<AllocError> for Fault {
+    ghost use Rattle.std.specs.Prelude.{◌≡◌};
+    ghost use Rattle.raster_store.specs.declared.fault.Fault.TheVariants.{NoMemory};
+
+    ghost from_gives = { λ _ e. e ≡ NoMemory };
+
+    fn from(_: AllocError) -> Self {
+        Fault::NoMemory
+    }
+}
+
+impl<T: Drop> From<AllocFailed<T>> for Fault {
+    ghost use Rattle.std.specs.Prelude.{◌≡◌};
+    ghost use Rattle.raster_store.specs.declared.fault.Fault.TheVariants.{NoMemory};
+
+    ghost from_gives = { λ _ e. e ≡ NoMemory };
+
+    fn from(_: AllocFailed<T>) -> Self {
+        Fault::NoMemory
+    }
+}
+
+impl From<DiskFault> for Fault {
+    ghost use Rattle.std.specs.Prelude.{◌≡◌};
+    ghost use Rattle.raster_store.specs.declared.fault.Fault.TheVariants.{DiskFault};
+
+    ghost from_gives = { λ _ e. e ≡ DiskFault };
+
+    fn from(_: DiskFault) -> Self {
+        Fault::DiskFault
+    }
+}
+
+impl From<TakeFault> for Fault {
+    ghost use Rattle.std.specs.Prelude.{◌≡◌};
+    ghost use Rattle.raster_store.specs.Faults.{of_take};
+
+    ghost from_gives = { λ f e. e ≡ of_take f };
+
+    fn from(fault: TakeFault) -> Self {
+        match fault {
+            TakeFault::NoMemory => Fault::NoMemory,
+            TakeFault::NoRoom => Fault::NoRoom,
+        }
+    }
+}
+
+impl From<DecodeError> for Fault {
+    ghost use Rattle.std.specs.Prelude.{◌≡◌};
+    ghost use Rattle.raster_store.specs.Faults.{of_decode};
+
+    ghost from_gives = { λ f e. e ≡ of_decode f };
+
+    fn from(fault: DecodeError) -> Self {
+        match fault {
+            DecodeError::NoMemory => Fault::NoMemory,
+            DecodeError::Damaged => Fault::Damaged,
+        }
+    }
+}
+
+/// Why a box was not written.
+#[derive(Clone, Copy, Debug, PartialEq, Eq, Error)]
+pub enum WriteFault {
+    /// The box does not name the coverage's axes in their order, or is not inside.
+    #[error("outside the domain")]
+    OutsideDomain,
+    /// There are more or fewer cells than the box has points.
+    #[error("another number of values")]
+    ValueCount,
+    /// A cell is of another kind than the field, or outside the range of its type.
+    #[error("a value out of range")]
+    ValueRange,
+    /// The device or memory refused.
+    #[error("not written")]
+    Device(Fault),
+}
