@@ -157,6 +157,29 @@ refused 50 NeedsOneField
 refused 41 NameTaken
 ? for c in (lai) return encode(coverage m over $i x(0:1048576) values 1, csv)
 refused 55 ResultTooLarge
+> request=InsertCoverage&coverage=one&domain=x(0:0),y(0:0)&fields=v:i16
+ok
+> request=UpdateCoverage&coverage=one&field=v&box=x(0:0),y(0:0)&fill=5
+ok
+? for a in (one) return encode(coverage f over $p x(0:0), $q y(0:0) values condense + over $u x(-1:1), $v y(-1:1) where $p + $u >= 0 and $p + $u <= 0 and $q + $v >= 0 and $q + $v <= 0 using a[x($p + $u), y($q + $v)], csv)
+5
+> request=InsertCoverage&coverage=w&domain=x(0:1),y(0:1)&fields=v:i16
+ok
+> request=UpdateCoverage&coverage=w&field=v&box=x(0:1),y(0:1)&values=1,2,3,4
+ok
+> request=InsertCoverage&coverage=z&domain=x(0:1),y(0:1)&fields=v:i16
+ok
+> request=UpdateCoverage&coverage=z&field=v&box=x(0:1),y(0:1)&values=1,1,2,2
+ok
+? for a in (w) return encode(coverage f over $p x(0:1), $q y(0:1) values condense max over $u x(-1:1), $v y(-1:1) where $p + $u >= 0 and $p + $u <= 1 and $q + $v >= 0 and $q + $v <= 1 using a[x($p + $u), y($q + $v)], csv)
+4,4
+4,4
+? for a in (w), z in (z) return encode(coverage f over $p1 x(0:1), $p2 y(0:1) values condense + over $u1 x(0:1), $u2 y(0:1) where z[x($u1), y($u2)] = z[x($p1), y($p2)] using a[x($u1), y($u2)], csv)
+3,3
+7,7
+? for a in (w), b in (z) return encode(a * (a >= b) + b * (a < b), csv)
+1,2
+3,4
 > request=InsertCoverage&coverage=p&domain=x(0:2)&fields=v:i64
 ok
 > request=UpdateCoverage&coverage=p&field=v&box=x(0:2)&values=4611686018427387904,2,-1
