@@ -6,3 +6,4 @@ mod Indexes
 mod Sums
 mod Taking
 mod Exchange
+mod Area

@@ -236,3 +236,57 @@ fn exchange<B: Blocks>(
     blocks.give_back(replaced);
     Ok(())
 }
+
+/// Writes numbers into a box of a field. The rest of the metadata after it has `rest` bytes; nothing where 64 bits do
+/// not hold its length.
+pub(crate) fn write_area<B: Blocks>(
+    alloc: Global,
+    blocks: &mut B,
+    field: &mut FieldIndex,
+    kind: FieldType,
+    domain: &Domain,
+    area: &Domain,
+    numbers: &Numbers,
+    rest: Option<u64>,
+) -> Result<(), Fault>
+    requires index { IsIndex field.old.index }
+    requires below { IsBelow (length (tile_boxes domain.now)) field.old.index }
+    requires few { length (tile_boxes domain.now) ≤ 2 ^ 24 }
+    requires numbers { AreNumbers kind area.now numbers.now }
+    requires listed { AreUsed (λ k. times_in k field.old.index) (B.uses blocks.old) }
+    ensures index { IsIndex field.new.index }
+    ensures below { IsBelow (length (tile_boxes domain.now)) field.new.index }
+    ensures listed { AreUsed (λ k. times_in k field.new.index) (B.uses blocks.new) }
+    ensures uses { (k : ℕ) → B.uses blocks.new k + times_in k field.old.index ≡ B.uses blocks.old k + times_in k field.new.index }
+    ensures kept { KeepsUsed (B.uses blocks.old) (block_at (B.content blocks.old)) (block_at (B.content blocks.new)) }
+    ensures unchanged { OnErr result (field.new.index ≡ field.old.index) }
+    ensures honest { B.honest blocks.new ≡ B.honest blocks.old }
+    ensures counts { FaultCounts result (B.failures blocks.old) (B.failures blocks.new) }
+{
+    let tiles = domain.tiles_meeting(alloc, area)?;
+    let replaced = listed_blocks(alloc, &field.index, &tiles)?;
+    let mut changes = Vec::new(alloc);
+    let mut taken = Vec::new(alloc);
+    match prepare(
+        alloc,
+        blocks,
+        &mut changes,
+        &mut taken,
+        kind,
+        domain,
+        area,
+        numbers,
+        field,
+        &tiles,
+        rest,
+    ) {
+        Err(fault) => {
+            blocks.give_back(&taken);
+            Err(fault)
+        }
+        Ok(size) => {
+            exchange(blocks, field, changes, size, &taken, &replaced)?;
+            Ok(())
+        }
+    }
+}
