@@ -7,10 +7,10 @@ use Rattle.std.proofs.Math.ListN.{get_or-append}
 use borrow.Rule.Slice.PartMut.{mid_of}
 use Rattle.block_file.specs.Blocks.{block_at}
 use Rattle.block_file.specs.Format.{number_at, next_of, link, chain_blocks, IsChain}
-use Rattle.block_file.specs.View.{IsFresh, MarksChain, ReadsLink, used_in, use_count, uses_of}
+use Rattle.block_file.specs.View.{IsFresh, MarksChain, ReadsLink, used_in, kept_in, use_count, uses_of}
 use Rattle.block_file.proofs.Places.{whole_inside}
 use Rattle.block_file.proofs.Numbers.{byte-mid, length-mid, get_or-zeros}
-use Rattle.block_file.proofs.Marks.{used-set, used-nil, used-cons, uses_same}
+use Rattle.block_file.proofs.Marks.{used-set, used-nil, used-cons, kept-nil, kept-cons, uses_same}
 
 link-next : (block : ℕ → List ℕ) (first n : ℕ) → link block first (n + 1) ≡ next_of block (link block first n)
 unfolding link
@@ -163,6 +163,14 @@ fresh_made n marks e = rw e (record {
   unused = λ k pos. ap use_count (blank_at n k pos);
   free = omega (arith, used-cons 1 (replicate n 0), used_zeros n);
 })
+
+kept_zeros : (n : ℕ) → kept_in (replicate n 0) ≡ 0
+kept_zeros zero = kept-nil
+kept_zeros (suc n) = omega (arith, kept-cons 0 (replicate n 0), kept_zeros n)
+
+-- none of them is marked as metadata
+pub none_kept : (n : ℕ) (marks : List ℕ) → marks ≡ 1 ∷ replicate n 0 → kept_in marks ≡ 0
+none_kept n marks e = rw e (omega (arith, kept-cons 1 (replicate n 0), kept_zeros n))
 
 pub unmarked_made : (n : ℕ) (marks : List ℕ) → marks ≡ 1 ∷ replicate n 0 → (k : ℕ) → 0 < k → get_or marks k 0 ≡ 0
 unmarked_made n marks e k pos = ap (λ (xs : List ℕ). get_or xs k 0) e ∙ blank_at n k pos

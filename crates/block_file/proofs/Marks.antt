@@ -1,12 +1,12 @@
 -- Marks of blocks, and lists of free blocks.
-use Rattle.std.proofs.Common.{◌≡◌, ◌≢◌, ℕ, zero, suc, ◌+◌, ◌<◌, ◌≤◌, ◌⊎◌, inl, inr, List, [], ◌∷◌, ◌++◌, length, get_or, set, take, drop, min, arith, refl, length-append, length-set, drop-cons, sym, ◌∙◌, ap}
+use Rattle.std.proofs.Common.{◌≡◌, ◌≢◌, ℕ, zero, suc, ◌+◌, ◌-◌, ◌<◌, ◌≤◌, ◌⊎◌, inl, inr, List, [], ◌∷◌, ◌++◌, length, get_or, set, take, drop, min, nat_eq, cond, arith, refl, length-append, length-set, drop-cons, sym, ◌∙◌, ap}
 use Rattle.std.proofs.lemmas.Grind.{common_steps, elements, same_number_lists}
 use Rattle.std.proofs.lemmas.Bool.Decides.{nat_tests}
 use Rattle.std.proofs.lemmas.Bool.{cases_eq}
 use Rattle.std.proofs.lemmas.List.{get_or_past, get_or-set_same, get_or-set_other}
 use Rattle.std.proofs.lemmas.List.Sums.{sum_by-set, sum_by-append, sum_by-cons}
 use Rattle.block_file.specs.Blocks.{IsDistinct, IsOutside, Takes}
-use Rattle.block_file.specs.View.{IsFreeList, uses_of, use_count, used_in, CanClaim, Claims}
+use Rattle.block_file.specs.View.{IsFreeList, uses_of, use_count, used_in, kept_in, CanClaim, Claims}
 
 -- a number that a list has above 0 stands in it
 pub reads_within : (xs : List ℕ) (k : ℕ) → 0 < get_or xs k 0 → k < length xs
@@ -43,6 +43,32 @@ used-cons m marks = sum_by-cons (λ mark. min (use_count mark) 1) m marks
 pub used_le : (marks : List ℕ) → used_in marks ≤ length marks
 used_le [] = omega (arith, used-nil)
 used_le (m ∷ marks) = omega (arith, used-cons m marks, used_le marks)
+
+-- how the number of blocks that are marked as metadata changes with the mark of one that had none
+pub kept-claim : (marks : List ℕ) (k : ℕ) → k < length marks → get_or marks k 0 ≡ 0 → kept_in (set marks k 1) ≡ kept_in marks
+unfolding kept_in
+kept-claim marks k lt e = grind (arith, sum_by-set (λ mark. cond (nat_eq mark 255) 1 0) marks k 1 0 lt)
+
+pub kept-more : (marks : List ℕ) (k : ℕ) → k < length marks → get_or marks k 0 ≡ 0 → kept_in (set marks k 255) ≡ kept_in marks + 1
+unfolding kept_in
+kept-more marks k lt e = grind (arith, sum_by-set (λ mark. cond (nat_eq mark 255) 1 0) marks k 255 0 lt)
+
+pub kept-nil : kept_in [] ≡ 0
+unfolding kept_in
+kept-nil = refl
+
+pub kept-cons : (m : ℕ) (marks : List ℕ) → kept_in (m ∷ marks) ≡ cond (nat_eq m 255) 1 0 + kept_in marks
+unfolding kept_in
+kept-cons m marks = sum_by-cons (λ mark. cond (nat_eq mark 255) 1 0) m marks
+
+-- no block that is marked as metadata is in use
+pub kept_apart : (marks : List ℕ) → kept_in marks + used_in marks ≤ length marks
+kept_apart [] = omega (arith, used-nil, kept-nil)
+kept_apart (m ∷ marks) = grind (arith, nat_tests, used-cons m marks, kept-cons m marks, kept_apart marks)
+
+-- what holds metadata may still be taken
+pub kept_small : (marks : List ℕ) → length marks ≤ 1048576 → kept_in marks ≤ 1048576 - used_in marks
+kept_small marks few = omega (arith, kept_apart marks)
 
 -- where as many are in use as there are, all are
 pub all_used : (marks : List ℕ) (k : ℕ) → used_in marks ≡ length marks → k < length marks → 0 < uses_of marks k
@@ -244,6 +270,7 @@ pub record ClaimedTo (n : ℕ) (ks old new : List ℕ) : Type 0 where
   pub distinct : (a b : ℕ) → a < n → b < n → get_or ks a 0 ≡ get_or ks b 0 → a ≡ b
   pub others : (k : ℕ) → ((j : ℕ) → j < n → get_or ks j 0 ≢ k) → get_or new k 0 ≡ get_or old k 0
   pub used : used_in new ≡ used_in old + n
+  pub kept : kept_in new ≡ kept_in old
 
 pub claimed_more : (n : ℕ) (ks old new : List ℕ) → ClaimedTo n ks old new → get_or ks n 0 < length new → get_or new (get_or ks n 0) 0 ≡ 0 → ClaimedTo (n + 1) ks old (set new (get_or ks n 0) 1)
 claimed_more n ks old new so_far inside unmarked =
@@ -257,6 +284,7 @@ claimed_more n ks old new so_far inside unmarked =
       used =
           let none : uses_of new (get_or ks n 0) ≡ 0 = rw unmarked refl in
           omega (arith, used-set new (get_or ks n 0) 1 inside, so_far.used);
+      kept = kept-claim new (get_or ks n 0) inside unmarked ∙ so_far.kept;
     }
 
 pub claimed_all : (ks old new : List ℕ) → length new ≡ length old → ClaimedTo (length ks) ks old new → Claims ks old new

@@ -1,5 +1,5 @@
 -- A block file as callers see it, what `open` and `claim` make of its blocks, and what is true of its lists.
-use Rattle.std.specs.Prelude.{◌≡◌, ◌≢◌, ℕ, ◌+◌, ◌-◌, ◌*◌, ◌<◌, ◌≤◌, min, nat_eq, if◌then◌else◌, Bool, IsTrue, false, List, [], length, slice_index, sum_by, Result, IsErrOf}
+use Rattle.std.specs.Prelude.{◌≡◌, ◌≢◌, ℕ, ◌+◌, ◌-◌, ◌*◌, ◌<◌, ◌≤◌, min, nat_eq, if◌then◌else◌, Bool, IsTrue, false, List, [], length, slice_index, sum_by, count_by, Result, IsErrOf}
 use Rattle.disk_face.specs.Disk.{Rose}
 use Rattle.block_file.specs.declared.fault.OpenFault.{OpenFault}
 use Rattle.block_file.specs.declared.fault.OpenFault.TheVariants.{DiskFault}
@@ -30,6 +30,10 @@ used_in marks = sum_by (λ mark. min (use_count mark) 1) marks
 -- how many blocks may still be taken: of 1,048,576 those in no use
 abbrev pub free_in : List ℕ → ℕ
 free_in marks = 1048576 - used_in marks
+
+-- how many blocks are marked as metadata
+unfoldable pub kept_in : List ℕ → ℕ
+kept_in marks = count_by (λ mark. nat_eq mark 255) marks
 
 -- after an opening the header alone is in use
 pub record IsFresh (marks : List ℕ) : Type 0 where

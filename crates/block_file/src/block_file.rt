@@ -2,8 +2,8 @@
 ghost use Rattle.std.specs.Prelude.{◌≡◌, ◌≢◌, ◌≤◌, ◌<◌, ◌+◌, ◌-◌, ◌*◌, ◌/◌, ◌^◌, max, [], ◌∷◌, ℕ, List, length, slice_index, vec_capacity, IfOk, IfErr, OnOk, OnErr, IsErrOf, IsTrue};
 ghost use Rattle.disk_face.specs.Disk.{Rose, Counts};
 ghost use Rattle.block_file.specs.Blocks.{block_at};
-ghost use Rattle.block_file.specs.Format.{number_at, first_of, IsStoreFile, IsHeader, IsClosed, IsDamaged, HeaderWritten, HeaderLast, Filled, Extends};
-ghost use Rattle.block_file.specs.View.{IsFresh, MarksChain, CanClaim, Claims, OpenCounts, free_in};
+ghost use Rattle.block_file.specs.Format.{number_at, first_of, chain_blocks, IsStoreFile, IsHeader, IsClosed, IsDamaged, HeaderWritten, HeaderLast, Filled, Extends};
+ghost use Rattle.block_file.specs.View.{IsFresh, MarksChain, CanClaim, Claims, OpenCounts, free_in, kept_in};
 
 use crate::chain::{Layout, blank_marks, read_chain};
 use crate::free_list::{claim_all, give_back_all, make_list, take_all};
@@ -58,7 +58,7 @@ pub struct Refused<D: Disk> {
 
 impl<D: Disk> BlockFile<D> {
     /// Opens the store file of a disk. A disk without a byte is a new file. It writes nothing. The blocks of the
-    /// metadata are free, and may not be claimed.
+    /// metadata are free, and may not be claimed: a chain of as many bytes has room in them.
     ///
     /// The refusals, with the disk, in this order: not a store for fewer bytes than a header, another magic or
     /// another version; not closed for the state of an open file; damaged for any other departure from the format.
@@ -68,6 +68,8 @@ impl<D: Disk> BlockFile<D> {
         ensures closed { IfOk result (λ opened. IsTrue (D.honest disk) → 0 < length (D.content disk) → IsClosed (D.content disk) opened.metadata.items) }
         ensures unique { IfOk result (λ opened. IsTrue (D.honest disk) → (metadata : List ℕ) → IsClosed (D.content disk) metadata → opened.metadata.items ≡ metadata) }
         ensures marks { IfOk result (λ opened. IsTrue (D.honest disk) → 0 < length (D.content disk) → MarksChain (block_at (D.content disk)) (first_of (D.content disk)) (length opened.metadata.items) opened.file.marks) }
+        ensures kept { IfOk result (λ opened. IsTrue (D.honest disk) → 0 < length (D.content disk) → chain_blocks (length opened.metadata.items) ≤ kept_in opened.file.marks) }
+        ensures reserve { IfOk result (λ opened. kept_in opened.file.marks ≤ free_in opened.file.marks) }
         ensures blocks { IfOk result (λ opened. IsTrue (D.honest disk) → length opened.file.marks ≡ max 1 (length (D.content disk) / 4096)) }
         ensures whole { IfOk result (λ opened. IsTrue (D.honest disk) → (k : ℕ) → 0 < k → k < length opened.file.marks → length (block_at (D.content disk) k) ≡ 4096) }
         ensures fresh { IfOk result (λ opened. IsFresh opened.file.marks) }
@@ -105,12 +107,15 @@ impl<D: Disk> BlockFile<D> {
     }
 
     /// Puts blocks in use that hold tiles, or none: damaged where one of them is the header, was claimed before, is
-    /// one of the metadata's or is past the end of the file. To be called before any `take`. Takes no memory.
+    /// one of the metadata's or is past the end of the file. The metadata's blocks stay free. To be called before any
+    /// `take`. Takes no memory.
     pub fn claim(&mut self, ks: &[u32]) -> Result<(), Damaged>
         ensures claims { OnOk result (Claims ks.now self.old.marks self.new.marks) }
         ensures free { OnOk result (free_in self.new.marks + length ks.now ≡ free_in self.old.marks) }
         ensures refused { OnErr result (CanClaim ks.now self.old.marks → ⊥) }
         ensures err { OnErr result (self.new.marks ≡ self.old.marks) }
+        ensures kept { kept_in self.new.marks ≡ kept_in self.old.marks }
+        ensures reserve { kept_in self.new.marks ≤ free_in self.new.marks }
         ensures content { self.new.content ≡ self.old.content }
         ensures synced { self.new.synced ≡ self.old.synced }
         ensures failures { self.new.failures ≡ self.old.failures }
@@ -229,6 +234,7 @@ fn read_layout<D: Disk>(alloc: Global, disk: &mut D) -> Result<Layout, OpenFault
     ensures new_file { IfOk result (λ layout. IsTrue (D.honest disk.old) → D.content disk.old ≡ [] → layout.metadata.items ≡ []) }
     ensures closed { IfOk result (λ layout. IsTrue (D.honest disk.old) → 0 < length (D.content disk.old) → IsClosed (D.content disk.old) layout.metadata.items) }
     ensures marks { IfOk result (λ layout. IsTrue (D.honest disk.old) → 0 < length (D.content disk.old) → MarksChain (block_at (D.content disk.old)) (first_of (D.content disk.old)) (length layout.metadata.items) layout.marks.items) }
+    ensures kept { IfOk result (λ layout. kept_in layout.marks.items ≡ chain_blocks (length layout.metadata.items)) }
     ensures blocks { IfOk result (λ layout. IsTrue (D.honest disk.old) → length layout.marks.items ≡ max 1 (length (D.content disk.old) / 4096)) }
     ensures within { IfOk result (λ layout. IsTrue (D.honest disk.old) → length (D.content disk.old) ≤ 4096 * length layout.marks.items) }
     ensures few { IfOk result (λ layout. length layout.marks.items ≤ 1048576) }

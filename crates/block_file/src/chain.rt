@@ -4,7 +4,7 @@ ghost use Rattle.std.specs.Bool.{OnTrue, OnFalse};
 ghost use Rattle.disk_face.specs.Disk.{Rose, Counts};
 ghost use Rattle.block_file.specs.Blocks.{block_at, IsOutside, AreInUse};
 ghost use Rattle.block_file.specs.Format.{number_at, link, chain_blocks, IsChain, IsPadded, KeepsHeader};
-ghost use Rattle.block_file.specs.View.{IsFresh, MarksChain, OpenCounts, ReadsLink, HoldsLink};
+ghost use Rattle.block_file.specs.View.{IsFresh, MarksChain, OpenCounts, ReadsLink, HoldsLink, kept_in};
 
 use crate::header::{Header, put_u32, u32_at};
 use crate::{Blocks, CHAIN_BYTES, ChainFault, OpenFault, TakeFault};
@@ -27,6 +27,7 @@ pub(crate) fn blank_marks(alloc: Global, blocks: usize) -> Result<Vec<u8>, Alloc
     ensures len { IfOk result (λ marks. length marks.items ≡ blocks) }
     ensures unmarked { IfOk result (λ marks. (k : ℕ) → 0 < k → slice_index marks.items k ≡ 0) }
     ensures fresh { IfOk result (λ marks. IsFresh marks.items) }
+    ensures none_kept { IfOk result (λ marks. kept_in marks.items ≡ 0) }
 {
     let mut marks = Vec::with_capacity(alloc, blocks)?;
     marks.push(1)?;
@@ -89,6 +90,7 @@ pub(crate) fn read_chain<D: Disk>(
     ensures fresh { IfOk result (λ layout. IsFresh layout.marks.items) }
     ensures blocks { IfOk result (λ layout. length layout.marks.items ≡ header.blocks) }
     ensures marks { IfOk result (λ layout. IsTrue (D.honest disk.old) → MarksChain (block_at (D.content disk.old)) header.first header.length layout.marks.items) }
+    ensures kept { IfOk result (λ layout. kept_in layout.marks.items ≡ chain_blocks header.length) }
     ensures damaged { IsErrOf result OpenFault.Damaged → IsTrue (D.honest disk.old) → (metadata : List ℕ) → length metadata ≡ header.length → IsChain (block_at (D.content disk.old)) header.first metadata → ⊥ }
     ensures no_store { IsErrOf result OpenFault.NotAStore → ⊥ }
     ensures left_open { IsErrOf result OpenFault.NotClosed → ⊥ }

@@ -2,7 +2,7 @@
 ghost use Rattle.std.specs.Prelude.{◌≡◌, ◌≢◌, [], ◌≤◌, ◌<◌, ◌+◌, ◌-◌, max, false, ℕ, length, slice_index, vec_capacity, IsTrue};
 ghost use Rattle.std.specs.Bool.{OnTrue, OnFalse};
 ghost use Rattle.block_file.specs.Blocks.{IsOutside, Takes, AreInUse, GivesBack};
-ghost use Rattle.block_file.specs.View.{IsFreeList, uses_of, used_in, free_in, CanClaim, Claims};
+ghost use Rattle.block_file.specs.View.{IsFreeList, uses_of, used_in, kept_in, free_in, CanClaim, Claims};
 
 use crate::chain::KEPT;
 
@@ -163,6 +163,7 @@ pub(crate) fn claim_all(marks: &mut [u8], ks: &[u32]) -> bool
     ensures used { OnTrue result (used_in marks.new ≡ used_in marks.old + length ks.now) }
     ensures refused { OnFalse result (CanClaim ks.now marks.old → ⊥) }
     ensures same { OnFalse result (marks.new ≡ marks.old) }
+    ensures kept { kept_in marks.new ≡ kept_in marks.old }
 {
     for i in 0..ks.len() {
         let k = ks[i] as usize;

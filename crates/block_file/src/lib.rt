@@ -12,8 +12,6 @@ mod chain;
 mod fault;
 mod free_list;
 mod header;
-#[cfg(test)]
-mod tests;
 
 pub use block_file::{BlockFile, Opened, Refused};
 pub use chain::write_chain;

@@ -6,8 +6,6 @@ mod catalogue;
 mod error;
 mod lengths;
 mod reading;
-#[cfg(test)]
-mod tests;
 mod writing;
 
 pub use catalogue::Catalogue;

@@ -9,8 +9,6 @@ ghost use Rattle.disk_face.specs.Disk.{Holds, Torn, Written, Counts};
 mod fail;
 mod file;
 mod memory;
-#[cfg(test)]
-mod tests;
 
 pub use fail::FailDisk;
 pub use file::FileDisk;

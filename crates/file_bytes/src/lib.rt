@@ -2,8 +2,6 @@
 //! at the end.
 #![tactic(auto)]
 
-#[cfg(test)]
-mod tests;
 
 ghost use Rattle.std.specs.Prelude.{◌≡◌, ◌<◌, ◌≤◌, ◌^◌, ℕ, List, [], ◌∷◌, ◌++◌, length, MatchOption, IfSome, OnOk, FitsSigned};
 ghost use Rattle.std.specs.Int.{w32};

@@ -6,8 +6,6 @@ mod decoding;
 mod encoding;
 mod error;
 mod run;
-#[cfg(test)]
-mod tests;
 
 pub use decoding::decode;
 pub use encoding::encode;

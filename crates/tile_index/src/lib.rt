@@ -7,8 +7,6 @@ mod entry;
 mod error;
 mod index;
 mod reading;
-#[cfg(test)]
-mod tests;
 mod writing;
 
 pub use entry::{BlockList, Entry};

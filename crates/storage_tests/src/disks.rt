@@ -1,5 +1,5 @@
 //! What no clause says: that the calls succeed, and worked values.
-use crate::{Disk, DiskFault, FailDisk, FileDisk, MemDisk};
+use disk_face::{Disk, DiskFault, FailDisk, FileDisk, MemDisk};
 use std::alloc::{AllocError, Global};
 use std::fs;
 

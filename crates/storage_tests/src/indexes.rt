@@ -1,7 +1,7 @@
 //! The bytes of an index, and changes of it.
 
-use crate::{BlockList, Entry, IndexError, TileIndex};
 use std::test::Fail;
+use tile_index::{BlockList, Entry, IndexError, TileIndex};
 
 /// Tile 0, 4 bytes long, in block 1.
 const ONE_TILE: [u8; 16] = [1, 0, 0, 0, 0, 0, 0, 0, 4, 0, 0, 0, 1, 0, 0, 0];

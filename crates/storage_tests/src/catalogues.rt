@@ -1,7 +1,7 @@
 //! Worked bytes of a catalogue, what is refused, and the order of the coverages.
 
-use crate::{Catalogue, InsertError, NoSuchCoverage, ReadError};
 use arr_core::{Axis, Domain, Field, FieldType, Fields, Name, Signature};
+use catalogue::{Catalogue, InsertError, NoSuchCoverage, ReadError};
 use std::alloc::Global;
 use std::test::Fail;
 

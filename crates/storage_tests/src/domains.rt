@@ -1,10 +1,6 @@
 //! Worked values of names, refusals, cells, fields, domains and tiles.
 
-use crate::cell::{Cell, FieldType};
-use crate::domain::{Axis, Domain};
-use crate::field::{Field, Fields};
-use crate::name::Name;
-use crate::refusal::refusal_name;
+use arr_core::{Axis, Cell, Domain, Field, FieldType, Fields, Name, refusal_name};
 use std::alloc::Global;
 use std::test::Fail;
 

@@ -1,7 +1,7 @@
 //! Bytes, and the cells that they spell.
 
-use crate::{DecodeError, decode, encode};
 use arr_core::FieldType;
+use run_tile::{DecodeError, decode, encode};
 use std::test::Fail;
 
 #[test]

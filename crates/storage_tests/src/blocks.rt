@@ -2,7 +2,7 @@
 ghost use Rattle.std.specs.Prelude.{◌≡◌, ◌≤◌, IfSome};
 ghost use Rattle.block_file.specs.View.{IsFresh};
 
-use crate::{BlockFile, Blocks, OpenFault, State, TakeFault, write_chain};
+use block_file::{BlockFile, Blocks, OpenFault, State, TakeFault, write_chain};
 use disk_face::{FailDisk, MemDisk};
 use std::alloc::{AllocError, Global};
 

@@ -1,6 +1,6 @@
 //! Numbers read and written.
 
-use crate::{Reader, push_i32, push_u32};
+use file_bytes::{Reader, push_i32, push_u32};
 use std::test::Fail;
 
 /// 7, then 513 in four bytes, then -2 in four bytes, then 9 and 8.

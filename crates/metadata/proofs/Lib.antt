@@ -1,0 +1,4 @@
+pub mod Parts
+pub mod Counted
+pub mod Whole
+pub mod Sizes

@@ -1,0 +1,12 @@
+use Rattle.std.proofs.Common.{◌≡◌, ◌<◌, ◌^◌, ◌++◌, List, ℕ, ap, ◌∙◌, arith, rules}
+use Rattle.byteorder.specs.Endian.{little_bytes}
+use Rattle.metadata.proofs.Parts.{part-read}
+use Rattle.metadata.proofs.reading.read_part.Goals as goal
+
+pub returns : goal.returns
+returns c =
+    let n = c.length_of-length.result in
+    let small : n < 2 ^ 64 = search rules in
+    let room : c.len.result < 2 ^ 64 = search rules in
+    let front : c.args.bytes.now ≡ little_bytes 8 n ++ c.take.new.self = c.in_ok-take.ensures.taken.1 ∙ ap (λ (xs : List ℕ). xs ++ c.take.new.self) c.length_of-length.ensures in
+    part-read n c.args.bytes.now c.take.new.self c.in_ok-part.part.now c.take-2.new.self small (omega (arith, c.len.ensures)) front c.in_ok-part.ensures.taken.0 c.in_ok-part.ensures.taken.1

@@ -1,0 +1,35 @@
+-- The metadata of a store file. Numbers have the lowest byte first.
+use Rattle.std.specs.Prelude.{◌≡◌, ℕ, List, [], ◌∷◌, ◌++◌, length, All}
+use Rattle.std.specs.List.{flat_map}
+use Rattle.byteorder.specs.Endian.{little_bytes}
+use Rattle.arr_core.specs.declared.signature.Signature.{Signature}
+use Rattle.tile_index.specs.declared.entry.Entry.{Entry}
+use Rattle.tile_index.specs.Bytes.{index_bytes}
+use Rattle.tile_index.specs.Index.{IsIndex}
+use Rattle.catalogue.specs.Bytes.{catalogue_bytes}
+use Rattle.catalogue.specs.Signatures.{IsCatalogue}
+
+-- a part of the metadata: its length in 64 bits, and its bytes
+abbrev pub part_bytes : List ℕ → List ℕ
+part_bytes bytes = little_bytes 8 (length bytes) ++ bytes
+
+-- the indexes of a coverage's fields, in order
+unfoldable pub indexes_bytes : List (List (ℕ × Entry)) → List ℕ
+indexes_bytes indexes = flat_map (λ (i : List (ℕ × Entry)). part_bytes (index_bytes i)) indexes
+
+-- the metadata: the catalogue, and then for each coverage in order the indexes of its fields
+unfoldable pub metadata_bytes : List Signature → List (List (List (ℕ × Entry))) → List ℕ
+metadata_bytes signatures indexes = part_bytes (catalogue_bytes signatures) ++ flat_map indexes_bytes indexes
+
+-- each coverage has an index for each of its fields
+abbrev pub AreCounted : List Signature → List (List (List (ℕ × Entry))) → Type 0
+AreCounted [] [] = Unit {0}
+AreCounted (s ∷ signatures) (i ∷ indexes) = (length i ≡ length s.fields) × All IsIndex i × AreCounted signatures indexes
+AreCounted [] (i ∷ indexes) = ⊥
+AreCounted (s ∷ signatures) [] = ⊥
+
+-- these bytes are the metadata of a catalogue and its indexes
+pub record IsMetadata (bytes : List ℕ) (signatures : List Signature) (indexes : List (List (List (ℕ × Entry)))) : Type 0 where
+  pub catalogue : IsCatalogue signatures
+  pub counted : AreCounted signatures indexes
+  pub written : bytes ≡ metadata_bytes signatures indexes

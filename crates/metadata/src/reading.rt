@@ -1,0 +1,152 @@
+//! Metadata read from its bytes.
+
+ghost use Rattle.std.specs.Prelude.{◌≡◌, ℕ, List, length, map, flat_map, Vec, IfOk, IsErrOf, MatchOption};
+ghost use Rattle.arr_core.specs.declared.signature.Signature.{Signature};
+ghost use Rattle.byteorder.specs.Endian.{little_bytes};
+ghost use Rattle.file_bytes.specs.Codes.{IsRead, NoneIsRead};
+ghost use Rattle.tile_index.specs.declared.entry.Entry.{Entry};
+ghost use Rattle.tile_index.specs.Index.{IsIndex};
+ghost use Rattle.catalogue.specs.Signatures.{IsCatalogue};
+ghost use Rattle.catalogue.specs.Reading.{AreMany};
+ghost use Rattle.metadata.specs.declared.reading.ReadError.TheVariants.{NoMemory};
+ghost use Rattle.metadata.specs.Metadata.{part_bytes, indexes_bytes, AreCounted, IsMetadata};
+ghost use Rattle.metadata.specs.Parts.{IsAny, catalogue_part_bytes, index_part_bytes};
+
+use arr_core::Signature;
+use byteorder::{ByteOrder, LittleEndian};
+use catalogue::Catalogue;
+use file_bytes::Reader;
+use std::alloc::{AllocError, AllocFailed, Global};
+use thiserror::Error;
+use tile_index::{IndexError, TileIndex};
+
+/// Why bytes are not read as metadata.
+#[derive(Clone, Copy, Debug, PartialEq, Eq, Error)]
+pub enum ReadError {
+    /// The bytes are those of no metadata.
+    #[error("damaged")]
+    Damaged,
+    /// No memory was left.
+    #[error("out of memory")]
+    NoMemory,
+}
+
+impl From<AllocError> for ReadError {
+    ghost from_gives = { λ _ e. e ≡ NoMemory };
+
+    fn from(_error: AllocError) -> ReadError {
+        ReadError::NoMemory
+    }
+}
+
+impl<T: Drop> From<AllocFailed<T>> for ReadError {
+    ghost from_gives = { λ _ e. e ≡ NoMemory };
+
+    fn from(_error: AllocFailed<T>) -> ReadError {
+        ReadError::NoMemory
+    }
+}
+
+/// A catalogue, and for each coverage in order the index of each of its fields.
+#[derive(Drop)]
+pub struct Metadata {
+    pub catalogue: Catalogue,
+    pub indexes: Vec<Vec<TileIndex>>,
+}
+
+/// The length that these bytes write, the lowest first.
+fn length_of(bytes: &[u8]) -> u64
+    requires { length bytes.now ≡ 8 }
+    ensures { bytes.now ≡ little_bytes 8 result }
+{
+    LittleEndian::read_u64(bytes)
+}
+
+/// The bytes of the next part, which stand behind their length in 64 bits: none where that length
+/// is cut short or points past the end.
+fn read_part<'a>(bytes: &mut Reader<'a>) -> Option<&'a [u8]>
+    ensures { MatchOption result (NoneIsRead IsAny part_bytes bytes.old) (λ part. IsRead IsAny part_bytes bytes.old part.now bytes.new) }
+{
+    let length = length_of(bytes.take(8)?);
+    if length > bytes.len() as u64 {
+        return None;
+    }
+    let part = bytes.take(length as usize)?;
+    Some(part)
+}
+
+/// The catalogue that the next part is.
+fn read_catalogue(alloc: Global, bytes: &mut Reader) -> Result<Catalogue, ReadError>
+    ensures read { IfOk result (λ held. IsRead IsCatalogue catalogue_part_bytes bytes.old held bytes.new) }
+    ensures damaged { IsErrOf result ReadError.Damaged → NoneIsRead IsCatalogue catalogue_part_bytes bytes.old }
+{
+    let Some(part) = read_part(bytes) else {
+        return Err(ReadError::Damaged);
+    };
+    match Catalogue::from_bytes(alloc, part) {
+        Ok(catalogue) => Ok(catalogue),
+        Err(catalogue::ReadError::Damaged) => Err(ReadError::Damaged),
+        Err(catalogue::ReadError::NoMemory) => Err(ReadError::NoMemory),
+    }
+}
+
+/// The index that the next part is.
+fn read_index(alloc: Global, bytes: &mut Reader) -> Result<TileIndex, ReadError>
+    ensures read { IfOk result (λ index. IsRead IsIndex index_part_bytes bytes.old index bytes.new) }
+    ensures damaged { IsErrOf result ReadError.Damaged → NoneIsRead IsIndex index_part_bytes bytes.old }
+{
+    let Some(part) = read_part(bytes) else {
+        return Err(ReadError::Damaged);
+    };
+    match TileIndex::from_bytes(alloc, part) {
+        Ok(index) => Ok(index),
+        Err(IndexError::Damaged) => Err(ReadError::Damaged),
+        Err(IndexError::NoMemory) => Err(ReadError::NoMemory),
+    }
+}
+
+/// The indexes of the next `count` fields.
+fn read_fields(alloc: Global, bytes: &mut Reader, count: usize) -> Result<Vec<TileIndex>, ReadError>
+    ensures read { IfOk result (λ indexes. IsRead (AreMany IsIndex count) indexes_bytes bytes.old indexes.items bytes.new) }
+    ensures damaged { IsErrOf result ReadError.Damaged → NoneIsRead (AreMany IsIndex count) indexes_bytes bytes.old }
+{
+    let mut indexes = Vec::new(alloc);
+    for _ in 0..count {
+        let index = read_index(alloc, bytes)?;
+        indexes.push(index)?;
+    }
+    Ok(indexes)
+}
+
+/// For each of the coverages in order, the indexes of its fields.
+fn read_indexes(
+    alloc: Global,
+    bytes: &mut Reader,
+    signatures: &[Signature],
+) -> Result<Vec<Vec<TileIndex>>, ReadError>
+    ensures read { IfOk result (λ indexes. IsRead (AreCounted signatures.now) (flat_map indexes_bytes) bytes.old (map (λ (v : Vec TileIndex Global). v.items) indexes.items) bytes.new) }
+    ensures damaged { IsErrOf result ReadError.Damaged → NoneIsRead (AreCounted signatures.now) (flat_map indexes_bytes) bytes.old }
+{
+    let mut indexes = Vec::new(alloc);
+    for signature in signatures {
+        let fields = read_fields(alloc, bytes, signature.fields.len())?;
+        indexes.push(fields)?;
+    }
+    Ok(indexes)
+}
+
+/// The metadata whose bytes these are: `Damaged` where they are those of none.
+pub fn read_metadata(alloc: Global, bytes: &[u8]) -> Result<Metadata, ReadError>
+    ensures read { IfOk result (λ m. IsMetadata bytes.now m.catalogue (map (λ (v : Vec TileIndex Global). v.items) m.indexes.items)) }
+    ensures only { IfOk result (λ m. (signatures : List Signature) (indexes : List (List (List (ℕ × Entry)))) → IsMetadata bytes.now signatures indexes → (signatures ≡ m.catalogue) × (indexes ≡ map (λ (v : Vec TileIndex Global). v.items) m.indexes.items)) }
+    ensures damaged { IsErrOf result ReadError.Damaged → (signatures : List Signature) (indexes : List (List (List (ℕ × Entry)))) → IsMetadata bytes.now signatures indexes → ⊥ }
+{
+    let mut rest = Reader::new(bytes);
+    let catalogue = read_catalogue(alloc, &mut rest)?;
+    let signatures = catalogue.list(alloc)?;
+    let indexes = read_indexes(alloc, &mut rest, &signatures)?;
+    if rest.len() != 0 {
+        return Err(ReadError::Damaged);
+    }
+    Ok(Metadata { catalogue, indexes })
+}

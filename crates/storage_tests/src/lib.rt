@@ -1,0 +1,20 @@
+//! Worked values of the crates of storage, by their public calls. They stand here and not in those crates, since a crate
+//! with tests is proved twice.
+#![tactic(auto)]
+
+#[cfg(test)]
+mod blocks;
+#[cfg(test)]
+mod catalogues;
+#[cfg(test)]
+mod disks;
+#[cfg(test)]
+mod domains;
+#[cfg(test)]
+mod indexes;
+#[cfg(test)]
+mod metadata;
+#[cfg(test)]
+mod numbers;
+#[cfg(test)]
+mod tiles;
