@@ -22,7 +22,8 @@ use Rattle.wcps_parse.specs.Outcome.{IsTooDeep}
 use Rattle.wcps_types.specs.Queries.{typ_query}
 use Rattle.wcps_types.specs.declared.refusal.TypeRefusal.{TypeRefusal}
 use Rattle.wcps_types.specs.declared.typed.TypedQuery.{TypedQuery}
-use Rattle.wcps_types.specs.Typed.{TypedTree, query_view as typed_view}
+use Rattle.wcps_types.specs.Typed.{TypedTree}
+use Rattle.wcps_types.specs.TypedQueries.{query_view as typed_view}
 use Rattle.wcps_mean.specs.declared.item.Item.{Item}
 use Rattle.wcps_mean.specs.Answer.{answer}
 use Rattle.csv_out.specs.Csv.{csv}

@@ -14,7 +14,8 @@ use Rattle.wcps_text.specs.Tree.{query_view}
 use Rattle.wcps_types.specs.declared.refusal.TypeRefusal.{TypeRefusal}
 use Rattle.wcps_types.specs.declared.typed.TypedQuery.{TypedQuery}
 use Rattle.wcps_types.specs.Refusals.{number_of as type_number}
-use Rattle.wcps_types.specs.Typed.{TypedTree, query_view as typed_view}
+use Rattle.wcps_types.specs.Typed.{TypedTree}
+use Rattle.wcps_types.specs.TypedQueries.{query_view as typed_view}
 use Rattle.wcps_mean.specs.declared.cell.PointFault.{PointFault}
 use Rattle.wcps_mean.specs.declared.item.Item.{Item}
 use Rattle.wcps_mean.specs.Faults.{number_of as fault_number}

@@ -3,7 +3,7 @@ ghost use Rattle.std.specs.Prelude.{◌≡◌, IfOk, map};
 ghost use Rattle.wcps_text.specs.Token.{tok};
 ghost use Rattle.wcps_text.specs.Tree.{query_view};
 ghost use Rattle.wcps_types.specs.Queries.{typ_query};
-ghost use Rattle.wcps_types.specs.Typed.{query_view as typed_view};
+ghost use Rattle.wcps_types.specs.TypedQueries.{query_view as typed_view};
 ghost use Rattle.wcps_mean.specs.Answer.{answer};
 ghost use Rattle.coverage_server.specs.Holding.{place_of, signature_of};
 ghost use Rattle.coverage_server.specs.Asking.{cells_of, typed_answer};
@@ -37,6 +37,8 @@ impl Cells for StoreCells<'_> {
     ghost use Rattle.coverage_server.specs.Stages.{cell_at};
 
     ghost cells = { λ s coverage field point. cell_at s.store.now s.places.items coverage field point };
+
+    ghost kept = { λ _. tt };
 
     fn cell(&mut self, coverage: usize, field: usize, point: &[i32]) -> Result<i64, CellError> {
         match self.places.get(coverage) {
@@ -100,7 +102,7 @@ fn places_of(
 fn items_of(alloc: Global, store: &Store, typed: &TypedQuery) -> Result<Vec<Item>, Refusal>
     ensures { GivesItems (answer (cells_of store.now typed.now.coverages.items) (typed_view typed.now)) result }
 {
-    let places = places_of(alloc, store, &typed.coverages)?;
+    let places = places_of(alloc, store, typed.coverages())?;
     let mut cells = StoreCells { store, places };
     match eval_plain(alloc, &mut cells, typed) {
         Ok(items) => Ok(items),

@@ -2,7 +2,5 @@
 #![tactic(auto)]
 
 mod csv;
-#[cfg(test)]
-mod tests;
 
 pub use csv::csv_text;

@@ -1,9 +1,7 @@
-mod Points
-mod Rows
-mod Times
-mod Fitting
-mod Indexes
-mod Sums
-mod Taking
-mod Exchange
-mod Area
+pub mod Places
+pub mod Totals
+pub mod Contents
+pub mod Readings
+pub mod Writes
+pub mod Named
+pub mod CellKinds

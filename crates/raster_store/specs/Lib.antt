@@ -1,6 +1,3 @@
-pub mod Faults
-pub mod Overlays
-pub mod Listing
-pub mod Fields
-pub mod Numbers
-pub mod Changes
+pub mod Views
+pub mod Calls
+pub mod Holding

@@ -1,35 +1,149 @@
-//! The blocks of all tiles of fields given back.
+//! A coverage as it is held.
 
-ghost use Rattle.std.specs.Prelude.{◌≡◌, ℕ, ◌+◌};
-ghost use Rattle.raster_store.specs.Listing.{times_in, AreUsed};
-ghost use Rattle.raster_store.specs.Fields.{times_fields};
+ghost use Rattle.std.specs.Prelude.{◌≡◌, ◌↔◌, ℕ, ◌+◌, ◌<◌, [], length, sum_by, replicate, position, All, IfOk, IfSome, IfNone, IsTrue, IsErrOf};
+ghost use Rattle.arr_core.specs.Tiles.{tile_boxes};
+ghost use Rattle.tile_index.specs.Index.{IsIndex};
+ghost use Rattle.tile_store.specs.Listing.{AreUsed};
+ghost use Rattle.tile_store.specs.Stored.{IsBelow, block_count};
+ghost use Rattle.raster_store.specs.Views.{AreBelow, times_fields};
+ghost use Rattle.raster_store.specs.Holding.{has_name, IsWhole, AreApart, NoneNamed, IsNamedAt};
 
-use crate::field::FieldIndex;
+use arr_core::{Domain, Name, Signature};
 use block_file::Blocks;
-use tile_index::Entry;
+use std::alloc::{AllocError, Global};
+use tile_index::TileIndex;
+use tile_store::{Fault, FieldIndex, give_back};
+
+/// A coverage: its signature, and the index of each field.
+#[derive(Drop)]
+pub(crate) struct Held {
+    pub(crate) signature: Signature,
+    pub(crate) fields: Vec<FieldIndex>,
+}
+
+/// The place of the first coverage with a name.
+fn position_of(held: &[Held], name: &Name) -> Option<usize>
+    ensures { result ≡ position (has_name name.now) held.now }
+{
+    held.iter().position(|coverage| coverage.signature.name == *name)
+}
+
+/// The place of the coverage with a name.
+pub(crate) fn place_of(held: &[Held], name: &Name) -> Option<usize>
+    requires { AreApart held.now }
+    ensures some { IfSome result (λ place. IsNamedAt name.now held.now place) }
+    ensures none { IfNone result (NoneNamed name.now held.now) }
+{
+    match position_of(held, name) {
+        Some(place) => Some(place),
+        None => None,
+    }
+}
+
+/// The place of the coverage with a name that is held.
+pub(crate) fn place_held(held: &[Held], name: &Name) -> usize
+    requires apart { AreApart held.now }
+    requires some { NoneNamed name.now held.now → ⊥ }
+    ensures { IsNamedAt name.now held.now result }
+{
+    match place_of(held, name) {
+        Some(place) => place,
+        None => unreachable!(),
+    }
+}
+
+/// The same signature again.
+fn copy_of(alloc: Global, signature: &Signature) -> Result<Signature, AllocError>
+    ensures { IfOk result (λ s. s ≡ signature.now) }
+{
+    let name = signature.name.copy(alloc)?;
+    let domain = signature.domain.copy(alloc)?;
+    let fields = signature.fields.copy(alloc)?;
+    Ok(Signature { name, domain, fields })
+}
+
+/// Whether an index lists only tiles below a number.
+fn is_below(index: &TileIndex, tiles: u64) -> bool
+    ensures { IsTrue result ↔ IsBelow tiles index.now }
+{
+    index.as_slice().iter().all(|pair| pair.0 < tiles)
+}
+
+/// Whether each index lists only tiles of a domain, which has so many.
+fn are_below(fields: &[FieldIndex], domain: &Domain, tiles: u64) -> bool
+    requires { tiles ≡ length (tile_boxes domain.now) }
+    ensures below { IsTrue result ↔ AreBelow domain.now fields.now }
+    ensures indexes { IsTrue result → All IsIndex fields.now }
+{
+    match fields {
+        [] => true,
+        [first, rest @ ..] => is_below(first.index(), tiles) && are_below(rest, domain, tiles),
+    }
+}
+
+/// The indexes, each with its size.
+fn sized(alloc: Global, indexes: Vec<TileIndex>) -> Result<Vec<FieldIndex>, AllocError>
+    ensures { IfOk result (λ fields. fields.items ≡ indexes.items) }
+{
+    let mut fields = Vec::new(alloc);
+    for index in indexes {
+        fields.push(FieldIndex::new(index))?;
+    }
+    Ok(fields)
+}
+
+/// The indexes of so many fields that are 0 everywhere.
+fn empty_fields(alloc: Global, count: usize) -> Result<Vec<FieldIndex>, AllocError>
+    ensures { IfOk result (λ fields. fields.items ≡ replicate count []) }
+{
+    let mut fields = Vec::new(alloc);
+    for _ in 0..count {
+        fields.push(FieldIndex::empty(alloc))?;
+    }
+    Ok(fields)
+}
 
 /// Gives back the blocks of all tiles of fields.
-pub(crate) fn give_back_all<B: Blocks>(blocks: &mut B, fields: &[FieldIndex])
+pub(crate) fn give_back_fields<B: Blocks>(blocks: &mut B, fields: &[FieldIndex])
     requires { AreUsed (λ k. times_fields k fields.now) (B.uses blocks.old) }
     ensures uses { (k : ℕ) → B.uses blocks.new k + times_fields k fields.now ≡ B.uses blocks.old k }
+    ensures free { B.free_blocks blocks.new ≡ B.free_blocks blocks.old + sum_by block_count fields.now }
     ensures content { B.content blocks.new ≡ B.content blocks.old }
     ensures honest { B.honest blocks.new ≡ B.honest blocks.old }
     ensures failures { B.failures blocks.new ≡ B.failures blocks.old }
 {
     for field in fields {
-        give_back_index(blocks, field.index.as_slice());
+        give_back(blocks, field);
     }
 }
 
-/// Gives back the blocks of entries.
-fn give_back_index<B: Blocks>(blocks: &mut B, entries: &[(u64, Entry)])
-    requires { AreUsed (λ k. times_in k entries.now) (B.uses blocks.old) }
-    ensures uses { (k : ℕ) → B.uses blocks.new k + times_in k entries.now ≡ B.uses blocks.old k }
-    ensures content { B.content blocks.new ≡ B.content blocks.old }
-    ensures honest { B.honest blocks.new ≡ B.honest blocks.old }
-    ensures failures { B.failures blocks.new ≡ B.failures blocks.old }
-{
-    for (_tile, entry) in entries {
-        blocks.give_back(entry.blocks.as_slice());
+impl Held {
+    /// A coverage whose tiles are listed already: `Damaged` where one is past the domain's.
+    pub(crate) fn listed(alloc: Global, signature: &Signature, indexes: Vec<TileIndex>) -> Result<Held, Fault>
+        requires { length indexes.items ≡ length signature.now.fields }
+        ensures signature { IfOk result (λ h. h.signature ≡ signature.now) }
+        ensures fields { IfOk result (λ h. h.fields.items ≡ indexes.items) }
+        ensures whole { IfOk result (λ h. IsWhole h) }
+        ensures damaged { IsErrOf result Fault.Damaged → AreBelow signature.now.domain indexes.items → ⊥ }
+        ensures no_disk { IsErrOf result Fault.DiskFault → ⊥ }
+        ensures no_room { IsErrOf result Fault.NoRoom → ⊥ }
+    {
+        let signature = copy_of(alloc, signature)?;
+        let fields = sized(alloc, indexes)?;
+        if !are_below(&fields, &signature.domain, signature.domain.tiles()) {
+            return Err(Fault::Damaged);
+        }
+        Ok(Held { signature, fields })
+    }
+
+    /// A coverage that is 0 or false everywhere.
+    pub(crate) fn empty(alloc: Global, signature: &Signature) -> Result<Held, AllocError>
+        ensures signature { IfOk result (λ h. h.signature ≡ signature.now) }
+        ensures fields { IfOk result (λ h. h.fields.items ≡ replicate (length signature.now.fields) []) }
+        ensures whole { IfOk result (λ h. IsWhole h) }
+    {
+        let signature = copy_of(alloc, signature)?;
+        let fields = empty_fields(alloc, signature.fields.len())?;
+        Ok(Held { signature, fields })
     }
 }

@@ -1,15 +1,14 @@
-//! A store of coverages over the blocks of a file: each field of a coverage is kept in tiles, and a tile as runs of
-//! equal cells. A write goes to fresh blocks first, and then the index of the field is exchanged.
+//! A store of coverages over the blocks of a file. Each coverage has a name, and a function a field over the points of
+//! its domain; a field is kept in tiles.
 #![tactic(auto)]
 
-mod bytes;
-mod copy;
 mod fault;
-mod field;
 mod held;
-mod numbers;
-mod reserve;
-mod tile;
-mod update;
+mod reading;
+mod sizes;
+mod store;
+mod writing;
 
-pub use fault::{Fault, WriteFault};
+pub use fault::WriteFault;
+pub use store::RasterStore;
+pub use tile_store::Fault;

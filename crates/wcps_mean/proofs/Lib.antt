@@ -7,3 +7,4 @@ pub mod Positions
 pub mod Joins
 pub mod Told
 pub mod Rows
+pub mod FewCells

@@ -1,7 +1,10 @@
 //! The answer of a query: its items, or the first fault.
 
-ghost use Rattle.std.specs.Prelude.{◌≡◌, List, [], ◌∷◌, ◌++◌, Ok, Err, Result, IfOk, IfErr, OnOk, MatchResult, map, option_map};
-ghost use Rattle.wcps_types.specs.Typed.{typed_view, field_view, item_view, combination_view, query_view};
+ghost use Rattle.std.specs.Prelude.{◌≡◌, ◌≤◌, ◌*◌, List, [], ◌∷◌, ◌++◌, Ok, Err, Result, IfOk, IfErr, OnOk, MatchResult, length, map, option_map};
+ghost use Rattle.arr_core.specs.Domains.{count};
+ghost use Rattle.wcps_types.specs.Cells.{result_cells, max_cells};
+ghost use Rattle.wcps_types.specs.Typed.{typed_view, field_view, item_view, combination_view};
+ghost use Rattle.wcps_types.specs.TypedQueries.{query_view};
 ghost use Rattle.wcps_mean.specs.Answer.{answer, combination_answer, chosen, item_answer, cells_at, cell_of, line_of, field_count};
 ghost use Rattle.wcps_mean.specs.Errors.{TellsFault, PushesCells, PassesOn};
 
@@ -71,13 +74,14 @@ pub fn eval_plain<C: Cells>(
     ensures items { IfOk result (λ items. C.intact cells.old → answer (C.cells cells.old) (query_view query.now) ≡ Ok items.items) }
     ensures fault { IfErr result (λ e. C.intact cells.old → TellsFault e (answer (C.cells cells.old) (query_view query.now))) }
     ensures same { C.cells cells.new ≡ C.cells cells.old }
+    ensures kept { C.kept cells.new ≡ C.kept cells.old }
     ensures intact { C.intact cells.old → C.intact cells.new }
     ensures reports { PassesOn result (C.intact cells.old) (C.failures cells.old) (C.failures cells.new) }
 {
     let mut items = Vec::new(alloc);
     let mut env = Vec::new(alloc);
     let mut points = Vec::new(alloc);
-    for combination in &query.combinations {
+    for combination in query.combinations() {
         push_combination(alloc, cells, combination, &mut items, &mut env, &mut points)?;
     }
     Ok(items)
@@ -94,11 +98,13 @@ fn push_combination<C: Cells>(
 ) -> Result<(), EvalError>
     requires scope_empty { env.old.items ≡ [] }
     requires place_empty { points.old.items ≡ [] }
+    requires few_cells { result_cells (combination_view combination.now ∷ []) ≤ max_cells }
     ensures value { OnOk result (C.intact cells.old → PushesCells (combination_answer (C.cells cells.old) (combination_view combination.now)) items.old.items items.new.items) }
     ensures fault { IfErr result (λ e. C.intact cells.old → TellsFault e (combination_answer (C.cells cells.old) (combination_view combination.now))) }
     ensures scope { OnOk result (env.new.items ≡ []) }
     ensures place { OnOk result (points.new.items ≡ []) }
     ensures same { C.cells cells.new ≡ C.cells cells.old }
+    ensures kept { C.kept cells.new ≡ C.kept cells.old }
     ensures intact { C.intact cells.old → C.intact cells.new }
     ensures reports { PassesOn result (C.intact cells.old) (C.failures cells.old) (C.failures cells.new) }
 {
@@ -125,6 +131,7 @@ fn is_chosen<C: Cells>(
     ensures scope { OnOk result (env.new.items ≡ []) }
     ensures place { OnOk result (points.new.items ≡ []) }
     ensures same { C.cells cells.new ≡ C.cells cells.old }
+    ensures kept { C.kept cells.new ≡ C.kept cells.old }
     ensures intact { C.intact cells.old → C.intact cells.new }
     ensures reports { PassesOn result (C.intact cells.old) (C.failures cells.old) (C.failures cells.new) }
 {
@@ -150,17 +157,19 @@ fn item_of<C: Cells>(
 ) -> Result<Item, EvalError>
     requires scope_empty { env.old.items ≡ [] }
     requires place_empty { points.old.items ≡ [] }
+    requires few_cells { count item.now.domain * length (map field_view item.now.fields.items) ≤ max_cells }
     ensures value { IfOk result (λ i. C.intact cells.old → item_answer (C.cells cells.old) (item_view item.now) ≡ Ok i) }
     ensures fault { IfErr result (λ e. C.intact cells.old → TellsFault e (item_answer (C.cells cells.old) (item_view item.now))) }
     ensures scope { OnOk result (env.new.items ≡ []) }
     ensures place { OnOk result (points.new.items ≡ []) }
     ensures same { C.cells cells.new ≡ C.cells cells.old }
+    ensures kept { C.kept cells.new ≡ C.kept cells.old }
     ensures intact { C.intact cells.old → C.intact cells.new }
     ensures reports { PassesOn result (C.intact cells.old) (C.failures cells.old) (C.failures cells.new) }
 {
-    let fields = count_fields(item.fields.len());
-    let count = (item.domain.points() as usize).saturating_mul(fields as usize);
-    let mut list = Vec::with_capacity(alloc, count)?;
+    let fields = count_fields(item);
+    let count = item.domain.points() * fields as u64;
+    let mut list = Vec::with_capacity(alloc, count as usize)?;
     for place in 0..item.domain.points() {
         push_point(points, &item.domain, place)?;
         push_cells(cells, &item.fields, env, points, &mut list)?;
@@ -187,6 +196,7 @@ fn push_cells<C: Cells>(
     ensures scope { OnOk result (env.new.items ≡ []) }
     ensures place { OnOk result (points.new.items ≡ points.old.items) }
     ensures same { C.cells cells.new ≡ C.cells cells.old }
+    ensures kept { C.kept cells.new ≡ C.kept cells.old }
     ensures intact { C.intact cells.old → C.intact cells.new }
     ensures reports { PassesOn result (C.intact cells.old) (C.failures cells.old) (C.failures cells.new) }
 {
@@ -211,11 +221,13 @@ fn cell_of(boolean: bool, x: i64) -> Cell
     }
 }
 
-/// How many fields an item has. (A typed item has far fewer than 2^32: a query has at most 65,536 bytes.)
-fn count_fields(fields: usize) -> u32
-    ensures { result ≡ field_count fields }
+/// How many fields an item has, whose cells are few.
+fn count_fields(item: &TypedItem) -> u32
+    requires { count item.now.domain * length (map field_view item.now.fields.items) ≤ max_cells }
+    ensures value { result ≡ field_count (length item.now.fields.items) }
+    ensures same { result ≡ length item.now.fields.items }
 {
-    u32::try_from(fields).unwrap_or(u32::MAX)
+    item.fields.len() as u32
 }
 
 /// How many points a run along the last axis has.

@@ -45,12 +45,18 @@ pub trait Cells {
     /// cells.
     ghost intact: { Self → Type 0 } = { λ _. ⊤ };
 
+    /// What a call leaves as it is, beside the cells.
+    ghost Kept: { Type 0 } = { Unit {0} };
+
+    ghost kept: { Self → Self.Kept };
+
     /// That cell. The point has a coordinate of each axis, in the axes' order. Refused with `DiskFault` only where the
     /// count of failures rose or stands at its last value, and with `Damaged` only where what is kept is not intact.
     /// Caches may change, the cells do not.
     fn cell(&mut self, coverage: usize, field: usize, point: &[i32]) -> Result<i64, CellError>
         ensures value { IfOk result (λ z. intact self.old → z ≡ cells self.old coverage field point.now) }
         ensures same { cells self.new ≡ cells self.old }
+        ensures kept { Self.kept self.new ≡ Self.kept self.old }
         ensures intact { intact self.old → intact self.new }
         ensures reports { Reports result (intact self.old) (failures self.old) (failures self.new) };
 }

@@ -33,6 +33,7 @@ pub(crate) fn eval<C: Cells>(
     ensures scope { OnOk result (env.new.items ≡ env.old.items) }
     ensures place { OnOk result (points.new.items ≡ points.old.items) }
     ensures same { C.cells cells.new ≡ C.cells cells.old }
+    ensures kept { C.kept cells.new ≡ C.kept cells.old }
     ensures intact { C.intact cells.old → C.intact cells.new }
     ensures reports { Reports result (C.intact cells.old) (C.failures cells.old) (C.failures cells.new) }
 {
@@ -125,6 +126,7 @@ fn at_iterators<C: Cells>(
     ensures scope { OnOk result (env.new.items ≡ env.old.items) }
     ensures place { OnOk result (points.new.items ≡ points.old.items) }
     ensures same { C.cells cells.new ≡ C.cells cells.old }
+    ensures kept { C.kept cells.new ≡ C.kept cells.old }
     ensures intact { C.intact cells.old → C.intact cells.new }
     ensures reports { Reports result (C.intact cells.old) (C.failures cells.old) (C.failures cells.new) }
 {
@@ -152,6 +154,7 @@ fn at_coordinate<C: Cells>(
     ensures scope { OnOk result (env.new.items ≡ env.old.items) }
     ensures place { OnOk result (points.new.items ≡ points.old.items) }
     ensures same { C.cells cells.new ≡ C.cells cells.old }
+    ensures kept { C.kept cells.new ≡ C.kept cells.old }
     ensures intact { C.intact cells.old → C.intact cells.new }
     ensures reports { Reports result (C.intact cells.old) (C.failures cells.old) (C.failures cells.new) }
 {
@@ -176,6 +179,7 @@ fn condense<C: Cells>(
     ensures scope { OnOk result (env.new.items ≡ env.old.items) }
     ensures place { OnOk result (points.new.items ≡ points.old.items) }
     ensures same { C.cells cells.new ≡ C.cells cells.old }
+    ensures kept { C.kept cells.new ≡ C.kept cells.old }
     ensures intact { C.intact cells.old → C.intact cells.new }
     ensures reports { Reports result (C.intact cells.old) (C.failures cells.old) (C.failures cells.new) }
 {
@@ -205,6 +209,7 @@ fn reduce<C: Cells>(
     ensures scope { OnOk result (env.new.items ≡ env.old.items) }
     ensures place { OnOk result (points.new.items ≡ points.old.items) }
     ensures same { C.cells cells.new ≡ C.cells cells.old }
+    ensures kept { C.kept cells.new ≡ C.kept cells.old }
     ensures intact { C.intact cells.old → C.intact cells.new }
     ensures reports { Reports result (C.intact cells.old) (C.failures cells.old) (C.failures cells.new) }
 {

@@ -12,8 +12,6 @@ mod part;
 mod points;
 mod product;
 mod running;
-#[cfg(test)]
-mod tests;
 
 pub use aggregate::{Aggregate, of_condenser, of_reduction};
 pub use answer::{EvalError, eval_plain};

@@ -1,7 +1,8 @@
 //! The outcome of a part of a query at a point.
 
 ghost use Rattle.std.specs.Prelude.{◌≡◌, List, [], IfOk, Option, Some, None, option_map};
-ghost use Rattle.wcps_types.specs.Typed.{typed_view, combination_view, query_view};
+ghost use Rattle.wcps_types.specs.Typed.{typed_view, combination_view};
+ghost use Rattle.wcps_types.specs.TypedQueries.{query_view};
 ghost use Rattle.wcps_mean.specs.Meaning.{val};
 ghost use Rattle.wcps_mean.specs.Reports.{Reports};
 ghost use Rattle.wcps_mean.specs.Parts.{part_value, of_combination, condition_value, body_value};
@@ -36,11 +37,13 @@ pub fn value_at<C: Cells>(
 ) -> Result<Option<Outcome>, CellError>
     ensures value { IfOk result (λ o. C.intact cells.old → o ≡ part_value (C.cells cells.old) (query_view query.now) combination part point.now) }
     ensures same { C.cells cells.new ≡ C.cells cells.old }
+    ensures kept { C.kept cells.new ≡ C.kept cells.old }
     ensures intact { C.intact cells.old → C.intact cells.new }
     ensures reports { Reports result (C.intact cells.old) (C.failures cells.old) (C.failures cells.new) }
 {
-    if combination < query.combinations.len() {
-        let o = part_of(alloc, cells, &query.combinations[combination], part, point)?;
+    let combinations = query.combinations();
+    if combination < combinations.len() {
+        let o = part_of(alloc, cells, &combinations[combination], part, point)?;
         return Ok(o);
     }
     Ok(None)
@@ -56,6 +59,7 @@ fn part_of<C: Cells>(
 ) -> Result<Option<Outcome>, CellError>
     ensures value { IfOk result (λ o. C.intact cells.old → o ≡ of_combination (C.cells cells.old) point.now part (combination_view combination.now)) }
     ensures same { C.cells cells.new ≡ C.cells cells.old }
+    ensures kept { C.kept cells.new ≡ C.kept cells.old }
     ensures intact { C.intact cells.old → C.intact cells.new }
     ensures reports { Reports result (C.intact cells.old) (C.failures cells.old) (C.failures cells.new) }
 {
@@ -101,6 +105,7 @@ fn condition_at<C: Cells>(
 ) -> Result<Option<Outcome>, CellError>
     ensures value { IfOk result (λ o. C.intact cells.old → o ≡ condition_value (C.cells cells.old) point.now (typed_view node.now)) }
     ensures same { C.cells cells.new ≡ C.cells cells.old }
+    ensures kept { C.kept cells.new ≡ C.kept cells.old }
     ensures intact { C.intact cells.old → C.intact cells.new }
     ensures reports { Reports result (C.intact cells.old) (C.failures cells.old) (C.failures cells.new) }
 {
@@ -122,6 +127,7 @@ fn body_at<C: Cells>(
 ) -> Result<Option<Outcome>, CellError>
     ensures value { IfOk result (λ o. C.intact cells.old → o ≡ body_value (C.cells cells.old) point.now (typed_view node.now)) }
     ensures same { C.cells cells.new ≡ C.cells cells.old }
+    ensures kept { C.kept cells.new ≡ C.kept cells.old }
     ensures intact { C.intact cells.old → C.intact cells.new }
     ensures reports { Reports result (C.intact cells.old) (C.failures cells.old) (C.failures cells.new) }
 {
@@ -152,6 +158,7 @@ fn outcome_at<C: Cells>(
 ) -> Result<Outcome, CellError>
     ensures value { IfOk result (λ o. C.intact cells.old → o ≡ val (C.cells cells.old) (typed_view node.now) iterators.now point.now) }
     ensures same { C.cells cells.new ≡ C.cells cells.old }
+    ensures kept { C.kept cells.new ≡ C.kept cells.old }
     ensures intact { C.intact cells.old → C.intact cells.new }
     ensures reports { Reports result (C.intact cells.old) (C.failures cells.old) (C.failures cells.new) }
 {

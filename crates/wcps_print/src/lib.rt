@@ -7,5 +7,3 @@ mod words;
 
 pub use query::print;
 
-#[cfg(test)]
-mod tests;

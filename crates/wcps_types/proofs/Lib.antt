@@ -4,3 +4,9 @@ pub mod Domains
 pub mod Parts
 pub mod Choices
 pub mod Rows
+pub mod Narrower
+pub mod Gives
+pub mod TypedForms
+pub mod TypedBrackets
+pub mod Sound
+pub mod SoundQueries

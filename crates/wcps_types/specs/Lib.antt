@@ -1,5 +1,7 @@
 pub mod Typed
 pub mod WellTyped
+pub mod WellTypedOnce
+pub mod TypedQueries
 pub mod Names
 pub mod Shapes
 pub mod Operators

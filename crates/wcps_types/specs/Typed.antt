@@ -11,7 +11,6 @@ use Rattle.wcps_types.specs.declared.typed.Node.TheVariants as nodes
 use Rattle.wcps_types.specs.declared.typed.TypedField.{TypedField}
 use Rattle.wcps_types.specs.declared.typed.TypedItem.{TypedItem}
 use Rattle.wcps_types.specs.declared.typed.Combination.{Combination}
-use Rattle.wcps_types.specs.declared.typed.TypedQuery.{TypedQuery}
 
 -- What gives one field of a value at each point of its domain, under the iterators in scope; see `Node`.
 pub data Typed : Type 0 where
@@ -83,6 +82,3 @@ item_view i = record { domain = i.domain; fields = map field_view i.fields.items
 
 abbrev pub combination_view : Combination → CombinationTree
 combination_view c = record { condition = option_map typed_view c.condition; item = item_view c.item }
-
-abbrev pub query_view : TypedQuery → TypedTree
-query_view q = record { coverages = q.coverages.items; combinations = map combination_view q.combinations.items }

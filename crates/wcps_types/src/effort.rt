@@ -124,11 +124,10 @@ pub fn combinations_work(combinations: &[Combination]) -> u64
     total
 }
 
-/// The work of a typed query, which is at most `MAX_WORK` where `check` gave the query; of any other one no more than
-/// `MAX_WORK` and one is told.
+/// The work of a typed query.
 pub fn work(query: &TypedQuery) -> u64
-    ensures capped { result ≡ capped (query_work (map combination_view query.now.combinations.items)) }
-    ensures exact { query_work (map combination_view query.now.combinations.items) ≤ max_work → result ≡ query_work (map combination_view query.now.combinations.items) }
+    ensures value { result ≡ query_work (map combination_view query.now.combinations.items) }
+    ensures little { result ≤ max_work }
 {
-    combinations_work(&query.combinations)
+    combinations_work(query.combinations())
 }

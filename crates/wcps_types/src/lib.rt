@@ -16,8 +16,6 @@ mod query;
 mod records;
 mod refusal;
 mod shape;
-#[cfg(test)]
-mod tests;
 mod typed;
 mod variables;
 

@@ -4,7 +4,8 @@ ghost use Rattle.std.specs.Prelude.{◌≡◌, ◌≤◌, [], IfOk, map};
 ghost use Rattle.wcps_types.specs.Cells.{result_cells, max_cells};
 ghost use Rattle.wcps_types.specs.Work.{query_work, max_work};
 ghost use Rattle.wcps_text.specs.Tree.{query_view, item_view as tree_item_view};
-ghost use Rattle.wcps_types.specs.Typed.{field_view, item_view, combination_view, query_view as typed_query_view};
+ghost use Rattle.wcps_types.specs.Typed.{field_view, item_view, combination_view};
+ghost use Rattle.wcps_types.specs.TypedQueries.{query_view as typed_query_view};
 ghost use Rattle.wcps_types.specs.Shapes.{Says, shape_view, slots_view};
 ghost use Rattle.wcps_types.specs.Bindings.{choice_view, combination_count, combinations};
 ghost use Rattle.wcps_types.specs.Queries.{field_of_slot, item_of, plain_item, typ_item, typ_combination, typ_each, typ_query};
@@ -130,8 +131,5 @@ pub fn check(
     if combinations_work(&combinations) > MAX_WORK {
         return Err(CheckError::Refused(TypeRefusal::TooMuchWork));
     }
-    Ok(TypedQuery {
-        coverages,
-        combinations,
-    })
+    Ok(TypedQuery::new(coverages, combinations))
 }

@@ -2,6 +2,13 @@
 //! an iterator its level among those in scope (outermost first, from 0), an axis its place in the domain. Each field of
 //! a value has a tree of its own, and a Boolean is 0 or 1 in it.
 
+ghost use Rattle.std.specs.Prelude.{◌≡◌, ◌≤◌, map};
+ghost use Rattle.wcps_types.specs.Cells.{result_cells, max_cells};
+ghost use Rattle.wcps_types.specs.Work.{query_work, max_work};
+ghost use Rattle.wcps_types.specs.Typed.{combination_view};
+ghost use Rattle.wcps_types.specs.WellTyped.{AreTyped};
+ghost use Rattle.wcps_types.specs.WellTypedOnce.{AreTyped-prop};
+
 use arr_core::{Domain, Signature};
 
 /// An operation on one value.
@@ -137,12 +144,48 @@ pub struct Combination {
     pub item: TypedItem,
 }
 
-/// A typed query. It owns all that it needs.
+/// A typed query, which `check` alone gives. It owns all that it needs, and each of its trees can be evaluated: every
+/// coverage, field, axis and iterator has its place, and a list has an item for each point. Its result has at most
+/// 2^20 cells, and its work is at most 2^32 steps.
 #[derive(Debug, Drop)]
 pub struct TypedQuery {
+    coverages: Vec<Signature>,
+    combinations: Vec<Combination>,
+    pub ghost typed: { AreTyped coverages.items (map combination_view combinations.items) } by { AreTyped-prop coverages.items (map combination_view combinations.items) },
+    pub ghost few_cells: { result_cells (map combination_view combinations.items) ≤ max_cells },
+    pub ghost little_work: { query_work (map combination_view combinations.items) ≤ max_work },
+}
+
+impl TypedQuery {
+    /// The query with those combinations over those coverages.
+    pub(crate) fn new(coverages: Vec<Signature>, combinations: Vec<Combination>) -> TypedQuery
+        requires typed { AreTyped coverages.items (map combination_view combinations.items) }
+        requires few_cells { result_cells (map combination_view combinations.items) ≤ max_cells }
+        requires little_work { query_work (map combination_view combinations.items) ≤ max_work }
+        ensures coverages { result.coverages ≡ coverages }
+        ensures combinations { result.combinations ≡ combinations }
+    {
+        TypedQuery {
+            coverages,
+            combinations,
+        }
+    }
+
     /// The coverages that the `for` list names, each once, in the order of their first mention. Trees refer to them by
     /// their place.
-    pub coverages: Vec<Signature>,
+    pub fn coverages(&self) -> &[Signature]
+        ensures { result.now ≡ self.now.coverages.items }
+    {
+        &self.coverages
+    }
+
     /// One for each choice of coverages, the first variable outermost, in listed order.
-    pub combinations: Vec<Combination>,
+    pub fn combinations(&self) -> &[Combination]
+        ensures value { result.now ≡ self.now.combinations.items }
+        ensures typed { AreTyped self.now.coverages.items (map combination_view result.now) }
+        ensures few_cells { result_cells (map combination_view result.now) ≤ max_cells }
+        ensures little_work { query_work (map combination_view result.now) ≤ max_work }
+    {
+        &self.combinations
+    }
 }

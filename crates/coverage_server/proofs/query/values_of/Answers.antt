@@ -3,7 +3,7 @@ use Rattle.std.proofs.lemmas.Result.{err_from_is_err_and}
 use Rattle.arr_core.specs.declared.signature.Signature.{Signature}
 use Rattle.wcps_text.specs.Tree.{query_view}
 use Rattle.wcps_types.specs.Queries.{typ_query}
-use Rattle.wcps_types.specs.Typed.{query_view as typed_view}
+use Rattle.wcps_types.specs.TypedQueries.{query_view as typed_view}
 use Rattle.csv_out.specs.Csv.{csv}
 use Rattle.coverage_server.specs.Holding.{signature_of}
 use Rattle.coverage_server.specs.Stages.{GivesTyped, GivesValues}

@@ -1,7 +1,9 @@
 use Rattle.std.proofs.Common.{◌<◌, ◌∙◌, ap, sym, arith, length, get_or, Ok}
 use Rattle.std.proofs.lemmas.Result.{err_from_is_err_and}
 use Rattle.wcps_types.specs.Typed.{combination_view}
+use Rattle.wcps_types.specs.Cells.{max_cells}
 use Rattle.wcps_mean.specs.Answer.{combination_answer, joined}
+use Rattle.wcps_mean.proofs.FewCells.{few_in_one}
 use Rattle.wcps_mean.proofs.Told.{passes-from}
 use Rattle.wcps_mean.proofs.Joins.{turn-more, turn-stop, turns-all, map-map, tells-on, pushed-ok}
 use Rattle.wcps_mean.proofs.answer.eval_plain.Goals as goal
@@ -12,8 +14,8 @@ returns-in_err-push_combination-clause-fault g c =
     let s = g.C.Cells.cells c.args.cells.now in
     let all = c.args.query.now.combinations.items in
     let x = c.combination-item.result in
-    let is = c.combination-item.is ∙ ap (λ l. get_or l c.loop-combination.combination-index x) c.deref-combination-items.ensures.value in
-    let lt : c.loop-combination.combination-index < length c.args.query.now.combinations.items = omega (arith, ap length c.deref-combination-items.ensures.value) in
+    let is = c.combination-item.is ∙ ap (λ l. get_or l c.loop-combination.combination-index x) c.combinations-combination-items.ensures.value in
+    let lt : c.loop-combination.combination-index < length c.args.query.now.combinations.items = omega (arith, ap length c.combinations-combination-items.ensures.value) in
     let same = ap (λ s. combination_answer s (combination_view x)) inv.same in
     let p = err_from_is_err_and c.from_residual.result c.from_residual.ensures.1 in
     rw (p.1, p.2) (λ h. tells-on _ _ _
@@ -27,11 +29,12 @@ loop-combination-preserved g c =
     let s = g.C.Cells.cells c.args.cells.now in
     let all = c.args.query.now.combinations.items in
     let x = c.combination-item.result in
-    let is = c.combination-item.is ∙ ap (λ l. get_or l c.loop-combination.combination-index x) c.deref-combination-items.ensures.value in
-    let lt : c.loop-combination.combination-index < length c.args.query.now.combinations.items = omega (arith, ap length c.deref-combination-items.ensures.value) in
+    let is = c.combination-item.is ∙ ap (λ l. get_or l c.loop-combination.combination-index x) c.combinations-combination-items.ensures.value in
+    let lt : c.loop-combination.combination-index < length c.args.query.now.combinations.items = omega (arith, ap length c.combinations-combination-items.ensures.value) in
     let same = ap (λ s. combination_answer s (combination_view x)) inv.same in
     record {
       same = c.in_ok-push_combination.ensures.same ∙ inv.same;
+      kept = c.in_ok-push_combination.ensures.kept ∙ inv.kept;
       intact = λ h. c.in_ok-push_combination.ensures.intact (inv.intact h);
       failures = c.in_ok-push_combination.ensures.reports ∙ inv.failures;
       scope = c.in_ok-push_combination.ensures.scope;
@@ -46,7 +49,7 @@ returns-clause-items g c h =
     let s = g.C.Cells.cells c.args.cells.now in
     let all = c.args.query.now.combinations.items in
     ap joined (map-map (combination_answer s) combination_view all)
-    ∙ sym (turns-all (λ t. combination_answer s (combination_view t)) all c.loop-combination.combination-index (omega (arith, ap length c.deref-combination-items.ensures.value)))
+    ∙ sym (turns-all (λ t. combination_answer s (combination_view t)) all c.loop-combination.combination-index (omega (arith, ap length c.combinations-combination-items.ensures.value)))
     ∙ inv.pushed h
 
 pub returns-in_err-push_combination-clause-reports : goal.returns-in_err-push_combination-clause-reports
@@ -54,3 +57,11 @@ returns-in_err-push_combination-clause-reports g c =
     let inv = c.loop-combination.invariant in
     let p = err_from_is_err_and c.from_residual.result c.from_residual.ensures.1 in
     rw (p.1, p.2) (passes-from _ _ _ _ inv.intact inv.failures c.in_err-push_combination.ensures.reports)
+
+pub push_combination-requires-clause-few_cells : goal.push_combination-requires-clause-few_cells
+push_combination-requires-clause-few_cells g c =
+    let all = c.args.query.now.combinations.items in
+    let x = c.combination-item.result in
+    let is = c.combination-item.is ∙ ap (λ l. get_or l c.loop-combination.combination-index x) c.combinations-combination-items.ensures.value in
+    let lt : c.loop-combination.combination-index < length all = omega (arith, ap length c.combinations-combination-items.ensures.value) in
+    few_in_one all c.loop-combination.combination-index x max_cells lt is c.args.query.now.few_cells

@@ -6,6 +6,7 @@ use Rattle.wcps_mean.proofs.answer.eval_plain.Given as goal
 abbrev pub invariant-loop-combination : goal.invariant-loop-combination
 invariant-loop-combination g l = record {
   same : g.C.Cells.cells l.cells ≡ g.C.Cells.cells l.fn.cells;
+  kept : g.C.Cells.kept l.cells ≡ g.C.Cells.kept l.fn.cells;
   intact : g.C.Cells.intact l.fn.cells → g.C.Cells.intact l.cells;
   failures : g.C.Cells.failures l.cells ≡ g.C.Cells.failures l.fn.cells;
   scope : l.env.items ≡ [];

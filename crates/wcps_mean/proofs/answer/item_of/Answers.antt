@@ -2,7 +2,9 @@ use Rattle.std.proofs.Common.{◌<◌, ◌∙◌, ap, sym, refl, arith, [], ◌+
 use Rattle.std.proofs.lemmas.Result.{err_from_is_err_and}
 use Rattle.arr_core.specs.Domains.{points}
 use Rattle.wcps_types.specs.Typed.{field_view, item_view}
+use Rattle.wcps_types.specs.Cells.{max_cells}
 use Rattle.wcps_mean.specs.Answer.{cells_at}
+use Rattle.wcps_mean.proofs.FewCells.{few_products}
 use Rattle.wcps_mean.proofs.Told.{passes-from}
 use Rattle.wcps_mean.proofs.Joins.{turn-more, turn-stop, pushed-ok, tells-on, item-err}
 use Rattle.wcps_mean.proofs.answer.item_of.Goals as goal
@@ -36,6 +38,7 @@ loop-place-preserved g c =
     ∙ ap (cells_at s fields) (c.in_ok-push_point.ensures ∙ ap (λ l. l ++ x) inv.spot) in
     record {
       same = c.in_ok-push_cells.ensures.same ∙ inv.same;
+      kept = c.in_ok-push_cells.ensures.kept ∙ inv.kept;
       intact = λ h. c.in_ok-push_cells.ensures.intact (inv.intact h);
       failures = c.in_ok-push_cells.ensures.reports ∙ inv.failures;
       scope = c.in_ok-push_cells.ensures.scope;
@@ -49,3 +52,8 @@ returns-in_err-push_cells-clause-reports g c =
     let inv = c.loop-place.invariant in
     let p = err_from_is_err_and c.from_residual-in_err-push_cells.result c.from_residual-in_err-push_cells.ensures.1 in
     rw (p.1, p.2) (passes-from _ _ _ _ inv.intact inv.failures c.in_err-push_cells.ensures.reports)
+
+pub overflow_mul-count : goal.overflow_mul-count
+overflow_mul-count g c =
+    let few = few_products c.args.item.now.domain c.args.item.now.fields.items _ _ max_cells c.points.ensures.count c.count_fields-fields.ensures.same c.requires.few_cells in
+    omega (arith, few)

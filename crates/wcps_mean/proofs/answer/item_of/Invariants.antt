@@ -7,6 +7,7 @@ use Rattle.wcps_mean.proofs.answer.item_of.Given as goal
 abbrev pub invariant-loop-place : goal.invariant-loop-place
 invariant-loop-place g l = record {
   same : g.C.Cells.cells l.cells ≡ g.C.Cells.cells l.fn.cells;
+  kept : g.C.Cells.kept l.cells ≡ g.C.Cells.kept l.fn.cells;
   intact : g.C.Cells.intact l.fn.cells → g.C.Cells.intact l.cells;
   failures : g.C.Cells.failures l.cells ≡ g.C.Cells.failures l.fn.cells;
   scope : l.env.items ≡ [];

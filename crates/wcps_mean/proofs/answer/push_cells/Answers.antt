@@ -43,6 +43,7 @@ loop-field-preserved g c =
     let cell : c.cell_of.result ≡ cell_of x.boolean c.in-Value.x = c.cell_of.ensures ∙ ap (cell_of x.boolean) (to_z-of_z w64 c.in-Value.x fits) in
     record {
       same = c.in_ok-o.ensures.same ∙ inv.same;
+      kept = c.in_ok-o.ensures.kept ∙ inv.kept;
       intact = λ h. c.in_ok-o.ensures.intact (inv.intact h);
       failures = c.in_ok-o.ensures.reports ∙ inv.failures;
       scope = c.in_ok-o.ensures.scope ∙ inv.scope;

@@ -32,6 +32,7 @@ condense-loop-place-preserved g t c =
     let o = λ (h : g.C.Cells.intact c.args.cells.now). c.in_ok-o.ensures.value (inv.intact h) ∙ ap (λ s. val s e c.push_point.new.list.items (drop c.len-top.result c.loop-place.points.items)) inv.same ∙ ap (λ l. val s e l (drop c.len-top.result c.loop-place.points.items)) inner ∙ ap (λ p. val s e (env ++ x) p) none in
     record {
       same = c.in_ok-o.ensures.same ∙ inv.same;
+      kept = c.in_ok-o.ensures.kept ∙ inv.kept;
       intact = λ h. c.in_ok-o.ensures.intact (inv.intact h);
       failures = c.in_ok-o.ensures.reports ∙ inv.failures;
       scope = c.truncate.ensures.items ∙ cut-back _ env x _ depth (c.in_ok-o.ensures.scope ∙ inner);
@@ -55,6 +56,7 @@ reduce-loop-place-preserved g t c =
     let o = λ (h : g.C.Cells.intact c.args.cells.now). c.in_ok-o.ensures.value (inv.intact h) ∙ ap (λ s. val s e c.loop-place.env.items (drop c.len-top.result c.push_point.new.list.items)) inv.same ∙ ap (λ l. val s e l (drop c.len-top.result c.push_point.new.list.items)) inv.scope ∙ ap (λ p. val s e env p) here in
     record {
       same = c.in_ok-o.ensures.same ∙ inv.same;
+      kept = c.in_ok-o.ensures.kept ∙ inv.kept;
       intact = λ h. c.in_ok-o.ensures.intact (inv.intact h);
       failures = c.in_ok-o.ensures.reports ∙ inv.failures;
       scope = c.in_ok-o.ensures.scope ∙ inv.scope;
@@ -155,6 +157,10 @@ eval-loop-place-preserved g t c =
       | eval-then-demands+in_ok-o-in-CondenseWhere w ↦ ap g.C.Cells.cells w.cells-is ∙ w.in_ok-o-in-CondenseWhere.ensures.same ∙ c.in_ok-c-in-CondenseWhere.ensures.same ∙ inv.same
       | eval-else-demands w ↦ ap g.C.Cells.cells w.cells-is ∙ c.in_ok-c-in-CondenseWhere.ensures.same ∙ inv.same
     ] in
+    let kept : g.C.Cells.kept c.if-demands.cells ≡ g.C.Cells.kept c.args.cells.now = elim c.if-demands.branch [
+      | eval-then-demands+in_ok-o-in-CondenseWhere w ↦ ap g.C.Cells.kept w.cells-is ∙ w.in_ok-o-in-CondenseWhere.ensures.kept ∙ c.in_ok-c-in-CondenseWhere.ensures.kept ∙ inv.kept
+      | eval-else-demands w ↦ ap g.C.Cells.kept w.cells-is ∙ c.in_ok-c-in-CondenseWhere.ensures.kept ∙ inv.kept
+    ] in
     let intact : g.C.Cells.intact c.args.cells.now → g.C.Cells.intact c.if-demands.cells = elim c.if-demands.branch [
       | eval-then-demands+in_ok-o-in-CondenseWhere w ↦ (λ h. subst g.C.Cells.intact (sym w.cells-is) (w.in_ok-o-in-CondenseWhere.ensures.intact (c.in_ok-c-in-CondenseWhere.ensures.intact (inv.intact h))))
       | eval-else-demands w ↦ (λ h. subst g.C.Cells.intact (sym w.cells-is) (c.in_ok-c-in-CondenseWhere.ensures.intact (inv.intact h)))
@@ -195,6 +201,7 @@ eval-loop-place-preserved g t c =
     ] in
     record {
       same = same;
+      kept = kept;
       intact = intact;
       failures = failures;
       scope = c.truncate.ensures.items ∙ cut-back _ env x _ depth scope;

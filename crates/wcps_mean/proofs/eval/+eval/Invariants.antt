@@ -10,6 +10,7 @@ use Rattle.wcps_mean.proofs.eval.+eval.Given as goal
 abbrev pub invariant-condense-loop-place : goal.invariant-condense-loop-place
 invariant-condense-loop-place g l = record {
   same : g.C.Cells.cells l.cells ≡ g.C.Cells.cells l.fn.cells;
+  kept : g.C.Cells.kept l.cells ≡ g.C.Cells.kept l.fn.cells;
   intact : g.C.Cells.intact l.fn.cells → g.C.Cells.intact l.cells;
   failures : g.C.Cells.failures l.cells ≡ g.C.Cells.failures l.fn.cells;
   scope : l.env.items ≡ l.fn.env.items;
@@ -22,6 +23,7 @@ invariant-condense-loop-place g l = record {
 abbrev pub invariant-reduce-loop-place : goal.invariant-reduce-loop-place
 invariant-reduce-loop-place g l = record {
   same : g.C.Cells.cells l.cells ≡ g.C.Cells.cells l.fn.cells;
+  kept : g.C.Cells.kept l.cells ≡ g.C.Cells.kept l.fn.cells;
   intact : g.C.Cells.intact l.fn.cells → g.C.Cells.intact l.cells;
   failures : g.C.Cells.failures l.cells ≡ g.C.Cells.failures l.fn.cells;
   scope : l.env.items ≡ l.fn.env.items;
@@ -34,6 +36,7 @@ invariant-reduce-loop-place g l = record {
 abbrev pub invariant-eval-loop-place : goal.invariant-eval-loop-place
 invariant-eval-loop-place g l = record {
   same : g.C.Cells.cells l.cells ≡ g.C.Cells.cells l.fn.cells;
+  kept : g.C.Cells.kept l.cells ≡ g.C.Cells.kept l.fn.cells;
   intact : g.C.Cells.intact l.fn.cells → g.C.Cells.intact l.cells;
   failures : g.C.Cells.failures l.cells ≡ g.C.Cells.failures l.fn.cells;
   scope : l.env.items ≡ l.fn.env.items;

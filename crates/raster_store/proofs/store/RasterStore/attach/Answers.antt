@@ -1,0 +1,35 @@
+use Rattle.std.proofs.Common.{◌≡◌, ℕ, ◌+◌, ◌<◌, ◌≤◌, List, [], ◌∷◌, ◌++◌, length, map, get_or, replicate, Some, None, refl, sym, ap, ◌∙◌, subst, arith, All}
+use Rattle.std.specs.Prelude.{IsTrue}
+use Rattle.arr_core.specs.declared.signature.Signature.{Signature}
+use Rattle.arr_core.specs.Stores.{Coverage, Store, found}
+use Rattle.raster_store.specs.declared.held.Held.{Held}
+use Rattle.raster_store.specs.Views.{Index, AreIntact}
+use Rattle.raster_store.specs.Calls.{MayAttach}
+use Rattle.raster_store.specs.Holding.{IsHeld, NoneNamed, coverages_of, coverage_of, indexes_of}
+use Rattle.raster_store.proofs.Places.{none_found}
+use Rattle.raster_store.proofs.Contents.{KeepsAll, coverages-push, indexes-push, coverages_kept, intact_kept}
+use Rattle.raster_store.proofs.Writes.{held_none, held_push, listed_held, may_empty, coverage_new, coverage_listed, intact_created, keeps_all, keeps_others, told, same_signatures}
+use Rattle.raster_store.proofs.store.RasterStore.attach.Goals as goal
+
+pub invariant_of-self-2 : goal.invariant_of-self-2
+invariant_of-self-2 g c =
+    let held = c.self.inside.coverages.items in
+    let content = g.B.Blocks.content c.self.inside.blocks in
+    let uses = g.B.Blocks.uses c.self.inside.blocks in
+    let honest = g.B.Blocks.honest c.self.inside.blocks in
+    let new = c.in_ok-held.held in
+    let unknown : found c.args.signature.now.name (coverages_of content held) ≡ None = rw (← c.self.view_is) at c.requires.name in
+    let none : NoneNamed new.signature.name held = subst (λ (s : Signature). NoneNamed s.name held) (sym c.in_ok-held.ensures.signature) (none_found content c.args.signature.now.name held unknown) in
+    let may : MayAttach content uses honest (indexes_of held) c.args.indexes.items = rw (← c.self.view_is) at c.requires.blocks in
+    let may_new = subst (λ (i : List Index). MayAttach content uses honest (indexes_of held) i) (sym c.in_ok-held.ensures.fields) may in
+    subst (λ (l : List Held). IsHeld content uses honest l) (sym c.in_ok-push.ensures.items) (held_push content uses honest held new c.self.invariant c.in_ok-held.ensures.whole none may_new)
+
+pub returns-clause-coverages : goal.returns-clause-coverages
+returns-clause-coverages g c =
+    let held = c.self.inside.coverages.items in
+    let content = g.B.Blocks.content c.self.inside.blocks in
+    let uses = g.B.Blocks.uses c.self.inside.blocks in
+    let honest = g.B.Blocks.honest c.self.inside.blocks in
+    let new = c.in_ok-held.held in
+    let is = coverage_listed content new c.args.signature.now c.args.indexes.items c.in_ok-held.ensures.signature c.in_ok-held.ensures.fields in
+    rw (← c.self.view_is) (ap (λ (l : List Held). coverages_of content l) c.in_ok-push.ensures.items ∙ coverages-push content held new ∙ ap (λ (x : Coverage). coverages_of content held ++ x ∷ []) is)

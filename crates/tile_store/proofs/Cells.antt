@@ -1,0 +1,205 @@
+-- The cells of tiles: read, written, and as numbers at points.
+use Rattle.std.proofs.Common.{◌≡◌, ℕ, ◌+◌, ◌<◌, List, [], ◌∷◌, ◌++◌, ◌*◌, length, get_or, take, drop, map, arith, refl, sym, ◌∙◌, ap, subst, All, Option, Some, None, inl, inr}
+use Rattle.std.proofs.lemmas.Int.{ints}
+use Rattle.std.specs.Prelude.{Bool, int_le, ℤ, pos, ◌≤ℤ◌, if◌then◌else◌, true, false, Contains}
+use Rattle.std.proofs.lemmas.Bool.{cases_lt}
+use Rattle.std.proofs.lemmas.List.{ext_get_or, get_or-map, get_or_past, length-map, get_or_default, take_at}
+use Rattle.arr_core.specs.declared.cell.FieldType.{FieldType}
+use Rattle.arr_core.specs.declared.domain.Axis.{Axis}
+use Rattle.arr_core.specs.Domains.{points, count, rank_of, point_at, AreOrdered, IsInside, IsBoxOf, is_inside}
+use Rattle.arr_core.specs.Tiles.{tile_boxes, IsInTile}
+use Rattle.arr_core.proofs.Grids.{in-no-other, in-own-tile}
+use Rattle.std.specs.List.{list_all}
+use Rattle.std.specs.Ordering.{int_eq}
+use Rattle.run_tile.specs.Runs.{IsSpelling, runs_in, run_size}
+use Rattle.tile_index.specs.Entries.{blocks_filled}
+use Rattle.tile_index.specs.declared.entry.Entry.{Entry}
+use Rattle.tile_index.specs.Index.{found_at}
+use Rattle.block_file.specs.Blocks.{block_at}
+use Rattle.tile_store.specs.Listing.{entry_times}
+use Rattle.tile_store.specs.Stored.{entry_data, cells_read, tile_cells, tile_box, tile_number, number_at, IsSpelled, KeepsListed}
+use Rattle.tile_store.specs.Room.{tile_blocks, cells_after, AreMeeting}
+use Rattle.tile_store.specs.Written.{Spells, EntrySpells, SaysCells, IsWritten}
+use Rattle.tile_store.proofs.Points.{length-points, rank-point, point-inside, at_rank, rank_of-lt-count}
+use Rattle.tile_store.specs.Overlays.{Overlaid, cell_at}
+use Rattle.tile_store.proofs.Rows.{inside_cases, overlaid_same}
+use Rattle.tile_store.proofs.Kept.{data_same, map_same, number_kept}
+
+-- a spelling is read as what it spells
+pub spelled_cells : (kind : FieldType) (bytes : List ℕ) (cells : List ℤ) → IsSpelling kind bytes cells → cells_read kind bytes ≡ cells
+unfolding cells_read
+spelled_cells kind bytes cells s = sym s.cells_are
+
+-- bytes that spell cells spell as many of them
+pub spells_of : (kind : FieldType) (bytes : List ℕ) (cells : List ℤ) (n : ℕ) → IsSpelling kind bytes cells → length cells ≡ n → Spells kind bytes n
+spells_of kind bytes cells n s is = rw (spelled_cells kind bytes cells s) (s, is)
+
+pub says_spelled : (kind : FieldType) (content : List ℕ) (entry : Option Entry) (e : Entry) (bytes : List ℕ) (cells : List ℤ) → entry ≡ Some e → bytes ≡ entry_data content e → IsSpelling kind bytes cells → SaysCells kind content entry cells
+says_spelled kind content entry e bytes cells some is s i =
+    let there : tile_cells kind content entry ≡ cells = ap (tile_cells kind content) some ∙ ap (cells_read kind) (sym is) ∙ spelled_cells kind bytes cells s in
+    ap (λ (l : List ℤ). get_or l i (pos 0)) there
+
+-- cells that are all 0 are those of a tile that is not listed
+zero_at : (cells : List ℤ) (i : ℕ) → All (λ z. z ≡ pos 0) cells → get_or cells i (pos 0) ≡ pos 0
+zero_at cells i zeros = elim (cases_lt i (length cells)) [ inl lt ↦ zeros i (pos 0) lt | inr ge ↦ get_or_past cells i (pos 0) ge ]
+
+pub says_none : (kind : FieldType) (content : List ℕ) (entry : Option Entry) (cells : List ℤ) → entry ≡ None → All (λ z. z ≡ pos 0) cells → SaysCells kind content entry cells
+says_none kind content entry cells none zeros i = ap (λ (o : Option Entry). get_or (tile_cells kind content o) i (pos 0)) none ∙ sym (zero_at cells i zeros)
+
+-- a tile that was written
+pub written_none : (kind : FieldType) (content : List ℕ) (cells : List ℤ) → All (λ z. z ≡ pos 0) cells → tile_blocks kind cells ≡ 0 → IsWritten kind content None cells
+written_none kind content cells zeros none = record { says = says_none kind content None cells refl zeros; spelled = λ e same. absurd (cc); size = sym none }
+
+pub written_some : (kind : FieldType) (content : List ℕ) (e : Entry) (bytes : List ℕ) (cells : List ℤ) → bytes ≡ entry_data content e → IsSpelling kind bytes cells → length e.blocks ≡ tile_blocks kind cells → IsWritten kind content (Some e) cells
+written_some kind content e bytes cells is s size = record {
+  says = says_spelled kind content (Some e) e bytes cells refl is s;
+  spelled = λ e' same. (let other : e ≡ e' = cc in let there : bytes ≡ entry_data content e' = is ∙ ap (entry_data content) other in subst (λ (b : List ℕ). Spells kind b (length cells)) there (spells_of kind bytes cells (length cells) s refl));
+  size = size;
+}
+
+-- it stays so while its blocks hold what they hold
+pub written_kept : (kind : FieldType) (old new : List ℕ) (entry : Option Entry) (cells : List ℤ) → IsWritten kind old entry cells → ((k : ℕ) → 0 < entry_times k entry → block_at new k ≡ block_at old k) → IsWritten kind new entry cells
+written_kept kind old new None cells w same = record { says = w.says; spelled = λ e none. absurd (cc); size = w.size }
+written_kept kind old new (Some e) cells w same =
+    let is : entry_data new e ≡ entry_data old e = data_same old new e same in
+    record {
+      says = λ i. ap (λ (bytes : List ℕ). get_or (cells_read kind bytes) i (pos 0)) is ∙ w.says i;
+      spelled = λ e' some.
+          let other : e ≡ e' = cc in
+          let there : entry_data old e' ≡ entry_data new e' = ap (entry_data old) (sym other) ∙ sym is ∙ ap (entry_data new) other in
+          subst (λ (b : List ℕ). Spells kind b (length cells)) there (w.spelled e' some);
+      size = w.size;
+    }
+
+-- cells that are a function's at each point of a box are its list
+pub cells_listed : (box : List Axis) (f : List ℤ → ℤ) (cells : List ℤ) → length cells ≡ count box → AreOrdered box → ((p : List ℤ) → IsInside box p → get_or cells (rank_of box p) (pos 0) ≡ f p) → cells ≡ map f (points box)
+cells_listed box f cells size ordered each =
+    ext_get_or (pos 0) cells (map f (points box)) (size ∙ sym (length-map (points box) f ∙ length-points box)) (λ i h.
+    let below : i < count box = omega (arith, h, size) in
+    let p = point_at box i in
+    let inside : IsInside box p = point-inside box i below ordered in
+    let rank : rank_of box p ≡ i = rank-point box i below in
+    let here : get_or cells i (pos 0) ≡ f p = rw rank at (each p inside) in
+    let stands : get_or (points box) i p ≡ p = rw rank at (at_rank box p p inside) in
+    here ∙ sym (get_or-map f (points box) i p (pos 0) (omega (arith, below, length-points box)) ∙ ap f stands))
+
+-- the cell of a point in a function's list
+pub cell_listed : (box : List Axis) (f : List ℤ → ℤ) (p : List ℤ) → IsInside box p → get_or (map f (points box)) (rank_of box p) (pos 0) ≡ f p
+cell_listed box f p inside =
+    get_or-map f (points box) (rank_of box p) p (pos 0) (omega (arith, length-points box, rank_of-lt-count box p inside)) ∙ ap f (at_rank box p p inside)
+
+-- the number at a point is what its tile says there
+pub number_in : (kind : FieldType) (domain : List Axis) (index : List (ℕ × Entry)) (content : List ℕ) (tile : ℕ) (p : List ℤ) → tile < length (tile_boxes domain) → IsInside (tile_box domain tile) p
+    → number_at kind domain index content p ≡ get_or (tile_cells kind content (found_at tile index)) (rank_of (tile_box domain tile) p) (pos 0)
+unfolding number_at
+number_in kind domain index content tile p below inside =
+    let own : tile ≡ tile_number domain p = in-no-other domain p tile (below, inside) in
+    ap (λ (t : ℕ). get_or (tile_cells kind content (found_at t index)) (rank_of (tile_box domain t) p) (pos 0)) (sym own)
+
+pub number_said : (kind : FieldType) (domain : List Axis) (index : List (ℕ × Entry)) (content : List ℕ) (tile : ℕ) (box : List Axis) (entry : Option Entry) (cells : List ℤ) (p : List ℤ) → tile < length (tile_boxes domain) → tile_box domain tile ≡ box
+    → entry ≡ found_at tile index → SaysCells kind content entry cells → IsInside box p → get_or cells (rank_of box p) (pos 0) ≡ number_at kind domain index content p
+number_said kind domain index content tile box entry cells p below is found says inside =
+    let there : IsInside (tile_box domain tile) p = rw is inside in
+    sym (number_in kind domain index content tile p below there
+    ∙ ap (λ (o : Option Entry). get_or (tile_cells kind content o) (rank_of (tile_box domain tile) p) (pos 0)) (sym found)
+    ∙ ap (λ (b : List Axis). get_or (tile_cells kind content entry) (rank_of b p) (pos 0)) is
+    ∙ says (rank_of box p))
+
+-- a listed tile that is spelled
+pub entry_spells : (kind : FieldType) (domain : List Axis) (index : List (ℕ × Entry)) (content : List ℕ) (tile : ℕ) (box : List Axis) (entry : Option Entry) (n : ℕ) → tile_box domain tile ≡ box → entry ≡ found_at tile index → n ≡ count box → IsSpelled kind domain index content → EntrySpells kind content entry n
+unfolding IsSpelled
+entry_spells kind domain index content tile box entry n is found size spelled e some =
+    let here = spelled tile e (sym found ∙ some) in
+    (here.0, here.1 ∙ ap count is ∙ sym size)
+
+inside_lo : (x y z : ℤ) → x ≤ℤ y → y ≤ℤ z → x ≤ℤ z
+inside_lo x y z h k = omega (arith, ints)
+
+-- a point of a box of a domain is one of the domain
+pub inside_box : (domain box : List Axis) (p : List ℤ) → IsBoxOf domain box → IsInside box p → IsInside domain p
+inside_box [] [] [] b h = tt
+inside_box [] [] (x ∷ p) b h = absurd h
+inside_box [] (c ∷ box) p b h = absurd b
+inside_box (a ∷ domain) [] p b h = absurd b
+inside_box (a ∷ domain) (c ∷ box) [] b h = absurd h
+inside_box (a ∷ domain) (c ∷ box) (x ∷ p) b h = (inside_lo a.lo c.lo x b.0.1 h.0, inside_lo x c.hi a.hi h.1 b.0.2, inside_box domain box p b.1 h.2)
+
+-- the cells after a write are the same while the listed blocks hold what they hold
+pub after_kept : (kind : FieldType) (domain : List Axis) (index : List (ℕ × Entry)) (old new : List ℕ) (area : List Axis) (numbers : List ℤ) (tile : ℕ) → KeepsListed index old new → cells_after kind domain index new area numbers tile ≡ cells_after kind domain index old area numbers tile
+after_kept kind domain index old new area numbers tile kept =
+    map_same _ _ (points (tile_box domain tile)) (λ (p : List ℤ). ap (λ (z : ℤ). if is_inside area p then get_or numbers (rank_of area p) (pos 0) else z) (number_kept kind domain index old new kept p))
+
+-- a point inside passes the test
+le_yes : (x y : ℤ) (r : Bool) → int_le x y ≡ r → x ≤ℤ y → int_le x y ≡ true
+le_yes x y true e h = e
+le_yes x y false e h = absurd (grind (arith, ints))
+
+pub inside_yes : (area : List Axis) (p : List ℤ) → IsInside area p → is_inside area p ≡ true
+inside_yes [] [] h = refl
+inside_yes [] (x ∷ p) h = absurd h
+inside_yes (a ∷ area) [] h = absurd h
+inside_yes (a ∷ area) (x ∷ p) h = rw (le_yes a.lo x (int_le a.lo x) refl h.0, le_yes x a.hi (int_le x a.hi) refl h.1) (inside_yes area p h.2)
+
+-- no point of a box inside another is outside that
+pub not_outside : (area box : List Axis) (p : List ℤ) → IsBoxOf area box → IsInside box p → is_inside area p ≡ false → ⊥
+not_outside area box p b h out = (let yes = inside_yes area p (inside_box area box p b h) in cc)
+
+-- the cells of a tile after a box was written over those before
+pub updated_listed : (kind : FieldType) (domain : List Axis) (index : List (ℕ × Entry)) (content : List ℕ) (area : List Axis) (numbers : List ℤ) (tile : ℕ) (box : List Axis) (entry : Option Entry) (before after : List ℤ) → tile < length (tile_boxes domain) → tile_box domain tile ≡ box
+    → entry ≡ found_at tile index → AreOrdered box → length after ≡ count box
+    → ((p : List ℤ) → IsInside box p → is_inside area p ≡ false → get_or (tile_cells kind content entry) (rank_of box p) (pos 0) ≡ get_or before (rank_of box p) (pos 0))
+    → Overlaid box area (cell_at area numbers) before after → after ≡ cells_after kind domain index content area numbers tile
+updated_listed kind domain index content area numbers tile box entry before after below is found ordered size says overlaid =
+    let f : List ℤ → ℤ = λ p. if is_inside area p then get_or numbers (rank_of area p) (pos 0) else number_at kind domain index content p in
+    cells_listed box f after size ordered (λ p inside. elim (inside_cases area p) [
+      | inl t ↦ overlaid p inside ∙ rw t.0 refl
+      | inr out ↦
+          let there : IsInside (tile_box domain tile) p = rw is inside in
+          let number : number_at kind domain index content p ≡ get_or (tile_cells kind content entry) (rank_of box p) (pos 0) =
+          number_in kind domain index content tile p below there ∙ ap (λ (o : Option Entry). get_or (tile_cells kind content o) (rank_of (tile_box domain tile) p) (pos 0)) (sym found) ∙ ap (λ (b : List Axis). get_or (tile_cells kind content entry) (rank_of b p) (pos 0)) is in
+          overlaid p inside ∙ rw out (sym (number ∙ says p inside out))
+    ]) ∙ ap (λ (b : List Axis). map f (points b)) (sym is)
+
+-- a tile copied into a box
+pub overlaid_tile : (kind : FieldType) (domain : List Axis) (index : List (ℕ × Entry)) (content : List ℕ) (area : List Axis) (tile : ℕ) (box : List Axis) (entry : Option Entry) (numbers old new : List ℤ) → tile < length (tile_boxes domain) → tile_box domain tile ≡ box → entry ≡ found_at tile index
+    → SaysCells kind content entry numbers → Overlaid area box (cell_at box numbers) old new → Overlaid area (tile_box domain tile) (number_at kind domain index content) old new
+overlaid_tile kind domain index content area tile box entry numbers old new below is found says overlaid =
+    subst (λ (b : List Axis). Overlaid area b (number_at kind domain index content) old new) (sym is)
+    (overlaid_same area box (cell_at box numbers) (number_at kind domain index content) old new overlaid (λ q inside. number_said kind domain index content tile box entry numbers q below is found says inside))
+
+-- one tile more was copied: at the points of the tiles so far stand their numbers
+pub tiles_copied : (domain area : List Axis) (tiles : List ℕ) (i : ℕ) (f : List ℤ → ℤ) (old new : List ℤ) → i < length tiles
+    → ((j : ℕ) → j < i → (p : List ℤ) → IsInside (tile_box domain (get_or tiles j 0)) p → IsInside area p → get_or old (rank_of area p) (pos 0) ≡ f p)
+    → Overlaid area (tile_box domain (get_or tiles i 0)) f old new
+    → (j : ℕ) → j < i + 1 → (p : List ℤ) → IsInside (tile_box domain (get_or tiles j 0)) p → IsInside area p → get_or new (rank_of area p) (pos 0) ≡ f p
+tiles_copied domain area tiles i f old new h done overlaid j lt p inside at = elim (inside_cases (tile_box domain (get_or tiles i 0)) p) [
+  | inl t ↦ overlaid p at ∙ rw t.0 refl
+  | inr out ↦ elim (cases_lt j i) [
+    | inl less ↦ overlaid p at ∙ rw out (done j less p inside at)
+    | inr ge ↦
+        let this : j ≡ i = omega (arith, lt, ge) in
+        let there : IsInside (tile_box domain (get_or tiles i 0)) p = rw (← this) inside in
+        absurd (let yes = inside_yes (tile_box domain (get_or tiles i 0)) p there in cc)
+  ]
+]
+
+listed_at : (tiles : List ℕ) (t : ℕ) (c : Contains tiles t) → get_or tiles c.0 0 ≡ t
+listed_at tiles t c = get_or_default tiles c.0 0 t c.1 ∙ c.2
+
+-- the tiles that meet a box have all its points
+pub area_copied : (domain area : List Axis) (tiles : List ℕ) (f : List ℤ → ℤ) (cells : List ℤ) → IsBoxOf domain area → AreMeeting domain area tiles → AreOrdered area → length cells ≡ count area
+    → ((j : ℕ) → j < length tiles → (p : List ℤ) → IsInside (tile_box domain (get_or tiles j 0)) p → IsInside area p → get_or cells (rank_of area p) (pos 0) ≡ f p) → cells ≡ map f (points area)
+area_copied domain area tiles f cells box meeting ordered size done = cells_listed area f cells size ordered (λ p inside.
+    let within : IsInside domain p = inside_box domain area p box inside in
+    let own : IsInTile domain (tile_number domain p) p = in-own-tile domain p (tile_number domain p) refl within in
+    let listed : Contains tiles (tile_number domain p) = (meeting.exact (tile_number domain p)).1 (own.0, (p, own.1, inside)) in
+    let stands : get_or tiles listed.0 0 ≡ tile_number domain p = listed_at tiles (tile_number domain p) listed in
+    done listed.0 listed.1 p (rw stands own.1) inside)
+
+-- a slice that was lent whole comes back
+pub lent_back : (xs ys : List ℤ) (n : ℕ) → n ≡ length xs → take n (xs ++ drop (length xs) ys) ≡ xs
+lent_back xs ys n is = take_at xs (drop (length xs) ys) n (sym is)
+
+-- how many blocks a tile takes that is not 0 everywhere
+pub size_written : (kind : FieldType) (cells : List ℤ) (bytes : List ℕ) (n : ℕ) → list_all (int_eq (pos 0)) cells ≡ false → length bytes ≡ runs_in cells * run_size kind → n ≡ blocks_filled (length bytes) → n ≡ tile_blocks kind cells
+size_written kind cells bytes n some long is = is ∙ ap blocks_filled long ∙ rw some refl

@@ -1,0 +1,8 @@
+use Rattle.std.proofs.Common.{ℕ}
+use Rattle.std.proofs.lemmas.List.{length-replicate}
+use Rattle.tile_store.proofs.Parts.{holds_copied}
+use Rattle.tile_store.proofs.bytes.block_of.Goals as goal
+
+pub returns : goal.returns
+returns c =
+    holds_copied c.args.bytes.now c.copy_from_slice.new.self _ c.args.place c.min-from.result c.min-count.result c.min-from.ensures c.min-count.ensures c.copy_from_slice.ensures.after c.copy_from_slice.ensures.len (length-replicate {A = ℕ} 4096 0)

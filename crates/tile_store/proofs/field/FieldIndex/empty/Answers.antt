@@ -1,0 +1,6 @@
+use Rattle.std.proofs.Common.{sym}
+use Rattle.tile_store.proofs.Sizes.{no_pairs, none_long}
+use Rattle.tile_store.proofs.field.FieldIndex.empty.Goals as goal
+
+pub invariant_of-result : goal.invariant_of-result
+invariant_of-result c = rw c.new.ensures (no_pairs, sym none_long)

@@ -1,0 +1,13 @@
+use Rattle.std.proofs.Common.{arith, ap}
+use Rattle.tile_store.specs.Listing.{times_in}
+use Rattle.tile_store.proofs.Times.{times_in-nil}
+use Rattle.tile_store.proofs.tests.copied.Goals as goal
+
+pub write_area-requires-clause-listed : goal.write_area-requires-clause-listed
+write_area-requires-clause-listed g c = λ k some. absurd (omega (arith, some, ap (times_in k) c.empty-field.ensures, times_in-nil k))
+
+pub write_area-requires-clause-whole : goal.write_area-requires-clause-whole
+write_area-requires-clause-whole g c = λ honest k some. absurd (omega (arith, some, ap (times_in k) c.empty-field.ensures, times_in-nil k))
+
+pub read_area-requires-clause-tiles : goal.read_area-requires-clause-tiles
+read_area-requires-clause-tiles g c = rw c.deref-2.ensures.value (record { rising = c.in_ok-tiles.ensures.rising; exact = c.in_ok-tiles.ensures.exact })

@@ -1,0 +1,19 @@
+//! One field of a coverage over the blocks of a file: its cells lie in tiles, and a tile as runs of equal cells. A
+//! write goes to fresh blocks first, and then the index of the field is exchanged.
+#![tactic(auto)]
+
+mod bytes;
+mod copy;
+mod fault;
+mod field;
+mod held;
+mod numbers;
+mod reserve;
+#[cfg(test)]
+mod tests;
+mod tile;
+mod update;
+
+pub use fault::Fault;
+pub use field::{FieldIndex, give_back, read_area, read_point, read_tile_at, write_area};
+pub use numbers::Numbers;

@@ -1,0 +1,77 @@
+//! How many bytes the index of a field is written in, and how many blocks have to stay free for the metadata.
+
+ghost use Rattle.std.specs.Prelude.{◌≡◌, ℕ, ◌+◌, ◌*◌, ◌<◌, ◌≤◌, ◌^◌, length, sum_by, All, Option, Some, IsTrue, false, option_copied};
+ghost use Rattle.block_file.specs.Format.{chain_blocks};
+ghost use Rattle.tile_index.specs.declared.entry.Entry.{Entry};
+ghost use Rattle.tile_index.specs.Bytes.{index_bytes};
+ghost use Rattle.tile_index.specs.Entries.{IsEntry};
+ghost use Rattle.tile_index.specs.Index.{found_at, IsIndex};
+ghost use Rattle.tile_store.specs.Room.{listed_bytes, entry_blocks};
+
+use block_file::CHAIN_BYTES;
+use tile_index::{Entry, TileIndex};
+
+/// How many bytes an index has without tiles.
+pub(crate) const EMPTY_INDEX: u64 = 4;
+
+/// How many bytes an entry has in an index: its tile, its length, and the numbers of its blocks. Without one there are
+/// none.
+fn entry_size(entry: Option<&Entry>) -> u64
+    requires { (e : Entry) → option_copied entry ≡ Some e → IsEntry e }
+    ensures value { result ≡ listed_bytes (entry_blocks (option_copied entry.entry)) }
+    ensures small { result ≤ 48 }
+{
+    match entry {
+        None => 0,
+        Some(entry) => 8 + 4 * entry.blocks.as_slice().len() as u64,
+    }
+}
+
+/// How many bytes an index has.
+pub(crate) fn index_size(index: &TileIndex) -> u64
+    ensures value { result ≡ length (index_bytes index.now) }
+    ensures index { IsIndex index.now }
+{
+    let entries = index.as_slice();
+    let mut size = EMPTY_INDEX;
+    for (_tile, entry) in entries {
+        size += entry_size(Some(entry));
+    }
+    size
+}
+
+/// How many bytes the entries of some tiles have in an index.
+pub(crate) fn listed_size(index: &TileIndex, tiles: &[u64]) -> u64
+    requires index { IsIndex index.now }
+    requires few { length tiles.now ≤ 2 ^ 32 }
+    ensures { result ≡ sum_by (λ t. listed_bytes (entry_blocks (found_at t index.now))) tiles.now }
+{
+    let mut size = 0u64;
+    for tile in tiles {
+        size += entry_size(index.get(*tile));
+    }
+    size
+}
+
+/// How many bytes changes give an index.
+pub(crate) fn changes_size(changes: &[(u64, Option<Entry>)]) -> u64
+    requires entries { All (λ x. (e : Entry) → x.1 ≡ Some e → IsEntry e) changes.now }
+    requires few { length changes.now ≤ 2 ^ 32 }
+    ensures value { result ≡ sum_by (λ x. listed_bytes (entry_blocks x.1)) changes.now }
+    ensures small { result ≤ 2 ^ 40 }
+{
+    let mut size = 0u64;
+    for (_tile, change) in changes {
+        size += entry_size(change.as_ref());
+    }
+    size
+}
+
+/// Whether so many free blocks hold metadata of `rest` and `size` bytes. The last value of `rest` stands for more than
+/// fits anywhere.
+pub(crate) fn has_room(free: u32, rest: u64, size: u64) -> bool
+    ensures fits { IsTrue result → chain_blocks (rest + size) ≤ free }
+    ensures short { (result ≡ false) → free < chain_blocks (rest + size) }
+{
+    rest.saturating_add(size).div_ceil(CHAIN_BYTES as u64) <= u64::from(free)
+}
