@@ -1,10 +1,10 @@
 -- What a write into the room behind the held bytes leaves, and what a step forward leaves.
-use Rattle.std.proofs.Common.{◌≡◌, ℕ, ◌+◌, ◌-◌, ◌≤◌, List, [], ◌++◌, length, take, drop, Option, true, false, Bool, refl, sym, ap, ◌∙◌, subst, arith}
+use Rattle.std.proofs.Common.{◌≡◌, ℕ, ◌+◌, ◌-◌, ◌≤◌, List, ◌++◌, length, take, drop, Option, refl, sym, ap, ◌∙◌, subst, arith}
 use Rattle.std.proofs.lemmas.List.{take_at, drop_at, take-append-le, length-take-le, length-drop, drop-take, take_rest}
 use Rattle.std.proofs.lemmas.List.Edits.{take-paste}
 use Rattle.std.specs.List.{copy_within}
 use Rattle.std.specs.Io.KnownBytes.{Appends}
-use Rattle.coverage_server.specs.Bytes.{AppendsPrefix, Sent}
+use Rattle.coverage_server.specs.Bytes.{AppendsPrefix}
 use Rattle.std.proofs.Math.Seq.{take-append-add}
 use Rattle.std.proofs.lemmas.List.{length-append}
 use Rattle.std.proofs.KnownBytes.{Appends-trans}

@@ -5,7 +5,15 @@ pub mod TakenLemmas
 pub mod SpellingLemmas
 pub mod RequestLemmas
 pub mod ReplyLemmas
-pub mod HoldingLemmas
+pub mod ListLemmas
+pub mod StoreLemmas
 pub mod ServingLemmas
 pub mod MachineLemmas
+pub mod InsertLemmas
+pub mod UpdateLemmas
+pub mod WriteLemmas
+pub mod TileLemmas
 pub mod AskingLemmas
+pub mod ClosingLemmas
+pub mod LayoutLemmas
+pub mod OpeningLemmas

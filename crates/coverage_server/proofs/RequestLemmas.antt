@@ -1,9 +1,8 @@
 -- The request of each name.
-use Rattle.std.proofs.Common.{◌≡◌, ◌≢◌, ℕ, Bool, true, false, List, [], ◌∷◌, Ok, Err, refl, sym, ap, ◌∙◌}
-use Rattle.std.specs.Prelude.{codes, bytes_eq, Result}
+use Rattle.std.proofs.Common.{◌≡◌, ◌≢◌, ℕ, Bool, true, false, List, [], ◌∷◌, Ok, Err, refl, ap}
+use Rattle.std.specs.Prelude.{codes, bytes_eq}
 use Rattle.std.proofs.lemmas.Slice.Eq.{bytes_eq-Decides}
 use Rattle.form_urlencoded.specs.Form.{raw_pairs}
-use Rattle.coverage_server.specs.declared.request.RequestError.{RequestError}
 use Rattle.coverage_server.specs.declared.request.RequestError.TheVariants.{UnknownRequest}
 use Rattle.coverage_server.specs.Values.{values_of, only_value}
 use Rattle.coverage_server.specs.Requests.{kind_of, insertion_of, update_of, query_of, spelled, spelled_by}

@@ -1,5 +1,5 @@
 -- A connection that is being served, and how it ends.
-use Rattle.std.proofs.Common.{◌≡◌, ◌≢◌, ℕ, ◌+◌, ◌<◌, ◌≤◌, Bool, true, false, ◌||◌, List, [], ◌∷◌, ◌++◌, length, Option, Result, Ok, Err, IfSome, refl, sym, ap, ◌∙◌, subst, arith, append_assoc, append-nil, eq-eqb}
+use Rattle.std.proofs.Common.{◌≡◌, ℕ, ◌+◌, ◌<◌, Bool, true, false, List, [], ◌∷◌, ◌++◌, length, Option, refl, sym, ap, ◌∙◌, subst, arith, append_assoc, append-nil}
 use Rattle.std.proofs.lemmas.List.{length-append}
 use Rattle.std.specs.Io.KnownBytes.{Appends, Consumes, IsAtEnd}
 use Rattle.std.proofs.KnownBytes.{Appends-trans, Consumes-trans}
@@ -7,10 +7,7 @@ use Rattle.coverage_server.specs.declared.front.reply.Reply.{Reply}
 use Rattle.arr_core.specs.Stores.{Store}
 use Rattle.coverage_server.specs.Bytes.{AppendsPrefix}
 use Rattle.coverage_server.specs.Replies.{reply_bytes}
-use Rattle.std.specs.Prelude.{◌==◌}
-use Rattle.httparse.specs.Grammar.{RequestHead}
-use Rattle.coverage_server.specs.Head.{is_last}
-use Rattle.coverage_server.specs.Stream.{HasNoHead, Item, Whole, at_end, at_fault, Messages, Begins, Taken, Fronts}
+use Rattle.coverage_server.specs.Stream.{HasNoHead, Item, at_end, at_fault, Messages, Taken, Fronts}
 use Rattle.coverage_server.proofs.TakenLemmas.{Taken-append, Taken-push, Messages-after, Begins-after, rest_of, rest_at_end, all_of, last_message, one_message, whole_message, room_after}
 use Rattle.coverage_server.specs.declared.server.ConnEnd.TheVariants.{Finished, ReadFault, WriteFault}
 use Rattle.coverage_server.specs.Machine.{MessageStep, Run}
@@ -132,6 +129,8 @@ module _ {before now held holds : Option (List ℕ)} {old new : Store} {buffer :
           counted = omega (arith, numbered, s.counted, length-append s.items (item ∷ []));
         }
 
-    pub roomy : (number : ℕ) → number ≡ count + 1 → last ≡ false → count < 1000 → number < 1000
-    roomy number numbered goes_on room =
-        let less : count + 1 < 1000 = room_after count (buffer ++ more) left item (whole_message count (buffer ++ more) left later item x (sym is ∙ goes_on)) (sym is ∙ goes_on) room in omega arith
+-- the connection has room for another message
+pub roomy : (count : ℕ) (buffer more left : List ℕ) (later : Option (List ℕ)) (item : Item) → Fronts count (buffer ++ more) left later item → (last : Bool) → last ≡ item.last
+    → (number : ℕ) → number ≡ count + 1 → last ≡ false → count < 1000 → number < 1000
+roomy count buffer more left later item x last is number numbered goes_on room =
+    let less : count + 1 < 1000 = room_after count (buffer ++ more) left item (whole_message count (buffer ++ more) left later item x (sym is ∙ goes_on)) (sym is ∙ goes_on) room in omega arith

@@ -1,22 +1,21 @@
 -- How numbers and lists are spelled.
-use Rattle.std.proofs.Common.{◌≡◌, ◌≢◌, ℕ, ◌+◌, ◌<◌, ◌≤◌, ◌^◌, Bool, true, false, List, [], ◌∷◌, ◌++◌, length, drop, get_or, Result, Ok, Err, MatchResult, ℤ, pos, neg_ℤ, refl, sym, ap, ◌∙◌, subst, arith, append_assoc, rules, inl, inr}
-use Rattle.std.specs.Prelude.{MatchOption, ◌⊎◌, ◌==◌, ◌&&◌, nat_lt, if◌then◌else◌, Option, Some, None}
+use Rattle.std.proofs.Common.{◌≡◌, ◌≢◌, ℕ, ◌+◌, ◌<◌, ◌≤◌, ◌^◌, Bool, true, false, List, [], ◌∷◌, ◌++◌, length, get_or, Result, Ok, Err, MatchResult, ℤ, pos, neg_ℤ, refl, sym, ap, ◌∙◌, subst, arith, append_assoc, inl, inr}
+use Rattle.std.specs.Prelude.{MatchOption, ◌⊎◌, ◌==◌, nat_lt, Option, Some}
 use Rattle.std.specs.Borrow.{Bor}
-use Rattle.std.specs.List.{position_or_len, before_first, after_first, slice_split}
+use Rattle.std.specs.List.{position_or_len, before_first, after_first}
 use Rattle.std.specs.Result.{OkIff}
 use Rattle.std.specs.Str.{all_ascii_digits}
-use Rattle.std.specs.Str.Parse.{digits_value, ParsesSigned, IsNumeral}
+use Rattle.std.specs.Str.Parse.{digits_value, ParsesSigned}
 use Rattle.std.proofs.lemmas.Str.Parse.{IsNumeralModel, numerals_by_value, tells_all_ascii_digits, parse_signed_minus, parse_signed_plus, parse_signed_plain}
-use Rattle.std.proofs.lemmas.List.Splits.{slice_split_first, slice_split-cons_no}
+use Rattle.std.proofs.lemmas.List.Splits.{slice_split_first}
 use Rattle.std.proofs.lemmas.Bool.Decides.{nat_tests}
-use Rattle.std.proofs.lemmas.Bool.{false≢true}
 use borrow.Author.Tests.{ltb-true}
 use mir.Syntax.{w64}
 use mir.Val.{SFits}
 use Rattle.coverage_server.specs.declared.request.RequestError.{RequestError}
 use Rattle.coverage_server.specs.declared.request.RequestError.TheVariants.{BadValue, NoMemory}
-use Rattle.coverage_server.specs.Values.{and_then, Gives}
-use Rattle.coverage_server.specs.Spelling.{digits_in, signed_in, is_byte, cut_at, pieces_of, each_in}
+use Rattle.coverage_server.specs.Values.{and_then}
+use Rattle.coverage_server.specs.Spelling.{digits_in, signed_in, is_byte, pieces_of, each_in}
 
 own : IsNumeralModel (λ ds. all_ascii_digits ds ≡ true) (digits_value 10)
 own = numerals_by_value _ tells_all_ascii_digits

@@ -1,11 +1,11 @@
 -- What the parser's answers say of heads within the limits.
-use Rattle.std.proofs.Common.{◌≡◌, ◌≢◌, ℕ, ◌+◌, ◌-◌, ◌<◌, ◌≤◌, Bool, true, false, List, [], ◌∷◌, ◌++◌, length, take, drop, refl, sym, ap, ◌∙◌, arith}
+use Rattle.std.proofs.Common.{◌≡◌, ℕ, ◌≤◌, List, ◌++◌, length, take, drop, refl, sym, ap, ◌∙◌, arith}
 use Rattle.std.proofs.lemmas.List.{take-append-le, take_at, take-append-drop}
-use Rattle.httparse.specs.Grammar.{RequestHead, print_request, ReadsRequest, HasNoRequest}
+use Rattle.httparse.specs.Grammar.{print_request, HasNoRequest}
 use Rattle.httparse.specs.Spans.{RequestOverflows}
 use Rattle.std.proofs.lemmas.List.{length-append}
 use Rattle.httparse.proofs.GrammarLemmas.{print_request-append}
-use Rattle.coverage_server.specs.Stream.{ReadsHead, HasNoHead, NeverHasHead}
+use Rattle.coverage_server.specs.Stream.{HasNoHead, NeverHasHead}
 
 pub no_head_yet : (bytes : List ℕ) → HasNoRequest bytes → HasNoHead bytes
 no_head_yet bytes none h rest x = none h rest x.reads

@@ -1,12 +1,12 @@
 -- The messages of a stream, one after another, as its bytes come.
-use Rattle.std.proofs.Common.{◌≡◌, ◌≢◌, ℕ, ◌+◌, ◌<◌, ◌≤◌, ◌⊎◌, Bool, true, false, List, [], ◌∷◌, ◌++◌, length, Option, None, Some, IfSome, refl, sym, ap, ◌∙◌, subst, arith, append_assoc, append-nil, inl, inr, eq-eqb}
-use Rattle.std.specs.Prelude.{MatchBool, ⊤, ◌==◌, ◌||◌}
+use Rattle.std.proofs.Common.{◌≡◌, ◌≢◌, ℕ, ◌+◌, ◌<◌, ◌⊎◌, Bool, true, false, List, [], ◌∷◌, ◌++◌, length, Option, None, Some, IfSome, refl, sym, ap, ◌∙◌, subst, arith, append-nil, inl, inr, eq-eqb}
+use Rattle.std.specs.Prelude.{MatchBool, ◌==◌, ◌||◌}
 use Rattle.coverage_server.specs.Head.{is_last}
 use Rattle.std.specs.Io.KnownBytes.{Consumes, IsAtEnd}
 use Rattle.httparse.proofs.GrammarLemmas.{ReadsRequest-append, request_unique}
 use Rattle.coverage_server.specs.declared.front.conn.Next.{Next}
 use Rattle.coverage_server.specs.declared.front.conn.Next.TheVariants.{Message, Refused, Ended, ReadFault}
-use Rattle.coverage_server.specs.Stream.{ReadsHead, HasNoHead, NeverHasHead, Item, item_of, bad_head, Whole, Stop, at_end, at_fault, Broken, Messages, Begins, Taken, Fronts, Finds, FindsItem}
+use Rattle.coverage_server.specs.Stream.{ReadsHead, HasNoHead, Item, item_of, Whole, Stop, at_end, Broken, Messages, Begins, Taken, Fronts, Finds, FindsItem}
 
 -- a head stays the same head, whatever follows
 pub ReadsHead-append : {bytes rest : List ℕ} {h : _} → ReadsHead bytes h rest → (more : List ℕ) → ReadsHead (bytes ++ more) h (rest ++ more)

@@ -1,5 +1,5 @@
 -- The answer to the text of a query over a store: its comma-separated values, or the number of the refusal that it gets.
-use Rattle.std.specs.Prelude.{◌≡◌, ℕ, ◌<◌, ◌≤◌, ◌⊎◌, ℤ, pos, List, map, length, Option, Some, None, Result, Ok, Err, slice_get, option_and_then, nat_le, if◌then◌else◌}
+use Rattle.std.specs.Prelude.{ℕ, ◌<◌, ◌≤◌, ◌⊎◌, ℤ, pos, List, map, length, Option, Some, None, Result, Ok, Err, slice_get, option_and_then, nat_le, nat_lt, ◌&&◌, if◌then◌else◌}
 use Rattle.arr_core.specs.declared.signature.Signature.{Signature}
 use Rattle.arr_core.specs.Domains.{is_inside}
 use Rattle.arr_core.specs.Stores.{Coverage, Store, found, value_at}
@@ -19,7 +19,7 @@ use Rattle.wcps_mean.specs.declared.item.Item.{Item}
 use Rattle.wcps_mean.specs.Faults.{number_of as fault_number}
 use Rattle.wcps_mean.specs.Answer.{answer}
 use Rattle.csv_out.specs.Csv.{csv}
-use Rattle.coverage_server.specs.Holding.{signature_of}
+use Rattle.raster_store.specs.Calls.{signature_of}
 
 -- comma-separated values, or the number of a refusal
 abbrev pub QueryAnswer : Type 0
@@ -42,7 +42,7 @@ AreTooDeep tokens = (512 < deepest 0 tokens) ⊎ (256 < forms tokens)
 -- the stored number of a field of a coverage at a point, and 0 where there is none
 abbrev pub number_in : Option Coverage → ℕ → List ℤ → ℤ
 number_in None field point = pos 0
-number_in (Some c) field point = if is_inside c.domain point then value_at c field point else pos 0
+number_in (Some c) field point = if nat_lt field (length c.fields) && is_inside c.domain point then value_at c field point else pos 0
 
 -- the coverage of the store that has the name of the one at a place
 abbrev pub listed_in : Store → List Signature → ℕ → Option Coverage

@@ -1,5 +1,5 @@
 -- Bytes that come in and go out. A reader's remaining bytes and a writer's contents are known only where its type tells them.
-use Rattle.std.specs.Prelude.{◌≡◌, ℕ, Bool, true, false, ◌+◌, ◌<◌, ◌≤◌, List, [], ◌++◌, length, take, Option}
+use Rattle.std.specs.Prelude.{◌≡◌, ℕ, Bool, true, false, ◌<◌, ◌≤◌, List, [], ◌++◌, length, take, Option}
 use Rattle.std.specs.Io.KnownBytes.{Appends, Consumes, IsAtEnd}
 use Rattle.coverage_server.specs.declared.front.bytes.Filled.{Filled}
 use Rattle.coverage_server.specs.declared.front.bytes.Filled.TheVariants.{More, End, Fault}

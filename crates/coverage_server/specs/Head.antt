@@ -1,6 +1,6 @@
 -- What a head asks, and what stands at the front of some bytes. The grammar of a head is that of the crate httparse, and
 -- what its fields say is read as RFC 9112 has it.
-use Rattle.std.specs.Prelude.{◌≡◌, ℕ, ◌+◌, ◌<◌, ◌≤◌, ◌==◌, Bool, true, false, ◌||◌, ◌&&◌, not, if◌then◌else◌, List, [], ◌++◌, length, map, take, drop, Result, Ok, Err, bytes_eq, codes, nat_eq}
+use Rattle.std.specs.Prelude.{◌≡◌, ℕ, ◌<◌, ◌≤◌, ◌==◌, Bool, true, false, ◌||◌, ◌&&◌, not, if◌then◌else◌, List, [], length, map, drop, Result, Ok, Err, bytes_eq, codes, nat_eq}
 use Rattle.std.specs.List.{starts_with}
 use Rattle.httparse.specs.Grammar.{RequestHead, print_request, ReadsRequest, HasNoRequest}
 use Rattle.httparse.specs.Spans.{RequestOverflows, span_bytes, name_and_value}

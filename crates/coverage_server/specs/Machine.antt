@@ -1,20 +1,18 @@
 -- The machine: its state is a store of coverages. A request leads to a reply and a next state; the refusals come in the order in
 -- which they stand here, and leave the state as it was.
-use Rattle.std.specs.Prelude.{◌≡◌, ℕ, ◌<◌, ◌≤◌, ◌==◌, ◌⊎◌, Bool, ℤ, List, [], ◌∷◌, ◌++◌, length, map, replicate, slice_get, All, Option, Result, Ok, Err, MatchBool, MatchOption, nat_lt, codes, string_bytes, ⊤, FitsSigned, Some}
+use Rattle.std.specs.Prelude.{◌≡◌, ℕ, ◌<◌, ◌⊎◌, ℤ, List, [], ◌∷◌, ◌++◌, length, map, replicate, slice_get, All, Result, Ok, Err, MatchOption, codes, string_bytes, FitsSigned, Some}
 use Rattle.std.specs.Int.{w32}
 use Rattle.std.specs.List.{flat_map}
-use Rattle.arr_core.specs.declared.cell.Cell.{Cell}
 use Rattle.arr_core.specs.declared.cell.FieldType.{FieldType}
 use Rattle.arr_core.specs.declared.domain.Axis.{Axis}
 use Rattle.arr_core.specs.declared.field.Field.{Field}
 use Rattle.arr_core.specs.Cells.{stored, Holds}
-use Rattle.arr_core.specs.Domains.{points, IsDomain, IsBoxOf}
+use Rattle.arr_core.specs.Domains.{count, IsDomain, IsBoxOf}
 use Rattle.arr_core.specs.Fields.{AreFields, place_of as field_place}
-use Rattle.arr_core.specs.Stores.{Coverage, Store, inserted, updated_coverage}
+use Rattle.arr_core.specs.Stores.{Coverage, Store, found, inserted, updated}
 use Rattle.coverage_server.specs.Contents.{Cells, fill, values}
 use Rattle.coverage_server.specs.Requests.{Asks, insert_coverage, update_coverage, list_coverages, process_coverages, spelled, number_of}
 use Rattle.coverage_server.specs.Asking.{QueryAnswer, TextAnswer}
-use Rattle.coverage_server.specs.Holding.{place_of, changed_at}
 use Rattle.coverage_server.specs.Replies.{reply_bytes}
 use Rattle.coverage_server.specs.Stream.{Item}
 use Rattle.coverage_server.specs.declared.request.Interval.{Interval}
@@ -62,39 +60,39 @@ SpellWhole intervals = SpellDomain intervals × (0 < length intervals)
 -- InsertCoverage: 21 for a name that is there, 22 for what is no domain, 23 for what are no fields, 27 where 1,024 coverages are held
 abbrev pub Inserts : List ℕ → List Interval → List Field → Store → Reply → Store → Type 0
 Inserts name intervals fields old reply new =
-    MatchOption (place_of name old)
+    MatchOption (found name old)
     (Unless (SpellWhole intervals) 22
     (Unless (AreFields fields) 23
     (Unless (length old < 1024) 27 (λ before. Does (inserted name (axes_of intervals) fields before)))) old reply new)
-    (λ n. Refuses 21 old reply new)
+    (λ c. Refuses 21 old reply new)
 
 -- the new numbers stand in the box
-abbrev pub Writes : ℕ → ℕ → List Axis → List ℤ → Store → Reply → Store → Type 0
-Writes n field box numbers old = Does (changed_at n (updated_coverage field box numbers) old)
+abbrev pub Writes : List ℕ → ℕ → List Axis → List ℤ → Store → Reply → Store → Type 0
+Writes name field box numbers old = Does (updated name field box numbers old)
 
 -- 25 where there are not as many cells as points, 26 where one is none of the field's type
-abbrev pub UpdatesCells : ℕ → ℕ → List Axis → FieldType → Cells → Store → Reply → Store → Type 0
-UpdatesCells n field box kind (fill cell) =
-    Unless (Holds kind cell) 26 (Writes n field box (replicate (length (points box)) (stored cell)))
-UpdatesCells n field box kind (values cells) =
-    Unless (length cells ≡ length (points box)) 25 (Unless (All (Holds kind) cells) 26 (Writes n field box (map stored cells)))
+abbrev pub UpdatesCells : List ℕ → ℕ → List Axis → FieldType → Cells → Store → Reply → Store → Type 0
+UpdatesCells name field box kind (fill cell) =
+    Unless (Holds kind cell) 26 (Writes name field box (replicate (count box) (stored cell)))
+UpdatesCells name field box kind (values cells) =
+    Unless (length cells ≡ count box) 25 (Unless (All (Holds kind) cells) 26 (Writes name field box (map stored cells)))
 
 -- 24 for what is no box of the coverage's domain
-abbrev pub UpdatesBox : ℕ → Coverage → ℕ → Field → List Interval → Cells → Store → Reply → Store → Type 0
-UpdatesBox n c field f intervals cells =
-    Unless (SpellDomain intervals × IsBoxOf c.domain (axes_of intervals)) 24 (UpdatesCells n field (axes_of intervals) f.kind cells)
+abbrev pub UpdatesBox : List ℕ → Coverage → ℕ → Field → List Interval → Cells → Store → Reply → Store → Type 0
+UpdatesBox name c field f intervals cells =
+    Unless (SpellDomain intervals × IsBoxOf c.domain (axes_of intervals)) 24 (UpdatesCells name field (axes_of intervals) f.kind cells)
 
 -- 42 for a field that the coverage lacks
-abbrev pub UpdatesField : ℕ → Coverage → List ℕ → List Interval → Cells → Store → Reply → Store → Type 0
-UpdatesField n c field intervals cells old reply new =
+abbrev pub UpdatesField : List ℕ → Coverage → List ℕ → List Interval → Cells → Store → Reply → Store → Type 0
+UpdatesField name c field intervals cells old reply new =
     MatchOption (field_place field c.fields) (Refuses 42 old reply new)
-    (λ k. (f : Field) × (slice_get c.fields k ≡ Some f) × UpdatesBox n c k f intervals cells old reply new)
+    (λ k. (f : Field) × (slice_get c.fields k ≡ Some f) × UpdatesBox name c k f intervals cells old reply new)
 
 -- UpdateCoverage: 20 for a name that is not there
 abbrev pub Updates : List ℕ → List ℕ → List Interval → Cells → Store → Reply → Store → Type 0
 Updates name field intervals cells old reply new =
-    MatchOption (place_of name old) (Refuses 20 old reply new)
-    (λ n. (c : Coverage) × (slice_get old n ≡ Some c) × UpdatesField n c field intervals cells old reply new)
+    MatchOption (found name old) (Refuses 20 old reply new)
+    (λ c. UpdatesField name c field intervals cells old reply new)
 
 -- ListCoverages: each name on a line, in order of insertion
 abbrev pub line_of : Coverage → List ℕ
@@ -116,16 +114,20 @@ Tells (Err number) (Text text) = ⊥
 abbrev pub Answers : List ℕ → Store → Reply → Store → Type 0
 Answers query old reply new = (a : QueryAnswer) × TextAnswer old query a × Tells a reply × (new ≡ old)
 
--- what the machine does where it has memory
+-- what the machine does where it has memory and room, and the disk does not fail
 abbrev pub Serves : Asks → Store → Reply → Store → Type 0
 Serves (insert_coverage name intervals fields) = Inserts name intervals fields
 Serves (update_coverage name field intervals cells) = Updates name field intervals cells
 Serves list_coverages = Lists
 Serves (process_coverages query) = Answers query
 
--- a step: in place of any reply want of memory may be told, with the state unchanged
+-- want of memory, a disk fault or want of room, which change nothing
+abbrev pub Fails : Store → Reply → Store → Type 0
+Fails old reply new = Refuses 90 old reply new ⊎ Refuses 91 old reply new ⊎ Refuses 92 old reply new
+
+-- a step: in place of any reply a failure may be told, with the state unchanged
 abbrev pub Step : Asks → Store → Reply → Store → Type 0
-Step asks old reply new = Serves asks old reply new ⊎ Refuses 90 old reply new
+Step asks old reply new = Serves asks old reply new ⊎ Fails old reply new
 
 -- the step of what the pairs of a message spell, or of their refusal
 abbrev pub SpelledStep : Result Asks RequestError → Store → Reply → Store → Type 0

@@ -1,5 +1,5 @@
 -- The bytes of a reply (RFC 9112): a status line, the type and the length of the body, whether the connection ends, and the body.
-use Rattle.std.specs.Prelude.{◌≡◌, ℕ, ◌==◌, ◌||◌, Bool, true, false, List, [], ◌++◌, length, codes, decimal, if◌then◌else◌, unwrap_or, string_bytes}
+use Rattle.std.specs.Prelude.{ℕ, ◌==◌, ◌||◌, Bool, List, [], ◌++◌, length, codes, decimal, if◌then◌else◌, unwrap_or, string_bytes}
 use Rattle.http.specs.StatusCode.{reason_phrase}
 use Rattle.arr_core.specs.Refusals.{refusal_name}
 use Rattle.coverage_server.specs.declared.front.reply.Reply.{Reply}

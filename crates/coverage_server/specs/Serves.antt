@@ -3,7 +3,7 @@ use Rattle.std.specs.Prelude.{◌≡◌, ℕ, List, [], ◌∷◌, ◌++◌, Opt
 use Rattle.std.specs.Io.KnownBytes.{Appends, Consumes}
 use Rattle.arr_core.specs.Stores.{Store}
 use Rattle.coverage_server.specs.Bytes.{AppendsPrefix}
-use Rattle.coverage_server.specs.Stream.{Item, Stop, at_end, at_fault, Messages, Begins}
+use Rattle.coverage_server.specs.Stream.{Item, at_end, at_fault, Messages, Begins}
 use Rattle.coverage_server.specs.Replies.{reply_bytes}
 use Rattle.coverage_server.specs.declared.front.reply.Reply.{Reply}
 use Rattle.coverage_server.specs.Machine.{MessageStep, Run}

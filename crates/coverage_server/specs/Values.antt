@@ -1,5 +1,5 @@
 -- The values under a key of a web form, and what a reader of values answers.
-use Rattle.std.specs.Prelude.{◌≡◌, ℕ, ◌⊎◌, Bool, List, [], ◌∷◌, Result, Ok, Err, if◌then◌else◌, string_bytes}
+use Rattle.std.specs.Prelude.{◌≡◌, ℕ, ◌⊎◌, List, [], ◌∷◌, Result, Ok, Err, if◌then◌else◌, string_bytes}
 use Rattle.std.specs.Str.Lossy.{utf8_lossy}
 use Rattle.std.specs.Str.{str_eq_ignore_ascii_case}
 use Rattle.form_urlencoded.specs.Form as form

@@ -1,16 +1,86 @@
--- The stored numbers that an update writes.
-use Rattle.std.specs.Prelude.{ℕ, ℤ, pos, List, replicate, slice_index_or, if◌then◌else◌}
+-- When coverages are inserted and boxes written, and why not.
+use Rattle.std.specs.Prelude.{◌≡◌, ℕ, ◌⊎◌, List, length, All, Option, Some, None, slice_get, IsSomeAnd, ⊤}
+use Rattle.std.specs.Borrow.{Bor}
+use Rattle.arr_core.specs.declared.cell.FieldType.{FieldType}
 use Rattle.arr_core.specs.declared.domain.Axis.{Axis}
-use Rattle.arr_core.specs.Domains.{is_inside, rank_of}
-use Rattle.coverage_server.specs.declared.store.Numbers.{Numbers}
-use Rattle.coverage_server.specs.declared.store.Numbers.TheVariants.{Same, Each}
+use Rattle.arr_core.specs.declared.field.Field.{Field}
+use Rattle.arr_core.specs.declared.signature.Signature.{Signature}
+use Rattle.arr_core.specs.Cells.{Holds}
+use Rattle.arr_core.specs.Domains.{count, IsBoxOf}
+use Rattle.arr_core.specs.Stores.{Coverage, Store, found}
+use Rattle.catalogue.specs.declared.error.InsertError.{InsertError}
+use Rattle.catalogue.specs.declared.error.InsertError.TheVariants as insertion
+use Rattle.catalogue.specs.Signatures.{IsRefused}
+use Rattle.tile_store.specs.declared.fault.Fault.{Fault}
+use Rattle.tile_store.specs.declared.fault.Fault.TheVariants as device
+use Rattle.raster_store.specs.declared.fault.WriteFault.{WriteFault}
+use Rattle.raster_store.specs.declared.fault.WriteFault.TheVariants as writing
+use Rattle.raster_store.specs.Calls.{signature_of}
+use Rattle.coverage_server.specs.Contents.{Cells, fill, values}
+use Rattle.coverage_server.specs.Room.{LacksRoomToInsert, LacksRoomToWrite}
+use Rattle.coverage_server.specs.Views.{ServerView, IsSound, signatures_of}
+use Rattle.coverage_server.specs.declared.arguments.Refusal.{Refusal}
+use Rattle.coverage_server.specs.declared.arguments.Refusal.TheVariants.{Numbered, NoMemory, DiskFault, NoRoom, Damaged}
 
--- one number for each of the points of a box, of which there are so many
-abbrev pub numbers_in : ℕ → Numbers → List ℤ
-numbers_in count (Same number) = replicate count number
-numbers_in count (Each numbers) = numbers.items
+-- how the refusals below are told
+abbrev pub device_refusal : Fault → Refusal
+device_refusal device.NoMemory = NoMemory
+device_refusal device.DiskFault = DiskFault
+device_refusal device.NoRoom = NoRoom
+device_refusal device.Damaged = Damaged
 
--- the number at a point after an update of a box: inside it the new one, in the box's own order, outside it the old one
-abbrev pub updated_number : List Axis → List Axis → List ℤ → List ℤ → List ℤ → ℤ
-updated_number domain box numbers column p =
-    if is_inside box p then slice_index_or numbers (rank_of box p) (pos 0) else slice_index_or column (rank_of domain p) (pos 0)
+abbrev pub write_refusal : WriteFault → Refusal
+write_refusal writing.OutsideDomain = Numbered 24
+write_refusal writing.ValueCount = Numbered 25
+write_refusal writing.ValueRange = Numbered 26
+write_refusal (writing.Device fault) = device_refusal fault
+
+abbrev pub insert_refusal : InsertError → Refusal
+insert_refusal insertion.CoverageExists = Numbered 21
+insert_refusal insertion.BadDomain = Numbered 22
+insert_refusal insertion.BadField = Numbered 23
+insert_refusal insertion.TooManyCoverages = Numbered 27
+insert_refusal insertion.NoMemory = NoMemory
+
+-- the coverage with a name, and what is told of it
+abbrev pub FindsCoverage : List ℕ → Store → Option (Bor Signature) → Type 0
+FindsCoverage name store None = found name store ≡ None
+FindsCoverage name store (Some s) = (c : Coverage) × (found name store ≡ Some c) × (s.now ≡ signature_of c)
+
+-- a coverage is not inserted: the catalogue refuses it, memory is wanting, or room
+abbrev pub InsertRefused : ServerView → Signature → Refusal → Type 0
+InsertRefused v s (Numbered code) = (e : InsertError) × (insert_refusal e ≡ Numbered code) × IsRefused (signatures_of v.store) s e
+InsertRefused v s NoMemory = ⊤
+InsertRefused v s DiskFault = ⊥
+InsertRefused v s NoRoom = LacksRoomToInsert s v
+InsertRefused v s Damaged = ⊥
+
+-- cells for a box of a field of this type: as many as the box has points, and all of the type
+abbrev pub AreCellsOf : FieldType → List Axis → Cells → Type 0
+AreCellsOf kind box (fill cell) = Holds kind cell
+AreCellsOf kind box (values cells) = (length cells ≡ count box) × All (Holds kind) cells
+
+-- these cells are refused by this number
+abbrev pub AreRefused : FieldType → List Axis → Cells → ℕ → Type 0
+AreRefused kind box (fill cell) code = (¬ (Holds kind cell)) × (code ≡ 26)
+AreRefused kind box (values cells) code =
+    ((¬ (length cells ≡ count box)) × (code ≡ 25))
+    ⊎ ((length cells ≡ count box) × (¬ (All (Holds kind) cells)) × (code ≡ 26))
+
+-- a box of the coverage with a name, and cells for its field at a place
+abbrev pub MayWrite : List ℕ → ℕ → List Axis → Cells → Store → Type 0
+MayWrite name field box cells store =
+    IsSomeAnd (found name store) (λ c. IsBoxOf c.domain box × IsSomeAnd (slice_get c.fields field) (λ (f : Field). AreCellsOf f.kind box cells))
+
+-- no box of the coverage, or no cells for the field
+abbrev pub IsNoWrite : Coverage → ℕ → List Axis → Cells → ℕ → Type 0
+IsNoWrite c field box cells code =
+    ((¬ (IsBoxOf c.domain box)) × (code ≡ 24))
+    ⊎ (IsBoxOf c.domain box × IsSomeAnd (slice_get c.fields field) (λ (f : Field). AreRefused f.kind box cells code))
+
+abbrev pub WriteRefused : List ℕ → ℕ → List Axis → Cells → ServerView → Refusal → Type 0
+WriteRefused name field box cells v (Numbered code) = IsSomeAnd (found name v.store) (λ c. IsNoWrite c field box cells code)
+WriteRefused name field box cells v NoMemory = ⊤
+WriteRefused name field box cells v DiskFault = ⊤
+WriteRefused name field box cells v NoRoom = IsSound v → LacksRoomToWrite name field box cells v
+WriteRefused name field box cells v Damaged = IsSound v → ⊥

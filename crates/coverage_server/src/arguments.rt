@@ -1,27 +1,27 @@
-//! What the parts of a request stand for: domains, fields and stored numbers, or the refusal that they get.
-ghost use Rattle.std.specs.Prelude.{◌≡◌, ◌⊎◌, ℕ, length, map, All, IfOk, IfErr, MatchOption, FitsSigned};
+//! What the parts of a request stand for: domains and fields, or the refusal that they get.
+ghost use Rattle.std.specs.Prelude.{◌≡◌, ◌⊎◌, All, IfOk, IfErr, MatchOption, FitsSigned};
 ghost use Rattle.std.specs.Int.{w32};
 ghost use Rattle.std.specs.Option.{SomeIff};
-ghost use Rattle.arr_core.specs.Cells.{stored, Holds};
-ghost use Rattle.arr_core.specs.Domains.{points};
-ghost use Rattle.coverage_server.specs.Contents.{content_view};
 ghost use Rattle.coverage_server.specs.Machine.{FitBounds, SpellDomain, axis_of, axes_of};
-ghost use Rattle.coverage_server.specs.Arguments.{GivesNumbers};
 
 use crate::request::Interval;
-use crate::request::content::Content;
-use crate::store::Numbers;
-use arr_core::{Axis, Cell, Domain, Field, FieldType, Fields};
+use arr_core::{Axis, Domain, Field, Fields};
 use std::alloc::{AllocError, AllocFailed, Global};
 use thiserror::Error;
 
-/// Why a request is refused: by a number of its own, or since no memory was left.
+/// Why a request is refused: by a number of its own, for memory, for the disk, for room, or for a tile that is damaged.
 #[derive(Debug, Drop, Error)]
 pub enum Refusal {
     #[error("refused {0}")]
     Numbered(u16),
     #[error("out of memory")]
     NoMemory,
+    #[error("the disk failed")]
+    DiskFault,
+    #[error("too few blocks are free")]
+    NoRoom,
+    #[error("the file is damaged")]
+    Damaged,
 }
 
 impl From<AllocError> for Refusal {
@@ -96,55 +96,6 @@ pub fn domain_of(alloc: Global, intervals: &[Interval], refusal: u16) -> Result<
             Ok(domain) => Ok(domain),
             Err(_) => Err(Refusal::Numbered(refusal)),
         },
-    }
-}
-
-/// The stored number of a cell that a field of this type may have.
-fn stored_number(kind: FieldType, cell: Cell) -> Result<i64, Refusal>
-    ensures ok { IfOk result (λ n. Holds kind cell × (n ≡ stored cell)) }
-    ensures err { IfErr result (λ e. (e ≡ Refusal.Numbered 26) × (¬ (Holds kind cell))) }
-{
-    if kind.holds(cell) {
-        Ok(cell.stored())
-    } else {
-        Err(Refusal::Numbered(26))
-    }
-}
-
-/// The stored numbers of cells that a field of this type may have.
-fn stored_numbers(alloc: Global, kind: FieldType, cells: &[Cell]) -> Result<Vec<i64>, Refusal>
-    ensures ok { IfOk result (λ v. All (Holds kind) cells.now × (v.items ≡ map stored cells.now)) }
-    ensures err { IfErr result (λ e. ((e ≡ Refusal.Numbered 26) × (¬ (All (Holds kind) cells.now))) ⊎ (e ≡ Refusal.NoMemory)) }
-{
-    let mut numbers = Vec::new(alloc);
-    for cell in cells {
-        let number = stored_number(kind, *cell)?;
-        numbers.push(number)?;
-    }
-    Ok(numbers)
-}
-
-/// The stored numbers that an update of a box writes: as many as the box has points, and all of the field's type.
-pub fn numbers_of(
-    alloc: Global,
-    kind: FieldType,
-    area: &Domain,
-    content: &Content,
-) -> Result<Numbers, Refusal>
-    ensures { GivesNumbers kind area.now (content_view content.now) result }
-{
-    match content {
-        Content::Fill(cell) => {
-            let number = stored_number(kind, *cell)?;
-            Ok(Numbers::Same(number))
-        }
-        Content::Values(cells) => {
-            if cells.len() as u64 != area.points() {
-                return Err(Refusal::Numbered(25));
-            }
-            let numbers = stored_numbers(alloc, kind, cells)?;
-            Ok(Numbers::Each(numbers))
-        }
     }
 }
 

@@ -1,52 +1,31 @@
-//! The answers of queries over the store.
-ghost use Rattle.std.specs.Prelude.{◌≡◌, IfOk, map};
+//! The answers of queries over the coverages.
+ghost use Rattle.std.specs.Prelude.{◌≡◌, IfOk, IfErr, map};
+ghost use Rattle.arr_core.specs.declared.signature.Signature.{Signature};
 ghost use Rattle.wcps_text.specs.Token.{tok};
 ghost use Rattle.wcps_text.specs.Tree.{query_view};
 ghost use Rattle.wcps_types.specs.Queries.{typ_query};
 ghost use Rattle.wcps_types.specs.TypedQueries.{query_view as typed_view};
 ghost use Rattle.wcps_mean.specs.Answer.{answer};
-ghost use Rattle.coverage_server.specs.Holding.{place_of, signature_of};
 ghost use Rattle.coverage_server.specs.Asking.{cells_of, typed_answer};
-ghost use Rattle.coverage_server.specs.Stages.{GivesTokens, GivesQuery, GivesTyped, GivesItems, GivesValues};
+ghost use Rattle.coverage_server.specs.Stages.{GivesTokens, GivesQuery, GivesTyped, GivesItems, GivesValues, FailsReading, error_refusal};
 ghost use Rattle.coverage_server.specs.Machine.{Answers};
-ghost use Rattle.coverage_server.specs.Answered.{Answered};
+ghost use Rattle.coverage_server.specs.Answered.{Answered, IsAnswer};
+ghost use Rattle.coverage_server.specs.Views.{IsSound, signatures_of, still_of};
 
 use crate::arguments::Refusal;
+use crate::cells::AskedCells;
 use crate::front::reply::Reply;
-use crate::store::Store;
-use arr_core::Signature;
+use arr_core::{Name, Signature};
 use csv_out::csv_text;
+use disk_face::Disk;
 use std::alloc::{AllocError, Global};
-use wcps_mean::{CellError, Cells, EvalError, Item, eval_plain};
+use wcps_mean::{CellError, EvalError, Item, eval_plain};
 use wcps_parse::{ParseError, parse};
 use wcps_text::{LexError, Query, Token, lex};
 use wcps_types::{CheckError, TypedQuery, check};
 
 /// The most bytes of a query.
 const MAX_QUERY: usize = 65_536;
-
-/// The cells of the coverages that a query names.
-#[derive(Drop)]
-struct StoreCells<'a> {
-    store: &'a Store,
-    /// The place in the store of each coverage of the query.
-    places: Vec<Option<usize>>,
-}
-
-impl Cells for StoreCells<'_> {
-    ghost use Rattle.coverage_server.specs.Stages.{cell_at};
-
-    ghost cells = { λ s coverage field point. cell_at s.store.now s.places.items coverage field point };
-
-    ghost kept = { λ _. tt };
-
-    fn cell(&mut self, coverage: usize, field: usize, point: &[i32]) -> Result<i64, CellError> {
-        match self.places.get(coverage) {
-            Some(Some(place)) => Ok(self.store.number_at(*place, field, point)),
-            _ => Ok(0),
-        }
-    }
-}
 
 /// The tokens of a query.
 fn tokens_of(alloc: Global, text: &str) -> Result<Vec<Token<'_>>, Refusal>
@@ -83,54 +62,73 @@ fn typed_of(alloc: Global, signatures: &[Signature], query: &Query) -> Result<Ty
     }
 }
 
-/// The places in the store of a query's coverages.
-fn places_of(
-    alloc: Global,
-    store: &Store,
-    coverages: &[Signature],
-) -> Result<Vec<Option<usize>>, AllocError>
-    ensures { IfOk result (λ places. places.items ≡ map (λ c. place_of c.name store.now) coverages.now) }
+/// The names of a query's coverages.
+fn names_of(alloc: Global, coverages: &[Signature]) -> Result<Vec<Name>, AllocError>
+    ensures { IfOk result (λ names. names.items ≡ map (λ (c : Signature). c.name) coverages.now) }
 {
-    let mut places = Vec::new(alloc);
+    let mut names = Vec::new(alloc);
     for coverage in coverages {
-        places.push(store.place_of(coverage.name.as_str()))?;
+        let name = coverage.name.copy(alloc)?;
+        names.push(name)?;
     }
-    Ok(places)
+    Ok(names)
 }
 
-/// The items of the answer. The store has all its cells in memory, so nothing but memory can be wanting.
-fn items_of(alloc: Global, store: &Store, typed: &TypedQuery) -> Result<Vec<Item>, Refusal>
-    ensures { GivesItems (answer (cells_of store.now typed.now.coverages.items) (typed_view typed.now)) result }
+/// Why the items of an answer are not known.
+fn error_refusal(error: EvalError) -> Refusal
+    ensures { result ≡ error_refusal error }
 {
-    let places = places_of(alloc, store, typed.coverages())?;
-    let mut cells = StoreCells { store, places };
-    match eval_plain(alloc, &mut cells, typed) {
+    match error {
+        EvalError::Fault(fault) => Refusal::Numbered(fault.number()),
+        EvalError::Cells(CellError::NoMemory) => Refusal::NoMemory,
+        EvalError::Cells(CellError::DiskFault) => Refusal::DiskFault,
+        EvalError::Cells(CellError::Damaged) => Refusal::Damaged,
+    }
+}
+
+/// The items of the answer.
+fn items_of<D: Disk>(cells: &mut AskedCells<D>, typed: &TypedQuery) -> Result<Vec<Item>, Refusal>
+    ensures items { IsSound cells.old.coverages → GivesItems (answer (cells_of cells.old.coverages.store typed.now.coverages.items) (typed_view typed.now)) result }
+    ensures faults { IfErr result (FailsReading cells.old.coverages cells.new.coverages) }
+    ensures still { still_of cells.new.coverages ≡ still_of cells.old.coverages }
+{
+    let alloc = cells.alloc;
+    let names = names_of(alloc, typed.coverages())?;
+    cells.names = names;
+    cells.tiles.clear();
+    match eval_plain(alloc, cells, typed) {
         Ok(items) => Ok(items),
-        Err(EvalError::Fault(fault)) => Err(Refusal::Numbered(fault.number())),
-        Err(EvalError::Cells(_)) => Err(Refusal::NoMemory),
+        Err(error) => Err(error_refusal(error)),
     }
 }
 
 /// The comma-separated values of a query, or its refusal by types and limits, or by its evaluation.
-fn values_of(alloc: Global, store: &Store, query: &Query) -> Result<String, Refusal>
-    ensures { GivesValues (typed_answer store.now (typ_query (map signature_of store.now) (query_view query.now))) result }
+fn values_of<D: Disk>(cells: &mut AskedCells<D>, query: &Query) -> Result<String, Refusal>
+    ensures values { IsSound cells.old.coverages → GivesValues (typed_answer cells.old.coverages.store (typ_query (signatures_of cells.old.coverages.store) (query_view query.now))) result }
+    ensures faults { IfErr result (FailsReading cells.old.coverages cells.new.coverages) }
+    ensures still { still_of cells.new.coverages ≡ still_of cells.old.coverages }
 {
-    let typed = typed_of(alloc, store.signatures(), query)?;
-    let items = items_of(alloc, store, &typed)?;
+    let alloc = cells.alloc;
+    let signatures = cells.coverages.signatures(alloc)?;
+    let typed = typed_of(alloc, &signatures, query)?;
+    let items = items_of(cells, &typed)?;
     let text = csv_text(alloc, &items)?;
     Ok(text)
 }
 
-/// The answer to a query, as comma-separated values. Its refusals come in this order: those of its length, of its tokens, of its
-/// syntax, of its types and limits, and of its evaluation.
-pub fn process(alloc: Global, store: &Store, text: &str) -> Result<Reply, Refusal>
-    ensures { Answered (Answers text.now) store.now store.now result }
+/// The answer to a query, as comma-separated values. Its refusals come in this order: those of its length, of its
+/// tokens, of its syntax, of its types and limits, and of its evaluation.
+pub fn process<D: Disk>(cells: &mut AskedCells<D>, text: &str) -> Result<Reply, Refusal>
+    ensures answered { Answered (Answers text.now) ⊥ cells.old.coverages cells.new.coverages result }
+    ensures answer { IfOk result IsAnswer }
+    ensures still { still_of cells.new.coverages ≡ still_of cells.old.coverages }
 {
     if text.len() > MAX_QUERY {
         return Err(Refusal::Numbered(14));
     }
+    let alloc = cells.alloc;
     let tokens = tokens_of(alloc, text)?;
     let query = query_of(alloc, &tokens)?;
-    let values = values_of(alloc, store, &query)?;
+    let values = values_of(cells, &query)?;
     Ok(Reply::Csv(values))
 }

@@ -108,8 +108,8 @@ impl RequestError {
     }
 }
 
-/// Reads the request that some pairs spell, or says what is wrong with them first. The pairs are those of a web form, and
-/// keys match in any ASCII case.
+/// Reads the request that some pairs spell, or says what is wrong with them first. The pairs are those of a web form,
+/// and keys match in any ASCII case.
 pub fn read_request(alloc: Global, pairs: &[u8]) -> Result<Request, RequestError>
     ensures { Gives asks (spelled pairs.now) result }
 {

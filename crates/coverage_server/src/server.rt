@@ -1,19 +1,24 @@
-//! The server: requests act on the store, and each gets a reply.
-ghost use Rattle.std.specs.Prelude.{◌≡◌, ℕ, List, [], Result};
+//! The server: requests act on the coverages, and each gets a reply.
+ghost use Rattle.std.specs.Prelude.{◌≡◌, ℕ, List, Result, IfOk, OnErr};
+ghost use Rattle.block_file.specs.Format.{KeepsHeader};
 ghost use Rattle.coverage_server.specs.Requests.{asks};
 ghost use Rattle.coverage_server.specs.Stream.{Shows};
-ghost use Rattle.coverage_server.specs.Machine.{Inserts, Updates, Lists, Step, MessageStep};
-ghost use Rattle.coverage_server.specs.Answered.{Answered};
+ghost use Rattle.coverage_server.specs.Machine.{Inserts, Updates, Lists, Serves, MessageStep, axes_of};
+ghost use Rattle.coverage_server.specs.Answered.{Answered, IsAnswer, Steps};
 ghost use Rattle.coverage_server.specs.Contents.{content_view};
+ghost use Rattle.coverage_server.specs.Room.{LacksRoom, LacksRoomToInsert, LacksRoomToUpdate};
 ghost use Rattle.coverage_server.specs.Serves.{ServesConnection};
+ghost use Rattle.coverage_server.specs.Views.{IsSound, IsUnchanged};
 
-use crate::arguments::{Refusal, copied_fields, domain_of, numbers_of};
+use crate::arguments::{Refusal, copied_fields, domain_of};
+use crate::cells::AskedCells;
+use crate::coverages::Coverages;
 use crate::front::conn::{Conn, Next};
 use crate::front::reply::{Reply, send};
 use crate::query::process;
 use crate::request::{Insertion, Request, Update, read_request};
-use crate::store::Store;
 use arr_core::Signature;
+use disk_face::Disk;
 use std::alloc::Global;
 use std::io::{Read, Write};
 use std::marker::Model;
@@ -26,82 +31,82 @@ pub enum ConnEnd {
     WriteFault,
 }
 
-/// A server of coverages. It is seen as the store that it holds.
+/// A server of the coverages of a disk.
 #[derive(Drop)]
-pub struct Server {
-    alloc: Global,
-    store: Store,
+pub struct Server<D: Disk> {
+    pub(crate) cells: AskedCells<D>,
 }
 
-impl Model for Server {
-    ghost use Rattle.arr_core.specs.Stores.{Store as Coverages};
+impl<D: Disk> Model for Server<D> {
+    ghost use Rattle.coverage_server.specs.Views.{ServerView};
 
-    ghost Value = { Coverages };
+    ghost Value = { ServerView };
 
-    ghost view = { λ s. s.store };
+    ghost view = { λ s. s.cells.coverages };
 }
-
-/// The most coverages that are held.
-const MAX_COVERAGES: usize = 1024;
 
 /// Adds a coverage.
-fn insert(alloc: Global, store: &mut Store, insertion: &Insertion) -> Result<Reply, Refusal>
-    ensures { Answered (Inserts insertion.now.coverage insertion.now.intervals.items insertion.now.fields.items) store.old store.new result }
+fn insert<D: Disk>(
+    alloc: Global,
+    coverages: &mut Coverages<D>,
+    insertion: &Insertion,
+) -> Result<Reply, Refusal>
+    ensures answered { Answered (Inserts insertion.now.coverage insertion.now.intervals.items insertion.now.fields.items) (LacksRoomToInsert (record { name = insertion.now.coverage; domain = axes_of insertion.now.intervals.items; fields = insertion.now.fields.items }) coverages.old) coverages.old coverages.new result }
+    ensures answer { IfOk result IsAnswer }
+    ensures unchanged { OnErr result (IsUnchanged coverages.old coverages.new) }
+    ensures sound { IsSound coverages.old → IsSound coverages.new }
+    ensures content { coverages.new.content ≡ coverages.old.content }
+    ensures honest { coverages.new.honest ≡ coverages.old.honest }
 {
-    if store.place_of(insertion.coverage.as_str()).is_some() {
+    if coverages.signature(&insertion.coverage).is_some() {
         return Err(Refusal::Numbered(21));
     }
     let domain = domain_of(alloc, &insertion.intervals, 22)?;
-    if insertion.intervals.is_empty() {
-        return Err(Refusal::Numbered(22));
-    }
     let fields = copied_fields(alloc, &insertion.fields)?;
-    if !fields.are_fields() {
-        return Err(Refusal::Numbered(23));
-    }
-    if store.signatures().len() >= MAX_COVERAGES {
-        return Err(Refusal::Numbered(27));
-    }
-    let reply = String::from_str(alloc, "ok\n")?;
     let name = insertion.coverage.copy(alloc)?;
-    store.insert(
-        alloc,
-        Signature {
-            name,
-            domain,
-            fields,
-        },
-    )?;
+    let reply = String::from_str(alloc, "ok\n")?;
+    let signature = Signature {
+        name,
+        domain,
+        fields,
+    };
+    coverages.insert(alloc, signature)?;
     Ok(Reply::Text(reply))
 }
 
 /// Writes new cells into a box of a field.
-fn update(alloc: Global, store: &mut Store, update: &Update) -> Result<Reply, Refusal>
-    ensures { Answered (Updates update.now.coverage update.now.field update.now.intervals.items (content_view update.now.content)) store.old store.new result }
+fn update<D: Disk>(
+    alloc: Global,
+    coverages: &mut Coverages<D>,
+    update: &Update,
+) -> Result<Reply, Refusal>
+    ensures answered { Answered (Updates update.now.coverage update.now.field update.now.intervals.items (content_view update.now.content)) (LacksRoomToUpdate update.now.coverage update.now.field update.now.intervals.items (content_view update.now.content) coverages.old) coverages.old coverages.new result }
+    ensures answer { IfOk result IsAnswer }
+    ensures unchanged { OnErr result (IsUnchanged coverages.old coverages.new) }
+    ensures sound { IsSound coverages.old → IsSound coverages.new }
+    ensures header { KeepsHeader coverages.old.content coverages.new.content }
+    ensures honest { coverages.new.honest ≡ coverages.old.honest }
 {
-    let Some((place, signature)) = store.find(update.coverage.as_str()) else {
+    let Some(signature) = coverages.signature(&update.coverage) else {
         return Err(Refusal::Numbered(20));
     };
     let Some(field) = signature.fields.place_of(update.field.as_str()) else {
         return Err(Refusal::Numbered(42));
     };
-    let kind = signature.fields.as_slice()[field].kind;
     let area = domain_of(alloc, &update.intervals, 24)?;
-    if !area.is_box_of(&signature.domain) {
-        return Err(Refusal::Numbered(24));
-    }
-    let numbers = numbers_of(alloc, kind, &area, &update.content)?;
     let reply = String::from_str(alloc, "ok\n")?;
-    store.update(alloc, place, field, &area, &numbers)?;
+    coverages.write(&update.coverage, field, &area, &update.content)?;
     Ok(Reply::Text(reply))
 }
 
 /// The names of the coverages, each on a line.
-fn list(alloc: Global, store: &Store) -> Result<Reply, Refusal>
-    ensures { Answered (Lists) store.now store.now result }
+fn list<D: Disk>(alloc: Global, coverages: &Coverages<D>) -> Result<Reply, Refusal>
+    ensures answered { Answered Lists ⊥ coverages.now coverages.now result }
+    ensures answer { IfOk result IsAnswer }
 {
     let mut text = String::new(alloc);
-    let signatures = store.signatures();
+    let listed = coverages.signatures(alloc)?;
+    let signatures = listed.as_slice();
     for signature in signatures {
         text.push_str(signature.name.as_str())?;
         text.push_str("\n")?;
@@ -109,40 +114,57 @@ fn list(alloc: Global, store: &Store) -> Result<Reply, Refusal>
     Ok(Reply::Text(text))
 }
 
-impl Server {
-    /// A server without coverages. It takes no memory.
-    pub fn new(alloc: Global) -> Server
-        ensures { result ≡ [] }
+impl<D: Disk> Server<D> {
+    /// What a request is answered, or why it is refused.
+    fn answered(&mut self, request: &Request) -> Result<Reply, Refusal>
+        ensures answered { Answered (Serves (asks request.now)) (LacksRoom (asks request.now) self.old) self.old self.new result }
+        ensures answer { IfOk result IsAnswer }
+        ensures unchanged { OnErr result (IsUnchanged self.old self.new) }
+        ensures sound { IsSound self.old → IsSound self.new }
+        ensures header { KeepsHeader self.old.content self.new.content }
+        ensures honest { self.new.honest ≡ self.old.honest }
     {
-        Server {
-            alloc,
-            store: Store::new(alloc),
+        let alloc = self.cells.alloc;
+        match request {
+            Request::InsertCoverage(insertion) => {
+                insert(alloc, &mut self.cells.coverages, insertion)
+            }
+            Request::UpdateCoverage(change) => update(alloc, &mut self.cells.coverages, change),
+            Request::ListCoverages => list(alloc, &self.cells.coverages),
+            Request::ProcessCoverages(query) => process(&mut self.cells, query.as_str()),
         }
     }
 
-    /// Answers a request: one step of the machine.
+    /// Answers a request: one step of the machine, on an honest disk whose tiles are intact, which stay so. In place
+    /// of any reply want of memory (90), a disk fault (91) or want of room (92) may be told. A refusal leaves the
+    /// signatures and the indexes as they were on any disk.
     pub fn answer(&mut self, request: &Request) -> Reply
-        ensures { Step (asks request.now) self.old result self.new }
+        ensures step { IsSound self.old → Steps (asks request.now) self.old result self.new }
+        ensures refused { (IsAnswer result → ⊥) → IsUnchanged self.old self.new }
+        ensures sound { IsSound self.old → IsSound self.new }
+        ensures header { KeepsHeader self.old.content self.new.content }
+        ensures honest { self.new.honest ≡ self.old.honest }
     {
-        let answered = match request {
-            Request::InsertCoverage(insertion) => insert(self.alloc, &mut self.store, insertion),
-            Request::UpdateCoverage(change) => update(self.alloc, &mut self.store, change),
-            Request::ListCoverages => list(self.alloc, &self.store),
-            Request::ProcessCoverages(query) => process(self.alloc, &self.store, query.as_str()),
-        };
-        match answered {
+        match self.answered(request) {
             Ok(reply) => reply,
             Err(Refusal::Numbered(code)) => Reply::Refused(code),
             Err(Refusal::NoMemory) => Reply::Refused(90),
+            Err(Refusal::DiskFault) => Reply::Refused(91),
+            Err(Refusal::NoRoom) => Reply::Refused(92),
+            Err(Refusal::Damaged) => Reply::Refused(93),
         }
     }
 
     /// The reply to what a connection asks.
     fn reply_to(&mut self, next: Next) -> Reply
-        ensures { (asked : Result (List ℕ) ℕ) → Shows asked next → MessageStep self.old asked result self.new }
+        ensures step { IsSound self.old → (asked : Result (List ℕ) ℕ) → Shows asked next → MessageStep self.old.store asked result self.new.store }
+        ensures sound { IsSound self.old → IsSound self.new }
+        ensures header { KeepsHeader self.old.content self.new.content }
+        ensures honest { self.new.honest ≡ self.old.honest }
     {
+        let alloc = self.cells.alloc;
         match next {
-            Next::Message(pairs) => match read_request(self.alloc, pairs.as_slice()) {
+            Next::Message(pairs) => match read_request(alloc, pairs.as_slice()) {
                 Ok(request) => self.answer(&request),
                 Err(error) => Reply::Refused(error.number()),
             },
@@ -151,13 +173,24 @@ impl Server {
         }
     }
 
+    /// How many tiles were fetched. The count stays at the last value of a `u64`.
+    pub fn fetched(&self) -> u64
+        ensures { result ≡ self.now.fetched }
+    {
+        self.cells.coverages.fetched()
+    }
+
     /// Serves a connection to its end: reads messages, answers each and writes the replies.
     pub fn serve_connection<R: Read, W: Write>(&mut self, reader: &mut R, writer: &mut W) -> ConnEnd
-        ensures { ServesConnection (R.remaining reader.old) (R.remaining reader.new) (W.contents writer.old) (W.contents writer.new) self.old self.new result }
+        ensures served { IsSound self.old → ServesConnection (R.remaining reader.old) (R.remaining reader.new) (W.contents writer.old) (W.contents writer.new) self.old.store self.new.store result }
+        ensures sound { IsSound self.old → IsSound self.new }
+        ensures header { KeepsHeader self.old.content self.new.content }
+        ensures honest { self.new.honest ≡ self.old.honest }
     {
+        let alloc = self.cells.alloc;
         let mut conn = Conn::new();
         'serving: loop {
-            match conn.next(self.alloc, reader) {
+            match conn.next(alloc, reader) {
                 Next::Ended => return ConnEnd::Finished,
                 Next::ReadFault => return ConnEnd::ReadFault,
                 next => {

@@ -1,10 +1,12 @@
 //! Whole connections: worked requests and their replies, and streams that are cut, long or no messages.
 ghost use Rattle.std.specs.Prelude.{◌<◌};
 
+mod files;
 mod memory;
 mod queries;
 
 use super::*;
+use disk_face::MemDisk;
 use std::alloc::{AllocError, Global};
 use std::io;
 use std::io::{ErrorKind, Read, Write};
@@ -57,8 +59,21 @@ impl Write for Narrow {
     }
 }
 
+/// A server over a disk with these bytes.
+fn server_of(rt: &impl Abort, alloc: Global, bytes: Vec<u8>) -> Server<MemDisk> {
+    match Server::open(alloc, MemDisk::new(bytes)) {
+        Ok(server) => server,
+        Err(refused) => panic!(rt; "refused {}", refused.fault.number()),
+    }
+}
+
+/// A server over a disk without a byte.
+fn empty_server(rt: &impl Abort, alloc: Global) -> Server<MemDisk> {
+    server_of(rt, alloc, Vec::new(alloc))
+}
+
 /// What a server writes for a stream.
-fn served(rt: &impl Abort, alloc: Global, server: &mut Server, stream: &[u8]) -> Vec<u8> {
+fn served(rt: &impl Abort, alloc: Global, server: &mut Server<MemDisk>, stream: &[u8]) -> Vec<u8> {
     let mut input = stream;
     let mut output = Vec::new(alloc);
     let end = server.serve_connection(&mut input, &mut output);
@@ -83,7 +98,7 @@ fn reply(alloc: Global, status: &str, kind: &str, body: &str) -> Result<String, 
 fn exchange(
     rt: &impl Abort,
     alloc: Global,
-    server: &mut Server,
+    server: &mut Server<MemDisk>,
     rows: &[(&str, &str, &str, &str)],
 ) -> Result<(), AllocError> {
     for (pairs, status, kind, body) in rows {
@@ -107,7 +122,7 @@ const FILL: &str = "request=UpdateCoverage&coverage=lai&field=v&box=x(0:99)&fill
 
 #[test]
 fn worked_requests(rt: HostRuntime) -> Result<(), Fail> {
-    let mut server = Server::new(rt.alloc());
+    let mut server = empty_server(&rt, rt.alloc());
     let rows = [
         ("request=ListCoverages", OK, "plain", ""),
         (INSERT, OK, "plain", "ok\n"),
@@ -188,7 +203,7 @@ fn worked_requests(rt: HostRuntime) -> Result<(), Fail> {
 
 #[test]
 fn refused_requests(rt: HostRuntime) -> Result<(), Fail> {
-    let mut server = Server::new(rt.alloc());
+    let mut server = empty_server(&rt, rt.alloc());
     let rows = [
         (INSERT, OK, "plain", "ok\n"),
         ("", BAD, "plain", "refused 10 NoRequest\n"),
@@ -322,7 +337,7 @@ fn refused_requests(rt: HostRuntime) -> Result<(), Fail> {
 #[test]
 fn limits_of_requests(rt: HostRuntime) -> Result<(), Fail> {
     let alloc = rt.alloc();
-    let mut server = Server::new(alloc);
+    let mut server = empty_server(&rt, alloc);
     let mut deep = String::from_str(
         alloc,
         "request=ProcessCoverages&query=for+c+in+(lai)+return+",
@@ -415,7 +430,7 @@ fn streams(rt: HostRuntime) -> Result<(), Fail> {
         ),
     ];
     for (stream, first, second) in rows {
-        let mut server = Server::new(alloc);
+        let mut server = empty_server(&rt, alloc);
         let output = served(&rt, alloc, &mut server, stream.as_bytes());
         let expected = format!(in alloc; "{first}{second}")?;
         assert_eq!(rt; output.as_slice(), expected.as_bytes(), "{stream}");
@@ -459,7 +474,7 @@ fn limits_of_heads(rt: HostRuntime) -> Result<(), Fail> {
         (1000, 64, EMPTY),
         (1000, 65, BAD_HEAD),
     ] {
-        let mut server = Server::new(alloc);
+        let mut server = empty_server(&rt, alloc);
         let head = long_head(alloc, length, fields)?;
         assert_eq!(rt; head.len(), length);
         let output = served(&rt, alloc, &mut server, head.as_bytes());
@@ -480,7 +495,7 @@ fn a_thousand_messages(rt: HostRuntime) -> Result<(), Fail> {
         expected.push_str(EMPTY)?;
     }
     expected.push_str(LAST_EMPTY)?;
-    let mut server = Server::new(alloc);
+    let mut server = empty_server(&rt, alloc);
     let output = served(&rt, alloc, &mut server, stream.as_bytes());
     assert_eq!(rt; output.as_slice(), expected.as_bytes());
     Ok(())
@@ -489,7 +504,7 @@ fn a_thousand_messages(rt: HostRuntime) -> Result<(), Fail> {
 #[test]
 fn a_failing_writer(rt: HostRuntime) -> Result<(), Fail> {
     let alloc = rt.alloc();
-    let mut server = Server::new(alloc);
+    let mut server = empty_server(&rt, alloc);
     let stream = message(alloc, INSERT)?;
     let mut input = stream.as_bytes();
     let mut output = Narrow {

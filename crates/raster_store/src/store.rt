@@ -1,6 +1,6 @@
 //! Coverages by their names: functions on boxes.
 
-ghost use Rattle.std.specs.Prelude.{◌≡◌, ℕ, ◌+◌, ◌<◌, ◌≤◌, List, [], ◌∷◌, ◌++◌, map, length, replicate, None, IsSomeAnd, IsErrOf, IfOk, IfErr, OnOk, OnErr, IsTrue};
+ghost use Rattle.std.specs.Prelude.{◌≡◌, ℕ, ◌+◌, ◌<◌, ◌≤◌, List, [], ◌∷◌, ◌++◌, map, length, replicate, None, IsSomeAnd, IsErrOf, IfOk, IfErr, OnOk, OnErr, IsTrue, option_copied, option_map};
 ghost use Rattle.arr_core.specs.Cells.{stored};
 ghost use Rattle.arr_core.specs.Domains.{points, count, IsInside, IsBoxOf};
 ghost use Rattle.arr_core.specs.Stores.{found, inserted, deleted, updated, value_at};
@@ -13,7 +13,7 @@ ghost use Rattle.tile_store.specs.Room.{AreMeeting};
 ghost use Rattle.tile_store.specs.Stored.{tile_box};
 ghost use Rattle.disk_face.specs.Disk.{Counts};
 ghost use Rattle.raster_store.specs.Views.{coverage_in, AreIntact, times_all, listed_blocks, reserve, AreBelow, Fetched};
-ghost use Rattle.raster_store.specs.Calls.{AreSameSignatures, AreWhole, AreListed, HasField, HasNumbers, Refuses, WriteCounts, LacksRoomFor, MayAttach, index_of};
+ghost use Rattle.raster_store.specs.Calls.{signature_of, AreSameSignatures, AreWhole, AreListed, HasField, HasNumbers, Refuses, WriteCounts, LacksRoomFor, MayAttach, index_of};
 
 use crate::fault::WriteFault;
 use crate::held::{Held, give_back_fields, place_held, place_of};
@@ -335,6 +335,16 @@ impl<B: Blocks> RasterStore<B> {
             fetched: _,
         } = self;
         blocks
+    }
+
+    /// The name, domain and fields of the coverage with a name. Takes no memory.
+    pub fn signature(&self, name: &Name) -> Option<&Signature>
+        ensures { option_copied result ≡ option_map signature_of (found name.now self.now.coverages) }
+    {
+        match place_of(&self.coverages, name) {
+            Some(place) => Some(&self.coverages[place].signature),
+            None => None,
+        }
     }
 
     /// How many tiles read calls have handed out. The count stays at the last value of a `u64`.

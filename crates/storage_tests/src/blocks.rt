@@ -30,7 +30,7 @@ fn opened(alloc: Global, bytes: Vec<u8>) -> Result<usize, OpenFault> {
 }
 
 /// A new file over a disk in memory whose call k fails, or none for 0.
-fn new_file(alloc: Global, k: u64) -> Option<BlockFile<FailDisk>>
+pub(crate) fn new_file(alloc: Global, k: u64) -> Option<BlockFile<FailDisk>>
     ensures { IfSome result (λ file. IsFresh file.marks) }
 {
     match BlockFile::open(alloc, FailDisk::new(MemDisk::new(Vec::new(alloc)), k)) {

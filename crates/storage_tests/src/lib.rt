@@ -11,10 +11,14 @@ mod disks;
 #[cfg(test)]
 mod domains;
 #[cfg(test)]
+mod fields;
+#[cfg(test)]
 mod indexes;
 #[cfg(test)]
-mod metadata;
+mod metadata_bytes;
 #[cfg(test)]
 mod numbers;
+#[cfg(test)]
+mod stores;
 #[cfg(test)]
 mod tiles;

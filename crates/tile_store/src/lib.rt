@@ -9,8 +9,6 @@ mod field;
 mod held;
 mod numbers;
 mod reserve;
-#[cfg(test)]
-mod tests;
 mod tile;
 mod update;
 

@@ -1,4 +1,5 @@
-//! A session in which any one allocation may fail. The test itself allocates nothing, so that each failure is the server's.
+//! A session in which any one allocation may fail. The test itself allocates nothing, so that each failure is the
+//! server's or its disk's, which tells it as a failed write.
 
 use super::*;
 use crate::request::read_request;
@@ -7,7 +8,7 @@ use std::process::Abort;
 use std::test::Fail;
 
 /// The reply to the pairs of a request.
-fn reply_to(alloc: Global, server: &mut Server, pairs: &str) -> Reply {
+fn reply_to(alloc: Global, server: &mut Server<MemDisk>, pairs: &str) -> Reply {
     match read_request(alloc, pairs.as_bytes()) {
         Ok(request) => server.answer(&request),
         Err(error) => Reply::Refused(error.number()),
@@ -23,10 +24,10 @@ fn has_body(reply: &Reply, body: &str) -> bool {
     }
 }
 
-/// Whether a reply tells want of memory.
+/// Whether a reply tells want of memory, or that the disk had none.
 fn wants_memory(reply: &Reply) -> bool {
     match reply {
-        Reply::Refused(code) => *code == 90,
+        Reply::Refused(code) => *code == 90 || *code == 91,
         Reply::Text(_) => false,
         Reply::Csv(_) => false,
     }
@@ -36,7 +37,7 @@ fn wants_memory(reply: &Reply) -> bool {
 fn ask(
     rt: &impl Abort,
     alloc: Global,
-    server: &mut Server,
+    server: &mut Server<MemDisk>,
     row: (&str, &str),
     before: (&str, &str),
 ) {
@@ -54,7 +55,7 @@ fn ask(
 }
 
 /// A session, and beside each request another one that tells the state before it.
-fn session(rt: &impl Abort, alloc: Global, server: &mut Server) {
+fn session(rt: &impl Abort, alloc: Global, server: &mut Server<MemDisk>) {
     let list = "request=ListCoverages";
     let sum = "request=ProcessCoverages&query=for+c+in+(lai)+return+add(c.v)";
     for (pairs, body, probe, kept) in [
@@ -96,7 +97,11 @@ fn session(rt: &impl Abort, alloc: Global, server: &mut Server) {
 
 #[test]
 fn want_of_memory(rt: HostRuntime) -> Result<(), Fail> {
-    let mut server = Server::new(rt.alloc());
-    session(&rt, rt.alloc(), &mut server);
+    let alloc = rt.alloc();
+    let mut server = match Server::open(alloc, MemDisk::new(Vec::new(alloc))) {
+        Ok(server) => server,
+        Err(refused) => server_of(&rt, alloc, refused.disk.into_bytes()),
+    };
+    session(&rt, alloc, &mut server);
     Ok(())
 }

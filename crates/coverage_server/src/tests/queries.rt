@@ -7,8 +7,8 @@ use std::alloc::{AllocError, Global};
 use std::process::Abort;
 use std::test::Fail;
 
-/// A session. After `> ` stand the pairs of a request, after `? ` the text of a query; the lines behind are the body of the
-/// reply.
+/// A session. After `> ` stand the pairs of a request, after `? ` the text of a query; the lines behind are the body
+/// of the reply.
 fn session() -> &'static str {
     "\
 > request=InsertCoverage&coverage=lai&domain=x(0:99)&fields=v:i16
@@ -206,14 +206,18 @@ fn body_of(alloc: Global, reply: &Reply) -> Result<String, AllocError> {
 }
 
 /// What a query is answered.
-fn queried(alloc: Global, server: &mut Server, query: &str) -> Result<String, AllocError> {
+fn queried(alloc: Global, server: &mut Server<MemDisk>, query: &str) -> Result<String, AllocError> {
     let text = String::from_str(alloc, query)?;
     let reply = server.answer(&Request::ProcessCoverages(text));
     body_of(alloc, &reply)
 }
 
 /// What the pairs of a request are answered.
-fn requested(alloc: Global, server: &mut Server, pairs: &str) -> Result<String, AllocError> {
+fn requested(
+    alloc: Global,
+    server: &mut Server<MemDisk>,
+    pairs: &str,
+) -> Result<String, AllocError> {
     let reply = match read_request(alloc, pairs.as_bytes()) {
         Ok(request) => server.answer(&request),
         Err(error) => Reply::Refused(error.number()),
@@ -222,7 +226,11 @@ fn requested(alloc: Global, server: &mut Server, pairs: &str) -> Result<String, 
 }
 
 /// What a line of a session is answered; nothing where it is a line of an answer.
-fn answered(alloc: Global, server: &mut Server, line: &str) -> Result<Option<String>, AllocError> {
+fn answered(
+    alloc: Global,
+    server: &mut Server<MemDisk>,
+    line: &str,
+) -> Result<Option<String>, AllocError> {
     if let Some(query) = line.strip_prefix("? ") {
         let body = queried(alloc, server, query)?;
         return Ok(Some(body));
@@ -238,7 +246,7 @@ fn answered(alloc: Global, server: &mut Server, line: &str) -> Result<Option<Str
 fn replay(
     rt: &impl Abort,
     alloc: Global,
-    server: &mut Server,
+    server: &mut Server<MemDisk>,
     session: &str,
 ) -> Result<(), AllocError> {
     let mut asked = String::new(alloc);
@@ -265,7 +273,7 @@ fn replay(
 
 #[test]
 fn worked_queries(rt: HostRuntime) -> Result<(), Fail> {
-    let mut server = Server::new(rt.alloc());
+    let mut server = empty_server(&rt, rt.alloc());
     replay(&rt, rt.alloc(), &mut server, session())?;
     Ok(())
 }
@@ -290,7 +298,7 @@ fn repeated(
 fn expect(
     rt: &impl Abort,
     alloc: Global,
-    server: &mut Server,
+    server: &mut Server<MemDisk>,
     query: &str,
     expected: &str,
 ) -> Result<(), AllocError> {
@@ -300,7 +308,7 @@ fn expect(
 }
 
 /// Queries at the limits of length, depth, height and number of combinations.
-fn limits(rt: &impl Abort, alloc: Global, server: &mut Server) -> Result<(), AllocError> {
+fn limits(rt: &impl Abort, alloc: Global, server: &mut Server<MemDisk>) -> Result<(), AllocError> {
     let front = "for c in (lai) return ";
     let parens = repeated(alloc, front, "(", 512, "1")?;
     let closed = repeated(alloc, parens.as_str(), ")", 512, "")?;
@@ -330,7 +338,7 @@ fn limits(rt: &impl Abort, alloc: Global, server: &mut Server) -> Result<(), All
 #[test]
 fn limits_of_queries(rt: HostRuntime) -> Result<(), Fail> {
     let alloc = rt.alloc();
-    let mut server = Server::new(alloc);
+    let mut server = empty_server(&rt, alloc);
     let inserted = requested(alloc, &mut server, INSERT)?;
     assert_eq!(&rt; inserted.as_str(), "ok\n");
     limits(&rt, alloc, &mut server)?;

@@ -1,4 +1,4 @@
-use Rattle.std.proofs.Common.{◌≡◌, ℕ, ◌<◌, ◌≤◌, List, [], ◌∷◌, length, get_or, map, true, refl, sym, ap, ◌∙◌, arith}
+use Rattle.std.proofs.Common.{◌≡◌, ℕ, ◌<◌, ◌≤◌, List, [], ◌∷◌, length, get_or, map, refl, sym, ap, ◌∙◌, arith}
 use Rattle.std.specs.Prelude.{String, codes, string_bytes}
 use Rattle.std.specs.declared.alloc.Global.{Global}
 use Rattle.std.proofs.lemmas.Slice.Eq.{bytes_eq-Decides}
@@ -11,11 +11,8 @@ two_words (w ∷ []) a b some few x y = absurd (omega arith)
 two_words (w ∷ v ∷ []) a b some few x y = cc
 two_words (w ∷ v ∷ u ∷ words) a b some few x y = absurd (omega arith)
 
-pub returns-then-eq-2 : goal.returns-then-eq-2
-returns-then-eq-2 c =
+pub returns-then-eq-clause-only : goal.returns-then-eq-clause-only
+returns-then-eq-clause-only c =
     let words = two_words c.args.words.now c.file-item.result c.verb-item.result c.in-len2.len_at_least c.in-len2.len_below c.file-item.is c.verb-item.is in
-    let first : string_bytes c.file-item.result ≡ codes "-" = sym c.as_str.ensures.value ∙ (bytes_eq-Decides _ _).0 (sym c.if-eq.ensures) in
-    let second : string_bytes c.verb-item.result ≡ codes "run" = sym c.as_str-then-eq.ensures.value ∙ (bytes_eq-Decides _ _).0 (sym c.if-eq-2.ensures) in
-    let both : map string_bytes c.args.words.now ≡ codes "-" ∷ codes "run" ∷ [] =
-    ap (map string_bytes) words ∙ ap (λ l. l ∷ string_bytes c.verb-item.result ∷ []) first ∙ ap (λ l. codes "-" ∷ l ∷ []) second in
-    (λ e. both, λ e. refl)
+    let verb : string_bytes c.verb-item.result ≡ codes "run" = sym c.as_str.ensures.value ∙ (bytes_eq-Decides _ _).0 (sym c.if-eq.ensures) in
+    (string_bytes c.file-item.result, ap (map string_bytes) words ∙ ap (λ l. string_bytes c.file-item.result ∷ l ∷ []) verb, c.as_str-then-eq.ensures.value)

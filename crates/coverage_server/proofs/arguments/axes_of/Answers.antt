@@ -1,9 +1,9 @@
-use Rattle.std.proofs.Common.{◌≡◌, ◌<◌, ◌∷◌, [], ◌++◌, List, length, map, Some, refl, ap, ◌∙◌, sym, arith}
+use Rattle.std.proofs.Common.{◌≡◌, ◌<◌, ◌∷◌, [], ◌++◌, length, Some, refl, ap, ◌∙◌, arith}
 use Rattle.std.specs.Prelude.{slice_get}
 use Rattle.std.proofs.lemmas.Option.{slice_get_read}
 use Rattle.arr_core.specs.declared.domain.Axis.{Axis}
 use Rattle.coverage_server.specs.Machine.{FitBounds, axis_of}
-use Rattle.coverage_server.proofs.HoldingLemmas.{map_more, all_more}
+use Rattle.coverage_server.proofs.ListLemmas.{map_more, all_more}
 use Rattle.coverage_server.proofs.arguments.axes_of.Goals as goal
 
 pub loop-interval-preserved : goal.loop-interval-preserved

@@ -1,30 +1,20 @@
-use Rattle.std.proofs.Common.{◌≡◌, ℕ, List, ℤ, Ok, Err, map, ap, ◌∙◌, sym}
+use Rattle.std.proofs.Common.{◌≡◌, List, [], ℕ, ℤ, map, ap, ◌∙◌, subst}
+use Rattle.std.proofs.lemmas.List.Elements.{All-nil, All-same}
 use Rattle.arr_core.specs.declared.signature.Signature.{Signature}
 use Rattle.wcps_types.specs.TypedQueries.{query_view as typed_view}
 use Rattle.wcps_mean.specs.Answer.{answer}
-use Rattle.coverage_server.specs.Holding.{place_of}
-use Rattle.coverage_server.specs.Stages.{cell_at}
-use Rattle.coverage_server.proofs.AskingLemmas.{cells_alike}
+use Rattle.wcps_mean.specs.Errors.{TellsFault}
+use Rattle.coverage_server.specs.Tiles.{IsLast}
+use Rattle.coverage_server.proofs.AskingLemmas.{cells_alike, items_refused}
 use Rattle.coverage_server.proofs.query.items_of.Goals as goal
 
-pub returns-in-Ok : goal.returns-in-Ok
-returns-in-Ok c =
-    let store = c.args.store.now in
+pub returns-in-Err-clause-items : goal.returns-in-Err-clause-items
+returns-in-Err-clause-items g c =
+    let store = c.args.cells.now.coverages.store in
     let coverages = c.args.typed.now.coverages.items in
-    let places : c.in_ok-places.places.items ≡ map (λ (s : Signature). place_of s.name store) coverages =
-    c.in_ok-places.ensures ∙ ap (map (λ (s : Signature). place_of s.name store)) c.coverages.ensures in
-    let is : answer (cell_at store c.in_ok-places.places.items) (typed_view c.args.typed.now) ≡ Ok c.in-Ok.items.items = search c.in-Ok.ensures.items in
-    ap (λ (cells : ℕ → ℕ → List ℤ → ℤ). answer cells (typed_view c.args.typed.now)) (sym (cells_alike store coverages c.in_ok-places.places.items places)) ∙ is
-
-pub returns-in-Err-Fault : goal.returns-in-Err-Fault
-returns-in-Err-Fault c =
-    let store = c.args.store.now in
-    let coverages = c.args.typed.now.coverages.items in
-    let places : c.in_ok-places.places.items ≡ map (λ (s : Signature). place_of s.name store) coverages =
-    c.in_ok-places.ensures ∙ ap (map (λ (s : Signature). place_of s.name store)) c.coverages.ensures in
-    let told = rw c.in-Err-Fault.field-0-is at c.in-Err-Fault.ensures.fault in
-    let is : answer (cell_at store c.in_ok-places.places.items) (typed_view c.args.typed.now) ≡ Err c.in-Err-Fault.fault = search told in (
-      c.in-Err-Fault.fault,
-      ap (λ (cells : ℕ → ℕ → List ℤ → ℤ). answer cells (typed_view c.args.typed.now)) (sym (cells_alike store coverages c.in_ok-places.places.items places)) ∙ is,
-      c.number.ensures,
-    )
+    let names : c.in_ok-names.names.items ≡ map (λ (s : Signature). s.name) coverages =
+    c.in_ok-names.ensures ∙ ap (map (λ (s : Signature). s.name)) c.coverages.ensures in
+    λ sound. rw c.error_refusal.ensures
+    (items_refused _ c.in-Err.error
+    (subst (λ (cells : ℕ → ℕ → List ℤ → ℤ). TellsFault c.in-Err.error (answer cells (typed_view c.args.typed.now))) (cells_alike store coverages c.in_ok-names.names.items names)
+    (c.in-Err.ensures.fault (record { sound = sound; kept = All-same (IsLast store c.in_ok-names.names.items) _ [] c.clear.ensures.items (All-nil (IsLast store c.in_ok-names.names.items)) }))))

@@ -1,8 +1,7 @@
-use Rattle.std.proofs.Common.{◌≡◌, List, ℕ, Ok, Err, inl, refl, sym, ◌∙◌, subst}
-use Rattle.std.specs.Prelude.{codes, string_bytes}
-use Rattle.form_urlencoded.specs.Form.{raw_pairs}
-use Rattle.coverage_server.specs.Values.{values_of, Gives}
-use Rattle.coverage_server.specs.Requests.{asks, spelled}
+use Rattle.std.proofs.Common.{inl, sym, ◌∙◌, subst}
+use Rattle.std.specs.Prelude.{string_bytes}
+use Rattle.coverage_server.specs.Values.{Gives}
+use Rattle.coverage_server.specs.Requests.{asks}
 use Rattle.coverage_server.proofs.RequestLemmas.{spelled_kind, kind_insert, kind_update, kind_query, kind_unknown}
 use Rattle.coverage_server.proofs.request.read_request.Goals as goal
 

@@ -5,4 +5,4 @@ use Rattle.arr_core.specs.declared.signature.Signature.{Signature}
 use Rattle.coverage_server.proofs.server.list.Given as goal
 
 abbrev pub invariant-loop-signature : goal.invariant-loop-signature
-invariant-loop-signature l = string_bytes l.text ≡ flat_map (λ (s : Signature). s.name ++ codes "\n") (take l.signature-index l.signatures)
+invariant-loop-signature g l = string_bytes l.text ≡ flat_map (λ (s : Signature). s.name ++ codes "\n") (take l.signature-index l.signatures)

@@ -1,4 +1,4 @@
-use Rattle.std.proofs.Common.{◌+◌, ◌≤◌, length, arith}
+use Rattle.std.proofs.Common.{arith}
 use Rattle.coverage_server.proofs.BufferLemmas.{sent_more}
 use Rattle.coverage_server.proofs.front.bytes.write_bytes.Goals as goal
 

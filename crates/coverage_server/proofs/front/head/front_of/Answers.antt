@@ -1,4 +1,4 @@
-use Rattle.std.proofs.Common.{rules, ◌≡◌, length, arith}
+use Rattle.std.proofs.Common.{rules}
 use Rattle.coverage_server.proofs.StreamLemmas.{nothing_is_no_head}
 use Rattle.coverage_server.proofs.front.head.front_of.Goals as goal
 

@@ -1,4 +1,4 @@
-use Rattle.std.proofs.Common.{◌≡◌, [], ap, ◌∙◌, sym}
+use Rattle.std.proofs.Common.{[], ap, ◌∙◌}
 use Rattle.std.specs.Prelude.{unwrap_or}
 use Rattle.http.specs.StatusCode.{reason_phrase}
 use Rattle.coverage_server.specs.Replies.{phrase_of}

@@ -1,6 +1,5 @@
-use Rattle.std.proofs.Common.{◌≡◌, true, ◌++◌, rules}
+use Rattle.std.proofs.Common.{◌≡◌, true, rules}
 use Rattle.std.proofs.KnownBytes.{Appends-trans}
-use Rattle.coverage_server.specs.Bytes.{Sent}
 use Rattle.coverage_server.proofs.BufferLemmas.{prefix_after}
 use Rattle.coverage_server.proofs.front.reply.put.Goals as goal
 

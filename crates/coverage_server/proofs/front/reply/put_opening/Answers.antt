@@ -1,4 +1,4 @@
-use Rattle.std.proofs.Common.{◌≡◌, [], ◌++◌, subst, ◌∙◌}
+use Rattle.std.proofs.Common.{◌≡◌, [], subst, ◌∙◌}
 use Rattle.std.proofs.KnownBytes.{Appends-nil}
 use Rattle.coverage_server.specs.Bytes.{Sent}
 use Rattle.coverage_server.specs.Replies.{close_line}

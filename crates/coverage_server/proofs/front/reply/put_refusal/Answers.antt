@@ -1,4 +1,4 @@
-use Rattle.std.proofs.Common.{◌≡◌, ◌+◌, [], ◌++◌, length, true, false, if◌then◌else◌, subst, ◌∙◌, sym, ap, append-nil}
+use Rattle.std.proofs.Common.{◌+◌, ◌++◌, length, subst, ◌∙◌, sym, append-nil}
 use Rattle.std.specs.Prelude.{codes}
 use Rattle.coverage_server.specs.Bytes.{Sent}
 use Rattle.coverage_server.specs.Replies.{opening, status_of, refusal_body, body_shown}

@@ -1,4 +1,4 @@
-use Rattle.std.proofs.Common.{◌≡◌, ◌∷◌, [], ◌++◌, Ok, Err, lit<, refl, sym, ap, ◌∙◌, subst, inl, inr, rules}
+use Rattle.std.proofs.Common.{Ok, lit<, sym, ap, ◌∙◌, subst, rules}
 use Rattle.std.proofs.lemmas.Result.{err_from_is_err_and}
 use Rattle.coverage_server.specs.Spelling.{cells_in, cell_in}
 use Rattle.coverage_server.proofs.SpellingLemmas.{Left, cut_of, pieces_whole, left_more, left_refused, left_last, refused_or_out}

@@ -1,7 +1,7 @@
-use Rattle.std.proofs.Common.{◌≡◌, ℕ, List, ◌∷◌, [], length, false, Ok, Err, refl, inl, arith, rules, ◌∙◌, ap}
+use Rattle.std.proofs.Common.{◌≡◌, ℕ, List, ◌∷◌, [], length, false, Err, refl, inl}
 use Rattle.std.specs.Prelude.{◌==◌}
 use Rattle.coverage_server.specs.declared.request.RequestError.TheVariants.{BadValue}
-use Rattle.coverage_server.specs.Spelling.{interval_in, at_end}
+use Rattle.coverage_server.specs.Spelling.{at_end}
 use Rattle.coverage_server.proofs.request.spelling.read_interval.Goals as goal
 
 left_over : {X : Type 0} (x : X) (rest : List ℕ) → false ≡ (length rest == 0) → at_end x rest ≡ Err BadValue

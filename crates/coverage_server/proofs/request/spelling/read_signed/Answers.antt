@@ -1,6 +1,5 @@
-use Rattle.std.proofs.Common.{◌≡◌, Ok, Err, inl, ap, ◌∙◌, sym, subst}
+use Rattle.std.proofs.Common.{Ok, inl, ap, ◌∙◌, sym, subst}
 use Rattle.std.proofs.lemmas.Int.{to_z-of_z}
-use Rattle.std.specs.Str.Parse.{ParsesSigned}
 use mir.Syntax.{w64}
 use mir.Val.{SFits}
 use Rattle.coverage_server.proofs.SpellingLemmas.{Signed, signed_parsed, fits_if_parsed}

@@ -1,4 +1,4 @@
-use Rattle.std.proofs.Common.{◌≡◌, List, ◌∷◌, length, MatchOption}
+use Rattle.std.proofs.Common.{◌≡◌, ◌∷◌, MatchOption}
 use Rattle.std.specs.Prelude.{string_bytes}
 use Rattle.form_urlencoded.specs.Form.{raw_pairs}
 use Rattle.form_urlencoded.specs.Parse.{pairs_left}

@@ -1,15 +1,14 @@
-use Rattle.std.proofs.Common.{◌≡◌, ◌<◌, ◌+◌, ◌++◌, [], false, true, refl, sym, ap, subst, ◌∙◌, arith}
+use Rattle.std.proofs.Common.{[], refl, sym, ◌∙◌, arith}
 use Rattle.std.proofs.KnownBytes.{Appends-nil, Consumes-nil}
-use Rattle.coverage_server.specs.Stream.{Shows}
 use Rattle.coverage_server.proofs.TakenLemmas.{found_item}
-use Rattle.coverage_server.proofs.ServingLemmas.{Serving, ended, faulted, answered, unwritten, continued, roomy}
+use Rattle.coverage_server.proofs.ServingLemmas.{ended, faulted, answered, unwritten, continued, roomy}
 use Rattle.coverage_server.proofs.server.Server.serve_connection.Goals as goal
 
 pub serving-init : goal.serving-init
-serving-init g c = (
-  c.new-conn.ensures.open,
-  omega (arith, c.new-conn.ensures.count),
-  record {
+serving-init g c = record {
+  going = c.new-conn.ensures.open;
+  few = omega (arith, c.new-conn.ensures.count);
+  served = λ sound. record {
     came = [];
     took = Consumes-nil _;
     items = [];
@@ -18,66 +17,86 @@ serving-init g c = (
     run = (refl, refl);
     sent = Appends-nil _;
     counted = c.new-conn.ensures.count;
-  },
-)
+  };
+  sound = λ sound. sound;
+  header = λ state count from size h. h;
+  honest = refl;
+}
 
-pub returns-in-Ended : goal.returns-in-Ended
-returns-in-Ended g c =
-    let f = c.in-Ended.ensures.found in ended c.serving.invariant.2 (g.R.Read.remaining c.next.new.reader) f.0 f.1 f.2.0 f.2.1
+pub returns-in-Ended-clause-served : goal.returns-in-Ended-clause-served
+returns-in-Ended-clause-served g c =
+    let f = c.in-Ended.ensures.found in λ sound. ended (c.serving.invariant.served sound) (g.R.Read.remaining c.next.new.reader) f.0 f.1 f.2.0 f.2.1
 
-pub returns-in-ReadFault : goal.returns-in-ReadFault
-returns-in-ReadFault g c =
-    let f = c.in-ReadFault.ensures.found in faulted c.serving.invariant.2 (g.R.Read.remaining c.next.new.reader) f.0 f.1 f.2.0
+pub returns-in-ReadFault-clause-served : goal.returns-in-ReadFault-clause-served
+returns-in-ReadFault-clause-served g c =
+    let f = c.in-ReadFault.ensures.found in λ sound. faulted (c.serving.invariant.served sound) (g.R.Read.remaining c.next.new.reader) f.0 f.1 f.2.0
 
-pub returns-then-not-send : goal.returns-then-not-send
-returns-then-not-send g c =
+pub returns-then-not-send-clause-served : goal.returns-then-not-send-clause-served
+returns-then-not-send-clause-served g c =
     let f = c.next.ensures.found in
     let x = found_item _ _ _ _ c.next.result _ _ f.2 c.in_default.not-Ended c.in_default.not-ReadFault in
-    let step = c.reply_to-reply.ensures x.0.asked x.2 in
-    unwritten c.serving.invariant.2 (g.R.Read.remaining c.next.new.reader) f.0 f.1 _ x.0 x.1 _ _ step _ _ x.3 x.4 _ c.if-not-send.ensures
+    let inv = c.serving.invariant in
+    λ sound. unwritten (inv.served sound) (g.R.Read.remaining c.next.new.reader) f.0 f.1 _ x.0 x.1 _ _ (c.reply_to-reply.ensures.step (inv.sound sound) x.0.asked x.2) _ _ x.3 x.4 _ c.if-not-send.ensures
 
-pub returns-then-conn : goal.returns-then-conn
-returns-then-conn g c =
+pub returns-then-conn-clause-served : goal.returns-then-conn-clause-served
+returns-then-conn-clause-served g c =
     let f = c.next.ensures.found in
     let x = found_item _ _ _ _ c.next.result _ _ f.2 c.in_default.not-Ended c.in_default.not-ReadFault in
-    let step = c.reply_to-reply.ensures x.0.asked x.2 in
-    answered c.serving.invariant.2 (g.R.Read.remaining c.next.new.reader) f.0 f.1 _ x.0 x.1 _ _ step _ _ x.3 x.4 _ c.if-conn.true c.if-not-send.ensures
+    let inv = c.serving.invariant in
+    λ sound. answered (inv.served sound) (g.R.Read.remaining c.next.new.reader) f.0 f.1 _ x.0 x.1 _ _ (c.reply_to-reply.ensures.step (inv.sound sound) x.0.asked x.2) _ _ x.3 x.4 _ c.if-conn.true c.if-not-send.ensures
 
 pub serving-preserved-else-conn : goal.serving-preserved-else-conn
 serving-preserved-else-conn g c =
     let f = c.next.ensures.found in
     let x = found_item _ _ _ _ c.next.result _ _ f.2 c.in_default.not-Ended c.in_default.not-ReadFault in
-    let step = c.reply_to-reply.ensures x.0.asked x.2 in
     let counted = c.next.ensures.count c.if-conn.false in
-    let s = c.serving.invariant.2 in
-    let later = g.R.Read.remaining c.next.new.reader in (
-      c.if-conn.false,
-      roomy s later f.0 f.1 _ x.0 x.1 _ _ step _ _ x.3 x.4 (g.W.Write.contents c.send.new.writer) _ counted c.if-conn.false c.serving.invariant.1,
-      continued s later f.0 f.1 _ x.0 x.1 _ _ step _ _ x.3 x.4 _ _ counted c.if-conn.false c.if-not-send.ensures,
-    )
+    let inv = c.serving.invariant in
+    let later = g.R.Read.remaining c.next.new.reader in
+    record {
+      going = c.if-conn.false;
+      few = roomy c.serving.conn.count c.serving.conn.buffer f.0 _ later x.0 x.1 _ x.3 _ counted c.if-conn.false inv.few;
+      served = λ sound. continued (inv.served sound) later f.0 f.1 _ x.0 x.1 _ _ (c.reply_to-reply.ensures.step (inv.sound sound) x.0.asked x.2) _ _ x.3 x.4 _ _ counted c.if-conn.false c.if-not-send.ensures;
+      sound = λ sound. c.reply_to-reply.ensures.sound (inv.sound sound);
+      header = λ state count from size h. c.reply_to-reply.ensures.header state count from size (inv.header state count from size h);
+      honest = c.reply_to-reply.ensures.honest ∙ inv.honest;
+    }
 
 pub serving-preserved-else-conn-2 : goal.serving-preserved-else-conn-2
 serving-preserved-else-conn-2 g c =
     let f = c.next.ensures.found in
     let x = found_item _ _ _ _ c.next.result _ _ f.2 c.in_default.not-Ended c.in_default.not-ReadFault in
-    let step = c.reply_to-reply.ensures x.0.asked x.2 in
     let counted = c.next.ensures.count c.if-conn.false in
-    let s = c.serving.invariant.2 in
-    let later = g.R.Read.remaining c.next.new.reader in (
-      c.if-conn.false,
-      roomy s later f.0 f.1 _ x.0 x.1 _ _ step _ _ x.3 x.4 (g.W.Write.contents c.send.new.writer) _ counted c.if-conn.false c.serving.invariant.1,
-      continued s later f.0 f.1 _ x.0 x.1 _ _ step _ _ x.3 x.4 _ _ counted c.if-conn.false c.if-not-send.ensures,
-    )
+    let inv = c.serving.invariant in
+    let later = g.R.Read.remaining c.next.new.reader in
+    record {
+      going = c.if-conn.false;
+      few = roomy c.serving.conn.count c.serving.conn.buffer f.0 _ later x.0 x.1 _ x.3 _ counted c.if-conn.false inv.few;
+      served = λ sound. continued (inv.served sound) later f.0 f.1 _ x.0 x.1 _ _ (c.reply_to-reply.ensures.step (inv.sound sound) x.0.asked x.2) _ _ x.3 x.4 _ _ counted c.if-conn.false c.if-not-send.ensures;
+      sound = λ sound. c.reply_to-reply.ensures.sound (inv.sound sound);
+      header = λ state count from size h. c.reply_to-reply.ensures.header state count from size (inv.header state count from size h);
+      honest = c.reply_to-reply.ensures.honest ∙ inv.honest;
+    }
 
 pub serving-preserved : goal.serving-preserved
 serving-preserved g c =
     let f = c.next.ensures.found in
     let x = found_item _ _ _ _ c.next.result _ _ f.2 c.in_default.not-Ended c.in_default.not-ReadFault in
-    let step = c.reply_to-reply.ensures x.0.asked x.2 in
     let counted = c.next.ensures.count c.if-conn.false in
-    let s = c.serving.invariant.2 in
-    let later = g.R.Read.remaining c.next.new.reader in (
-      c.if-conn.false,
-      roomy s later f.0 f.1 _ x.0 x.1 _ _ step _ _ x.3 x.4 (g.W.Write.contents c.send.new.writer) _ counted c.if-conn.false c.serving.invariant.1,
-      continued s later f.0 f.1 _ x.0 x.1 _ _ step _ _ x.3 x.4 _ _ counted c.if-conn.false c.if-not-send.ensures,
-    )
+    let inv = c.serving.invariant in
+    let later = g.R.Read.remaining c.next.new.reader in
+    record {
+      going = c.if-conn.false;
+      few = roomy c.serving.conn.count c.serving.conn.buffer f.0 _ later x.0 x.1 _ x.3 _ counted c.if-conn.false inv.few;
+      served = λ sound. continued (inv.served sound) later f.0 f.1 _ x.0 x.1 _ _ (c.reply_to-reply.ensures.step (inv.sound sound) x.0.asked x.2) _ _ x.3 x.4 _ _ counted c.if-conn.false c.if-not-send.ensures;
+      sound = λ sound. c.reply_to-reply.ensures.sound (inv.sound sound);
+      header = λ state count from size h. c.reply_to-reply.ensures.header state count from size (inv.header state count from size h);
+      honest = c.reply_to-reply.ensures.honest ∙ inv.honest;
+    }
+
+pub returns-then-not-send-clause-header : goal.returns-then-not-send-clause-header
+returns-then-not-send-clause-header g c =
+    λ state count from size h. c.reply_to-reply.ensures.header state count from size (c.serving.invariant.header state count from size h)
+
+pub returns-then-conn-clause-header : goal.returns-then-conn-clause-header
+returns-then-conn-clause-header g c =
+    λ state count from size h. c.reply_to-reply.ensures.header state count from size (c.serving.invariant.header state count from size h)

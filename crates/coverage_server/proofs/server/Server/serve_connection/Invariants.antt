@@ -1,12 +1,19 @@
 use Rattle.std.proofs.Common.{◌≡◌, ◌<◌, ◌-◌, false}
+use Rattle.block_file.specs.Format.{KeepsHeader}
+use Rattle.coverage_server.specs.Views.{IsSound}
 use Rattle.coverage_server.proofs.ServingLemmas.{Serving}
 use Rattle.coverage_server.proofs.server.Server.serve_connection.Given as goal
 
 abbrev pub invariant-serving : goal.invariant-serving
-invariant-serving g l =
-    (l.conn.over ≡ false) × (l.conn.count < 1000)
-    × Serving (g.R.Read.remaining l.initial.reader) (g.R.Read.remaining l.reader) (g.W.Write.contents l.initial.writer)
-    (g.W.Write.contents l.writer) l.initial.self l.self l.conn.buffer l.conn.count
+invariant-serving g l = record {
+  going : l.conn.over ≡ false;
+  few : l.conn.count < 1000;
+  served : IsSound l.initial.self → Serving (g.R.Read.remaining l.initial.reader) (g.R.Read.remaining l.reader) (g.W.Write.contents l.initial.writer)
+      (g.W.Write.contents l.writer) l.initial.self.store l.self.store l.conn.buffer l.conn.count;
+  sound : IsSound l.initial.self → IsSound l.self;
+  header : KeepsHeader l.initial.self.content l.self.content;
+  honest : l.self.honest ≡ l.initial.self.honest;
+}
 
 abbrev pub decreases-serving : goal.decreases-serving
 decreases-serving g l = 1000 - l.conn.count

@@ -1,4 +1,4 @@
-use Rattle.std.proofs.Common.{rules, ◌≡◌, ◌<◌, ◌≤◌, ◌-◌, [], length, take, drop, ap, ◌∙◌, sym, arith}
+use Rattle.std.proofs.Common.{◌≡◌, ◌≤◌, ◌-◌, length, take, drop, ap, ◌∙◌, sym, arith}
 use Rattle.std.proofs.lemmas.List.{length-take-le}
 use Rattle.coverage_server.proofs.BufferLemmas.{moved_view}
 use Rattle.coverage_server.proofs.front.buffer.Buffer.discard.Goals as goal

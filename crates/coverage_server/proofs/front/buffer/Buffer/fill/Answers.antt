@@ -1,5 +1,4 @@
-use Rattle.std.proofs.Common.{◌≡◌, ◌+◌, ◌<◌, ◌≤◌, ◌++◌, length, take, ap, ◌∙◌, sym, arith}
-use Rattle.std.proofs.lemmas.List.{length-take-le}
+use Rattle.std.proofs.Common.{◌<◌, ◌≤◌, ◌++◌, length, take, ap, ◌∙◌, arith}
 use Rattle.coverage_server.proofs.BufferLemmas.{filled_view}
 use Rattle.coverage_server.proofs.front.buffer.Buffer.fill.Goals as goal
 

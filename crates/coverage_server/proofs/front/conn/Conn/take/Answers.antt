@@ -1,7 +1,7 @@
-use Rattle.std.proofs.Common.{◌≡◌, ◌≤◌, ◌||◌, ◌==◌, ℕ, List, length, drop, ap, ◌∙◌, sym, subst, arith, refl}
-use Rattle.httparse.specs.Grammar.{RequestHead, print_request, ReadsRequest}
+use Rattle.std.proofs.Common.{◌≤◌, ◌||◌, ◌==◌, length, ap, ◌∙◌, sym, subst, arith, refl}
+use Rattle.httparse.specs.Grammar.{print_request, ReadsRequest}
 use Rattle.coverage_server.specs.Head.{asked_by, asked_at}
-use Rattle.coverage_server.specs.Stream.{Item, item_of, Whole, ReadsHead, Shows}
+use Rattle.coverage_server.specs.Stream.{item_of, Shows}
 use Rattle.coverage_server.proofs.front.conn.Conn.take.Goals as goal
 
 pub returns-clause-item : goal.returns-clause-item

@@ -1,0 +1,434 @@
+-- The parts of an opening: the blocks that indexes list, the coverages that are attached so far, and what a disk lists.
+use Rattle.std.proofs.Common.{◌≡◌, ◌≢◌, ℕ, zero, suc, ◌+◌, ◌*◌, ◌/◌, ◌<◌, ◌≤◌, max, Bool, List, [], ◌∷◌, ◌++◌, length, map, take, get_or, Vec, Contains, None, arith, refl, sym, ◌∙◌, ap, subst, inl, inr, All, append-nil}
+use Rattle.std.specs.Prelude.{nat_eq, if◌then◌else◌, IsTrue, slice_index, ◌⊎◌, ⊤}
+use Rattle.std.specs.List.{flat_map}
+use Rattle.std.specs.declared.alloc.Global.{Global}
+use Rattle.std.proofs.lemmas.Bool.Decides.{nat_tests}
+use Rattle.std.proofs.lemmas.List.{take_more, take_all, map-append, length_push}
+use Rattle.std.proofs.lemmas.List.Concat.{flat_map-cons}
+use Rattle.std.proofs.lemmas.List.Sums.{sum_by-append, sum_by-cons}
+use Rattle.arr_core.specs.declared.signature.Signature.{Signature}
+use Rattle.arr_core.specs.Names.{AreDistinct}
+use Rattle.arr_core.specs.Stores.{Store, found}
+use Rattle.block_file.specs.Blocks.{block_at}
+use Rattle.block_file.specs.Format.{IsStoreFile, IsClosed, IsDamaged, HeaderTorn, number_at, first_of, chain_blocks}
+use Rattle.block_file.specs.View.{MarksChain, CanClaim, Claims, IsFresh, free_in, kept_in}
+use Rattle.catalogue.proofs.Held.{contains_here, contains_later, contains_cases, nothing_in_nil}
+use Rattle.catalogue.specs.Bytes.{catalogue_bytes}
+use Rattle.catalogue.specs.Signatures.{names_of, IsCatalogue}
+use Rattle.metadata.specs.Metadata.{IsMetadata, AreCounted, metadata_bytes}
+use Rattle.tile_index.specs.declared.entry.Entry.{Entry}
+use Rattle.tile_index.specs.declared.index.TileIndex.{TileIndex}
+use Rattle.tile_store.specs.Listing.{times, times_in}
+use Rattle.raster_store.specs.Views.{Index, times_fields, times_all, metadata_size, reserve, coverage_in, coverages_in, AreBelow}
+use Rattle.raster_store.proofs.Totals.{times_all-nil, times_all-push}
+use Rattle.coverage_server.specs.Disk.{AreTiles, IsTileBlock, IsLaidOut, ListsCoverages, ListsStore, HoldsStore, IsWant, IsNoStore}
+use Rattle.tile_store.specs.declared.fault.Fault.{Fault}
+use Rattle.tile_store.specs.declared.fault.Fault.TheVariants as device
+use Rattle.coverage_server.specs.Opening.{items_of, IsOpened, IsListed, ClaimsListed, IsNotLaidOut, Lists, Departs, attach_fault}
+use Rattle.coverage_server.specs.declared.opening.OpenFault.{OpenFault}
+use Rattle.coverage_server.specs.declared.opening.OpenFault.TheVariants as opening
+use Rattle.coverage_server.specs.Views.{signatures_of}
+use Rattle.coverage_server.proofs.LayoutLemmas.{claimed_blocks, laid_claims, one_layout}
+use Rattle.coverage_server.proofs.ClosingLemmas.{metadata_length}
+use Rattle.coverage_server.proofs.StoreLemmas.{fresh_found}
+
+pub times_none : (k : ℕ) → times k [] ≡ 0
+unfolding times
+times_none k = refl
+
+pub times_append : (k : ℕ) (xs ys : List ℕ) → times k (xs ++ ys) ≡ times k xs + times k ys
+unfolding times
+times_append k xs ys = sum_by-append (λ b. if nat_eq b k then 1 else 0) xs ys
+
+times_in_none : (k : ℕ) → times_in k [] ≡ 0
+unfolding times_in
+times_in_none k = refl
+
+times_in_cons : (k : ℕ) (x : ℕ × Entry) (index : Index) → times_in k (x ∷ index) ≡ times k x.1.blocks + times_in k index
+unfolding times_in
+times_in_cons k x index = sum_by-cons (λ (y : ℕ × Entry). times k y.1.blocks) x index
+
+-- the blocks of an index are those that it lists
+pub times_listed : (k : ℕ) (index : Index) → times k (flat_map (λ (x : ℕ × Entry). x.1.blocks) index) ≡ times_in k index
+times_listed k [] = times_none k ∙ sym (times_in_none k)
+times_listed k (x ∷ index) =
+    ap (times k) (flat_map-cons (λ (y : ℕ × Entry). y.1.blocks) x index)
+    ∙ times_append k x.1.blocks (flat_map (λ (y : ℕ × Entry). y.1.blocks) index)
+    ∙ ap (λ (n : ℕ). times k x.1.blocks + n) (times_listed k index) ∙ sym (times_in_cons k x index)
+
+-- one more coverage of those whose blocks are listed
+pub items_more : (indexes : List (Vec TileIndex Global)) (j : ℕ) (d : Vec TileIndex Global) → j < length indexes → items_of (take (j + 1) indexes) ≡ items_of (take j indexes) ++ (get_or indexes j d).items ∷ []
+items_more indexes j d h =
+    ap items_of (take_more indexes j d h) ∙ map-append (λ (v : Vec TileIndex Global). v.items) (take j indexes) (get_or indexes j d ∷ [])
+
+pub times_more : (k : ℕ) (indexes : List (Vec TileIndex Global)) (j : ℕ) (d : Vec TileIndex Global) → j < length indexes → d ≡ get_or indexes j d → times_all k (items_of (take (j + 1) indexes)) ≡ times_all k (items_of (take j indexes)) + times_fields k d.items
+times_more k indexes j d h is =
+    ap (times_all k) (items_more indexes j d h) ∙ times_all-push k (items_of (take j indexes)) (get_or indexes j d).items
+    ∙ ap (λ (v : Vec TileIndex Global). times_all k (items_of (take j indexes)) + times_fields k v.items) (sym is)
+
+-- the coverages that are attached: those of the first signatures, one for each of the first indexes
+pub record IsAttached (content : List ℕ) (signatures : List Signature) (indexes : List (List Index)) (store : Store) (held : List (List Index)) (place : ℕ) : Type 0 where
+  pub values : store ≡ coverages_in content (take place signatures) indexes
+  pub listed : held ≡ indexes
+  pub count : place ≡ length indexes
+  pub tiles : AreTiles (take place signatures) indexes
+
+-- what is counted has its signatures
+pub counted_place : (signatures : List Signature) (before : List (List Index)) (new : List Index) (after : List (List Index)) → AreCounted signatures (before ++ new ∷ after) → length before < length signatures
+counted_place [] [] new after c = absurd c
+counted_place [] (b ∷ before) new after c = absurd c
+counted_place (s ∷ signatures) [] new after c = omega arith
+counted_place (s ∷ signatures) (b ∷ before) new after c = omega (arith, counted_place signatures before new after c.2)
+
+pub counted_fields : (signatures : List Signature) (before : List (List Index)) (new : List Index) (after : List (List Index)) (d : Signature) → AreCounted signatures (before ++ new ∷ after)
+    → length new ≡ length (get_or signatures (length before) d).fields
+counted_fields [] [] new after d c = absurd c
+counted_fields [] (b ∷ before) new after d c = absurd c
+counted_fields (s ∷ signatures) [] new after d c = c.0
+counted_fields (s ∷ signatures) (b ∷ before) new after d c = counted_fields signatures before new after d c.2
+
+pub counted_all : (signatures : List Signature) (indexes : List (List Index)) → AreCounted signatures indexes → length signatures ≡ length indexes
+counted_all [] [] c = refl
+counted_all [] (i ∷ indexes) c = absurd c
+counted_all (s ∷ signatures) [] c = absurd c
+counted_all (s ∷ signatures) (i ∷ indexes) c = ap suc (counted_all signatures indexes c.2)
+
+-- one more coverage
+coverages_push : (content : List ℕ) (signatures : List Signature) (indexes : List (List Index)) (s : Signature) (new : List Index) → length signatures ≡ length indexes
+    → coverages_in content (signatures ++ s ∷ []) (indexes ++ new ∷ []) ≡ coverages_in content signatures indexes ++ coverage_in content s new ∷ []
+coverages_push content [] [] s new e = refl
+coverages_push content [] (i ∷ indexes) s new e = absurd (omega (arith, e))
+coverages_push content (t ∷ signatures) [] s new e = absurd (omega (arith, e))
+coverages_push content (t ∷ signatures) (i ∷ indexes) s new e = ap (λ (l : Store). coverage_in content t i ∷ l) (coverages_push content signatures indexes s new (omega (arith, e)))
+
+tiles_push : (signatures : List Signature) (indexes : List (List Index)) (s : Signature) (new : List Index) → length signatures ≡ length indexes → AreTiles signatures indexes
+    → AreBelow s.domain new → AreTiles (signatures ++ s ∷ []) (indexes ++ new ∷ [])
+tiles_push [] [] s new e t b = (b, tt)
+tiles_push [] (i ∷ indexes) s new e t b = absurd (omega (arith, e))
+tiles_push (r ∷ signatures) [] s new e t b = absurd (omega (arith, e))
+tiles_push (r ∷ signatures) (i ∷ indexes) s new e t b = (t.0, tiles_push signatures indexes s new (omega (arith, e)) t.1 b)
+
+-- the tiles of one of the coverages
+pub tiles_at : (signatures : List Signature) (before : List (List Index)) (new : List Index) (after : List (List Index)) (d : Signature) → AreCounted signatures (before ++ new ∷ after)
+    → AreTiles signatures (before ++ new ∷ after) → AreBelow (get_or signatures (length before) d).domain new
+tiles_at [] [] new after d c t = absurd c
+tiles_at [] (b ∷ before) new after d c t = absurd c
+tiles_at (s ∷ signatures) [] new after d c t = t.0
+tiles_at (s ∷ signatures) (b ∷ before) new after d c t = tiles_at signatures before new after d c.2 t.1
+
+-- the signatures of the coverages that are attached
+pub signatures_same : (content : List ℕ) (signatures : List Signature) (indexes : List (List Index)) → length signatures ≡ length indexes → signatures_of (coverages_in content signatures indexes) ≡ signatures
+signatures_same content [] indexes e = refl
+signatures_same content (s ∷ signatures) [] e = absurd (omega (arith, e))
+signatures_same content (s ∷ signatures) (i ∷ indexes) e = ap (λ (l : List Signature). s ∷ l) (signatures_same content signatures indexes (omega (arith, e)))
+
+-- a name is one of the names, and none of those in front of it
+named_at : (signatures : List Signature) (place : ℕ) (d : Signature) → place < length signatures → Contains (names_of signatures) (get_or signatures place d).name
+named_at [] place d h = absurd (omega arith)
+named_at (s ∷ signatures) zero d h = contains_here s.name (names_of signatures)
+named_at (s ∷ signatures) (suc place) d h = contains_later s.name (names_of signatures) (get_or signatures place d).name (named_at signatures place d (omega (arith, h)))
+
+name_apart : (signatures : List Signature) (place : ℕ) (d : Signature) → place < length signatures → AreDistinct (names_of signatures)
+    → Contains (names_of (take place signatures)) (get_or signatures place d).name → ⊥
+name_apart [] place d h apart k = absurd (omega arith)
+name_apart (s ∷ signatures) zero d h apart k = nothing_in_nil s.name k
+name_apart (s ∷ signatures) (suc place) d h apart k = elim (contains_cases s.name (names_of (take place signatures)) (get_or signatures place d).name k) [
+  | inl same ↦ apart.0 (subst (λ (n : List ℕ). Contains (names_of signatures) n) (sym same) (named_at signatures place d (omega (arith, h))))
+  | inr later ↦ name_apart signatures place d (omega (arith, h)) apart.1 later
+]
+
+-- one coverage more may be attached
+pub place_taken : (signatures : List Signature) (place : ℕ) → place < length signatures → length (take place signatures) ≡ place
+place_taken [] place h = absurd (omega arith)
+place_taken (s ∷ signatures) zero h = refl
+place_taken (s ∷ signatures) (suc place) h = ap suc (place_taken signatures place (omega (arith, h)))
+
+pub next_fresh : (content : List ℕ) (signatures : List Signature) (before : List (List Index)) (store : Store) (held : List (List Index)) (place : ℕ) (s : Signature)
+    → IsAttached content signatures before store held place → place < length signatures → s ≡ get_or signatures place s → IsCatalogue signatures → found s.name store ≡ None
+next_fresh content signatures before store held place s a h is k =
+    let long : length (take place signatures) ≡ length before = place_taken signatures place h ∙ a.count in
+    let apart : Contains (names_of (take place signatures)) s.name → ⊥ =
+    λ c. name_apart signatures place s h k.distinct (subst (λ (t : Signature). Contains (names_of (take place signatures)) t.name) is c) in
+    subst (λ (st : Store). found s.name st ≡ None) (sym a.values)
+    (fresh_found s.name (coverages_in content (take place signatures) before)
+    (λ c. apart (subst (λ (l : List Signature). Contains (names_of l) s.name) (signatures_same content (take place signatures) before long) c)))
+
+pub next_attached : (content : List ℕ) (signatures : List Signature) (before : List (List Index)) (new : List Index) (store store' : Store) (held held' : List (List Index)) (place : ℕ) (s : Signature)
+    → IsAttached content signatures before store held place → place < length signatures → s ≡ get_or signatures place s → store' ≡ store ++ coverage_in content s new ∷ []
+    → held' ≡ held ++ new ∷ [] → AreBelow s.domain new → IsAttached content signatures (before ++ new ∷ []) store' held' (place + 1)
+next_attached content signatures before new store store' held held' place s a h is put index below =
+    let long : length (take place signatures) ≡ length before = place_taken signatures place h ∙ a.count in
+    let more : take (place + 1) signatures ≡ take place signatures ++ s ∷ [] = take_more signatures place s h ∙ ap (λ (t : Signature). take place signatures ++ t ∷ []) (sym is) in
+    record {
+      values = put ∙ ap (λ (st : Store). st ++ coverage_in content s new ∷ []) a.values ∙ sym (coverages_push content (take place signatures) before s new long)
+          ∙ ap (λ (l : List Signature). coverages_in content l (before ++ new ∷ [])) (sym more);
+      listed = index ∙ ap (λ (l : List (List Index)). l ++ new ∷ []) a.listed;
+      count = omega (arith, a.count, length_push before new);
+      tiles = subst (λ (l : List Signature). AreTiles l (before ++ new ∷ [])) (sym more) (tiles_push (take place signatures) before s new long a.tiles below);
+    }
+
+-- a block, counted
+abbrev one : ℕ → ℕ → ℕ
+one k b = if nat_eq b k then 1 else 0
+
+one_same : (k : ℕ) → one k k ≡ 1
+one_same k = grind (arith, nat_tests)
+
+times_here : (b : ℕ) (blocks : List ℕ) → 0 < times b (b ∷ blocks)
+unfolding times
+times_here b blocks = omega (arith, sum_by-cons (one b) b blocks, one_same b)
+
+-- where nothing is listed there are no blocks
+no_blocks : (blocks : List ℕ) → ((k : ℕ) → times k blocks ≡ times_all k []) → blocks ≡ []
+no_blocks [] e = refl
+no_blocks (b ∷ blocks) e = absurd (omega (arith, e b, times_here b blocks, times_all-nil b))
+
+claims_none : (marks : List ℕ) → CanClaim [] marks
+claims_none marks = record {
+  distinct = λ i j h. absurd (omega (arith, h));
+  inside = λ i h. absurd (omega (arith, h));
+  unmarked = λ i h. absurd (omega (arith, h));
+}
+
+-- a disk without a byte, or one with bytes
+some_bytes : (content : List ℕ) → (content ≡ []) ⊎ (0 < length content)
+some_bytes [] = inl refl
+some_bytes (b ∷ content) = inr (omega arith)
+
+no_byte : (content : List ℕ) → content ≡ [] → 0 < length content → ⊥
+no_byte content e h = let none : length content ≡ 0 = ap (λ (l : List ℕ). length l) e in omega (arith, none, h)
+
+-- what departs from the format
+pub departs_map : (P Q : Type 0) (fault : OpenFault) → (P → Q) → Departs P fault → Departs Q fault
+departs_map P Q opening.NoMemory f d = tt
+departs_map P Q opening.DiskFault f d = d
+departs_map P Q opening.Damaged f d = f d
+departs_map P Q opening.NotAStore f d = d
+departs_map P Q opening.NotClosed f d = d
+
+-- as many blocks as the marks count
+block_count : (content metadata marks : List ℕ) → IsClosed content metadata → length marks ≡ max 1 (length content / 4096) → length marks ≡ length content / 4096
+block_count content metadata marks closed e = omega (arith, e, closed.header.store.whole, closed.whole)
+
+-- why a layout is refused: the metadata spells none
+pub unread : (content metadata marks : List ℕ) → IsOpened content metadata marks → 0 < length metadata
+    → ((signatures : List Signature) (indexes : List (List Index)) → IsMetadata metadata signatures indexes → ⊥) → (0 < length content) × IsNotLaidOut content
+unread content metadata marks o some none = (
+  elim (some_bytes content) [
+    | inl e ↦ absurd (no_byte metadata (o.new_file e) some)
+    | inr h ↦ h
+  ],
+  λ m s i laid. none s i (subst (λ (l : List ℕ). IsMetadata l s i) (sym (o.unique m laid.closed)) laid.written),
+)
+
+-- what any layout is
+the_layout : (content metadata marks : List ℕ) (signatures s : List Signature) (indexes i : List (List Index)) (m : List ℕ) → IsOpened content metadata marks → 0 < length content
+    → IsListed metadata signatures indexes → IsLaidOut content m s i → (s ≡ signatures) × (i ≡ indexes)
+the_layout content metadata marks signatures s indexes i m o h l laid = one_layout content metadata m signatures s indexes i o.unique (l.only (o.closed h).chain.some) laid
+
+-- its blocks may not be claimed
+pub unclaimed : (content metadata marks blocks : List ℕ) (signatures : List Signature) (indexes : List (List Index)) → IsOpened content metadata marks → IsFresh marks
+    → IsListed metadata signatures indexes → ((k : ℕ) → times k blocks ≡ times_all k indexes) → (CanClaim blocks marks → ⊥) → (0 < length content) × IsNotLaidOut content
+unclaimed content metadata marks blocks signatures indexes o fresh l counted refused = elim (some_bytes content) [
+  | inl e ↦
+      let none : indexes ≡ [] = (l.new_file (o.new_file e)).1 in
+      let empty : blocks ≡ [] = no_blocks blocks (λ k. counted k ∙ ap (times_all k) none) in
+      absurd (refused (subst (λ (b : List ℕ). CanClaim b marks) (sym empty) (claims_none marks)))
+  | inr h ↦ (h, λ m s i laid.
+      let same = the_layout content metadata marks signatures s indexes i m o h l laid in
+      let size : m ≡ metadata = sym (o.unique m laid.closed) in
+      let each : (k : ℕ) → 0 < times_all k indexes → IsTileBlock content (length metadata) indexes k =
+      λ k some. subst (λ (l : List ℕ). IsTileBlock content (length l) indexes k) size
+          (subst (λ (x : List (List Index)). 0 < times_all k x → IsTileBlock content (length m) x k) same.1 (laid.blocks k) some) in
+      refused (laid_claims content (length metadata) marks blocks indexes (o.marked h) (block_count content m marks laid.closed o.blocks) fresh.header counted each))
+]
+
+-- it has tiles beyond the domains
+pub beyond : (content metadata marks : List ℕ) (signatures : List Signature) (indexes : List (List Index)) → IsOpened content metadata marks
+    → IsListed metadata signatures indexes → (AreTiles signatures indexes → ⊥) → (0 < length content) × IsNotLaidOut content
+beyond content metadata marks signatures indexes o l refused = elim (some_bytes content) [
+  | inl e ↦
+      let none : signatures ≡ [] = (l.new_file (o.new_file e)).0 in
+      absurd (refused (subst (λ (s : List Signature). AreTiles s indexes) (sym none) tt))
+  | inr h ↦ (h, λ m s i laid.
+      let same = the_layout content metadata marks signatures s indexes i m o h l laid in
+      refused (subst (λ (x : List (List Index)). AreTiles signatures x) same.1 (subst (λ (x : List Signature). AreTiles x i) same.0 laid.tiles)))
+]
+
+-- What was read, claimed and attached is what the disk lists, and it lists nothing else.
+pub lists_all : (content metadata marks marks' : List ℕ) (signatures : List Signature) (indexes held : List (List Index)) (store : Store) → IsOpened content metadata marks → IsFresh marks
+    → IsListed metadata signatures indexes → ClaimsListed indexes marks marks' → AreTiles signatures indexes → store ≡ coverages_in content signatures indexes → held ≡ indexes
+    → Lists content store held
+lists_all content metadata marks marks' signatures indexes held store o fresh l claimed tiles is index = elim (some_bytes content) [
+  | inl e ↦
+      let none = l.new_file (o.new_file e) in
+      let no_store : store ≡ [] = is ∙ ap (λ (s : List Signature). coverages_in content s indexes) none.0 in
+      let no_index : held ≡ [] = index ∙ none.1 in
+      record {
+        lists = inl (e, no_store, no_index);
+        only = λ s i other. elim other [
+          | inl same ↦ (no_store ∙ sym same.1, no_index ∙ sym same.2)
+          | inr more ↦ absurd (no_byte content e (let w = more.laid_out.closed.header.store.whole in omega (arith, w)))
+        ];
+      }
+  | inr h ↦
+      let closed : IsClosed content metadata = o.closed h in
+      record {
+        lists = inr (record {
+          metadata = metadata;
+          signatures = signatures;
+          laid_out = record {
+            closed = closed;
+            written = subst (λ (x : List (List Index)). IsMetadata metadata signatures x) (sym index) (l.read closed.chain.some);
+            tiles = subst (λ (x : List (List Index)). AreTiles signatures x) (sym index) tiles;
+            blocks = subst (λ (x : List (List Index)). (k : ℕ) → 0 < times_all k x → IsTileBlock content (length metadata) x k) (sym index)
+                (claimed_blocks content (length metadata) marks claimed.blocks indexes (o.marked h) (block_count content metadata marks closed o.blocks) fresh.header claimed.each claimed.claims.could);
+          };
+          is = is ∙ ap (λ (x : List (List Index)). coverages_in content signatures x) (sym index);
+        });
+        only = λ s i other. elim other [
+          | inl same ↦ absurd (no_byte content same.0 h)
+          | inr more ↦
+              let same = the_layout content metadata marks signatures more.signatures indexes i more.metadata o h l more.laid_out in
+              (is ∙ ap (λ (x : List Signature). coverages_in content x indexes) (sym same.0) ∙ ap (λ (x : List (List Index)). coverages_in content more.signatures x) (sym same.1) ∙ sym more.is, index ∙ sym same.1)
+        ];
+      }
+]
+
+-- the metadata of no coverage takes a block
+reserve_none : reserve (length (catalogue_bytes [])) [] ≡ 1
+unfolding metadata_size catalogue_bytes
+reserve_none = refl
+
+-- As many blocks stay free as the metadata takes.
+pub layout_room : (metadata marks marks' : List ℕ) (signatures : List Signature) (indexes : List (List Index)) → IsFresh marks → IsListed metadata signatures indexes → ClaimsListed indexes marks marks'
+    → chain_blocks (length metadata) ≤ free_in marks' → reserve (length (catalogue_bytes signatures)) indexes ≤ free_in marks'
+layout_room metadata marks marks' signatures indexes fresh l claimed enough = elim (some_bytes metadata) [
+  | inl e ↦
+      let none = l.new_file e in
+      let empty : claimed.blocks ≡ [] = no_blocks claimed.blocks (λ k. claimed.each k ∙ ap (times_all k) none.1) in
+      let no_length : length claimed.blocks ≡ 0 = ap (λ (b : List ℕ). length b) empty in
+      let small : reserve (length (catalogue_bytes signatures)) indexes ≡ 1 =
+      ap (λ (s : List Signature). reserve (length (catalogue_bytes s)) indexes) none.0 ∙ ap (λ (x : List (List Index)). reserve (length (catalogue_bytes [])) x) none.1 ∙ reserve_none in
+      omega (arith, small, claimed.free, fresh.free, no_length)
+  | inr h ↦
+      let size : length metadata ≡ metadata_size (length (catalogue_bytes signatures)) indexes =
+      ap (λ (b : List ℕ). length b) (l.read h).written ∙ metadata_length signatures indexes in
+      subst (λ (n : ℕ). chain_blocks n ≤ free_in marks') size enough
+]
+
+-- an honest disk has them
+pub room_there : (content metadata marks marks' : List ℕ) → IsOpened content metadata marks → kept_in marks' ≡ kept_in marks → kept_in marks' ≤ free_in marks'
+    → chain_blocks (length metadata) ≤ free_in marks'
+room_there content metadata marks marks' o same kept = elim (some_bytes content) [
+  | inl e ↦ (let none : length metadata ≡ 0 = ap (λ (b : List ℕ). length b) (o.new_file e) in omega (arith, none))
+  | inr h ↦ omega (arith, o.kept h, same, kept)
+]
+
+-- Why an opened file is refused.
+pub late_refused : (content metadata marks : List ℕ) (fault : OpenFault) → IsOpened content metadata marks → Departs ((0 < length content) × IsNotLaidOut content) fault → IsNoStore content fault
+late_refused content metadata marks opening.NoMemory o d = tt
+late_refused content metadata marks opening.DiskFault o d = tt
+late_refused content metadata marks opening.Damaged o d =
+    let closed = o.closed d.0 in (
+      closed.header.store,
+      λ left. let state : number_at 12 4 content ≡ 2 = closed.header.state in omega (arith, left, state),
+      λ store indexes lists. elim lists [
+        | inl none ↦ no_byte content none.0 d.0
+        | inr more ↦ d.1 more.metadata more.signatures indexes more.laid_out
+      ],
+    )
+late_refused content metadata marks opening.NotAStore o d = absurd d
+late_refused content metadata marks opening.NotClosed o d = absurd d
+
+-- a disk that holds a store is refused for want of memory or for a fault alone
+pub want_of : (content : List ℕ) (fault : OpenFault) (store : Store) → IsNoStore content fault → HoldsStore content store → IsWant fault
+want_of content opening.NoMemory store n held = tt
+want_of content opening.DiskFault store n held = tt
+want_of content opening.Damaged store n held = n.2 store held.indexes held.lists
+want_of content opening.NotAStore store n held = elim held.lists [
+  | inl none ↦ no_byte content none.0 n.0
+  | inr more ↦ n.1 more.laid_out.closed.header.store
+]
+want_of content opening.NotClosed store n held = elim held.lists [
+  | inl none ↦ no_byte content none.0 (let w = n.0.whole in omega (arith, w))
+  | inr more ↦ (let state : number_at 12 4 content ≡ 2 = more.laid_out.closed.header.state in let left = n.1 in omega (arith, left, state))
+]
+
+-- why a file is refused before its metadata is read
+pub damaged_none : (content : List ℕ) → IsDamaged content → IsNoStore content opening.Damaged
+damaged_none content d = (
+  d.store,
+  d.not_open,
+  λ store indexes lists. elim lists [
+    | inl none ↦ no_byte content none.0 (let w = d.store.whole in omega (arith, w))
+    | inr more ↦ d.not_closed more.metadata more.laid_out.closed
+  ],
+)
+
+-- no write tears nothing
+pub torn_none : (content : List ℕ) → HeaderTorn content content
+torn_none content = record {
+  no_shorter = omega arith;
+  no_longer = omega arith;
+  kept = λ i low high. refl;
+}
+
+-- the coverages that are attached, the next one, and those that are left
+pub items_split : (all yielded rest later : List (Vec TileIndex Global)) (x : Vec TileIndex Global) → all ≡ yielded ++ rest → rest ≡ x ∷ later → items_of all ≡ items_of yielded ++ x.items ∷ items_of later
+items_split all yielded rest later x e next = ap items_of (e ∙ ap (λ (r : List (Vec TileIndex Global)). yielded ++ r) next) ∙ map-append (λ (v : Vec TileIndex Global). v.items) yielded (x ∷ later)
+
+-- the next place is one of the signatures
+pub place_within : (content : List ℕ) (signatures : List Signature) (before : List (List Index)) (new : List Index) (after all : List (List Index)) (store : Store) (held : List (List Index)) (place : ℕ)
+    → IsAttached content signatures before store held place → AreCounted signatures all → all ≡ before ++ new ∷ after → place < length signatures
+place_within content signatures before new after all store held place a counted is =
+    omega (arith, a.count, counted_place signatures before new after (subst (λ (l : List (List Index)). AreCounted signatures l) is counted))
+
+pub next_fields : (content : List ℕ) (signatures : List Signature) (before : List (List Index)) (new : List Index) (after all : List (List Index)) (store : Store) (held : List (List Index)) (place : ℕ) (s : Signature)
+    → IsAttached content signatures before store held place → AreCounted signatures all → all ≡ before ++ new ∷ after → s ≡ get_or signatures place s → length new ≡ length s.fields
+next_fields content signatures before new after all store held place s a counted is e =
+    counted_fields signatures before new after s (subst (λ (l : List (List Index)). AreCounted signatures l) is counted)
+    ∙ ap (λ (n : ℕ). length (get_or signatures n s).fields) (sym a.count) ∙ ap (λ (t : Signature). length t.fields) (sym e)
+
+pub next_tiles : (content : List ℕ) (signatures : List Signature) (before : List (List Index)) (new : List Index) (after all : List (List Index)) (store : Store) (held : List (List Index)) (place : ℕ) (s : Signature)
+    → IsAttached content signatures before store held place → AreCounted signatures all → all ≡ before ++ new ∷ after → s ≡ get_or signatures place s → AreTiles signatures all → AreBelow s.domain new
+next_tiles content signatures before new after all store held place s a counted is e tiles =
+    let below = tiles_at signatures before new after s (subst (λ (l : List (List Index)). AreCounted signatures l) is counted) (subst (λ (l : List (List Index)). AreTiles signatures l) is tiles) in
+    subst (λ (t : Signature). AreBelow t.domain new) (sym e) (subst (λ (n : ℕ). AreBelow (get_or signatures n s).domain new) (sym a.count) below)
+
+-- all coverages are attached
+pub all_attached : (content : List ℕ) (signatures : List Signature) (all : List (List Index)) (yielded rest : List (Vec TileIndex Global)) (store : Store) (held : List (List Index)) (place : ℕ)
+    → IsAttached content signatures (items_of yielded) store held place → AreCounted signatures all → all ≡ items_of (yielded ++ rest) → rest ≡ []
+    → (store ≡ coverages_in content signatures all) × (held ≡ all) × AreTiles signatures all
+all_attached content signatures all yielded rest store held place a counted is none =
+    let same : all ≡ items_of yielded = is ∙ ap (λ (r : List (Vec TileIndex Global)). items_of (yielded ++ r)) none ∙ ap items_of (append-nil yielded) in
+    let long : length signatures ≤ place = omega (arith, a.count, counted_all signatures all counted, ap (λ (l : List (List Index)). length l) same) in
+    let taken : take place signatures ≡ signatures = take_all place signatures long in (
+      a.values ∙ ap (λ (l : List Signature). coverages_in content l (items_of yielded)) taken ∙ ap (λ (l : List (List Index)). coverages_in content signatures l) (sym same),
+      a.listed ∙ sym same,
+      subst (λ (l : List (List Index)). AreTiles signatures l) (sym same) (subst (λ (l : List Signature). AreTiles l (items_of yielded)) taken a.tiles),
+    )
+
+-- what metadata lists is counted
+pub listed_counted : (metadata : List ℕ) (signatures : List Signature) (indexes : List (List Index)) → IsListed metadata signatures indexes → AreCounted signatures indexes
+listed_counted metadata signatures indexes l = elim (some_bytes metadata) [
+  | inl e ↦
+      let none = l.new_file e in
+      subst (λ (s : List Signature). AreCounted s indexes) (sym none.0) (subst (λ (i : List (List Index)). AreCounted [] i) (sym none.1) tt)
+  | inr h ↦ (l.read h).counted
+]
+
+pub items_push : (yielded : List (Vec TileIndex Global)) (x : Vec TileIndex Global) → items_of (yielded ++ x ∷ []) ≡ items_of yielded ++ x.items ∷ []
+items_push yielded x = map-append (λ (v : Vec TileIndex Global). v.items) yielded (x ∷ [])
+
+pub none_left : {X : Type 0} (xs : List X) → length xs ≡ 0 → xs ≡ []
+none_left [] e = refl
+none_left (x ∷ xs) e = absurd (omega (arith, e))
+
+-- why coverages are not attached
+pub attach_departs : (P : Type 0) (fault : Fault) → (fault ≡ device.Damaged → P) → (fault ≡ device.DiskFault → ⊥) → Departs P (attach_fault fault)
+attach_departs P device.NoMemory f d = tt
+attach_departs P device.DiskFault f d = absurd (d refl)
+attach_departs P device.NoRoom f d = tt
+attach_departs P device.Damaged f d = f refl

@@ -1,0 +1,5 @@
+use Rattle.coverage_server.proofs.WriteLemmas.{finds}
+use Rattle.coverage_server.proofs.coverages.Coverages.signature.Goals as goal
+
+pub returns : goal.returns
+returns g c = rw (← c.self.view_is) (finds c.args.name.now c.self.inside.cells.coverages c.self.inside.catalogue c.describe.result c.self.invariant.signatures c.describe.ensures)

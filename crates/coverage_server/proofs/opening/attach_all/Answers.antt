@@ -1,0 +1,67 @@
+use Rattle.std.proofs.Common.{◌≡◌, ◌∙◌, ◌+◌, [], ◌∷◌, ◌++◌, ℕ, List, Vec, ap, sym, subst, refl, length, arith, Err, append_assoc}
+use Rattle.arr_core.specs.declared.signature.Signature.{Signature}
+use Rattle.std.specs.declared.alloc.Global.{Global}
+use Rattle.tile_index.specs.declared.index.TileIndex.{TileIndex}
+use Rattle.raster_store.specs.Views.{Index}
+use Rattle.coverage_server.specs.Opening.{items_of}
+use Rattle.coverage_server.proofs.OpeningLemmas.{IsAttached, items_split, place_within, next_fresh, next_fields, next_tiles, next_attached, all_attached, items_push, attach_departs, none_left}
+use Rattle.coverage_server.proofs.opening.attach_all.Goals as goal
+
+pub loop-fields-init : goal.loop-fields-init
+loop-fields-init g c = (record { values = c.requires.coverages; listed = c.requires.indexes; count = refl; tiles = tt }, refl, sym c.into_iter-fields-iterator.ensures.into_iter_gives.0)
+
+pub index-requires : goal.index-requires
+index-requires g c =
+    let split = items_split _ _ _ _ _ c.loop-fields.invariant.2 (c.in-Some.ensures.steps.0) in
+    let within = place_within _ _ _ _ _ _ _ _ _ c.loop-fields.invariant.0 c.requires.counted split in
+    let size = ap (λ (l : List Signature). length l) c.in_ok-signatures.ensures in
+    omega (arith, within, size)
+
+pub attach-requires-clause-name : goal.attach-requires-clause-name
+attach-requires-clause-name g c =
+    let split = items_split _ _ _ _ _ c.loop-fields.invariant.2 (c.in-Some.ensures.steps.0) in
+    let within = place_within _ _ _ _ _ _ _ _ _ c.loop-fields.invariant.0 c.requires.counted split in
+    next_fresh _ _ _ _ _ _ _ c.loop-fields.invariant.0 within (rw c.in_ok-signatures.ensures at c.index.ensures) c.len-catalogue.ensures.catalogue
+
+pub attach-requires-clause-fields : goal.attach-requires-clause-fields
+attach-requires-clause-fields g c =
+    let split = items_split _ _ _ _ _ c.loop-fields.invariant.2 (c.in-Some.ensures.steps.0) in
+    next_fields _ _ _ _ _ _ _ _ _ _ c.loop-fields.invariant.0 c.requires.counted split (rw c.in_ok-signatures.ensures at c.index.ensures)
+
+pub attach-requires-clause-blocks : goal.attach-requires-clause-blocks
+attach-requires-clause-blocks g c =
+    let split = items_split _ _ _ _ _ c.loop-fields.invariant.2 (c.in-Some.ensures.steps.0) in
+    rw (c.loop-fields.invariant.1, c.loop-fields.invariant.0.listed) (c.requires.blocks _ _ _ split)
+
+pub loop-fields-preserved : goal.loop-fields-preserved
+loop-fields-preserved g c =
+    let split = items_split _ _ _ _ _ c.loop-fields.invariant.2 (c.in-Some.ensures.steps.0) in
+    let within = place_within _ _ _ _ _ _ _ _ _ c.loop-fields.invariant.0 c.requires.counted split in
+    let content = ap g.B.Blocks.content c.loop-fields.invariant.1 in
+    let attached = next_attached _ _ _ c.in-Some.fields.items _ _ _ _ _ c.index.result.now c.loop-fields.invariant.0 within (rw c.in_ok-signatures.ensures at c.index.ensures)
+        (rw content at c.in_default.ensures.coverages) c.in_default.ensures.indexes c.in_default.ensures.below in
+    (
+      subst (λ (l : List (List Index)). IsAttached (g.B.Blocks.content c.args.cells.now.blocks) c.args.catalogue.now l c.attach.new.self.coverages c.attach.new.self.indexes (c.loop-fields.place + 1))
+          (sym (items_push c.loop-fields.yielded c.in-Some.fields)) attached,
+      c.attach.ensures.blocks ∙ c.loop-fields.invariant.1,
+      c.loop-fields.invariant.2 ∙ ap (λ (r : List (Vec TileIndex Global)). c.loop-fields.yielded ++ r) (c.in-Some.ensures.steps.0) ∙ sym (append_assoc c.loop-fields.yielded (c.in-Some.fields ∷ []) c.next.new.self.rest.items),
+    )
+
+pub returns-in-Err-clause-refused : goal.returns-in-Err-clause-refused
+returns-in-Err-clause-refused g c =
+    let split = items_split _ _ _ _ _ c.loop-fields.invariant.2 (c.in-Some.ensures.steps.0) in
+    rw c.attach_fault.ensures
+    (attach_departs _ c.in-Err.fault (λ e tiles. c.in-Err.ensures.damaged (ap Err e)
+    (next_tiles _ _ _ _ _ _ _ _ _ _ c.loop-fields.invariant.0 c.requires.counted split (rw c.in_ok-signatures.ensures at c.index.ensures) tiles)) (λ e. c.in-Err.ensures.no_disk (ap Err e)))
+
+pub returns-clause-coverages : goal.returns-clause-coverages
+returns-clause-coverages g c =
+    (all_attached _ _ _ _ _ _ _ _ c.loop-fields.invariant.0 c.requires.counted (ap items_of c.loop-fields.invariant.2) (none_left _ (omega (arith, c.in-None.ensures.steps.0, c.loop-fields.fields-iterator.rest.ok)))).0
+
+pub returns-clause-indexes : goal.returns-clause-indexes
+returns-clause-indexes g c =
+    (all_attached _ _ _ _ _ _ _ _ c.loop-fields.invariant.0 c.requires.counted (ap items_of c.loop-fields.invariant.2) (none_left _ (omega (arith, c.in-None.ensures.steps.0, c.loop-fields.fields-iterator.rest.ok)))).1
+
+pub returns-clause-tiles : goal.returns-clause-tiles
+returns-clause-tiles g c =
+    (all_attached _ _ _ _ _ _ _ _ c.loop-fields.invariant.0 c.requires.counted (ap items_of c.loop-fields.invariant.2) (none_left _ (omega (arith, c.in-None.ensures.steps.0, c.loop-fields.fields-iterator.rest.ok)))).2

@@ -1,0 +1,36 @@
+-- What a closing writes: the metadata, as it is put together coverage by coverage, each found by its name.
+use Rattle.std.specs.Prelude.{◌≡◌, ℕ, ◌<◌, List, [], ◌∷◌, ◌++◌, length, take, Option, Some, None, if◌then◌else◌}
+use Rattle.std.specs.List.{flat_map}
+use Rattle.std.specs.Str.{bytes_eq}
+use Rattle.arr_core.specs.declared.signature.Signature.{Signature}
+use Rattle.arr_core.specs.Stores.{Coverage, Store, found}
+use Rattle.block_file.specs.Blocks.{block_at}
+use Rattle.block_file.specs.Format.{IsClosed, link, first_of, chain_blocks}
+use Rattle.catalogue.specs.Bytes.{catalogue_bytes}
+use Rattle.metadata.specs.Metadata.{part_bytes, indexes_bytes}
+use Rattle.raster_store.specs.Views.{Index, times_all}
+use Rattle.coverage_server.specs.Views.{signatures_of}
+
+-- the indexes of the fields of the coverage with a name
+abbrev pub indexes_named : List ℕ → Store → List (List Index) → List Index
+indexes_named name [] indexes = []
+indexes_named name (c ∷ store) [] = []
+indexes_named name (c ∷ store) (i ∷ indexes) = if bytes_eq c.name name then i else indexes_named name store indexes
+
+-- as many of them as the coverage has fields
+abbrev pub field_indexes : Option Coverage → List Index → List Index
+field_indexes None indexes = []
+field_indexes (Some c) indexes = take (length c.fields) indexes
+
+abbrev pub bytes_named : List ℕ → Store → List (List Index) → List ℕ
+bytes_named name store indexes = indexes_bytes (field_indexes (found name store) (indexes_named name store indexes))
+
+-- the catalogue, and the indexes of each coverage
+abbrev pub bytes_written : Store → List (List Index) → List ℕ
+bytes_written store indexes =
+    part_bytes (catalogue_bytes (signatures_of store)) ++ flat_map (λ (s : Signature). bytes_named s.name store indexes) (signatures_of store)
+
+-- The file is closed with this metadata, and no block of its chain holds a tile.
+pub record IsWritten (content metadata : List ℕ) (indexes : List (List Index)) : Type 0 where
+  pub closed : IsClosed content metadata
+  pub apart : (i : ℕ) → i < chain_blocks (length metadata) → times_all (link (block_at content) (first_of content) i) indexes ≡ 0

@@ -1,0 +1,78 @@
+-- What it is that a disk holds a store.
+use Rattle.std.specs.Prelude.{◌≡◌, ◌≢◌, ℕ, ◌/◌, ◌<◌, ◌⊎◌, List, [], ◌∷◌, length, ⊤}
+use Rattle.arr_core.specs.declared.signature.Signature.{Signature}
+use Rattle.arr_core.specs.Stores.{Store}
+use Rattle.block_file.specs.Blocks.{block_at}
+use Rattle.block_file.specs.Format.{IsStoreFile, IsClosed, number_at, link, first_of, chain_blocks}
+use Rattle.metadata.specs.Metadata.{IsMetadata}
+use Rattle.coverage_server.specs.declared.opening.OpenFault.{OpenFault}
+use Rattle.coverage_server.specs.declared.opening.OpenFault.TheVariants as opening
+use Rattle.coverage_server.specs.declared.closing.CloseFault.{CloseFault}
+use Rattle.coverage_server.specs.declared.closing.CloseFault.TheVariants as closing
+use Rattle.raster_store.specs.Views.{Index, AreBelow, AreIntact, coverages_in, times_all}
+
+-- each index lists only tiles of its coverage's domain
+abbrev pub AreTiles : List Signature → List (List Index) → Type 0
+AreTiles [] indexes = Unit {0}
+AreTiles (s ∷ signatures) [] = Unit {0}
+AreTiles (s ∷ signatures) (i ∷ indexes) = AreBelow s.domain i × AreTiles signatures indexes
+
+-- a block of the file that holds a tile: listed once, not the header, within the file, and none of the metadata's
+pub record IsTileBlock (content : List ℕ) (size : ℕ) (indexes : List (List Index)) (k : ℕ) : Type 0 where
+  pub once : times_all k indexes ≡ 1
+  pub above_zero : 0 < k
+  pub within : k < length content / 4096
+  pub apart : (i : ℕ) → i < chain_blocks size → link (block_at content) (first_of content) i ≢ k
+
+-- A closed file: its metadata is that of these signatures and indexes, which list tiles of the domains, in blocks of their own.
+pub record IsLaidOut (content metadata : List ℕ) (signatures : List Signature) (indexes : List (List Index)) : Type 0 where
+  pub closed : IsClosed content metadata
+  pub written : IsMetadata metadata signatures indexes
+  pub tiles : AreTiles signatures indexes
+  pub blocks : (k : ℕ) → 0 < times_all k indexes → IsTileBlock content (length metadata) indexes k
+
+-- a closed file of these coverages, whether or not their tiles spell cells
+pub record ListsCoverages (content : List ℕ) (store : Store) (indexes : List (List Index)) : Type 0 where
+  pub metadata : List ℕ
+  pub signatures : List Signature
+  pub laid_out : IsLaidOut content metadata signatures indexes
+  pub is : store ≡ coverages_in content signatures indexes
+
+-- without a byte a disk lists no coverages, else it is the closed file of those that it lists
+abbrev pub ListsStore : List ℕ → Store → List (List Index) → Type 0
+ListsStore content store indexes = ((content ≡ []) × (store ≡ []) × (indexes ≡ [])) ⊎ ListsCoverages content store indexes
+
+-- The disk holds the store: it lists its coverages, and each of their tiles spells its cells.
+pub record HoldsStore (content : List ℕ) (store : Store) : Type 0 where
+  pub indexes : List (List Index)
+  pub lists : ListsStore content store indexes
+  pub intact : AreIntact content store indexes
+
+-- the numbers of the refusals of an opening and of a closing
+abbrev pub open_number : OpenFault → ℕ
+open_number opening.NoMemory = 90
+open_number opening.DiskFault = 91
+open_number opening.Damaged = 93
+open_number opening.NotAStore = 94
+open_number opening.NotClosed = 95
+
+abbrev pub close_number : CloseFault → ℕ
+close_number closing.NoMemory = 90
+close_number closing.DiskFault = 91
+
+-- what may be told of any disk
+abbrev pub IsWant : OpenFault → Type 0
+IsWant opening.NoMemory = ⊤
+IsWant opening.DiskFault = ⊤
+IsWant opening.Damaged = ⊥
+IsWant opening.NotAStore = ⊥
+IsWant opening.NotClosed = ⊥
+
+-- Why a disk without a failure is not opened: it is no store file; it was not closed; or it departs from the format in another way.
+abbrev pub IsNoStore : List ℕ → OpenFault → Type 0
+IsNoStore content opening.NoMemory = ⊤
+IsNoStore content opening.DiskFault = ⊤
+IsNoStore content opening.NotAStore = (0 < length content) × (¬ (IsStoreFile content))
+IsNoStore content opening.NotClosed = IsStoreFile content × (number_at 12 4 content ≡ 1)
+IsNoStore content opening.Damaged =
+    IsStoreFile content × (number_at 12 4 content ≢ 1) × ((store : Store) (indexes : List (List Index)) → ¬ (ListsStore content store indexes))

@@ -1,0 +1,141 @@
+//! A server is closed: the metadata is written, then the header, and the disk comes out.
+ghost use Rattle.std.specs.Prelude.{◌≡◌, ◌++◌, ◌<◌, length, IsSomeAnd, IsErrOf, IsTrue, IfOk, IfErr, OnOk, OnErr};
+ghost use Rattle.arr_core.specs.Stores.{found};
+ghost use Rattle.catalogue.specs.Bytes.{catalogue_bytes};
+ghost use Rattle.catalogue.specs.Signatures.{IsCatalogue};
+ghost use Rattle.disk_face.specs.Disk.{Rose};
+ghost use Rattle.metadata.specs.Metadata.{part_bytes, metadata_bytes};
+ghost use Rattle.raster_store.specs.Views.{metadata_size};
+ghost use Rattle.raster_store.specs.Calls.{AreWhole};
+ghost use Rattle.tile_index.specs.Bytes.{index_bytes};
+ghost use Rattle.coverage_server.specs.Closing.{bytes_named, bytes_written, IsWritten};
+ghost use Rattle.coverage_server.specs.Disk.{HoldsStore};
+ghost use Rattle.coverage_server.specs.Views.{IsSound, IsUnchanged, signatures_of};
+
+use crate::arguments::Refusal;
+use crate::cells::AskedCells;
+use crate::coverages::Coverages;
+use crate::server::Server;
+use arr_core::Name;
+use disk_face::Disk;
+use metadata::push_part;
+use std::alloc::{AllocError, Global};
+use thiserror::Error;
+
+/// Why a server is not closed.
+#[derive(Clone, Copy, Debug, PartialEq, Eq, Error)]
+pub enum CloseFault {
+    #[error("out of memory")]
+    NoMemory,
+    #[error("the disk failed")]
+    DiskFault,
+}
+
+impl From<AllocError> for CloseFault {
+    ghost use Rattle.coverage_server.specs.declared.closing.CloseFault.TheVariants.{NoMemory};
+
+    ghost from_gives = { λ _ e. e ≡ NoMemory };
+
+    fn from(_error: AllocError) -> CloseFault {
+        CloseFault::NoMemory
+    }
+}
+
+impl CloseFault {
+    ghost use Rattle.coverage_server.specs.Disk.{close_number};
+
+    /// The number of the refusal: 90 or 91.
+    pub fn number(self) -> u16
+        ensures { result ≡ close_number self }
+    {
+        match self {
+            CloseFault::NoMemory => 90,
+            CloseFault::DiskFault => 91,
+        }
+    }
+}
+
+/// A server that was not closed, and why. It has its store, and may be closed again.
+#[derive(Drop)]
+pub struct NotClosed<D: Disk> {
+    pub server: Server<D>,
+    pub fault: CloseFault,
+}
+
+/// Puts the indexes of the coverage with a name behind the others.
+fn push_indexes<D: Disk>(
+    alloc: Global,
+    coverages: &Coverages<D>,
+    name: &Name,
+    bytes: &mut Vec<u8>,
+) -> Result<(), AllocError>
+    ensures { OnOk result (bytes.new.items ≡ bytes.old.items ++ bytes_named name.now coverages.now.store coverages.now.indexes) }
+{
+    let Some(signature) = coverages.signature(name) else {
+        return Ok(());
+    };
+    for field in 0..signature.fields.len() {
+        let index = coverages.index_bytes(alloc, name, field)?;
+        push_part(bytes, &index)?;
+    }
+    Ok(())
+}
+
+/// The metadata: the catalogue, and the indexes of each coverage.
+fn metadata_of<D: Disk>(alloc: Global, coverages: &Coverages<D>) -> Result<Vec<u8>, AllocError>
+    ensures { IfOk result (λ bytes. bytes.items ≡ bytes_written coverages.now.store coverages.now.indexes) }
+{
+    let listed = coverages.signatures(alloc)?;
+    let signatures = listed.as_slice();
+    let mut bytes = coverages.catalogue_part(alloc)?;
+    for signature in signatures {
+        push_indexes(alloc, coverages, &signature.name, &mut bytes)?;
+    }
+    Ok(bytes)
+}
+
+/// Writes the metadata, and then the header of a closed file.
+fn write_closed<D: Disk>(alloc: Global, coverages: &mut Coverages<D>) -> Result<(), CloseFault>
+    ensures written { OnOk result (IsSound coverages.old → IsWritten coverages.new.content (metadata_bytes (signatures_of coverages.old.store) coverages.old.indexes) coverages.new.indexes) }
+    ensures unchanged { IsUnchanged coverages.old coverages.new }
+    ensures sound { IsSound coverages.old → IsSound coverages.new }
+    ensures honest { coverages.new.honest ≡ coverages.old.honest }
+    ensures disk_fault { IsErrOf result CloseFault.DiskFault → Rose coverages.old.failures coverages.new.failures }
+{
+    let metadata = metadata_of(alloc, coverages)?;
+    match coverages.write_metadata(&metadata) {
+        Ok(()) => Ok(()),
+        Err(Refusal::DiskFault) => Err(CloseFault::DiskFault),
+        Err(_) => Err(CloseFault::NoMemory),
+    }
+}
+
+impl<D: Disk> Server<D> {
+    /// Writes the metadata into free blocks, and then the header of a closed file, so that the disk holds the store,
+    /// and gives the disk. Refused for memory, or where the disk has counted a failure, with the server.
+    pub fn close(self) -> Result<D, NotClosed<D>>
+        ensures held { IfOk result (λ disk. IsSound self → HoldsStore (D.content disk) self.store) }
+        ensures honest { IfOk result (λ disk. D.honest disk ≡ self.honest) }
+        ensures unchanged { IfErr result (λ refused. IsUnchanged self refused.server) }
+        ensures sound { IfErr result (λ refused. IsSound self → IsSound refused.server) }
+        ensures disk_fault { IfErr result (λ refused. refused.fault ≡ CloseFault.DiskFault → Rose self.failures refused.server.failures) }
+    {
+        let Server { mut cells } = self;
+        let alloc = cells.alloc;
+        match write_closed(alloc, &mut cells.coverages) {
+            Ok(()) => {
+                let AskedCells {
+                    alloc: _,
+                    coverages,
+                    names: _,
+                    tiles: _,
+                } = cells;
+                Ok(coverages.into_disk())
+            }
+            Err(fault) => Err(NotClosed {
+                server: Server { cells },
+                fault,
+            }),
+        }
+    }
+}

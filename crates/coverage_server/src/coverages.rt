@@ -1,0 +1,344 @@
+//! The coverages of a disk: their catalogue, and their cells in tiles.
+ghost use Rattle.std.specs.Prelude.{◌≡◌, ◌/◌, ◌<◌, ◌⊎◌, map, length, IsSomeAnd, IfOk, IfErr, OnOk, OnErr, IsErrOf, IsTrue};
+ghost use Rattle.arr_core.specs.Domains.{points};
+ghost use Rattle.arr_core.specs.Stores.{found, inserted, updated, value_at};
+ghost use Rattle.arr_core.specs.Tiles.{tile_boxes};
+ghost use Rattle.block_file.specs.Format.{IsHeader, HeaderTorn, KeepsHeader, Closes};
+ghost use Rattle.catalogue.specs.Bytes.{catalogue_bytes};
+ghost use Rattle.metadata.specs.Metadata.{part_bytes, metadata_bytes};
+ghost use Rattle.tile_index.specs.Bytes.{index_bytes};
+ghost use Rattle.catalogue.specs.Signatures.{MayInsert};
+ghost use Rattle.tile_store.specs.Faults.{FaultCounts};
+ghost use Rattle.tile_store.specs.Stored.{tile_box};
+ghost use Rattle.raster_store.specs.Calls.{HasField, index_of};
+ghost use Rattle.disk_face.specs.Disk.{Rose};
+ghost use Rattle.coverage_server.specs.Contents.{content_view};
+ghost use Rattle.coverage_server.specs.Closing.{bytes_written, IsWritten};
+ghost use Rattle.coverage_server.specs.Contents as contents;
+ghost use Rattle.coverage_server.specs.Disk.{HoldsStore};
+ghost use Rattle.coverage_server.specs.Room.{LacksRoomToInsert, LacksRoomToWrite, numbers_of};
+ghost use Rattle.coverage_server.specs.Views.{IsSound, IsUnchanged, signatures_of, still_of};
+ghost use Rattle.coverage_server.specs.Writing.{device_refusal, write_refusal, insert_refusal, FindsCoverage, InsertRefused, MayWrite, WriteRefused};
+
+use crate::arguments::Refusal;
+use crate::request::content::Content;
+use arr_core::{Cell, Domain, Name, Signature};
+use block_file::{BlockFile, State};
+use catalogue::{Catalogue, InsertError};
+use disk_face::{Disk, DiskFault};
+use metadata::catalogue_part;
+use raster_store::{Fault, RasterStore, WriteFault};
+use std::alloc::{AllocError, Global};
+use std::marker::Model;
+
+/// The coverages of a disk. As many blocks stay free as the metadata takes, so that the disk can be closed.
+#[derive(Drop)]
+pub struct Coverages<D: Disk> {
+    catalogue: Catalogue,
+    cells: RasterStore<BlockFile<D>>,
+}
+
+impl<D: Disk> Model for Coverages<D> {
+    ghost use Rattle.block_file.specs.View.{free_in};
+    ghost use Rattle.coverage_server.specs.Views.{ServerView, IsClosable};
+
+    ghost Value = { ServerView };
+
+    ghost view = { λ s. record {
+      store = s.cells.coverages;
+      indexes = s.cells.indexes;
+      content = s.cells.blocks.content;
+      free = free_in s.cells.blocks.marks;
+      honest = s.cells.blocks.honest;
+      failures = s.cells.blocks.failures;
+      fetched = s.cells.fetched;
+    } };
+
+    ghost invariant = { λ s. IsClosable s.catalogue s.cells.coverages s.cells.indexes (free_in s.cells.blocks.marks) };
+}
+
+/// Why a signature is not inserted.
+fn insert_refusal(error: InsertError) -> Refusal
+    ensures { result ≡ insert_refusal error }
+{
+    match error {
+        InsertError::CoverageExists => Refusal::Numbered(21),
+        InsertError::BadDomain => Refusal::Numbered(22),
+        InsertError::BadField => Refusal::Numbered(23),
+        InsertError::TooManyCoverages => Refusal::Numbered(27),
+        InsertError::NoMemory => Refusal::NoMemory,
+    }
+}
+
+/// Why cells are not written.
+fn write_refusal(fault: WriteFault) -> Refusal
+    ensures { result ≡ write_refusal fault }
+{
+    match fault {
+        WriteFault::OutsideDomain => Refusal::Numbered(24),
+        WriteFault::ValueCount => Refusal::Numbered(25),
+        WriteFault::ValueRange => Refusal::Numbered(26),
+        WriteFault::Device(fault) => device_refusal(fault),
+    }
+}
+
+/// Why the device refused.
+fn device_refusal(fault: Fault) -> Refusal
+    ensures { result ≡ device_refusal fault }
+{
+    match fault {
+        Fault::NoMemory => Refusal::NoMemory,
+        Fault::DiskFault => Refusal::DiskFault,
+        Fault::NoRoom => Refusal::NoRoom,
+        Fault::Damaged => Refusal::Damaged,
+    }
+}
+
+impl<D: Disk> Coverages<D> {
+    ghost use Rattle.block_file.specs.View.{free_in};
+    ghost use Rattle.coverage_server.specs.Views.{IsClosable};
+
+    /// The coverages that cells hold, with their catalogue.
+    pub(crate) fn new(catalogue: Catalogue, cells: RasterStore<BlockFile<D>>) -> Coverages<D>
+        requires { IsClosable catalogue cells.coverages cells.indexes (free_in cells.blocks.marks) }
+        ensures store { result.store ≡ cells.coverages }
+        ensures indexes { result.indexes ≡ cells.indexes }
+        ensures content { result.content ≡ cells.blocks.content }
+        ensures honest { result.honest ≡ cells.blocks.honest }
+        ensures failures { result.failures ≡ cells.blocks.failures }
+    {
+        Coverages { catalogue, cells }
+    }
+
+    /// How many tiles were fetched. The count stays at the last value of a `u64`.
+    pub fn fetched(&self) -> u64
+        ensures { result ≡ self.now.fetched }
+    {
+        self.cells.fetched()
+    }
+
+    /// The signatures of the coverages, in the order of their insertion.
+    pub fn signatures(&self, alloc: Global) -> Result<Vec<Signature>, AllocError>
+        ensures { IfOk result (λ list. list.items ≡ signatures_of self.now.store) }
+    {
+        let list = self.catalogue.list(alloc)?;
+        Ok(list)
+    }
+
+    /// The signature of the coverage with a name.
+    pub fn signature(&self, name: &Name) -> Option<&Signature>
+        ensures { FindsCoverage name.now self.now.store result }
+    {
+        self.catalogue.describe(name)
+    }
+
+    /// Adds a coverage that is 0 or false everywhere. Refused as the catalogue refuses its signature, then for memory,
+    /// and for room where fewer blocks are free than the metadata takes with it. A refusal changes nothing.
+    pub fn insert(&mut self, alloc: Global, signature: Signature) -> Result<(), Refusal>
+        ensures inserted { OnOk result (self.new.store ≡ inserted signature.name signature.domain signature.fields self.old.store) }
+        ensures may { OnOk result (MayInsert (signatures_of self.old.store) signature) }
+        ensures refused { IfErr result (λ e. InsertRefused self.old signature e) }
+        ensures unchanged { OnErr result (IsUnchanged self.old self.new) }
+        ensures sound { IsSound self.old → IsSound self.new }
+        ensures content { self.new.content ≡ self.old.content }
+        ensures honest { self.new.honest ≡ self.old.honest }
+    {
+        if let Err(error) = self.catalogue.check(&signature) {
+            return Err(insert_refusal(error));
+        }
+        let bytes = self.catalogue.bytes_len_with(&signature);
+        let listed = copy(alloc, &signature)?;
+        if let Err(error) = self.catalogue.insert(listed) {
+            return Err(insert_refusal(error));
+        }
+        match self.cells.create(&signature, bytes) {
+            Ok(()) => Ok(()),
+            Err(fault) => {
+                let _removed = self.catalogue.remove(&signature.name);
+                Err(device_refusal(fault))
+            }
+        }
+    }
+
+    /// Writes cells into a box of a field, by its place. Refused for a box that is none of the coverage, then for
+    /// another number of cells than it has points, then for a cell that is none of the field's type, and then for
+    /// memory, the disk and room. A refusal changes nothing.
+    pub fn write(
+        &mut self,
+        name: &Name,
+        field: usize,
+        area: &Domain,
+        content: &Content,
+    ) -> Result<(), Refusal>
+        requires field { HasField name.now field self.old.store }
+        ensures written { OnOk result (IsTrue self.old.honest → self.new.store ≡ updated name.now field area.now (numbers_of area.now (content_view content.now)) self.old.store) }
+        ensures may { OnOk result (MayWrite name.now field area.now (content_view content.now) self.old.store) }
+        ensures refused { IfErr result (WriteRefused name.now field area.now (content_view content.now) self.old) }
+        ensures disk_fault { IsErrOf result Refusal.DiskFault → Rose self.old.failures self.new.failures }
+        ensures unchanged { OnErr result (IsUnchanged self.old self.new) }
+        ensures sound { IsSound self.old → IsSound self.new }
+        ensures header { KeepsHeader self.old.content self.new.content }
+        ensures honest { self.new.honest ≡ self.old.honest }
+    {
+        match content {
+            Content::Fill(cell) => self.fill(name, field, area, *cell),
+            Content::Values(cells) => self.put(name, field, area, cells),
+        }
+    }
+
+    /// Writes one cell at each point of a box.
+    fn fill(&mut self, name: &Name, field: usize, area: &Domain, cell: Cell) -> Result<(), Refusal>
+        requires field { HasField name.now field self.old.store }
+        ensures written { OnOk result (IsTrue self.old.honest → self.new.store ≡ updated name.now field area.now (numbers_of area.now (contents.fill cell)) self.old.store) }
+        ensures may { OnOk result (MayWrite name.now field area.now (contents.fill cell) self.old.store) }
+        ensures refused { IfErr result (WriteRefused name.now field area.now (contents.fill cell) self.old) }
+        ensures disk_fault { IsErrOf result Refusal.DiskFault → Rose self.old.failures self.new.failures }
+        ensures unchanged { OnErr result (IsUnchanged self.old self.new) }
+        ensures sound { IsSound self.old → IsSound self.new }
+        ensures header { KeepsHeader self.old.content self.new.content }
+        ensures honest { self.new.honest ≡ self.old.honest }
+    {
+        let bytes = self.catalogue.bytes_len();
+        match self.cells.fill_box(name, field, area, cell, bytes) {
+            Ok(()) => Ok(()),
+            Err(fault) => Err(write_refusal(fault)),
+        }
+    }
+
+    /// Writes the cells of a box.
+    fn put(
+        &mut self,
+        name: &Name,
+        field: usize,
+        area: &Domain,
+        cells: &[Cell],
+    ) -> Result<(), Refusal>
+        requires field { HasField name.now field self.old.store }
+        ensures written { OnOk result (IsTrue self.old.honest → self.new.store ≡ updated name.now field area.now (numbers_of area.now (contents.values cells.now)) self.old.store) }
+        ensures may { OnOk result (MayWrite name.now field area.now (contents.values cells.now) self.old.store) }
+        ensures refused { IfErr result (WriteRefused name.now field area.now (contents.values cells.now) self.old) }
+        ensures disk_fault { IsErrOf result Refusal.DiskFault → Rose self.old.failures self.new.failures }
+        ensures unchanged { OnErr result (IsUnchanged self.old self.new) }
+        ensures sound { IsSound self.old → IsSound self.new }
+        ensures header { KeepsHeader self.old.content self.new.content }
+        ensures honest { self.new.honest ≡ self.old.honest }
+    {
+        let bytes = self.catalogue.bytes_len();
+        match self.cells.write_box(name, field, area, cells, bytes) {
+            Ok(()) => Ok(()),
+            Err(fault) => Err(write_refusal(fault)),
+        }
+    }
+
+    /// The numbers of a field, by its place, in a tile of the coverage with a name, by its number.
+    pub fn fetch_tile(&mut self, name: &Name, field: usize, tile: u64) -> Result<Vec<i64>, Fault>
+        requires field { HasField name.now field self.old.store }
+        requires tile { IsSomeAnd (found name.now self.old.store) (λ c. tile < length (tile_boxes c.domain)) }
+        ensures value { IfOk result (λ cells. IsTrue self.old.honest → IsSomeAnd (found name.now self.old.store) (λ c. cells.items ≡ map (value_at c field) (points (tile_box c.domain tile)))) }
+        ensures counted { IfOk result (λ cells. IsSomeAnd (found name.now self.old.store) (λ c. length cells.items ≡ length (points (tile_box c.domain tile)))) }
+        ensures damaged { IsErrOf result Fault.Damaged → IsSound self.old → ⊥ }
+        ensures no_room { IsErrOf result Fault.NoRoom → ⊥ }
+        ensures still { still_of self.new ≡ still_of self.old }
+        ensures counts { FaultCounts result self.old.failures self.new.failures }
+    {
+        match self.cells.fetch_tile(name, field, tile) {
+            Ok(numbers) => Ok(numbers),
+            Err(fault) => Err(fault),
+        }
+    }
+
+    /// The first part of the metadata: the catalogue behind its length.
+    pub fn catalogue_part(&self, alloc: Global) -> Result<Vec<u8>, AllocError>
+        ensures { IfOk result (λ bytes. bytes.items ≡ part_bytes (catalogue_bytes (signatures_of self.now.store))) }
+    {
+        let part = catalogue_part(alloc, &self.catalogue)?;
+        Ok(part)
+    }
+
+    /// The bytes of the index of a field, by its place, of the coverage with a name.
+    pub fn index_bytes(
+        &self,
+        alloc: Global,
+        name: &Name,
+        field: usize,
+    ) -> Result<Vec<u8>, AllocError>
+        requires field { HasField name.now field self.now.store }
+        ensures { IfOk result (λ bytes. IsSomeAnd (index_of name.now field self.now.store self.now.indexes) (λ i. bytes.items ≡ index_bytes i)) }
+    {
+        let bytes = self.cells.index_bytes(alloc, name, field)?;
+        Ok(bytes)
+    }
+
+    /// Writes the metadata into blocks that are free, and then the header of a closed file. Refused for memory, or
+    /// where the disk has counted a failure.
+    pub fn write_metadata(&mut self, metadata: &[u8]) -> Result<(), Refusal>
+        requires { metadata.now ≡ bytes_written self.old.store self.old.indexes }
+        ensures written { OnOk result (IsSound self.old → IsWritten self.new.content (metadata_bytes (signatures_of self.old.store) self.old.indexes) self.new.indexes) }
+        ensures unchanged { IsUnchanged self.old self.new }
+        ensures sound { IsSound self.old → IsSound self.new }
+        ensures honest { self.new.honest ≡ self.old.honest }
+        ensures disk_fault { IsErrOf result Refusal.DiskFault → Rose self.old.failures self.new.failures }
+        ensures fault { IfErr result (λ e. (e ≡ Refusal.NoMemory) ⊎ (e ≡ Refusal.DiskFault)) }
+    {
+        let _catalogue = self.catalogue.len();
+        let _whole = self.cells.len();
+        match self.cells.write_meta(metadata) {
+            Err(fault) => Err(device_refusal(fault)),
+            Ok(first) => self.write_header(first, metadata.len() as u64),
+        }
+    }
+
+    /// Writes the header of a closed file.
+    fn write_header(&mut self, first: u32, length: u64) -> Result<(), Refusal>
+        ensures closes { OnOk result (IsTrue self.old.honest → Closes first length self.old.content self.new.content) }
+        ensures unchanged { IsUnchanged self.old self.new }
+        ensures sound { IsSound self.old → IsSound self.new }
+        ensures honest { self.new.honest ≡ self.old.honest }
+        ensures disk_fault { OnErr result (Rose self.old.failures self.new.failures) }
+        ensures fault { IfErr result (λ e. e ≡ Refusal.DiskFault) }
+    {
+        match self.cells.write_header(State::Closed, first, length) {
+            Ok(()) => Ok(()),
+            Err(_) => Err(Refusal::DiskFault),
+        }
+    }
+
+    /// Writes the header of an open file. Refused where the disk has counted a failure.
+    pub(crate) fn write_open(&mut self) -> Result<(), DiskFault>
+        ensures header { OnOk result (IsTrue self.old.honest → IsHeader self.new.content State.Open (length self.new.content / 4096) 0 0) }
+        ensures torn { IsTrue self.old.honest → HeaderTorn self.old.content self.new.content }
+        ensures indexes { self.new.indexes ≡ self.old.indexes }
+        ensures store { IsTrue self.old.honest → self.new.store ≡ self.old.store }
+        ensures sound { IsSound self.old → IsSound self.new }
+        ensures honest { self.new.honest ≡ self.old.honest }
+        ensures disk_fault { OnErr result (Rose self.old.failures self.new.failures) }
+    {
+        self.cells.write_header(State::Open, 0, 0)
+    }
+
+    /// The disk below. Once a closing has been written it holds the store.
+    pub fn into_disk(self) -> D
+        ensures held { IsWritten (D.content result) (metadata_bytes (signatures_of self.store) self.indexes) self.indexes → IsSound self → HoldsStore (D.content result) self.store }
+        ensures content { D.content result ≡ self.content }
+        ensures honest { D.honest result ≡ self.honest }
+        ensures failures { D.failures result ≡ self.failures }
+    {
+        let Coverages { catalogue, cells } = self;
+        let _catalogue = catalogue.len();
+        cells.into_blocks().into_disk()
+    }
+}
+
+/// The same signature again.
+fn copy(alloc: Global, signature: &Signature) -> Result<Signature, AllocError>
+    ensures { IfOk result (λ s. s ≡ signature.now) }
+{
+    let name = signature.name.copy(alloc)?;
+    let domain = signature.domain.copy(alloc)?;
+    let fields = signature.fields.copy(alloc)?;
+    Ok(Signature {
+        name,
+        domain,
+        fields,
+    })
+}

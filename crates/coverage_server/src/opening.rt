@@ -1,0 +1,311 @@
+//! A disk is opened: its metadata is read, its blocks are claimed, its coverages attached, and then its header tells
+//! that it is open.
+ghost use Rattle.std.specs.Prelude.{◌≡◌, ◌≢◌, ◌+◌, ◌<◌, ◌≤◌, ◌/◌, ◌⊎◌, ◌++◌, ◌∷◌, [], ℕ, List, Vec, map, length, IsTrue, IsErrOf, IfOk, IfErr, OnOk};
+ghost use Rattle.arr_core.specs.declared.signature.Signature.{Signature};
+ghost use Rattle.arr_core.specs.Stores.{Store};
+ghost use Rattle.block_file.specs.Format.{IsHeader, HeaderTorn};
+ghost use Rattle.block_file.specs.View.{IsFresh, CanClaim, free_in, kept_in};
+ghost use Rattle.catalogue.specs.Bytes.{catalogue_bytes};
+ghost use Rattle.catalogue.specs.Signatures.{IsCatalogue};
+ghost use Rattle.disk_face.specs.Disk.{Rose};
+ghost use Rattle.metadata.specs.Metadata.{IsMetadata, AreCounted};
+ghost use Rattle.raster_store.specs.Calls.{MayAttach};
+ghost use Rattle.raster_store.specs.Views.{Index, coverages_in, times_all, times_fields, reserve};
+ghost use Rattle.tile_store.specs.Listing.{times};
+ghost use Rattle.coverage_server.specs.Disk.{AreTiles, ListsStore, HoldsStore, IsWant, IsNoStore};
+ghost use Rattle.coverage_server.specs.Opening.{items_of, IsOpened, IsListed, IsNotLaidOut, ClaimsListed, Lists, Departs, attach_fault, chain_fault};
+ghost use Rattle.coverage_server.specs.Views.{IsSound};
+
+use crate::cells::AskedCells;
+use crate::coverages::Coverages;
+use crate::server::Server;
+use arr_core::Signature;
+use block_file::{BlockFile, Blocks, CHAIN_BYTES, Opened, Refused, State};
+use catalogue::Catalogue;
+use disk_face::Disk;
+use metadata::{Metadata, ReadError, read_metadata};
+use raster_store::{Fault, RasterStore};
+use std::alloc::{AllocError, Global};
+use thiserror::Error;
+use tile_index::TileIndex;
+
+/// Why a disk is not opened.
+#[derive(Clone, Copy, Debug, PartialEq, Eq, Error)]
+pub enum OpenFault {
+    #[error("out of memory")]
+    NoMemory,
+    #[error("the disk failed")]
+    DiskFault,
+    #[error("damaged")]
+    Damaged,
+    #[error("not a store file")]
+    NotAStore,
+    #[error("not closed")]
+    NotClosed,
+}
+
+impl OpenFault {
+    ghost use Rattle.coverage_server.specs.Disk.{open_number};
+
+    /// The number of the refusal: 90, 91, or 93 to 95.
+    pub fn number(self) -> u16
+        ensures { result ≡ open_number self }
+    {
+        match self {
+            OpenFault::NoMemory => 90,
+            OpenFault::DiskFault => 91,
+            OpenFault::Damaged => 93,
+            OpenFault::NotAStore => 94,
+            OpenFault::NotClosed => 95,
+        }
+    }
+}
+
+impl From<AllocError> for OpenFault {
+    ghost use Rattle.coverage_server.specs.declared.opening.OpenFault.TheVariants.{NoMemory};
+
+    ghost from_gives = { λ _ e. e ≡ NoMemory };
+
+    fn from(_error: AllocError) -> OpenFault {
+        OpenFault::NoMemory
+    }
+}
+
+/// A disk that was not opened, and why.
+#[derive(Drop)]
+pub struct NotOpened<D: Disk> {
+    pub disk: D,
+    pub fault: OpenFault,
+}
+
+/// Puts the blocks that the indexes of fields list behind others.
+fn push_blocks(
+    alloc: Global,
+    fields: &[TileIndex],
+    blocks: &mut Vec<u32>,
+) -> Result<(), AllocError>
+    ensures { OnOk result ((k : ℕ) → times k blocks.new.items ≡ times k blocks.old.items + times_fields k fields.now) }
+{
+    for index in fields {
+        let listed = index.blocks(alloc)?;
+        blocks.extend_from_slice(&listed)?;
+    }
+    Ok(())
+}
+
+/// The blocks that indexes list.
+fn blocks_of(alloc: Global, indexes: &[Vec<TileIndex>]) -> Result<Vec<u32>, AllocError>
+    ensures { IfOk result (λ blocks. (k : ℕ) → times k blocks.items ≡ times_all k (items_of indexes.now)) }
+{
+    let mut blocks = Vec::new(alloc);
+    for fields in indexes {
+        push_blocks(alloc, fields, &mut blocks)?;
+    }
+    Ok(blocks)
+}
+
+/// The catalogue and the indexes that metadata has. Without a byte there are none.
+fn read_layout(alloc: Global, metadata: &[u8]) -> Result<Metadata, OpenFault>
+    ensures listed { IfOk result (λ m. IsListed metadata.now m.catalogue (items_of m.indexes.items)) }
+    ensures refused { IfErr result (Departs ((0 < length metadata.now) × ((signatures : List Signature) (indexes : List (List Index)) → IsMetadata metadata.now signatures indexes → ⊥))) }
+{
+    if metadata.is_empty() {
+        return Ok(Metadata {
+            catalogue: Catalogue::new(alloc),
+            indexes: Vec::new(alloc),
+        });
+    }
+    match read_metadata(alloc, metadata) {
+        Ok(layout) => Ok(layout),
+        Err(ReadError::Damaged) => Err(OpenFault::Damaged),
+        Err(ReadError::NoMemory) => Err(OpenFault::NoMemory),
+    }
+}
+
+/// Puts the blocks that indexes list in use.
+fn claim_listed<D: Disk>(
+    alloc: Global,
+    file: &mut BlockFile<D>,
+    indexes: &[Vec<TileIndex>],
+) -> Result<(), OpenFault>
+    ensures claims { OnOk result (ClaimsListed (items_of indexes.now) file.old.marks file.new.marks) }
+    ensures refused { IfErr result (Departs ((blocks : List ℕ) × ((k : ℕ) → times k blocks ≡ times_all k (items_of indexes.now)) × (CanClaim blocks file.old.marks → ⊥))) }
+    ensures kept { kept_in file.new.marks ≡ kept_in file.old.marks }
+    ensures reserve { OnOk result (kept_in file.new.marks ≤ free_in file.new.marks) }
+    ensures content { file.new.content ≡ file.old.content }
+    ensures failures { file.new.failures ≡ file.old.failures }
+    ensures honest { file.new.honest ≡ file.old.honest }
+{
+    let blocks = blocks_of(alloc, indexes)?;
+    match file.claim(&blocks) {
+        Ok(()) => Ok(()),
+        Err(_) => Err(OpenFault::Damaged),
+    }
+}
+
+/// The catalogue and the indexes that metadata has, whose blocks are in use then. As many blocks stay free as the
+/// metadata takes; a disk that is not honest may lack them.
+fn claim_layout<D: Disk>(
+    alloc: Global,
+    file: &mut BlockFile<D>,
+    metadata: &[u8],
+) -> Result<Metadata, OpenFault>
+    requires opened { IsTrue file.old.honest → IsOpened file.old.content metadata.now file.old.marks }
+    requires fresh { IsFresh file.old.marks }
+    ensures listed { IfOk result (λ m. IsListed metadata.now m.catalogue (items_of m.indexes.items)) }
+    ensures claims { IfOk result (λ m. ClaimsListed (items_of m.indexes.items) file.old.marks file.new.marks) }
+    ensures room { IfOk result (λ m. reserve (length (catalogue_bytes m.catalogue)) (items_of m.indexes.items) ≤ free_in file.new.marks) }
+    ensures refused { IfErr result (Departs (IsTrue file.old.honest → (0 < length file.old.content) × IsNotLaidOut file.old.content)) }
+    ensures content { file.new.content ≡ file.old.content }
+    ensures failures { file.new.failures ≡ file.old.failures }
+    ensures honest { file.new.honest ≡ file.old.honest }
+{
+    let layout = read_layout(alloc, metadata)?;
+    if let Err(fault) = claim_listed(alloc, file, &layout.indexes) {
+        return Err(fault);
+    }
+    if metadata.len().div_ceil(CHAIN_BYTES) > file.free() as usize {
+        return Err(OpenFault::Damaged);
+    }
+    Ok(layout)
+}
+
+/// Why coverages are not attached.
+fn attach_fault(fault: Fault) -> OpenFault
+    ensures { result ≡ attach_fault fault }
+{
+    match fault {
+        Fault::NoMemory => OpenFault::NoMemory,
+        Fault::DiskFault => OpenFault::DiskFault,
+        Fault::NoRoom => OpenFault::NoMemory,
+        Fault::Damaged => OpenFault::Damaged,
+    }
+}
+
+/// Attaches the coverages of a catalogue, in order, to cells without one.
+fn attach_all<B: Blocks>(
+    alloc: Global,
+    cells: &mut RasterStore<B>,
+    catalogue: &Catalogue,
+    indexes: Vec<Vec<TileIndex>>,
+) -> Result<(), OpenFault>
+    requires coverages { cells.old.coverages ≡ [] }
+    requires indexes { cells.old.indexes ≡ [] }
+    requires counted { AreCounted catalogue.now (items_of indexes.items) }
+    requires blocks { (before : List (List Index)) (new : List Index) (after : List (List Index)) → items_of indexes.items ≡ before ++ new ∷ after → MayAttach (B.content cells.old.blocks) (B.uses cells.old.blocks) (B.honest cells.old.blocks) before new }
+    ensures coverages { OnOk result (cells.new.coverages ≡ coverages_in (B.content cells.old.blocks) catalogue.now (items_of indexes.items)) }
+    ensures indexes { OnOk result (cells.new.indexes ≡ items_of indexes.items) }
+    ensures tiles { OnOk result (AreTiles catalogue.now (items_of indexes.items)) }
+    ensures refused { IfErr result (Departs (AreTiles catalogue.now (items_of indexes.items) → ⊥)) }
+    ensures blocks { cells.new.blocks ≡ cells.old.blocks }
+{
+    let _catalogue = catalogue.len();
+    let signatures = catalogue.list(alloc)?;
+    let mut place = 0usize;
+    for fields in indexes {
+        if let Err(fault) = cells.attach(&signatures[place], fields) {
+            return Err(attach_fault(fault));
+        }
+        place += 1;
+    }
+    Ok(())
+}
+
+/// Why the file of a disk is not opened.
+fn chain_fault(fault: block_file::OpenFault) -> OpenFault
+    ensures { result ≡ chain_fault fault }
+{
+    match fault {
+        block_file::OpenFault::NoMemory => OpenFault::NoMemory,
+        block_file::OpenFault::DiskFault => OpenFault::DiskFault,
+        block_file::OpenFault::Damaged => OpenFault::Damaged,
+        block_file::OpenFault::NotAStore => OpenFault::NotAStore,
+        block_file::OpenFault::NotClosed => OpenFault::NotClosed,
+    }
+}
+
+/// The coverages of a file that was opened. Nothing is written.
+fn coverages_of<D: Disk>(
+    alloc: Global,
+    opened: Opened<D>,
+) -> Result<Coverages<D>, NotOpened<D>>
+    requires opened { IsTrue opened.file.honest → IsOpened opened.file.content opened.metadata.items opened.file.marks }
+    requires fresh { IsFresh opened.file.marks }
+    ensures lists { IfOk result (λ coverages. IsTrue opened.file.honest → Lists opened.file.content coverages.store coverages.indexes) }
+    ensures content { IfOk result (λ coverages. coverages.content ≡ opened.file.content) }
+    ensures honest { IfOk result (λ coverages. coverages.honest ≡ opened.file.honest) }
+    ensures failures { IfOk result (λ coverages. coverages.failures ≡ opened.file.failures) }
+    ensures refused { IfErr result (λ refused. Departs (IsTrue opened.file.honest → (0 < length opened.file.content) × IsNotLaidOut opened.file.content) refused.fault) }
+    ensures same { IfErr result (λ refused. D.content refused.disk ≡ opened.file.content) }
+    ensures honest_disk { IfErr result (λ refused. D.honest refused.disk ≡ opened.file.honest) }
+{
+    let Opened { mut file, metadata } = opened;
+    let Metadata { catalogue, indexes } = match claim_layout(alloc, &mut file, &metadata) {
+        Ok(layout) => layout,
+        Err(fault) => {
+            return Err(NotOpened {
+                disk: file.into_disk(),
+                fault,
+            });
+        }
+    };
+    let mut cells = RasterStore::new(alloc, file);
+    match attach_all(alloc, &mut cells, &catalogue, indexes) {
+        Ok(()) => Ok(Coverages::new(catalogue, cells)),
+        Err(fault) => Err(NotOpened {
+            disk: cells.into_blocks().into_disk(),
+            fault,
+        }),
+    }
+}
+
+impl<D: Disk> Server<D> {
+    /// Opens the store of a disk; one without a byte holds the empty store. Once it has given a server, the header
+    /// tells an open file until a close.
+    ///
+    /// The refusals, with the disk, in this order: not a store, not closed, and damaged for any other departure from
+    /// the format: of the chain, the catalogue or an index, a tile beyond its domain, and a block that is listed
+    /// twice, is the header or one of the metadata's, or lies past the end. Want of memory and a fault of the disk may
+    /// come at any time. Nothing is written before the metadata is accepted, and then the header alone.
+    pub fn open(alloc: Global, disk: D) -> Result<Server<D>, NotOpened<D>>
+        ensures listed { IfOk result (λ server. IsTrue (D.honest disk) → ListsStore (D.content disk) server.store server.indexes) }
+        ensures store { IfOk result (λ server. IsTrue (D.honest disk) → (store : Store) → HoldsStore (D.content disk) store → server.store ≡ store) }
+        ensures sound { IfOk result (λ server. IsTrue (D.honest disk) → (store : Store) → HoldsStore (D.content disk) store → IsSound server) }
+        ensures header { IfOk result (λ server. IsTrue (D.honest disk) → IsHeader server.content State.Open (length server.content / 4096) 0 0) }
+        ensures honest { IfOk result (λ server. server.honest ≡ D.honest disk) }
+        ensures want { IfErr result (λ refused. IsTrue (D.honest disk) → (store : Store) → HoldsStore (D.content disk) store → IsWant refused.fault) }
+        ensures refused { IfErr result (λ refused. IsTrue (D.honest disk) → IsNoStore (D.content disk) refused.fault) }
+        ensures disk_fault { IfErr result (λ refused. refused.fault ≡ OpenFault.DiskFault → Rose (D.failures disk) (D.failures refused.disk)) }
+        ensures same { IfErr result (λ refused. refused.fault ≢ OpenFault.DiskFault → D.content refused.disk ≡ D.content disk) }
+        ensures torn { IfErr result (λ refused. IsTrue (D.honest disk) → HeaderTorn (D.content disk) (D.content refused.disk)) }
+        ensures honest_disk { IfErr result (λ refused. D.honest refused.disk ≡ D.honest disk) }
+    {
+        let opened = match BlockFile::open(alloc, disk) {
+            Ok(opened) => opened,
+            Err(Refused { disk, fault }) => {
+                return Err(NotOpened {
+                    disk,
+                    fault: chain_fault(fault),
+                });
+            }
+        };
+        let mut coverages = match coverages_of(alloc, opened) {
+            Ok(coverages) => coverages,
+            Err(refused) => return Err(refused),
+        };
+        match coverages.write_open() {
+            Ok(()) => Ok(Server {
+                cells: AskedCells {
+                    alloc,
+                    coverages,
+                    names: Vec::new(alloc),
+                    tiles: Vec::new(alloc),
+                },
+            }),
+            Err(_) => Err(NotOpened {
+                disk: coverages.into_disk(),
+                fault: OpenFault::DiskFault,
+            }),
+        }
+    }
+}

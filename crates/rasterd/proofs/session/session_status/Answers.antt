@@ -1,0 +1,10 @@
+use Rattle.std.proofs.Common.{◌≡◌, sym}
+use Rattle.rasterd.proofs.session.session_status.Goals as goal
+
+pub returns-in-Ok-close-clause-served : goal.returns-in-Ok-close-clause-served
+returns-in-Ok-close-clause-served g c =
+    λ closed honest store holds.
+    let sound = c.in-Ok.ensures.sound honest store holds in
+    let after = c.serve_connection-end.ensures.sound sound in
+    rw (← c.in-Ok.ensures.store honest store holds)
+    (c.serve_connection-end.new.self.store, c.serve_connection-end.result, c.in-Ok-close.ensures.held after, c.serve_connection-end.ensures.served sound)
