@@ -235,13 +235,16 @@ unclaimed content metadata marks blocks signatures indexes o fresh l counted ref
       let none : indexes ≡ [] = (l.new_file (o.new_file e)).1 in
       let empty : blocks ≡ [] = no_blocks blocks (λ k. counted k ∙ ap (times_all k) none) in
       absurd (refused (subst (λ (b : List ℕ). CanClaim b marks) (sym empty) (claims_none marks)))
-  | inr h ↦ (h, λ m s i laid.
-      let same = the_layout content metadata marks signatures s indexes i m o h l laid in
-      let size : m ≡ metadata = sym (o.unique m laid.closed) in
-      let each : (k : ℕ) → 0 < times_all k indexes → IsTileBlock content (length metadata) indexes k =
-      λ k some. subst (λ (l : List ℕ). IsTileBlock content (length l) indexes k) size
-          (subst (λ (x : List (List Index)). 0 < times_all k x → IsTileBlock content (length m) x k) same.1 (laid.blocks k) some) in
-      refused (laid_claims content (length metadata) marks blocks indexes (o.marked h) (block_count content m marks laid.closed o.blocks) fresh.header counted each))
+  | inr h ↦ (
+    h,
+    λ m s i laid.
+        let same = the_layout content metadata marks signatures s indexes i m o h l laid in
+        let size : m ≡ metadata = sym (o.unique m laid.closed) in
+        let each : (k : ℕ) → 0 < times_all k indexes → IsTileBlock content (length metadata) indexes k =
+        λ k some. subst (λ (l : List ℕ). IsTileBlock content (length l) indexes k) size
+        (subst (λ (x : List (List Index)). 0 < times_all k x → IsTileBlock content (length m) x k) same.1 (laid.blocks k) some) in
+        refused (laid_claims content (length metadata) marks blocks indexes (o.marked h) (block_count content m marks laid.closed o.blocks) fresh.header counted each),
+  )
 ]
 
 -- it has tiles beyond the domains
@@ -251,9 +254,12 @@ beyond content metadata marks signatures indexes o l refused = elim (some_bytes 
   | inl e ↦
       let none : signatures ≡ [] = (l.new_file (o.new_file e)).0 in
       absurd (refused (subst (λ (s : List Signature). AreTiles s indexes) (sym none) tt))
-  | inr h ↦ (h, λ m s i laid.
-      let same = the_layout content metadata marks signatures s indexes i m o h l laid in
-      refused (subst (λ (x : List (List Index)). AreTiles signatures x) same.1 (subst (λ (x : List Signature). AreTiles x i) same.0 laid.tiles)))
+  | inr h ↦ (
+    h,
+    λ m s i laid.
+        let same = the_layout content metadata marks signatures s indexes i m o h l laid in
+        refused (subst (λ (x : List (List Index)). AreTiles signatures x) same.1 (subst (λ (x : List Signature). AreTiles x i) same.0 laid.tiles)),
+  )
 ]
 
 -- What was read, claimed and attached is what the disk lists, and it lists nothing else.

@@ -79,11 +79,7 @@ pub struct NotOpened<D: Disk> {
 }
 
 /// Puts the blocks that the indexes of fields list behind others.
-fn push_blocks(
-    alloc: Global,
-    fields: &[TileIndex],
-    blocks: &mut Vec<u32>,
-) -> Result<(), AllocError>
+fn push_blocks(alloc: Global, fields: &[TileIndex], blocks: &mut Vec<u32>) -> Result<(), AllocError>
     ensures { OnOk result ((k : ℕ) → times k blocks.new.items ≡ times k blocks.old.items + times_fields k fields.now) }
 {
     for index in fields {
@@ -225,10 +221,7 @@ fn chain_fault(fault: block_file::OpenFault) -> OpenFault
 }
 
 /// The coverages of a file that was opened. Nothing is written.
-fn coverages_of<D: Disk>(
-    alloc: Global,
-    opened: Opened<D>,
-) -> Result<Coverages<D>, NotOpened<D>>
+fn coverages_of<D: Disk>(alloc: Global, opened: Opened<D>) -> Result<Coverages<D>, NotOpened<D>>
     requires opened { IsTrue opened.file.honest → IsOpened opened.file.content opened.metadata.items opened.file.marks }
     requires fresh { IsFresh opened.file.marks }
     ensures lists { IfOk result (λ coverages. IsTrue opened.file.honest → Lists opened.file.content coverages.store coverages.indexes) }

@@ -34,9 +34,10 @@ fits_stored kind.I64 (cell.Bool b) h = absurd h
 pub numbers_each : (o : Option Field) (area : List Axis) (cells : List Cell) (list : List ℤ) → list ≡ map stored cells → AreCells area cells o → IsSomeAnd o (λ (f : Field). (length list ≡ count area) × All (Fits f.kind) list)
 numbers_each o area cells list is are =
     some_weaker o (λ (f : Field). All (Holds f.kind) cells) (λ (f : Field). (length list ≡ count area) × All (Fits f.kind) list)
-    (λ f holds.
-      ( ap (λ (l : List ℤ). length l) is ∙ length-map cells stored ∙ are.0
-      , subst (λ (l : List ℤ). All (Fits f.kind) l) (sym is) (All-map (Fits f.kind) stored cells (All-weaker (Holds f.kind) (λ (x : Cell). Fits f.kind (stored x)) (fits_stored f.kind) cells holds))))
+    (λ f holds. (
+      ap (λ (l : List ℤ). length l) is ∙ length-map cells stored ∙ are.0,
+      subst (λ (l : List ℤ). All (Fits f.kind) l) (sym is) (All-map (Fits f.kind) stored cells (All-weaker (Holds f.kind) (λ (x : Cell). Fits f.kind (stored x)) (fits_stored f.kind) cells holds)),
+    ))
     are.1
 
 -- one cell at each point of a box
@@ -44,7 +45,7 @@ pub numbers_same : (o : Option Field) (area : List Axis) (x : Cell) (z : ℤ) �
 numbers_same o area x z is are =
     some_weaker o (λ (f : Field). All (Holds f.kind) (replicate (count area) x)) (λ (f : Field). Fits f.kind z)
     (λ f holds.
-      let some : 0 < length (replicate (count area) x) = omega (arith, length-replicate (count area) x, count-pos area) in
-      let here : Holds f.kind x = subst (λ (y : Cell). Holds f.kind y) (get_or-replicate (count area) 0 x x (count-pos area)) (holds 0 x some) in
-      subst (λ (y : ℤ). Fits f.kind y) (sym is) (fits_stored f.kind x here))
+    let some : 0 < length (replicate (count area) x) = omega (arith, length-replicate (count area) x, count-pos area) in
+    let here : Holds f.kind x = subst (λ (y : Cell). Holds f.kind y) (get_or-replicate (count area) 0 x x (count-pos area)) (holds 0 x some) in
+    subst (λ (y : ℤ). Fits f.kind y) (sym is) (fits_stored f.kind x here))
     are.1

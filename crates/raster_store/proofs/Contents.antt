@@ -63,9 +63,10 @@ fields_intact_kept old new domain (f ∷ fields) (i ∷ indexes) kept s =
 
 pub intact_kept : (old new : List ℕ) (held : List Held) → KeepsAll (indexes_of held) old new → AreIntact old (coverages_of old held) (indexes_of held) → AreIntact new (coverages_of new held) (indexes_of held)
 intact_kept old new [] kept s = tt
-intact_kept old new (h ∷ held) kept s =
-    (fields_intact_kept old new h.signature.domain h.signature.fields h.fields.items (first_all_kept old new h.fields.items (indexes_of held) kept) s.0
-    , intact_kept old new held (rest_all_kept old new h.fields.items (indexes_of held) kept) s.1)
+intact_kept old new (h ∷ held) kept s = (
+  fields_intact_kept old new h.signature.domain h.signature.fields h.fields.items (first_all_kept old new h.fields.items (indexes_of held) kept) s.0,
+  intact_kept old new held (rest_all_kept old new h.fields.items (indexes_of held) kept) s.1,
+)
 
 -- where one coverage is another, or is removed, or comes
 pub intact-set : (content : List ℕ) (held : List Held) (i : ℕ) (new : Held) → AreIntact content (coverages_of content held) (indexes_of held)

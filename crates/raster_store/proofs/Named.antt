@@ -28,9 +28,9 @@ named_facts content uses honest held name place h is at read =
       found_is = found_named content name held place h at ∙ ap (λ (x : Held). Some (coverage_of content x)) (sym read);
       whole = subst IsWhole (sym read) (All-get_or IsWhole held place h within is.each);
       used = λ k some.
-        let here : times_fields k h.fields.items ≡ times_fields k (get_or held place h).fields.items = ap (λ (x : Held). times_fields k x.fields.items) read in
-        let all = times_all-at k held place h within in
-        omega (arith, (is.used k (omega (arith, some, here, all))).1);
+          let here : times_fields k h.fields.items ≡ times_fields k (get_or held place h).fields.items = ap (λ (x : Held). times_fields k x.fields.items) read in
+          let all = times_all-at k held place h within in
+          omega (arith, (is.used k (omega (arith, some, here, all))).1);
       intact = λ all. subst (λ (x : Held). FieldsIntact content x.signature.domain x.signature.fields x.fields.items) (sym read) (intact-at content held place h within all);
     }
 

@@ -75,6 +75,7 @@ tile_is_box domain n d h =
     let within : n < length (points g) = omega (arith, h, length-map (points g) (box_at e domain)) in
     let below : n < count g = omega (arith, within, length-points g) in
     let is : tile_box domain n ≡ box_at e domain (get_or (points g) n []) = get_or-map (box_at e domain) (points g) n [] [] within in
-    let inside : IsInside g (get_or (points g) n []) = subst (λ (p : List ℤ). IsInside g p) (sym (at_place g n [] below)) (point-inside g n below (ordered-grid e domain)) in
-    ( subst AreOrdered (sym is) (IsDomain-box e domain (get_or (points g) n []) (edge_pos (length domain)) d inside).ordered
-    , subst (λ (b : List Axis). IsBoxOf domain b) (sym is) (IsBoxOf-box e domain (get_or (points g) n []) (edge_pos (length domain)) d.ordered inside))
+    let inside : IsInside g (get_or (points g) n []) = subst (λ (p : List ℤ). IsInside g p) (sym (at_place g n [] below)) (point-inside g n below (ordered-grid e domain)) in (
+      subst AreOrdered (sym is) (IsDomain-box e domain (get_or (points g) n []) (edge_pos (length domain)) d inside).ordered,
+      subst (λ (b : List Axis). IsBoxOf domain b) (sym is) (IsBoxOf-box e domain (get_or (points g) n []) (edge_pos (length domain)) d.ordered inside),
+    )

@@ -113,10 +113,11 @@ sizes_after catalogue held i j d new c =
 pub whole_after : (held : List Held) (i j : ℕ) (d new : Held) → FieldChanged held i j d new → All IsWhole held → IsIndex (index_at new j) → IsBelow (length (tile_boxes (get_or held i d).signature.domain)) (index_at new j) → IsWhole new
 whole_after held i j d new c each index below =
     let old = All-get_or IsWhole held i d c.place each in
-    rw (c.signature, c.fields)
-    ( length-set (get_or held i d).fields.items j (index_at new j) ∙ old.0
-    , All-set IsIndex (get_or held i d).fields.items j (index_at new j) index old.1
-    , below-set (get_or held i d).signature.domain (get_or held i d).fields.items j (index_at new j) below old.2)
+    rw (c.signature, c.fields) (
+      length-set (get_or held i d).fields.items j (index_at new j) ∙ old.0,
+      All-set IsIndex (get_or held i d).fields.items j (index_at new j) index old.1,
+      below-set (get_or held i d).signature.domain (get_or held i d).fields.items j (index_at new j) below old.2,
+    )
 
 used_cases : (t t' o n u u' k : ℕ) → t' + o ≡ t + n → u' + o ≡ u + n → o ≤ t → (0 < t → (t ≡ 1) × (u ≡ 1) × (0 < k)) → (0 < n → (n ≡ 1) × (u' ≡ 1) × (0 < k)) → 0 < t' → (t' ≡ 1) × (u' ≡ 1) × (0 < k)
 used_cases t t' o n u u' k sum balance part old new some = elim (cases_eq n 0) [
@@ -136,18 +137,18 @@ held_after content content' uses uses' honest honest' held i j d new c is same i
   each = All-set IsWhole held i new (whole_after held i j d new c is.each index below) is.each;
   apart = apart_set held i new d c.signature is.apart;
   used = λ k some.
-    used_cases (times_all k (indexes_of held)) (times_all k (indexes_of (set held i new))) (times_in k (index_at (get_or held i d) j)) (times_in k (index_at new j)) (uses k) (uses' k) k
-    (listed_after held i j d new c k) (balance k) (omega (arith, times_fields-at k (get_or held i d).fields.items j, times_all-at k held i d c.place)) (is.used k) (listed k) some;
+      used_cases (times_all k (indexes_of held)) (times_all k (indexes_of (set held i new))) (times_in k (index_at (get_or held i d) j)) (times_in k (index_at new j)) (uses k) (uses' k) k
+      (listed_after held i j d new c k) (balance k) (omega (arith, times_fields-at k (get_or held i d).fields.items j, times_all-at k held i d c.place)) (is.used k) (listed k) some;
   whole = λ sure k some.
-    let sure_before : IsTrue honest = subst (λ (b : Bool). IsTrue b) same sure in
-    elim (cases_eq (times_in k (index_at new j)) 0) [
-      | inl none ↦
-          let was : 0 < times_all k (indexes_of held) = omega (arith, some, none, listed_after held i j d new c k) in
-          let long = is.whole sure_before k was in
-          let still : block_at content' k ≡ block_at content k = kept k (omega (arith, (is.used k was).1)) long in
-          ap length still ∙ long
-      | inr fresh ↦ whole sure_before k (omega (arith, fresh))
-    ];
+      let sure_before : IsTrue honest = subst (λ (b : Bool). IsTrue b) same sure in
+      elim (cases_eq (times_in k (index_at new j)) 0) [
+        | inl none ↦
+            let was : 0 < times_all k (indexes_of held) = omega (arith, some, none, listed_after held i j d new c k) in
+            let long = is.whole sure_before k was in
+            let still : block_at content' k ≡ block_at content k = kept k (omega (arith, (is.used k was).1)) long in
+            ap length still ∙ long
+        | inr fresh ↦ whole sure_before k (omega (arith, fresh))
+      ];
 }
 
 pub written_after : (content content' : List ℕ) (uses : ℕ → ℕ) (honest : Bool) (held : List Held) (i j : ℕ) (d new : Held) (f : Field) (name : List ℕ) (area : List Axis) (numbers : List ℤ) → FieldChanged held i j d new
@@ -196,7 +197,7 @@ intact_after content content' uses honest held i j d new f c is sure kept kind i
       | inr same ↦ subst (λ (x : Index). IsSpelled f.kind h.signature.domain x content') (sym same) (spelled_of content' held i j d f c.place c.field kind now)
     ] in
     let fields : FieldsIntact content' h.signature.domain h.signature.fields (set h.fields.items j (index_at new j)) =
-      fields_intact-set content' h.signature.domain h.signature.fields h.fields.items j f (index_at new j) kind (intact-at content' held i d c.place now) spelled in
+    fields_intact-set content' h.signature.domain h.signature.fields h.fields.items j f (index_at new j) kind (intact-at content' held i d c.place now) spelled in
     intact-set content' held i new now (rw (c.signature, c.fields) fields)
 
 size_field : (fields : List Index) (j : ℕ) → j < length fields → length (index_bytes (get_or fields j [])) ≤ fields_size fields
@@ -245,7 +246,7 @@ written_ok (Ok x) content content' uses honest held i j d new f k area numbers s
     λ sure name at.
     written_after content content' uses honest held i j d new f name area numbers c is sure kept kind at
     (subst (λ (t : FieldType). field_values t (get_or held i d).signature.domain (index_at new j) content' ≡ updated_values (get_or held i d).signature.domain area numbers (field_values t (get_or held i d).signature.domain (index_at (get_or held i d) j) content))
-      (sym same) (value sure))
+    (sym same) (value sure))
 
 pub refused_err : {T E : Type 0} (r : Result T E) (content content' : List ℕ) (uses : ℕ → ℕ) (honest : Bool) (held : List Held) (i j : ℕ) (d new : Held) → FieldChanged held i j d new
     → IsHeld content uses honest held → KeepsUsed uses (block_at content) (block_at content') → OnErr r (index_at new j ≡ index_at (get_or held i d) j)
@@ -356,12 +357,12 @@ held_remove content content' uses uses' honest honest' held i d is h same same_h
   each = All-from_recursion IsWhole (remove held i) (whole_remove held i (recursion_from_All IsWhole held is.each));
   apart = apart_remove held i is.apart;
   used = λ k some.
-    let total = times_all-remove k held i d h in
-    let was = is.used k (omega (arith, some, total)) in
-    (omega (arith, some, total, was.0), omega (arith, some, total, was.0, was.1, given k), was.2);
+      let total = times_all-remove k held i d h in
+      let was = is.used k (omega (arith, some, total)) in
+      (omega (arith, some, total, was.0), omega (arith, some, total, was.0, was.1, given k), was.2);
   whole = λ sure k some.
-    let total = times_all-remove k held i d h in
-    ap (λ (x : List ℕ). length (block_at x k)) same ∙ is.whole (subst (λ (b : Bool). IsTrue b) same_honest sure) k (omega (arith, some, total));
+      let total = times_all-remove k held i d h in
+      ap (λ (x : List ℕ). length (block_at x k)) same ∙ is.whole (subst (λ (b : Bool). IsTrue b) same_honest sure) k (omega (arith, some, total));
 }
 
 -- a store without coverages

@@ -25,7 +25,8 @@ pub(crate) struct Held {
 fn position_of(held: &[Held], name: &Name) -> Option<usize>
     ensures { result ≡ position (has_name name.now) held.now }
 {
-    held.iter().position(|coverage| coverage.signature.name == *name)
+    held.iter()
+        .position(|coverage| coverage.signature.name == *name)
 }
 
 /// The place of the coverage with a name.
@@ -59,7 +60,11 @@ fn copy_of(alloc: Global, signature: &Signature) -> Result<Signature, AllocError
     let name = signature.name.copy(alloc)?;
     let domain = signature.domain.copy(alloc)?;
     let fields = signature.fields.copy(alloc)?;
-    Ok(Signature { name, domain, fields })
+    Ok(Signature {
+        name,
+        domain,
+        fields,
+    })
 }
 
 /// Whether an index lists only tiles below a number.
@@ -119,7 +124,11 @@ pub(crate) fn give_back_fields<B: Blocks>(blocks: &mut B, fields: &[FieldIndex])
 
 impl Held {
     /// A coverage whose tiles are listed already: `Damaged` where one is past the domain's.
-    pub(crate) fn listed(alloc: Global, signature: &Signature, indexes: Vec<TileIndex>) -> Result<Held, Fault>
+    pub(crate) fn listed(
+        alloc: Global,
+        signature: &Signature,
+        indexes: Vec<TileIndex>,
+    ) -> Result<Held, Fault>
         requires { length indexes.items ≡ length signature.now.fields }
         ensures signature { IfOk result (λ h. h.signature ≡ signature.now) }
         ensures fields { IfOk result (λ h. h.fields.items ≡ indexes.items) }

@@ -40,7 +40,14 @@ pub(crate) fn cell_at<B: Blocks>(
     let fields = held.signature.fields.as_slice();
     let description = &fields[field];
     let index = &held.fields[field];
-    read_point(alloc, blocks, description.kind, &held.signature.domain, index, point)
+    read_point(
+        alloc,
+        blocks,
+        description.kind,
+        &held.signature.domain,
+        index,
+        point,
+    )
 }
 
 /// The stored numbers of a field at the points of a box, in row-major order, from the tiles that it meets.
@@ -71,7 +78,15 @@ pub(crate) fn cells_in<B: Blocks>(
     let description = &fields[field];
     let index = &held.fields[field];
     let _axes = area.axes();
-    read_area(alloc, blocks, description.kind, &held.signature.domain, index, area, tiles)
+    read_area(
+        alloc,
+        blocks,
+        description.kind,
+        &held.signature.domain,
+        index,
+        area,
+        tiles,
+    )
 }
 
 /// The stored numbers of a field in a tile, by its number, in row-major order.
@@ -100,5 +115,12 @@ pub(crate) fn tile_at<B: Blocks>(
     let description = &fields[field];
     let index = &held.fields[field];
     let _axes = held.signature.domain.axes();
-    read_tile_at(alloc, blocks, description.kind, &held.signature.domain, index, tile)
+    read_tile_at(
+        alloc,
+        blocks,
+        description.kind,
+        &held.signature.domain,
+        index,
+        tile,
+    )
 }

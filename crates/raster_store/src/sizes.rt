@@ -43,7 +43,10 @@ pub(crate) fn rest_size(held: &[Held], place: usize, field: usize, catalogue_byt
     let fields: &[FieldIndex] = &held[place].fields;
     let beside = fields_size(&fields[..field]).saturating_add(fields_size(&fields[field + 1..]));
     let others = held_size(&held[..place]).saturating_add(held_size(&held[place + 1..]));
-    others.saturating_add(beside).saturating_add(16).saturating_add(catalogue_bytes)
+    others
+        .saturating_add(beside)
+        .saturating_add(16)
+        .saturating_add(catalogue_bytes)
 }
 
 /// How many bytes the metadata takes with one more coverage, where the catalogue has `catalogue_bytes` bytes.

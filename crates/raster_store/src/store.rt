@@ -132,7 +132,13 @@ impl<B: Blocks> RasterStore<B> {
         ensures counts { FaultCounts result (B.failures self.old.blocks) (B.failures self.new.blocks) }
     {
         let place = place_held(&self.coverages, name);
-        let number = cell_at(self.alloc, &mut self.blocks, &self.coverages[place], field, point)?;
+        let number = cell_at(
+            self.alloc,
+            &mut self.blocks,
+            &self.coverages[place],
+            field,
+            point,
+        )?;
         self.fetched = self.fetched.saturating_add(1);
         Ok(number)
     }
@@ -180,7 +186,13 @@ impl<B: Blocks> RasterStore<B> {
         ensures counts { FaultCounts result (B.failures self.old.blocks) (B.failures self.new.blocks) }
     {
         let place = place_held(&self.coverages, name);
-        let cells = tile_at(self.alloc, &mut self.blocks, &self.coverages[place], field, tile)?;
+        let cells = tile_at(
+            self.alloc,
+            &mut self.blocks,
+            &self.coverages[place],
+            field,
+            tile,
+        )?;
         self.fetched = self.fetched.saturating_add(1);
         Ok(cells)
     }
@@ -218,7 +230,16 @@ impl<B: Blocks> RasterStore<B> {
             Err(_) => return Err(WriteFault::Device(Fault::NoMemory)),
         };
         let held: &mut [Held] = &mut self.coverages;
-        match write_at(self.alloc, &mut self.blocks, held, place, field, area, &numbers, catalogue_bytes) {
+        match write_at(
+            self.alloc,
+            &mut self.blocks,
+            held,
+            place,
+            field,
+            area,
+            &numbers,
+            catalogue_bytes,
+        ) {
             Ok(()) => Ok(()),
             Err(fault) => Err(WriteFault::Device(fault)),
         }
@@ -253,7 +274,16 @@ impl<B: Blocks> RasterStore<B> {
         check_cell(&self.coverages[place].signature, field, area, cell)?;
         let numbers = Numbers::Same(cell.stored());
         let held: &mut [Held] = &mut self.coverages;
-        match write_at(self.alloc, &mut self.blocks, held, place, field, area, &numbers, catalogue_bytes) {
+        match write_at(
+            self.alloc,
+            &mut self.blocks,
+            held,
+            place,
+            field,
+            area,
+            &numbers,
+            catalogue_bytes,
+        ) {
             Ok(()) => Ok(()),
             Err(fault) => Err(WriteFault::Device(fault)),
         }
@@ -363,7 +393,12 @@ impl<B: Blocks> RasterStore<B> {
     }
 
     /// The bytes of the index of a field, by its place, of the coverage with a name.
-    pub fn index_bytes(&self, alloc: Global, name: &Name, field: usize) -> Result<Vec<u8>, AllocError>
+    pub fn index_bytes(
+        &self,
+        alloc: Global,
+        name: &Name,
+        field: usize,
+    ) -> Result<Vec<u8>, AllocError>
         requires field { HasField name.now field self.now.coverages }
         ensures bytes { IfOk result (λ bytes. IsSomeAnd (index_of name.now field self.now.coverages self.now.indexes) (λ i. bytes.items ≡ index_bytes i)) }
     {

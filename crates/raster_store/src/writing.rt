@@ -137,7 +137,16 @@ fn write_field<B: Blocks>(
 {
     let fields: &mut [FieldIndex] = &mut held.fields;
     let index = &mut fields[field];
-    let written = write_area(alloc, blocks, kind, &held.signature.domain, index, area, numbers, rest);
+    let written = write_area(
+        alloc,
+        blocks,
+        kind,
+        &held.signature.domain,
+        index,
+        area,
+        numbers,
+        rest,
+    );
     let _listed = index.index();
     written
 }

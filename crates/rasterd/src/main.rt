@@ -23,6 +23,7 @@ const NO_COMMAND: u8 = 2;
 
 /// The refusals that are told before a disk is there.
 const NO_MEMORY: u16 = 90;
+
 const DISK_FAULT: u16 = 91;
 
 /// The command that the words after the program's name are, which is `FILE run`.

@@ -8,11 +8,13 @@ use std::alloc::{AllocError, Global};
 use std::test::Fail;
 
 /// Inserts a coverage, and fills it with 7.
-const WRITES: &[u8] = b"GET /ows?request=InsertCoverage&coverage=lai&domain=x(0:99)&fields=v:i16 HTTP/1.1\r\n\r\n\
+const WRITES: &[u8] =
+    b"GET /ows?request=InsertCoverage&coverage=lai&domain=x(0:99)&fields=v:i16 HTTP/1.1\r\n\r\n\
 GET /ows?request=UpdateCoverage&coverage=lai&field=v&box=x(0:99)&fill=7 HTTP/1.1\r\n\r\n";
 
 /// Asks for the greatest cell of the coverage.
-const ASKS: &[u8] = b"GET /ows?request=ProcessCoverages&query=for+c+in+(lai)+return+max(c) HTTP/1.1\r\n\r\n";
+const ASKS: &[u8] =
+    b"GET /ows?request=ProcessCoverages&query=for+c+in+(lai)+return+max(c) HTTP/1.1\r\n\r\n";
 
 /// How a session ended.
 #[derive(Drop)]
@@ -73,7 +75,10 @@ fn statuses_and_lines(rt: HostRuntime) -> Result<(), Fail> {
     let alloc = rt.alloc();
     let zeros = session(alloc, vec![in alloc; 0u8; 4096]?, b"");
     assert_eq!(rt; zeros.status, 3);
-    assert_eq!(rt; zeros.errors.as_slice(), b"not opened: 94 NotAStore\n".as_slice());
+    assert_eq!(rt;
+        zeros.errors.as_slice(),
+        b"not opened: 94 NotAStore\n".as_slice()
+    );
     let empty = session(alloc, Vec::new(alloc), b"");
     assert_eq!(rt; empty.status, 0);
     assert!(rt; empty.errors.is_empty());
@@ -83,7 +88,10 @@ fn statuses_and_lines(rt: HostRuntime) -> Result<(), Fail> {
     bytes[12] = 1;
     let open = session(alloc, bytes, b"");
     assert_eq!(rt; open.status, 3);
-    assert_eq!(rt; open.errors.as_slice(), b"not opened: 95 NotClosed\n".as_slice());
+    assert_eq!(rt;
+        open.errors.as_slice(),
+        b"not opened: 95 NotClosed\n".as_slice()
+    );
     Ok(())
 }
 

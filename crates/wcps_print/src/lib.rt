@@ -6,4 +6,3 @@ mod query;
 mod words;
 
 pub use query::print;
-

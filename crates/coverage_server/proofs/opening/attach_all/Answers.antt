@@ -39,8 +39,7 @@ loop-fields-preserved g c =
     let within = place_within _ _ _ _ _ _ _ _ _ c.loop-fields.invariant.0 c.requires.counted split in
     let content = ap g.B.Blocks.content c.loop-fields.invariant.1 in
     let attached = next_attached _ _ _ c.in-Some.fields.items _ _ _ _ _ c.index.result.now c.loop-fields.invariant.0 within (rw c.in_ok-signatures.ensures at c.index.ensures)
-        (rw content at c.in_default.ensures.coverages) c.in_default.ensures.indexes c.in_default.ensures.below in
-    (
+    (rw content at c.in_default.ensures.coverages) c.in_default.ensures.indexes c.in_default.ensures.below in (
       subst (λ (l : List (List Index)). IsAttached (g.B.Blocks.content c.args.cells.now.blocks) c.args.catalogue.now l c.attach.new.self.coverages c.attach.new.self.indexes (c.loop-fields.place + 1))
           (sym (items_push c.loop-fields.yielded c.in-Some.fields)) attached,
       c.attach.ensures.blocks ∙ c.loop-fields.invariant.1,

@@ -17,8 +17,9 @@ returns-then-not-holds-clause-refused c =
     let box : IsBoxOf c.args.signature.now.domain c.args.area.now = search rules in
     let unfit : Holds c.kind_of.result c.args.cell → ⊥ = search rules in
     let n = count c.args.area.now in
-    λ content indexes.
-    (box
-    , length-replicate n c.args.cell
-    , some_weaker _ (λ (f : Field). f.kind ≡ c.kind_of.result) (λ (f : Field). All (Holds f.kind) (replicate n c.args.cell) → ⊥)
-      (λ f e all. refused_cell f.kind n c.args.cell (count-pos c.args.area.now) (λ h. unfit (subst (λ (k : FieldType). Holds k c.args.cell) e h)) all) c.kind_of.ensures)
+    λ content indexes. (
+      box,
+      length-replicate n c.args.cell,
+      some_weaker _ (λ (f : Field). f.kind ≡ c.kind_of.result) (λ (f : Field). All (Holds f.kind) (replicate n c.args.cell) → ⊥)
+          (λ f e all. refused_cell f.kind n c.args.cell (count-pos c.args.area.now) (λ h. unfit (subst (λ (k : FieldType). Holds k c.args.cell) e h)) all) c.kind_of.ensures,
+    )

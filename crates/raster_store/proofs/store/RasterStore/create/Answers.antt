@@ -41,5 +41,5 @@ returns-clause-intact g c =
     let honest = g.B.Blocks.honest c.self.inside.blocks in
     let new = c.in_ok-held.held in
     let whole = λ (intact : AreIntact content (coverages_of content held) (indexes_of held)). subst (λ (l : List Held). AreIntact content (coverages_of content l) (indexes_of l)) (sym c.in_ok-push.ensures.items)
-      (intact_created content held new (length c.args.signature.now.fields) c.in_ok-held.ensures.fields intact) in
+    (intact_created content held new (length c.args.signature.now.fields) c.in_ok-held.ensures.fields intact) in
     rw (← c.self.view_is) whole
