@@ -23,7 +23,8 @@ use Rattle.wcps_text.specs.declared.tree.ListItem.{ListItem}
 use Rattle.wcps_text.specs.declared.tree.ListItem.TheVariants as list_items
 use Rattle.wcps_text.specs.Token.{Tok, name, word, sign}
 use Rattle.wcps_text.specs.Tree.{bounds}
-use Rattle.wcps_text.specs.Grammar.{Prefixes, negate, plus, not, binary_token, rank_of, max_rank, condense_token, truth_word, SpellsInt, unsigned, positive, negative, SpellsItem, int_item, truth_item, SpellsVariable, plain_name, dollar_name, IsFormat, csv_word, csv_quoted, text_csv_quoted}
+use Rattle.wcps_text.specs.Grammar.{Prefixes, negate, plus, not, binary_token, rank_of, condense_token, truth_word, SpellsInt, unsigned, positive, negative, SpellsItem, int_item, truth_item, SpellsVariable, plain_name, dollar_name, IsFormat, csv_word, csv_quoted, text_csv_quoted}
+use Rattle.wcps_text.proofs.Ranks.{rank_least}
 use Rattle.wcps_parse.specs.Front.{Reading, sign_at, word_at, name_at, variable_at, int_at, bounds_at, truth_at, item_at, prefix_at, operator, binary_at, condenser_at, postfix_at, format_at}
 
 pub sign_again : (s : Symbol) (rest : List Tok) → sign_at s (sign s ∷ rest) ≡ Some rest
@@ -87,36 +88,6 @@ operator_again binaries.NotEqual = refl
 operator_again binaries.And = refl
 operator_again binaries.Or = refl
 operator_again binaries.Xor = refl
-
-pub rank_least : (op : BinaryOp) → 0 < rank_of op
-rank_least binaries.Multiply = omega arith
-rank_least binaries.Divide = omega arith
-rank_least binaries.Add = omega arith
-rank_least binaries.Subtract = omega arith
-rank_least binaries.Less = omega arith
-rank_least binaries.LessEqual = omega arith
-rank_least binaries.Greater = omega arith
-rank_least binaries.GreaterEqual = omega arith
-rank_least binaries.Equal = omega arith
-rank_least binaries.NotEqual = omega arith
-rank_least binaries.And = omega arith
-rank_least binaries.Or = omega arith
-rank_least binaries.Xor = omega arith
-
-pub rank_most : (op : BinaryOp) → rank_of op ≤ max_rank
-rank_most binaries.Multiply = omega arith
-rank_most binaries.Divide = omega arith
-rank_most binaries.Add = omega arith
-rank_most binaries.Subtract = omega arith
-rank_most binaries.Less = omega arith
-rank_most binaries.LessEqual = omega arith
-rank_most binaries.Greater = omega arith
-rank_most binaries.GreaterEqual = omega arith
-rank_most binaries.Equal = omega arith
-rank_most binaries.NotEqual = omega arith
-rank_most binaries.And = omega arith
-rank_most binaries.Or = omega arith
-rank_most binaries.Xor = omega arith
 
 pub binary_again : (op : BinaryOp) (r : ℕ) (rest : List Tok) → rank_of op ≤ r → binary_at r (binary_token op ∷ rest) ≡ Some (op, rest)
 unfolding binary_at

@@ -1,5 +1,5 @@
 -- What is read with operators is spelled.
-use Rattle.std.proofs.Common.{◌≡◌, ℕ, zero, suc, ◌-◌, ◌<◌, ◌≤◌, ⊎_elim, true, false, List, ◌∷◌, Option, Some, None, sym, subst, arith}
+use Rattle.std.proofs.Common.{◌≡◌, ℕ, zero, suc, ◌-◌, ◌<◌, ◌≤◌, ⊎_elim, true, false, List, ◌∷◌, Some, None, sym, subst, arith}
 use Rattle.std.proofs.lemmas.Bool.Decides.{leb_tells}
 use Rattle.std.proofs.Math.Dec.{leb}
 use Rattle.wcps_text.specs.declared.token.Symbol.TheVariants as signs
@@ -9,13 +9,15 @@ use Rattle.wcps_text.specs.Tree as tree
 use Rattle.wcps_text.specs.Tree.{Tree}
 use Rattle.wcps_text.specs.Grammar as grammar
 use Rattle.wcps_text.specs.Grammar.{binary_token, rank_of, max_rank, Openness, closed, open_ended, Spells, SpellsPost, SpellsSubs}
+use Rattle.wcps_text.proofs.Ranks.{rank_most, rank_suc, raised}
+use Rattle.wcps_text.proofs.Fronts.{none_equal}
 use Rattle.wcps_parse.specs.declared.front.Postfix.{Postfix}
 use Rattle.wcps_parse.specs.declared.front.Postfix.TheVariants as postfixes
 use Rattle.wcps_parse.specs.Front.{binary_at, postfix_at}
 use Rattle.wcps_parse.specs.Reading.{Reader, subs_from, prim, postfix, behind, post, operand, climb, expression, level}
 use Rattle.wcps_parse.proofs.Options.{bind_ok, choose_ok, found_is}
 use Rattle.wcps_parse.proofs.Words.{sign_is, name_is, prefix_is, binary_is, postfix_is, postfix_sign, start_is}
-use Rattle.wcps_parse.proofs.Again.{binary_again, rank_least, rank_most, quiet_zero}
+use Rattle.wcps_parse.proofs.Again.{binary_again, quiet_zero}
 use Rattle.wcps_parse.proofs.Sound.{Ends, IsRead, IsSound, IsOpen, IsPrim, subs_read, begun_read}
 
 prim_read : (m : ℕ) (l : Reader) → IsSound l → (ts rest : List Tok) (e : Tree) → prim m l ts ≡ Some (e, rest) → IsPrim ts e rest
@@ -52,9 +54,6 @@ behind_read (suc m) l sound ts0 ts rest a e s h =
     let front = subst (λ (us : List Tok). SpellsPost ts0 a us) (postfix_is ts k.1 k.0 some) s in
     behind_read m l sound ts0 x.0.1 rest x.0.0 e (postfix_read m l sound k.0 ts0 k.1 x.0.1 a x.0.0 front x.1) x.2)
 
-some_none : {A : Type 0} {o : Option A} {a : A} → o ≡ Some a → o ≡ None → ⊥
-some_none e f = absurd cc
-
 -- nothing goes on behind an open form
 behind_open : (m : ℕ) (l : Reader) (ts0 ts rest : List Tok) (a e : Tree) → IsOpen ts0 a ts → behind m l a ts ≡ Some (e, rest) → IsOpen ts0 e rest
 unfolding behind
@@ -62,7 +61,7 @@ behind_open zero l ts0 ts rest a e s h = absurd cc
 behind_open (suc m) l ts0 ts rest a e s h =
     choose_ok _ _ _ _ h
     (λ none k. subst (λ (p : Tree × List Tok). IsOpen ts0 p.0 p.1) (found_is (a, ts) (e, rest) k) s)
-    (λ k some j. absurd (some_none some s.no_postfix))
+    (λ k some j. absurd (none_equal s.no_postfix some))
 
 closed_read : {ts rest : List Tok} {e : Tree} → IsPost ts e rest → IsRead 0 ts e rest
 closed_read {rest = rest} p = record { openness = closed; spelled = grammar.post p.spelled; ends = tt; quiet = quiet_zero rest; no_postfix = p.no_postfix }
@@ -94,28 +93,17 @@ abbrev pub Below : ℕ → List Tok → Type 0
 Below zero ts = Unit {0}
 Below (suc k) ts = binary_at k ts ≡ None
 
-pub raised : (o : Openness) (q r : ℕ) (ts rest : List Tok) (e : Tree) → q ≤ r → Spells o q ts e rest → Spells o r ts e rest
-raised o zero zero ts rest e le s = s
-raised o (suc q) zero ts rest e le s = absurd (omega arith)
-raised o q (suc r) ts rest e le s = ⊎_elim (λ (h : (leb q r ≡ true) × (q ≤ r)). grammar.tighter (raised o q r ts rest e h.1 s)) (λ (h : (leb q r ≡ false) × (r < q)). subst (λ (k : ℕ). Spells o k ts e rest) (same q r (omega (arith, h.1)) le) s) (leb_tells q r)
-  where
-    same : (q r : ℕ) → r < q → q ≤ suc r → q ≡ suc r
-    same q r lt le = omega arith
-
 -- the operator at the front is of the rank or a looser one
 reaches : (q : ℕ) (op : BinaryOp) (ts mid : List Tok) → Below q ts → ts ≡ binary_token op ∷ mid → q ≤ rank_of op
 reaches zero op ts mid below e = omega arith
 reaches (suc k) op ts mid below e =
-    ⊎_elim (λ (h : (leb (rank_of op) k ≡ true) × (rank_of op ≤ k)). absurd (some_none (binary_again op k mid h.1) (subst (λ (us : List Tok). binary_at k us ≡ None) e below)))
+    ⊎_elim (λ (h : (leb (rank_of op) k ≡ true) × (rank_of op ≤ k)). absurd (none_equal (subst (λ (us : List Tok). binary_at k us ≡ None) e below) (binary_again op k mid h.1)))
     (λ (h : (leb (rank_of op) k ≡ false) × (k < rank_of op)). omega (arith, h.1)) (leb_tells (rank_of op) k)
 
 -- what stands to the left of an operator is closed
 left_closed : (o : Openness) (q : ℕ) (ts0 ts mid : List Tok) (a : Tree) (op : BinaryOp) → Ends o ts → ts ≡ binary_token op ∷ mid → Spells o q ts0 a ts → Spells closed q ts0 a (binary_token op ∷ mid)
 left_closed closed q ts0 ts mid a op ends e s = subst (λ (us : List Tok). Spells closed q ts0 a us) e s
-left_closed open_ended q ts0 ts mid a op ends e s = absurd (some_none (binary_again op max_rank mid (rank_most op)) (subst (λ (us : List Tok). binary_at max_rank us ≡ None) e ends))
-
-before : (op : BinaryOp) → rank_of op ≡ suc (rank_of op - 1)
-before op = omega (arith, rank_least op)
+left_closed open_ended q ts0 ts mid a op ends e s = absurd (none_equal (subst (λ (us : List Tok). binary_at max_rank us ≡ None) e ends) (binary_again op max_rank mid (rank_most op)))
 
 climb_read : (m : ℕ) (l : Reader) → IsSound l → (o : Openness) (q r : ℕ) (ts0 ts rest : List Tok) (a e : Tree) → q ≤ r → Spells o q ts0 a ts → Ends o ts → Below q ts → postfix_at ts ≡ None → climb m l r a ts ≡ Some (e, rest) → IsRead r ts0 e rest
 unfolding climb
@@ -130,9 +118,9 @@ climb_read (suc m) l sound o q r ts0 ts rest a e le s ends below no_postfix h =
     let right = sound.reads (rank_of op.0 - 1) op.1 b.0.1 b.0.0 b.1 in
     let left = left_closed o q ts0 ts op.1 a op.0 ends is.at_front s in
     let high = raised closed q (rank_of op.0) ts0 (binary_token op.0 ∷ op.1) a (reaches q op.0 ts op.1 below is.at_front) left in
-    let first : Spells closed (suc (rank_of op.0 - 1)) ts0 a (binary_token op.0 ∷ op.1) = subst (λ (k : ℕ). Spells closed k ts0 a (binary_token op.0 ∷ op.1)) (before op.0) high in
-    let joined : Spells right.openness (suc (rank_of op.0 - 1)) ts0 (tree.binary op.0 a b.0.0) b.0.1 = grammar.binary op.0 (before op.0) first right.spelled in
-    climb_read m l sound right.openness (suc (rank_of op.0 - 1)) r ts0 b.0.1 rest (tree.binary op.0 a b.0.0) e (omega (arith, is.of_rank, before op.0)) joined right.ends right.quiet right.no_postfix b.2)
+    let first : Spells closed (suc (rank_of op.0 - 1)) ts0 a (binary_token op.0 ∷ op.1) = subst (λ (k : ℕ). Spells closed k ts0 a (binary_token op.0 ∷ op.1)) (rank_suc op.0) high in
+    let joined : Spells right.openness (suc (rank_of op.0 - 1)) ts0 (tree.binary op.0 a b.0.0) b.0.1 = grammar.binary op.0 (rank_suc op.0) first right.spelled in
+    climb_read m l sound right.openness (suc (rank_of op.0 - 1)) r ts0 b.0.1 rest (tree.binary op.0 a b.0.0) e (omega (arith, is.of_rank, rank_suc op.0)) joined right.ends right.quiet right.no_postfix b.2)
 
 expression_read : (m : ℕ) (l : Reader) → IsSound l → (r : ℕ) (ts rest : List Tok) (e : Tree) → expression m l r ts ≡ Some (e, rest) → IsRead r ts e rest
 unfolding expression

@@ -1,5 +1,5 @@
 -- What a value of an option that was made in steps tells of the steps.
-use Rattle.std.proofs.Common.{◌≡◌, Bool, true, false, cond, Option, Some, None, option_and_then, refl}
+use Rattle.std.proofs.Common.{◌≡◌, Option, Some, None, option_and_then, refl}
 use Rattle.wcps_parse.specs.Front.{choose}
 
 pub bind_ok : {A B : Type 0} (o : Option A) (f : A → Option B) (y : B) → option_and_then f o ≡ Some y → (x : A) × (o ≡ Some x) × (f x ≡ Some y)
@@ -15,7 +15,3 @@ found x = Some x
 
 pub found_is : {A : Type 0} (x y : A) → found x ≡ found y → x ≡ y
 found_is x y e = cc
-
-pub guard_ok : {A : Type 0} (b : Bool) (x y : A) → cond b (Some x) None ≡ Some y → (b ≡ true) × (x ≡ y)
-guard_ok true x y e = (refl, found_is x y e)
-guard_ok false x y e = absurd cc

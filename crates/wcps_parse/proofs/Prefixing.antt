@@ -1,17 +1,14 @@
 -- The operators before an operand, one after another.
 use Rattle.std.proofs.Common.{◌≡◌, ℕ, zero, suc, ◌+◌, ◌-◌, List, [], ◌∷◌, ◌++◌, length, take, drop, append_assoc, append-nil, arith, Some, None, refl, sym, ap, subst, ◌∙◌}
-use Rattle.std.proofs.Math.Seq.{take-length}
-use Rattle.std.proofs.lemmas.List.{length-drop}
+use Rattle.std.proofs.lemmas.List.{take_rest}
 use Rattle.wcps_text.specs.declared.token.Token.{Token}
 use Rattle.wcps_text.specs.declared.tree.UnaryOp.{UnaryOp}
 use Rattle.wcps_text.specs.Token.{Tok, tok, toks}
 use Rattle.wcps_text.specs.Tree.{Tree, unary}
+use Rattle.wcps_text.proofs.Fronts.{behind}
 use Rattle.wcps_parse.specs.Front.{prefix_at}
 use Rattle.wcps_parse.specs.Prefixes.{IsBehind, none, next, wrapped}
 use Rattle.wcps_parse.proofs.Words.{prefix_is}
-
-second_is : (t u : Tok) (ts us : List Tok) → t ∷ ts ≡ u ∷ us → us ≡ ts
-second_is t u ts us e = cc
 
 nothing_before : (us : List Tok) (op : UnaryOp) → prefix_at [] ≡ Some (op, us) → ⊥
 nothing_before us op e = let front = (prefix_is [] us op e).at_front in absurd cc
@@ -19,9 +16,7 @@ nothing_before us op e = let front = (prefix_is [] us op e).at_front in absurd c
 one_more : (tokens : List Token) (n : ℕ) (op : UnaryOp) (us : List Tok) → prefix_at (toks (drop n tokens)) ≡ Some (op, us) → us ≡ toks (drop (suc n) tokens)
 one_more [] zero op us e = absurd (nothing_before us op e)
 one_more [] (suc n) op us e = absurd (nothing_before us op e)
-one_more (t ∷ ts) zero op us e =
-    let front = prefix_is (tok t ∷ toks ts) us op e in
-    second_is (tok t) front.token (toks ts) us front.at_front
+one_more (t ∷ ts) zero op us e = sym (behind (prefix_is (tok t ∷ toks ts) us op e).at_front)
 one_more (t ∷ ts) (suc n) op us e = one_more ts n op us e
 
 -- what `&tokens[i..]` is
@@ -29,7 +24,7 @@ abbrev pub from : List Token → ℕ → List Token
 from tokens i = take (length tokens - i) (drop i tokens)
 
 from_is : (tokens : List Token) (i n : ℕ) → i ≡ n → from tokens i ≡ drop n tokens
-from_is tokens i n e = subst (λ (k : ℕ). take k (drop i tokens) ≡ drop i tokens) (length-drop i tokens) (take-length (drop i tokens)) ∙ ap (λ (k : ℕ). drop k tokens) e
+from_is tokens i n e = take_rest tokens i ∙ ap (λ (k : ℕ). drop k tokens) e
 
 pub prefixed_more : (tokens : List Token) (i n k : ℕ) (front items : List UnaryOp) (op : UnaryOp) (us : List Tok) → prefix_at (toks (from tokens i)) ≡ Some (op, us) → i ≡ n → k ≡ n + 1 → items ≡ front ++ op ∷ []
     → ((ops : List UnaryOp) (rest : List Tok) → IsBehind ops rest (toks (drop n tokens)) → IsBehind (front ++ ops) rest (toks tokens))
@@ -37,8 +32,8 @@ pub prefixed_more : (tokens : List Token) (i n k : ℕ) (front items : List Unar
 prefixed_more tokens i n k front items op us e at same pushed whole ops rest h =
     let here : prefix_at (toks (drop n tokens)) ≡ Some (op, us) = subst (λ (ts : List Token). prefix_at (toks ts) ≡ Some (op, us)) (from_is tokens i n at) e in
     let suc_is : k ≡ suc n = omega (arith, same) in
-    let behind : IsBehind ops rest us = subst (λ (vs : List Tok). IsBehind ops rest vs) (sym (one_more tokens n op us here)) (subst (λ (j : ℕ). IsBehind ops rest (toks (drop j tokens))) suc_is h) in
-    subst (λ (xs : List UnaryOp). IsBehind xs rest (toks tokens)) (sym (ap (λ (xs : List UnaryOp). xs ++ ops) pushed ∙ append_assoc front (op ∷ []) ops)) (whole (op ∷ ops) rest (next here behind))
+    let operators : IsBehind ops rest us = subst (λ (vs : List Tok). IsBehind ops rest vs) (sym (one_more tokens n op us here)) (subst (λ (j : ℕ). IsBehind ops rest (toks (drop j tokens))) suc_is h) in
+    subst (λ (xs : List UnaryOp). IsBehind xs rest (toks tokens)) (sym (ap (λ (xs : List UnaryOp). xs ++ ops) pushed ∙ append_assoc front (op ∷ []) ops)) (whole (op ∷ ops) rest (next here operators))
 
 pub prefixed_all : (tokens : List Token) (i j n : ℕ) (front : List UnaryOp) → ((ops : List UnaryOp) (rest : List Tok) → IsBehind ops rest (toks (drop n tokens)) → IsBehind (front ++ ops) rest (toks tokens))
     → prefix_at (toks (from tokens i)) ≡ None → i ≡ n → j ≡ n → IsBehind front (toks (from tokens j)) (toks tokens)

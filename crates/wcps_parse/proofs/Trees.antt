@@ -1,15 +1,15 @@
 -- What a tree shows whose variant has a list, and how high it is.
-use Rattle.std.proofs.Common.{◌≡◌, ℕ, List, [], ◌∷◌, map, max, Vec, Box, Option, Some, None, Global, refl, sym, ap, subst, ◌∙◌}
-use mathlib.Core.Former.{Count}
+use Rattle.std.proofs.Common.{◌≡◌, ℕ, List, [], ◌∷◌, map, max, Vec, Box, Option, Global, refl, sym, ap, subst, ◌∙◌}
 use Rattle.wcps_text.specs.declared.tree.CondenseOp.{CondenseOp}
 use Rattle.wcps_text.specs.declared.tree.ListItem.{ListItem}
 use Rattle.wcps_text.specs.declared.tree.Expr as exprs
-use Rattle.wcps_text.specs.declared.tree.Expr.{Expr, Record', ValueList', Brackets', Coverage', Condense', Row_of-Part, end_of-Part, more_of-Part, items-the_row-Part, Row_of-Sub, end_of-Sub, more_of-Sub, items-the_row-Sub, Row_of-Iter, end_of-Iter, more_of-Iter, items-the_row-Iter}
+use Rattle.wcps_text.specs.declared.tree.Expr.{Expr}
 use Rattle.wcps_text.specs.declared.tree.Part.{Part}
 use Rattle.wcps_text.specs.declared.tree.Sub.{Sub}
 use Rattle.wcps_text.specs.declared.tree.Iter.{Iter}
-use Rattle.wcps_text.specs.Tree.{Tree, parts, value_list, brackets, coverage, condense, part, sub, iter, Condition, always, only, view, view_place, view_interval, view_parts, view_subs, view_iters, condition_of}
+use Rattle.wcps_text.specs.Tree.{Tree, parts, value_list, brackets, coverage, condense, part, sub, Iters, iter, Condition, view, view_place, view_interval, parts_of, subs_of, iters_of, condition_of}
 use Rattle.wcps_text.specs.Limits.{height, parts_height, subs_height, iters_height, condition_height}
+use Rattle.wcps_text.proofs.Views.{view-Record, view-Brackets, view-ValueList, view-Coverage, view-Condense}
 use Rattle.wcps_parse.specs.Reading.{NamedTree, NamedPlace, NamedInterval, parts_from, subs_from, iters_from}
 use Rattle.wcps_parse.specs.declared.grown.Grown.{Grown}
 use Rattle.wcps_parse.specs.declared.grown.Grown.TheVariants.{Fits}
@@ -28,59 +28,32 @@ pub iters_high : (is : List NamedInterval) → iters_height (iters_from is) ≡ 
 iters_high [] = refl
 iters_high (i ∷ is) = ap (max (iter_height i)) (iters_high is)
 
-parts_are : (n : Count) (row : Row_of-Part n) → view_parts row ≡ parts_from (map part_view (items-the_row-Part n row))
-parts_are n end_of-Part = refl
-parts_are n (more_of-Part name value rest) = ap (part name (view value)) (parts_are _ rest)
+parts_named : (ps : List Part) → parts_of ps ≡ parts_from (map part_view ps)
+parts_named [] = refl
+parts_named (p ∷ ps) = ap (part p.name (view p.value)) (parts_named ps)
 
-abbrev parts_row : Expr → (n : Count) × Row_of-Part n
-parts_row (Record' shape row) = (_, row)
-parts_row _ = (_, end_of-Part)
+subs_named : (ss : List Sub) → subs_of ss ≡ subs_from (map sub_view ss)
+subs_named [] = refl
+subs_named (s ∷ ss) = ap (sub s.axis (view_place s.place)) (subs_named ss)
+
+iters_named : (is : List Iter) → iters_of is ≡ iters_from (map iter_view is)
+iters_named [] = refl
+iters_named (i ∷ is) = ap (iter i.variable i.axis (view_interval i.interval)) (iters_named is)
 
 pub record_shown : (v : Vec Part Global) → view (exprs.Record v) ≡ parts (parts_from (parts_view v))
-record_shown v =
-    let row = parts_row (exprs.Record v) in
-    ap parts (parts_are row.0 row.1 ∙ ap (λ (ps : List Part). parts_from (map part_view ps)) (exprs.items_hidden-the_row-Part-0 v))
-
-subs_are : (n : Count) (row : Row_of-Sub n) → view_subs row ≡ subs_from (map sub_view (items-the_row-Sub n row))
-subs_are n end_of-Sub = refl
-subs_are n (more_of-Sub axis place rest) = ap (sub axis (view_place place)) (subs_are _ rest)
-
-abbrev subs_row : Expr → (n : Count) × Row_of-Sub n
-subs_row (Brackets' p e shape row) = (_, row)
-subs_row _ = (_, end_of-Sub)
+record_shown v = view-Record v ∙ ap parts (parts_named v.items)
 
 pub brackets_shown : (b : Box Expr Global) (v : Vec Sub Global) → view (exprs.Brackets b v) ≡ brackets (view b.value) (subs_from (subs_view v))
-brackets_shown b v =
-    let row = subs_row (exprs.Brackets b v) in
-    ap (brackets (view b.value)) (subs_are row.0 row.1 ∙ ap (λ (ss : List Sub). subs_from (map sub_view ss)) (exprs.items_hidden-the_row-Sub-2 v))
-
-iters_are : (n : Count) (row : Row_of-Iter n) → view_iters row ≡ iters_from (map iter_view (items-the_row-Iter n row))
-iters_are n end_of-Iter = refl
-iters_are n (more_of-Iter v a i rest) = ap (iter v a (view_interval i)) (iters_are _ rest)
-
-abbrev iters_row : Expr → (n : Count) × Row_of-Iter n
-iters_row (ValueList' shape row its) = (_, row)
-iters_row (Coverage' shape row p e) = (_, row)
-iters_row (Condense' op shape row c p e) = (_, row)
-iters_row _ = (_, end_of-Iter)
+brackets_shown b v = view-Brackets b v ∙ ap (brackets (view b.value)) (subs_named v.items)
 
 pub value_list_shown : (v : Vec Iter Global) (w : Vec ListItem Global) → view (exprs.ValueList v w) ≡ value_list (iters_from (iters_view v)) w.items
-value_list_shown v w =
-    let row = iters_row (exprs.ValueList v w) in
-    ap (λ is. value_list is w.items) (iters_are row.0 row.1 ∙ ap (λ (is : List Iter). iters_from (map iter_view is)) (exprs.items_hidden-the_row-Iter-1 v))
+value_list_shown v w = view-ValueList v w ∙ ap (λ (is : Iters). value_list is w.items) (iters_named v.items)
 
 pub coverage_shown : (v : Vec Iter Global) (b : Box Expr Global) → view (exprs.Coverage v b) ≡ coverage (iters_from (iters_view v)) (view b.value)
-coverage_shown v b =
-    let row = iters_row (exprs.Coverage v b) in
-    ap (λ is. coverage is (view b.value)) (iters_are row.0 row.1 ∙ ap (λ (is : List Iter). iters_from (map iter_view is)) (exprs.items_hidden-the_row-Iter-1 v))
+coverage_shown v b = view-Coverage v b ∙ ap (λ (is : Iters). coverage is (view b.value)) (iters_named v.items)
 
 pub condense_shown : (op : CondenseOp) (v : Vec Iter Global) (o : Option (Box Expr Global)) (b : Box Expr Global) → view (exprs.Condense op v o b) ≡ condense op (iters_from (iters_view v)) (condition_of o) (view b.value)
-condense_shown op v None b =
-    let row = iters_row (exprs.Condense op v None b) in
-    ap (λ is. condense op is always (view b.value)) (iters_are row.0 row.1 ∙ ap (λ (is : List Iter). iters_from (map iter_view is)) (exprs.items_hidden-the_row-Iter-1 v))
-condense_shown op v (Some c) b =
-    let row = iters_row (exprs.Condense op v (Some c) b) in
-    ap (λ is. condense op is (only (view c.value)) (view b.value)) (iters_are row.0 row.1 ∙ ap (λ (is : List Iter). iters_from (map iter_view is)) (exprs.items_hidden-the_row-Iter-1 v))
+condense_shown op v o b = view-Condense op v o b ∙ ap (λ (is : Iters). condense op is (condition_of o) (view b.value)) (iters_named v.items)
 
 pub value_list_fits : (g : Grown (Vec Iter Global)) (v : Vec Iter Global) (h : ℕ) (w : Vec ListItem Global) (is : List NamedInterval) → g ≡ Fits v h → Fit iters_view (highest iter_height) g is
     → (view (exprs.ValueList v w) ≡ value_list (iters_from is) w.items) × (h ≡ iters_height (iters_from is))

@@ -1,6 +1,7 @@
 -- What the tokens at the front are, where something was found there.
 use Rattle.std.proofs.Common.{◌≡◌, ℕ, ℤ, ◌≤◌, ◌⊎◌, inl, inr, ⊎_elim, Bool, true, false, ◌||◌, List, [], ◌∷◌, Some, refl, ap, subst, ◌∙◌}
 use Rattle.std.proofs.lemmas.Bool.{leb-true}
+use Rattle.std.proofs.lemmas.Option.{cond_some}
 use Rattle.std.proofs.lemmas.Slice.Eq.{bytes_eq-Decides}
 use denote.Enum.Bare.{sameb, same_true}
 use Rattle.wcps_text.specs.contracts.token.Symbol as symbol
@@ -24,19 +25,19 @@ use Rattle.wcps_text.specs.Grammar.{Prefixes, negate, plus, not, binary_token, r
 use Rattle.wcps_parse.specs.declared.front.Postfix.{Postfix}
 use Rattle.wcps_parse.specs.declared.front.Postfix.TheVariants as postfixes
 use Rattle.wcps_parse.specs.Front.{sign_at, word_at, name_at, variable_at, int_at, bounds_at, truth_at, item_at, prefix_at, operator, binary_at, condenser_at, postfix_at, Begin, with_number, with_truth, with_variable, with_paren, with_brace, with_abs, with_bit, with_reduce, with_coverage, with_condense, start_at, is_csv, format_at}
-use Rattle.wcps_parse.proofs.Options.{bind_ok, choose_ok, found_is, guard_ok}
+use Rattle.wcps_parse.proofs.Options.{bind_ok, choose_ok, found_is}
 
 pub sign_is : (s : Symbol) (ts rest : List Tok) → sign_at s ts ≡ Some rest → ts ≡ sign s ∷ rest
 unfolding sign_at
 sign_is s (sign t ∷ ts) rest e =
-    let g = guard_ok (sameb symbol.the_type t s) ts rest e in
+    let g = cond_some (sameb symbol.the_type t s) ts rest e in
     ap (λ (x : Symbol). sign x ∷ ts) (same_true symbol.the_type tt t s g.0) ∙ ap (λ (us : List Tok). sign s ∷ us) g.1
 sign_is s _ rest e = absurd cc
 
 pub word_is : (s : Keyword) (ts rest : List Tok) → word_at s ts ≡ Some rest → ts ≡ word s ∷ rest
 unfolding word_at
 word_is s (word t ∷ ts) rest e =
-    let g = guard_ok (sameb keyword.the_type t s) ts rest e in
+    let g = cond_some (sameb keyword.the_type t s) ts rest e in
     ap (λ (x : Keyword). word x ∷ ts) (same_true keyword.the_type tt t s g.0) ∙ ap (λ (us : List Tok). word s ∷ us) g.1
 word_is s _ rest e = absurd cc
 
@@ -116,7 +117,7 @@ unfolding binary_at
 binary_is r [] rest op e = absurd cc
 binary_is r (t ∷ ts) rest op e =
     let o = bind_ok _ _ _ e in
-    let g = guard_ok _ _ _ o.2 in
+    let g = cond_some _ _ _ o.2 in
     let at : t ≡ binary_token o.0 = operator_is t o.0 o.1 in
     subst (λ (p : BinaryOp × List Tok). IsOperator r (t ∷ ts) p.0 p.1) g.1 (record { at_front = ap (λ (u : Tok). u ∷ ts) at; of_rank = leb-true _ _ g.0 })
 
@@ -188,7 +189,7 @@ pub format_is : (ts rest : List Tok) → format_at ts ≡ Some rest → StandsFo
 unfolding format_at
 format_is (word words.Csv ∷ ts) rest e = record { token = word words.Csv; at_front = ap (λ (us : List Tok). word words.Csv ∷ us) (found_is ts rest e); is_format = csv_word }
 format_is (quoted w ∷ ts) rest e =
-    let g = guard_ok (is_csv w) ts rest e in
+    let g = cond_some (is_csv w) ts rest e in
     record {
       token = quoted w;
       at_front = ap (λ (us : List Tok). quoted w ∷ us) g.1;

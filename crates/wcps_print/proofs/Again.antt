@@ -1,5 +1,5 @@
 -- What some tokens spell, the printed tokens spell too.
-use Rattle.std.proofs.Common.{◌≡◌, ℕ, zero, suc, ◌-◌, ◌^◌, ◌<◌, cond, ltb, ℤ, pos, negsuc, ◌-ℤ◌, Bool, true, false, IsTrue, List, [], ◌∷◌, length, map, codes, Ok, refl, sym, ap, ◌∙◌, arith, subst}
+use Rattle.std.proofs.Common.{◌≡◌, ℕ, zero, suc, ◌-◌, ◌^◌, ◌<◌, cond, ltb, ℤ, pos, negsuc, ◌-ℤ◌, Bool, true, false, List, [], ◌∷◌, length, map, codes, refl, sym, ap, arith, subst}
 use Rattle.std.proofs.lemmas.Bool.Decides.{nat_tests}
 use Rattle.std.specs.Char.{to_ascii_lowercase}
 use Rattle.wcps_text.specs.declared.token.Symbol.TheVariants as signs
@@ -11,15 +11,15 @@ use Rattle.wcps_text.specs.declared.tree.BinaryOp.{BinaryOp}
 use Rattle.wcps_text.specs.declared.tree.BinaryOp.TheVariants as binaries
 use Rattle.wcps_text.specs.declared.tree.CondenseOp.{CondenseOp}
 use Rattle.wcps_text.specs.declared.tree.CondenseOp.TheVariants as condensers
-use Rattle.wcps_text.specs.declared.tree.ReduceOp.{ReduceOp}
 use Rattle.wcps_text.specs.declared.tree.ListItem.{ListItem}
 use Rattle.wcps_text.specs.declared.tree.ListItem.TheVariants as list_items
-use Rattle.wcps_text.specs.Token.{Tok, number, name, dollar, quoted, word, sign}
+use Rattle.wcps_text.specs.Token.{Tok, number, name, word, sign}
 use Rattle.wcps_text.specs.Tree as tree
 use Rattle.wcps_text.specs.Tree.{Tree, Parts, no_parts, part, Subs, no_subs, sub, PlaceTree, trim, at, IntervalTree, bounds, domain, Iters, no_iters, iter, Condition, always, only, BindingTree, ItemTree, encode, plain, QueryTree}
-use Rattle.wcps_text.specs.Lexing.{keyword_text, IsWritten, is_name, Reads, plain as plain_form}
-use Rattle.wcps_text.specs.Grammar.{Prefixes, negate, plus, not, binary_token, condense_token, reduce_word, truth_word, rank_of, max_rank, Openness, closed, open_ended, SpellsInt, unsigned, positive, negative, SpellsItem, int_item, truth_item, SpellsItems, last_item, more_items, SpellsVariable, plain_name, dollar_name, Spells, post, coverage, condense, unary, tighter, binary, SpellsInParens, parens, SpellsPost, literal, truth, variable, grouped, abs, bit, reduce, parts, value_list, field, brackets, SpellsPart, named, SpellsParts, last_part, more_parts, SpellsSub, of_axis, SpellsSubs, last_sub, more_subs, SpellsPlace, trimmed, position, SpellsInterval, between, domain_of, SpellsIter, iterator, SpellsIters, last_iter, more_iters, SpellsCondition, unconditional, conditional, SpellsNames, last_name, more_names, SpellsBinding, stands_for, SpellsBindings, last_binding, more_bindings, IsFormat, csv_word, SpellsReturn, encoded, unencoded, SpellsEnd, for_all, for_some, IsSpelled, query}
-use Rattle.wcps_print.specs.Printing.{name_token, int_tokens, unary_token, items_tokens, head_tokens, expr_tokens, parts_tokens, subs_tokens, place_tokens, interval_tokens, iters_tokens, condition_tokens, names_tokens, bindings_tokens, item_tokens, query_tokens}
+use Rattle.wcps_text.specs.Lexing.{keyword_text, IsWritten, is_name, plain as plain_form}
+use Rattle.wcps_text.specs.Grammar.{Prefixes, negate, plus, not, binary_token, condense_token, truth_word, rank_of, max_rank, Openness, closed, open_ended, SpellsInt, unsigned, positive, negative, SpellsItem, int_item, truth_item, SpellsItems, last_item, more_items, SpellsVariable, plain_name, dollar_name, Spells, post, coverage, condense, unary, tighter, binary, SpellsInParens, parens, SpellsPost, literal, truth, variable, grouped, abs, bit, reduce, parts, value_list, field, brackets, named, SpellsParts, last_part, more_parts, of_axis, SpellsSubs, last_sub, more_subs, SpellsPlace, trimmed, position, SpellsInterval, between, domain_of, iterator, SpellsIters, last_iter, more_iters, SpellsCondition, unconditional, conditional, SpellsNames, last_name, more_names, stands_for, SpellsBindings, last_binding, more_bindings, csv_word, SpellsReturn, encoded, unencoded, SpellsEnd, for_all, for_some, IsSpelled, query}
+use Rattle.wcps_text.proofs.Ranks.{rank_most, rank_suc, raised}
+use Rattle.wcps_print.specs.Printing.{name_token, int_tokens, unary_token, items_tokens, expr_tokens, parts_tokens, subs_tokens, place_tokens, interval_tokens, iters_tokens, condition_tokens, names_tokens, bindings_tokens, item_tokens, query_tokens}
 use Rattle.wcps_print.proofs.Written.{Proper, Written, Each, name_as_name, dollar_as_dollar}
 
 -- what an expression is printed as spells it, before any rest
@@ -28,51 +28,16 @@ pub record Again (e : Tree) : Type 0 where
   pub spelled : (rest : List Tok) → Spells openness max_rank (expr_tokens e rest) e rest
   pub written : (rest : List Tok) → Each Written rest → Each Written (expr_tokens e rest)
 
-up1 : {o : Openness} {ts rest : List Tok} {e : Tree} → Spells o 0 ts e rest → Spells o 1 ts e rest
-up1 s = tighter {r = 0} s
-
-up2 : {o : Openness} {ts rest : List Tok} {e : Tree} → Spells o 0 ts e rest → Spells o 2 ts e rest
-up2 s = tighter {r = 1} (up1 s)
-
-up3 : {o : Openness} {ts rest : List Tok} {e : Tree} → Spells o 0 ts e rest → Spells o 3 ts e rest
-up3 s = tighter {r = 2} (up2 s)
-
-up4 : {o : Openness} {ts rest : List Tok} {e : Tree} → Spells o 0 ts e rest → Spells o 4 ts e rest
-up4 s = tighter {r = 3} (up3 s)
-
-up5 : {o : Openness} {ts rest : List Tok} {e : Tree} → Spells o 0 ts e rest → Spells o max_rank ts e rest
-up5 s = tighter {r = 4} (up4 s)
+-- what is spelled at the tightest rank is spelled at the loosest
+loosest : {o : Openness} {ts rest : List Tok} {e : Tree} → Spells o 0 ts e rest → Spells o max_rank ts e rest
+loosest s = raised _ 0 max_rank _ _ _ (omega arith) s
 
 -- an operator between two operands in parentheses
-at_rank_1 : {ts mid rest : List Tok} {a b : Tree} (op : BinaryOp) → rank_of op ≡ 1 → Spells closed 0 ts a (binary_token op ∷ mid) → Spells closed 0 mid b rest → Spells closed max_rank ts (tree.binary op a b) rest
-at_rank_1 op same sa sb = tighter {r = 4} (tighter {r = 3} (tighter {r = 2} (tighter {r = 1} (binary {r = 0} op same (up1 sa) sb))))
-
-at_rank_2 : {ts mid rest : List Tok} {a b : Tree} (op : BinaryOp) → rank_of op ≡ 2 → Spells closed 0 ts a (binary_token op ∷ mid) → Spells closed 0 mid b rest → Spells closed max_rank ts (tree.binary op a b) rest
-at_rank_2 op same sa sb = tighter {r = 4} (tighter {r = 3} (tighter {r = 2} (binary {r = 1} op same (up2 sa) (up1 sb))))
-
-at_rank_3 : {ts mid rest : List Tok} {a b : Tree} (op : BinaryOp) → rank_of op ≡ 3 → Spells closed 0 ts a (binary_token op ∷ mid) → Spells closed 0 mid b rest → Spells closed max_rank ts (tree.binary op a b) rest
-at_rank_3 op same sa sb = tighter {r = 4} (tighter {r = 3} (binary {r = 2} op same (up3 sa) (up2 sb)))
-
-at_rank_4 : {ts mid rest : List Tok} {a b : Tree} (op : BinaryOp) → rank_of op ≡ 4 → Spells closed 0 ts a (binary_token op ∷ mid) → Spells closed 0 mid b rest → Spells closed max_rank ts (tree.binary op a b) rest
-at_rank_4 op same sa sb = tighter {r = 4} (binary {r = 3} op same (up4 sa) (up3 sb))
-
-at_rank_5 : {ts mid rest : List Tok} {a b : Tree} (op : BinaryOp) → rank_of op ≡ 5 → Spells closed 0 ts a (binary_token op ∷ mid) → Spells closed 0 mid b rest → Spells closed max_rank ts (tree.binary op a b) rest
-at_rank_5 op same sa sb = binary {r = 4} op same (up5 sa) (up4 sb)
-
 between_operands : {ts mid rest : List Tok} {a b : Tree} (op : BinaryOp) → Spells closed 0 ts a (binary_token op ∷ mid) → Spells closed 0 mid b rest → Spells closed max_rank ts (tree.binary op a b) rest
-between_operands binaries.Multiply sa sb = at_rank_1 binaries.Multiply refl sa sb
-between_operands binaries.Divide sa sb = at_rank_1 binaries.Divide refl sa sb
-between_operands binaries.Add sa sb = at_rank_2 binaries.Add refl sa sb
-between_operands binaries.Subtract sa sb = at_rank_2 binaries.Subtract refl sa sb
-between_operands binaries.Less sa sb = at_rank_3 binaries.Less refl sa sb
-between_operands binaries.LessEqual sa sb = at_rank_3 binaries.LessEqual refl sa sb
-between_operands binaries.Greater sa sb = at_rank_3 binaries.Greater refl sa sb
-between_operands binaries.GreaterEqual sa sb = at_rank_3 binaries.GreaterEqual refl sa sb
-between_operands binaries.Equal sa sb = at_rank_3 binaries.Equal refl sa sb
-between_operands binaries.NotEqual sa sb = at_rank_3 binaries.NotEqual refl sa sb
-between_operands binaries.And sa sb = at_rank_4 binaries.And refl sa sb
-between_operands binaries.Or sa sb = at_rank_5 binaries.Or refl sa sb
-between_operands binaries.Xor sa sb = at_rank_5 binaries.Xor refl sa sb
+between_operands {ts} {mid} {rest} {a} {b} op sa sb =
+    let r = rank_of op - 1 in
+    let joined : Spells closed (suc r) ts (tree.binary op a b) rest = binary op (rank_suc op) (raised closed 0 (suc r) ts (binary_token op ∷ mid) a (omega arith) sa) (raised closed 0 r mid rest b (omega arith) sb) in
+    raised closed (suc r) max_rank ts rest (tree.binary op a b) (omega (arith, rank_suc op, rank_most op)) joined
 
 written_binary : (op : BinaryOp) → Written (binary_token op)
 written_binary binaries.Multiply = tt
@@ -269,7 +234,7 @@ unary_again : {e : Tree} (op : UnaryOp) → Prefixes op (unary_token op) → Wri
 unfolding expr_tokens
 unary_again op prefix token a = record {
   openness = closed;
-  spelled = λ rest. up5 (unary prefix (operand a rest));
+  spelled = λ rest. loosest (unary prefix (operand a rest));
   written = λ rest w. (token, written_operand a rest w);
 }
 
@@ -291,7 +256,7 @@ mutual
       let b = again s i.1.1 in (
         record {
           openness = open_ended;
-          spelled = λ rest. up5 (coverage (i.0.spelled _) (up5 (operand b.0 rest)));
+          spelled = λ rest. loosest (coverage (i.0.spelled _) (loosest (operand b.0 rest)));
           written = λ rest w. (tt, (any_name, (tt, i.0.written _ (tt, written_operand b.0 rest w))));
         },
         b.1,
@@ -301,7 +266,7 @@ mutual
       let b = again s c.1.1 in (
         record {
           openness = open_ended;
-          spelled = λ rest. up5 (condense op (c.0.spelled _) (up5 (operand b.0 rest)));
+          spelled = λ rest. loosest (condense op (c.0.spelled _) (loosest (operand b.0 rest)));
           written = λ rest w. (tt, (written_condense op, (tt, c.0.written _ (tt, written_operand b.0 rest w))));
         },
         b.1,
@@ -319,37 +284,37 @@ mutual
   again_parens (parens s) p = let a = again s p.1 in (a.0, a.1.1)
 
   again_post : {ts rest : List Tok} {e : Tree} → SpellsPost ts e rest → Each Proper ts → Again e × Each Proper rest
-  again_post literal p = (record { openness = closed; spelled = λ rest. up5 (post literal); written = λ rest w. (p.0, w) }, p.1)
-  again_post truth p = (record { openness = closed; spelled = λ rest. up5 (post truth); written = λ rest w. (tt, w) }, p.1)
+  again_post literal p = (record { openness = closed; spelled = λ rest. loosest (post literal); written = λ rest w. (p.0, w) }, p.1)
+  again_post truth p = (record { openness = closed; spelled = λ rest. loosest (post truth); written = λ rest w. (tt, w) }, p.1)
   again_post (variable sv) p =
       let v = again_variable sv p in
-      (record { openness = closed; spelled = λ rest. up5 (post (variable (v.0.spelled rest))); written = λ rest w. (v.0.written, w) }, v.1)
+      (record { openness = closed; spelled = λ rest. loosest (post (variable (v.0.spelled rest))); written = λ rest w. (v.0.written, w) }, v.1)
   again_post (grouped s) p = again_parens s p
   again_post (abs s) p =
       let a = again_parens s p.1 in
-      (record { openness = closed; spelled = λ rest. up5 (post (abs (in_parens a.0 rest))); written = λ rest w. (tt, written_operand a.0 rest w) }, a.1)
+      (record { openness = closed; spelled = λ rest. loosest (post (abs (in_parens a.0 rest))); written = λ rest w. (tt, written_operand a.0 rest w) }, a.1)
   again_post (bit sa sb) p =
       let a = again sa p.1.1 in
       let b = again sb a.1.1 in (
         record {
           openness = closed;
-          spelled = λ rest. up5 (post (bit (a.0.spelled _) (b.0.spelled _)));
+          spelled = λ rest. loosest (post (bit (a.0.spelled _) (b.0.spelled _)));
           written = λ rest w. (tt, (tt, a.0.written _ (tt, b.0.written _ (tt, w))));
         },
         b.1.1,
       )
   again_post (reduce op s) p =
       let a = again_parens s p.1 in
-      (record { openness = closed; spelled = λ rest. up5 (post (reduce op (in_parens a.0 rest))); written = λ rest w. (tt, written_operand a.0 rest w) }, a.1)
+      (record { openness = closed; spelled = λ rest. loosest (post (reduce op (in_parens a.0 rest))); written = λ rest w. (tt, written_operand a.0 rest w) }, a.1)
   again_post (parts s) p =
       let a = again_parts s p.1 in
-      (record { openness = closed; spelled = λ rest. up5 (post (parts (a.0.spelled _))); written = λ rest w. (tt, a.0.written _ (tt, w)) }, a.1.1)
+      (record { openness = closed; spelled = λ rest. loosest (post (parts (a.0.spelled _))); written = λ rest w. (tt, a.0.written _ (tt, w)) }, a.1.1)
   again_post (value_list si sx) p =
       let i = again_iters si p.1.1.1 in
       let x = again_items sx i.1.1.1.1 in (
         record {
           openness = closed;
-          spelled = λ rest. up5 (post (value_list (i.0.spelled _) (x.0.spelled _)));
+          spelled = λ rest. loosest (post (value_list (i.0.spelled _) (x.0.spelled _)));
           written = λ rest w. (tt, (any_name, (tt, i.0.written _ (tt, (tt, (tt, x.0.written _ (tt, w)))))));
         },
         x.1.1,
@@ -359,7 +324,7 @@ mutual
       let n = name_again x a.1.1.0 in (
         record {
           openness = closed;
-          spelled = λ rest. rw n.same (up5 (post (field (grouped (in_parens a.0 (sign signs.Dot ∷ name x ∷ rest))))));
+          spelled = λ rest. rw n.same (loosest (post (field (grouped (in_parens a.0 (sign signs.Dot ∷ name x ∷ rest))))));
           written = λ rest w. written_operand a.0 _ (tt, (n.written, w));
         },
         a.1.1.1,
@@ -369,7 +334,7 @@ mutual
       let b = again_subs ss a.1.1 in (
         record {
           openness = closed;
-          spelled = λ rest. up5 (post (brackets (grouped (in_parens a.0 _)) (b.0.spelled _)));
+          spelled = λ rest. loosest (post (brackets (grouped (in_parens a.0 _)) (b.0.spelled _)));
           written = λ rest w. written_operand a.0 _ (tt, b.0.written _ (tt, w));
         },
         b.1.1,
@@ -471,7 +436,7 @@ mutual
       let i = again_iters si p in
       let c = again s i.1.1 in (
         record {
-          spelled = λ rest. conditional (i.0.spelled _) (up5 (operand c.0 rest));
+          spelled = λ rest. conditional (i.0.spelled _) (loosest (operand c.0 rest));
           written = λ rest w. i.0.written _ (tt, written_operand c.0 rest w);
         },
         c.1,
@@ -551,7 +516,7 @@ again_end (for_all s) p = let r = again_return s p.1 in record { spelled = for_a
 again_end (for_some s sr) p =
     let a = again s p.1 in
     let r = again_return sr a.1.1 in
-    record { spelled = for_some (up5 (operand a.0 _)) r.spelled; written = (tt, written_operand a.0 _ (tt, r.written)) }
+    record { spelled = for_some (loosest (operand a.0 _)) r.spelled; written = (tt, written_operand a.0 _ (tt, r.written)) }
 
 pub record AgainQuery (q : QueryTree) : Type 0 where
   pub spelled : IsSpelled (query_tokens q) q

@@ -1,17 +1,19 @@
 -- The text of tokens, with a space behind each, is cut into just these tokens.
-use Rattle.std.proofs.Common.{◌≡◌, ◌≢◌, ◌==◌, ℕ, zero, suc, ◌+◌, ◌-◌, ◌*◌, ◌/◌, ◌%◌, ◌^◌, ◌<◌, ◌≤◌, Bool, true, false, cond, not, ◌&&◌, ◌||◌, ltb, leb, IsTrue, List, [], ◌∷◌, ◌++◌, length, map, codes, get_or, ◌⊎◌, inl, inr, ⊎_elim, Option, Some, None, Result, Ok, Err, decimal as decimal_text, refl, sym, ap, ◌∙◌, arith, subst, append_assoc}
+use Rattle.std.proofs.Common.{◌≡◌, ◌≢◌, ◌==◌, ℕ, ◌+◌, ◌-◌, ◌*◌, ◌/◌, ◌%◌, ◌^◌, ◌<◌, ◌≤◌, Bool, true, not, List, [], ◌∷◌, ◌++◌, length, get_or, ⊎_elim, Some, Result, Ok, decimal as decimal_text, refl, sym, ap, ◌∙◌, arith, subst}
+use Rattle.std.proofs.lemmas.Bool.{false≢true}
 use Rattle.std.proofs.lemmas.Bool.Decides.{nat_tests, eqb_tells}
+use Rattle.std.proofs.lemmas.Option.{none-some}
 use Rattle.std.proofs.lemmas.Fmt.{decimal_by_steps}
-use Rattle.std.specs.Char.{is_ascii_digit, to_ascii_lowercase}
+use Rattle.std.specs.Char.{is_ascii_digit}
 use Rattle.wcps_text.specs.declared.token.Symbol.{Symbol}
 use Rattle.wcps_text.specs.declared.token.Symbol.TheVariants as signs
 use Rattle.wcps_text.specs.declared.token.Keyword.{Keyword}
 use Rattle.wcps_text.specs.declared.token.Keyword.TheVariants as words
 use Rattle.wcps_text.specs.declared.error.LexError.{LexError}
 use Rattle.wcps_text.specs.Token.{Tok, number, name, dollar, quoted, word, sign}
-use Rattle.wcps_text.specs.Lexing.{is_space, begins_name, continues_name, is_quotable, Every, decimal, decimal_from, keyword_text, symbol_text, IsWritten, single, double, IsName, is_name, IsDigits, is_digits, Reads, numeral, large_numeral, plain, reserved, long_plain, marked, long_marked, text_between, one_byte, two_bytes, IsLongest, Piece, Lexed, at_end, past_space, past_token}
+use Rattle.wcps_text.specs.Lexing.{begins_name, continues_name, Every, decimal, decimal_from, keyword_text, symbol_text, single, double, IsName, is_name, IsDigits, is_digits, Reads, numeral, large_numeral, plain, reserved, long_plain, marked, long_marked, text_between, one_byte, two_bytes, IsLongest, Piece, Lexed, at_end, past_space, past_token, tokens_of}
+use Rattle.wcps_text.proofs.Fronts.{ahead, behind, digit_low, letter_low}
 use Rattle.wcps_print.specs.Printing.{bytes_of, text_of}
-use Rattle.wcps_print.specs.Printed.{tokens_of}
 use Rattle.wcps_print.proofs.Written.{Written, Each}
 
 -- the digits of a number
@@ -128,16 +130,13 @@ every_dense : (p : ℕ → Bool) (bs : List ℕ) → ((b : ℕ) → p b ≡ true
 every_dense p [] f all = tt
 every_dense p (b ∷ bs) f all = (f b all.0, every_dense p bs f all.1)
 
-none_some : {s : Symbol} → None ≡ Some s → ⊥
-none_some e = cc
-
 single_dense : (b : ℕ) (s : Symbol) → single b ≡ Some s → dense b ≡ true
 single_dense b s e =
-    ⊎_elim (λ same. absurd (none_some (subst (λ (c : ℕ). single c ≡ Some s) same.1 e))) (λ other. rw other.0 refl) (eqb_tells b 32)
+    ⊎_elim (λ same. absurd (none-some s (subst (λ (c : ℕ). single c ≡ Some s) same.1 e))) (λ other. rw other.0 refl) (eqb_tells b 32)
 
 double_dense : (b : ℕ) (s : Symbol) → double b ≡ Some s → dense b ≡ true
 double_dense b s e =
-    ⊎_elim (λ same. absurd (none_some (subst (λ (c : ℕ). double c ≡ Some s) same.1 e))) (λ other. rw other.0 refl) (eqb_tells b 32)
+    ⊎_elim (λ same. absurd (none-some s (subst (λ (c : ℕ). double c ≡ Some s) same.1 e))) (λ other. rw other.0 refl) (eqb_tells b 32)
 
 name_dense : {w : List ℕ} → IsName w → Every dense w
 name_dense (is_name {c} {cs} begin more) = (letter_dense c begin, every_dense continues_name cs continued_dense more)
@@ -164,16 +163,10 @@ record Begins (w : List ℕ) : Type 0 where
   unquoted : get_or w 0 0 ≢ 34
 
 name_begins : {w : List ℕ} → IsName w → Begins w
-name_begins (is_name {c} {cs} begin more) = record { some = omega arith; unquoted = λ same. absurd (omega (arith, low c begin)) }
-  where
-    low : (c : ℕ) → begins_name c ≡ true → 65 ≤ c
-    low c h = grind (arith, nat_tests)
+name_begins (is_name {c} {cs} begin more) = record { some = omega arith; unquoted = λ same. absurd (omega (arith, letter_low c begin)) }
 
 digits_begin : {w : List ℕ} → IsDigits w → Begins w
-digits_begin (is_digits {d} {ds} begin more) = record { some = omega arith; unquoted = λ same. absurd (omega (arith, low d begin)) }
-  where
-    low : (c : ℕ) → is_ascii_digit c ≡ true → 48 ≤ c
-    low c h = grind (arith, nat_tests)
+digits_begin (is_digits {d} {ds} begin more) = record { some = omega arith; unquoted = λ same. absurd (omega (arith, digit_low d begin)) }
 
 begins : {w : List ℕ} {t : Tok} → Reads w (Ok t) → Written t → Begins w
 begins (numeral is small) h = digits_begin is
@@ -181,30 +174,21 @@ begins (plain is short free) h = name_begins is
 begins (reserved is short same) h = name_begins is
 begins (marked is short) h = record { some = omega arith; unquoted = λ same. absurd (omega arith) }
 begins (text_between cs all same) h = absurd h
-begins (one_byte {b} {s} alone) h = record { some = omega arith; unquoted = λ same. absurd (none_some (subst (λ (c : ℕ). single c ≡ Some s) same alone)) }
-begins (two_bytes {b} {s} both) h = record { some = omega arith; unquoted = λ same. absurd (none_some (subst (λ (c : ℕ). double c ≡ Some s) same both)) }
-
-cons_ahead : {a b : ℕ} {xs ys : List ℕ} → a ∷ xs ≡ b ∷ ys → a ≡ b
-cons_ahead e = cc
-
-cons_behind : {a b : ℕ} {xs ys : List ℕ} → a ∷ xs ≡ b ∷ ys → xs ≡ ys
-cons_behind e = cc
+begins (one_byte {b} {s} alone) h = record { some = omega arith; unquoted = λ same. absurd (none-some s (subst (λ (c : ℕ). single c ≡ Some s) same alone)) }
+begins (two_bytes {b} {s} both) h = record { some = omega arith; unquoted = λ same. absurd (none-some s (subst (λ (c : ℕ). double c ≡ Some s) same both)) }
 
 no_space : (x : ℕ) → 32 ≡ x → dense x ≡ true → ⊥
-no_space x same h = false_true (subst (λ (b : ℕ). dense b ≡ true) (sym same) h)
-  where
-    false_true : false ≡ true → ⊥
-    false_true e = cc
+no_space x same h = false≢true (subst (λ (b : ℕ). dense b ≡ true) (sym same) h)
 
 before_space : (w r v us : List ℕ) → Every dense v → w ++ 32 ∷ r ≡ v ++ us → length v ≤ length w
 before_space w r [] us all e = omega arith
-before_space [] r (x ∷ v) us all e = absurd (no_space x (cons_ahead e) all.0)
-before_space (b ∷ w) r (x ∷ v) us all e = omega (arith, before_space w r v us all.1 (cons_behind e))
+before_space [] r (x ∷ v) us all e = absurd (no_space x (ahead e) all.0)
+before_space (b ∷ w) r (x ∷ v) us all e = omega (arith, before_space w r v us all.1 (behind e))
 
 same_first : (w r v us : List ℕ) → Begins w → w ++ 32 ∷ r ≡ v ++ us → get_or v 0 0 ≢ 34
 same_first [] r v us h e = absurd (omega (arith, h.some))
 same_first (b ∷ w) r [] us h e = λ same. absurd (omega arith)
-same_first (b ∷ w) r (x ∷ v) us h e = λ same. h.unquoted (cons_ahead e ∙ same)
+same_first (b ∷ w) r (x ∷ v) us h e = λ same. h.unquoted (ahead e ∙ same)
 
 longest_here : (w r : List ℕ) (t : Tok) → Reads w (Ok t) → Written t → IsLongest w (Ok t) (32 ∷ r) (w ++ 32 ∷ r)
 longest_here w r t reads h = record {

@@ -1,5 +1,5 @@
 -- What expressions show, and the tokens of each form.
-use Rattle.std.proofs.Common.{◌≡◌, ℕ, zero, suc, ◌+◌, ◌<◌, ◌≤◌, ℤ, Bool, true, false, List, [], ◌∷◌, length, get_or, drop, Vec, Box, Option, Some, None, Global, refl, sym, ap, ◌∙◌}
+use Rattle.std.proofs.Common.{◌≡◌, ℕ, ◌+◌, ◌<◌, ◌≤◌, ℤ, Bool, true, false, List, [], ◌∷◌, length, get_or, drop, Vec, Box, Option, Some, None, Global, refl, sym, ap, ◌∙◌}
 use Rattle.std.proofs.lemmas.List.{drop_more, drop_all}
 use Rattle.wcps_text.specs.declared.token.Literal.{Literal}
 use Rattle.wcps_text.specs.declared.token.Symbol.TheVariants as signs
@@ -19,70 +19,15 @@ use Rattle.wcps_text.specs.declared.tree.Item.TheVariants as items
 use Rattle.wcps_text.specs.declared.tree.Binding.{Binding}
 use Rattle.wcps_text.specs.declared.tree.Query.{Query}
 use Rattle.wcps_text.specs.declared.tree.Expr as exprs
-use Rattle.wcps_text.specs.declared.tree.Expr.{Expr, Record', ValueList', Brackets', Coverage', Condense', Row_of-Part, end_of-Part, more_of-Part, items-the_row-Part, Row_of-Sub, end_of-Sub, more_of-Sub, items-the_row-Sub, Row_of-Iter, end_of-Iter, more_of-Iter, items-the_row-Iter}
+use Rattle.wcps_text.specs.declared.tree.Expr.{Expr}
 use Rattle.wcps_text.specs.declared.tree.Part.{Part}
 use Rattle.wcps_text.specs.declared.tree.Sub.{Sub}
 use Rattle.wcps_text.specs.declared.tree.Iter.{Iter}
-use Rattle.wcps_text.specs.Token.{Tok, number, name, word, sign}
-use Rattle.wcps_text.specs.Tree as tree
-use Rattle.wcps_text.specs.Tree.{Tree, unary, binary, bit, reduce, parts, value_list, field, brackets, coverage, condense, Parts, no_parts, part, Subs, no_subs, sub, Iters, no_iters, iter, Condition, always, only, at, domain, view, view_place, view_interval, view_parts, parts_of, view_subs, subs_of, view_iters, iters_of, condition_of, item_view, bindings_of, query_view}
+use Rattle.wcps_text.specs.Token.{Tok, number, word, sign}
+use Rattle.wcps_text.specs.Tree.{Tree, unary, parts, value_list, brackets, coverage, condense, Parts, Iters, view, view_place, view_interval, parts_of, subs_of, iters_of, condition_of, item_view, bindings_of, query_view}
 use Rattle.wcps_text.specs.Grammar.{binary_token, condense_token, reduce_word, truth_word}
+use Rattle.wcps_text.proofs.Views.{view-Record, view-Brackets, view-ValueList, view-Coverage, view-Condense}
 use Rattle.wcps_print.specs.Printing.{name_token, int_tokens, unary_token, separator, items_tokens, head_tokens, expr_tokens, parts_tokens, subs_tokens, place_tokens, interval_tokens, iters_tokens, condition_tokens, names_tokens, bindings_tokens, item_tokens, query_tokens}
-use mathlib.Core.Former.{Count}
-
-parts_are : (n : Count) (row : Row_of-Part n) → view_parts row ≡ parts_of (items-the_row-Part n row)
-parts_are n end_of-Part = refl
-parts_are n (more_of-Part x value rest) = ap (part x (view value)) (parts_are _ rest)
-
-abbrev parts_row : Expr → (n : Count) × Row_of-Part n
-parts_row (Record' shape row) = (_, row)
-parts_row _ = (_, end_of-Part)
-
-view-Record : (v : Vec Part Global) → view (exprs.Record v) ≡ parts (parts_of v.items)
-view-Record v =
-    let row = parts_row (exprs.Record v) in
-    ap parts (parts_are row.0 row.1 ∙ ap parts_of (exprs.items_hidden-the_row-Part-0 v))
-
-subs_are : (n : Count) (row : Row_of-Sub n) → view_subs row ≡ subs_of (items-the_row-Sub n row)
-subs_are n end_of-Sub = refl
-subs_are n (more_of-Sub axis place rest) = ap (sub axis (view_place place)) (subs_are _ rest)
-
-abbrev subs_row : Expr → (n : Count) × Row_of-Sub n
-subs_row (Brackets' p e shape row) = (_, row)
-subs_row _ = (_, end_of-Sub)
-
-view-Brackets : (b : Box Expr Global) (v : Vec Sub Global) → view (exprs.Brackets b v) ≡ brackets (view b.value) (subs_of v.items)
-view-Brackets b v =
-    let row = subs_row (exprs.Brackets b v) in
-    ap (brackets (view b.value)) (subs_are row.0 row.1 ∙ ap subs_of (exprs.items_hidden-the_row-Sub-2 v))
-
-iters_are : (n : Count) (row : Row_of-Iter n) → view_iters row ≡ iters_of (items-the_row-Iter n row)
-iters_are n end_of-Iter = refl
-iters_are n (more_of-Iter v a i rest) = ap (iter v a (view_interval i)) (iters_are _ rest)
-
-abbrev iters_row : Expr → (n : Count) × Row_of-Iter n
-iters_row (ValueList' shape row its) = (_, row)
-iters_row (Coverage' shape row p e) = (_, row)
-iters_row (Condense' op shape row c p e) = (_, row)
-iters_row _ = (_, end_of-Iter)
-
-view-ValueList : (v : Vec Iter Global) (w : Vec ListItem Global) → view (exprs.ValueList v w) ≡ value_list (iters_of v.items) w.items
-view-ValueList v w =
-    let row = iters_row (exprs.ValueList v w) in
-    ap (λ is. value_list is w.items) (iters_are row.0 row.1 ∙ ap iters_of (exprs.items_hidden-the_row-Iter-1 v))
-
-view-Coverage : (v : Vec Iter Global) (b : Box Expr Global) → view (exprs.Coverage v b) ≡ coverage (iters_of v.items) (view b.value)
-view-Coverage v b =
-    let row = iters_row (exprs.Coverage v b) in
-    ap (λ is. coverage is (view b.value)) (iters_are row.0 row.1 ∙ ap iters_of (exprs.items_hidden-the_row-Iter-1 v))
-
-view-Condense : (op : CondenseOp) (v : Vec Iter Global) (o : Option (Box Expr Global)) (b : Box Expr Global) → view (exprs.Condense op v o b) ≡ condense op (iters_of v.items) (condition_of o) (view b.value)
-view-Condense op v None b =
-    let row = iters_row (exprs.Condense op v None b) in
-    ap (λ is. condense op is always (view b.value)) (iters_are row.0 row.1 ∙ ap iters_of (exprs.items_hidden-the_row-Iter-1 v))
-view-Condense op v (Some c) b =
-    let row = iters_row (exprs.Condense op v (Some c) b) in
-    ap (λ is. condense op is (only (view c.value)) (view b.value)) (iters_are row.0 row.1 ∙ ap iters_of (exprs.items_hidden-the_row-Iter-1 v))
 
 pub number_of : (e : Expr) (n : Literal) → e ≡ exprs.Number n → (rest : List Tok) → number n.value ∷ rest ≡ expr_tokens (view e) rest
 unfolding expr_tokens
@@ -185,15 +130,17 @@ pub truth_item_of : (x : ListItem) (b : Bool) → x ≡ list_items.Truth b → (
 unfolding items_tokens
 truth_item_of x b is rest = rw is refl
 
+-- what stands at a place is the first of what stands from there on
+read_here : {A : Type 0} (xs : List A) (i : ℕ) (x : A) → i < length xs → x ≡ get_or xs i x → drop i xs ≡ x ∷ drop (i + 1) xs
+read_here {A} xs i x lt is = drop_more xs i x lt ∙ ap (λ (y : A). y ∷ drop (i + 1) xs) (sym is)
+
 pub parts_end : (first : Bool) (xs : List Part) (i : ℕ) → length xs ≤ i → (rest : List Tok) → rest ≡ parts_tokens first (parts_of (drop i xs)) rest
 unfolding expr_tokens
 parts_end first xs i le rest = rw (drop_all i xs le) refl
 
 pub parts_step : (first : Bool) (xs : List Part) (i : ℕ) (p : Part) → i < length xs → p ≡ get_or xs i p → (rest : List Tok) → separator first signs.Semicolon (name_token p.name ∷ sign signs.Colon ∷ expr_tokens (view p.value) (parts_tokens false (parts_of (drop (i + 1) xs)) rest)) ≡ parts_tokens first (parts_of (drop i xs)) rest
 unfolding expr_tokens
-parts_step first xs i p lt is rest =
-    let here : drop i xs ≡ p ∷ drop (i + 1) xs = drop_more xs i p lt ∙ ap (λ (y : Part). y ∷ drop (i + 1) xs) (sym is) in
-    rw here refl
+parts_step first xs i p lt is rest = rw (read_here xs i p lt is) refl
 
 pub subs_end : (first : Bool) (xs : List Sub) (i : ℕ) → length xs ≤ i → (rest : List Tok) → rest ≡ subs_tokens first (subs_of (drop i xs)) rest
 unfolding expr_tokens
@@ -201,9 +148,7 @@ subs_end first xs i le rest = rw (drop_all i xs le) refl
 
 pub subs_step : (first : Bool) (xs : List Sub) (i : ℕ) (s : Sub) → i < length xs → s ≡ get_or xs i s → (rest : List Tok) → separator first signs.Comma (name_token s.axis ∷ sign signs.LeftParen ∷ place_tokens (view_place s.place) (sign signs.RightParen ∷ subs_tokens false (subs_of (drop (i + 1) xs)) rest)) ≡ subs_tokens first (subs_of (drop i xs)) rest
 unfolding expr_tokens
-subs_step first xs i s lt is rest =
-    let here : drop i xs ≡ s ∷ drop (i + 1) xs = drop_more xs i s lt ∙ ap (λ (y : Sub). y ∷ drop (i + 1) xs) (sym is) in
-    rw here refl
+subs_step first xs i s lt is rest = rw (read_here xs i s lt is) refl
 
 pub iters_end : (first : Bool) (xs : List Iter) (i : ℕ) → length xs ≤ i → (rest : List Tok) → rest ≡ iters_tokens first (iters_of (drop i xs)) rest
 unfolding expr_tokens
@@ -211,9 +156,7 @@ iters_end first xs i le rest = rw (drop_all i xs le) refl
 
 pub iters_step : (first : Bool) (xs : List Iter) (i : ℕ) (v : Iter) → i < length xs → v ≡ get_or xs i v → (rest : List Tok) → separator first signs.Comma (name_token v.variable ∷ name_token v.axis ∷ sign signs.LeftParen ∷ interval_tokens (view_interval v.interval) (sign signs.RightParen ∷ iters_tokens false (iters_of (drop (i + 1) xs)) rest)) ≡ iters_tokens first (iters_of (drop i xs)) rest
 unfolding expr_tokens
-iters_step first xs i v lt is rest =
-    let here : drop i xs ≡ v ∷ drop (i + 1) xs = drop_more xs i v lt ∙ ap (λ (y : Iter). y ∷ drop (i + 1) xs) (sym is) in
-    rw here refl
+iters_step first xs i v lt is rest = rw (read_here xs i v lt is) refl
 
 pub names_end : (first : Bool) (xs : List (List ℕ)) (i : ℕ) → length xs ≤ i → (rest : List Tok) → rest ≡ names_tokens first (drop i xs) rest
 unfolding names_tokens
@@ -221,9 +164,7 @@ names_end first xs i le rest = rw (drop_all i xs le) refl
 
 pub names_step : (first : Bool) (xs : List (List ℕ)) (i : ℕ) (x : (List ℕ)) → i < length xs → x ≡ get_or xs i x → (rest : List Tok) → separator first signs.Comma (name_token x ∷ names_tokens false (drop (i + 1) xs) rest) ≡ names_tokens first (drop i xs) rest
 unfolding names_tokens
-names_step first xs i x lt is rest =
-    let here : drop i xs ≡ x ∷ drop (i + 1) xs = drop_more xs i x lt ∙ ap (λ (y : (List ℕ)). y ∷ drop (i + 1) xs) (sym is) in
-    rw here refl
+names_step first xs i x lt is rest = rw (read_here xs i x lt is) refl
 
 pub bindings_end : (first : Bool) (xs : List Binding) (i : ℕ) → length xs ≤ i → (rest : List Tok) → rest ≡ bindings_tokens first (bindings_of (drop i xs)) rest
 unfolding bindings_tokens
@@ -231,9 +172,7 @@ bindings_end first xs i le rest = rw (drop_all i xs le) refl
 
 pub bindings_step : (first : Bool) (xs : List Binding) (i : ℕ) (b : Binding) → i < length xs → b ≡ get_or xs i b → (rest : List Tok) → separator first signs.Comma (name_token b.variable ∷ word words.In ∷ sign signs.LeftParen ∷ names_tokens true b.coverages.items (sign signs.RightParen ∷ bindings_tokens false (bindings_of (drop (i + 1) xs)) rest)) ≡ bindings_tokens first (bindings_of (drop i xs)) rest
 unfolding bindings_tokens
-bindings_step first xs i b lt is rest =
-    let here : drop i xs ≡ b ∷ drop (i + 1) xs = drop_more xs i b lt ∙ ap (λ (y : Binding). y ∷ drop (i + 1) xs) (sym is) in
-    rw here refl
+bindings_step first xs i b lt is rest = rw (read_here xs i b lt is) refl
 
 items_cons : (first : Bool) (x : ListItem) (xs : List ListItem) (rest : List Tok) → separator first signs.Semicolon (items_tokens true (x ∷ []) (items_tokens false xs rest)) ≡ items_tokens first (x ∷ xs) rest
 unfolding items_tokens

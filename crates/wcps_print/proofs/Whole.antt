@@ -1,5 +1,5 @@
 -- What a printed text is.
-use Rattle.std.proofs.Common.{◌≡◌, ◌++◌, ℕ, List, [], ◌∷◌, refl, sym, ◌∙◌, subst, ap}
+use Rattle.std.proofs.Common.{◌≡◌, ◌++◌, ℕ, List, [], append-nil, sym, ◌∙◌, subst, ap}
 use Rattle.wcps_text.specs.Token.{Tok}
 use Rattle.wcps_text.specs.Tree.{QueryTree}
 use Rattle.wcps_text.specs.Grammar.{IsSpelled}
@@ -11,8 +11,7 @@ use Rattle.wcps_print.proofs.Cuts.{cut}
 
 nothing_behind : (bs : List ℕ) → bs ++ text_of [] ≡ bs
 unfolding text_of
-nothing_behind [] = refl
-nothing_behind (b ∷ bs) = ap (λ (cs : List ℕ). b ∷ cs) (nothing_behind bs)
+nothing_behind bs = append-nil bs
 
 -- the printed tokens are cut out of their text, and spell the query
 tokens_again : (q : QueryTree) (text : List ℕ) → IsTextOf text q → IsTextOf (text_of (query_tokens q)) q

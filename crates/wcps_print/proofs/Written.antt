@@ -1,10 +1,10 @@
 -- Tokens that a text can have, and of them those that a printed query can have.
-use Rattle.std.proofs.Common.{◌≡◌, ℕ, ◌^◌, ◌<◌, Bool, true, false, cond, ◌==◌, IsTrue, List, [], ◌∷◌, get_or, Ok, Err, refl, arith, ◌⊎◌, inl, inr, ⊎_elim, ◌≤◌}
-use Rattle.std.proofs.lemmas.Bool.Decides.{nat_tests, eqb_tells}
+use Rattle.std.proofs.Common.{◌≡◌, ℕ, ◌^◌, ◌<◌, List, [], ◌∷◌, get_or, Ok, refl, arith, ⊎_elim}
+use Rattle.std.proofs.lemmas.Bool.Decides.{eqb_tells}
 use Rattle.wcps_text.specs.Token.{Tok, number, name, dollar, quoted, word, sign}
-use Rattle.wcps_text.specs.Lexing.{begins_name, IsName, is_name, IsDigits, Reads, numeral, plain, reserved, marked, text_between, one_byte, two_bytes, Piece, IsLongest, Lexed, at_end, past_space, past_token}
+use Rattle.wcps_text.specs.Lexing.{is_name, Reads, numeral, plain, reserved, marked, text_between, one_byte, two_bytes, Piece, Lexed, at_end, past_space, past_token, tokens_of}
+use Rattle.wcps_text.proofs.Fronts.{letter_low}
 use Rattle.wcps_print.specs.Printing.{name_token}
-use Rattle.wcps_print.specs.Printed.{tokens_of}
 
 -- what some bytes of a text can be
 abbrev pub Proper : Tok → Type 0
@@ -43,13 +43,7 @@ proper_lexed (past_space blank h) = proper_lexed h
 proper_lexed (past_token longest h) = (proper_read longest.reads, proper_lexed h)
 
 name_first : {w x : List ℕ} → Reads w (Ok (name x)) → get_or x 0 0 ≡ 36 → ⊥
-name_first (plain (is_name {c} {cs} begin more) short free) e = letter_no_dollar c begin e
-  where
-    letter_no_dollar : (c : ℕ) → begins_name c ≡ true → c ≡ 36 → ⊥
-    letter_no_dollar c h e = omega (arith, low c h)
-      where
-        low : (c : ℕ) → begins_name c ≡ true → 65 ≤ c
-        low c h = grind (arith, nat_tests)
+name_first (plain (is_name {c} {cs} begin more) short free) e = omega (arith, letter_low c begin)
 
 dollar_first : {w x : List ℕ} → Reads w (Ok (dollar x)) → get_or x 0 0 ≡ 36
 dollar_first (marked is short) = refl

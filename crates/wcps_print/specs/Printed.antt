@@ -1,14 +1,8 @@
 -- Texts that spell a query.
-use Rattle.std.specs.Prelude.{ℕ, List, [], ◌∷◌}
-use Rattle.wcps_text.specs.Token.{Tok}
+use Rattle.std.specs.Prelude.{ℕ, List}
 use Rattle.wcps_text.specs.Tree.{QueryTree}
-use Rattle.wcps_text.specs.Lexing.{Piece, Lexed}
+use Rattle.wcps_text.specs.Lexing.{Piece, Lexed, tokens_of}
 use Rattle.wcps_text.specs.Grammar.{IsSpelled}
-
--- the tokens of a text, without where they stand
-abbrev pub tokens_of : List Piece → List Tok
-tokens_of [] = []
-tokens_of (p ∷ ps) = p.is ∷ tokens_of ps
 
 -- the text has tokens, and they spell the query
 pub record IsTextOf (text : List ℕ) (q : QueryTree) : Type 0 where

@@ -1,5 +1,5 @@
 -- The tokens of a printed query, and how they are written. Each function gives the tokens of its thing, and then the rest.
-use Rattle.std.specs.Prelude.{◌≡◌, ℕ, zero, suc, ℤ, pos, negsuc, List, [], ◌∷◌, ◌++◌, Bool, true, false, cond, ◌==◌, codes, get_or, decimal}
+use Rattle.std.specs.Prelude.{◌≡◌, ℕ, suc, ℤ, pos, negsuc, List, [], ◌∷◌, ◌++◌, Bool, true, false, cond, ◌==◌, codes, get_or, decimal}
 use Rattle.wcps_text.specs.declared.token.Symbol.{Symbol}
 use Rattle.wcps_text.specs.declared.token.Symbol.TheVariants as signs
 use Rattle.wcps_text.specs.declared.token.Keyword.TheVariants as words

@@ -1,23 +1,23 @@
 -- Which tokens can stand at the front of a text, by its first byte.
-use Rattle.std.proofs.Common.{◌≡◌, ◌≢◌, ◌==◌, ◌⊎◌, inl, inr, ⊎_elim, ℕ, zero, suc, ◌+◌, ◌-◌, ◌*◌, ◌<◌, ◌≤◌, ◌^◌, Bool, true, false, cond, ◌&&◌, ◌||◌, IsTrue, List, [], ◌∷◌, ◌++◌, length, take, drop, get_or, Option, Some, None, Result, Ok, Err, refl, sym, ap, ◌∙◌, arith, subst, append_assoc, rules}
+use Rattle.std.proofs.Common.{◌≡◌, ◌≢◌, ◌==◌, ⊎_elim, ℕ, zero, suc, ◌+◌, ◌-◌, ◌<◌, ◌≤◌, ◌^◌, Bool, true, false, cond, List, [], ◌∷◌, ◌++◌, length, take, drop, get_or, Option, Some, None, Result, Ok, refl, sym, ap, ◌∙◌, arith, subst, append_assoc}
 use Rattle.std.proofs.lemmas.Bool.Decides.{nat_tests, eqb_tells}
+use Rattle.std.proofs.lemmas.Option.{none-some}
 use Rattle.std.proofs.lemmas.List.{take-append-drop, length-take-le, length-append, take_rest}
 use Rattle.std.specs.Char.{is_ascii_digit}
 use Rattle.wcps_text.specs.declared.token.Symbol.{Symbol}
 use Rattle.wcps_text.specs.declared.error.LexError.{LexError}
 use Rattle.wcps_text.specs.declared.error.LexError.TheVariants as errors
-use Rattle.wcps_text.specs.declared.token.Keyword.{Keyword}
-use Rattle.wcps_text.specs.Token.{Tok, number, name, dollar, quoted, word, sign}
-use Rattle.wcps_text.specs.Lexing.{is_space, begins_name, continues_name, is_quotable, Every, decimal, IsWritten, single, double, IsName, is_name, IsDigits, is_digits, Reads, numeral, large_numeral, plain, reserved, long_plain, marked, long_marked, text_between, one_byte, two_bytes, IsLongest, Refused, no_token, no_form}
+use Rattle.wcps_text.specs.Token.{Tok, number, quoted, sign}
+use Rattle.wcps_text.specs.Lexing.{is_space, begins_name, continues_name, is_quotable, Every, decimal, single, double, IsName, is_name, IsDigits, is_digits, Reads, numeral, large_numeral, plain, reserved, long_plain, marked, long_marked, text_between, one_byte, two_bytes, IsLongest, Refused, no_form}
 use Rattle.wcps_text.specs.Runs.{Stops}
 
-pub ahead : {a b : ℕ} {xs ys : List ℕ} → a ∷ xs ≡ b ∷ ys → a ≡ b
+pub ahead : {A : Type 0} {a b : A} {xs ys : List A} → a ∷ xs ≡ b ∷ ys → a ≡ b
 ahead e = cc
 
-pub behind : {a b : ℕ} {xs ys : List ℕ} → a ∷ xs ≡ b ∷ ys → xs ≡ ys
+pub behind : {A : Type 0} {a b : A} {xs ys : List A} → a ∷ xs ≡ b ∷ ys → xs ≡ ys
 behind e = cc
 
-true_false : {b : Bool} → b ≡ true → b ≡ false → ⊥
+pub true_false : {b : Bool} → b ≡ true → b ≡ false → ⊥
 true_false p q = cc
 
 pub digit_low : (b : ℕ) → is_ascii_digit b ≡ true → 48 ≤ b
@@ -84,7 +84,7 @@ fits m v us q (text_between cs all same) e = text_fits m v us cs all same e
 fits m v us q (one_byte {b} {s} alone) e = m.ones s (rw (ahead e) alone)
 fits m v us q (two_bytes {b} {s} both) e = m.twos s us (rw (ahead e) both) (behind e)
 
-none_equal : {A : Type 0} {o : Option A} {x : A} → o ≡ None → o ≡ Some x → ⊥
+pub none_equal : {A : Type 0} {o : Option A} {x : A} → o ≡ None → o ≡ Some x → ⊥
 none_equal p q = cc
 
 pub digit_most : (b m : ℕ) (bs : List ℕ) → is_ascii_digit b ≡ true → Stops is_ascii_digit (drop m bs) → AtMost b bs (suc m)
@@ -133,9 +133,6 @@ longest b n bs r le reads most = record {
   longest = λ v us q form same. rw (length-take-le n (b ∷ bs) le) (fits most v us q form same);
 }
 
-length_run : (bs : List ℕ) (m : ℕ) → m ≤ length bs → length (take m bs) ≡ m
-length_run bs m le = length-take-le m bs le
-
 pub number_front : (bytes : List ℕ) (m k : ℕ) (r : Result Tok LexError) → 0 < length bytes → is_ascii_digit (get_or bytes 0 0) ≡ true → IsRun is_ascii_digit (drop 1 bytes) m → k ≡ suc m
     → (IsDigits (take k bytes) → Reads (take k bytes) r) → IsLongest (take k bytes) r (drop k bytes) bytes
 number_front [] m k r some h run same reads = absurd (omega arith)
@@ -151,7 +148,7 @@ pub name_front : (bytes : List ℕ) (m k : ℕ) (r : Result Tok LexError) → 0 
 name_front [] m k r some h run same reads = absurd (omega arith)
 name_front (b ∷ bs) m k r some h run same reads =
     subst (λ (n : ℕ). (IsName (take n (b ∷ bs)) → length (take n (b ∷ bs)) ≡ n → Reads (take n (b ∷ bs)) r) → IsLongest (take n (b ∷ bs)) r (drop n (b ∷ bs)) (b ∷ bs)) (sym same)
-    (λ form. longest b (suc m) bs r (omega (arith, run.within)) (form (is_name h run.front) (ap suc (length_run bs m run.within))) (letter_most b m bs h run.stops)) reads
+    (λ form. longest b (suc m) bs r (omega (arith, run.within)) (form (is_name h run.front) (ap suc (length-take-le m bs run.within))) (letter_most b m bs h run.stops)) reads
 
 continues_from_begins : (c : ℕ) → begins_name c ≡ true → continues_name c ≡ true
 continues_from_begins c h = grind (arith, nat_tests)
@@ -178,7 +175,7 @@ dollar_front [] m k r first h run same reads = absurd cc
 dollar_front (b ∷ bs) m k r first h run same reads =
     subst (λ (n : ℕ). ((w : List ℕ) → take n (b ∷ bs) ≡ 36 ∷ w → IsName w → suc (length w) ≡ n → Reads (36 ∷ w) r) → IsLongest (take n (b ∷ bs)) r (drop n (b ∷ bs)) (b ∷ bs)) (sym same)
     (subst (λ (a : ℕ). ((w : List ℕ) → take (suc m) (a ∷ bs) ≡ 36 ∷ w → IsName w → suc (length w) ≡ suc m → Reads (36 ∷ w) r) → IsLongest (take (suc m) (a ∷ bs)) r (drop (suc m) (a ∷ bs)) (a ∷ bs)) (sym first)
-    (λ form. longest 36 (suc m) bs r (omega (arith, run.within)) (form (take m bs) refl (run_name bs m h run) (ap suc (length_run bs m run.within))) (dollar_most m bs run.stops))) reads
+    (λ form. longest 36 (suc m) bs r (omega (arith, run.within)) (form (take m bs) refl (run_name bs m h run) (ap suc (length-take-le m bs run.within))) (dollar_most m bs run.stops))) reads
 
 reads_some : (v : List ℕ) (q : Result Tok LexError) → Reads v q → 0 < length v
 reads_some v q (numeral (is_digits begin more) small) = omega arith
@@ -292,10 +289,7 @@ wide_front (b ∷ c ∷ bs) s some other e =
     longest b 2 (c ∷ bs) _ (omega arith) (subst (λ (d : ℕ). Reads (b ∷ d ∷ []) (Ok (sign s))) (sym parts.0) (two_bytes parts.1)) (other_most b 2 (c ∷ bs) other (λ _ _. omega arith) (λ _ _ _ _. omega arith))
   where
     both : (c : ℕ) (o : Option Symbol) (s : Symbol) → cond (c == 61) o None ≡ Some s → (c ≡ 61) × (o ≡ Some s)
-    both c o s e = ⊎_elim (λ same. (same.1, rw same.0 at e)) (λ other. absurd (none_some (rw other.0 at e))) (eqb_tells c 61)
-      where
-        none_some : None ≡ Some s → ⊥
-        none_some e = cc
+    both c o s e = ⊎_elim (λ same. (same.1, rw same.0 at e)) (λ other. absurd (none-some s (rw other.0 at e))) (eqb_tells c 61)
 
 narrow_twos : (b c : ℕ) (bs : List ℕ) → cond (c == 61) (double b) None ≡ None → (s : Symbol) (us : List ℕ) → double b ≡ Some s → c ∷ bs ≡ 61 ∷ us → ⊥
 narrow_twos b c bs e s us both same =

@@ -1,9 +1,9 @@
 -- Steps through a text: over spaces and over tokens.
-use Rattle.std.proofs.Common.{◌≡◌, ℕ, zero, suc, ◌+◌, ◌-◌, ◌≤◌, IsTrue, List, [], ◌∷◌, ◌++◌, length, map, take, drop, Result, Ok, Err, refl, sym, ap, ◌∙◌, arith, subst, append_assoc}
-use Rattle.std.proofs.lemmas.List.{take_rest, drop-drop, drop_all, length-drop}
+use Rattle.std.proofs.Common.{◌≡◌, ℕ, zero, suc, ◌+◌, ◌-◌, ◌≤◌, List, [], ◌∷◌, ◌++◌, length, map, take, drop, Ok, sym, ap, ◌∙◌, arith, subst, append_assoc, append-nil}
+use Rattle.std.proofs.lemmas.List.{take_rest, drop-drop, drop_all, length-drop, map-append}
 use Rattle.wcps_text.specs.declared.error.LexError.{LexError}
 use Rattle.wcps_text.specs.declared.token.Token.{Token}
-use Rattle.wcps_text.specs.Token.{Tok, tok}
+use Rattle.wcps_text.specs.Token.{tok}
 use Rattle.wcps_text.specs.Runs.{Stops}
 use Rattle.wcps_text.specs.Lexing.{is_space, Every, IsLongest, Piece, piece, Lexed, at_end, past_space, past_token, Refused, behind_space}
 
@@ -55,12 +55,7 @@ token_lexed text at t ps place longest h =
     subst (λ (k : ℕ). Lexed at (drop at text) (record { start = k; bytes = t.text.now; is = tok t } ∷ ps)) (sym place) (past_token longest h)
 
 pub pushed : (ts : List Token) (t : Token) (ps : List Piece) → map piece (ts ++ t ∷ []) ++ ps ≡ map piece ts ++ piece t ∷ ps
-pushed [] t ps = refl
-pushed (x ∷ ts) t ps = ap (λ (qs : List Piece). piece x ∷ qs) (pushed ts t ps)
-
-pub nothing_more : (ps : List Piece) → ps ++ [] ≡ ps
-nothing_more [] = refl
-nothing_more (p ∷ ps) = ap (λ (qs : List Piece). p ∷ qs) (nothing_more ps)
+pushed ts t ps = ap (λ (qs : List Piece). qs ++ ps) (map-append piece ts (t ∷ [])) ∙ append_assoc (map piece ts) (piece t ∷ []) ps
 
 pub first_lexed : (text : List ℕ) (n : ℕ) (ts : List Token) (ps : List Piece) → n ≤ length text → Every is_space (take n text) → ts ≡ [] → Lexed n (drop n text) ps → Lexed 0 text (map piece ts ++ ps)
 first_lexed text n ts ps le all none h =
@@ -72,4 +67,4 @@ first_refused text n e le all h = spaces_refused n text e le all h
 
 pub all_lexed : (text : List ℕ) (at : ℕ) (ts : List Token) → length text ≤ at → ((ps : List Piece) → Lexed at (drop at text) ps → Lexed 0 text (map piece ts ++ ps)) → Lexed 0 text (map piece ts)
 all_lexed text at ts le h =
-    subst (λ (ps : List Piece). Lexed 0 text ps) (nothing_more (map piece ts)) (h [] (subst (λ (t : List ℕ). Lexed at t []) (sym (drop_all at text le)) at_end))
+    subst (λ (ps : List Piece). Lexed 0 text ps) (append-nil (map piece ts)) (h [] (subst (λ (t : List ℕ). Lexed at t []) (sym (drop_all at text le)) at_end))

@@ -1,42 +1,14 @@
--- What a tree shows, at each variant as code builds it.
-use Rattle.std.proofs.Common.{◌≡◌, ℕ, ℤ, Bool, List, [], ◌∷◌, ◌++◌, Vec, Box, Option, Some, None, Global, refl, sym, ap, ◌∙◌}
-use Rattle.wcps_text.specs.declared.tree.UnaryOp.{UnaryOp}
-use Rattle.wcps_text.specs.declared.tree.BinaryOp.{BinaryOp}
-use Rattle.wcps_text.specs.declared.tree.ReduceOp.{ReduceOp}
+-- What a tree shows whose variant has a list.
+use Rattle.std.proofs.Common.{◌≡◌, Vec, Box, Option, Some, None, Global, refl, ap, ◌∙◌}
 use Rattle.wcps_text.specs.declared.tree.CondenseOp.{CondenseOp}
 use Rattle.wcps_text.specs.declared.tree.ListItem.{ListItem}
-use Rattle.wcps_text.specs.declared.tree.Interval.{Interval}
-use Rattle.wcps_text.specs.declared.tree.Interval.TheVariants.{Domain}
-use Rattle.wcps_text.specs.declared.tree.Place.{Place}
-use Rattle.wcps_text.specs.declared.tree.Place.TheVariants.{At}
 use Rattle.wcps_text.specs.declared.tree.Expr as exprs
 use Rattle.wcps_text.specs.declared.tree.Expr.{Expr, Record', ValueList', Brackets', Coverage', Condense', Row_of-Part, end_of-Part, more_of-Part, items-the_row-Part, Row_of-Sub, end_of-Sub, more_of-Sub, items-the_row-Sub, Row_of-Iter, end_of-Iter, more_of-Iter, items-the_row-Iter}
 use Rattle.wcps_text.specs.declared.tree.Part.{Part}
 use Rattle.wcps_text.specs.declared.tree.Sub.{Sub}
 use Rattle.wcps_text.specs.declared.tree.Iter.{Iter}
-use Rattle.wcps_text.specs.Tree.{Tree, unary, binary, bit, reduce, parts, value_list, field, brackets, coverage, condense, Parts, no_parts, part, Subs, no_subs, sub, Iters, no_iters, iter, Condition, always, only, at, domain, view, view_place, view_interval, view_parts, parts_of, view_subs, subs_of, view_iters, iters_of, condition_of}
+use Rattle.wcps_text.specs.Tree.{parts, value_list, brackets, coverage, condense, part, sub, iter, always, only, view, view_place, view_interval, view_parts, parts_of, view_subs, subs_of, view_iters, iters_of, condition_of}
 use mathlib.Core.Former.{Count}
-
-pub view-Unary : (op : UnaryOp) (b : Box Expr Global) → view (exprs.Unary op b) ≡ unary op (view b.value)
-view-Unary op b = refl
-
-pub view-Binary : (op : BinaryOp) (a b : Box Expr Global) → view (exprs.Binary op a b) ≡ binary op (view a.value) (view b.value)
-view-Binary op a b = refl
-
-pub view-Bit : (a b : Box Expr Global) → view (exprs.Bit a b) ≡ bit (view a.value) (view b.value)
-view-Bit a b = refl
-
-pub view-Reduce : (op : ReduceOp) (b : Box Expr Global) → view (exprs.Reduce op b) ≡ reduce op (view b.value)
-view-Reduce op b = refl
-
-pub view-Field : (b : Box Expr Global) (x : List ℕ) → view (exprs.Field b x) ≡ field (view b.value) x
-view-Field b x = refl
-
-pub view-At : (b : Box Expr Global) → view_place (At b) ≡ at (view b.value)
-view-At b = refl
-
-pub view-Domain : (b : Box Expr Global) (x : List ℕ) → view_interval (Domain b x) ≡ domain (view b.value) x
-view-Domain b x = refl
 
 parts_are : (n : Count) (row : Row_of-Part n) → view_parts row ≡ parts_of (items-the_row-Part n row)
 parts_are n end_of-Part = refl

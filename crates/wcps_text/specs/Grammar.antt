@@ -1,6 +1,5 @@
 -- Which tokens spell which query. Each family says of `ts` and `rest` that the tokens of `ts` before `rest` spell the thing.
-use Rattle.std.specs.Prelude.{◌≡◌, ℕ, zero, suc, ℤ, pos, ◌-ℤ◌, List, [], ◌∷◌, Bool, true, false, codes, map}
-use Rattle.wcps_text.specs.declared.token.Symbol.{Symbol}
+use Rattle.std.specs.Prelude.{◌≡◌, ℕ, suc, ℤ, pos, ◌-ℤ◌, List, [], ◌∷◌, Bool, true, false, codes, map}
 use Rattle.wcps_text.specs.declared.token.Symbol.TheVariants as signs
 use Rattle.wcps_text.specs.declared.token.Keyword.{Keyword}
 use Rattle.wcps_text.specs.declared.token.Keyword.TheVariants as words

@@ -1,5 +1,5 @@
 -- The tokens of a text.
-use Rattle.std.specs.Prelude.{◌≡◌, ◌≢◌, ℕ, zero, suc, ◌+◌, ◌-◌, ◌*◌, ◌^◌, ◌<◌, ◌≤◌, ◌⊎◌, Bool, true, false, cond, ◌&&◌, ◌||◌, not, IsTrue, List, [], ◌∷◌, ◌++◌, length, map, Option, Some, None, Result, Ok, Err, codes, nat_eq, nat_le, ◌==◌}
+use Rattle.std.specs.Prelude.{◌≡◌, ℕ, ◌+◌, ◌-◌, ◌*◌, ◌^◌, ◌<◌, ◌≤◌, Bool, cond, ◌&&◌, ◌||◌, not, IsTrue, List, [], ◌∷◌, ◌++◌, length, map, Option, Some, None, Result, Ok, Err, codes, nat_le, ◌==◌}
 use Rattle.std.specs.Char.{to_ascii_lowercase, is_ascii_digit, is_ascii_alphabetic, is_ascii_alphanumeric}
 use Rattle.wcps_text.specs.declared.token.Symbol.{Symbol}
 use Rattle.wcps_text.specs.declared.token.Symbol.TheVariants as signs
@@ -141,6 +141,10 @@ pub record Piece : Type 0 where
 
 abbrev pub piece : Token → Piece
 piece t = record { start = t.start; bytes = t.text.now; is = tok t }
+
+-- the tokens of a text, without where they stand
+abbrev pub tokens_of : List Piece → List Tok
+tokens_of pieces = map (λ (p : Piece). p.is) pieces
 
 -- The text, whose first byte is at that place, has these tokens. Spaces between them leave no trace.
 pub data Lexed : ℕ → List ℕ → List Piece → Type 0 where

@@ -1,4 +1,4 @@
-use Rattle.std.proofs.Common.{◌≡◌, ◌∙◌, rules, arith, w64, SFits, List}
+use Rattle.std.proofs.Common.{◌∙◌, rules, arith, w64, SFits}
 use Rattle.std.proofs.lemmas.Grind.{common_steps}
 use Rattle.std.proofs.lemmas.Int.{to_z-of_z}
 use Rattle.wcps_text.specs.Tree.{view, parts_of, iters_of}

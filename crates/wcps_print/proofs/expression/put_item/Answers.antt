@@ -1,6 +1,6 @@
-use Rattle.std.proofs.Common.{◌≡◌, rules, arith, w64, SFits}
+use Rattle.std.proofs.Common.{rules, arith, w64, SFits}
 use Rattle.std.proofs.lemmas.Grind.{common_steps}
-use Rattle.std.proofs.lemmas.Int.{ints, to_z-of_z}
+use Rattle.std.proofs.lemmas.Int.{to_z-of_z}
 use Rattle.wcps_print.proofs.Puts.{last_puts, same_text}
 use Rattle.wcps_print.proofs.Views.{int_item_of, truth_item_of}
 use Rattle.wcps_print.proofs.expression.put_item.Goals as goal

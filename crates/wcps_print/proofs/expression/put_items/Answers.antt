@@ -1,4 +1,4 @@
-use Rattle.std.proofs.Common.{◌≡◌, ◌∙◌, List}
+use Rattle.std.proofs.Common.{◌∙◌}
 use Rattle.wcps_print.proofs.Puts.{same_text}
 use Rattle.wcps_print.proofs.Views.{items_end, items_step}
 use Rattle.wcps_print.proofs.expression.put_items.Goals as goal

@@ -1,4 +1,3 @@
-use Rattle.std.proofs.Common.{◌≡◌, ◌∙◌, sym}
 use Rattle.wcps_text.specs.Tree.{query_view}
 use Rattle.wcps_print.proofs.Whole.{printed}
 use Rattle.wcps_print.proofs.query.print.Goals as goal

@@ -1,6 +1,6 @@
-use Rattle.std.proofs.Common.{◌≡◌, ◌∙◌, ◌∷◌, List, true, false, ap, drop, ◌+◌}
+use Rattle.std.proofs.Common.{◌∙◌, ◌∷◌, true, false, ap, drop, ◌+◌}
 use Rattle.wcps_text.specs.declared.token.Symbol.TheVariants as signs
-use Rattle.wcps_text.specs.Token.{Tok, sign}
+use Rattle.wcps_text.specs.Token.{sign}
 use Rattle.wcps_text.specs.Tree.{bindings_of}
 use Rattle.wcps_print.specs.Printing.{names_tokens, bindings_tokens}
 use Rattle.wcps_print.proofs.Puts.{same_text}

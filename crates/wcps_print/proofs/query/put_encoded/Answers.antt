@@ -1,4 +1,4 @@
-use Rattle.std.proofs.Common.{◌≡◌, ◌∙◌}
+use Rattle.std.proofs.Common.{◌∙◌}
 use Rattle.wcps_print.proofs.Puts.{last_puts}
 use Rattle.wcps_print.proofs.query.put_encoded.Goals as goal
 

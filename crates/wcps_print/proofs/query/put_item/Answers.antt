@@ -1,4 +1,3 @@
-use Rattle.std.proofs.Common.{◌≡◌}
 use Rattle.wcps_print.proofs.Puts.{last_puts, same_text}
 use Rattle.wcps_print.proofs.Views.{plain_of, encode_of}
 use Rattle.wcps_print.proofs.query.put_item.Goals as goal

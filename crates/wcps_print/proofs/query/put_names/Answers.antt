@@ -1,4 +1,4 @@
-use Rattle.std.proofs.Common.{◌≡◌, ◌∙◌, List}
+use Rattle.std.proofs.Common.{◌∙◌}
 use Rattle.wcps_print.proofs.Puts.{same_text}
 use Rattle.wcps_print.proofs.Views.{names_end, names_step}
 use Rattle.wcps_print.proofs.query.put_names.Goals as goal

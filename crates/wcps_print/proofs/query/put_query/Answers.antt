@@ -1,9 +1,7 @@
-use Rattle.std.proofs.Common.{◌≡◌, ◌∙◌, ◌++◌, ◌∷◌, [], List, ℕ, true, ap}
+use Rattle.std.proofs.Common.{◌∙◌, []}
 use Rattle.std.specs.String.{string_bytes}
-use Rattle.wcps_text.specs.declared.tree.Binding.{Binding}
-use Rattle.wcps_text.specs.Token.{Tok}
-use Rattle.wcps_text.specs.Tree.{bindings_of, item_view, condition_of, query_view}
-use Rattle.wcps_print.specs.Printing.{bindings_tokens, condition_tokens, item_tokens, query_tokens, text_of, Puts}
+use Rattle.wcps_text.specs.Tree.{item_view}
+use Rattle.wcps_print.specs.Printing.{item_tokens, Puts}
 use Rattle.wcps_print.proofs.Puts.{on_ok, same_text}
 use Rattle.wcps_print.proofs.Views.{query_of}
 use Rattle.wcps_print.proofs.query.put_query.Goals as goal

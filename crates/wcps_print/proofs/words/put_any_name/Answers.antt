@@ -1,4 +1,4 @@
-use Rattle.std.proofs.Common.{◌≡◌, ◌∷◌, ◌∙◌, sym, ap, refl, codes, ℕ, List, ℤ}
+use Rattle.std.proofs.Common.{refl, codes}
 use Rattle.wcps_text.specs.Token as tokens
 use Rattle.wcps_print.proofs.Puts.{put_token, on_ok}
 use Rattle.wcps_print.proofs.words.put_any_name.Goals as goal

@@ -1,4 +1,4 @@
-use Rattle.std.proofs.Common.{◌≡◌, ◌∷◌, ◌∙◌, sym, ap, refl, codes, ℕ, List, ℤ}
+use Rattle.std.proofs.Common.{◌∙◌}
 use Rattle.wcps_print.proofs.Puts.{put_token, on_ok, bytes_of_name}
 use Rattle.wcps_print.specs.Printing.{name_token}
 use Rattle.wcps_print.proofs.words.put_name.Goals as goal

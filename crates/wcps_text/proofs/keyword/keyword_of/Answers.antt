@@ -1,8 +1,8 @@
-use Rattle.std.proofs.Common.{rules, ◌≡◌, ℕ, ◌+◌, ◌<◌, Bool, true, false, ⊎_elim, sym, ap, ◌∙◌, arith}
+use Rattle.std.proofs.Common.{◌≡◌, true, false, ⊎_elim}
 use Rattle.wcps_text.specs.declared.token.Keyword.{Keyword}
 use Rattle.wcps_text.specs.Lexing.{IsWritten}
 use Rattle.wcps_text.proofs.Bytes.{last_or}
-use Rattle.wcps_text.proofs.Words.{place, placed, at_place}
+use Rattle.wcps_text.proofs.Words.{at_place}
 use Rattle.wcps_text.proofs.keyword.keyword_of.Goals as goal
 
 wrong : false ≡ true → ⊥

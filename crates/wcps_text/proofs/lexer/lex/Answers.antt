@@ -1,5 +1,5 @@
-use Rattle.std.proofs.Common.{◌≡◌, ℕ, ◌+◌, ◌-◌, ◌<◌, ◌≤◌, List, [], ◌∷◌, ◌++◌, length, map, take, drop, sym, ap, ◌∙◌, arith, rules, subst}
-use Rattle.wcps_text.specs.Lexing.{is_space, Every, Piece, piece, Lexed, Refused, behind_token}
+use Rattle.std.proofs.Common.{ℕ, ◌+◌, ◌≤◌, List, ◌∷◌, length, take, drop, subst}
+use Rattle.wcps_text.specs.Lexing.{is_space, Every, piece, behind_token}
 use Rattle.wcps_text.specs.Runs.{Stops}
 use Rattle.wcps_text.proofs.Steps.{blank_behind, dense_behind, within_behind, blank_lexed, blank_refused, token_lexed, pushed, first_lexed, first_refused, all_lexed}
 use Rattle.wcps_text.proofs.lexer.lex.Goals as goal

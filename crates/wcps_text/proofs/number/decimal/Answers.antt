@@ -1,4 +1,4 @@
-use Rattle.std.proofs.Common.{◌≡◌, ℕ, ◌+◌, ◌-◌, ◌*◌, ◌<◌, ◌≤◌, arith}
+use Rattle.std.proofs.Common.{arith}
 use Rattle.wcps_text.proofs.Bytes.{too_large}
 use Rattle.wcps_text.proofs.number.decimal.Goals as goal
 

@@ -1,4 +1,4 @@
-use Rattle.std.proofs.Common.{◌≡◌, ℕ, suc, ◌+◌, ◌-◌, ◌<◌, get_or, arith, rules}
+use Rattle.std.proofs.Common.{◌+◌, arith}
 use Rattle.wcps_text.specs.Lexing.{long_plain, reserved, plain, no_token}
 use Rattle.wcps_text.proofs.Fronts.{run_behind, name_front, last_of, letter_high}
 use Rattle.wcps_text.proofs.piece.name.Goals as goal

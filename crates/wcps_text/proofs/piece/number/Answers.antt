@@ -1,4 +1,4 @@
-use Rattle.std.proofs.Common.{◌≡◌, ℕ, suc, ◌+◌, arith, rules}
+use Rattle.std.proofs.Common.{◌+◌, arith}
 use Rattle.wcps_text.specs.Lexing.{large_numeral, no_token}
 use Rattle.wcps_text.proofs.Fronts.{run_behind, number_front, numeral_at}
 use Rattle.wcps_text.proofs.piece.number.Goals as goal

@@ -1,4 +1,4 @@
-use Rattle.std.proofs.Common.{◌≡◌, ◌≢◌, ℕ, suc, ◌+◌, ◌-◌, ◌<◌, get_or, arith, rules, sym, ◌∙◌, subst}
+use Rattle.std.proofs.Common.{◌≡◌, ◌≢◌, ℕ, suc, ◌+◌, get_or, arith, sym, ◌∙◌, subst}
 use Rattle.wcps_text.proofs.Fronts.{run_behind, text_front, text_refused}
 use Rattle.wcps_text.proofs.piece.string.Goals as goal
 

@@ -1,4 +1,4 @@
-use Rattle.std.proofs.Common.{◌≡◌, ℕ, suc, ◌+◌, ◌-◌, ◌<◌, get_or, arith, rules, sym, ◌∙◌}
+use Rattle.std.proofs.Common.{get_or, sym, ◌∙◌}
 use Rattle.wcps_text.proofs.Fronts.{IsOther, wide_front, narrow_front, other_refused}
 use Rattle.wcps_text.proofs.piece.symbol.Goals as goal
 

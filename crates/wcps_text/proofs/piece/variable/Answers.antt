@@ -1,4 +1,4 @@
-use Rattle.std.proofs.Common.{◌≡◌, ℕ, suc, ◌+◌, ◌-◌, ◌<◌, get_or, arith, rules, sym, ap, ◌∙◌, true, false, subst, List, ◌∷◌, Ok, drop}
+use Rattle.std.proofs.Common.{◌≡◌, ℕ, ◌+◌, ◌-◌, get_or, arith, sym, ap, ◌∙◌, true, false, subst, List, ◌∷◌, Ok, drop}
 use Rattle.wcps_text.specs.Token.{dollar}
 use Rattle.wcps_text.specs.Lexing.{begins_name, long_marked, marked, no_token, Reads}
 use Rattle.wcps_text.proofs.Fronts.{run_behind, rest_at, dollar_front, dollar_refused, last_of}

@@ -1,5 +1,5 @@
-use Rattle.std.proofs.Common.{◌≡◌, ◌+◌, ◌-◌, ◌<◌, ◌≤◌, length, take, drop, get_or, IsTrue, ℕ, rules, arith, refl, sym, ap, ◌∙◌}
-use Rattle.wcps_text.proofs.Bytes.{every_more, stops_at, stops_end}
+use Rattle.std.proofs.Common.{◌≡◌, ◌+◌, ◌-◌, arith, refl}
+use Rattle.wcps_text.proofs.Bytes.{every_more}
 use Rattle.wcps_text.proofs.runs.run.Goals as goal
 
 pub loop-count-preserved : goal.loop-count-preserved
