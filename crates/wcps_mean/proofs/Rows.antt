@@ -1,19 +1,18 @@
 -- Worked values of the definitions, computed.
-use Rattle.std.proofs.Common.{◌≡◌, ℕ, zero, suc, List, [], ◌∷◌, refl, true, false, map}
+use Rattle.std.proofs.Common.{◌≡◌, ℕ, zero, suc, List, [], ◌∷◌, refl, true, false}
 use Rattle.std.specs.Prelude.{ℤ, pos, negsuc, Some, None, Ok, Err}
 use Rattle.arr_core.specs.declared.domain.Axis.{Axis}
 use Rattle.arr_core.specs.declared.cell.Cell.TheVariants as cells
-use Rattle.wcps_types.specs.declared.typed.Operation1.TheVariants.{Negate, Not, Absolute}
+use Rattle.wcps_types.specs.declared.typed.Operation1.TheVariants.{Negate, Absolute}
 use Rattle.wcps_types.specs.declared.typed.Operation2.TheVariants.{Multiply, Divide, Add, Subtract, Less, Equal, And, Bit}
 use Rattle.wcps_types.specs.declared.typed.Condenser.TheVariants as condensers
 use Rattle.wcps_types.specs.declared.typed.Reduction.TheVariants as reductions
 use Rattle.wcps_types.specs.Typed.{Typed, number, iterator, cell, binary, slice, bracket, array, listed, condense, condense_where, reduce, FieldTree, TypedTree}
 use Rattle.wcps_mean.specs.declared.aggregate.Aggregate.TheVariants.{Sum, Product, Greatest, Least, Every, Any, Count, Average}
 use Rattle.wcps_mean.specs.declared.cell.PointFault.TheVariants.{Overflow, DivideByZero, OutOfDomain, EmptyCondense, BadBit}
-use Rattle.wcps_mean.specs.declared.cell.Outcome.{Outcome}
 use Rattle.wcps_mean.specs.declared.cell.Outcome.TheVariants.{Value, Fault}
 use Rattle.wcps_mean.specs.Cells.{operate1, operate2}
-use Rattle.wcps_mean.specs.Condensers.{condensed, demanded}
+use Rattle.wcps_mean.specs.Condensers.{condensed}
 use Rattle.wcps_mean.specs.Meaning.{val}
 use Rattle.wcps_mean.specs.Answer.{answer}
 

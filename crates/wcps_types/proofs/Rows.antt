@@ -2,7 +2,6 @@
 use Rattle.std.proofs.Common.{◌≡◌, ℕ, List, [], ◌∷◌, refl, true}
 use Rattle.std.specs.Prelude.{ℤ, pos, negsuc, Ok, Err, codes, replicate}
 use Rattle.arr_core.specs.Names.{is_name, is_keyword}
-use Rattle.arr_core.specs.declared.domain.Axis.{Axis}
 use Rattle.arr_core.specs.declared.signature.Signature.{Signature}
 use Rattle.arr_core.specs.declared.cell.FieldType.TheVariants as kinds
 use Rattle.wcps_text.specs.declared.tree.UnaryOp.TheVariants as unaries
@@ -10,7 +9,7 @@ use Rattle.wcps_text.specs.declared.tree.BinaryOp.TheVariants as binaries
 use Rattle.wcps_text.specs.declared.tree.ReduceOp.TheVariants as reductions
 use Rattle.wcps_text.specs.declared.tree.CondenseOp.TheVariants as condensers
 use Rattle.wcps_text.specs.declared.tree.ListItem.TheVariants.{Int, Truth}
-use Rattle.wcps_text.specs.Tree.{Tree, number, variable, unary, binary, reduce, parts, value_list, field, brackets, coverage, condense, no_parts, part, Subs, no_subs, sub, trim, at, bounds, domain, Iters, no_iters, iter, always, ItemTree, encode, plain, BindingTree, QueryTree}
+use Rattle.wcps_text.specs.Tree.{Tree, number, variable, unary, binary, reduce, parts, value_list, field, brackets, coverage, condense, no_parts, part, no_subs, sub, trim, at, bounds, domain, Iters, no_iters, iter, always, ItemTree, encode, plain, BindingTree}
 use Rattle.wcps_types.specs.declared.refusal.TypeRefusal.TheVariants.{NoSuchCoverage, UnknownName, NameTaken, NoSuchField, NoSuchAxis, AxisTwice, DomainMismatch, TrimOutside, NeedsScalar, NeedsBoolean, NeedsInteger, NeedsOneField, ListLength, MustEncode, BadInterval, TooMuchWork, ResultTooLarge, TooManyCombinations}
 use Rattle.wcps_types.specs.declared.typed.Condenser.TheVariants as kept
 use Rattle.wcps_types.specs.Typed as typed
