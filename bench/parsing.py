@@ -10,8 +10,9 @@ more reading takes. `rt lib` or `rt run` in its folder builds it.
 import os
 import subprocess
 import sys
-import tempfile
 import time
+
+from compiled import compiled
 
 TOP = os.path.dirname(os.path.dirname(os.path.abspath(__file__)))
 PROGRAM = sys.argv[1] if len(sys.argv) > 1 else f"{TOP}/crates/query_bench/out/query_bench"
@@ -65,16 +66,13 @@ def seconds(text, rounds):
 
 
 def main():
-    with tempfile.TemporaryDirectory() as folder:
-        with open(f"{folder}/loop.c", "w") as out:
-            out.write(LOOP)
-        subprocess.run(["cc", "-O2", "-o", f"{folder}/loop", f"{folder}/loop.c"], check=True)
+    with compiled(LOOP) as plain:
         print(f"{'a query of 64 KiB':40} {'found':10} {'ms':>8} {'MB/s':>8} {'to C':>8}")
         for name, text in ROWS:
             few, found = seconds(text, 5)
             many, _ = seconds(text, 105)
             once = (many - few) / 100
-            loop = float(subprocess.run([f"{folder}/loop"], input=text.encode(), capture_output=True, check=True).stdout)
+            loop = float(subprocess.run([plain], input=text.encode(), capture_output=True, check=True).stdout)
             print(f"{name:40} {found:10} {once * 1e3:8.2f} {len(text) / once / 1e6:8.1f} {once / loop:8.1f}")
 
 

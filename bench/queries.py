@@ -9,9 +9,10 @@ that starting, inserting and filling do not count. The loop in C reads 64-bit ce
 import os
 import subprocess
 import sys
-import tempfile
 import time
 from urllib.parse import quote_plus
+
+from compiled import figures
 
 TOP = os.path.dirname(os.path.dirname(os.path.abspath(__file__)))
 PROGRAM = sys.argv[1] if len(sys.argv) > 1 else f"{TOP}/crates/rasterd/out/rasterd"
@@ -91,17 +92,9 @@ def one_more(text, times):
     return (more - once) / times
 
 
-def loops():
-    with tempfile.TemporaryDirectory() as room:
-        with open(f"{room}/loops.c", "w") as file:
-            file.write(LOOPS)
-        subprocess.run(["cc", "-O2", "-o", f"{room}/loops", f"{room}/loops.c"], check=True)
-        return [float(line) for line in subprocess.run([f"{room}/loops"], stdout=subprocess.PIPE, check=True).stdout.split()]
-
-
 def main():
     print(f"{'query':36} {'million cells/s':>16} {'times a loop in C':>18}")
-    for (name, cells, text), plain in zip(ROWS, loops()):
+    for (name, cells, text), plain in zip(ROWS, figures(LOOPS)):
         taken = one_more(text, 3)
         print(f"{name:36} {cells / taken / 1e6:16.2f} {taken / plain:18.1f}")
 

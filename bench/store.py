@@ -17,7 +17,8 @@ import os
 import resource
 import subprocess
 import sys
-import tempfile
+
+from compiled import figures
 
 TOP = os.path.dirname(os.path.dirname(os.path.abspath(__file__)))
 PROGRAM = f"{TOP}/crates/store_bench/out/store_bench"
@@ -96,15 +97,6 @@ int main(int count, char **words) {
 """
 
 
-def loops():
-    with tempfile.TemporaryDirectory() as folder:
-        with open(f"{folder}/loops.c", "w") as out:
-            out.write(LOOPS)
-        subprocess.run(["cc", "-O2", "-o", f"{folder}/loops", f"{folder}/loops.c"], check=True)
-        ended = subprocess.run([f"{folder}/loops", str(SIDE)], capture_output=True, check=True, text=True)
-    return [float(word) for word in ended.stdout.split()]
-
-
 def seconds(action, rounds):
     for path in FILE:
         if os.path.exists(path):
@@ -123,7 +115,7 @@ def one_more(action, rounds):
 
 def main():
     print(f"{f'{SIDE} x {SIDE} i16':16} {'a round':>12} {'cells/s':>14} {'C cells/s':>14} {'to C':>9}")
-    for (action, cells, rounds), plain in zip(ACTIONS, loops()):
+    for (action, cells, rounds), plain in zip(ACTIONS, figures(LOOPS, str(SIDE))):
         taken = one_more(action, rounds)
         print(f"{action:16} {taken * 1e6:9.1f} us {cells / taken:14,.0f} {cells / plain:14,.0f} {taken / plain:9.1f}")
 

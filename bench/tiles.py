@@ -10,8 +10,9 @@ same runs, and are compiled here by cc -O2. `rt run` in the program's folder bui
 import os
 import subprocess
 import sys
-import tempfile
 import time
+
+from compiled import figures
 
 TOP = os.path.dirname(os.path.dirname(os.path.abspath(__file__)))
 PROGRAM = sys.argv[1] if len(sys.argv) > 1 else f"{TOP}/crates/tile_bench/out/tile_bench"
@@ -84,15 +85,6 @@ int main(void) {
 """
 
 
-def loops():
-    with tempfile.TemporaryDirectory() as folder:
-        with open(f"{folder}/loops.c", "w") as out:
-            out.write(LOOPS)
-        subprocess.run(["cc", "-O2", "-o", f"{folder}/loops", f"{folder}/loops.c"], check=True)
-        lines = subprocess.run([f"{folder}/loops"], capture_output=True, check=True, text=True).stdout.split()
-    return [float(word) for word in lines]
-
-
 def seconds(kind, pattern, action, rounds):
     begun = time.monotonic()
     subprocess.run([PROGRAM, kind, pattern, action, str(rounds)], capture_output=True, check=True)
@@ -106,7 +98,7 @@ def one_more(kind, pattern, action):
 
 
 def main():
-    plain = iter(loops())
+    plain = iter(figures(LOOPS))
     print(f"{'tile':12} {'encode M/s':>11} {'to C':>6} {'decode M/s':>11} {'to C':>6}")
     for kind in KINDS:
         for pattern in PATTERNS:
