@@ -1,6 +1,6 @@
 -- The answer of a query, from what the steps give.
 use Rattle.std.proofs.Common.{◌≡◌, ℕ, ◌<◌, ◌≤◌, Bool, true, false, ℤ, List, [], ◌∷◌, length, map, Option, None, Some, Result, Ok, Err, refl, sym, ap, ◌∙◌, subst, arith, inl, inr, nat_lt}
-use Rattle.std.specs.Prelude.{String, string_bytes, nat_le, option_map, option_and_then, slice_get}
+use Rattle.std.specs.Prelude.{◌⊎◌, String, string_bytes, nat_le, option_map, option_and_then, slice_get}
 use Rattle.std.specs.declared.alloc.Global.{Global}
 use Rattle.std.proofs.lemmas.Option.{slice_get-map}
 use borrow.Author.Tests.{ltb-true, ltb-false, le-leb, lt-leb}
@@ -10,11 +10,11 @@ use Rattle.arr_core.specs.Stores.{Coverage, Store, found}
 use Rattle.wcps_text.specs.declared.token.Token.{Token}
 use Rattle.wcps_text.specs.declared.tree.Query.{Query}
 use Rattle.wcps_text.specs.Token.{Tok, tok}
-use Rattle.wcps_text.specs.Lexing.{Lexed, piece}
+use Rattle.wcps_text.specs.Lexing.{Lexed, piece, tokens_of}
 use Rattle.wcps_text.specs.Limits.{deepest, forms, query_height}
 use Rattle.wcps_text.specs.Grammar.{IsSpelled}
 use Rattle.wcps_text.specs.Tree.{QueryTree, query_view}
-use Rattle.wcps_parse.specs.Outcome.{IsTooDeep}
+use Rattle.wcps_parse.specs.Outcome.{IsWithinLimits, IsTooDeep}
 use Rattle.wcps_types.specs.Queries.{typ_query}
 use Rattle.wcps_types.specs.declared.refusal.TypeRefusal.{TypeRefusal}
 use Rattle.wcps_types.specs.declared.typed.TypedQuery.{TypedQuery}
@@ -30,7 +30,7 @@ use Rattle.wcps_mean.specs.declared.cells.CellError.TheVariants as cell
 use Rattle.csv_out.specs.Csv.{csv}
 use Rattle.raster_store.specs.Calls.{signature_of}
 use Rattle.coverage_server.specs.Views.{ServerView, IsSound}
-use Rattle.coverage_server.specs.Asking.{QueryAnswer, tokens_in, AreTooDeep, cells_of, number_in, items_answer, typed_answer, tree_answer, TokensAnswer, too_deep, query, TextAnswer, too_long, no_tokens, lexed}
+use Rattle.coverage_server.specs.Asking.{QueryAnswer, cells_of, number_in, items_answer, typed_answer, tree_answer, TokensAnswer, too_deep, query, TextAnswer, too_long, no_tokens, lexed}
 use Rattle.coverage_server.specs.Stages.{GivesTokens, GivesQuery, GivesTyped, GivesItems, GivesValues, FailsReading, error_refusal, cell_at}
 use Rattle.coverage_server.specs.Answered.{Answered}
 use Rattle.coverage_server.specs.Machine.{Answers}
@@ -57,7 +57,7 @@ cells_alike store coverages names is =
     ap (cell_at store) is ∙ fun_ext (λ n. fun_ext (λ field. fun_ext (λ point. cell_alike store coverages n field point)))
 
 -- tokens are taken out of their pieces
-tokens_shown : (ts : List Token) → tokens_in (map piece ts) ≡ map tok ts
+tokens_shown : (ts : List Token) → tokens_of (map piece ts) ≡ map tok ts
 tokens_shown [] = refl
 tokens_shown (t ∷ ts) = ap (λ (l : List Tok). tok t ∷ l) (tokens_shown ts)
 
@@ -122,14 +122,17 @@ module _ (v w : ServerView) (still : w.store ≡ v.store) (text : List ℕ) (ts 
 too_high : (store : Store) (ts : List Tok) (q : QueryTree) → IsSpelled ts q → 64 < query_height q → TokensAnswer store ts (Err 33)
 too_high store ts q spelled high = by_depth (nat_lt 512 (deepest 0 ts)) (nat_lt 256 (forms ts)) refl refl
   where
-    neither : nat_lt 512 (deepest 0 ts) ≡ false → nat_lt 256 (forms ts) ≡ false → ¬ (AreTooDeep ts)
-    neither a b (inl x) = absurd (omega (arith, ltb-false 512 (deepest 0 ts) a))
-    neither a b (inr x) = absurd (omega (arith, ltb-false 256 (forms ts) b))
+    within : nat_lt 512 (deepest 0 ts) ≡ false → nat_lt 256 (forms ts) ≡ false → IsWithinLimits ts
+    within a b = record { brackets = ltb-false 512 (deepest 0 ts) a; words = ltb-false 256 (forms ts) b }
+
+    deep : (512 < deepest 0 ts) ⊎ (256 < forms ts) → ¬ (IsWithinLimits ts)
+    deep (inl x) w = absurd (omega (arith, x, w.brackets))
+    deep (inr x) w = absurd (omega (arith, x, w.words))
 
     by_depth : (a b : Bool) → nat_lt 512 (deepest 0 ts) ≡ a → nat_lt 256 (forms ts) ≡ b → TokensAnswer store ts (Err 33)
-    by_depth true b x y = too_deep (inl (ltb-true 512 (deepest 0 ts) x))
-    by_depth false true x y = too_deep (inr (ltb-true 256 (forms ts) y))
-    by_depth false false x y = subst (TokensAnswer store ts) (tree_too_high store q high) (query q (neither x y) spelled)
+    by_depth true b x y = too_deep (deep (inl (ltb-true 512 (deepest 0 ts) x)))
+    by_depth false true x y = too_deep (deep (inr (ltb-true 256 (forms ts) y)))
+    by_depth false false x y = subst (TokensAnswer store ts) (tree_too_high store q high) (query q (within x y) spelled)
 
 -- the values of a query, from what its types and its evaluation give
 pub values_untyped : (store : Store) (r : Result TypedTree TypeRefusal) (e : Refusal) → GivesTyped r (Err e) → GivesValues (typed_answer store r) (Err e)
@@ -159,15 +162,10 @@ pub values_given : (store : Store) (r : Result TypedTree TypeRefusal) (q : Typed
     → answer (cells_of store q.coverages.items) (typed_view q) ≡ Ok items → string_bytes text ≡ csv items → typed_answer store r ≡ Ok (string_bytes text)
 values_given store r q items text is x written = ap (typed_answer store) is ∙ ap items_answer x ∙ ap Ok (sym written)
 
--- tokens within the limits are not too deep
-pub not_deep : (ts : List Tok) → deepest 0 ts ≤ 512 → forms ts ≤ 256 → ¬ (AreTooDeep ts)
-not_deep ts a b (inl x) = absurd (omega arith)
-not_deep ts a b (inr x) = absurd (omega arith)
-
 -- tokens that are too deep, or whose query is too high
 pub refused_depth : (store : Store) (ts : List Tok) → IsTooDeep ts → TokensAnswer store ts (Err 33)
-refused_depth store ts (inl x) = too_deep (inl x)
-refused_depth store ts (inr (inl x)) = too_deep (inr x)
+refused_depth store ts (inl x) = too_deep (λ within. absurd (omega (arith, x, within.brackets)))
+refused_depth store ts (inr (inl x)) = too_deep (λ within. absurd (omega (arith, x, within.words)))
 refused_depth store ts (inr (inr x)) = too_high store ts x.tree x.spelled x.high
 
 -- a query whose items are not known

@@ -1,15 +1,15 @@
 -- The blocks that a closed file lists are those that may be claimed, and a disk has one layout.
-use Rattle.std.proofs.Common.{◌≡◌, ◌≢◌, ℕ, zero, suc, ◌+◌, ◌/◌, ◌<◌, ◌≤◌, Bool, List, [], ◌∷◌, ◌++◌, length, get_or, arith, refl, sym, ◌∙◌, ap, subst, inl, inr}
-use Rattle.std.specs.Prelude.{nat_eq, if◌then◌else◌, IsTrue, slice_index}
+use Rattle.std.proofs.Common.{◌≡◌, ℕ, ◌+◌, ◌/◌, ◌<◌, ◌≤◌, Bool, List, ◌∷◌, ◌++◌, length, get_or, arith, sym, ◌∙◌, ap, subst, inl, inr}
+use Rattle.std.specs.Prelude.{IsTrue, slice_index}
 use Rattle.std.proofs.lemmas.Bool.{cases_eq, cases_lt}
-use Rattle.std.proofs.lemmas.Bool.Decides.{nat_tests}
-use Rattle.std.proofs.lemmas.List.Sums.{sum_by-append, sum_by-cons}
+use Rattle.std.proofs.lemmas.List.Sums.{sum_by-append}
 use Rattle.arr_core.specs.declared.signature.Signature.{Signature}
 use Rattle.block_file.specs.Blocks.{block_at, IsDistinct}
 use Rattle.block_file.specs.Format.{IsClosed, first_of}
 use Rattle.block_file.specs.View.{MarksChain, CanClaim, Claims, uses_of, use_count}
 use Rattle.metadata.specs.Metadata.{IsMetadata}
 use Rattle.tile_store.specs.Listing.{times}
+use Rattle.tile_store.proofs.Times.{times_at, place_in, two_times, times_once}
 use Rattle.raster_store.specs.Views.{Index, times_fields, times_all}
 use Rattle.raster_store.specs.Calls.{MayAttach}
 use Rattle.raster_store.proofs.Totals.{times_all-cons}
@@ -23,52 +23,6 @@ pub one_layout : (content m m' : List ℕ) (s s' : List Signature) (i i' : List 
 one_layout content m m' s s' i i' closed spelled laid =
     spelled s' i' (subst (λ (l : List ℕ). IsMetadata l s' i') (sym (closed m' laid.closed)) laid.written)
 
--- one block, counted
-abbrev one : ℕ → ℕ → ℕ
-one k b = if nat_eq b k then 1 else 0
-
-one_same : (k : ℕ) → one k k ≡ 1
-one_same k = grind (arith, nat_tests)
-
-one_other : (k b : ℕ) → b ≢ k → one k b ≡ 0
-one_other k b ne = grind (arith, nat_tests)
-
-times-nil : (k : ℕ) → times k [] ≡ 0
-unfolding times
-times-nil k = refl
-
-times-cons : (k b : ℕ) (ks : List ℕ) → times k (b ∷ ks) ≡ one k b + times k ks
-unfolding times
-times-cons k b ks = sum_by-cons (one k) b ks
-
--- a block of a list is counted
-times_at : (ks : List ℕ) (i : ℕ) → i < length ks → 0 < times (get_or ks i 0) ks
-times_at [] i h = absurd (omega arith)
-times_at (b ∷ ks) zero h = omega (arith, times-cons b b ks, one_same b)
-times_at (b ∷ ks) (suc i) h = omega (arith, times-cons (get_or ks i 0) b ks, times_at ks i (omega (arith, h)))
-
--- a counted block stands in the list
-place_in : (k : ℕ) (ks : List ℕ) → 0 < times k ks → (i : ℕ) × (i < length ks) × (get_or ks i 0 ≡ k)
-place_in k [] h = absurd (omega (arith, h, times-nil k))
-place_in k (b ∷ ks) h = elim (cases_eq b k) [
-  | inl e ↦ (0, omega arith, e)
-  | inr ne ↦
-      let rest = place_in k ks (omega (arith, h, times-cons k b ks, one_other k b ne)) in
-      (suc rest.0, omega (arith, rest.1), rest.2)
-]
-
--- a block that stands at two places is counted twice
-two_times : (ks : List ℕ) (i j : ℕ) → i < j → j < length ks → get_or ks i 0 ≡ get_or ks j 0
-    → 2 ≤ times (get_or ks j 0) ks
-two_times [] i j lt h same = absurd (omega arith)
-two_times (b ∷ ks) i zero lt h same = absurd (omega arith)
-two_times (b ∷ ks) zero (suc j) lt h same =
-    let here : one (get_or ks j 0) b ≡ 1 = rw same (one_same (get_or ks j 0)) in
-    omega (arith, times-cons (get_or ks j 0) b ks, here, times_at ks j (omega (arith, h)))
-two_times (b ∷ ks) (suc i) (suc j) lt h same =
-    let later : 2 ≤ times (get_or ks j 0) ks = two_times ks i j (omega (arith, lt)) (omega (arith, h)) same in
-    omega (arith, times-cons (get_or ks j 0) b ks, later)
-
 -- where no block is counted twice none stands at two places
 distinct_by : (ks : List ℕ) → ((i : ℕ) → i < length ks → times (get_or ks i 0) ks ≤ 1) → IsDistinct ks
 distinct_by ks once i j hi hj same = elim (cases_eq i j) [
@@ -79,24 +33,6 @@ distinct_by ks once i j hi hj same = elim (cases_eq i j) [
         let less : j < i = omega (arith, ne, ge) in
         absurd (omega (arith, two_times ks j i less hi (sym same), once i hi))
   ]
-]
-
-distinct_rest : (b : ℕ) (ks : List ℕ) → IsDistinct (b ∷ ks) → IsDistinct ks
-distinct_rest b ks d i j hi hj same =
-    omega (arith, d (suc i) (suc j) (omega (arith, hi)) (omega (arith, hj)) same)
-
--- a list without doubles counts no block twice
-times_once : (k : ℕ) (ks : List ℕ) → IsDistinct ks → times k ks ≤ 1
-times_once k [] d = omega (arith, times-nil k)
-times_once k (b ∷ ks) d = elim (cases_eq b k) [
-  | inl e ↦ elim (cases_eq (times k ks) 0) [
-    | inl none ↦ (let here : one k b ≡ 1 = rw e (one_same k) in omega (arith, times-cons k b ks, here, none))
-    | inr some ↦
-        let place = place_in k ks (omega (arith, some)) in
-        let same = d 0 (suc place.0) (omega arith) (omega (arith, place.1)) (e ∙ sym place.2) in
-        absurd (omega (arith, same))
-  ]
-  | inr ne ↦ omega (arith, times-cons k b ks, one_other k b ne, times_once k ks (distinct_rest b ks d))
 ]
 
 -- The blocks of a closed file's tiles may be claimed where its metadata alone is marked.

@@ -1,6 +1,6 @@
 -- The parts of an opening: the blocks that indexes list, the coverages that are attached so far, and what a disk lists.
-use Rattle.std.proofs.Common.{◌≡◌, ◌≢◌, ℕ, zero, suc, ◌+◌, ◌*◌, ◌/◌, ◌<◌, ◌≤◌, max, Bool, List, [], ◌∷◌, ◌++◌, length, map, take, get_or, Vec, Contains, None, arith, refl, sym, ◌∙◌, ap, subst, inl, inr, All, append-nil}
-use Rattle.std.specs.Prelude.{nat_eq, if◌then◌else◌, IsTrue, slice_index, ◌⊎◌, ⊤}
+use Rattle.std.proofs.Common.{◌≡◌, ℕ, zero, suc, ◌+◌, ◌/◌, ◌<◌, ◌≤◌, max, List, [], ◌∷◌, ◌++◌, length, take, get_or, Vec, Contains, None, arith, refl, sym, ◌∙◌, ap, subst, inl, inr, append-nil}
+use Rattle.std.specs.Prelude.{nat_eq, if◌then◌else◌, ◌⊎◌}
 use Rattle.std.specs.List.{flat_map}
 use Rattle.std.specs.declared.alloc.Global.{Global}
 use Rattle.std.proofs.lemmas.Bool.Decides.{nat_tests}
@@ -10,19 +10,18 @@ use Rattle.std.proofs.lemmas.List.Sums.{sum_by-append, sum_by-cons}
 use Rattle.arr_core.specs.declared.signature.Signature.{Signature}
 use Rattle.arr_core.specs.Names.{AreDistinct}
 use Rattle.arr_core.specs.Stores.{Store, found}
-use Rattle.block_file.specs.Blocks.{block_at}
-use Rattle.block_file.specs.Format.{IsStoreFile, IsClosed, IsDamaged, HeaderTorn, number_at, first_of, chain_blocks}
-use Rattle.block_file.specs.View.{MarksChain, CanClaim, Claims, IsFresh, free_in, kept_in}
+use Rattle.block_file.specs.Format.{IsClosed, IsDamaged, HeaderTorn, number_at, chain_blocks}
+use Rattle.block_file.specs.View.{CanClaim, IsFresh, free_in, kept_in}
 use Rattle.catalogue.proofs.Held.{contains_here, contains_later, contains_cases, nothing_in_nil}
 use Rattle.catalogue.specs.Bytes.{catalogue_bytes}
 use Rattle.catalogue.specs.Signatures.{names_of, IsCatalogue}
-use Rattle.metadata.specs.Metadata.{IsMetadata, AreCounted, metadata_bytes}
+use Rattle.metadata.specs.Metadata.{IsMetadata, AreCounted}
 use Rattle.tile_index.specs.declared.entry.Entry.{Entry}
 use Rattle.tile_index.specs.declared.index.TileIndex.{TileIndex}
 use Rattle.tile_store.specs.Listing.{times, times_in}
 use Rattle.raster_store.specs.Views.{Index, times_fields, times_all, metadata_size, reserve, coverage_in, coverages_in, AreBelow}
 use Rattle.raster_store.proofs.Totals.{times_all-nil, times_all-push}
-use Rattle.coverage_server.specs.Disk.{AreTiles, IsTileBlock, IsLaidOut, ListsCoverages, ListsStore, HoldsStore, IsWant, IsNoStore}
+use Rattle.coverage_server.specs.Disk.{AreTiles, IsTileBlock, IsLaidOut, HoldsStore, IsWant, IsNoStore}
 use Rattle.tile_store.specs.declared.fault.Fault.{Fault}
 use Rattle.tile_store.specs.declared.fault.Fault.TheVariants as device
 use Rattle.coverage_server.specs.Opening.{items_of, IsOpened, IsListed, ClaimsListed, IsNotLaidOut, Lists, Departs, attach_fault}

@@ -1,5 +1,5 @@
 -- A connection that is being served, and how it ends.
-use Rattle.std.proofs.Common.{◌≡◌, ℕ, ◌+◌, ◌<◌, Bool, true, false, List, [], ◌∷◌, ◌++◌, length, Option, refl, sym, ap, ◌∙◌, subst, arith, append_assoc, append-nil}
+use Rattle.std.proofs.Common.{◌≡◌, ℕ, ◌+◌, ◌<◌, ◌≤◌, Result, Ok, Err, inl, inr, Bool, true, false, List, [], ◌∷◌, ◌++◌, length, Option, refl, sym, ap, ◌∙◌, subst, arith, append_assoc, append-nil}
 use Rattle.std.proofs.lemmas.List.{length-append}
 use Rattle.std.specs.Io.KnownBytes.{Appends, Consumes, IsAtEnd}
 use Rattle.std.proofs.KnownBytes.{Appends-trans, Consumes-trans}
@@ -9,42 +9,92 @@ use Rattle.coverage_server.specs.Bytes.{AppendsPrefix}
 use Rattle.coverage_server.specs.Replies.{reply_bytes}
 use Rattle.coverage_server.specs.Stream.{HasNoHead, Item, at_end, at_fault, Messages, Taken, Fronts}
 use Rattle.coverage_server.proofs.TakenLemmas.{Taken-append, Taken-push, Messages-after, Begins-after, rest_of, rest_at_end, all_of, last_message, one_message, whole_message, room_after}
+use Rattle.coverage_server.specs.declared.server.ConnEnd.{ConnEnd}
 use Rattle.coverage_server.specs.declared.server.ConnEnd.TheVariants.{Finished, ReadFault, WriteFault}
-use Rattle.coverage_server.specs.Machine.{MessageStep, Run}
+use Rattle.disk_face.specs.Disk.{Rose}
+use Rattle.coverage_server.specs.Requests.{Asks, spelled}
+use Rattle.coverage_server.specs.declared.request.RequestError.{RequestError}
+use Rattle.coverage_server.specs.Machine.{SpelledStep, MessageStep, Run}
 use Rattle.coverage_server.specs.Serves.{ServesConnection}
 
-pub Run-push : (items : List Item) (old mid new : Store) (text : List ℕ) (item : Item) (reply : Reply) → Run old items text mid
-    → MessageStep mid item.asked reply new → Run old (items ++ item ∷ []) (text ++ reply_bytes item.last item.bare reply) new
-Run-push [] old mid new text item reply x s = (
+-- what the machine may tell where the disk may have failed holds where that is told of a longer time too
+spelled-later : {P Q : Type 0} → (P → Q) → (r : Result Asks RequestError) (old : Store) (reply : Reply) (new : Store) → SpelledStep P r old reply new
+    → SpelledStep Q r old reply new
+spelled-later f (Ok asks) old reply new (inl x) = inl x
+spelled-later f (Ok asks) old reply new (inr (inl x)) = inr (inl x)
+spelled-later f (Ok asks) old reply new (inr (inr (inl x))) = inr (inr (inl (f x.0, x.1)))
+spelled-later f (Ok asks) old reply new (inr (inr (inr x))) = inr (inr (inr x))
+spelled-later f (Err e) old reply new x = x
+
+pub step-later : {P Q : Type 0} → (P → Q) → (old : Store) (asked : Result (List ℕ) ℕ) (reply : Reply) (new : Store) → MessageStep P old asked reply new
+    → MessageStep Q old asked reply new
+step-later f old (Ok pairs) reply new x = spelled-later f (spelled pairs) old reply new x
+step-later f old (Err code) reply new x = x
+
+run-later : {P Q : Type 0} → (P → Q) → (old : Store) (items : List Item) (text : List ℕ) (new : Store) → Run P old items text new → Run Q old items text new
+run-later f old [] text new x = x
+run-later f old (item ∷ items) text new x =
+    (x.0, x.1, x.2, step-later f old item.asked x.1 x.0 x.3, x.4, run-later f x.0 items x.2 new x.5)
+
+pub connection-later : {P Q : Type 0} → (P → Q) → (before after held holds : Option (List ℕ)) (old new : Store) (end : ConnEnd)
+    → ServesConnection P before after held holds old new end → ServesConnection Q before after held holds old new end
+connection-later f before after held holds old new Finished x = (x.0, x.1, x.2, x.3, x.4, run-later f old x.2 x.4 new x.5, x.6)
+connection-later f before after held holds old new ReadFault x = (x.0, x.1, x.2, x.3, x.4, run-later f old x.2 x.4 new x.5, x.6)
+connection-later f before after held holds old new WriteFault x = (
+  x.0,
+  x.1,
+  x.2,
+  x.3,
+  x.4,
+  x.5,
+  x.6,
+  run-later f old x.2 x.5 x.6 x.7,
+  x.8,
+  x.9,
+  x.10,
+  step-later f x.6 x.3.asked x.10 new x.11,
+  x.12,
+)
+
+-- a count that rose by some time has risen by a later one, and since an earlier one
+pub rose-by : (old mid new : ℕ) → mid ≤ new → Rose old mid → Rose old new
+rose-by old mid new later rose = omega (arith, rose)
+
+pub rose-since : (old mid new : ℕ) → old ≤ mid → Rose mid new → Rose old new
+rose-since old mid new later rose = omega (arith, rose)
+
+pub Run-push : (P : Type 0) (items : List Item) (old mid new : Store) (text : List ℕ) (item : Item) (reply : Reply) → Run P old items text mid
+    → MessageStep P mid item.asked reply new → Run P old (items ++ item ∷ []) (text ++ reply_bytes item.last item.bare reply) new
+Run-push P [] old mid new text item reply x s = (
   new,
   reply,
   [],
-  subst (λ o. MessageStep o item.asked reply new) x.1 s,
+  subst (λ o. MessageStep P o item.asked reply new) x.1 s,
   ap (λ (l : List ℕ). l ++ reply_bytes item.last item.bare reply) x.0 ∙ sym (append-nil (reply_bytes item.last item.bare reply)),
   (refl, refl),
 )
-Run-push (first ∷ items) old mid new text item reply x s = (
+Run-push P (first ∷ items) old mid new text item reply x s = (
   x.0,
   x.1,
   x.2 ++ reply_bytes item.last item.bare reply,
   x.3,
   ap (λ (l : List ℕ). l ++ reply_bytes item.last item.bare reply) x.4 ∙ append_assoc (reply_bytes first.last first.bare x.1) x.2 (reply_bytes item.last item.bare reply),
-  Run-push items x.0 mid new x.2 item reply x.5 s,
+  Run-push P items x.0 mid new x.2 item reply x.5 s,
 )
 
 -- What has come, the messages in it, and their replies, which went out.
-pub record Serving (before now held holds : Option (List ℕ)) (old new : Store) (buffer : List ℕ) (count : ℕ) : Type 0 where
+pub record Serving (failed : Type 0) (before now held holds : Option (List ℕ)) (old new : Store) (buffer : List ℕ) (count : ℕ) : Type 0 where
   pub came : List ℕ
   pub took : Consumes before now came
   pub items : List Item
   pub taken : Taken 0 came items buffer
   pub replies : List ℕ
-  pub run : Run old items replies new
+  pub run : Run failed old items replies new
   pub sent : Appends held holds replies
   pub counted : count ≡ length items
 
-module _ {before now held holds : Option (List ℕ)} {old new : Store} {buffer : List ℕ} {count : ℕ}
-    (s : Serving before now held holds old new buffer count) (later : Option (List ℕ)) (more : List ℕ) (took : Consumes now later more) where
+module _ {failed : Type 0} {before now held holds : Option (List ℕ)} {old new : Store} {buffer : List ℕ} {count : ℕ}
+    (s : Serving failed before now held holds old new buffer count) (later : Option (List ℕ)) (more : List ℕ) (took : Consumes now later more) where
   taken_all : Taken 0 ((s.came ++ more) ++ rest_of later) s.items ((buffer ++ more) ++ rest_of later)
   taken_all =
       Taken-append 0 (s.came ++ more) s.items (buffer ++ more) (rest_of later) (Taken-append 0 s.came s.items buffer more s.taken)
@@ -55,7 +105,7 @@ module _ {before now held holds : Option (List ℕ)} {old new : Store} {buffer :
   from_zero : count ≡ 0 + length s.items
   from_zero = omega (arith, s.counted)
 
-  pub ended : IsAtEnd later → buffer ++ more ≡ [] → ServesConnection before later held holds old new Finished
+  pub ended : IsAtEnd later → buffer ++ more ≡ [] → ServesConnection failed before later held holds old new Finished
   ended end none =
       let nothing : (buffer ++ more) ++ rest_of later ≡ [] =
       ap (λ (l : List ℕ). (buffer ++ more) ++ l) (rest_at_end later end) ∙ append-nil (buffer ++ more) ∙ none in
@@ -69,7 +119,7 @@ module _ {before now held holds : Option (List ℕ)} {old new : Store} {buffer :
         s.sent,
       )
 
-  pub faulted : HasNoHead (buffer ++ more) → ServesConnection before later held holds old new ReadFault
+  pub faulted : HasNoHead (buffer ++ more) → ServesConnection failed before later held holds old new ReadFault
   faulted none =
       let messages = Messages-after at_fault 0 count _ s.items [] _ from_zero (Taken-append 0 s.came s.items buffer more s.taken) none in (
         s.came ++ more,
@@ -82,8 +132,11 @@ module _ {before now held holds : Option (List ℕ)} {old new : Store} {buffer :
       )
 
   module _ (left : List ℕ) (item : Item) (x : Fronts count (buffer ++ more) left later item) (newer : Store) (reply : Reply)
-      (step : MessageStep new item.asked reply newer) (last bare : Bool) (is : last ≡ item.last) (shown : bare ≡ item.bare) (gone : Option (List ℕ)) where
-    pub answered : last ≡ true → Appends holds gone (reply_bytes last bare reply) → ServesConnection before later held gone old newer Finished
+      (fails : Type 0) (since : failed → fails) (step : MessageStep fails new item.asked reply newer) (last bare : Bool) (is : last ≡ item.last) (shown : bare ≡ item.bare) (gone : Option (List ℕ)) where
+    ran : Run fails old s.items s.replies new
+    ran = run-later since old s.items s.replies new s.run
+
+    pub answered : last ≡ true → Appends holds gone (reply_bytes last bare reply) → ServesConnection fails before later held gone old newer Finished
     answered closed sent = (
       (s.came ++ more) ++ rest_of later,
       all_of before later (s.came ++ more) took_all,
@@ -91,11 +144,11 @@ module _ {before now held holds : Option (List ℕ)} {old new : Store} {buffer :
       Messages-after at_end 0 count _ s.items (item ∷ []) _ from_zero taken_all
           (last_message count (buffer ++ more) left later item x (sym is ∙ closed)),
       s.replies ++ reply_bytes item.last item.bare reply,
-      Run-push s.items old new newer s.replies item reply s.run step,
+      Run-push fails s.items old new newer s.replies item reply ran step,
       Appends-trans held holds gone s.replies (reply_bytes item.last item.bare reply) s.sent (subst (λ b. Appends holds gone (reply_bytes b item.bare reply)) is (subst (λ d. Appends holds gone (reply_bytes last d reply)) shown sent)),
     )
 
-    pub unwritten : AppendsPrefix holds gone (reply_bytes last bare reply) → ServesConnection before later held gone old newer WriteFault
+    pub unwritten : AppendsPrefix holds gone (reply_bytes last bare reply) → ServesConnection fails before later held gone old newer WriteFault
     unwritten sent = (
       (s.came ++ more) ++ rest_of later,
       all_of before later (s.came ++ more) took_all,
@@ -104,7 +157,7 @@ module _ {before now held holds : Option (List ℕ)} {old new : Store} {buffer :
       Begins-after 0 count _ s.items (item ∷ []) _ from_zero taken_all (one_message count (buffer ++ more) left later item x),
       s.replies,
       new,
-      s.run,
+      ran,
       holds,
       s.sent,
       reply,
@@ -113,7 +166,7 @@ module _ {before now held holds : Option (List ℕ)} {old new : Store} {buffer :
     )
 
     pub continued : (number : ℕ) → number ≡ count + 1 → last ≡ false → Appends holds gone (reply_bytes last bare reply)
-        → Serving before later held gone old newer left number
+        → Serving fails before later held gone old newer left number
     continued number numbered goes_on sent =
         let whole = whole_message count (buffer ++ more) left later item x (sym is ∙ goes_on) in
         record {
@@ -124,7 +177,7 @@ module _ {before now held holds : Option (List ℕ)} {old new : Store} {buffer :
               Taken-push 0 count (s.came ++ more) s.items item (buffer ++ more) left from_zero
               (Taken-append 0 s.came s.items buffer more s.taken) whole (sym is ∙ goes_on);
           replies = s.replies ++ reply_bytes item.last item.bare reply;
-          run = Run-push s.items old new newer s.replies item reply s.run step;
+          run = Run-push fails s.items old new newer s.replies item reply ran step;
           sent = Appends-trans held holds gone s.replies (reply_bytes item.last item.bare reply) s.sent (subst (λ b. Appends holds gone (reply_bytes b item.bare reply)) is (subst (λ d. Appends holds gone (reply_bytes last d reply)) shown sent));
           counted = omega (arith, numbered, s.counted, length-append s.items (item ∷ []));
         }

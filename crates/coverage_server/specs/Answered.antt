@@ -3,7 +3,7 @@ use Rattle.std.specs.Prelude.{◌⊎◌, Result, Ok, Err, ⊤}
 use Rattle.disk_face.specs.Disk.{Rose}
 use Rattle.arr_core.specs.Stores.{Store}
 use Rattle.coverage_server.specs.Requests.{Asks}
-use Rattle.coverage_server.specs.Machine.{Serves, Refuses}
+use Rattle.coverage_server.specs.Machine.{Serves, Fails}
 use Rattle.coverage_server.specs.Room.{LacksRoom}
 use Rattle.coverage_server.specs.Views.{ServerView, IsSound}
 use Rattle.coverage_server.specs.declared.front.reply.Reply.{Reply}
@@ -27,14 +27,8 @@ IsAnswer (Text text) = ⊤
 IsAnswer (Csv text) = ⊤
 IsAnswer (Refused code) = ⊥
 
--- A failure is told: want of memory (90) at any time, a disk fault (91) where the disk's count of failures rose or stands at its
--- last value, and want of room (92) where the request asks for more blocks than are free.
-abbrev pub FailsSo : Asks → ServerView → Reply → ServerView → Type 0
-FailsSo asks old reply new =
-    Refuses 90 old.store reply new.store
-    ⊎ (Refuses 91 old.store reply new.store × Rose old.failures new.failures)
-    ⊎ (Refuses 92 old.store reply new.store × LacksRoom asks old)
-
--- a reply of the machine, or a failure
+-- A reply of the machine, or a failure: want of memory (90) at any time, a disk fault (91) where the disk's count of failures rose
+-- or stands at its last value, and want of room (92) where the request asks for more blocks than are free.
 abbrev pub Steps : Asks → ServerView → Reply → ServerView → Type 0
-Steps asks old reply new = Serves asks old.store reply new.store ⊎ FailsSo asks old reply new
+Steps asks old reply new =
+    Serves asks old.store reply new.store ⊎ Fails (Rose old.failures new.failures) (LacksRoom asks old) old.store reply new.store

@@ -1,15 +1,16 @@
 -- The answer to the text of a query over a store: its comma-separated values, or the number of the refusal that it gets.
-use Rattle.std.specs.Prelude.{ℕ, ◌<◌, ◌≤◌, ◌⊎◌, ℤ, pos, List, map, length, Option, Some, None, Result, Ok, Err, slice_get, option_and_then, nat_le, nat_lt, ◌&&◌, if◌then◌else◌}
+use Rattle.std.specs.Prelude.{ℕ, ◌<◌, ◌≤◌, ℤ, pos, List, map, length, Option, Some, None, Result, Ok, Err, slice_get, option_and_then, nat_le, nat_lt, ◌&&◌, if◌then◌else◌}
 use Rattle.arr_core.specs.declared.signature.Signature.{Signature}
 use Rattle.arr_core.specs.Domains.{is_inside}
 use Rattle.arr_core.specs.Stores.{Coverage, Store, found, value_at}
 use Rattle.wcps_text.specs.declared.error.LexError.{LexError}
 use Rattle.wcps_text.specs.declared.error.LexError.TheVariants as lexing
 use Rattle.wcps_text.specs.Token.{Tok}
-use Rattle.wcps_text.specs.Lexing.{Piece, Lexed, Refused}
-use Rattle.wcps_text.specs.Limits.{deepest, forms, query_height}
+use Rattle.wcps_text.specs.Lexing.{Piece, Lexed, Refused, tokens_of}
+use Rattle.wcps_text.specs.Limits.{query_height}
 use Rattle.wcps_text.specs.Grammar.{IsSpelled}
 use Rattle.wcps_text.specs.Tree.{QueryTree}
+use Rattle.wcps_parse.specs.Outcome.{IsWithinLimits}
 use Rattle.wcps_types.specs.declared.refusal.TypeRefusal.{TypeRefusal}
 use Rattle.wcps_types.specs.Refusals.{number_of as type_number}
 use Rattle.wcps_types.specs.Typed.{TypedTree}
@@ -30,14 +31,6 @@ abbrev pub token_number : LexError → ℕ
 token_number lexing.BadToken = 30
 token_number lexing.NumberTooLarge = 31
 token_number lexing.NoMemory = 90
-
--- the tokens of a text, without where they stand
-abbrev pub tokens_in : List Piece → List Tok
-tokens_in pieces = map (λ (p : Piece). p.is) pieces
-
--- more than 512 brackets are open at once, or the words `condense` and `coverage` stand there more than 256 times
-abbrev pub AreTooDeep : List Tok → Type 0
-AreTooDeep tokens = (512 < deepest 0 tokens) ⊎ (256 < forms tokens)
 
 -- the stored number of a field of a coverage at a point, and 0 where there is none
 abbrev pub number_in : Option Coverage → ℕ → List ℤ → ℤ
@@ -66,15 +59,16 @@ typed_answer store (Err refusal) = Err (type_number refusal)
 abbrev pub tree_answer : Store → QueryTree → QueryAnswer
 tree_answer store q = if nat_le (query_height q) 64 then typed_answer store (typ_query (map signature_of store) q) else Err 33
 
--- tokens are too deep and refused as 33, else they spell nothing and are refused as 32, else they spell a query
+-- Tokens of which more than 512 brackets are open at once, or with more than 256 words `condense` and `coverage`, are refused
+-- as 33; else they spell nothing and are refused as 32, else they spell a query.
 pub data TokensAnswer : Store → List Tok → QueryAnswer → Type 0 where
-  too_deep : {store : Store} {ts : List Tok} → AreTooDeep ts → TokensAnswer store ts (Err 33)
-  no_query : {store : Store} {ts : List Tok} → ¬ (AreTooDeep ts) → ((q : QueryTree) → ¬ (IsSpelled ts q)) → TokensAnswer store ts (Err 32)
-  query : {store : Store} {ts : List Tok} (q : QueryTree) → ¬ (AreTooDeep ts) → IsSpelled ts q → TokensAnswer store ts (tree_answer store q)
+  too_deep : {store : Store} {ts : List Tok} → ¬ (IsWithinLimits ts) → TokensAnswer store ts (Err 33)
+  no_query : {store : Store} {ts : List Tok} → IsWithinLimits ts → ((q : QueryTree) → ¬ (IsSpelled ts q)) → TokensAnswer store ts (Err 32)
+  query : {store : Store} {ts : List Tok} (q : QueryTree) → IsWithinLimits ts → IsSpelled ts q → TokensAnswer store ts (tree_answer store q)
 
 -- a text of more than 65,536 bytes is refused as 14, else it has no tokens and is refused as 30 or 31, else it has tokens
 pub data TextAnswer : Store → List ℕ → QueryAnswer → Type 0 where
   too_long : {store : Store} {text : List ℕ} → 65536 < length text → TextAnswer store text (Err 14)
   no_tokens : {store : Store} {text : List ℕ} (e : LexError) → length text ≤ 65536 → Refused text e → TextAnswer store text (Err (token_number e))
   lexed : {store : Store} {text : List ℕ} {a : QueryAnswer} (pieces : List Piece) → length text ≤ 65536 → Lexed 0 text pieces
-      → TokensAnswer store (tokens_in pieces) a → TextAnswer store text a
+      → TokensAnswer store (tokens_of pieces) a → TextAnswer store text a

@@ -1,6 +1,6 @@
 -- The machine: its state is a store of coverages. A request leads to a reply and a next state; the refusals come in the order in
 -- which they stand here, and leave the state as it was.
-use Rattle.std.specs.Prelude.{◌≡◌, ℕ, ◌<◌, ◌⊎◌, ℤ, List, [], ◌∷◌, ◌++◌, length, map, replicate, slice_get, All, Result, Ok, Err, MatchOption, codes, string_bytes, FitsSigned, Some}
+use Rattle.std.specs.Prelude.{◌≡◌, ℕ, ◌<◌, ◌⊎◌, ℤ, List, [], ◌∷◌, ◌++◌, length, map, replicate, slice_get, All, Result, Ok, Err, MatchOption, codes, string_bytes, FitsSigned, Some, ⊤}
 use Rattle.std.specs.Int.{w32}
 use Rattle.std.specs.List.{flat_map}
 use Rattle.arr_core.specs.declared.cell.FieldType.{FieldType}
@@ -121,27 +121,37 @@ Serves (update_coverage name field intervals cells) = Updates name field interva
 Serves list_coverages = Lists
 Serves (process_coverages query) = Answers query
 
--- want of memory, a disk fault or want of room, which change nothing
-abbrev pub Fails : Store → Reply → Store → Type 0
-Fails old reply new = Refuses 90 old reply new ⊎ Refuses 91 old reply new ⊎ Refuses 92 old reply new
+-- the requests that write, which alone may want room
+abbrev pub MayWantRoom : Asks → Type 0
+MayWantRoom (insert_coverage name intervals fields) = ⊤
+MayWantRoom (update_coverage name field intervals cells) = ⊤
+MayWantRoom list_coverages = ⊥
+MayWantRoom (process_coverages query) = ⊥
+
+-- Want of memory, a disk fault or want of room, which change nothing. A disk fault is told only where the disk may have failed,
+-- and want of room only where it may be wanting.
+abbrev pub Fails : Type 0 → Type 0 → Store → Reply → Store → Type 0
+Fails failed wanting old reply new =
+    Refuses 90 old reply new ⊎ (failed × Refuses 91 old reply new) ⊎ (wanting × Refuses 92 old reply new)
 
 -- a step: in place of any reply a failure may be told, with the state unchanged
-abbrev pub Step : Asks → Store → Reply → Store → Type 0
-Step asks old reply new = Serves asks old reply new ⊎ Fails old reply new
+abbrev pub Step : Type 0 → Asks → Store → Reply → Store → Type 0
+Step failed asks old reply new = Serves asks old reply new ⊎ Fails failed (MayWantRoom asks) old reply new
 
 -- the step of what the pairs of a message spell, or of their refusal
-abbrev pub SpelledStep : Result Asks RequestError → Store → Reply → Store → Type 0
-SpelledStep (Ok asks) old reply new = Step asks old reply new
-SpelledStep (Err e) old reply new = Refuses (number_of e) old reply new ⊎ Refuses 90 old reply new
+abbrev pub SpelledStep : Type 0 → Result Asks RequestError → Store → Reply → Store → Type 0
+SpelledStep failed (Ok asks) old reply new = Step failed asks old reply new
+SpelledStep failed (Err e) old reply new = Refuses (number_of e) old reply new ⊎ Refuses 90 old reply new
 
 -- the step of a message: its pairs are read, or it is refused
-abbrev pub MessageStep : Store → Result (List ℕ) ℕ → Reply → Store → Type 0
-MessageStep old (Ok pairs) reply new = SpelledStep (spelled pairs) old reply new
-MessageStep old (Err code) reply new = Refuses code old reply new ⊎ Refuses 90 old reply new
+abbrev pub MessageStep : Type 0 → Store → Result (List ℕ) ℕ → Reply → Store → Type 0
+MessageStep failed old (Ok pairs) reply new = SpelledStep failed (spelled pairs) old reply new
+MessageStep failed old (Err code) reply new = Refuses code old reply new ⊎ Refuses 90 old reply new
 
--- The messages lead from one state to the other, and these bytes are their replies.
-abbrev pub Run : Store → List Item → List ℕ → Store → Type 0
-Run old [] bytes new = (bytes ≡ []) × (new ≡ old)
-Run old (item ∷ items) bytes new =
-    (mid : Store) × (reply : Reply) × (later : List ℕ) × MessageStep old item.asked reply mid
-    × (bytes ≡ reply_bytes item.last item.bare reply ++ later) × Run mid items later new
+-- The messages lead from one state to the other, and these bytes are their replies. Disk faults are among them only where the
+-- disk may have failed.
+abbrev pub Run : Type 0 → Store → List Item → List ℕ → Store → Type 0
+Run failed old [] bytes new = (bytes ≡ []) × (new ≡ old)
+Run failed old (item ∷ items) bytes new =
+    (mid : Store) × (reply : Reply) × (later : List ℕ) × MessageStep failed old item.asked reply mid
+    × (bytes ≡ reply_bytes item.last item.bare reply ++ later) × Run failed mid items later new

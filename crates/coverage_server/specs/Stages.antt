@@ -10,6 +10,7 @@ use Rattle.wcps_text.specs.Lexing.{Lexed, Refused, piece}
 use Rattle.wcps_text.specs.Limits.{query_height}
 use Rattle.wcps_text.specs.Grammar.{IsSpelled}
 use Rattle.wcps_text.specs.Tree.{query_view}
+use Rattle.wcps_parse.specs.Outcome.{IsWithinLimits}
 use Rattle.wcps_types.specs.declared.refusal.TypeRefusal.{TypeRefusal}
 use Rattle.wcps_types.specs.declared.typed.TypedQuery.{TypedQuery}
 use Rattle.wcps_types.specs.Refusals.{number_of as type_number}
@@ -21,7 +22,7 @@ use Rattle.wcps_mean.specs.declared.answer.EvalError.{EvalError}
 use Rattle.wcps_mean.specs.declared.answer.EvalError.TheVariants as evaluation
 use Rattle.wcps_mean.specs.declared.cells.CellError.TheVariants as cell
 use Rattle.wcps_mean.specs.Faults.{number_of as fault_number}
-use Rattle.coverage_server.specs.Asking.{QueryAnswer, token_number, AreTooDeep, TokensAnswer, number_in}
+use Rattle.coverage_server.specs.Asking.{QueryAnswer, token_number, TokensAnswer, number_in}
 use Rattle.coverage_server.specs.declared.arguments.Refusal.{Refusal}
 use Rattle.coverage_server.specs.declared.arguments.Refusal.TheVariants.{Numbered, NoMemory, DiskFault, NoRoom, Damaged}
 use Rattle.disk_face.specs.Disk.{Rose}
@@ -38,7 +39,7 @@ GivesTokens text (Err Damaged) = ⊥
 
 -- a query within the limits that the tokens spell, or their refusal, which is the same over each store
 abbrev pub GivesQuery : List Tok → Result Query Refusal → Type 0
-GivesQuery ts (Ok q) = (¬ (AreTooDeep ts)) × IsSpelled ts (query_view q) × (query_height (query_view q) ≤ 64)
+GivesQuery ts (Ok q) = IsWithinLimits ts × IsSpelled ts (query_view q) × (query_height (query_view q) ≤ 64)
 GivesQuery ts (Err (Numbered code)) = (store : Store) → TokensAnswer store ts (Err code)
 GivesQuery ts (Err NoMemory) = ⊤
 GivesQuery ts (Err DiskFault) = ⊥

@@ -1,5 +1,5 @@
 //! A server is closed: the metadata is written, then the header, and the disk comes out.
-ghost use Rattle.std.specs.Prelude.{◌≡◌, ◌++◌, ◌<◌, length, IsSomeAnd, IsErrOf, IsTrue, IfOk, IfErr, OnOk, OnErr};
+ghost use Rattle.std.specs.Prelude.{◌≡◌, ◌++◌, ◌<◌, ◌≤◌, length, IsSomeAnd, IsErrOf, IsTrue, IfOk, IfErr, OnOk, OnErr};
 ghost use Rattle.arr_core.specs.Stores.{found};
 ghost use Rattle.catalogue.specs.Bytes.{catalogue_bytes};
 ghost use Rattle.catalogue.specs.Signatures.{IsCatalogue};
@@ -101,6 +101,7 @@ fn write_closed<D: Disk>(alloc: Global, coverages: &mut Coverages<D>) -> Result<
     ensures sound { IsSound coverages.old → IsSound coverages.new }
     ensures honest { coverages.new.honest ≡ coverages.old.honest }
     ensures disk_fault { IsErrOf result CloseFault.DiskFault → Rose coverages.old.failures coverages.new.failures }
+    ensures no_fewer { coverages.old.failures ≤ coverages.new.failures }
 {
     let metadata = metadata_of(alloc, coverages)?;
     match coverages.write_metadata(&metadata) {
@@ -119,6 +120,8 @@ impl<D: Disk> Server<D> {
         ensures unchanged { IfErr result (λ refused. IsUnchanged self refused.server) }
         ensures sound { IfErr result (λ refused. IsSound self → IsSound refused.server) }
         ensures disk_fault { IfErr result (λ refused. refused.fault ≡ CloseFault.DiskFault → Rose self.failures refused.server.failures) }
+        ensures closed_no_fewer { IfOk result (λ disk. self.failures ≤ D.failures disk) }
+        ensures no_fewer { IfErr result (λ refused. self.failures ≤ refused.server.failures) }
     {
         let Server { mut cells } = self;
         let alloc = cells.alloc;

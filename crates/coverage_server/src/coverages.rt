@@ -1,5 +1,5 @@
 //! The coverages of a disk: their catalogue, and their cells in tiles.
-ghost use Rattle.std.specs.Prelude.{◌≡◌, ◌/◌, ◌<◌, ◌⊎◌, map, length, IsSomeAnd, IfOk, IfErr, OnOk, OnErr, IsErrOf, IsTrue};
+ghost use Rattle.std.specs.Prelude.{◌≡◌, ◌/◌, ◌<◌, ◌≤◌, ◌⊎◌, map, length, IsSomeAnd, IfOk, IfErr, OnOk, OnErr, IsErrOf, IsTrue};
 ghost use Rattle.arr_core.specs.Domains.{points};
 ghost use Rattle.arr_core.specs.Stores.{found, inserted, updated, value_at};
 ghost use Rattle.arr_core.specs.Tiles.{tile_boxes};
@@ -11,7 +11,7 @@ ghost use Rattle.catalogue.specs.Signatures.{MayInsert};
 ghost use Rattle.tile_store.specs.Faults.{FaultCounts};
 ghost use Rattle.tile_store.specs.Stored.{tile_box};
 ghost use Rattle.raster_store.specs.Calls.{HasField, index_of};
-ghost use Rattle.disk_face.specs.Disk.{Rose};
+ghost use Rattle.disk_face.specs.Disk.{Counts, Rose};
 ghost use Rattle.coverage_server.specs.Contents.{content_view};
 ghost use Rattle.coverage_server.specs.Closing.{bytes_written, IsWritten};
 ghost use Rattle.coverage_server.specs.Contents as contents;
@@ -142,6 +142,7 @@ impl<D: Disk> Coverages<D> {
         ensures sound { IsSound self.old → IsSound self.new }
         ensures content { self.new.content ≡ self.old.content }
         ensures honest { self.new.honest ≡ self.old.honest }
+        ensures failures { self.new.failures ≡ self.old.failures }
     {
         if let Err(error) = self.catalogue.check(&signature) {
             return Err(insert_refusal(error));
@@ -175,6 +176,7 @@ impl<D: Disk> Coverages<D> {
         ensures may { OnOk result (MayWrite name.now field area.now (content_view content.now) self.old.store) }
         ensures refused { IfErr result (WriteRefused name.now field area.now (content_view content.now) self.old) }
         ensures disk_fault { IsErrOf result Refusal.DiskFault → Rose self.old.failures self.new.failures }
+        ensures no_fewer { self.old.failures ≤ self.new.failures }
         ensures unchanged { OnErr result (IsUnchanged self.old self.new) }
         ensures sound { IsSound self.old → IsSound self.new }
         ensures header { KeepsHeader self.old.content self.new.content }
@@ -193,6 +195,7 @@ impl<D: Disk> Coverages<D> {
         ensures may { OnOk result (MayWrite name.now field area.now (contents.fill cell) self.old.store) }
         ensures refused { IfErr result (WriteRefused name.now field area.now (contents.fill cell) self.old) }
         ensures disk_fault { IsErrOf result Refusal.DiskFault → Rose self.old.failures self.new.failures }
+        ensures no_fewer { self.old.failures ≤ self.new.failures }
         ensures unchanged { OnErr result (IsUnchanged self.old self.new) }
         ensures sound { IsSound self.old → IsSound self.new }
         ensures header { KeepsHeader self.old.content self.new.content }
@@ -218,6 +221,7 @@ impl<D: Disk> Coverages<D> {
         ensures may { OnOk result (MayWrite name.now field area.now (contents.values cells.now) self.old.store) }
         ensures refused { IfErr result (WriteRefused name.now field area.now (contents.values cells.now) self.old) }
         ensures disk_fault { IsErrOf result Refusal.DiskFault → Rose self.old.failures self.new.failures }
+        ensures no_fewer { self.old.failures ≤ self.new.failures }
         ensures unchanged { OnErr result (IsUnchanged self.old self.new) }
         ensures sound { IsSound self.old → IsSound self.new }
         ensures header { KeepsHeader self.old.content self.new.content }
@@ -278,6 +282,7 @@ impl<D: Disk> Coverages<D> {
         ensures sound { IsSound self.old → IsSound self.new }
         ensures honest { self.new.honest ≡ self.old.honest }
         ensures disk_fault { IsErrOf result Refusal.DiskFault → Rose self.old.failures self.new.failures }
+        ensures no_fewer { self.old.failures ≤ self.new.failures }
         ensures fault { IfErr result (λ e. (e ≡ Refusal.NoMemory) ⊎ (e ≡ Refusal.DiskFault)) }
     {
         let _catalogue = self.catalogue.len();
@@ -295,6 +300,7 @@ impl<D: Disk> Coverages<D> {
         ensures sound { IsSound self.old → IsSound self.new }
         ensures honest { self.new.honest ≡ self.old.honest }
         ensures disk_fault { OnErr result (Rose self.old.failures self.new.failures) }
+        ensures no_fewer { self.old.failures ≤ self.new.failures }
         ensures fault { IfErr result (λ e. e ≡ Refusal.DiskFault) }
     {
         match self.cells.write_header(State::Closed, first, length) {
@@ -311,7 +317,7 @@ impl<D: Disk> Coverages<D> {
         ensures store { IsTrue self.old.honest → self.new.store ≡ self.old.store }
         ensures sound { IsSound self.old → IsSound self.new }
         ensures honest { self.new.honest ≡ self.old.honest }
-        ensures disk_fault { OnErr result (Rose self.old.failures self.new.failures) }
+        ensures counts { Counts result self.old.failures self.new.failures }
     {
         self.cells.write_header(State::Open, 0, 0)
     }

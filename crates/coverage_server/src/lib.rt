@@ -16,8 +16,5 @@ pub use closing::{CloseFault, NotClosed};
 pub use front::reply::Reply;
 pub use opening::{NotOpened, OpenFault};
 pub use request::content::Content;
-pub use request::{Insertion, Interval, Request, Update};
+pub use request::{Insertion, Interval, Request, RequestError, Update, read_request};
 pub use server::{ConnEnd, Server};
-
-#[cfg(test)]
-mod tests;

@@ -266,6 +266,7 @@ impl<D: Disk> Server<D> {
         ensures sound { IfOk result (λ server. IsTrue (D.honest disk) → (store : Store) → HoldsStore (D.content disk) store → IsSound server) }
         ensures header { IfOk result (λ server. IsTrue (D.honest disk) → IsHeader server.content State.Open (length server.content / 4096) 0 0) }
         ensures honest { IfOk result (λ server. server.honest ≡ D.honest disk) }
+        ensures failures { IfOk result (λ server. server.failures ≡ D.failures disk) }
         ensures want { IfErr result (λ refused. IsTrue (D.honest disk) → (store : Store) → HoldsStore (D.content disk) store → IsWant refused.fault) }
         ensures refused { IfErr result (λ refused. IsTrue (D.honest disk) → IsNoStore (D.content disk) refused.fault) }
         ensures disk_fault { IfErr result (λ refused. refused.fault ≡ OpenFault.DiskFault → Rose (D.failures disk) (D.failures refused.disk)) }

@@ -1,5 +1,5 @@
 //! The answers of queries over the coverages.
-ghost use Rattle.std.specs.Prelude.{◌≡◌, IfOk, IfErr, map};
+ghost use Rattle.std.specs.Prelude.{◌≡◌, ◌≤◌, IfOk, IfErr, map};
 ghost use Rattle.arr_core.specs.declared.signature.Signature.{Signature};
 ghost use Rattle.wcps_text.specs.Token.{tok};
 ghost use Rattle.wcps_text.specs.Tree.{query_view};
@@ -91,6 +91,7 @@ fn items_of<D: Disk>(cells: &mut AskedCells<D>, typed: &TypedQuery) -> Result<Ve
     ensures items { IsSound cells.old.coverages → GivesItems (answer (cells_of cells.old.coverages.store typed.now.coverages.items) (typed_view typed.now)) result }
     ensures faults { IfErr result (FailsReading cells.old.coverages cells.new.coverages) }
     ensures still { still_of cells.new.coverages ≡ still_of cells.old.coverages }
+    ensures no_fewer { cells.old.coverages.failures ≤ cells.new.coverages.failures }
 {
     let alloc = cells.alloc;
     let names = names_of(alloc, typed.coverages())?;
@@ -107,6 +108,7 @@ fn values_of<D: Disk>(cells: &mut AskedCells<D>, query: &Query) -> Result<String
     ensures values { IsSound cells.old.coverages → GivesValues (typed_answer cells.old.coverages.store (typ_query (signatures_of cells.old.coverages.store) (query_view query.now))) result }
     ensures faults { IfErr result (FailsReading cells.old.coverages cells.new.coverages) }
     ensures still { still_of cells.new.coverages ≡ still_of cells.old.coverages }
+    ensures no_fewer { cells.old.coverages.failures ≤ cells.new.coverages.failures }
 {
     let alloc = cells.alloc;
     let signatures = cells.coverages.signatures(alloc)?;
@@ -122,6 +124,7 @@ pub fn process<D: Disk>(cells: &mut AskedCells<D>, text: &str) -> Result<Reply, 
     ensures answered { Answered (Answers text.now) ⊥ cells.old.coverages cells.new.coverages result }
     ensures answer { IfOk result IsAnswer }
     ensures still { still_of cells.new.coverages ≡ still_of cells.old.coverages }
+    ensures no_fewer { cells.old.coverages.failures ≤ cells.new.coverages.failures }
 {
     if text.len() > MAX_QUERY {
         return Err(Refusal::Numbered(14));

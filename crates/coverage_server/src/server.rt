@@ -1,6 +1,7 @@
 //! The server: requests act on the coverages, and each gets a reply.
-ghost use Rattle.std.specs.Prelude.{◌≡◌, ℕ, List, Result, IfOk, OnErr};
+ghost use Rattle.std.specs.Prelude.{◌≡◌, ◌≤◌, ℕ, List, Result, IfOk, OnErr};
 ghost use Rattle.block_file.specs.Format.{KeepsHeader};
+ghost use Rattle.disk_face.specs.Disk.{Rose};
 ghost use Rattle.coverage_server.specs.Requests.{asks};
 ghost use Rattle.coverage_server.specs.Stream.{Shows};
 ghost use Rattle.coverage_server.specs.Machine.{Inserts, Updates, Lists, Serves, MessageStep, axes_of};
@@ -57,6 +58,7 @@ fn insert<D: Disk>(
     ensures sound { IsSound coverages.old → IsSound coverages.new }
     ensures content { coverages.new.content ≡ coverages.old.content }
     ensures honest { coverages.new.honest ≡ coverages.old.honest }
+    ensures failures { coverages.new.failures ≡ coverages.old.failures }
 {
     if coverages.signature(&insertion.coverage).is_some() {
         return Err(Refusal::Numbered(21));
@@ -86,6 +88,7 @@ fn update<D: Disk>(
     ensures sound { IsSound coverages.old → IsSound coverages.new }
     ensures header { KeepsHeader coverages.old.content coverages.new.content }
     ensures honest { coverages.new.honest ≡ coverages.old.honest }
+    ensures no_fewer { coverages.old.failures ≤ coverages.new.failures }
 {
     let Some(signature) = coverages.signature(&update.coverage) else {
         return Err(Refusal::Numbered(20));
@@ -123,6 +126,7 @@ impl<D: Disk> Server<D> {
         ensures sound { IsSound self.old → IsSound self.new }
         ensures header { KeepsHeader self.old.content self.new.content }
         ensures honest { self.new.honest ≡ self.old.honest }
+        ensures no_fewer { self.old.failures ≤ self.new.failures }
     {
         let alloc = self.cells.alloc;
         match request {
@@ -144,6 +148,7 @@ impl<D: Disk> Server<D> {
         ensures sound { IsSound self.old → IsSound self.new }
         ensures header { KeepsHeader self.old.content self.new.content }
         ensures honest { self.new.honest ≡ self.old.honest }
+        ensures no_fewer { self.old.failures ≤ self.new.failures }
     {
         match self.answered(request) {
             Ok(reply) => reply,
@@ -157,10 +162,11 @@ impl<D: Disk> Server<D> {
 
     /// The reply to what a connection asks.
     fn reply_to(&mut self, next: Next) -> Reply
-        ensures step { IsSound self.old → (asked : Result (List ℕ) ℕ) → Shows asked next → MessageStep self.old.store asked result self.new.store }
+        ensures step { IsSound self.old → (asked : Result (List ℕ) ℕ) → Shows asked next → MessageStep (Rose self.old.failures self.new.failures) self.old.store asked result self.new.store }
         ensures sound { IsSound self.old → IsSound self.new }
         ensures header { KeepsHeader self.old.content self.new.content }
         ensures honest { self.new.honest ≡ self.old.honest }
+        ensures no_fewer { self.old.failures ≤ self.new.failures }
     {
         let alloc = self.cells.alloc;
         match next {
@@ -182,10 +188,11 @@ impl<D: Disk> Server<D> {
 
     /// Serves a connection to its end: reads messages, answers each and writes the replies.
     pub fn serve_connection<R: Read, W: Write>(&mut self, reader: &mut R, writer: &mut W) -> ConnEnd
-        ensures served { IsSound self.old → ServesConnection (R.remaining reader.old) (R.remaining reader.new) (W.contents writer.old) (W.contents writer.new) self.old.store self.new.store result }
+        ensures served { IsSound self.old → ServesConnection (Rose self.old.failures self.new.failures) (R.remaining reader.old) (R.remaining reader.new) (W.contents writer.old) (W.contents writer.new) self.old.store self.new.store result }
         ensures sound { IsSound self.old → IsSound self.new }
         ensures header { KeepsHeader self.old.content self.new.content }
         ensures honest { self.new.honest ≡ self.old.honest }
+        ensures no_fewer { self.old.failures ≤ self.new.failures }
     {
         let alloc = self.cells.alloc;
         let mut conn = Conn::new();

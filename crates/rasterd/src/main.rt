@@ -11,12 +11,13 @@ mod tests;
 
 use commands::Command;
 use disk_face::{FileDisk, MemDisk};
-use session::{NOT_OPENED, session_status, tell};
+use session::{NOT_OPENED, put, session_status, tell};
+use std::env;
+use std::io::{Read, Write};
 use std::process::ExitCode;
-use std::{env, io};
 
 /// What the program says where its words ask nothing.
-const USAGE: &str = "usage: rasterd FILE run or rasterd FILE listen PORT COUNT";
+const USAGE: &str = "usage: rasterd FILE run or rasterd FILE listen PORT COUNT\n";
 
 /// The status where the words ask nothing.
 const NO_COMMAND: u8 = 2;
@@ -43,21 +44,45 @@ pub fn command(words: &[String]) -> Option<Command<'_>>
     }
 }
 
-/// Serves standard input to standard output, as one connection over a file. Gives the status.
-fn run(rt: &HostRuntime, file: &str) -> u8 {
-    let alloc = rt.alloc();
-    let mut input = rt.stdin().lock();
-    let mut output = rt.stdout();
-    let mut errors = rt.stderr();
-    if file == "-" {
-        let disk = MemDisk::new(Vec::new(alloc));
-        return session_status(alloc, disk, &mut input, &mut output, &mut errors).0;
-    }
+/// Serves one connection over the store in a file, which is made where there is none. Gives the status.
+fn serve_file<R: Read, W: Write, E: Write>(
+    rt: &HostRuntime,
+    file: &str,
+    input: &mut R,
+    output: &mut W,
+    errors: &mut E,
+) -> u8 {
     match FileDisk::open(rt, file) {
-        Ok(disk) => session_status(alloc, disk, &mut input, &mut output, &mut errors).0,
+        Ok(disk) => session_status(rt.alloc(), disk, input, output, errors).0,
         Err(_) => {
-            tell(&mut errors, "not opened", DISK_FAULT);
+            tell(errors, "not opened", DISK_FAULT);
             NOT_OPENED
+        }
+    }
+}
+
+/// Does what the words after the program's name ask, from an input to an output, and says on a line of `errors` what
+/// was not done. Gives the status.
+fn run<R: Read, W: Write, E: Write>(
+    rt: &HostRuntime,
+    words: &[String],
+    input: &mut R,
+    output: &mut W,
+    errors: &mut E,
+) -> u8 {
+    let alloc = rt.alloc();
+    match command(words) {
+        Some(Command::Run(file)) => {
+            if file == "-" {
+                let disk = MemDisk::new(Vec::new(alloc));
+                return session_status(alloc, disk, input, output, errors).0;
+            }
+            serve_file(rt, file, input, output, errors)
+        }
+        None => {
+            put(errors, USAGE);
+            let _flushed = errors.flush();
+            NO_COMMAND
         }
     }
 }
@@ -76,16 +101,13 @@ fn words_of(rt: &HostRuntime) -> Option<Vec<String>> {
     Some(words)
 }
 
-fn main(rt: HostRuntime) -> io::Result<ExitCode> {
+fn main(rt: HostRuntime) -> ExitCode {
+    let mut errors = rt.stderr();
     let Some(words) = words_of(&rt) else {
-        tell(&mut rt.stderr(), "not opened", NO_MEMORY);
-        return Ok(ExitCode::from(NOT_OPENED));
+        tell(&mut errors, "not opened", NO_MEMORY);
+        return ExitCode::from(NOT_OPENED);
     };
-    match command(&words) {
-        Some(Command::Run(file)) => Ok(ExitCode::from(run(&rt, file))),
-        None => {
-            eprintln!(rt; "{USAGE}")?;
-            Ok(ExitCode::from(NO_COMMAND))
-        }
-    }
+    let mut input = rt.stdin().lock();
+    let mut output = rt.stdout();
+    ExitCode::from(run(&rt, &words, &mut input, &mut output, &mut errors))
 }

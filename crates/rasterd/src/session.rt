@@ -1,6 +1,7 @@
 //! One session: a store is opened, one connection is served, and the store is closed.
 ghost use Rattle.std.specs.Prelude.{◌≡◌, ◌⊎◌, IsSomeAnd, IsTrue};
 ghost use Rattle.block_file.specs.Format.{HeaderTorn};
+ghost use Rattle.disk_face.specs.Disk.{Rose};
 ghost use Rattle.rasterd.specs.Sessions.{Served};
 
 use arr_core::refusal_name;
@@ -20,7 +21,7 @@ pub const NOT_OPENED: u8 = 3;
 pub const NOT_CLOSED: u8 = 4;
 
 /// Writes a text; what cannot be written is left out.
-fn put<E: Write>(errors: &mut E, text: &str) {
+pub fn put<E: Write>(errors: &mut E, text: &str) {
     let _written = errors.write_all(text.as_bytes());
 }
 
@@ -47,7 +48,7 @@ pub fn session_status<D: Disk + Drop, R: Read, W: Write, E: Write>(
     errors: &mut E,
 ) -> (u8, Option<D>)
     ensures status { (result.0 ≡ 0) ⊎ (result.0 ≡ 3) ⊎ (result.0 ≡ 4) }
-    ensures served { result.0 ≡ 0 → IsSomeAnd result.1 (λ after. IsTrue (D.honest disk) → Served (D.content disk) (R.remaining reader.old) (R.remaining reader.new) (W.contents writer.old) (W.contents writer.new) (D.content after)) }
+    ensures served { result.0 ≡ 0 → IsSomeAnd result.1 (λ after. IsTrue (D.honest disk) → Served (Rose (D.failures disk) (D.failures after)) (D.content disk) (R.remaining reader.old) (R.remaining reader.new) (W.contents writer.old) (W.contents writer.new) (D.content after)) }
     ensures not_opened { result.0 ≡ 3 → IsSomeAnd result.1 (λ after. IsTrue (D.honest disk) → HeaderTorn (D.content disk) (D.content after)) }
 {
     let mut server = match Server::open(alloc, disk) {

@@ -1,10 +1,11 @@
 //! Sessions on disks in memory, one after the other.
 
-use crate::command;
 use crate::commands::Command;
 use crate::session::session_status;
+use crate::{command, run};
 use disk_face::{FailDisk, MemDisk};
 use std::alloc::{AllocError, Global};
+use std::fs;
 use std::test::Fail;
 
 /// Inserts a coverage, and fills it with 7.
@@ -54,6 +55,11 @@ fn bytes_after(alloc: Global, session: Ended) -> Vec<u8> {
     }
 }
 
+/// The replies to an insertion and an update.
+const TWICE_OK: &[u8] =
+    b"HTTP/1.1 200 OK\r\nContent-Type: text/plain\r\nContent-Length: 3\r\n\r\nok\n\
+HTTP/1.1 200 OK\r\nContent-Type: text/plain\r\nContent-Length: 3\r\n\r\nok\n";
+
 /// A reply in comma-separated values, `7` on a line.
 const SEVEN: &[u8] = b"HTTP/1.1 200 OK\r\nContent-Type: text/csv\r\nContent-Length: 2\r\n\r\n7\n";
 
@@ -67,6 +73,61 @@ fn a_store_is_found_again(rt: HostRuntime) -> Result<(), Fail> {
     assert_eq!(rt; second.replies.as_slice(), SEVEN);
     let third = session(alloc, bytes_after(alloc, second), ASKS);
     assert_eq!(rt; third.replies.as_slice(), SEVEN);
+    Ok(())
+}
+
+/// The words of a command.
+fn words_of(alloc: Global, words: &str) -> Result<Vec<String>, AllocError> {
+    let mut list = Vec::new(alloc);
+    for word in words.split(' ') {
+        list.push(String::from_str(alloc, word)?)?;
+    }
+    Ok(list)
+}
+
+/// A run of the program, with a stream of requests: its status, its replies, and what it says of errors.
+fn ran(
+    rt: &HostRuntime,
+    words: &str,
+    requests: &[u8],
+) -> Result<(u8, Vec<u8>, Vec<u8>), AllocError> {
+    let alloc = rt.alloc();
+    let list = words_of(alloc, words)?;
+    let mut reader = requests;
+    let mut replies = Vec::new(alloc);
+    let mut errors = Vec::new(alloc);
+    let status = run(rt, &list, &mut reader, &mut replies, &mut errors);
+    Ok((status, replies, errors))
+}
+
+#[test]
+fn a_store_is_found_again_in_its_file(rt: HostRuntime) -> Result<(), Fail> {
+    let _absent = fs::remove_file(&rt, "rasterd_test.tmp");
+    for (requests, expected) in [(WRITES, TWICE_OK), (ASKS, SEVEN), (ASKS, SEVEN)] {
+        let (status, replies, errors) = ran(&rt, "rasterd_test.tmp run", requests)?;
+        assert_eq!(rt; status, 0);
+        assert_eq!(rt; replies.as_slice(), expected);
+        assert!(rt; errors.is_empty());
+    }
+    fs::remove_file(&rt, "rasterd_test.tmp")?;
+    Ok(())
+}
+
+#[test]
+fn runs_that_serve_nothing(rt: HostRuntime) -> Result<(), Fail> {
+    for (words, number, line) in [
+        (
+            "- listen",
+            2,
+            "usage: rasterd FILE run or rasterd FILE listen PORT COUNT\n",
+        ),
+        ("no_such_folder/file run", 3, "not opened: 91 DiskFault\n"),
+    ] {
+        let (status, replies, errors) = ran(&rt, words, ASKS)?;
+        assert_eq!(rt; status, number);
+        assert!(rt; replies.is_empty());
+        assert_eq!(rt; errors.as_slice(), line.as_bytes());
+    }
     Ok(())
 }
 
@@ -127,10 +188,7 @@ fn commands(rt: HostRuntime) -> Result<(), Fail> {
         ("- listen", ""),
         ("- run more", ""),
     ] {
-        let mut list = Vec::new(alloc);
-        for word in words.split(' ') {
-            list.push(String::from_str(alloc, word)?)?;
-        }
+        let list = words_of(alloc, words)?;
         let found = match command(&list) {
             Some(Command::Run(name)) => name,
             None => "",

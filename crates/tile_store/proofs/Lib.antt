@@ -1,6 +1,6 @@
 mod Points
 mod Rows
-mod Times
+pub mod Times
 mod Fitting
 mod Indexes
 mod Sums

@@ -1,4 +1,4 @@
-use Rattle.std.proofs.Common.{◌≡◌, ◌∙◌, ◌+◌, [], ◌∷◌, ◌++◌, ℕ, List, Vec, ap, sym, subst, refl, length, arith, Err, append_assoc}
+use Rattle.std.proofs.Common.{◌∙◌, ◌+◌, [], ◌∷◌, ◌++◌, List, Vec, ap, sym, subst, refl, length, arith, Err, append_assoc}
 use Rattle.arr_core.specs.declared.signature.Signature.{Signature}
 use Rattle.std.specs.declared.alloc.Global.{Global}
 use Rattle.tile_index.specs.declared.index.TileIndex.{TileIndex}

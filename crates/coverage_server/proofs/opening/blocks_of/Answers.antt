@@ -1,4 +1,4 @@
-use Rattle.std.proofs.Common.{◌≡◌, ℕ, ◌+◌, List, Vec, take, ap, sym, ◌∙◌, arith}
+use Rattle.std.proofs.Common.{List, Vec, ap, sym, ◌∙◌, arith}
 use Rattle.std.specs.declared.alloc.Global.{Global}
 use Rattle.std.proofs.lemmas.List.{take_all}
 use Rattle.tile_index.specs.declared.index.TileIndex.{TileIndex}

@@ -1,5 +1,5 @@
-use Rattle.std.proofs.Common.{List, Vec, subst, arith}
-use Rattle.coverage_server.specs.Opening.{items_of, ClaimsListed}
+use Rattle.std.proofs.Common.{arith}
+use Rattle.coverage_server.specs.Opening.{items_of}
 use Rattle.coverage_server.proofs.OpeningLemmas.{layout_room, departs_map, unclaimed}
 use Rattle.coverage_server.proofs.opening.claim_layout.Goals as goal
 

@@ -1,8 +1,7 @@
-use Rattle.std.proofs.Common.{◌≡◌, ◌∙◌, ap, sym, subst, List, ℕ, Bool}
-use Rattle.std.specs.Prelude.{IsTrue}
-use Rattle.block_file.specs.View.{BlockFileView, free_in}
-use Rattle.raster_store.specs.Views.{Index, times_all, coverages_in}
-use Rattle.coverage_server.specs.Opening.{items_of, IsListed}
+use Rattle.std.proofs.Common.{◌∙◌, ap, sym, List, ℕ}
+use Rattle.block_file.specs.View.{BlockFileView}
+use Rattle.raster_store.specs.Views.{times_all, coverages_in}
+use Rattle.coverage_server.specs.Opening.{items_of}
 use Rattle.coverage_server.specs.Views.{signatures_of}
 use Rattle.coverage_server.proofs.LayoutLemmas.{may_attach}
 use Rattle.coverage_server.proofs.OpeningLemmas.{listed_counted, counted_all, signatures_same, lists_all, departs_map, beyond}

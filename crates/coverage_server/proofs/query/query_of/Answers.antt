@@ -1,18 +1,14 @@
 use Rattle.wcps_text.specs.Token.{toks}
-use Rattle.wcps_parse.specs.Outcome.{IsWithinLimits}
 use Rattle.coverage_server.specs.Asking.{no_query}
-use Rattle.coverage_server.proofs.AskingLemmas.{not_deep, refused_depth}
+use Rattle.coverage_server.proofs.AskingLemmas.{refused_depth}
 use Rattle.coverage_server.proofs.query.query_of.Goals as goal
 
 pub returns-in-Ok : goal.returns-in-Ok
-returns-in-Ok c =
-    let within : IsWithinLimits (toks c.args.tokens.now) = c.in-Ok.ensures.within in
-    (not_deep (toks c.args.tokens.now) within.brackets within.words, c.in-Ok.ensures.spelled, c.in-Ok.ensures.low)
+returns-in-Ok c = (c.in-Ok.ensures.within, c.in-Ok.ensures.spelled, c.in-Ok.ensures.low)
 
 pub returns-in-Err-BadSyntax : goal.returns-in-Err-BadSyntax
 returns-in-Err-BadSyntax c =
-    let within : IsWithinLimits (toks c.args.tokens.now) = c.in-Err-BadSyntax.ensures.syntax c.in-Err-BadSyntax.field-0-is in
-    λ store. no_query (not_deep (toks c.args.tokens.now) within.brackets within.words) (c.in-Err-BadSyntax.ensures.no_query c.in-Err-BadSyntax.field-0-is)
+    λ store. no_query (c.in-Err-BadSyntax.ensures.syntax c.in-Err-BadSyntax.field-0-is) (c.in-Err-BadSyntax.ensures.no_query c.in-Err-BadSyntax.field-0-is)
 
 pub returns-in-Err-TooDeep : goal.returns-in-Err-TooDeep
 returns-in-Err-TooDeep c =

@@ -1,4 +1,5 @@
 use Rattle.std.proofs.Common.{◌≡◌, sym}
+use Rattle.coverage_server.proofs.ServingLemmas.{connection-later, rose-by, rose-since}
 use Rattle.rasterd.proofs.session.session_status.Goals as goal
 
 pub returns-in-Ok-close-clause-served : goal.returns-in-Ok-close-clause-served
@@ -6,5 +7,6 @@ returns-in-Ok-close-clause-served g c =
     λ closed honest store holds.
     let sound = c.in-Ok.ensures.sound honest store holds in
     let after = c.serve_connection-end.ensures.sound sound in
-    rw (← c.in-Ok.ensures.store honest store holds)
-    (c.serve_connection-end.new.self.store, c.serve_connection-end.result, c.in-Ok-close.ensures.held after, c.serve_connection-end.ensures.served sound)
+    let served = connection-later (rose-by _ _ _ c.in-Ok-close.ensures.closed_no_fewer) _ _ _ _ _ _ _ (c.serve_connection-end.ensures.served sound) in
+    rw (← c.in-Ok.ensures.store honest store holds, ← c.in-Ok.ensures.failures)
+    (c.serve_connection-end.new.self.store, c.serve_connection-end.result, c.in-Ok-close.ensures.held after, served)

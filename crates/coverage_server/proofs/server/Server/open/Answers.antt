@@ -1,8 +1,5 @@
-use Rattle.std.proofs.Common.{◌≡◌, ◌∙◌, List, ℕ, Bool, sym, subst}
+use Rattle.std.proofs.Common.{◌∙◌, Bool, sym, subst}
 use Rattle.std.specs.Prelude.{IsTrue}
-use Rattle.arr_core.specs.Stores.{Store}
-use Rattle.raster_store.specs.Views.{Index, AreIntact}
-use Rattle.coverage_server.specs.Opening.{Lists}
 use Rattle.coverage_server.proofs.server.Server.open.Goals as goal
 
 pub returns-in-Ok-write_open-clause-store : goal.returns-in-Ok-write_open-clause-store

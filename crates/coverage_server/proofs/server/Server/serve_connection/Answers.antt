@@ -1,7 +1,7 @@
 use Rattle.std.proofs.Common.{[], refl, sym, ◌∙◌, arith}
 use Rattle.std.proofs.KnownBytes.{Appends-nil, Consumes-nil}
 use Rattle.coverage_server.proofs.TakenLemmas.{found_item}
-use Rattle.coverage_server.proofs.ServingLemmas.{ended, faulted, answered, unwritten, continued, roomy}
+use Rattle.coverage_server.proofs.ServingLemmas.{ended, faulted, answered, unwritten, continued, roomy, step-later, rose-by, rose-since}
 use Rattle.coverage_server.proofs.server.Server.serve_connection.Goals as goal
 
 pub serving-init : goal.serving-init
@@ -21,6 +21,7 @@ serving-init g c = record {
   sound = λ sound. sound;
   header = λ state count from size h. h;
   honest = refl;
+  no_fewer = omega arith;
 }
 
 pub returns-in-Ended-clause-served : goal.returns-in-Ended-clause-served
@@ -36,14 +37,16 @@ returns-then-not-send-clause-served g c =
     let f = c.next.ensures.found in
     let x = found_item _ _ _ _ c.next.result _ _ f.2 c.in_default.not-Ended c.in_default.not-ReadFault in
     let inv = c.serving.invariant in
-    λ sound. unwritten (inv.served sound) (g.R.Read.remaining c.next.new.reader) f.0 f.1 _ x.0 x.1 _ _ (c.reply_to-reply.ensures.step (inv.sound sound) x.0.asked x.2) _ _ x.3 x.4 _ c.if-not-send.ensures
+    λ sound. unwritten (inv.served sound) (g.R.Read.remaining c.next.new.reader) f.0 f.1 _ x.0 x.1 _ _ _
+    (rose-by _ _ _ c.reply_to-reply.ensures.no_fewer) (step-later (rose-since _ _ _ inv.no_fewer) _ _ _ _ (c.reply_to-reply.ensures.step (inv.sound sound) x.0.asked x.2)) _ _ x.3 x.4 _ c.if-not-send.ensures
 
 pub returns-then-conn-clause-served : goal.returns-then-conn-clause-served
 returns-then-conn-clause-served g c =
     let f = c.next.ensures.found in
     let x = found_item _ _ _ _ c.next.result _ _ f.2 c.in_default.not-Ended c.in_default.not-ReadFault in
     let inv = c.serving.invariant in
-    λ sound. answered (inv.served sound) (g.R.Read.remaining c.next.new.reader) f.0 f.1 _ x.0 x.1 _ _ (c.reply_to-reply.ensures.step (inv.sound sound) x.0.asked x.2) _ _ x.3 x.4 _ c.if-conn.true c.if-not-send.ensures
+    λ sound. answered (inv.served sound) (g.R.Read.remaining c.next.new.reader) f.0 f.1 _ x.0 x.1 _ _ _
+    (rose-by _ _ _ c.reply_to-reply.ensures.no_fewer) (step-later (rose-since _ _ _ inv.no_fewer) _ _ _ _ (c.reply_to-reply.ensures.step (inv.sound sound) x.0.asked x.2)) _ _ x.3 x.4 _ c.if-conn.true c.if-not-send.ensures
 
 pub serving-preserved-else-conn : goal.serving-preserved-else-conn
 serving-preserved-else-conn g c =
@@ -55,10 +58,12 @@ serving-preserved-else-conn g c =
     record {
       going = c.if-conn.false;
       few = roomy c.serving.conn.count c.serving.conn.buffer f.0 _ later x.0 x.1 _ x.3 _ counted c.if-conn.false inv.few;
-      served = λ sound. continued (inv.served sound) later f.0 f.1 _ x.0 x.1 _ _ (c.reply_to-reply.ensures.step (inv.sound sound) x.0.asked x.2) _ _ x.3 x.4 _ _ counted c.if-conn.false c.if-not-send.ensures;
+      served = λ sound. continued (inv.served sound) later f.0 f.1 _ x.0 x.1 _ _ _
+          (rose-by _ _ _ c.reply_to-reply.ensures.no_fewer) (step-later (rose-since _ _ _ inv.no_fewer) _ _ _ _ (c.reply_to-reply.ensures.step (inv.sound sound) x.0.asked x.2)) _ _ x.3 x.4 _ _ counted c.if-conn.false c.if-not-send.ensures;
       sound = λ sound. c.reply_to-reply.ensures.sound (inv.sound sound);
       header = λ state count from size h. c.reply_to-reply.ensures.header state count from size (inv.header state count from size h);
       honest = c.reply_to-reply.ensures.honest ∙ inv.honest;
+      no_fewer = omega (arith, inv.no_fewer, c.reply_to-reply.ensures.no_fewer);
     }
 
 pub serving-preserved-else-conn-2 : goal.serving-preserved-else-conn-2
@@ -71,10 +76,12 @@ serving-preserved-else-conn-2 g c =
     record {
       going = c.if-conn.false;
       few = roomy c.serving.conn.count c.serving.conn.buffer f.0 _ later x.0 x.1 _ x.3 _ counted c.if-conn.false inv.few;
-      served = λ sound. continued (inv.served sound) later f.0 f.1 _ x.0 x.1 _ _ (c.reply_to-reply.ensures.step (inv.sound sound) x.0.asked x.2) _ _ x.3 x.4 _ _ counted c.if-conn.false c.if-not-send.ensures;
+      served = λ sound. continued (inv.served sound) later f.0 f.1 _ x.0 x.1 _ _ _
+          (rose-by _ _ _ c.reply_to-reply.ensures.no_fewer) (step-later (rose-since _ _ _ inv.no_fewer) _ _ _ _ (c.reply_to-reply.ensures.step (inv.sound sound) x.0.asked x.2)) _ _ x.3 x.4 _ _ counted c.if-conn.false c.if-not-send.ensures;
       sound = λ sound. c.reply_to-reply.ensures.sound (inv.sound sound);
       header = λ state count from size h. c.reply_to-reply.ensures.header state count from size (inv.header state count from size h);
       honest = c.reply_to-reply.ensures.honest ∙ inv.honest;
+      no_fewer = omega (arith, inv.no_fewer, c.reply_to-reply.ensures.no_fewer);
     }
 
 pub serving-preserved : goal.serving-preserved
@@ -87,10 +94,12 @@ serving-preserved g c =
     record {
       going = c.if-conn.false;
       few = roomy c.serving.conn.count c.serving.conn.buffer f.0 _ later x.0 x.1 _ x.3 _ counted c.if-conn.false inv.few;
-      served = λ sound. continued (inv.served sound) later f.0 f.1 _ x.0 x.1 _ _ (c.reply_to-reply.ensures.step (inv.sound sound) x.0.asked x.2) _ _ x.3 x.4 _ _ counted c.if-conn.false c.if-not-send.ensures;
+      served = λ sound. continued (inv.served sound) later f.0 f.1 _ x.0 x.1 _ _ _
+          (rose-by _ _ _ c.reply_to-reply.ensures.no_fewer) (step-later (rose-since _ _ _ inv.no_fewer) _ _ _ _ (c.reply_to-reply.ensures.step (inv.sound sound) x.0.asked x.2)) _ _ x.3 x.4 _ _ counted c.if-conn.false c.if-not-send.ensures;
       sound = λ sound. c.reply_to-reply.ensures.sound (inv.sound sound);
       header = λ state count from size h. c.reply_to-reply.ensures.header state count from size (inv.header state count from size h);
       honest = c.reply_to-reply.ensures.honest ∙ inv.honest;
+      no_fewer = omega (arith, inv.no_fewer, c.reply_to-reply.ensures.no_fewer);
     }
 
 pub returns-then-not-send-clause-header : goal.returns-then-not-send-clause-header

@@ -1,4 +1,5 @@
-use Rattle.std.proofs.Common.{◌≡◌, ◌<◌, ◌-◌, false}
+use Rattle.std.proofs.Common.{◌≡◌, ◌<◌, ◌≤◌, ◌-◌, false}
+use Rattle.disk_face.specs.Disk.{Rose}
 use Rattle.block_file.specs.Format.{KeepsHeader}
 use Rattle.coverage_server.specs.Views.{IsSound}
 use Rattle.coverage_server.proofs.ServingLemmas.{Serving}
@@ -8,11 +9,12 @@ abbrev pub invariant-serving : goal.invariant-serving
 invariant-serving g l = record {
   going : l.conn.over ≡ false;
   few : l.conn.count < 1000;
-  served : IsSound l.initial.self → Serving (g.R.Read.remaining l.initial.reader) (g.R.Read.remaining l.reader) (g.W.Write.contents l.initial.writer)
+  served : IsSound l.initial.self → Serving (Rose l.initial.self.failures l.self.failures) (g.R.Read.remaining l.initial.reader) (g.R.Read.remaining l.reader) (g.W.Write.contents l.initial.writer)
       (g.W.Write.contents l.writer) l.initial.self.store l.self.store l.conn.buffer l.conn.count;
   sound : IsSound l.initial.self → IsSound l.self;
   header : KeepsHeader l.initial.self.content l.self.content;
   honest : l.self.honest ≡ l.initial.self.honest;
+  no_fewer : l.initial.self.failures ≤ l.self.failures;
 }
 
 abbrev pub decreases-serving : goal.decreases-serving

@@ -1,8 +1,9 @@
 //! A session of worked queries, each with what it is answered.
 
-use super::*;
-use crate::request::read_request;
+use crate::exchanges::{INSERT, empty_server, reply_to};
 use arr_core::refusal_name;
+use coverage_server::{Reply, Request, Server};
+use disk_face::MemDisk;
 use std::alloc::{AllocError, Global};
 use std::process::Abort;
 use std::test::Fail;
@@ -218,10 +219,7 @@ fn requested(
     server: &mut Server<MemDisk>,
     pairs: &str,
 ) -> Result<String, AllocError> {
-    let reply = match read_request(alloc, pairs.as_bytes()) {
-        Ok(request) => server.answer(&request),
-        Err(error) => Reply::Refused(error.number()),
-    };
+    let reply = reply_to(alloc, server, pairs);
     body_of(alloc, &reply)
 }
 

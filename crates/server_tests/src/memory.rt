@@ -1,19 +1,12 @@
 //! A session in which any one allocation may fail. The test itself allocates nothing, so that each failure is the
 //! server's or its disk's, which tells it as a failed write.
 
-use super::*;
-use crate::request::read_request;
+use crate::exchanges::{reply_to, server_of};
+use coverage_server::{Reply, Server};
+use disk_face::MemDisk;
 use std::alloc::Global;
 use std::process::Abort;
 use std::test::Fail;
-
-/// The reply to the pairs of a request.
-fn reply_to(alloc: Global, server: &mut Server<MemDisk>, pairs: &str) -> Reply {
-    match read_request(alloc, pairs.as_bytes()) {
-        Ok(request) => server.answer(&request),
-        Err(error) => Reply::Refused(error.number()),
-    }
-}
 
 /// Whether a reply has this body.
 fn has_body(reply: &Reply, body: &str) -> bool {
