@@ -1,5 +1,5 @@
 use Rattle.std.proofs.Common.{◌≡◌, sym}
-use Rattle.coverage_server.proofs.ServingLemmas.{connection-later, rose-by, rose-since}
+use Rattle.coverage_server.proofs.ServingLemmas.{connection-later, rose-by}
 use Rattle.rasterd.proofs.session.session_status.Goals as goal
 
 pub returns-in-Ok-close-clause-served : goal.returns-in-Ok-close-clause-served
