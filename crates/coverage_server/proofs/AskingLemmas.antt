@@ -16,9 +16,7 @@ use Rattle.wcps_text.specs.Grammar.{IsSpelled}
 use Rattle.wcps_text.specs.Tree.{QueryTree, query_view}
 use Rattle.wcps_parse.specs.Outcome.{IsWithinLimits, IsTooDeep}
 use Rattle.wcps_types.specs.Queries.{typ_query}
-use Rattle.wcps_types.specs.declared.refusal.TypeRefusal.{TypeRefusal}
 use Rattle.wcps_types.specs.declared.typed.TypedQuery.{TypedQuery}
-use Rattle.wcps_types.specs.Typed.{TypedTree}
 use Rattle.wcps_types.specs.TypedQueries.{query_view as typed_view}
 use Rattle.wcps_mean.specs.declared.item.Item.{Item}
 use Rattle.wcps_mean.specs.Answer.{answer}
@@ -30,8 +28,8 @@ use Rattle.wcps_mean.specs.declared.cells.CellError.TheVariants as cell
 use Rattle.csv_out.specs.Csv.{csv}
 use Rattle.raster_store.specs.Calls.{signature_of}
 use Rattle.coverage_server.specs.Views.{ServerView, IsSound}
-use Rattle.coverage_server.specs.Asking.{QueryAnswer, cells_of, number_in, items_answer, typed_answer, tree_answer, TokensAnswer, too_deep, query, TextAnswer, too_long, no_tokens, lexed}
-use Rattle.coverage_server.specs.Stages.{GivesTokens, GivesQuery, GivesTyped, GivesItems, GivesValues, FailsReading, error_refusal, cell_at}
+use Rattle.coverage_server.specs.Asking.{TypedAnswer, cells_of, number_in, items_answer, numbered, tree_typed, TokensTyped, too_deep, query, TextTyped, no_tokens, lexed, evaluated, TextAnswer}
+use Rattle.coverage_server.specs.Stages.{GivesTokens, GivesQuery, GivesTyped, GivesText, GivesItems, GivesValues, FailsReading, error_refusal, cell_at}
 use Rattle.coverage_server.specs.Answered.{Answered}
 use Rattle.coverage_server.specs.Machine.{Answers}
 use Rattle.coverage_server.specs.declared.arguments.Refusal.{Refusal}
@@ -61,65 +59,78 @@ tokens_shown : (ts : List Token) → tokens_of (map piece ts) ≡ map tok ts
 tokens_shown [] = refl
 tokens_shown (t ∷ ts) = ap (λ (l : List Tok). tok t ∷ l) (tokens_shown ts)
 
--- the answer of a query that is not too high
-tree_within : (store : Store) (q : QueryTree) → query_height q ≤ 64 → tree_answer store q ≡ typed_answer store (typ_query (map signature_of store) q)
+-- a query that is not too high
+tree_within : (store : Store) (q : QueryTree) → query_height q ≤ 64 → tree_typed store q ≡ numbered (typ_query (map signature_of store) q)
 tree_within store q low = let t : nat_le (query_height q) 64 ≡ true = le-leb (query_height q) 64 low in rw t refl
 
-tree_too_high : (store : Store) (q : QueryTree) → 64 < query_height q → tree_answer store q ≡ Err 33
+tree_too_high : (store : Store) (q : QueryTree) → 64 < query_height q → tree_typed store q ≡ Err 33
 tree_too_high store q high = let t : nat_le (query_height q) 64 ≡ false = lt-leb (query_height q) 64 high in rw t refl
 
--- a refusal of a whole text, and its values
+-- ---- typed texts
+
+pub text_tokens : (store : Store) (text : List ℕ) (e : Refusal) → length text ≤ 65536 → GivesTokens text (Err e) → GivesText store text (Err e)
+text_tokens store text (Numbered code) short x = subst (λ (n : ℕ). TextTyped store text (Err n)) (sym x.2) (no_tokens x.0 short x.1)
+text_tokens store text NoMemory short x = tt
+text_tokens store text DiskFault short x = absurd x
+text_tokens store text NoRoom short x = absurd x
+text_tokens store text Damaged short x = absurd x
+
+-- the tokens of a text, and what they are typed as
+by_tokens : (store : Store) (text : List ℕ) (ts : List Token) (r : TypedAnswer) → length text ≤ 65536 → Lexed 0 text (map piece ts)
+    → TokensTyped store (map tok ts) r → TextTyped store text r
+by_tokens store text ts r short cut x = lexed (map piece ts) short cut (subst (λ (l : List Tok). TokensTyped store l r) (sym (tokens_shown ts)) x)
+
+pub text_query : (store : Store) (text : List ℕ) (ts : List Token) (e : Refusal) → length text ≤ 65536 → Lexed 0 text (map piece ts)
+    → GivesQuery (map tok ts) (Err e) → GivesText store text (Err e)
+text_query store text ts (Numbered code) short cut x = by_tokens store text ts (Err code) short cut (x store)
+text_query store text ts NoMemory short cut x = tt
+text_query store text ts DiskFault short cut x = absurd x
+text_query store text ts NoRoom short cut x = absurd x
+text_query store text ts Damaged short cut x = absurd x
+
+-- the query that the tokens spell
+by_query : (store : Store) (text : List ℕ) (ts : List Token) (q : Query) (r : TypedAnswer) → length text ≤ 65536 → Lexed 0 text (map piece ts)
+    → GivesQuery (map tok ts) (Ok q) → numbered (typ_query (map signature_of store) (query_view q)) ≡ r → TextTyped store text r
+by_query store text ts q r short cut x is =
+    by_tokens store text ts r short cut
+    (subst (λ (b : TypedAnswer). TokensTyped store (map tok ts) b) (tree_within store (query_view q) x.2 ∙ is) (query (query_view q) x.0 x.1))
+
+pub text_types : (store : Store) (text : List ℕ) (ts : List Token) (q : Query) (r : Result TypedQuery Refusal) → length text ≤ 65536 → Lexed 0 text (map piece ts)
+    → GivesQuery (map tok ts) (Ok q) → GivesTyped (typ_query (map signature_of store) (query_view q)) r → GivesText store text r
+text_types store text ts q (Ok typed) short cut x g = by_query store text ts q (Ok (typed_view typed)) short cut x (ap numbered g)
+text_types store text ts q (Err (Numbered code)) short cut x g = by_query store text ts q (Err code) short cut x (ap numbered g.1 ∙ ap Err (sym g.2))
+text_types store text ts q (Err NoMemory) short cut x g = tt
+text_types store text ts q (Err DiskFault) short cut x g = absurd g
+text_types store text ts q (Err NoRoom) short cut x g = absurd g
+text_types store text ts q (Err Damaged) short cut x g = absurd g
+
+-- ---- answers
+
+-- a refusal of a whole text
 refused : (v w : ServerView) (text : List ℕ) (code : ℕ) → w.store ≡ v.store → (IsSound v → TextAnswer v.store text (Err code))
     → Answered (Answers text) ⊥ v w (Err (Numbered code))
 refused v w text code still x = λ sound. (Err code, x sound, refl, still)
 
-pub refused_length : (v : ServerView) (text : List ℕ) → 65536 < length text → Answered (Answers text) ⊥ v v (Err (Numbered 14))
-refused_length v text long = refused v v text 14 refl (λ sound. too_long long)
+pub refused_text : (v : ServerView) (text : List ℕ) (e : Refusal) → GivesText v.store text (Err e) → Answered (Answers text) ⊥ v v (Err e)
+refused_text v text (Numbered code) x = refused v v text code refl (λ sound. (Err code, x, refl))
+refused_text v text NoMemory x = tt
+refused_text v text DiskFault x = absurd x
+refused_text v text NoRoom x = absurd x
+refused_text v text Damaged x = absurd x
 
-pub refused_tokens : (v : ServerView) (text : List ℕ) (e : Refusal) → length text ≤ 65536 → GivesTokens text (Err e) → Answered (Answers text) ⊥ v v (Err e)
-refused_tokens v text (Numbered code) short x =
-    refused v v text code refl (λ sound. subst (λ (n : ℕ). TextAnswer v.store text (Err n)) (sym x.2) (no_tokens x.0 short x.1))
-refused_tokens v text NoMemory short x = tt
-refused_tokens v text DiskFault short x = absurd x
-refused_tokens v text NoRoom short x = absurd x
-refused_tokens v text Damaged short x = absurd x
-
--- the tokens of a text, and their answer
-by_tokens : (store : Store) (text : List ℕ) (ts : List Token) (a : QueryAnswer) → length text ≤ 65536 → Lexed 0 text (map piece ts)
-    → TokensAnswer store (map tok ts) a → TextAnswer store text a
-by_tokens store text ts a short cut x = lexed (map piece ts) short cut (subst (λ (l : List Tok). TokensAnswer store l a) (sym (tokens_shown ts)) x)
-
-pub refused_query : (v : ServerView) (text : List ℕ) (ts : List Token) (e : Refusal) → length text ≤ 65536 → Lexed 0 text (map piece ts)
-    → GivesQuery (map tok ts) (Err e) → Answered (Answers text) ⊥ v v (Err e)
-refused_query v text ts (Numbered code) short cut x = refused v v text code refl (λ sound. by_tokens v.store text ts (Err code) short cut (x v.store))
-refused_query v text ts NoMemory short cut x = tt
-refused_query v text ts DiskFault short cut x = absurd x
-refused_query v text ts NoRoom short cut x = absurd x
-refused_query v text ts Damaged short cut x = absurd x
-
--- the answer of the query that the tokens spell
-by_query : (store : Store) (text : List ℕ) (ts : List Token) (q : Query) (a : QueryAnswer) → length text ≤ 65536 → Lexed 0 text (map piece ts)
-    → GivesQuery (map tok ts) (Ok q) → typed_answer store (typ_query (map signature_of store) (query_view q)) ≡ a → TextAnswer store text a
-by_query store text ts q a short cut x is =
-    by_tokens store text ts a short cut
-    (subst (λ (b : QueryAnswer). TokensAnswer store (map tok ts) b) (tree_within store (query_view q) x.2 ∙ is) (query (query_view q) x.0 x.1))
-
-module _ (v w : ServerView) (still : w.store ≡ v.store) (text : List ℕ) (ts : List Token) (q : Query) (short : length text ≤ 65536) (cut : Lexed 0 text (map piece ts))
-    (x : GivesQuery (map tok ts) (Ok q)) where
-  pub refused_values : (e : Refusal) → (IsSound v → GivesValues (typed_answer v.store (typ_query (map signature_of v.store) (query_view q))) (Err e))
-      → FailsReading v w e → Answered (Answers text) ⊥ v w (Err e)
-  refused_values (Numbered code) is fails = refused v w text code still (λ sound. by_query v.store text ts q (Err code) short cut x (is sound))
+module _ (v w : ServerView) (still : w.store ≡ v.store) (text : List ℕ) (q : TypedQuery) (typed : TextTyped v.store text (Ok (typed_view q))) where
+  pub refused_values : (e : Refusal) → (IsSound v → GivesValues (evaluated v.store (Ok (typed_view q))) (Err e)) → FailsReading v w e → Answered (Answers text) ⊥ v w (Err e)
+  refused_values (Numbered code) is fails = refused v w text code still (λ sound. (Ok (typed_view q), typed, sym (is sound)))
   refused_values NoMemory is fails = tt
   refused_values DiskFault is fails = fails
   refused_values NoRoom is fails = absurd fails
   refused_values Damaged is fails = fails
 
-  pub answered_values : (values : String Global) → (IsSound v → typed_answer v.store (typ_query (map signature_of v.store) (query_view q)) ≡ Ok (string_bytes values))
-      → Answered (Answers text) ⊥ v w (Ok (Csv values))
-  answered_values values is = λ sound. (Ok (string_bytes values), by_query v.store text ts q (Ok (string_bytes values)) short cut x (is sound), refl, still)
+  pub answered_values : (values : String Global) → (IsSound v → evaluated v.store (Ok (typed_view q)) ≡ Ok (string_bytes values)) → Answered (Answers text) ⊥ v w (Ok (Csv values))
+  answered_values values is = λ sound. (Ok (string_bytes values), (Ok (typed_view q), typed, sym (is sound)), refl, still)
 
 -- a query that is too high is refused
-too_high : (store : Store) (ts : List Tok) (q : QueryTree) → IsSpelled ts q → 64 < query_height q → TokensAnswer store ts (Err 33)
+too_high : (store : Store) (ts : List Tok) (q : QueryTree) → IsSpelled ts q → 64 < query_height q → TokensTyped store ts (Err 33)
 too_high store ts q spelled high = by_depth (nat_lt 512 (deepest 0 ts)) (nat_lt 256 (forms ts)) refl refl
   where
     within : nat_lt 512 (deepest 0 ts) ≡ false → nat_lt 256 (forms ts) ≡ false → IsWithinLimits ts
@@ -129,41 +140,26 @@ too_high store ts q spelled high = by_depth (nat_lt 512 (deepest 0 ts)) (nat_lt 
     deep (inl x) w = absurd (omega (arith, x, w.brackets))
     deep (inr x) w = absurd (omega (arith, x, w.words))
 
-    by_depth : (a b : Bool) → nat_lt 512 (deepest 0 ts) ≡ a → nat_lt 256 (forms ts) ≡ b → TokensAnswer store ts (Err 33)
+    by_depth : (a b : Bool) → nat_lt 512 (deepest 0 ts) ≡ a → nat_lt 256 (forms ts) ≡ b → TokensTyped store ts (Err 33)
     by_depth true b x y = too_deep (deep (inl (ltb-true 512 (deepest 0 ts) x)))
     by_depth false true x y = too_deep (deep (inr (ltb-true 256 (forms ts) y)))
-    by_depth false false x y = subst (TokensAnswer store ts) (tree_too_high store q high) (query q (within x y) spelled)
+    by_depth false false x y = subst (TokensTyped store ts) (tree_too_high store q high) (query q (within x y) spelled)
 
--- the values of a query, from what its types and its evaluation give
-pub values_untyped : (store : Store) (r : Result TypedTree TypeRefusal) (e : Refusal) → GivesTyped r (Err e) → GivesValues (typed_answer store r) (Err e)
-values_untyped store r (Numbered code) x = ap (typed_answer store) x.1 ∙ ap Err (sym x.2)
-values_untyped store r NoMemory x = tt
-values_untyped store r DiskFault x = tt
-values_untyped store r NoRoom x = tt
-values_untyped store r Damaged x = tt
+-- the values of a typed query, from what its evaluation gives
+pub values_faulty : (store : Store) (q : TypedQuery) (e : Refusal) → GivesItems (answer (cells_of store q.coverages.items) (typed_view q)) (Err e)
+    → GivesValues (evaluated store (Ok (typed_view q))) (Err e)
+values_faulty store q (Numbered code) x = ap items_answer x.1 ∙ ap Err (sym x.2)
+values_faulty store q NoMemory x = tt
+values_faulty store q DiskFault x = tt
+values_faulty store q NoRoom x = tt
+values_faulty store q Damaged x = tt
 
--- types are told without a look at the disk
-pub untyped_fails : (v w : ServerView) (r : Result TypedTree TypeRefusal) (e : Refusal) → GivesTyped r (Err e) → FailsReading v w e
-untyped_fails v w r (Numbered code) x = tt
-untyped_fails v w r NoMemory x = tt
-untyped_fails v w r DiskFault x = absurd x
-untyped_fails v w r NoRoom x = absurd x
-untyped_fails v w r Damaged x = absurd x
-
-pub values_faulty : (store : Store) (r : Result TypedTree TypeRefusal) (q : TypedQuery) (e : Refusal) → r ≡ Ok (typed_view q)
-    → GivesItems (answer (cells_of store q.coverages.items) (typed_view q)) (Err e) → GivesValues (typed_answer store r) (Err e)
-values_faulty store r q (Numbered code) is x = ap (typed_answer store) is ∙ ap items_answer x.1 ∙ ap Err (sym x.2)
-values_faulty store r q NoMemory is x = tt
-values_faulty store r q DiskFault is x = tt
-values_faulty store r q NoRoom is x = tt
-values_faulty store r q Damaged is x = tt
-
-pub values_given : (store : Store) (r : Result TypedTree TypeRefusal) (q : TypedQuery) (items : List Item) (text : String Global) → r ≡ Ok (typed_view q)
-    → answer (cells_of store q.coverages.items) (typed_view q) ≡ Ok items → string_bytes text ≡ csv items → typed_answer store r ≡ Ok (string_bytes text)
-values_given store r q items text is x written = ap (typed_answer store) is ∙ ap items_answer x ∙ ap Ok (sym written)
+pub values_given : (store : Store) (q : TypedQuery) (items : List Item) (text : String Global) → answer (cells_of store q.coverages.items) (typed_view q) ≡ Ok items
+    → string_bytes text ≡ csv items → evaluated store (Ok (typed_view q)) ≡ Ok (string_bytes text)
+values_given store q items text x written = ap items_answer x ∙ ap Ok (sym written)
 
 -- tokens that are too deep, or whose query is too high
-pub refused_depth : (store : Store) (ts : List Tok) → IsTooDeep ts → TokensAnswer store ts (Err 33)
+pub refused_depth : (store : Store) (ts : List Tok) → IsTooDeep ts → TokensTyped store ts (Err 33)
 refused_depth store ts (inl x) = too_deep (λ within. absurd (omega (arith, x, within.brackets)))
 refused_depth store ts (inr (inl x)) = too_deep (λ within. absurd (omega (arith, x, within.words)))
 refused_depth store ts (inr (inr x)) = too_high store ts x.tree x.spelled x.high

@@ -1,5 +1,5 @@
 -- The answer to the text of a query over a store: its comma-separated values, or the number of the refusal that it gets.
-use Rattle.std.specs.Prelude.{ℕ, ◌<◌, ◌≤◌, ℤ, pos, List, map, length, Option, Some, None, Result, Ok, Err, slice_get, option_and_then, nat_le, nat_lt, ◌&&◌, if◌then◌else◌}
+use Rattle.std.specs.Prelude.{◌≡◌, ℕ, ◌<◌, ◌≤◌, ℤ, pos, List, map, length, Option, Some, None, Result, Ok, Err, slice_get, option_and_then, nat_le, nat_lt, ◌&&◌, if◌then◌else◌}
 use Rattle.arr_core.specs.declared.signature.Signature.{Signature}
 use Rattle.arr_core.specs.Domains.{is_inside}
 use Rattle.arr_core.specs.Stores.{Coverage, Store, found, value_at}
@@ -50,25 +50,39 @@ abbrev pub items_answer : Result (List Item) PointFault → QueryAnswer
 items_answer (Ok items) = Ok (csv items)
 items_answer (Err fault) = Err (fault_number fault)
 
--- a typed query's value over the store's cells, or the number of the first refusal by types and limits, 20 or 40 to 56
-abbrev pub typed_answer : Store → Result TypedTree TypeRefusal → QueryAnswer
-typed_answer store (Ok q) = items_answer (answer (cells_of store q.coverages) q)
-typed_answer store (Err refusal) = Err (type_number refusal)
+-- a typed query, or the number of the refusal of its text
+abbrev pub TypedAnswer : Type 0
+TypedAnswer = Result TypedTree ℕ
 
--- a query higher than 64 is refused as 33; else its types count, and then its value
-abbrev pub tree_answer : Store → QueryTree → QueryAnswer
-tree_answer store q = if nat_le (query_height q) 64 then typed_answer store (typ_query (map signature_of store) q) else Err 33
+-- the first refusal by types and limits as its number
+abbrev pub numbered : Result TypedTree TypeRefusal → TypedAnswer
+numbered (Ok q) = Ok q
+numbered (Err refusal) = Err (type_number refusal)
+
+-- a query higher than 64 is refused as 33; else its types over the store's coverages count
+abbrev pub tree_typed : Store → QueryTree → TypedAnswer
+tree_typed store q = if nat_le (query_height q) 64 then numbered (typ_query (map signature_of store) q) else Err 33
 
 -- Tokens of which more than 512 brackets are open at once, or with more than 256 words `condense` and `coverage`, are refused
 -- as 33; else they spell nothing and are refused as 32, else they spell a query.
-pub data TokensAnswer : Store → List Tok → QueryAnswer → Type 0 where
-  too_deep : {store : Store} {ts : List Tok} → ¬ (IsWithinLimits ts) → TokensAnswer store ts (Err 33)
-  no_query : {store : Store} {ts : List Tok} → IsWithinLimits ts → ((q : QueryTree) → ¬ (IsSpelled ts q)) → TokensAnswer store ts (Err 32)
-  query : {store : Store} {ts : List Tok} (q : QueryTree) → IsWithinLimits ts → IsSpelled ts q → TokensAnswer store ts (tree_answer store q)
+pub data TokensTyped : Store → List Tok → TypedAnswer → Type 0 where
+  too_deep : {store : Store} {ts : List Tok} → ¬ (IsWithinLimits ts) → TokensTyped store ts (Err 33)
+  no_query : {store : Store} {ts : List Tok} → IsWithinLimits ts → ((q : QueryTree) → ¬ (IsSpelled ts q)) → TokensTyped store ts (Err 32)
+  query : {store : Store} {ts : List Tok} (q : QueryTree) → IsWithinLimits ts → IsSpelled ts q → TokensTyped store ts (tree_typed store q)
 
--- a text of more than 65,536 bytes is refused as 14, else it has no tokens and is refused as 30 or 31, else it has tokens
-pub data TextAnswer : Store → List ℕ → QueryAnswer → Type 0 where
-  too_long : {store : Store} {text : List ℕ} → 65536 < length text → TextAnswer store text (Err 14)
-  no_tokens : {store : Store} {text : List ℕ} (e : LexError) → length text ≤ 65536 → Refused text e → TextAnswer store text (Err (token_number e))
-  lexed : {store : Store} {text : List ℕ} {a : QueryAnswer} (pieces : List Piece) → length text ≤ 65536 → Lexed 0 text pieces
-      → TokensAnswer store (tokens_of pieces) a → TextAnswer store text a
+-- What a text is, before any cell is read: a text of more than 65,536 bytes is refused as 14, else it has no tokens and is
+-- refused as 30 or 31, else it has tokens.
+pub data TextTyped : Store → List ℕ → TypedAnswer → Type 0 where
+  too_long : {store : Store} {text : List ℕ} → 65536 < length text → TextTyped store text (Err 14)
+  no_tokens : {store : Store} {text : List ℕ} (e : LexError) → length text ≤ 65536 → Refused text e → TextTyped store text (Err (token_number e))
+  lexed : {store : Store} {text : List ℕ} {r : TypedAnswer} (pieces : List Piece) → length text ≤ 65536 → Lexed 0 text pieces
+      → TokensTyped store (tokens_of pieces) r → TextTyped store text r
+
+-- a typed query's value over the store's cells; a refusal stays
+abbrev pub evaluated : Store → TypedAnswer → QueryAnswer
+evaluated store (Ok q) = items_answer (answer (cells_of store q.coverages) q)
+evaluated store (Err code) = Err code
+
+-- the answer to a text: it is typed, then evaluated
+abbrev pub TextAnswer : Store → List ℕ → QueryAnswer → Type 0
+TextAnswer store text a = (r : TypedAnswer) × TextTyped store text r × (a ≡ evaluated store r)

@@ -22,7 +22,7 @@ use Rattle.wcps_mean.specs.declared.answer.EvalError.{EvalError}
 use Rattle.wcps_mean.specs.declared.answer.EvalError.TheVariants as evaluation
 use Rattle.wcps_mean.specs.declared.cells.CellError.TheVariants as cell
 use Rattle.wcps_mean.specs.Faults.{number_of as fault_number}
-use Rattle.coverage_server.specs.Asking.{QueryAnswer, token_number, TokensAnswer, number_in}
+use Rattle.coverage_server.specs.Asking.{QueryAnswer, token_number, TokensTyped, TextTyped, number_in}
 use Rattle.coverage_server.specs.declared.arguments.Refusal.{Refusal}
 use Rattle.coverage_server.specs.declared.arguments.Refusal.TheVariants.{Numbered, NoMemory, DiskFault, NoRoom, Damaged}
 use Rattle.disk_face.specs.Disk.{Rose}
@@ -40,7 +40,7 @@ GivesTokens text (Err Damaged) = ⊥
 -- a query within the limits that the tokens spell, or their refusal, which is the same over each store
 abbrev pub GivesQuery : List Tok → Result Query Refusal → Type 0
 GivesQuery ts (Ok q) = IsWithinLimits ts × IsSpelled ts (query_view q) × (query_height (query_view q) ≤ 64)
-GivesQuery ts (Err (Numbered code)) = (store : Store) → TokensAnswer store ts (Err code)
+GivesQuery ts (Err (Numbered code)) = (store : Store) → TokensTyped store ts (Err code)
 GivesQuery ts (Err NoMemory) = ⊤
 GivesQuery ts (Err DiskFault) = ⊥
 GivesQuery ts (Err NoRoom) = ⊥
@@ -54,6 +54,15 @@ GivesTyped checked (Err NoMemory) = ⊤
 GivesTyped checked (Err DiskFault) = ⊥
 GivesTyped checked (Err NoRoom) = ⊥
 GivesTyped checked (Err Damaged) = ⊥
+
+-- the typed query of a text over a store, or its refusal
+abbrev pub GivesText : Store → List ℕ → Result TypedQuery Refusal → Type 0
+GivesText store text (Ok q) = TextTyped store text (Ok (typed_view q))
+GivesText store text (Err (Numbered code)) = TextTyped store text (Err code)
+GivesText store text (Err NoMemory) = ⊤
+GivesText store text (Err DiskFault) = ⊥
+GivesText store text (Err NoRoom) = ⊥
+GivesText store text (Err Damaged) = ⊥
 
 -- the items of an answer, or its fault
 abbrev pub GivesItems : Result (List Item) PointFault → Result (Vec Item Global) Refusal → Type 0

@@ -1,19 +1,20 @@
 //! The answers of queries over the coverages.
-ghost use Rattle.std.specs.Prelude.{◌≡◌, ◌≤◌, IfOk, IfErr, map};
+ghost use Rattle.std.specs.Prelude.{◌≡◌, ◌≤◌, Ok, IfOk, IfErr, map};
 ghost use Rattle.arr_core.specs.declared.signature.Signature.{Signature};
 ghost use Rattle.wcps_text.specs.Token.{tok};
 ghost use Rattle.wcps_text.specs.Tree.{query_view};
 ghost use Rattle.wcps_types.specs.Queries.{typ_query};
 ghost use Rattle.wcps_types.specs.TypedQueries.{query_view as typed_view};
 ghost use Rattle.wcps_mean.specs.Answer.{answer};
-ghost use Rattle.coverage_server.specs.Asking.{cells_of, typed_answer};
-ghost use Rattle.coverage_server.specs.Stages.{GivesTokens, GivesQuery, GivesTyped, GivesItems, GivesValues, FailsReading, error_refusal};
+ghost use Rattle.coverage_server.specs.Asking.{cells_of, evaluated};
+ghost use Rattle.coverage_server.specs.Stages.{GivesTokens, GivesQuery, GivesTyped, GivesText, GivesItems, GivesValues, FailsReading, error_refusal};
 ghost use Rattle.coverage_server.specs.Machine.{Answers};
 ghost use Rattle.coverage_server.specs.Answered.{Answered, IsAnswer};
-ghost use Rattle.coverage_server.specs.Views.{IsSound, signatures_of, still_of};
+ghost use Rattle.coverage_server.specs.Views.{IsSound, still_of};
 
 use crate::arguments::Refusal;
 use crate::cells::AskedCells;
+use crate::coverages::Coverages;
 use crate::front::reply::Reply;
 use arr_core::{Name, Signature};
 use csv_out::csv_text;
@@ -103,35 +104,46 @@ fn items_of<D: Disk>(cells: &mut AskedCells<D>, typed: &TypedQuery) -> Result<Ve
     }
 }
 
-/// The comma-separated values of a query, or its refusal by types and limits, or by its evaluation.
-fn values_of<D: Disk>(cells: &mut AskedCells<D>, query: &Query) -> Result<String, Refusal>
-    ensures values { IsSound cells.old.coverages → GivesValues (typed_answer cells.old.coverages.store (typ_query (signatures_of cells.old.coverages.store) (query_view query.now))) result }
+/// The typed query of a text over the coverages, or its refusal. Its refusals come in this order: those of its length, of
+/// its tokens, of its syntax, and of its types and limits.
+pub fn typed_text<D: Disk>(
+    alloc: Global,
+    coverages: &Coverages<D>,
+    text: &str,
+) -> Result<TypedQuery, Refusal>
+    ensures { GivesText coverages.now.store text.now result }
+{
+    if text.len() > MAX_QUERY {
+        return Err(Refusal::Numbered(14));
+    }
+    let tokens = tokens_of(alloc, text)?;
+    let query = query_of(alloc, &tokens)?;
+    let signatures = coverages.signatures(alloc)?;
+    let typed = typed_of(alloc, &signatures, &query)?;
+    Ok(typed)
+}
+
+/// The comma-separated values of a typed query, or the refusal by its evaluation.
+fn values_of<D: Disk>(cells: &mut AskedCells<D>, typed: &TypedQuery) -> Result<String, Refusal>
+    ensures values { IsSound cells.old.coverages → GivesValues (evaluated cells.old.coverages.store (Ok (typed_view typed.now))) result }
     ensures faults { IfErr result (FailsReading cells.old.coverages cells.new.coverages) }
     ensures still { still_of cells.new.coverages ≡ still_of cells.old.coverages }
     ensures no_fewer { cells.old.coverages.failures ≤ cells.new.coverages.failures }
 {
     let alloc = cells.alloc;
-    let signatures = cells.coverages.signatures(alloc)?;
-    let typed = typed_of(alloc, &signatures, query)?;
-    let items = items_of(cells, &typed)?;
+    let items = items_of(cells, typed)?;
     let text = csv_text(alloc, &items)?;
     Ok(text)
 }
 
-/// The answer to a query, as comma-separated values. Its refusals come in this order: those of its length, of its
-/// tokens, of its syntax, of its types and limits, and of its evaluation.
+/// The answer to a query, as comma-separated values: the query is typed, then evaluated.
 pub fn process<D: Disk>(cells: &mut AskedCells<D>, text: &str) -> Result<Reply, Refusal>
     ensures answered { Answered (Answers text.now) ⊥ cells.old.coverages cells.new.coverages result }
     ensures answer { IfOk result IsAnswer }
     ensures still { still_of cells.new.coverages ≡ still_of cells.old.coverages }
     ensures no_fewer { cells.old.coverages.failures ≤ cells.new.coverages.failures }
 {
-    if text.len() > MAX_QUERY {
-        return Err(Refusal::Numbered(14));
-    }
-    let alloc = cells.alloc;
-    let tokens = tokens_of(alloc, text)?;
-    let query = query_of(alloc, &tokens)?;
-    let values = values_of(cells, &query)?;
+    let typed = typed_text(cells.alloc, &cells.coverages, text)?;
+    let values = values_of(cells, &typed)?;
     Ok(Reply::Csv(values))
 }

@@ -1,12 +1,12 @@
 -- A part of few cells has few.
-use Rattle.std.proofs.Common.{◌≡◌, ℕ, zero, suc, ◌*◌, ◌<◌, ◌≤◌, List, [], ◌∷◌, length, get_or, map, sym, subst, ◌∙◌, arith}
-use Rattle.std.proofs.lemmas.List.{length-map}
+use Rattle.std.proofs.Common.{◌≡◌, ℕ, zero, suc, ◌*◌, ◌<◌, ◌≤◌, List, [], ◌∷◌, length, get_or, map, Bool, sym, subst, ◌∙◌, arith}
 use Rattle.arr_core.specs.declared.domain.Axis.{Axis}
 use Rattle.arr_core.specs.Domains.{count}
 use Rattle.wcps_types.specs.declared.typed.Combination.{Combination}
-use Rattle.wcps_types.specs.declared.typed.TypedField.{TypedField}
-use Rattle.wcps_types.specs.Typed.{field_view, combination_view}
+use Rattle.wcps_types.specs.declared.typed.Node.{Node}
+use Rattle.wcps_types.specs.Typed.{fields_view, combination_view}
 use Rattle.wcps_types.specs.Cells.{result_cells}
+use Rattle.wcps_types.proofs.Efforts.{field_places}
 use Rattle.wcps_mean.proofs.Ranks.{positive}
 
 -- of one combination
@@ -20,13 +20,13 @@ at_least zero k m p h = absurd (omega (arith, p))
 at_least (suc n) k m p h = grind (arith, h)
 
 -- the fields of an item are no more than its cells
-pub few_fields : (axes : List Axis) (fields : List TypedField) (m : ℕ) → count axes * length (map field_view fields) ≤ m → length fields ≤ m
-few_fields axes fields m h =
-    let k = at_least (count axes) (length (map field_view fields)) m (positive axes) h in
-    subst (λ n. n ≤ m) (length-map fields field_view) k
+pub few_fields : (axes : List Axis) (e : Node) (bs : List Bool) (m : ℕ) → count axes * length (fields_view e 0 bs) ≤ m → length bs ≤ m
+few_fields axes e bs m h =
+    let k = at_least (count axes) (length (fields_view e 0 bs)) m (positive axes) h in
+    subst (λ n. n ≤ m) (field_places e 0 bs) k
 
 -- the points of an item times its fields
-pub few_products : (axes : List Axis) (fields : List TypedField) (n k m : ℕ) → n ≡ count axes → k ≡ length fields → count axes * length (map field_view fields) ≤ m → n * k ≤ m
-few_products axes fields n k m e f h =
-    let same : length (map field_view fields) ≡ k = length-map fields field_view ∙ sym f in
-    subst (λ j. j * k ≤ m) (sym e) (subst (λ j. count axes * j ≤ m) same h)
+pub few_products : (axes : List Axis) (e : Node) (bs : List Bool) (n k m : ℕ) → n ≡ count axes → k ≡ length bs → count axes * length (fields_view e 0 bs) ≤ m → n * k ≤ m
+few_products axes e bs n k m is f h =
+    let same : length (fields_view e 0 bs) ≡ k = field_places e 0 bs ∙ sym f in
+    subst (λ j. j * k ≤ m) (sym is) (subst (λ j. count axes * j ≤ m) same h)

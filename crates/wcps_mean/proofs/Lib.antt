@@ -7,4 +7,5 @@ pub mod Positions
 pub mod Joins
 pub mod Told
 pub mod Rows
+pub mod ItemFields
 pub mod FewCells

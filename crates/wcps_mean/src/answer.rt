@@ -1,9 +1,9 @@
 //! The answer of a query: its items, or the first fault.
 
-ghost use Rattle.std.specs.Prelude.{◌≡◌, ◌≤◌, ◌*◌, List, [], ◌∷◌, ◌++◌, Ok, Err, Result, IfOk, IfErr, OnOk, MatchResult, length, map, option_map};
+ghost use Rattle.std.specs.Prelude.{◌≡◌, ◌<◌, ◌≤◌, ◌*◌, false, get_or, List, [], ◌∷◌, ◌++◌, Ok, Err, Result, IfOk, IfErr, OnOk, MatchResult, length, map, option_map};
 ghost use Rattle.arr_core.specs.Domains.{count};
 ghost use Rattle.wcps_types.specs.Cells.{result_cells, max_cells};
-ghost use Rattle.wcps_types.specs.Typed.{typed_view, field_view, item_view, combination_view};
+ghost use Rattle.wcps_types.specs.Typed.{only_tree, fields_view, item_view, combination_view};
 ghost use Rattle.wcps_types.specs.TypedQueries.{query_view};
 ghost use Rattle.wcps_mean.specs.Answer.{answer, combination_answer, chosen, item_answer, cells_at, cell_of, line_of, field_count};
 ghost use Rattle.wcps_mean.specs.Errors.{TellsFault, PushesCells, PassesOn};
@@ -16,7 +16,7 @@ use crate::points::{push_point, size};
 use arr_core::{Axis, Cell};
 use std::alloc::{AllocError, AllocFailed, Global};
 use thiserror::Error;
-use wcps_types::{Combination, Node, TypedField, TypedItem, TypedQuery};
+use wcps_types::{Combination, Node, TypedItem, TypedQuery};
 
 /// Why a query has no answer.
 #[derive(Clone, Copy, PartialEq, Eq, Debug, Error)]
@@ -126,8 +126,8 @@ fn is_chosen<C: Cells>(
 ) -> Result<bool, EvalError>
     requires scope_empty { env.old.items ≡ [] }
     requires place_empty { points.old.items ≡ [] }
-    ensures value { IfOk result (λ b. C.intact cells.old → chosen (C.cells cells.old) (option_map typed_view combination.now.condition) ≡ Ok b) }
-    ensures fault { IfErr result (λ e. C.intact cells.old → TellsFault e (chosen (C.cells cells.old) (option_map typed_view combination.now.condition))) }
+    ensures value { IfOk result (λ b. C.intact cells.old → chosen (C.cells cells.old) (option_map only_tree combination.now.condition) ≡ Ok b) }
+    ensures fault { IfErr result (λ e. C.intact cells.old → TellsFault e (chosen (C.cells cells.old) (option_map only_tree combination.now.condition))) }
     ensures scope { OnOk result (env.new.items ≡ []) }
     ensures place { OnOk result (points.new.items ≡ []) }
     ensures same { C.cells cells.new ≡ C.cells cells.old }
@@ -138,7 +138,7 @@ fn is_chosen<C: Cells>(
     match &combination.condition {
         None => Ok(true),
         Some(node) => {
-            let o = eval(cells, node, env, points, 0)?;
+            let o = eval(cells, node, 0, env, points, 0)?;
             match o {
                 Outcome::Fault(f) => Err(EvalError::Fault(f)),
                 Outcome::Value(x) => Ok(is_set(x)),
@@ -157,7 +157,7 @@ fn item_of<C: Cells>(
 ) -> Result<Item, EvalError>
     requires scope_empty { env.old.items ≡ [] }
     requires place_empty { points.old.items ≡ [] }
-    requires few_cells { count item.now.domain * length (map field_view item.now.fields.items) ≤ max_cells }
+    requires few_cells { count item.now.domain * length (fields_view item.now.node 0 item.now.booleans.items) ≤ max_cells }
     ensures value { IfOk result (λ i. C.intact cells.old → item_answer (C.cells cells.old) (item_view item.now) ≡ Ok i) }
     ensures fault { IfErr result (λ e. C.intact cells.old → TellsFault e (item_answer (C.cells cells.old) (item_view item.now))) }
     ensures scope { OnOk result (env.new.items ≡ []) }
@@ -172,7 +172,7 @@ fn item_of<C: Cells>(
     let mut list = Vec::with_capacity(alloc, count as usize)?;
     for place in 0..item.domain.points() {
         push_point(points, &item.domain, place)?;
-        push_cells(cells, &item.fields, env, points, &mut list)?;
+        push_cells(cells, &item.node, &item.booleans, env, points, &mut list)?;
         points.truncate(0);
     }
     Ok(Item {
@@ -185,14 +185,15 @@ fn item_of<C: Cells>(
 /// Puts the cells of the fields at a point at the end of a list.
 fn push_cells<C: Cells>(
     cells: &mut C,
-    fields: &[TypedField],
+    node: &Node,
+    booleans: &[bool],
     env: &mut Vec<i32>,
     points: &mut Vec<i32>,
     list: &mut Vec<Cell>,
 ) -> Result<(), EvalError>
     requires scope_empty { env.old.items ≡ [] }
-    ensures value { OnOk result (C.intact cells.old → PushesCells (cells_at (C.cells cells.old) (map field_view fields.now) points.old.items) list.old.items list.new.items) }
-    ensures fault { IfErr result (λ e. C.intact cells.old → TellsFault e (cells_at (C.cells cells.old) (map field_view fields.now) points.old.items)) }
+    ensures value { OnOk result (C.intact cells.old → PushesCells (cells_at (C.cells cells.old) (fields_view node.now 0 booleans.now) points.old.items) list.old.items list.new.items) }
+    ensures fault { IfErr result (λ e. C.intact cells.old → TellsFault e (cells_at (C.cells cells.old) (fields_view node.now 0 booleans.now) points.old.items)) }
     ensures scope { OnOk result (env.new.items ≡ []) }
     ensures place { OnOk result (points.new.items ≡ points.old.items) }
     ensures same { C.cells cells.new ≡ C.cells cells.old }
@@ -200,18 +201,26 @@ fn push_cells<C: Cells>(
     ensures intact { C.intact cells.old → C.intact cells.new }
     ensures reports { PassesOn result (C.intact cells.old) (C.failures cells.old) (C.failures cells.new) }
 {
-    for field in fields {
-        let o = eval(cells, &field.node, env, points, 0)?;
+    for field in 0..booleans.len() {
+        let o = eval(cells, node, field, env, points, 0)?;
         match o {
             Outcome::Fault(f) => return Err(EvalError::Fault(f)),
-            Outcome::Value(x) => list.push(cell_of(field.boolean, x))?,
+            Outcome::Value(x) => list.push(field_cell(booleans, field, x))?,
         }
     }
     Ok(())
 }
 
+/// The cell of the field at a place: a Boolean or an integer.
+fn field_cell(booleans: &[bool], field: usize, x: i64) -> Cell
+    requires { field < length booleans.now }
+    ensures { result ≡ cell_of (get_or booleans.now field false) x }
+{
+    cell_of(booleans[field], x)
+}
+
 /// A value of an item: a Boolean or an integer.
-fn cell_of(boolean: bool, x: i64) -> Cell
+pub fn cell_of(boolean: bool, x: i64) -> Cell
     ensures { result ≡ cell_of boolean x }
 {
     if boolean {
@@ -223,15 +232,15 @@ fn cell_of(boolean: bool, x: i64) -> Cell
 
 /// How many fields an item has, whose cells are few.
 fn count_fields(item: &TypedItem) -> u32
-    requires { count item.now.domain * length (map field_view item.now.fields.items) ≤ max_cells }
-    ensures value { result ≡ field_count (length item.now.fields.items) }
-    ensures same { result ≡ length item.now.fields.items }
+    requires { count item.now.domain * length (fields_view item.now.node 0 item.now.booleans.items) ≤ max_cells }
+    ensures value { result ≡ field_count (length (fields_view item.now.node 0 item.now.booleans.items)) }
+    ensures same { result ≡ length item.now.booleans.items }
 {
-    item.fields.len() as u32
+    item.booleans.len() as u32
 }
 
 /// How many points a run along the last axis has.
-fn run_length(axes: &[Axis]) -> u64
+pub fn run_length(axes: &[Axis]) -> u64
     ensures { result ≡ line_of axes.now }
 {
     match axes {

@@ -133,7 +133,7 @@ fn bit_of(x: i64, place: i64) -> Outcome
 }
 
 /// Whether a Boolean that stands as a number is true.
-pub(crate) fn is_set(x: i64) -> bool
+pub fn is_set(x: i64) -> bool
     ensures { result ≡ is_true x }
 {
     x != 0

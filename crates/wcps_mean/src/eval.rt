@@ -7,7 +7,7 @@ ghost use Rattle.wcps_mean.specs.Cells.{at_position};
 ghost use Rattle.wcps_mean.specs.Condensers.{condensed};
 ghost use Rattle.wcps_mean.specs.Meaning.{val};
 ghost use Rattle.wcps_mean.specs.Reports.{Reports};
-ghost use Rattle.wcps_types.specs.Typed.{typed_view};
+ghost use Rattle.wcps_types.specs.Typed.{field_tree, only_tree};
 
 use crate::aggregate::{Aggregate, of_condenser, of_reduction};
 use crate::cell::{Outcome, PointFault, operate, operate_both};
@@ -18,18 +18,19 @@ use arr_core::Domain;
 use std::alloc::AllocError;
 use wcps_types::Node;
 
-/// The outcome of a tree at the point that stands in `points` from `base` on, its iterators bound to `env`. Both lists
-/// grow and shrink as the evaluation goes down and up; after an outcome they are as before.
+/// The outcome of one field of a node at the point that stands in `points` from `base` on, its iterators bound to `env`.
+/// Both lists grow and shrink as the evaluation goes down and up; after an outcome they are as before.
 #[cycle(eval)]
 pub(crate) fn eval<C: Cells>(
     cells: &mut C,
     e: &Node,
+    field: usize,
     env: &mut Vec<i32>,
     points: &mut Vec<i32>,
     base: usize,
 ) -> Result<Outcome, CellError>
     requires { base ≤ vec_len points.old }
-    ensures value { IfOk result (λ o. C.intact cells.old → o ≡ val (C.cells cells.old) (typed_view e.now) env.old.items (drop base points.old.items)) }
+    ensures value { IfOk result (λ o. C.intact cells.old → o ≡ val (C.cells cells.old) (field_tree e.now field) env.old.items (drop base points.old.items)) }
     ensures scope { OnOk result (env.new.items ≡ env.old.items) }
     ensures place { OnOk result (points.new.items ≡ points.old.items) }
     ensures same { C.cells cells.new ≡ C.cells cells.old }
@@ -40,25 +41,29 @@ pub(crate) fn eval<C: Cells>(
     match e {
         Node::Number(z) => Ok(Outcome::Value(*z)),
         Node::Iterator(k) => Ok(Outcome::Value(iterator(env, *k))),
-        Node::Cell { coverage, field } => {
-            let z = cells.cell(*coverage, *field, &points[base..])?;
+        Node::Coverage(coverage) => {
+            let z = cells.cell(*coverage, field, &points[base..])?;
             Ok(Outcome::Value(z))
         }
         Node::Unary(op, e) => {
-            let x = eval(cells, e, env, points, base)?;
+            let x = eval(cells, e, 0, env, points, base)?;
             Ok(operate(*op, x))
         }
         Node::Binary(op, l, r) => {
-            let x = eval(cells, l, env, points, base)?;
-            let y = eval(cells, r, env, points, base)?;
+            let x = eval(cells, l, 0, env, points, base)?;
+            let y = eval(cells, r, 0, env, points, base)?;
             Ok(operate_both(*op, x, y))
         }
         Node::Scalar(e) => {
             let top = points.len();
-            eval(cells, e, env, points, top)
+            eval(cells, e, field, env, points, top)
         }
-        Node::Select(e) => eval(cells, e, env, points, base),
-        Node::Bracket(e) => eval(cells, e, env, points, base),
+        Node::Record(parts) => match parts.get(field) {
+            None => Ok(Outcome::Value(0)),
+            Some(part) => eval(cells, part, 0, env, points, base),
+        },
+        Node::Select(e, own) => eval(cells, e, *own, env, points, base),
+        Node::Bracket(e) => eval(cells, e, field, env, points, base),
         Node::Slice {
             value,
             axis,
@@ -67,11 +72,11 @@ pub(crate) fn eval<C: Cells>(
             position,
         } => {
             let top = points.len();
-            let x = eval(cells, position, env, points, top)?;
+            let x = eval(cells, position, 0, env, points, top)?;
             match coordinate(x, *lo, *hi) {
                 Err(f) => Ok(Outcome::Fault(f)),
                 Ok(z) => {
-                    let o = at_coordinate(cells, value, env, points, base, *axis, z)?;
+                    let o = at_coordinate(cells, value, field, env, points, base, *axis, z)?;
                     Ok(o)
                 }
             }
@@ -96,9 +101,9 @@ pub(crate) fn eval<C: Cells>(
             let top = points.len();
             for place in 0..domain.points() {
                 push_point(env, domain, place)?;
-                let c = eval(cells, condition, env, points, top)?;
+                let c = eval(cells, condition, 0, env, points, top)?;
                 if running.demands(c) {
-                    let o = eval(cells, body, env, points, top)?;
+                    let o = eval(cells, body, 0, env, points, top)?;
                     running.add(o);
                 }
                 env.truncate(depth);
@@ -122,7 +127,7 @@ fn at_iterators<C: Cells>(
     base: usize,
 ) -> Result<Outcome, CellError>
     requires { base ≤ vec_len points.old }
-    ensures value { IfOk result (λ o. C.intact cells.old → o ≡ val (C.cells cells.old) (typed_view e.now) (env.old.items ++ drop base points.old.items) []) }
+    ensures value { IfOk result (λ o. C.intact cells.old → o ≡ val (C.cells cells.old) (only_tree e.now) (env.old.items ++ drop base points.old.items) []) }
     ensures scope { OnOk result (env.new.items ≡ env.old.items) }
     ensures place { OnOk result (points.new.items ≡ points.old.items) }
     ensures same { C.cells cells.new ≡ C.cells cells.old }
@@ -133,7 +138,7 @@ fn at_iterators<C: Cells>(
     let depth = env.len();
     env.extend_from_slice(&points[base..])?;
     let top = points.len();
-    let o = eval(cells, e, env, points, top)?;
+    let o = eval(cells, e, 0, env, points, top)?;
     env.truncate(depth);
     Ok(o)
 }
@@ -143,6 +148,7 @@ fn at_iterators<C: Cells>(
 fn at_coordinate<C: Cells>(
     cells: &mut C,
     e: &Node,
+    field: usize,
     env: &mut Vec<i32>,
     points: &mut Vec<i32>,
     base: usize,
@@ -150,7 +156,7 @@ fn at_coordinate<C: Cells>(
     z: i32,
 ) -> Result<Outcome, CellError>
     requires { base ≤ vec_len points.old }
-    ensures value { IfOk result (λ o. C.intact cells.old → o ≡ val (C.cells cells.old) (typed_view e.now) env.old.items (insert (drop base points.old.items) axis z)) }
+    ensures value { IfOk result (λ o. C.intact cells.old → o ≡ val (C.cells cells.old) (field_tree e.now field) env.old.items (insert (drop base points.old.items) axis z)) }
     ensures scope { OnOk result (env.new.items ≡ env.old.items) }
     ensures place { OnOk result (points.new.items ≡ points.old.items) }
     ensures same { C.cells cells.new ≡ C.cells cells.old }
@@ -160,7 +166,7 @@ fn at_coordinate<C: Cells>(
 {
     let at = base + axis.min(points.len() - base);
     put_in(points, at, z)?;
-    let o = eval(cells, e, env, points, base)?;
+    let o = eval(cells, e, field, env, points, base)?;
     points.remove(at);
     Ok(o)
 }
@@ -175,7 +181,7 @@ fn condense<C: Cells>(
     env: &mut Vec<i32>,
     points: &mut Vec<i32>,
 ) -> Result<Outcome, CellError>
-    ensures value { IfOk result (λ o. C.intact cells.old → o ≡ condensed op (map (λ x. val (C.cells cells.old) (typed_view e.now) (env.old.items ++ x) []) (box_points domain.now))) }
+    ensures value { IfOk result (λ o. C.intact cells.old → o ≡ condensed op (map (λ x. val (C.cells cells.old) (only_tree e.now) (env.old.items ++ x) []) (box_points domain.now))) }
     ensures scope { OnOk result (env.new.items ≡ env.old.items) }
     ensures place { OnOk result (points.new.items ≡ points.old.items) }
     ensures same { C.cells cells.new ≡ C.cells cells.old }
@@ -188,7 +194,7 @@ fn condense<C: Cells>(
     let top = points.len();
     for place in 0..domain.points() {
         push_point(env, domain, place)?;
-        let o = eval(cells, e, env, points, top)?;
+        let o = eval(cells, e, 0, env, points, top)?;
         env.truncate(depth);
         running.add(o);
     }
@@ -205,7 +211,7 @@ fn reduce<C: Cells>(
     env: &mut Vec<i32>,
     points: &mut Vec<i32>,
 ) -> Result<Outcome, CellError>
-    ensures value { IfOk result (λ o. C.intact cells.old → o ≡ condensed op (map (λ x. val (C.cells cells.old) (typed_view e.now) env.old.items x) (box_points domain.now))) }
+    ensures value { IfOk result (λ o. C.intact cells.old → o ≡ condensed op (map (λ x. val (C.cells cells.old) (only_tree e.now) env.old.items x) (box_points domain.now))) }
     ensures scope { OnOk result (env.new.items ≡ env.old.items) }
     ensures place { OnOk result (points.new.items ≡ points.old.items) }
     ensures same { C.cells cells.new ≡ C.cells cells.old }
@@ -217,7 +223,7 @@ fn reduce<C: Cells>(
     let top = points.len();
     for place in 0..domain.points() {
         push_point(points, domain, place)?;
-        let o = eval(cells, e, env, points, top)?;
+        let o = eval(cells, e, 0, env, points, top)?;
         points.truncate(top);
         running.add(o);
     }

@@ -14,10 +14,11 @@ mod product;
 mod running;
 
 pub use aggregate::{Aggregate, of_condenser, of_reduction};
-pub use answer::{EvalError, eval_plain};
-pub use cell::{Outcome, PointFault, operate, operate_both};
+pub use answer::{EvalError, cell_of, eval_plain, run_length};
+pub use cell::{Outcome, PointFault, is_set, operate, operate_both};
 pub use cells::{CellError, Cells};
 pub use item::{CellList, Item};
 pub use part::{Part, value_at};
+pub use points::{place_of, push_point};
 pub use product::Product;
 pub use running::Running;

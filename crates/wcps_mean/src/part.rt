@@ -1,7 +1,7 @@
 //! The outcome of a part of a query at a point.
 
 ghost use Rattle.std.specs.Prelude.{◌≡◌, List, [], IfOk, Option, Some, None, option_map};
-ghost use Rattle.wcps_types.specs.Typed.{typed_view, combination_view};
+ghost use Rattle.wcps_types.specs.Typed.{field_tree, combination_view};
 ghost use Rattle.wcps_types.specs.TypedQueries.{query_view};
 ghost use Rattle.wcps_mean.specs.Meaning.{val};
 ghost use Rattle.wcps_mean.specs.Reports.{Reports};
@@ -63,32 +63,33 @@ fn part_of<C: Cells>(
     ensures intact { C.intact cells.old → C.intact cells.new }
     ensures reports { Reports result (C.intact cells.old) (C.failures cells.old) (C.failures cells.new) }
 {
-    let fields = &combination.item.fields;
+    let node = &combination.item.node;
+    let fields = combination.item.booleans.len();
     match part {
         Part::Condition => match &combination.condition {
             None => Ok(None),
             Some(node) => {
-                let o = outcome_at(alloc, cells, node, &[], point)?;
+                let o = outcome_at(alloc, cells, node, 0, &[], point)?;
                 Ok(Some(o))
             }
         },
         Part::Field(f) => {
-            if f < fields.len() {
-                let o = outcome_at(alloc, cells, &fields[f].node, &[], point)?;
+            if f < fields {
+                let o = outcome_at(alloc, cells, node, f, &[], point)?;
                 return Ok(Some(o));
             }
             Ok(None)
         }
         Part::CondenserCondition(f) => {
-            if f < fields.len() {
-                let o = condition_at(alloc, cells, &fields[f].node, point)?;
+            if f < fields {
+                let o = condition_at(alloc, cells, node, f, point)?;
                 return Ok(o);
             }
             Ok(None)
         }
         Part::CondenserValue(f) => {
-            if f < fields.len() {
-                let o = body_at(alloc, cells, &fields[f].node, point)?;
+            if f < fields {
+                let o = body_at(alloc, cells, node, f, point)?;
                 return Ok(o);
             }
             Ok(None)
@@ -96,14 +97,15 @@ fn part_of<C: Cells>(
     }
 }
 
-/// The outcome of the condition of a condenser.
+/// The outcome of the condition of the condenser that a field of a node is.
 fn condition_at<C: Cells>(
     alloc: Global,
     cells: &mut C,
     node: &Node,
+    field: usize,
     point: &[i32],
 ) -> Result<Option<Outcome>, CellError>
-    ensures value { IfOk result (λ o. C.intact cells.old → o ≡ condition_value (C.cells cells.old) point.now (typed_view node.now)) }
+    ensures value { IfOk result (λ o. C.intact cells.old → o ≡ condition_value (C.cells cells.old) point.now (field_tree node.now field)) }
     ensures same { C.cells cells.new ≡ C.cells cells.old }
     ensures kept { C.kept cells.new ≡ C.kept cells.old }
     ensures intact { C.intact cells.old → C.intact cells.new }
@@ -111,21 +113,26 @@ fn condition_at<C: Cells>(
 {
     match node {
         Node::CondenseWhere { condition, .. } => {
-            let o = outcome_at(alloc, cells, condition, point, &[])?;
+            let o = outcome_at(alloc, cells, condition, 0, point, &[])?;
             Ok(Some(o))
         }
+        Node::Record(parts) => match parts.get(field) {
+            None => Ok(None),
+            Some(part) => condition_at(alloc, cells, part, 0, point),
+        },
         _ => Ok(None),
     }
 }
 
-/// The outcome of what a condenser or a reduction goes over.
+/// The outcome of what the condenser or the reduction that a field of a node is goes over.
 fn body_at<C: Cells>(
     alloc: Global,
     cells: &mut C,
     node: &Node,
+    field: usize,
     point: &[i32],
 ) -> Result<Option<Outcome>, CellError>
-    ensures value { IfOk result (λ o. C.intact cells.old → o ≡ body_value (C.cells cells.old) point.now (typed_view node.now)) }
+    ensures value { IfOk result (λ o. C.intact cells.old → o ≡ body_value (C.cells cells.old) point.now (field_tree node.now field)) }
     ensures same { C.cells cells.new ≡ C.cells cells.old }
     ensures kept { C.kept cells.new ≡ C.kept cells.old }
     ensures intact { C.intact cells.old → C.intact cells.new }
@@ -133,30 +140,35 @@ fn body_at<C: Cells>(
 {
     match node {
         Node::Condense { body, .. } => {
-            let o = outcome_at(alloc, cells, body, point, &[])?;
+            let o = outcome_at(alloc, cells, body, 0, point, &[])?;
             Ok(Some(o))
         }
         Node::CondenseWhere { body, .. } => {
-            let o = outcome_at(alloc, cells, body, point, &[])?;
+            let o = outcome_at(alloc, cells, body, 0, point, &[])?;
             Ok(Some(o))
         }
         Node::Reduce { body, .. } => {
-            let o = outcome_at(alloc, cells, body, &[], point)?;
+            let o = outcome_at(alloc, cells, body, 0, &[], point)?;
             Ok(Some(o))
         }
+        Node::Record(parts) => match parts.get(field) {
+            None => Ok(None),
+            Some(part) => body_at(alloc, cells, part, 0, point),
+        },
         _ => Ok(None),
     }
 }
 
-/// The outcome of a tree at a point, its iterators bound to a list of numbers.
+/// The outcome of a field of a node at a point, its iterators bound to a list of numbers.
 fn outcome_at<C: Cells>(
     alloc: Global,
     cells: &mut C,
     node: &Node,
+    field: usize,
     iterators: &[i32],
     point: &[i32],
 ) -> Result<Outcome, CellError>
-    ensures value { IfOk result (λ o. C.intact cells.old → o ≡ val (C.cells cells.old) (typed_view node.now) iterators.now point.now) }
+    ensures value { IfOk result (λ o. C.intact cells.old → o ≡ val (C.cells cells.old) (field_tree node.now field) iterators.now point.now) }
     ensures same { C.cells cells.new ≡ C.cells cells.old }
     ensures kept { C.kept cells.new ≡ C.kept cells.old }
     ensures intact { C.intact cells.old → C.intact cells.new }
@@ -164,6 +176,6 @@ fn outcome_at<C: Cells>(
 {
     let mut env = iterators.to_vec(alloc)?;
     let mut points = point.to_vec(alloc)?;
-    let o = eval(cells, node, &mut env, &mut points, 0)?;
+    let o = eval(cells, node, field, &mut env, &mut points, 0)?;
     Ok(o)
 }

@@ -35,7 +35,7 @@ fn point_count(axes: &[Axis]) -> u64
 }
 
 /// The place that is computed for a point, which is its place in row-major order where it lies inside.
-pub(crate) fn place_of(axes: &[Axis], point: &[i32]) -> u64
+pub fn place_of(axes: &[Axis], point: &[i32]) -> u64
     requires ordered { AreOrdered axes.now }
     requires few { count_of axes.now ≤ 2 ^ 24 }
     requires few_axes { length axes.now ≤ 4 }
@@ -86,7 +86,7 @@ fn push_coordinates(
 }
 
 /// Puts the coordinates of the point at a place of the box, in row-major order, at the end of a list.
-pub(crate) fn push_point(list: &mut Vec<i32>, domain: &Domain, place: u64) -> Result<(), AllocError>
+pub fn push_point(list: &mut Vec<i32>, domain: &Domain, place: u64) -> Result<(), AllocError>
     requires { place < length (points domain.now) }
     ensures { OnOk result (list.new.items ≡ list.old.items ++ slice_index_or (points domain.now) place []) }
 {

@@ -1,3 +1,5 @@
+pub mod Fields
+pub mod Efforts
 pub mod Caps
 pub mod Applied
 pub mod Domains
@@ -10,3 +12,6 @@ pub mod TypedForms
 pub mod TypedBrackets
 pub mod Sound
 pub mod SoundQueries
+pub mod KindForms
+pub mod SoundKinds
+pub mod Counted

@@ -1,10 +1,10 @@
 -- The `for` list, and the choices of coverages for its variables.
-use Rattle.std.specs.Prelude.{ℕ, ◌*◌, ◌/◌, ◌%◌, List, [], ◌∷◌, ◌++◌, map, length, Bool, cond, nat_lt, Option, Some, None, slice_get, slice_index, Ok, Err}
+use Rattle.std.specs.Prelude.{ℕ, ◌*◌, ◌/◌, ◌%◌, List, [], ◌∷◌, ◌++◌, map, length, Bool, cond, nat_eq, nat_lt, Option, Some, None, slice_get, slice_index, Ok, Err}
 use Rattle.std.specs.List.{list_any, flat_map}
 use Rattle.std.specs.Str.{bytes_eq}
 use Rattle.arr_core.specs.declared.signature.Signature.{Signature}
 use Rattle.wcps_text.specs.Tree.{BindingTree}
-use Rattle.wcps_types.specs.declared.refusal.TypeRefusal.TheVariants.{NoSuchCoverage, NameTaken, TooManyCombinations}
+use Rattle.wcps_types.specs.declared.refusal.TypeRefusal.TheVariants.{NoSuchCoverage, BadSyntax, NameTaken, TooManyCombinations}
 use Rattle.wcps_types.specs.declared.names.Bound.{Bound}
 use Rattle.wcps_types.specs.declared.bindings.Choice.{Choice}
 use Rattle.wcps_types.specs.declared.bindings.Bindings.{Bindings}
@@ -100,9 +100,11 @@ combination_count (c ∷ choices) = length c.coverages * combination_count choic
 abbrev pub max_combinations : ℕ
 max_combinations = 64
 
--- not too many
+-- at least one, since each variable of a query that is spelled stands for some coverage, and not too many
 abbrev pub few_combinations : List ChoiceTree → Answer ℕ
-few_combinations choices = cond (nat_lt max_combinations (combination_count choices)) (Err TooManyCombinations) (Ok (combination_count choices))
+few_combinations choices =
+    cond (nat_eq (combination_count choices) 0) (Err BadSyntax)
+    (cond (nat_lt max_combinations (combination_count choices)) (Err TooManyCombinations) (Ok (combination_count choices)))
 
 abbrev pub bound_to : List ℕ → ℕ → Bound
 bound_to variable place = record { variable = variable; coverage = place }

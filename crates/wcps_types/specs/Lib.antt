@@ -1,6 +1,8 @@
 pub mod Typed
 pub mod WellTyped
 pub mod WellTypedOnce
+pub mod Kinds
+pub mod KindsOnce
 pub mod TypedQueries
 pub mod Names
 pub mod Shapes
@@ -9,6 +11,7 @@ pub mod Work
 pub mod Cells
 pub mod Brackets
 pub mod Records
+pub mod Parts
 pub mod Boxes
 pub mod Variables
 pub mod Bindings

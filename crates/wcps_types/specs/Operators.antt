@@ -18,7 +18,7 @@ use Rattle.wcps_types.specs.declared.typed.Reduction.{Reduction}
 use Rattle.wcps_types.specs.declared.typed.Reduction.TheVariants as kinds
 use Rattle.wcps_types.specs.declared.operators.Operands.{Operands}
 use Rattle.wcps_types.specs.Typed as typed
-use Rattle.wcps_types.specs.Typed.{Typed, typed_view}
+use Rattle.wcps_types.specs.Typed.{Typed, only_tree}
 use Rattle.wcps_types.specs.Names.{is_name_of}
 use Rattle.wcps_types.specs.Shapes.{SlotTree, ShapeTree, FieldOf, Answer, then_of, is_scalar, unnamed, only_field}
 
@@ -62,7 +62,7 @@ pub record OperandTrees : Type 0 where
   pub right : Typed
 
 abbrev pub operands_view : Operands → OperandTrees
-operands_view o = record { domain = o.domain; left = typed_view o.left; right = typed_view o.right }
+operands_view o = record { domain = o.domain; left = only_tree o.left; right = only_tree o.right }
 
 -- a scalar goes with every point of an operand with axes; two operands with axes have the same domain
 abbrev pub joined : FieldOf → FieldOf → Answer OperandTrees

@@ -1,16 +1,21 @@
 -- The check of a whole query.
-use Rattle.std.specs.Prelude.{ℕ, List, [], ◌∷◌, ◌++◌, map, cond, nat_lt, Option, Ok, Err}
+use Rattle.std.specs.Prelude.{ℕ, List, [], ◌∷◌, ◌++◌, map, Bool, cond, nat_lt, Option, Ok, Err}
 use Rattle.arr_core.specs.declared.signature.Signature.{Signature}
 use Rattle.wcps_text.specs.Tree as tree
 use Rattle.wcps_text.specs.Tree.{QueryTree, encode, plain}
 use Rattle.wcps_types.specs.declared.refusal.TypeRefusal.TheVariants.{MustEncode, TooMuchWork, ResultTooLarge}
 use Rattle.wcps_types.specs.declared.names.Bound.{Bound}
+use Rattle.wcps_types.specs.declared.shape.Label.{Label}
 use Rattle.wcps_types.specs.Typed.{Typed, FieldTree, ItemTree, CombinationTree, TypedTree}
 use Rattle.wcps_types.specs.Shapes.{SlotTree, ShapeTree, Answer, then_of, is_scalar}
 use Rattle.wcps_types.specs.Typing.{typ, typ_condition}
 use Rattle.wcps_types.specs.Bindings.{BindingTrees, no_bindings, bound_from, few_combinations, combinations}
 use Rattle.wcps_types.specs.Cells.{result_cells, max_cells}
 use Rattle.wcps_types.specs.Work.{query_work, max_work}
+
+-- whether a label is of a Boolean field
+abbrev pub label_boolean : Label → Bool
+label_boolean l = l.boolean
 
 abbrev pub field_of_slot : SlotTree → FieldTree
 field_of_slot s = record { boolean = s.boolean; tree = s.tree }

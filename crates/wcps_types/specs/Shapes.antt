@@ -1,15 +1,16 @@
 -- Shapes: what an expression is found to be. A check gives a shape, or the first refusal.
-use Rattle.std.specs.Prelude.{◌≡◌, ℕ, List, [], ◌∷◌, map, Bool, true, false, cond, Option, None, Result, Ok, Err}
+use Rattle.std.specs.Prelude.{◌≡◌, ℕ, suc, List, [], ◌∷◌, Bool, true, false, cond, Option, None, Some, Result, Ok, Err}
 use Rattle.arr_core.specs.declared.domain.Axis.{Axis}
 use Rattle.wcps_types.specs.declared.refusal.TypeRefusal.{TypeRefusal}
 use Rattle.wcps_types.specs.declared.refusal.TypeRefusal.TheVariants.{NeedsScalar, NeedsOneField}
 use Rattle.wcps_types.specs.declared.refusal.CheckError.{CheckError}
 use Rattle.wcps_types.specs.declared.refusal.CheckError.TheVariants.{Refused, NoMemory}
-use Rattle.wcps_types.specs.declared.shape.Slot.{Slot}
+use Rattle.wcps_types.specs.declared.shape.Label.{Label}
 use Rattle.wcps_types.specs.declared.shape.Shape.{Shape}
 use Rattle.wcps_types.specs.declared.shape.OneField.{OneField}
 use Rattle.wcps_types.specs.declared.shape.OneScalar.{OneScalar}
-use Rattle.wcps_types.specs.Typed.{Typed, typed_view}
+use Rattle.wcps_types.specs.declared.typed.Node.{Node}
+use Rattle.wcps_types.specs.Typed.{Typed, field_tree, only_tree}
 
 -- one field: its name if it has one, whether it is Boolean, and its tree
 pub record SlotTree : Type 0 where
@@ -48,20 +49,23 @@ Says view (Ok t) a = a ≡ Ok (view t)
 Says view (Err (Refused f)) a = a ≡ Err f
 Says view (Err NoMemory) a = Unit {0}
 
-abbrev pub slot_view : Slot → SlotTree
-slot_view s = record { name = s.name; boolean = s.boolean; tree = typed_view s.node }
+-- the field at place k of what a node gives, with its label
+abbrev pub slot_of : Node → ℕ → Label → SlotTree
+slot_of e k l = record { name = l.name; boolean = l.boolean; tree = field_tree e k }
 
-abbrev pub slots_view : List Slot → List SlotTree
-slots_view slots = map slot_view slots
+-- the fields from that of place k on
+abbrev pub labels_view : Node → ℕ → List Label → List SlotTree
+labels_view e k [] = []
+labels_view e k (l ∷ labels) = slot_of e k l ∷ labels_view e (suc k) labels
 
 abbrev pub shape_view : Shape → ShapeTree
-shape_view s = record { domain = s.domain; fields = slots_view s.fields.items }
+shape_view s = record { domain = s.domain; fields = labels_view s.node 0 s.labels.items }
 
 abbrev pub field_of_view : OneField → FieldOf
-field_of_view s = record { domain = s.domain; boolean = s.boolean; tree = typed_view s.node }
+field_of_view s = record { domain = s.domain; boolean = s.boolean; tree = only_tree s.node }
 
 abbrev pub scalar_of_view : OneScalar → ScalarOf
-scalar_of_view s = record { boolean = s.boolean; tree = typed_view s.node }
+scalar_of_view s = record { boolean = s.boolean; tree = only_tree s.node }
 
 abbrev pub is_scalar : List Axis → Bool
 is_scalar [] = true
@@ -70,6 +74,17 @@ is_scalar (a ∷ axes) = false
 -- one unnamed field
 abbrev pub unnamed : List Axis → Bool → Typed → ShapeTree
 unnamed axes boolean tree = record { domain = axes; fields = record { name = None; boolean = boolean; tree = tree } ∷ [] }
+
+-- whether the label is Boolean, where there is one alone
+abbrev pub the_boolean : List Label → Option Bool
+the_boolean [] = None
+the_boolean (l ∷ []) = Some l.boolean
+the_boolean (l ∷ m ∷ more) = None
+
+-- the only field of a node, where it has one alone
+abbrev pub labelled : List Axis → Node → Option Bool → Answer FieldOf
+labelled axes e None = Err NeedsOneField
+labelled axes e (Some boolean) = Ok (record { domain = axes; boolean = boolean; tree = field_tree e 0 })
 
 -- the only field
 abbrev pub only_field : List Axis → List SlotTree → Answer FieldOf

@@ -1,14 +1,13 @@
 -- Typed trees as values alone, without where they lie in memory.
-use Rattle.std.specs.Prelude.{ℕ, ℤ, List, map, Bool, Option, Some, None, option_map}
+use Rattle.std.specs.Prelude.{ℕ, zero, suc, ℤ, pos, List, [], ◌∷◌, map, Bool, Option, Some, None, option_map}
 use Rattle.arr_core.specs.declared.domain.Axis.{Axis}
 use Rattle.arr_core.specs.declared.signature.Signature.{Signature}
 use Rattle.wcps_types.specs.declared.typed.Operation1.{Operation1}
 use Rattle.wcps_types.specs.declared.typed.Operation2.{Operation2}
 use Rattle.wcps_types.specs.declared.typed.Condenser.{Condenser}
 use Rattle.wcps_types.specs.declared.typed.Reduction.{Reduction}
-use Rattle.wcps_types.specs.declared.typed.Node.{Node}
+use Rattle.wcps_types.specs.declared.typed.Node.{Node, Row_of-Node, end_of-Node, more_of-Node}
 use Rattle.wcps_types.specs.declared.typed.Node.TheVariants as nodes
-use Rattle.wcps_types.specs.declared.typed.TypedField.{TypedField}
 use Rattle.wcps_types.specs.declared.typed.TypedItem.{TypedItem}
 use Rattle.wcps_types.specs.declared.typed.Combination.{Combination}
 
@@ -37,22 +36,34 @@ abbrev pub condense_of : Condenser → List Axis → Option Typed → Typed → 
 condense_of op box None e = condense op box e
 condense_of op box (Some c) e = condense_where op box c e
 
--- the tree of a node
-abbrev pub typed_view : Node → Typed
-typed_view (nodes.Number z) = number z
-typed_view (nodes.Iterator k) = iterator k
-typed_view (nodes.Cell c f) = cell c f
-typed_view (nodes.Unary' op p e) = unary op (typed_view e)
-typed_view (nodes.Binary' op p l q r) = binary op (typed_view l) (typed_view r)
-typed_view (nodes.Scalar' p e) = scalar (typed_view e)
-typed_view (nodes.Select' p e) = select (typed_view e)
-typed_view (nodes.Bracket' p e) = bracket (typed_view e)
-typed_view (nodes.Slice' p e axis lo hi q i) = slice (typed_view e) axis lo hi (typed_view i)
-typed_view (nodes.Array' p e) = array (typed_view e)
-typed_view (nodes.List box items) = listed box items.items
-typed_view (nodes.Condense' op box p e) = condense op box (typed_view e)
-typed_view (nodes.CondenseWhere' op box p c q e) = condense_where op box (typed_view c) (typed_view e)
-typed_view (nodes.Reduce' op box p e) = reduce op box (typed_view e)
+abbrev mutual
+  -- the tree of the field at place f of the value that a node gives
+  pub field_tree : Node → ℕ → Typed
+  field_tree (nodes.Number z) f = number z
+  field_tree (nodes.Iterator k) f = iterator k
+  field_tree (nodes.Coverage c) f = cell c f
+  field_tree (nodes.Unary' op p e) f = unary op (field_tree e 0)
+  field_tree (nodes.Binary' op p l q r) f = binary op (field_tree l 0) (field_tree r 0)
+  field_tree (nodes.Scalar' p e) f = scalar (field_tree e f)
+  field_tree (nodes.Record' shape parts) f = part_tree parts f
+  field_tree (nodes.Select' p e k) f = select (field_tree e k)
+  field_tree (nodes.Bracket' p e) f = bracket (field_tree e f)
+  field_tree (nodes.Slice' p e axis lo hi q i) f = slice (field_tree e f) axis lo hi (field_tree i 0)
+  field_tree (nodes.Array' p e) f = array (field_tree e 0)
+  field_tree (nodes.List box items) f = listed box items.items
+  field_tree (nodes.Condense' op box p e) f = condense op box (field_tree e 0)
+  field_tree (nodes.CondenseWhere' op box p c q e) f = condense_where op box (field_tree c 0) (field_tree e 0)
+  field_tree (nodes.Reduce' op box p e) f = reduce op box (field_tree e 0)
+
+  -- the tree of the only field of the part at place f; no typed query asks for a part that is not there
+  pub part_tree : {m : _} → Row_of-Node m → ℕ → Typed
+  part_tree end_of-Node f = number (pos 0)
+  part_tree (more_of-Node e rest) zero = field_tree e 0
+  part_tree (more_of-Node e rest) (suc f) = part_tree rest f
+
+-- the tree of a node with one field
+abbrev pub only_tree : Node → Typed
+only_tree e = field_tree e 0
 
 -- one field of an item: whether it is Boolean, and its tree
 pub record FieldTree : Type 0 where
@@ -74,11 +85,13 @@ pub record TypedTree : Type 0 where
   pub coverages : List Signature
   pub combinations : List CombinationTree
 
-abbrev pub field_view : TypedField → FieldTree
-field_view f = record { boolean = f.boolean; tree = typed_view f.node }
+-- the fields that a node gives from that of place k on, each with whether it is Boolean
+abbrev pub fields_view : Node → ℕ → List Bool → List FieldTree
+fields_view e k [] = []
+fields_view e k (boolean ∷ more) = record { boolean = boolean; tree = field_tree e k } ∷ fields_view e (suc k) more
 
 abbrev pub item_view : TypedItem → ItemTree
-item_view i = record { domain = i.domain; fields = map field_view i.fields.items }
+item_view i = record { domain = i.domain; fields = fields_view i.node 0 i.booleans.items }
 
 abbrev pub combination_view : Combination → CombinationTree
-combination_view c = record { condition = option_map typed_view c.condition; item = item_view c.item }
+combination_view c = record { condition = option_map only_tree c.condition; item = item_view c.item }

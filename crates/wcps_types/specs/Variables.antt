@@ -6,6 +6,7 @@ use Rattle.arr_core.specs.declared.field.Field.{Field}
 use Rattle.arr_core.specs.declared.signature.Signature.{Signature}
 use Rattle.wcps_types.specs.declared.refusal.TypeRefusal.TheVariants.{UnknownName}
 use Rattle.wcps_types.specs.declared.names.Bound.{Bound}
+use Rattle.wcps_types.specs.declared.shape.Label.{Label}
 use Rattle.wcps_types.specs.Typed.{iterator, cell}
 use Rattle.wcps_types.specs.Names.{bound_place, name_place}
 use Rattle.wcps_types.specs.Shapes.{SlotTree, ShapeTree, Answer, unnamed}
@@ -17,6 +18,10 @@ is_boolean kinds.U8 = false
 is_boolean kinds.I16 = false
 is_boolean kinds.I32 = false
 is_boolean kinds.I64 = false
+
+-- the name and the kind of a field
+abbrev pub label_of : Field → Label
+label_of f = record { name = Some f.name; boolean = is_boolean f.kind }
 
 -- the fields of the coverage at place c, from that of place k on
 abbrev pub cells_from : ℕ → ℕ → List Field → List SlotTree

@@ -176,7 +176,7 @@ pub fn resolve_bindings(
     Ok(bindings)
 }
 
-/// How many combinations there are, if they are not too many.
+/// How many combinations there are, if there are some, as in each query that is spelled, and not too many.
 pub fn combination_count(choices: &[Choice]) -> Result<u64, CheckError>
     ensures said { Says (λ n. n) result (few_combinations (map choice_view choices.now)) }
 {
@@ -184,6 +184,9 @@ pub fn combination_count(choices: &[Choice]) -> Result<u64, CheckError>
     for choice in choices {
         let factor = (choice.coverages.len() as u64).min(65);
         count = (count * factor).min(65);
+    }
+    if count == 0 {
+        return Err(CheckError::Refused(TypeRefusal::BadSyntax));
     }
     if count > MAX_COMBINATIONS {
         return Err(CheckError::Refused(TypeRefusal::TooManyCombinations));

@@ -3,7 +3,7 @@
 ghost use Rattle.std.specs.Prelude.{◌≡◌, ◌++◌, IfOk, map};
 ghost use Rattle.std.specs.Option.{option_map};
 ghost use Rattle.std.specs.List.{list_all};
-ghost use Rattle.wcps_types.specs.Typed.{typed_view};
+ghost use Rattle.wcps_types.specs.Typed.{only_tree};
 ghost use Rattle.wcps_types.specs.Shapes.{Says, shape_view, scalar_of_view};
 ghost use Rattle.wcps_types.specs.Brackets.{bounds_view};
 ghost use Rattle.wcps_types.specs.Boxes.{iterators_view, no_iterators, is_taken, axis_of, with_iterator, box_of, array_on, condition_of, condensed, integers_condensed, booleans_condensed, is_truth, item_number, first_is_truth, has_kind, other_kind, listed_on, value_list};
@@ -126,7 +126,7 @@ pub fn array(alloc: Global, domain: Domain, body: OneScalar) -> Result<Shape, Ch
 
 /// A condition: a Boolean scalar.
 pub fn condition_of(condition: OneScalar) -> Result<Node, CheckError>
-    ensures { Says typed_view result (condition_of (scalar_of_view condition)) }
+    ensures { Says only_tree result (condition_of (scalar_of_view condition)) }
 {
     if !condition.boolean {
         return Err(CheckError::Refused(TypeRefusal::NeedsBoolean));
@@ -142,7 +142,7 @@ pub fn condensed(
     condition: Option<Node>,
     body: OneScalar,
 ) -> Result<Shape, CheckError>
-    ensures { Says shape_view result (condensed op domain (option_map typed_view condition) (scalar_of_view body)) }
+    ensures { Says shape_view result (condensed op domain (option_map only_tree condition) (scalar_of_view body)) }
 {
     match op {
         CondenseOp::Add => integers_condensed(alloc, Condenser::Add, domain, condition, body),
@@ -167,7 +167,7 @@ fn integers_condensed(
     condition: Option<Node>,
     body: OneScalar,
 ) -> Result<Shape, CheckError>
-    ensures { Says shape_view result (integers_condensed op domain (option_map typed_view condition) (scalar_of_view body)) }
+    ensures { Says shape_view result (integers_condensed op domain (option_map only_tree condition) (scalar_of_view body)) }
 {
     let OneScalar { boolean, node } = body;
     if boolean {
@@ -184,7 +184,7 @@ fn booleans_condensed(
     condition: Option<Node>,
     body: OneScalar,
 ) -> Result<Shape, CheckError>
-    ensures { Says shape_view result (booleans_condensed op domain (option_map typed_view condition) (scalar_of_view body)) }
+    ensures { Says shape_view result (booleans_condensed op domain (option_map only_tree condition) (scalar_of_view body)) }
 {
     let OneScalar { boolean, node } = body;
     if !boolean {

@@ -1,17 +1,17 @@
 //! Brackets: narrowing axes, and taking axes out at positions.
 
-ghost use Rattle.std.specs.Prelude.{◌≡◌, ◌≤ℤ◌, IfOk, map, slice_get};
+ghost use Rattle.std.specs.Prelude.{◌≡◌, ◌<◌, ◌≤ℤ◌, IfOk, Some, length, map, slice_get};
 ghost use Rattle.std.specs.Option.{option_map};
 ghost use Rattle.arr_core.specs.Domains.{AreOrdered};
-ghost use Rattle.wcps_types.specs.Typed.{typed_view};
-ghost use Rattle.wcps_types.specs.Shapes.{Says, shape_view, slot_view, slots_view};
-ghost use Rattle.wcps_types.specs.Brackets.{bounds_view, cut_view, bracket_view, written_bounds, bounds_of, bounds_of_axis, opened, place_to_cut, with_trim, position_of, with_position, sliced_slot, cut_out, all_cut_out, bracketed_slot, bracketed, closed};
+ghost use Rattle.wcps_types.specs.Typed.{only_tree};
+ghost use Rattle.wcps_types.specs.Shapes.{Says, shape_view, labels_view};
+ghost use Rattle.wcps_types.specs.Brackets.{bounds_view, cut_view, bracket_view, written_bounds, bounds_of, bounds_of_axis, opened, place_to_cut, with_trim, position_of, with_position, cut_between, cut_out, all_cut_out, bracketed, closed};
 
 use crate::bounds::Bounds;
 use crate::names::{axis_place, name_place};
 use crate::nodes::{bracket_node, slice_node};
 use crate::refusal::{CheckError, TypeRefusal};
-use crate::shape::{OneScalar, Shape, Slot, only_scalar};
+use crate::shape::{Label, OneScalar, Shape, only_scalar};
 use crate::typed::Node;
 use arr_core::{Axis, Domain};
 use std::alloc::{AllocError, Global};
@@ -150,7 +150,7 @@ pub fn with_trim(
 
 /// A position: an integer scalar.
 pub fn position_of(shape: Shape) -> Result<Node, CheckError>
-    ensures { Says typed_view result (position_of (shape_view shape)) }
+    ensures { Says only_tree result (position_of (shape_view shape)) }
 {
     let OneScalar { boolean, node } = only_scalar(shape)?;
     if boolean {
@@ -166,7 +166,7 @@ pub fn with_position(
     name: &QueryName,
     position: Node,
 ) -> Result<Bracket, AllocError>
-    ensures { IfOk result (λ b. bracket_view b ≡ with_position name.now (typed_view position) (bracket_view bracket)) }
+    ensures { IfOk result (λ b. bracket_view b ≡ with_position name.now (only_tree position) (bracket_view bracket)) }
 {
     let Bracket {
         domain,
@@ -183,45 +183,29 @@ pub fn with_position(
     })
 }
 
-/// A field sliced at a position of the axis at a place.
-fn sliced_slot(
-    alloc: Global,
-    place: usize,
-    bounds: Bounds,
-    position: &Node,
-    slot: Slot,
-) -> Result<Slot, AllocError>
-    ensures { IfOk result (λ s. slot_view s ≡ sliced_slot place bounds.lo bounds.hi (typed_view position.now) (slot_view slot)) }
-{
-    let Slot {
-        name,
-        boolean,
-        node,
-    } = slot;
-    let position = position.copy(alloc)?;
-    let node = slice_node(alloc, node, place, bounds.lo, bounds.hi, position)?;
-    Ok(Slot {
-        name,
-        boolean,
-        node,
-    })
-}
-
-/// Each field sliced at a position of the axis at a place.
+/// The shape sliced at a position of the axis at a place: one node, however many fields.
 fn sliced(
     alloc: Global,
-    fields: Vec<Slot>,
+    shape: Shape,
     place: usize,
     bounds: Bounds,
-    position: &Node,
-) -> Result<Vec<Slot>, AllocError>
-    ensures { IfOk result (λ v. slots_view v.items ≡ map (sliced_slot place bounds.lo bounds.hi (typed_view position.now)) (slots_view fields.items)) }
+    position: Node,
+) -> Result<Shape, AllocError>
+    requires { place < length shape.domain }
+    ensures { IfOk result (λ s. shape_view s ≡ cut_between (Some (bounds_view bounds)) place (only_tree position) (shape_view shape)) }
 {
-    let mut slices = Vec::new(alloc);
-    for slot in fields {
-        slices.push(sliced_slot(alloc, place, bounds, position, slot)?)?;
-    }
-    Ok(slices)
+    let Shape {
+        domain,
+        labels,
+        node,
+    } = shape;
+    let node = slice_node(alloc, node, place, bounds.lo, bounds.hi, position)?;
+    let domain = domain.drop_axis(alloc, place)?;
+    Ok(Shape {
+        domain,
+        labels,
+        node,
+    })
 }
 
 /// The shape with one axis taken out.
@@ -229,18 +213,15 @@ fn cut_out(alloc: Global, shape: Shape, cut: Cut) -> Result<Shape, AllocError>
     ensures { IfOk result (λ s. shape_view s ≡ cut_out (cut_view cut) (shape_view shape)) }
 {
     let Cut { axis, position } = cut;
-    let Shape { domain, fields } = shape;
-    let place = match axis_place(domain.axes(), &axis) {
-        None => return Ok(Shape { domain, fields }),
+    let place = match axis_place(shape.domain.axes(), &axis) {
+        None => return Ok(shape),
         Some(place) => place,
     };
-    let bounds = match bounds_at(domain.axes(), place) {
-        None => return Ok(Shape { domain, fields }),
+    let bounds = match bounds_at(shape.domain.axes(), place) {
+        None => return Ok(shape),
         Some(bounds) => bounds,
     };
-    let fields = sliced(alloc, fields, place, bounds, &position)?;
-    let domain = domain.drop_axis(alloc, place)?;
-    Ok(Shape { domain, fields })
+    sliced(alloc, shape, place, bounds, position)
 }
 
 /// The shape with the axes taken out, the last one first, so that the slice of the first one stands outermost.
@@ -255,51 +236,42 @@ fn all_cut_out(alloc: Global, shape: Shape, cuts: Vec<Cut>) -> Result<Shape, All
     Ok(shape)
 }
 
-/// A field in its bracket.
-fn bracketed_slot(alloc: Global, slot: Slot) -> Result<Slot, AllocError>
-    ensures { IfOk result (λ s. slot_view s ≡ bracketed_slot (slot_view slot)) }
-{
-    let Slot {
-        name,
-        boolean,
-        node,
-    } = slot;
-    let node = bracket_node(alloc, node)?;
-    Ok(Slot {
-        name,
-        boolean,
-        node,
-    })
-}
-
-/// Each field in its bracket.
+/// The shape in its bracket.
 fn bracketed(alloc: Global, shape: Shape) -> Result<Shape, AllocError>
     ensures { IfOk result (λ s. shape_view s ≡ bracketed (shape_view shape)) }
 {
-    let Shape { domain, fields } = shape;
-    let mut brackets = Vec::new(alloc);
-    for slot in fields {
-        brackets.push(bracketed_slot(alloc, slot)?)?;
-    }
+    let Shape {
+        domain,
+        labels,
+        node,
+    } = shape;
+    let node = bracket_node(alloc, node)?;
     Ok(Shape {
         domain,
-        fields: brackets,
+        labels,
+        node,
     })
 }
 
-/// The shape of a whole bracket on those fields.
+/// The shape of a whole bracket on a value with those fields.
 pub fn closed_bracket(
     alloc: Global,
     bracket: Bracket,
-    fields: Vec<Slot>,
+    labels: Vec<Label>,
+    node: Node,
 ) -> Result<Shape, AllocError>
-    ensures { IfOk result (λ s. shape_view s ≡ closed (bracket_view bracket) (slots_view fields.items)) }
+    ensures { IfOk result (λ s. shape_view s ≡ closed (bracket_view bracket) (labels_view node 0 labels.items)) }
 {
     let Bracket {
         domain,
         named: _,
         cuts,
     } = bracket;
-    let shape = all_cut_out(alloc, Shape { domain, fields }, cuts)?;
+    let shape = Shape {
+        domain,
+        labels,
+        node,
+    };
+    let shape = all_cut_out(alloc, shape, cuts)?;
     bracketed(alloc, shape)
 }

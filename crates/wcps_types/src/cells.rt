@@ -13,10 +13,11 @@ pub const MAX_CELLS: u64 = 1_048_576;
 const TOO_MANY: u64 = MAX_CELLS + 1;
 
 /// The cells of one item.
+#[tactic(auto, using(crate::proofs::Efforts::field_places))]
 fn item_cells(combination: &Combination) -> u64
     ensures { result ≡ capped_cells (result_cells (combination_view combination.now ∷ [])) }
 {
-    let fields = (combination.item.fields.len() as u64).min(TOO_MANY);
+    let fields = (combination.item.booleans.len() as u64).min(TOO_MANY);
     let points = combination.item.domain.points();
     (points * fields).min(TOO_MANY)
 }

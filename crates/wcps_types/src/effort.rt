@@ -1,10 +1,10 @@
 //! Work: how many steps an evaluation takes at most, from domains alone.
 
 ghost use Rattle.std.specs.Prelude.{◌≡◌, ◌≤◌, ◌+◌, ◌*◌, ◌^◌, map, [], ◌∷◌};
-ghost use Rattle.wcps_types.specs.Typed.{typed_view, field_view, item_view, combination_view};
+ghost use Rattle.wcps_types.specs.Typed.{field_tree, fields_view, item_view, combination_view};
 ghost use Rattle.wcps_types.specs.Work.{work_of, fields_work, item_work, condition_work, query_work, max_work, capped};
 
-use crate::typed::{Combination, Node, TypedField, TypedItem, TypedQuery};
+use crate::typed::{Combination, Node, TypedItem, TypedQuery};
 
 /// How much work is allowed.
 pub const MAX_WORK: u64 = 4_294_967_296;
@@ -30,31 +30,39 @@ fn times(points: u64, work: u64) -> u64
     (points * work).min(TOO_MUCH)
 }
 
-/// The work of one evaluation at one point.
+/// So often the work, or `TOO_MUCH` where it is more.
+fn repeated(count: usize, work: u64) -> u64
+    ensures { result ≡ capped (count * work) }
+{
+    (count as u64).saturating_mul(work).min(TOO_MUCH)
+}
+
+/// The work of one evaluation of one field at one point.
 #[tactic(auto, using(crate::proofs::Caps::capped_times))]
-pub fn node_work(node: &Node) -> u64
-    ensures { result ≡ capped (work_of (typed_view node.now)) }
+pub fn node_work(node: &Node, field: usize) -> u64
+    ensures { result ≡ capped (work_of (field_tree node.now field)) }
 {
     match node {
         Node::Number(_) => 1,
         Node::Iterator(_) => 1,
-        Node::Cell {
-            coverage: _,
-            field: _,
-        } => 1,
-        Node::Unary(_, e) => plus(1, node_work(e)),
-        Node::Binary(_, l, r) => plus(1, plus(node_work(l), node_work(r))),
-        Node::Scalar(e) => node_work(e),
-        Node::Select(e) => plus(1, node_work(e)),
-        Node::Bracket(e) => plus(1, node_work(e)),
+        Node::Coverage(_) => 1,
+        Node::Unary(_, e) => plus(1, node_work(e, 0)),
+        Node::Binary(_, l, r) => plus(1, plus(node_work(l, 0), node_work(r, 0))),
+        Node::Scalar(e) => node_work(e, field),
+        Node::Record(parts) => match parts.get(field) {
+            None => 1,
+            Some(part) => node_work(part, 0),
+        },
+        Node::Select(e, own) => plus(1, node_work(e, *own)),
+        Node::Bracket(e) => plus(1, node_work(e, field)),
         Node::Slice {
             value,
             axis: _,
             lo: _,
             hi: _,
             position,
-        } => plus(node_work(value), node_work(position)),
-        Node::Array(e) => plus(1, node_work(e)),
+        } => plus(node_work(value, field), node_work(position, 0)),
+        Node::Array(e) => plus(1, node_work(e, 0)),
         Node::List {
             domain: _,
             items: _,
@@ -63,7 +71,7 @@ pub fn node_work(node: &Node) -> u64
             op: _,
             domain,
             body,
-        } => plus(1, times(domain.points(), node_work(body))),
+        } => plus(1, times(domain.points(), node_work(body, 0))),
         Node::CondenseWhere {
             op: _,
             domain,
@@ -72,26 +80,55 @@ pub fn node_work(node: &Node) -> u64
         } => {
             plus(
                 1,
-                times(domain.points(), plus(node_work(condition), node_work(body))),
+                times(
+                    domain.points(),
+                    plus(node_work(condition, 0), node_work(body, 0)),
+                ),
             )
         }
         Node::Reduce {
             op: _,
             domain,
             body,
-        } => plus(1, times(domain.points(), node_work(body))),
+        } => plus(1, times(domain.points(), node_work(body, 0))),
     }
 }
 
-/// The work of all fields.
-fn fields_work(fields: &[TypedField]) -> u64
-    ensures { result ≡ capped (fields_work (map field_view fields.now)) }
+/// The work of the fields of a node one by one.
+fn each_field_work(node: &Node, booleans: &[bool]) -> u64
+    ensures { result ≡ capped (fields_work (fields_view node.now 0 booleans.now)) }
 {
     let mut total = 0;
-    for field in fields {
-        total = plus(total, node_work(&field.node));
+    for field in 0..booleans.len() {
+        total = plus(total, node_work(node, field));
     }
     total
+}
+
+/// The work of all fields of a node. A bracket and its positions are looked at once, however many fields there are.
+#[tactic(auto, using(crate::proofs::Efforts::bracket_work, crate::proofs::Efforts::slice_work))]
+fn fields_work(node: &Node, booleans: &[bool]) -> u64
+    ensures { result ≡ capped (fields_work (fields_view node.now 0 booleans.now)) }
+{
+    match node {
+        Node::Bracket(e) => plus(
+            (booleans.len() as u64).min(TOO_MUCH),
+            fields_work(e, booleans),
+        ),
+        Node::Slice {
+            value,
+            axis: _,
+            lo: _,
+            hi: _,
+            position,
+        } => {
+            plus(
+                fields_work(value, booleans),
+                repeated(booleans.len(), node_work(position, 0)),
+            )
+        }
+        _ => each_field_work(node, booleans),
+    }
 }
 
 /// The work of an item, at all its points.
@@ -99,7 +136,10 @@ fn fields_work(fields: &[TypedField]) -> u64
 fn item_work(item: &TypedItem) -> u64
     ensures { result ≡ capped (item_work (item_view item.now)) }
 {
-    times(item.domain.points(), fields_work(&item.fields))
+    times(
+        item.domain.points(),
+        fields_work(&item.node, &item.booleans),
+    )
 }
 
 /// The work of a combination.
@@ -108,7 +148,7 @@ fn combination_work(combination: &Combination) -> u64
 {
     let condition = match &combination.condition {
         None => 0,
-        Some(c) => node_work(c),
+        Some(c) => node_work(c, 0),
     };
     plus(condition, item_work(&combination.item))
 }

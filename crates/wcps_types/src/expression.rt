@@ -4,7 +4,7 @@
 ghost use Rattle.std.specs.Prelude.{◌≡◌};
 ghost use Rattle.std.specs.Option.{option_map};
 ghost use Rattle.wcps_text.specs.Tree.{view, view_place, view_interval, parts_of, subs_of, iters_of, condition_of};
-ghost use Rattle.wcps_types.specs.Typed.{typed_view};
+ghost use Rattle.wcps_types.specs.Typed.{only_tree};
 ghost use Rattle.wcps_types.specs.Shapes.{Says, then_of, shape_view};
 ghost use Rattle.wcps_types.specs.Brackets.{bounds_view, bracket_view, opened, place_to_cut};
 ghost use Rattle.wcps_types.specs.Records.{no_pieces};
@@ -75,9 +75,13 @@ pub fn expression(
             selected(alloc, a, name)
         }
         Expr::Brackets(a, subs) => {
-            let Shape { domain, fields } = expression(alloc, coverages, bound, scope, a)?;
+            let Shape {
+                domain,
+                labels,
+                node,
+            } = expression(alloc, coverages, bound, scope, a)?;
             let bracket = subscripts(alloc, coverages, bound, scope, domain, subs)?;
-            Ok(closed_bracket(alloc, bracket, fields)?)
+            Ok(closed_bracket(alloc, bracket, labels, node)?)
         }
         Expr::Coverage { iterators, body } => {
             let Iterators { variables, axes } = iterator_list(
@@ -115,7 +119,7 @@ pub fn condition_node(
     scope: &[QueryName],
     condition: &Option<Box<Expr>>,
 ) -> Result<Option<Node>, CheckError>
-    ensures { Says (option_map typed_view) result (typ_condition coverages.now bound.now scope.now (condition_of condition.now)) }
+    ensures { Says (option_map only_tree) result (typ_condition coverages.now bound.now scope.now (condition_of condition.now)) }
 {
     match condition {
         None => Ok(None),

@@ -23,6 +23,5 @@ pub use effort::work;
 pub use query::check;
 pub use refusal::{CheckError, TypeRefusal};
 pub use typed::{
-    Combination, Condenser, Node, Operation1, Operation2, Reduction, TypedField, TypedItem,
-    TypedQuery,
+    Combination, Condenser, Node, Operation1, Operation2, Reduction, TypedItem, TypedQuery,
 };

@@ -4,7 +4,7 @@ ghost use Rattle.std.specs.Prelude.{◌≡◌, is_some};
 ghost use Rattle.std.specs.Str.{bytes_eq};
 ghost use Rattle.wcps_types.specs.Names.{axis_place, coverage_place, bound_place, name_place, is_name_of};
 
-use crate::shape::Slot;
+use crate::shape::Label;
 use arr_core::{Axis, Signature};
 use wcps_text::QueryName;
 
@@ -68,8 +68,8 @@ pub fn is_name_of(own: &Option<QueryName>, name: &QueryName) -> bool
 }
 
 /// Whether a field has that name.
-pub fn is_named(slot: &Slot, name: &QueryName) -> bool
-    ensures { result ≡ is_name_of name.now slot.now.name }
+pub fn is_named(label: &Label, name: &QueryName) -> bool
+    ensures { result ≡ is_name_of name.now label.now.name }
 {
-    is_name_of(&slot.name, name)
+    is_name_of(&label.name, name)
 }

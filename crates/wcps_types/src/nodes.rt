@@ -1,7 +1,10 @@
 //! Making nodes of nodes.
 
-ghost use Rattle.std.specs.Prelude.{◌≡◌, IfOk, Option, Some, None};
-ghost use Rattle.wcps_types.specs.Typed.{typed_view, unary, binary, scalar, select, bracket, slice, array, condense_of, reduce};
+ghost use Rattle.std.specs.Prelude.{◌≡◌, IfOk, List, map};
+ghost use Rattle.wcps_types.specs.Typed.{field_tree, only_tree, unary, binary, scalar, select, array, condense_of, reduce};
+ghost use Rattle.wcps_types.specs.declared.shape.Label.{Label};
+ghost use Rattle.wcps_types.specs.Shapes.{labels_view};
+ghost use Rattle.wcps_types.specs.Brackets.{sliced_slot, bracketed_slot};
 ghost use Rattle.std.specs.Option.{option_map};
 
 use crate::typed::{Condenser, Node, Operation1, Operation2, Reduction};
@@ -18,14 +21,14 @@ fn boxed(alloc: Global, node: Node) -> Result<Box<Node>, AllocError>
 
 /// An operation on one operand.
 pub fn unary_node(alloc: Global, op: Operation1, e: Node) -> Result<Node, AllocError>
-    ensures { IfOk result (λ n. typed_view n ≡ unary op (typed_view e)) }
+    ensures { IfOk result (λ n. only_tree n ≡ unary op (only_tree e)) }
 {
     Ok(Node::Unary(op, boxed(alloc, e)?))
 }
 
 /// An operation on two operands.
 pub fn binary_node(alloc: Global, op: Operation2, l: Node, r: Node) -> Result<Node, AllocError>
-    ensures { IfOk result (λ n. typed_view n ≡ binary op (typed_view l) (typed_view r)) }
+    ensures { IfOk result (λ n. only_tree n ≡ binary op (only_tree l) (only_tree r)) }
 {
     let l = boxed(alloc, l)?;
     let r = boxed(alloc, r)?;
@@ -34,26 +37,28 @@ pub fn binary_node(alloc: Global, op: Operation2, l: Node, r: Node) -> Result<No
 
 /// A scalar beside a value with axes.
 pub fn scalar_node(alloc: Global, e: Node) -> Result<Node, AllocError>
-    ensures { IfOk result (λ n. typed_view n ≡ scalar (typed_view e)) }
+    ensures { IfOk result (λ n. only_tree n ≡ scalar (only_tree e)) }
 {
     Ok(Node::Scalar(boxed(alloc, e)?))
 }
 
-/// A selected field.
-pub fn select_node(alloc: Global, e: Node) -> Result<Node, AllocError>
-    ensures { IfOk result (λ n. typed_view n ≡ select (typed_view e)) }
+/// The field at a place, alone.
+pub fn select_node(alloc: Global, e: Node, field: usize) -> Result<Node, AllocError>
+    ensures { IfOk result (λ n. only_tree n ≡ select (field_tree e field)) }
 {
-    Ok(Node::Select(boxed(alloc, e)?))
+    Ok(Node::Select(boxed(alloc, e)?, field))
 }
 
-/// A bracket around its slices.
+/// A bracket around its slices, for all fields at once.
+#[tactic(auto, using(crate::proofs::Fields::bracket_fields))]
 pub fn bracket_node(alloc: Global, e: Node) -> Result<Node, AllocError>
-    ensures { IfOk result (λ n. typed_view n ≡ bracket (typed_view e)) }
+    ensures { IfOk result (λ n. (labels : List Label) → labels_view n 0 labels ≡ map bracketed_slot (labels_view e 0 labels)) }
 {
     Ok(Node::Bracket(boxed(alloc, e)?))
 }
 
-/// A slice at a position.
+/// A slice at a position, for all fields at once.
+#[tactic(auto, using(crate::proofs::Fields::slice_fields))]
 pub fn slice_node(
     alloc: Global,
     value: Node,
@@ -62,7 +67,7 @@ pub fn slice_node(
     hi: i32,
     position: Node,
 ) -> Result<Node, AllocError>
-    ensures { IfOk result (λ n. typed_view n ≡ slice (typed_view value) axis lo hi (typed_view position)) }
+    ensures { IfOk result (λ n. (labels : List Label) → labels_view n 0 labels ≡ map (sliced_slot axis lo hi (only_tree position)) (labels_view value 0 labels)) }
 {
     let value = boxed(alloc, value)?;
     let position = boxed(alloc, position)?;
@@ -77,7 +82,7 @@ pub fn slice_node(
 
 /// A coverage whose cells a scalar gives.
 pub fn array_node(alloc: Global, e: Node) -> Result<Node, AllocError>
-    ensures { IfOk result (λ n. typed_view n ≡ array (typed_view e)) }
+    ensures { IfOk result (λ n. only_tree n ≡ array (only_tree e)) }
 {
     Ok(Node::Array(boxed(alloc, e)?))
 }
@@ -90,7 +95,7 @@ pub fn condense_node(
     condition: Option<Node>,
     body: Node,
 ) -> Result<Node, AllocError>
-    ensures { IfOk result (λ n. typed_view n ≡ condense_of op domain (option_map typed_view condition) (typed_view body)) }
+    ensures { IfOk result (λ n. only_tree n ≡ condense_of op domain (option_map only_tree condition) (only_tree body)) }
 {
     let body = boxed(alloc, body)?;
     match condition {
@@ -114,86 +119,8 @@ pub fn reduce_node(
     domain: Domain,
     body: Node,
 ) -> Result<Node, AllocError>
-    ensures { IfOk result (λ n. typed_view n ≡ reduce op domain (typed_view body)) }
+    ensures { IfOk result (λ n. only_tree n ≡ reduce op domain (only_tree body)) }
 {
     let body = boxed(alloc, body)?;
     Ok(Node::Reduce { op, domain, body })
-}
-
-impl Node {
-    /// The same tree again.
-    pub fn copy(&self, alloc: Global) -> Result<Node, AllocError>
-        ensures { IfOk result (λ n. typed_view n ≡ typed_view self.now) }
-    {
-        match self {
-            Node::Number(z) => Ok(Node::Number(*z)),
-            Node::Iterator(k) => Ok(Node::Iterator(*k)),
-            Node::Cell { coverage, field } => Ok(Node::Cell {
-                coverage: *coverage,
-                field: *field,
-            }),
-            Node::Unary(op, e) => {
-                let e = e.copy(alloc)?;
-                unary_node(alloc, *op, e)
-            }
-            Node::Binary(op, l, r) => {
-                let l = l.copy(alloc)?;
-                let r = r.copy(alloc)?;
-                binary_node(alloc, *op, l, r)
-            }
-            Node::Scalar(e) => {
-                let e = e.copy(alloc)?;
-                scalar_node(alloc, e)
-            }
-            Node::Select(e) => {
-                let e = e.copy(alloc)?;
-                select_node(alloc, e)
-            }
-            Node::Bracket(e) => {
-                let e = e.copy(alloc)?;
-                bracket_node(alloc, e)
-            }
-            Node::Slice {
-                value,
-                axis,
-                lo,
-                hi,
-                position,
-            } => {
-                let value = value.copy(alloc)?;
-                let position = position.copy(alloc)?;
-                slice_node(alloc, value, *axis, *lo, *hi, position)
-            }
-            Node::Array(e) => {
-                let e = e.copy(alloc)?;
-                array_node(alloc, e)
-            }
-            Node::List { domain, items } => {
-                let domain = domain.copy(alloc)?;
-                let items = items.clone()?;
-                Ok(Node::List { domain, items })
-            }
-            Node::Condense { op, domain, body } => {
-                let domain = domain.copy(alloc)?;
-                let body = body.copy(alloc)?;
-                condense_node(alloc, *op, domain, None, body)
-            }
-            Node::CondenseWhere {
-                op,
-                domain,
-                condition,
-                body,
-            } => {
-                let domain = domain.copy(alloc)?;
-                let condition = condition.copy(alloc)?;
-                let body = body.copy(alloc)?;
-                condense_node(alloc, *op, domain, Some(condition), body)
-            }
-            Node::Reduce { op, domain, body } => {
-                let domain = domain.copy(alloc)?;
-                let body = body.copy(alloc)?;
-                reduce_node(alloc, *op, domain, body)
-            }
-        }
-    }
 }

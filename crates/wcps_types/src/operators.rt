@@ -1,14 +1,14 @@
 //! The checks of operators and reductions on operands whose shapes are known, and what they make of them.
 
 ghost use Rattle.std.specs.Prelude.{◌≡◌, [], IfOk, true, false};
-ghost use Rattle.wcps_types.specs.Typed.{typed_view};
-ghost use Rattle.wcps_types.specs.Shapes.{Says, shape_view, slot_view, slots_view, field_of_view};
+ghost use Rattle.wcps_types.specs.Typed.{only_tree};
+ghost use Rattle.wcps_types.specs.Shapes.{Says, shape_view, slot_of, labels_view, field_of_view};
 ghost use Rattle.wcps_types.specs.Operators.{one_selected, selected, unary, are_same, is_same_axis, operands_view, joined, numeric, logical, binary, bit, integer_reduction, boolean_reduction, reduction};
 
 use crate::names::is_named;
 use crate::nodes::{binary_node, reduce_node, scalar_node, select_node, unary_node};
 use crate::refusal::{CheckError, TypeRefusal};
-use crate::shape::{OneField, Shape, Slot, is_scalar, only_field, unnamed, unnamed_scalar};
+use crate::shape::{Label, OneField, Shape, is_scalar, only_field, unnamed, unnamed_scalar};
 use crate::typed::{Node, Operation1, Operation2, Reduction};
 use arr_core::{Axis, Domain};
 use std::alloc::{AllocError, Global};
@@ -22,34 +22,41 @@ pub struct Operands {
     pub right: Node,
 }
 
-/// A shape with one field of another, selected.
-fn one_selected(alloc: Global, domain: Domain, slot: Slot) -> Result<Shape, AllocError>
-    ensures { IfOk result (λ s. shape_view s ≡ one_selected domain (slot_view slot)) }
+/// A shape with the field at one place of a node, selected.
+fn one_selected(
+    alloc: Global,
+    domain: Domain,
+    node: Node,
+    place: usize,
+    label: Label,
+) -> Result<Shape, AllocError>
+    ensures { IfOk result (λ s. shape_view s ≡ one_selected domain (slot_of node place label)) }
 {
-    let Slot {
-        name,
-        boolean,
+    let node = select_node(alloc, node, place)?;
+    let mut labels = Vec::new(alloc);
+    labels.push(label)?;
+    Ok(Shape {
+        domain,
+        labels,
         node,
-    } = slot;
-    let node = select_node(alloc, node)?;
-    let mut fields = Vec::new(alloc);
-    fields.push(Slot {
-        name,
-        boolean,
-        node,
-    })?;
-    Ok(Shape { domain, fields })
+    })
 }
 
 /// The field of that name.
 pub fn selected(alloc: Global, shape: Shape, name: &QueryName) -> Result<Shape, CheckError>
-    ensures { Says shape_view result (selected name.now shape.domain (slots_view shape.fields.items)) }
+    ensures { Says shape_view result (selected name.now shape.domain (labels_view shape.node 0 shape.labels.items)) }
 {
-    let Shape { domain, fields } = shape;
-    for slot in fields {
-        if is_named(&slot, name) {
-            return Ok(one_selected(alloc, domain, slot)?);
+    let Shape {
+        domain,
+        labels,
+        node,
+    } = shape;
+    let mut place = 0;
+    for label in labels {
+        if is_named(&label, name) {
+            return Ok(one_selected(alloc, domain, node, place, label)?);
         }
+        place += 1;
     }
     Err(CheckError::Refused(TypeRefusal::NoSuchField))
 }

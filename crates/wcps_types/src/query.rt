@@ -4,11 +4,11 @@ ghost use Rattle.std.specs.Prelude.{◌≡◌, ◌≤◌, [], IfOk, map};
 ghost use Rattle.wcps_types.specs.Cells.{result_cells, max_cells};
 ghost use Rattle.wcps_types.specs.Work.{query_work, max_work};
 ghost use Rattle.wcps_text.specs.Tree.{query_view, item_view as tree_item_view};
-ghost use Rattle.wcps_types.specs.Typed.{field_view, item_view, combination_view};
+ghost use Rattle.wcps_types.specs.Typed.{item_view, combination_view};
 ghost use Rattle.wcps_types.specs.TypedQueries.{query_view as typed_query_view};
-ghost use Rattle.wcps_types.specs.Shapes.{Says, shape_view, slots_view};
+ghost use Rattle.wcps_types.specs.Shapes.{Says, shape_view};
 ghost use Rattle.wcps_types.specs.Bindings.{choice_view, combination_count, combinations};
-ghost use Rattle.wcps_types.specs.Queries.{field_of_slot, item_of, plain_item, typ_item, typ_combination, typ_each, typ_query};
+ghost use Rattle.wcps_types.specs.Queries.{label_boolean, item_of, plain_item, typ_item, typ_combination, typ_each, typ_query};
 
 use crate::bindings::{Bindings, Choice, combination_at, combination_count, resolve_bindings};
 use crate::cells::{MAX_CELLS, combinations_cells};
@@ -16,34 +16,39 @@ use crate::effort::{MAX_WORK, combinations_work};
 use crate::expression::{condition_node, expression};
 use crate::names::Bound;
 use crate::refusal::{CheckError, TypeRefusal};
-use crate::shape::{Shape, Slot, is_scalar};
-use crate::typed::{Combination, Node, TypedField, TypedItem, TypedQuery};
+use crate::shape::{Label, Shape, is_scalar};
+use crate::typed::{Combination, TypedItem, TypedQuery};
 use arr_core::Signature;
 use std::alloc::{AllocError, Global};
 use wcps_text::{Item, Query};
 
-/// The fields of an item.
-fn item_fields(alloc: Global, fields: Vec<Slot>) -> Result<Vec<TypedField>, AllocError>
-    ensures { IfOk result (λ v. map field_view v.items ≡ map field_of_slot (slots_view fields.items)) }
+/// Which fields of an item are Boolean.
+fn item_booleans(alloc: Global, labels: &[Label]) -> Result<Vec<bool>, AllocError>
+    ensures { IfOk result (λ v. v.items ≡ map label_boolean labels.now) }
 {
-    let mut list = Vec::new(alloc);
-    for Slot {
-        name: _,
-        boolean,
-        node,
-    } in fields {
-        list.push(TypedField { boolean, node })?;
+    let mut booleans = Vec::new(alloc);
+    for label in labels {
+        booleans.push(label.boolean)?;
     }
-    Ok(list)
+    Ok(booleans)
 }
 
 /// What is returned by a shape.
+#[tactic(auto, using(crate::proofs::Fields::item_fields))]
 fn item_of(alloc: Global, shape: Shape) -> Result<TypedItem, CheckError>
     ensures { Says item_view result (item_of (shape_view shape)) }
 {
-    let Shape { domain, fields } = shape;
-    let fields = item_fields(alloc, fields)?;
-    Ok(TypedItem { domain, fields })
+    let Shape {
+        domain,
+        labels,
+        node,
+    } = shape;
+    let booleans = item_booleans(alloc, &labels)?;
+    Ok(TypedItem {
+        domain,
+        booleans,
+        node,
+    })
 }
 
 /// What is returned by a shape without `encode`: a scalar.

@@ -1,17 +1,20 @@
 //! Several fields in braces.
 
-ghost use Rattle.std.specs.Prelude.{◌≡◌, IfOk, map};
+ghost use Rattle.std.specs.Prelude.{◌≡◌, IfOk, List, map, cond, ◌&&◌};
 ghost use Rattle.std.specs.List.{list_any};
 ghost use Rattle.std.specs.Str.{bytes_eq};
 ghost use Rattle.wcps_types.specs.declared.records.Piece.{Piece};
-ghost use Rattle.wcps_types.specs.Shapes.{Says, shape_view, slot_view, field_of_view};
-ghost use Rattle.wcps_types.specs.Records.{piece_view, pieces_view, no_pieces, is_part, with_part, finished_part, finished};
+ghost use Rattle.wcps_types.specs.declared.shape.Label.{Label};
+ghost use Rattle.wcps_types.specs.Typed.{only_tree, scalar as scalar_tree};
+ghost use Rattle.wcps_types.specs.Parts.{piece_label, tree_in, with_trees};
+ghost use Rattle.wcps_types.specs.Shapes.{Says, shape_view, labels_view, field_of_view};
+ghost use Rattle.wcps_types.specs.Records.{piece_view, pieces_view, no_pieces, is_part, with_part, finished};
 
 use crate::names::is_same;
 use crate::nodes::scalar_node;
 use crate::operators::are_same;
 use crate::refusal::{CheckError, TypeRefusal};
-use crate::shape::{OneField, Shape, Slot, is_scalar, no_axes};
+use crate::shape::{Label, OneField, Shape, is_scalar, no_axes};
 use crate::typed::Node;
 use arr_core::Domain;
 use std::alloc::{AllocError, Global};
@@ -99,37 +102,71 @@ pub fn with_part(
     }
 }
 
-/// One field of a record; a scalar part beside one with axes is taken at every point.
-fn finished_part(alloc: Global, on_axes: bool, piece: Piece) -> Result<Slot, AllocError>
-    ensures { IfOk result (λ s. slot_view s ≡ finished_part on_axes (piece_view piece)) }
+/// The node of a part; a scalar part beside one with axes is taken at every point.
+fn part_node(alloc: Global, on_axes: bool, scalar: bool, node: Node) -> Result<Node, AllocError>
+    ensures { IfOk result (λ n. only_tree n ≡ cond (scalar && on_axes) (scalar_tree (only_tree node)) (only_tree node)) }
 {
-    let Piece {
-        name,
-        scalar,
-        boolean,
-        node,
-    } = piece;
-    let node = if scalar && on_axes {
-        scalar_node(alloc, node)?
+    if scalar && on_axes {
+        scalar_node(alloc, node)
     } else {
-        node
-    };
-    Ok(Slot {
+        Ok(node)
+    }
+}
+
+/// The label of a part.
+fn piece_label(alloc: Global, piece: &Piece) -> Result<Label, AllocError>
+    ensures { IfOk result (λ l. l ≡ piece_label piece.now) }
+{
+    let name = QueryName::new(alloc, piece.name.as_str())?;
+    Ok(Label {
         name: Some(name),
-        boolean,
-        node,
+        boolean: piece.boolean,
     })
 }
 
-/// The shape of all parts.
+/// The labels of the parts.
+fn piece_labels(alloc: Global, list: &[Piece]) -> Result<Vec<Label>, AllocError>
+    ensures { IfOk result (λ v. v.items ≡ map piece_label list.now) }
+{
+    let mut labels = Vec::new(alloc);
+    for piece in list {
+        labels.push(piece_label(alloc, piece)?)?;
+    }
+    Ok(labels)
+}
+
+/// The nodes of the parts.
+fn piece_nodes(alloc: Global, on_axes: bool, list: Vec<Piece>) -> Result<Vec<Node>, AllocError>
+    ensures { IfOk result (λ v. map only_tree v.items ≡ map (tree_in on_axes) list.items) }
+{
+    let mut nodes = Vec::new(alloc);
+    for piece in list {
+        nodes.push(part_node(alloc, on_axes, piece.scalar, piece.node)?)?;
+    }
+    Ok(nodes)
+}
+
+/// The node of a record, for all fields at once.
+#[tactic(auto, using(crate::proofs::Fields::record_fields))]
+fn record_node(nodes: Vec<Node>) -> Node
+    ensures { (labels : List Label) → labels_view result 0 labels ≡ with_trees (map only_tree nodes.items) 0 labels }
+{
+    Node::Record(nodes)
+}
+
+/// The shape of all parts: one node more, however many fields.
+#[tactic(auto, using(crate::proofs::Fields::finished_fields))]
 pub fn finished(alloc: Global, pieces: Pieces) -> Result<Shape, AllocError>
     ensures { IfOk result (λ s. shape_view s ≡ finished (pieces_view pieces)) }
 {
     let Pieces { domain, list } = pieces;
     let on_axes = !is_scalar(domain.axes());
-    let mut fields = Vec::new(alloc);
-    for piece in list {
-        fields.push(finished_part(alloc, on_axes, piece)?)?;
-    }
-    Ok(Shape { domain, fields })
+    let labels = piece_labels(alloc, &list)?;
+    let nodes = piece_nodes(alloc, on_axes, list)?;
+    let node = record_node(nodes);
+    Ok(Shape {
+        domain,
+        labels,
+        node,
+    })
 }

@@ -8,7 +8,7 @@ use thiserror::Error;
 pub enum TypeRefusal {
     /// No such coverage.
     NoSuchCoverage,
-    /// A form that is not served.
+    /// A variable that stands for no coverage, which no text spells.
     BadSyntax,
     /// A variable that is neither bound by `for` nor an iterator in scope.
     UnknownName,

@@ -1,8 +1,8 @@
-//! What an expression is found to be: a domain, and for each field its name, its kind and the tree that gives it.
+//! What an expression is found to be: a domain, the name and the kind of each field, and the node that gives them.
 
-ghost use Rattle.std.specs.Prelude.{◌≡◌, ◌==◌, [], IfOk, length};
-ghost use Rattle.wcps_types.specs.Typed.{typed_view};
-ghost use Rattle.wcps_types.specs.Shapes.{Says, shape_view, slots_view, field_of_view, scalar_of_view, is_scalar, unnamed, only_field, only_scalar};
+ghost use Rattle.std.specs.Prelude.{◌≡◌, [], IfOk};
+ghost use Rattle.wcps_types.specs.Typed.{only_tree};
+ghost use Rattle.wcps_types.specs.Shapes.{Says, shape_view, labels_view, field_of_view, scalar_of_view, is_scalar, unnamed, the_boolean, only_field, only_scalar};
 
 use crate::refusal::{CheckError, TypeRefusal};
 use crate::typed::Node;
@@ -10,19 +10,20 @@ use arr_core::{Axis, Domain};
 use std::alloc::{AllocError, Global};
 use wcps_text::QueryName;
 
-/// One field: its name if it has one, whether it is Boolean, and what gives it.
+/// One field: its name if it has one, and whether it is Boolean.
 #[derive(Debug, Drop)]
-pub struct Slot {
+pub struct Label {
     pub name: Option<QueryName>,
     pub boolean: bool,
-    pub node: Node,
 }
 
-/// The shape of an expression, which is a scalar where the domain has no axis.
+/// The shape of an expression, which is a scalar where the domain has no axis: its fields in order, and the node that
+/// gives all of them.
 #[derive(Debug, Drop)]
 pub struct Shape {
     pub domain: Domain,
-    pub fields: Vec<Slot>,
+    pub labels: Vec<Label>,
+    pub node: Node,
 }
 
 /// A shape with one field, whose name no longer matters.
@@ -67,42 +68,57 @@ pub fn unnamed(
     boolean: bool,
     node: Node,
 ) -> Result<Shape, AllocError>
-    ensures { IfOk result (λ s. shape_view s ≡ unnamed domain boolean (typed_view node)) }
+    ensures { IfOk result (λ s. shape_view s ≡ unnamed domain boolean (only_tree node)) }
 {
-    let mut fields = Vec::new(alloc);
-    fields.push(Slot {
+    let mut labels = Vec::new(alloc);
+    labels.push(Label {
         name: None,
         boolean,
-        node,
     })?;
-    Ok(Shape { domain, fields })
+    Ok(Shape {
+        domain,
+        labels,
+        node,
+    })
 }
 
 /// A scalar with one unnamed field.
 pub fn unnamed_scalar(alloc: Global, boolean: bool, node: Node) -> Result<Shape, AllocError>
-    ensures { IfOk result (λ s. shape_view s ≡ unnamed [] boolean (typed_view node)) }
+    ensures { IfOk result (λ s. shape_view s ≡ unnamed [] boolean (only_tree node)) }
 {
     unnamed(alloc, no_axes(alloc), boolean, node)
 }
 
-/// The only field of a shape.
-pub fn only_field(shape: Shape) -> Result<OneField, CheckError>
-    ensures { Says field_of_view result (only_field shape.domain (slots_view shape.fields.items)) }
+/// Whether the only label is Boolean, where there is one alone.
+fn the_boolean(labels: &[Label]) -> Option<bool>
+    ensures { result ≡ the_boolean labels.now }
 {
-    let Shape { domain, mut fields } = shape;
-    match fields.pop() {
-        Some(
-            Slot {
-                name: _,
-                boolean,
-                node,
-            },
-        ) if fields.is_empty() => Ok(OneField {
+    match labels {
+        [] => None,
+        [label, rest @ ..] => match rest {
+            [] => Some(label.boolean),
+            [_, ..] => None,
+        },
+    }
+}
+
+/// The only field of a shape.
+#[tactic(auto, using(crate::proofs::Fields::one_field))]
+pub fn only_field(shape: Shape) -> Result<OneField, CheckError>
+    ensures { Says field_of_view result (only_field shape.domain (labels_view shape.node 0 shape.labels.items)) }
+{
+    let Shape {
+        domain,
+        labels,
+        node,
+    } = shape;
+    match the_boolean(&labels) {
+        None => Err(CheckError::Refused(TypeRefusal::NeedsOneField)),
+        Some(boolean) => Ok(OneField {
             domain,
             boolean,
             node,
         }),
-        _ => Err(CheckError::Refused(TypeRefusal::NeedsOneField)),
     }
 }
 

@@ -1,12 +1,13 @@
 //! Variables: iterators and coverages.
 
-ghost use Rattle.std.specs.Prelude.{◌≡◌, IfOk, slice_get};
-ghost use Rattle.wcps_types.specs.Shapes.{Says, shape_view, slots_view};
-ghost use Rattle.wcps_types.specs.Variables.{is_boolean, cells_from, coverage_at, bound_at, variable};
+ghost use Rattle.std.specs.Prelude.{◌≡◌, IfOk, map, slice_get};
+ghost use Rattle.wcps_types.specs.declared.typed.Node.TheVariants.{Coverage};
+ghost use Rattle.wcps_types.specs.Shapes.{Says, shape_view, labels_view};
+ghost use Rattle.wcps_types.specs.Variables.{is_boolean, label_of, cells_from, coverage_at, bound_at, variable};
 
 use crate::names::{Bound, bound_place, name_place};
 use crate::refusal::{CheckError, TypeRefusal};
-use crate::shape::{Shape, Slot, unnamed_scalar};
+use crate::shape::{Label, Shape, unnamed_scalar};
 use crate::typed::Node;
 use arr_core::{Field, FieldType, Signature};
 use std::alloc::{AllocError, Global};
@@ -25,24 +26,34 @@ pub fn is_boolean(kind: FieldType) -> bool
     }
 }
 
-/// The fields of a coverage that has that place.
-fn coverage_fields(
-    alloc: Global,
-    coverage: usize,
-    fields: &[Field],
-) -> Result<Vec<Slot>, AllocError>
-    ensures { IfOk result (λ v. slots_view v.items ≡ cells_from coverage 0 fields.now) }
+/// The label of a field of a coverage.
+fn label_of(alloc: Global, field: &Field) -> Result<Label, AllocError>
+    ensures { IfOk result (λ l. l ≡ label_of field.now) }
 {
-    let mut slots = Vec::new(alloc);
-    for (field, own) in fields.iter().enumerate() {
-        let name = QueryName::new(alloc, own.name.as_str())?;
-        slots.push(Slot {
-            name: Some(name),
-            boolean: is_boolean(own.kind),
-            node: Node::Cell { coverage, field },
-        })?;
+    let name = QueryName::new(alloc, field.name.as_str())?;
+    Ok(Label {
+        name: Some(name),
+        boolean: is_boolean(field.kind),
+    })
+}
+
+/// The labels of the fields of a coverage.
+fn labels_of(alloc: Global, fields: &[Field]) -> Result<Vec<Label>, AllocError>
+    ensures { IfOk result (λ v. v.items ≡ map label_of fields.now) }
+{
+    let mut labels = Vec::new(alloc);
+    for field in fields {
+        labels.push(label_of(alloc, field)?)?;
     }
-    Ok(slots)
+    Ok(labels)
+}
+
+/// The labels of the coverage that has that place.
+#[tactic(auto, using(crate::proofs::Fields::cell_fields))]
+fn coverage_labels(alloc: Global, place: usize, fields: &[Field]) -> Result<Vec<Label>, AllocError>
+    ensures { IfOk result (λ v. labels_view (Coverage place) 0 v.items ≡ cells_from place 0 fields.now) }
+{
+    labels_of(alloc, fields)
 }
 
 /// The shape of the coverage at a place.
@@ -53,8 +64,12 @@ fn coverage_shape(alloc: Global, coverages: &[Signature], place: usize) -> Resul
         None => Err(CheckError::Refused(TypeRefusal::UnknownName)),
         Some(coverage) => {
             let domain = coverage.domain.copy(alloc)?;
-            let fields = coverage_fields(alloc, place, coverage.fields.as_slice())?;
-            Ok(Shape { domain, fields })
+            let labels = coverage_labels(alloc, place, coverage.fields.as_slice())?;
+            Ok(Shape {
+                domain,
+                labels,
+                node: Node::Coverage(place),
+            })
         }
     }
 }

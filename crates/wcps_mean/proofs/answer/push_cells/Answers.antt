@@ -1,15 +1,16 @@
-use Rattle.std.proofs.Common.{rules, ◌≡◌, ◌∙◌, ap, sym, subst, arith, List, [], ◌∷◌, ◌++◌, append_assoc, Result, Ok, w64, SFits}
+use Rattle.std.proofs.Common.{rules, ◌≡◌, ◌<◌, ◌≤◌, ◌∙◌, ap, refl, sym, subst, arith, length, get_or, false, List, [], ◌∷◌, ◌++◌, append_assoc, Result, Ok, w64, SFits}
 use Rattle.std.proofs.lemmas.Int.{to_z-of_z}
 use Rattle.std.proofs.lemmas.Result.{err_from_is_err_and}
-use Rattle.wcps_types.specs.Typed.{FieldTree, typed_view, field_view}
-use Rattle.wcps_types.specs.declared.typed.TypedField.{TypedField}
+use Rattle.wcps_types.specs.Typed.{FieldTree, field_tree, fields_view}
+use Rattle.wcps_types.proofs.Efforts.{field_places}
+use Rattle.wcps_mean.proofs.ItemFields.{field_at}
 use Rattle.arr_core.specs.declared.cell.Cell.{Cell}
 use Rattle.wcps_mean.specs.declared.cell.PointFault.{PointFault}
 use Rattle.wcps_mean.specs.Meaning.{val}
 use Rattle.wcps_mean.specs.Answer.{joined, given, cell_of}
 use Rattle.wcps_mean.specs.Errors.{PushesCells}
 use Rattle.wcps_mean.proofs.Told.{tells-from}
-use Rattle.wcps_mean.proofs.Joins.{turn-more, turn-stop, turns-all, map-map, pushed-ok, ok-pushed}
+use Rattle.wcps_mean.proofs.Joins.{turn-more, turn-stop, turns-all, pushed-ok, ok-pushed}
 use Rattle.wcps_mean.proofs.answer.push_cells.Goals as goal
 
 pub returns-in-Fault-clause-fault : goal.returns-in-Fault-clause-fault
@@ -17,30 +18,40 @@ returns-in-Fault-clause-fault g c intact =
     let inv = c.loop-field.invariant in
     let s = g.C.Cells.cells c.args.cells.now in
     let p = c.args.points.now.items in
-    let x = c.field-item.result in
-    let f : TypedField → Result (List Cell) PointFault = λ t. given (λ z. cell_of t.boolean z ∷ []) (val s (typed_view t.node) [] p) in
-    let h : FieldTree → Result (List Cell) PointFault = λ t. given (λ z. cell_of t.boolean z ∷ []) (val s t.tree [] p) in
+    let bs = c.args.booleans.now in
+    let k = c.loop-field.field in
+    let x : FieldTree = record { boolean = get_or bs k false; tree = field_tree c.args.node.now k } in
+    let all = fields_view c.args.node.now 0 bs in
+    let lt : k < length bs = omega arith in
+    let within : k < length all = omega (arith, lt, field_places c.args.node.now 0 bs) in
+    let is = field_at c.args.node.now bs k (get_or bs k false) false x lt refl in
+    let f : FieldTree → Result (List Cell) PointFault = λ t. given (λ z. cell_of t.boolean z ∷ []) (val s t.tree [] p) in
     let o = c.in_ok-o.ensures.value (inv.intact intact)
-    ∙ ap (λ s. val s (typed_view x.node) c.loop-field.env.items c.loop-field.points.items) inv.same
-    ∙ ap (λ e. val s (typed_view x.node) e c.loop-field.points.items) inv.scope
-    ∙ ap (λ q. val s (typed_view x.node) [] q) inv.place in
+    ∙ ap (λ s. val s x.tree c.loop-field.env.items c.loop-field.points.items) inv.same
+    ∙ ap (λ e. val s x.tree e c.loop-field.points.items) inv.scope
+    ∙ ap (λ q. val s x.tree [] q) inv.place in
     let w = pushed-ok _ _ _ (inv.pushed intact) in
-    ap joined (map-map h field_view c.args.fields.now)
-    ∙ turn-stop f c.args.fields.now c.loop-field.field-index x x w.0 c.in-Fault.f (omega arith) c.field-item.is w.1 (ap (given (λ z. cell_of x.boolean z ∷ [])) (sym o ∙ c.in-Fault.is))
+    turn-stop f all k x x w.0 c.in-Fault.f within is w.1 (ap (given (λ z. cell_of x.boolean z ∷ [])) (sym o ∙ c.in-Fault.is))
 
 pub loop-field-preserved : goal.loop-field-preserved
 loop-field-preserved g c =
     let inv = c.loop-field.invariant in
     let s = g.C.Cells.cells c.args.cells.now in
     let p = c.args.points.now.items in
-    let x = c.field-item.result in
-    let f : TypedField → Result (List Cell) PointFault = λ t. given (λ z. cell_of t.boolean z ∷ []) (val s (typed_view t.node) [] p) in
+    let bs = c.args.booleans.now in
+    let k = c.loop-field.field in
+    let x : FieldTree = record { boolean = get_or bs k false; tree = field_tree c.args.node.now k } in
+    let all = fields_view c.args.node.now 0 bs in
+    let lt : k < length bs = omega arith in
+    let within : k < length all = omega (arith, lt, field_places c.args.node.now 0 bs) in
+    let is = field_at c.args.node.now bs k (get_or bs k false) false x lt refl in
+    let f : FieldTree → Result (List Cell) PointFault = λ t. given (λ z. cell_of t.boolean z ∷ []) (val s t.tree [] p) in
     let o = λ (h : g.C.Cells.intact c.args.cells.now). c.in_ok-o.ensures.value (inv.intact h)
-    ∙ ap (λ s. val s (typed_view x.node) c.loop-field.env.items c.loop-field.points.items) inv.same
-    ∙ ap (λ e. val s (typed_view x.node) e c.loop-field.points.items) inv.scope
-    ∙ ap (λ q. val s (typed_view x.node) [] q) inv.place in
+    ∙ ap (λ s. val s x.tree c.loop-field.env.items c.loop-field.points.items) inv.same
+    ∙ ap (λ e. val s x.tree e c.loop-field.points.items) inv.scope
+    ∙ ap (λ q. val s x.tree [] q) inv.place in
     let fits : SFits w64 c.in-Value.x = search rules in
-    let cell : c.cell_of.result ≡ cell_of x.boolean c.in-Value.x = c.cell_of.ensures ∙ ap (cell_of x.boolean) (to_z-of_z w64 c.in-Value.x fits) in
+    let cell : c.field_cell.result ≡ cell_of x.boolean c.in-Value.x = c.field_cell.ensures ∙ ap (cell_of x.boolean) (to_z-of_z w64 c.in-Value.x fits) in
     record {
       same = c.in_ok-o.ensures.same ∙ inv.same;
       kept = c.in_ok-o.ensures.kept ∙ inv.kept;
@@ -49,9 +60,9 @@ loop-field-preserved g c =
       scope = c.in_ok-o.ensures.scope ∙ inv.scope;
       place = c.in_ok-o.ensures.place ∙ inv.place;
       pushed = λ h. let w = pushed-ok _ _ _ (inv.pushed h) in
-          ok-pushed _ (w.0 ++ c.cell_of.result ∷ []) _ _
-          (turn-more f c.args.fields.now c.loop-field.field-index x x w.0 (c.cell_of.result ∷ []) (omega arith) c.field-item.is w.1 (ap (given (λ z. cell_of x.boolean z ∷ [])) (sym (o h) ∙ c.in-Value.is) ∙ ap (λ k. Ok (k ∷ [])) (sym cell)))
-          (c.in_ok-push-in-Value.ensures.items ∙ ap (λ l. l ++ c.cell_of.result ∷ []) w.2 ∙ append_assoc c.args.list.now.items w.0 (c.cell_of.result ∷ []));
+          ok-pushed _ (w.0 ++ c.field_cell.result ∷ []) _ _
+          (turn-more f all k x x w.0 (c.field_cell.result ∷ []) within is w.1 (ap (given (λ z. cell_of x.boolean z ∷ [])) (sym (o h) ∙ c.in-Value.is) ∙ ap (λ k. Ok (k ∷ [])) (sym cell)))
+          (c.in_ok-push-in-Value.ensures.items ∙ ap (λ l. l ++ c.field_cell.result ∷ []) w.2 ∙ append_assoc c.args.list.now.items w.0 (c.field_cell.result ∷ []));
     }
 
 pub returns-clause-value : goal.returns-clause-value
@@ -59,11 +70,12 @@ returns-clause-value g c intact =
     let inv = c.loop-field.invariant in
     let s = g.C.Cells.cells c.args.cells.now in
     let p = c.args.points.now.items in
-    let f : TypedField → Result (List Cell) PointFault = λ t. given (λ z. cell_of t.boolean z ∷ []) (val s (typed_view t.node) [] p) in
-    let h : FieldTree → Result (List Cell) PointFault = λ t. given (λ z. cell_of t.boolean z ∷ []) (val s t.tree [] p) in
-    subst (λ r. PushesCells r c.args.list.now.items c.loop-field.list.items)
-    (turns-all f c.args.fields.now c.loop-field.field-index (omega arith) ∙ sym (ap joined (map-map h field_view c.args.fields.now)))
-    (inv.pushed intact)
+    let bs = c.args.booleans.now in
+    let all = fields_view c.args.node.now 0 bs in
+    let f : FieldTree → Result (List Cell) PointFault = λ t. given (λ z. cell_of t.boolean z ∷ []) (val s t.tree [] p) in
+    let le : length bs ≤ c.loop-field.field = omega arith in
+    let past : length all ≤ c.loop-field.field = omega (arith, le, field_places c.args.node.now 0 bs) in
+    subst (λ r. PushesCells r c.args.list.now.items c.loop-field.list.items) (turns-all f all c.loop-field.field past) (inv.pushed intact)
 
 pub returns-in_err-o-clause-reports : goal.returns-in_err-o-clause-reports
 returns-in_err-o-clause-reports g c =

@@ -5,7 +5,7 @@ use Rattle.wcps_text.specs.declared.tree.Expr.{Expr}
 use Rattle.wcps_text.specs.Tree as tree
 use Rattle.wcps_text.specs.Tree.{Tree, view, view_place, sub, parts_of, subs_of, iters_of, condition_of}
 use Rattle.wcps_text.proofs.Views.{view-Record, view-Brackets, view-ValueList, view-Coverage, view-Condense}
-use Rattle.wcps_types.specs.Typed.{typed_view}
+use Rattle.wcps_types.specs.Typed.{only_tree}
 use Rattle.wcps_types.specs.Shapes.{Answer, then_of, shape_view, scalar_of_view, only_scalar}
 use Rattle.wcps_types.specs.Boxes.{no_iterators, box_of}
 use Rattle.wcps_types.specs.Brackets.{BracketTree, bracket_view, opened}
@@ -98,7 +98,7 @@ expression-returns-in_ok-only_scalar-in-Condense t c =
     let axes = c.in_ok-variables-in-Condense.axes.items in
     let list : typ_iters cs bound scope no_iterators (iters_of c.in-Condense.iterators.items) ≡ Ok (record { variables = names; axes = axes }) = search rules in
     let box : box_of axes ≡ Ok c.in_ok-domain-in-Condense.domain = search rules in
-    let where_tree : typ_condition cs bound (scope ++ names) (condition_of c.in-Condense.condition) ≡ Ok (option_map typed_view c.in_ok-condition-in-Condense.condition) = search rules in
+    let where_tree : typ_condition cs bound (scope ++ names) (condition_of c.in-Condense.condition) ≡ Ok (option_map only_tree c.in_ok-condition-in-Condense.condition) = search rules in
     let body : typ cs bound (scope ++ names) (view c.in-Condense.body.value) ≡ Ok (shape_view c.in_ok-body-in-Condense.body) = search rules in
     let one : only_scalar (shape_view c.in_ok-body-in-Condense.body) ≡ Ok (scalar_of_view c.in_ok-only_scalar-in-Condense.field-0) = search rules in
     rw (shown, list, box, where_tree, body, one) (search rules)

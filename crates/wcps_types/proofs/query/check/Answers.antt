@@ -1,9 +1,14 @@
-use Rattle.std.proofs.Common.{map, subst}
+use Rattle.std.proofs.Common.{rules, ◌≡◌, ◌≤◌, length, map, subst, arith}
+use Rattle.std.specs.Prelude.{Ok}
+use Rattle.std.proofs.lemmas.List.{length-map}
 use Rattle.wcps_text.specs.Tree.{query_view}
 use Rattle.wcps_types.specs.Typed.{combination_view}
-use Rattle.wcps_types.specs.Bindings.{choice_view, combinations}
+use Rattle.wcps_types.specs.Bindings.{choice_view, combinations, few_combinations}
 use Rattle.wcps_types.specs.WellTyped.{AreTyped}
+use Rattle.wcps_types.specs.Kinds.{HaveKinds}
 use Rattle.wcps_types.proofs.SoundQueries.{each-typed}
+use Rattle.wcps_types.proofs.SoundKinds.{each-kinds}
+use Rattle.wcps_types.proofs.Counted.{some-combinations}
 use Rattle.wcps_types.proofs.query.check.Goals as goal
 
 pub new-requires-clause-typed : goal.new-requires-clause-typed
@@ -12,3 +17,17 @@ new-requires-clause-typed c =
     let all = map combination_view c.in_ok-combinations.combinations.items in
     let typed : AreTyped coverages all = each-typed coverages (query_view c.args.query.now) (combinations (map choice_view c.deref-4.result.now)) all c.in_ok-combinations.ensures in
     subst (λ cs. AreTyped cs all) c.deref-3.ensures.value typed
+
+pub new-requires-clause-kinds : goal.new-requires-clause-kinds
+new-requires-clause-kinds c =
+    let coverages = c.deref-3.result.now in
+    let all = map combination_view c.in_ok-combinations.combinations.items in
+    let kinds : HaveKinds coverages all = each-kinds coverages (query_view c.args.query.now) (combinations (map choice_view c.deref-4.result.now)) all c.in_ok-combinations.ensures in
+    subst (λ cs. HaveKinds cs all) c.deref-3.ensures.value kinds
+
+pub new-requires-clause-some : goal.new-requires-clause-some
+new-requires-clause-some c =
+    let choices = map choice_view c.deref-4.result.now in
+    let all = map combination_view c.in_ok-combinations.combinations.items in
+    let few : few_combinations choices ≡ Ok c.in_ok-count.count = search rules in
+    omega (arith, some-combinations c.deref-3.result.now (query_view c.args.query.now) choices c.in_ok-count.count all few c.in_ok-combinations.ensures, length-map c.in_ok-combinations.combinations.items combination_view)

@@ -1,0 +1,155 @@
+-- Kinds: which trees give Booleans, as 0 or 1, and which integers.
+use Rattle.std.specs.Prelude.{◌≡◌, ℕ, ℤ, pos, List, [], ◌∷◌, map, Bool, true, false, not, ◌||◌, Option, Some, None, option_map, slice_get}
+use Rattle.std.specs.List.{list_all}
+use Rattle.std.specs.Ordering.{int_eq}
+use Rattle.arr_core.specs.declared.field.Field.{Field}
+use Rattle.arr_core.specs.declared.signature.Signature.{Signature}
+use Rattle.wcps_types.specs.declared.typed.Operation1.{Operation1}
+use Rattle.wcps_types.specs.declared.typed.Operation1.TheVariants as ones
+use Rattle.wcps_types.specs.declared.typed.Operation2.{Operation2}
+use Rattle.wcps_types.specs.declared.typed.Operation2.TheVariants as twos
+use Rattle.wcps_types.specs.declared.typed.Condenser.{Condenser}
+use Rattle.wcps_types.specs.declared.typed.Condenser.TheVariants as condensers
+use Rattle.wcps_types.specs.declared.typed.Reduction.{Reduction}
+use Rattle.wcps_types.specs.declared.typed.Reduction.TheVariants as reductions
+use Rattle.wcps_types.specs.Typed.{Typed, number, iterator, cell, unary, binary, scalar, select, bracket, slice, array, listed, condense, condense_where, reduce, FieldTree, CombinationTree}
+use Rattle.wcps_types.specs.Variables.{is_boolean}
+
+-- What is asked of a tree: a Boolean (Some true), an integer (Some false), or either (None), as of the operands of
+-- arithmetic and comparisons, where a Boolean counts as 0 or 1.
+abbrev pub meets : Option Bool → Bool → Bool
+meets None b = true
+meets (Some true) b = b
+meets (Some false) b = not b
+
+abbrev pub is_bit : ℤ → Bool
+is_bit z = int_eq z (pos 0) || int_eq z (pos 1)
+
+-- the numbers are 0 or 1 where they are kept for Booleans
+abbrev pub are_kept : Option Bool → List ℤ → Bool
+are_kept None zs = true
+are_kept (Some true) zs = list_all is_bit zs
+are_kept (Some false) zs = true
+
+abbrev pub kind_of : Field → Bool
+kind_of f = is_boolean f.kind
+
+-- the kind of a field of a coverage
+abbrev pub cell_kind : Option Signature → ℕ → Option Bool
+cell_kind None f = None
+cell_kind (Some s) f = option_map kind_of (slice_get s.fields f)
+
+abbrev pub meets_some : Option Bool → Option Bool → Bool
+meets_some asked None = false
+meets_some asked (Some b) = meets asked b
+
+-- what an operation takes
+abbrev pub takes1 : Operation1 → Option Bool
+takes1 ones.Negate = None
+takes1 ones.Plus = None
+takes1 ones.Absolute = None
+takes1 ones.Not = Some true
+
+-- whether it gives a Boolean
+abbrev pub gives1 : Operation1 → Bool
+gives1 ones.Negate = false
+gives1 ones.Plus = false
+gives1 ones.Absolute = false
+gives1 ones.Not = true
+
+abbrev pub takes2 : Operation2 → Option Bool
+takes2 twos.Multiply = None
+takes2 twos.Divide = None
+takes2 twos.Add = None
+takes2 twos.Subtract = None
+takes2 twos.Less = None
+takes2 twos.LessEqual = None
+takes2 twos.Greater = None
+takes2 twos.GreaterEqual = None
+takes2 twos.Equal = None
+takes2 twos.NotEqual = None
+takes2 twos.And = Some true
+takes2 twos.Or = Some true
+takes2 twos.Xor = Some true
+takes2 twos.Bit = None
+
+abbrev pub gives2 : Operation2 → Bool
+gives2 twos.Multiply = false
+gives2 twos.Divide = false
+gives2 twos.Add = false
+gives2 twos.Subtract = false
+gives2 twos.Less = true
+gives2 twos.LessEqual = true
+gives2 twos.Greater = true
+gives2 twos.GreaterEqual = true
+gives2 twos.Equal = true
+gives2 twos.NotEqual = true
+gives2 twos.And = true
+gives2 twos.Or = true
+gives2 twos.Xor = true
+gives2 twos.Bit = true
+
+-- whether a condenser takes and gives Booleans
+abbrev pub is_logical : Condenser → Bool
+is_logical condensers.Add = false
+is_logical condensers.Multiply = false
+is_logical condensers.Max = false
+is_logical condensers.Min = false
+is_logical condensers.And = true
+is_logical condensers.Or = true
+
+-- whether a reduction takes Booleans
+abbrev pub takes_boolean : Reduction → Bool
+takes_boolean reductions.Count = true
+takes_boolean reductions.Some = true
+takes_boolean reductions.All = true
+takes_boolean reductions.Add = false
+takes_boolean reductions.Avg = false
+takes_boolean reductions.Min = false
+takes_boolean reductions.Max = false
+
+-- whether it gives one
+abbrev pub gives_boolean : Reduction → Bool
+gives_boolean reductions.Count = false
+gives_boolean reductions.Some = true
+gives_boolean reductions.All = true
+gives_boolean reductions.Add = false
+gives_boolean reductions.Avg = false
+gives_boolean reductions.Min = false
+gives_boolean reductions.Max = false
+
+-- A tree gives what is asked, and so do its parts: a number kept for a Boolean is 0 or 1, a cell has the kind of its
+-- field, an operation takes and gives its own, a position is an integer and a condition a Boolean.
+abbrev pub HasKind : List Signature → Typed → Option Bool → Type 0
+HasKind cs (number z) k = are_kept k (z ∷ []) ≡ true
+HasKind cs (iterator level) k = meets k false ≡ true
+HasKind cs (cell c f) k = meets_some k (cell_kind (slice_get cs c) f) ≡ true
+HasKind cs (unary op e) k = HasKind cs e (takes1 op) × (meets k (gives1 op) ≡ true)
+HasKind cs (binary op l r) k = HasKind cs l (takes2 op) × HasKind cs r (takes2 op) × (meets k (gives2 op) ≡ true)
+HasKind cs (scalar e) k = HasKind cs e k
+HasKind cs (select e) k = HasKind cs e k
+HasKind cs (bracket e) k = HasKind cs e k
+HasKind cs (slice e axis lo hi position) k = HasKind cs e k × HasKind cs position (Some false)
+HasKind cs (array e) k = HasKind cs e k
+HasKind cs (listed box items) k = are_kept k items ≡ true
+HasKind cs (condense op box e) k = HasKind cs e (Some (is_logical op)) × (meets k (is_logical op) ≡ true)
+HasKind cs (condense_where op box c e) k = HasKind cs c (Some true) × HasKind cs e (Some (is_logical op)) × (meets k (is_logical op) ≡ true)
+HasKind cs (reduce op box e) k = HasKind cs e (Some (takes_boolean op)) × (meets k (gives_boolean op) ≡ true)
+
+-- each field of an item has its kind
+abbrev pub FieldsHaveKinds : List Signature → List FieldTree → Type 0
+FieldsHaveKinds cs [] = Unit {0}
+FieldsHaveKinds cs (f ∷ fields) = HasKind cs f.tree (Some f.boolean) × FieldsHaveKinds cs fields
+
+-- what follows `where`, if it is there, is a Boolean
+abbrev pub ConditionIsBoolean : List Signature → Option Typed → Type 0
+ConditionIsBoolean cs None = Unit {0}
+ConditionIsBoolean cs (Some c) = HasKind cs c (Some true)
+
+abbrev pub CombinationHasKinds : List Signature → CombinationTree → Type 0
+CombinationHasKinds cs c = ConditionIsBoolean cs c.condition × FieldsHaveKinds cs c.item.fields
+
+-- the combinations of a query over those coverages
+abbrev pub HaveKinds : List Signature → List CombinationTree → Type 0
+HaveKinds cs [] = Unit {0}
+HaveKinds cs (c ∷ more) = CombinationHasKinds cs c × HaveKinds cs more
