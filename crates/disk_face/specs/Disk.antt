@@ -1,5 +1,5 @@
 -- What the calls of a disk do to the bytes that it holds.
-use Rattle.std.specs.Prelude.{◌≡◌, ℕ, ◌+◌, ◌-◌, ◌^◌, ◌<◌, ◌≤◌, min, max, List, length, slice_index, Result, OnOk, OnErr}
+use Rattle.std.specs.Prelude.{◌≡◌, ℕ, ◌+◌, ◌-◌, ◌^◌, ◌<◌, ◌≤◌, min, max, Bool, true, false, take, List, length, slice_index, Result, OnOk, OnErr}
 
 -- A disk in memory as callers see it: its bytes, and how many of its calls have failed.
 pub record Memory : Type 0 where
@@ -11,6 +11,21 @@ pub record Failing : Type 0 where
   pub content : List ℕ
   pub failures : ℕ
   pub left : ℕ
+
+-- A disk over a file as callers see it: its bytes, those that last, whether the file does what it tells, how many of the
+-- disk's calls have failed, and whether the length of its file is not known.
+pub record Filed : Type 0 where
+  pub content : List ℕ
+  pub synced : List ℕ
+  pub honest : Bool
+  pub failures : ℕ
+  pub is_broken : Bool
+
+-- The bytes of a file as far as a disk over it knows them: all, or once its length is not known as many as it had before.
+abbrev pub known_bytes : Bool → Bool → ℕ → List ℕ → List ℕ
+known_bytes honest false known bytes = bytes
+known_bytes true true known bytes = take known bytes
+known_bytes false true known bytes = bytes
 
 -- the content has these bytes from this place on
 pub record Holds (content : List ℕ) (at : ℕ) (bytes : List ℕ) : Type 0 where

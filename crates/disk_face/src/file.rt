@@ -1,39 +1,102 @@
-//! A file of the system. Of what it holds nothing is claimed: it is not honest, and its content is the empty one.
-//! So what rests on an honest disk is said of a file only as far as the system keeps to it.
-ghost use Rattle.std.specs.Prelude.{[], ◌≡◌, ◌≤◌, ◌+◌, ◌-◌, ◌^◌, min, false, IfOk};
+//! A disk over a file: each call reads or writes all of its bytes, and the length is right after each.
+ghost use Rattle.std.specs.Prelude.{◌≡◌, ◌≤◌, ◌<◌, ◌+◌, ◌-◌, ◌^◌, min, length, true, false, IfOk, OnOk, OnErr, IsTrue};
+ghost use Rattle.disk_face.specs.Disk.{Holds, Torn, Written};
 
-use crate::{Disk, DiskFault};
+use crate::{Disk, DiskFault, RawFault, RawFile, StdFile};
 use std::fs::{File, OpenOptions};
-use std::os::unix::fs::FileExt;
+use std::marker::Model;
 use std::rt::Files;
 
-/// A file that is read and written by place.
+/// A file that is read and written by place. After a write that failed the file is asked for its length anew, since
+/// some of the bytes may stand in it; where that is refused too, the disk is broken, and refuses every later call.
 #[derive(Drop)]
-pub struct FileDisk {
-    file: File,
-    length: u64,
+pub struct FileDisk<F: RawFile> {
+    file: F,
+    known: u64,
     failures: u64,
+    is_broken: bool,
 }
 
-impl FileDisk {
+impl<F: RawFile> Model for FileDisk<F> {
+    ghost use Rattle.std.specs.Prelude.{◌≡◌, ◌≤◌, false, length, IsTrue};
+    ghost use Rattle.disk_face.specs.Disk.{Filed, known_bytes};
+
+    ghost Value = { Filed };
+
+    ghost view = { λ d. record {
+      content = known_bytes (F.honest d.file) d.is_broken d.known (F.content d.file);
+      synced = F.synced d.file;
+      honest = F.honest d.file;
+      failures = d.failures;
+      is_broken = d.is_broken;
+    } };
+
+    ghost invariant = { λ d. IsTrue (F.honest d.file) → (d.is_broken ≡ false → d.known ≡ length (F.content d.file)) × (d.known ≤ length (F.content d.file)) };
+}
+
+impl FileDisk<StdFile> {
     /// The file at this path, which is made where there is none. Refused where the system will not open or make it;
     /// there is no count yet.
-    pub fn open<R: Files<File = File>>(rt: &R, path: &str) -> Result<FileDisk, DiskFault>
+    pub fn open<R: Files<File = File>>(rt: &R, path: &str) -> Result<FileDisk<StdFile>, DiskFault>
         ensures { IfOk result (λ disk. disk.failures ≡ 0) }
     {
         let mut options = OpenOptions::new();
         options.read(true).write(true).create(true);
         let file = options.open(rt, path).map_err(|_| DiskFault)?;
-        let length = file.metadata().map_err(|_| DiskFault)?.len();
-        Ok(FileDisk {
+        FileDisk::new(StdFile { file })
+    }
+}
+
+impl<F: RawFile> FileDisk<F> {
+    /// The disk over a file. Refused where the file does not tell its length; there is no count yet.
+    pub fn new(file: F) -> Result<FileDisk<F>, DiskFault>
+    where
+        F: Drop,
+        ensures content { IfOk result (λ disk. disk.content ≡ F.content file) }
+        ensures synced { IfOk result (λ disk. disk.synced ≡ F.synced file) }
+        ensures honest { IfOk result (λ disk. disk.honest ≡ F.honest file) }
+        ensures failures { IfOk result (λ disk. disk.failures ≡ 0) }
+        ensures works { IfOk result (λ disk. disk.is_broken ≡ false) }
+    {
+        let mut file = file;
+        match file.length() {
+            Ok(known) => Ok(FileDisk {
+                file,
+                known,
+                failures: 0,
+                is_broken: false,
+            }),
+            Err(_) => Err(DiskFault),
+        }
+    }
+
+    /// The file, with what was written. Refused where the disk is broken.
+    pub fn into_file(self) -> Result<F, DiskFault>
+    where
+        F: Drop,
+        ensures content { IfOk result (λ file. F.content file ≡ self.content) }
+        ensures synced { IfOk result (λ file. F.synced file ≡ self.synced) }
+        ensures honest { IfOk result (λ file. F.honest file ≡ self.honest) }
+        ensures refused { OnErr result (self.is_broken ≡ true) }
+    {
+        let FileDisk {
             file,
-            length,
-            failures: 0,
-        })
+            known: _,
+            failures: _,
+            is_broken,
+        } = self;
+        if is_broken {
+            return Err(DiskFault);
+        }
+        Ok(file)
     }
 
     /// Counts a failure, up to the last value of a `u64`.
     fn refuse(&mut self) -> DiskFault
+        ensures content { self.new.content ≡ self.old.content }
+        ensures synced { self.new.synced ≡ self.old.synced }
+        ensures honest { self.new.honest ≡ self.old.honest }
+        ensures broken { self.new.is_broken ≡ self.old.is_broken }
         ensures counted { self.new.failures ≡ min (self.old.failures + 1) (2 ^ 64 - 1) }
         ensures no_fewer { self.old.failures ≤ self.new.failures }
     {
@@ -42,36 +105,96 @@ impl FileDisk {
     }
 }
 
-impl Disk for FileDisk {
-    ghost content = { λ _. [] };
+/// Reads in as many calls as it takes until the buffer is full. Refused where the file refuses or ends before.
+fn read_all<F: RawFile>(file: &mut F, at: u64, buf: &mut [u8]) -> Result<(), RawFault>
+    requires { at + length buf.old < 2 ^ 64 }
+    ensures read { OnOk result (IsTrue (F.honest file.old) → at + length buf.new ≤ length (F.content file.old) → Holds (F.content file.old) at buf.new) }
+    ensures same { F.content file.new ≡ F.content file.old }
+    ensures same_synced { F.synced file.new ≡ F.synced file.old }
+    ensures honest { F.honest file.new ≡ F.honest file.old }
+{
+    let mut filled = 0;
+    'reading: while filled < buf.len() {
+        match file.read_some(at + filled as u64, &mut buf[filled..]) {
+            Ok(0) => return Err(RawFault),
+            Ok(count) => filled += count,
+            Err(fault) => return Err(fault),
+        }
+    }
+    Ok(())
+}
 
-    ghost synced = { λ _. [] };
+/// Writes in as many calls as it takes until all bytes are taken. Refused where the file refuses or takes none.
+fn write_all<F: RawFile>(file: &mut F, at: u64, bytes: &[u8]) -> Result<(), RawFault>
+    requires fits { at + length bytes.now < 2 ^ 64 }
+    requires some { 0 < length bytes.now }
+    ensures written { OnOk result (IsTrue (F.honest file.old) → Written at bytes.now (F.content file.old) (F.content file.new)) }
+    ensures torn { Torn at (length bytes.now) (F.content file.old) (F.content file.new) }
+    ensures torn_synced { Torn at (length bytes.now) (F.synced file.old) (F.synced file.new) }
+    ensures honest { F.honest file.new ≡ F.honest file.old }
+{
+    let mut taken = 0;
+    'writing: while taken < bytes.len() {
+        match file.write_some(at + taken as u64, &bytes[taken..]) {
+            Ok(0) => return Err(RawFault),
+            Ok(count) => taken += count,
+            Err(fault) => return Err(fault),
+        }
+    }
+    Ok(())
+}
+
+impl<F: RawFile> Disk for FileDisk<F> {
+    ghost content = { λ d. d.content };
+
+    ghost synced = { λ d. d.synced };
 
     ghost failures = { λ d. d.failures };
 
-    ghost honest = { λ _. false };
+    ghost honest = { λ d. d.honest };
 
     fn read_at(&mut self, at: u64, buf: &mut [u8]) -> Result<(), DiskFault> {
-        if self.file.read_exact_at(buf, at).is_err() {
+        let count = buf.len() as u64;
+        if self.is_broken || at > self.known || count > self.known - at {
+            return Err(self.refuse());
+        }
+        if read_all(&mut self.file, at, buf).is_err() {
             return Err(self.refuse());
         }
         Ok(())
     }
 
+    /// No bytes are written past the end: that does not lengthen a file.
     fn write_at(&mut self, at: u64, bytes: &[u8]) -> Result<(), DiskFault> {
-        if self.file.write_all_at(bytes, at).is_err() {
+        if self.is_broken {
             return Err(self.refuse());
         }
-        self.length = self.length.max(at.saturating_add(bytes.len() as u64));
+        if bytes.is_empty() {
+            if at > self.known {
+                return Err(self.refuse());
+            }
+            return Ok(());
+        }
+        let Some(end) = at.checked_add(bytes.len() as u64) else {
+            return Err(self.refuse());
+        };
+        if write_all(&mut self.file, at, bytes).is_err() {
+            match self.file.length() {
+                Ok(known) => self.known = known,
+                Err(_) => self.is_broken = true,
+            }
+            return Err(self.refuse());
+        }
+        self.known = self.known.max(end);
         Ok(())
     }
 
     fn len(&self) -> u64 {
-        self.length
+        self.known
     }
 
     fn sync(&mut self) -> Result<(), DiskFault> {
-        if self.file.sync_all().is_err() {
+        if self.is_broken || self.file.sync().is_err() {
             return Err(self.refuse());
         }
         Ok(())

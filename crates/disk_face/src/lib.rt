@@ -8,11 +8,15 @@ ghost use Rattle.disk_face.specs.Disk.{Holds, Torn, Written, Counts};
 
 mod fail;
 mod file;
+mod full;
 mod memory;
+mod raw;
 
 pub use fail::FailDisk;
 pub use file::FileDisk;
+pub use full::FullFile;
 pub use memory::MemDisk;
+pub use raw::{RawFault, RawFile, StdFile};
 use thiserror::Error;
 
 /// A call failed, and the disk has counted it.

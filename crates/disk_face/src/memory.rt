@@ -105,7 +105,7 @@ impl Disk for MemDisk {
 
 /// Writes bytes over those from `at` on, after zeros in a gap. Refused only where memory for a longer content is
 /// not found.
-fn overwrite(content: &mut Vec<u8>, at: usize, bytes: &[u8]) -> Result<(), AllocError>
+pub(crate) fn overwrite(content: &mut Vec<u8>, at: usize, bytes: &[u8]) -> Result<(), AllocError>
     ensures written { OnOk result (Written at bytes.now content.old.items content.new.items) }
     ensures inside { at + length bytes.now ≤ length content.old.items → IsOk result }
     ensures refused { OnErr result (content.new.items ≡ content.old.items) }

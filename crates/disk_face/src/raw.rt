@@ -1,0 +1,91 @@
+//! A file by the calls of the system: one call each, which may do less than it was asked.
+ghost use Rattle.std.specs.Prelude.{◌≡◌, ◌<◌, ℕ, Bool, List, [], take, length, false, IsTrue, IfOk, OnOk, OnErr};
+ghost use Rattle.std.specs.Io.{ReadsAtMost, WritesAtMost};
+ghost use Rattle.disk_face.specs.Disk.{Holds, Torn, Written};
+
+use std::fs::File;
+use std::os::unix::fs::FileExt;
+
+/// The system refused a call.
+#[derive(Clone, Copy, Debug, PartialEq, Eq)]
+pub struct RawFault;
+
+/// What the system offers on an open file. Of an honest one a read gives bytes that it has, what a write took stands
+/// in it, and the length that is told is its length. Nothing here is counted or remembered.
+pub trait RawFile {
+    /// The bytes of the file.
+    ghost content: { Self → List ℕ };
+
+    /// The bytes that are there whatever comes: those of the last sync that succeeded, and what later writes have
+    /// changed of them.
+    ghost synced: { Self → List ℕ };
+
+    /// The calls do what they tell.
+    ghost honest: { Self → Bool };
+
+    /// Reads once from a place on. Gives how many bytes came: none at the end, and at times fewer than there is room
+    /// for.
+    fn read_some(&mut self, at: u64, buf: &mut [u8]) -> Result<usize, RawFault>
+        ensures bound { ReadsAtMost result buf.new }
+        ensures read { IsTrue (honest self.old) → IfOk result (λ n. 0 < n → Holds (content self.old) at (take n buf.new)) }
+        ensures same { content self.new ≡ content self.old }
+        ensures same_synced { synced self.new ≡ synced self.old }
+        ensures honest { honest self.new ≡ honest self.old };
+
+    /// Writes once from a place on. Gives how many of the bytes were taken; where it is refused, any bytes may stand
+    /// in their range.
+    fn write_some(&mut self, at: u64, bytes: &[u8]) -> Result<usize, RawFault>
+        ensures bound { WritesAtMost result bytes.now }
+        ensures written { IsTrue (honest self.old) → IfOk result (λ n. 0 < n → Written at (take n bytes.now) (content self.old) (content self.new)) }
+        ensures torn { Torn at (length bytes.now) (content self.old) (content self.new) }
+        ensures torn_synced { Torn at (length bytes.now) (synced self.old) (synced self.new) }
+        ensures honest { honest self.new ≡ honest self.old };
+
+    /// How many bytes the file has.
+    fn length(&mut self) -> Result<u64, RawFault>
+        ensures told { IsTrue (honest self.old) → IfOk result (λ n. n ≡ length (content self.old)) }
+        ensures same { content self.new ≡ content self.old }
+        ensures same_synced { synced self.new ≡ synced self.old }
+        ensures honest { honest self.new ≡ honest self.old };
+
+    /// Makes all that was written last.
+    fn sync(&mut self) -> Result<(), RawFault>
+        ensures same { content self.new ≡ content self.old }
+        ensures done { OnOk result (synced self.new ≡ content self.old) }
+        ensures refused { OnErr result (synced self.new ≡ synced self.old) }
+        ensures honest { honest self.new ≡ honest self.old };
+}
+
+/// A file of the system. What it holds no clause can name, so it shows no bytes and is not honest: that these four
+/// calls do what the trait says of an honest file is trusted.
+#[derive(Drop)]
+pub struct StdFile {
+    pub(crate) file: File,
+}
+
+impl RawFile for StdFile {
+    ghost content = { λ _. [] };
+
+    ghost synced = { λ _. [] };
+
+    ghost honest = { λ _. false };
+
+    fn read_some(&mut self, at: u64, buf: &mut [u8]) -> Result<usize, RawFault> {
+        self.file.read_at(buf, at).map_err(|_| RawFault)
+    }
+
+    fn write_some(&mut self, at: u64, bytes: &[u8]) -> Result<usize, RawFault> {
+        self.file.write_at(bytes, at).map_err(|_| RawFault)
+    }
+
+    fn length(&mut self) -> Result<u64, RawFault> {
+        match self.file.metadata() {
+            Ok(told) => Ok(told.len()),
+            Err(_) => Err(RawFault),
+        }
+    }
+
+    fn sync(&mut self) -> Result<(), RawFault> {
+        self.file.sync_all().map_err(|_| RawFault)
+    }
+}
