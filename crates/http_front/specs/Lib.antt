@@ -1,0 +1,5 @@
+pub mod Bytes
+pub mod Head
+pub mod Stream
+pub mod Replies
+pub mod Sending

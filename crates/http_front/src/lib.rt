@@ -1,0 +1,14 @@
+//! Messages of HTTP/1.1 (RFC 9112) off a stream, in whatever pieces its bytes come, and the replies to them.
+#![tactic(auto)]
+
+mod body;
+mod buffer;
+mod conn;
+mod head;
+mod letter;
+mod refusal;
+mod reply;
+
+pub use conn::{Conn, Next};
+pub use refusal::status_of;
+pub use reply::{Reply, WriteFault};

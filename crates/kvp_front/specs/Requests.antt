@@ -1,0 +1,90 @@
+-- The request that the pairs of a message spell, and the first refusal of those that spell none.
+use Rattle.std.specs.Prelude.{ℕ, List, [], ◌∷◌, Result, Ok, Err, if◌then◌else◌, bytes_eq, codes, string_bytes}
+use Rattle.arr_core.specs.declared.field.Field.{Field}
+use Rattle.kvp_front.specs.Values.{pairs_of, values_of, only_value, and_then}
+use Rattle.kvp_front.specs.Spelling.{name_in, interval_in, field_in, list_in, query_in}
+use Rattle.kvp_front.specs.Contents.{Cells, content_view, content_of}
+use Rattle.kvp_front.specs.declared.request.Interval.{Interval}
+use Rattle.kvp_front.specs.declared.request.Request.{Request}
+use Rattle.kvp_front.specs.declared.request.Request.TheVariants as Asked
+use Rattle.kvp_front.specs.declared.request.RequestError.{RequestError}
+use Rattle.kvp_front.specs.declared.request.RequestError.TheVariants.{NoRequest, UnknownRequest, MissingKey, RepeatedKey, BadValue, NoMemory}
+pub use Rattle.kvp_front.specs.Values.{Gives}
+
+-- what a request asks
+pub data Asks : Type 0 where
+  -- a new coverage: its name, its axes and its fields
+  insert_coverage : List ℕ → List Interval → List Field → Asks
+  -- new cells: the coverage, the field, the box and the cells
+  update_coverage : List ℕ → List ℕ → List Interval → Cells → Asks
+  -- this coverage is taken out
+  delete_coverage : List ℕ → Asks
+  -- the names of all coverages
+  list_coverages : Asks
+  -- the axes and the fields of this coverage
+  describe_coverage : List ℕ → Asks
+  -- the answer to the query of this text
+  process_coverages : List ℕ → Asks
+
+abbrev pub asks : Request → Asks
+asks (Asked.InsertCoverage r) = insert_coverage r.coverage r.intervals.items r.fields.items
+asks (Asked.UpdateCoverage r) = update_coverage r.coverage r.field r.intervals.items (content_view r.content)
+asks (Asked.DeleteCoverage coverage) = delete_coverage coverage
+asks Asked.ListCoverages = list_coverages
+asks (Asked.DescribeCoverage coverage) = describe_coverage coverage
+asks (Asked.ProcessCoverages query) = process_coverages (string_bytes query)
+
+-- the number of a refusal
+abbrev pub number_of : RequestError → ℕ
+number_of NoRequest = 10
+number_of UnknownRequest = 11
+number_of MissingKey = 12
+number_of RepeatedKey = 13
+number_of BadValue = 14
+number_of NoMemory = 90
+
+-- the one value of a key, read
+abbrev pub read_under : {X : Type 0} → (List ℕ → Result X RequestError) → List ℕ → List (List ℕ × List ℕ) → Result X RequestError
+read_under read key pairs = and_then read (only_value (values_of key pairs))
+
+-- each request reads its keys in this order, and the first refusal stands
+abbrev pub insertion_of : List (List ℕ × List ℕ) → Result Asks RequestError
+insertion_of pairs =
+    and_then (λ coverage. and_then (λ intervals. and_then (λ fields. Ok (insert_coverage coverage intervals fields)) (read_under (list_in field_in) (codes "fields") pairs)) (read_under (list_in interval_in) (codes "domain") pairs))
+    (read_under name_in (codes "coverage") pairs)
+
+abbrev pub update_of : List (List ℕ × List ℕ) → Result Asks RequestError
+update_of pairs =
+    and_then (λ coverage. and_then (λ field. and_then (λ intervals. and_then (λ cells. Ok (update_coverage coverage field intervals cells)) (content_of (values_of (codes "fill") pairs) (values_of (codes "values") pairs))) (read_under (list_in interval_in) (codes "box") pairs)) (read_under name_in (codes "field") pairs))
+    (read_under name_in (codes "coverage") pairs)
+
+abbrev pub deletion_of : List (List ℕ × List ℕ) → Result Asks RequestError
+deletion_of pairs = and_then (λ coverage. Ok (delete_coverage coverage)) (read_under name_in (codes "coverage") pairs)
+
+abbrev pub description_of : List (List ℕ × List ℕ) → Result Asks RequestError
+description_of pairs = and_then (λ coverage. Ok (describe_coverage coverage)) (read_under name_in (codes "coverage") pairs)
+
+abbrev pub query_of : List (List ℕ × List ℕ) → Result Asks RequestError
+query_of pairs = and_then (λ query. Ok (process_coverages query)) (read_under query_in (codes "query") pairs)
+
+-- the request of this name
+abbrev pub kind_of : List (List ℕ × List ℕ) → List ℕ → Result Asks RequestError
+kind_of pairs kind =
+    if bytes_eq kind (codes "InsertCoverage") then insertion_of pairs
+    else (if bytes_eq kind (codes "UpdateCoverage") then update_of pairs
+    else (if bytes_eq kind (codes "DeleteCoverage") then deletion_of pairs
+    else (if bytes_eq kind (codes "ListCoverages") then Ok list_coverages
+    else (if bytes_eq kind (codes "DescribeCoverage") then description_of pairs
+    else (if bytes_eq kind (codes "ProcessCoverages") then query_of pairs else Err UnknownRequest)))))
+
+abbrev pub spelled_by : List (List ℕ × List ℕ) → List (List ℕ) → Result Asks RequestError
+spelled_by pairs [] = Err NoRequest
+spelled_by pairs (kind ∷ []) = kind_of pairs kind
+spelled_by pairs (kind ∷ second ∷ more) = Err RepeatedKey
+
+abbrev pub spelled_of : List (List ℕ × List ℕ) → Result Asks RequestError
+spelled_of pairs = spelled_by pairs (values_of (codes "request") pairs)
+
+-- the request that some encoded pairs spell, or the first refusal
+abbrev pub spelled : List ℕ → Result Asks RequestError
+spelled bytes = spelled_of (pairs_of bytes)

@@ -1,0 +1,40 @@
+//! The cells that an update writes: one cell everywhere, or a cell for each point.
+ghost use Rattle.std.specs.Prelude.{codes, map};
+ghost use Rattle.kvp_front.specs.Values.{Gives, values_of, pair_view};
+ghost use Rattle.kvp_front.specs.Contents.{content_view, content_of};
+
+use crate::lists::read_list;
+use crate::pairs::{Found, Pair, find};
+use crate::request::RequestError;
+use crate::spelling::read_cell;
+use arr_core::Cell;
+use std::alloc::Global;
+
+/// The same cell at each point of a box, or the cells of its points in row-major order.
+#[derive(Debug, Drop)]
+pub enum Content {
+    Fill(Cell),
+    Values(Vec<Cell>),
+}
+
+/// The content under the keys `fill` and `values`, of which exactly one is given, and once.
+pub fn content_under(alloc: Global, pairs: &[Pair<'_>]) -> Result<Content, RequestError>
+    ensures { Gives content_view (content_of (values_of (codes "fill") (map pair_view pairs.now)) (values_of (codes "values") (map pair_view pairs.now))) result }
+{
+    let fill = find(alloc, pairs, "fill")?;
+    let values = find(alloc, pairs, "values")?;
+    match (fill, values) {
+        (Found::Twice, _) => Err(RequestError::RepeatedKey),
+        (_, Found::Twice) => Err(RequestError::RepeatedKey),
+        (Found::Absent, Found::Absent) => Err(RequestError::MissingKey),
+        (Found::Once(_), Found::Once(_)) => Err(RequestError::BadValue),
+        (Found::Once(text), Found::Absent) => {
+            let cell = read_cell(text.as_str())?;
+            Ok(Content::Fill(cell))
+        }
+        (Found::Absent, Found::Once(text)) => {
+            let cells = read_list(alloc, text.as_str())?;
+            Ok(Content::Values(cells))
+        }
+    }
+}

@@ -1,0 +1,13 @@
+//! The requests that the key-value pairs of a message spell.
+#![tactic(auto)]
+
+mod content;
+mod lists;
+mod pairs;
+mod reading;
+mod request;
+mod spelling;
+
+pub use content::Content;
+pub use reading::read_request;
+pub use request::{Insertion, Interval, Request, RequestError, Update};

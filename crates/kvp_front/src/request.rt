@@ -1,0 +1,104 @@
+//! What a message asks of the store.
+ghost use Rattle.std.specs.Prelude.{◌≡◌};
+ghost use Rattle.kvp_front.specs.Requests.{number_of};
+
+use crate::content::Content;
+use arr_core::{Field, Name};
+use std::alloc::{AllocError, AllocFailed, Global};
+use thiserror::Error;
+
+/// An axis and its bounds, as a request spells them. The bounds may lie outside those of a domain.
+#[derive(Debug, Drop)]
+pub struct Interval {
+    pub axis: Name,
+    pub lo: i64,
+    pub hi: i64,
+}
+
+/// A new coverage: its name, its axes and its fields.
+#[derive(Debug, Drop)]
+pub struct Insertion {
+    pub coverage: Name,
+    pub intervals: Vec<Interval>,
+    pub fields: Vec<Field>,
+}
+
+/// New cells for a box of one field of a coverage.
+#[derive(Debug, Drop)]
+pub struct Update {
+    pub coverage: Name,
+    pub field: Name,
+    pub intervals: Vec<Interval>,
+    pub content: Content,
+}
+
+/// What a message asks of the store.
+#[derive(Debug, Drop)]
+pub enum Request {
+    InsertCoverage(Insertion),
+    UpdateCoverage(Update),
+    DeleteCoverage(Name),
+    ListCoverages,
+    DescribeCoverage(Name),
+    /// The text of the query.
+    ProcessCoverages(String),
+}
+
+/// Why some pairs spell no request.
+#[derive(Debug, Drop, Error)]
+pub enum RequestError {
+    /// There is no key `request`.
+    #[error("no request")]
+    NoRequest,
+    /// There is no request of that name.
+    #[error("an unknown request")]
+    UnknownRequest,
+    /// A key that the request needs is absent.
+    #[error("a missing key")]
+    MissingKey,
+    /// A key that the request uses is given twice.
+    #[error("a repeated key")]
+    RepeatedKey,
+    /// A value is spelled badly.
+    #[error("a bad value")]
+    BadValue,
+    /// No memory was left.
+    #[error("out of memory")]
+    NoMemory,
+}
+
+impl From<AllocError> for RequestError {
+    ghost use Rattle.kvp_front.specs.declared.request.RequestError.TheVariants.{NoMemory};
+
+    ghost from_gives = { λ _ e. e ≡ NoMemory };
+
+    fn from(_error: AllocError) -> RequestError {
+        RequestError::NoMemory
+    }
+}
+
+impl<T: Drop> From<AllocFailed<T>> for RequestError {
+    ghost use Rattle.kvp_front.specs.declared.request.RequestError.TheVariants.{NoMemory};
+
+    ghost from_gives = { λ _ e. e ≡ NoMemory };
+
+    fn from(_error: AllocFailed<T>) -> RequestError {
+        RequestError::NoMemory
+    }
+}
+
+impl RequestError {
+    /// The number of the refusal.
+    pub fn number(&self) -> u16
+        ensures { result ≡ number_of self.now }
+    {
+        match self {
+            RequestError::NoRequest => 10,
+            RequestError::UnknownRequest => 11,
+            RequestError::MissingKey => 12,
+            RequestError::RepeatedKey => 13,
+            RequestError::BadValue => 14,
+            RequestError::NoMemory => 90,
+        }
+    }
+}

@@ -1,0 +1,34 @@
+//! Bytes that go out whole, or up to a fault.
+ghost use Rattle.std.specs.Prelude.{ℕ, List, Option, Bool};
+ghost use Rattle.stream_face.specs.Faults.{Sent};
+
+use crate::Sink;
+
+/// Writes all of the bytes, in as many writes as it takes. It says whether all went out; else a first part did.
+pub fn send_all<K: Sink>(sink: &mut K, bytes: &[u8]) -> bool
+    ensures { Sent (K.contents sink.old) (K.contents sink.new) (K.failed sink.old) (K.failed sink.new) result bytes.now }
+{
+    let mut sent = 0;
+    'sending: while sent < bytes.len() {
+        match sink.write_some(&bytes[sent..]) {
+            Ok(0) => return false,
+            Ok(count) => sent += count,
+            Err(_) => return false,
+        }
+    }
+    true
+}
+
+/// Hands on what was written, where nothing failed before. It says whether nothing has failed.
+pub fn flush_if<K: Sink>(sink: &mut K, ok: bool) -> bool
+    ensures { (held : Option (List ℕ)) (failed : Option Bool) (text : List ℕ) → Sent held (K.contents sink.old) failed (K.failed sink.old) ok text
+        → Sent held (K.contents sink.new) failed (K.failed sink.new) result text }
+{
+    if !ok {
+        return false;
+    }
+    match sink.hand_on() {
+        Ok(()) => true,
+        Err(_) => false,
+    }
+}
