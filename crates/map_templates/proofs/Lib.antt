@@ -1,0 +1,9 @@
+pub mod Sets
+pub mod Summaries
+pub mod Texts
+pub mod Windows
+pub mod Places
+pub mod Values
+pub mod Laws
+pub mod Same
+pub mod Planes

@@ -1,0 +1,9 @@
+pub mod Templates
+pub mod Refusals
+pub mod Texts
+pub mod Pieces
+pub mod Expansion
+pub mod Tomlin
+pub mod Meaning
+pub mod TypedTrees
+pub mod Laws

@@ -1,0 +1,27 @@
+-- The refusals of templates.
+use Rattle.std.specs.Prelude.{◌≡◌, ℕ, Result, Ok, Err}
+use Rattle.map_templates.specs.declared.refusal.ExpandRefusal.{ExpandRefusal}
+use Rattle.map_templates.specs.declared.refusal.ExpandRefusal.TheVariants.{NoSuchTemplate, NoSuchCoverage, BadParameter}
+use Rattle.map_templates.specs.declared.refusal.ExpandError.{ExpandError}
+use Rattle.map_templates.specs.declared.refusal.ExpandError.TheVariants.{Refused, NoMemory}
+
+-- the number of each
+abbrev pub number_of : ExpandRefusal → ℕ
+number_of NoSuchTemplate = 80
+number_of NoSuchCoverage = 20
+number_of BadParameter = 81
+
+-- what a check gives: the thing, or the first refusal
+abbrev pub Answer : Type 0 → Type 0
+Answer A = Result A ExpandRefusal
+
+-- a check after another one, which is made only where the first one gave something
+abbrev pub then_of : {A B : Type 0} → Answer A → (A → Answer B) → Answer B
+then_of (Err f) go = Err f
+then_of (Ok a) go = go a
+
+-- what a call gave is this answer, save where no memory was left
+abbrev pub Says : {T A : Type 0} → (T → A) → Result T ExpandError → Answer A → Type 0
+Says view (Ok t) a = a ≡ Ok (view t)
+Says view (Err (Refused f)) a = a ≡ Err f
+Says view (Err NoMemory) a = Unit {0}

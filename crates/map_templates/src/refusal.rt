@@ -1,0 +1,53 @@
+//! Why a template is not expanded.
+
+use std::alloc::AllocError;
+use thiserror::Error;
+
+/// A refusal of a template.
+#[derive(Clone, Copy, PartialEq, Eq, Debug)]
+pub enum ExpandRefusal {
+    /// No template of that name.
+    NoSuchTemplate,
+    /// No coverage of the name that a layer gives.
+    NoSuchCoverage,
+    /// A parameter that is missing, or that does not suit the coverages.
+    BadParameter,
+}
+
+impl ExpandRefusal {
+    ghost use Rattle.std.specs.Prelude.{◌≡◌};
+    ghost use Rattle.map_templates.specs.Refusals.{number_of};
+
+    /// The refusal's number in replies.
+    pub fn number(self) -> u16
+        ensures { result ≡ number_of self }
+    {
+        match self {
+            ExpandRefusal::NoSuchTemplate => 80,
+            ExpandRefusal::NoSuchCoverage => 20,
+            ExpandRefusal::BadParameter => 81,
+        }
+    }
+}
+
+/// Why `expand` gave no text.
+#[derive(Debug, Drop, Error)]
+pub enum ExpandError {
+    /// The first refusal of the template.
+    #[error("the template is refused")]
+    Refused(ExpandRefusal),
+    /// No memory was left.
+    #[error("out of memory")]
+    NoMemory,
+}
+
+impl From<AllocError> for ExpandError {
+    ghost use Rattle.std.specs.Prelude.{◌≡◌};
+    ghost use Rattle.map_templates.specs.declared.refusal.ExpandError.TheVariants.{NoMemory};
+
+    ghost from_gives = { λ _ e. e ≡ NoMemory };
+
+    fn from(_error: AllocError) -> ExpandError {
+        ExpandError::NoMemory
+    }
+}
