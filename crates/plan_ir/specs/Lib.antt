@@ -1,0 +1,6 @@
+pub mod Bodies
+pub mod Run
+pub mod Plans
+pub mod Planned
+pub mod Placed
+pub mod Units

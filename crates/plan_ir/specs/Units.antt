@@ -1,0 +1,129 @@
+-- The units of a plan: its boxes in the order in which they are done, how many points they have, and how many tiles the
+-- evaluation of one may fetch.
+use Rattle.std.specs.Prelude.{ℕ, ◌+◌, ◌*◌, nat_lt, nat_eq, cond, Bool, true, ℤ, List, [], ◌∷◌, ◌++◌, map, length, slice_get, Option, Some, None, sum_by}
+use Rattle.std.specs.List.{flat_map, list_any, list_all}
+use Rattle.arr_core.specs.declared.domain.Axis.{Axis}
+use Rattle.arr_core.specs.declared.signature.Signature.{Signature}
+use Rattle.arr_core.specs.Domains.{points, count, rank_of}
+use Rattle.arr_core.specs.Tiles.{edge_of, grid, tile_boxes}
+use Rattle.arr_core.specs.Meeting.{tile_at}
+use Rattle.plan_ir.specs.declared.body.Index.{Index}
+use Rattle.plan_ir.specs.declared.body.Index.TheVariants.{Const, Var}
+use Rattle.plan_ir.specs.Bodies.{Tree, lit, var, reg, op1, op2, read, table, bind, fold}
+use Rattle.plan_ir.specs.Run.{numbers_at}
+use Rattle.plan_ir.specs.Plans.{PassTree, BindTree, FieldBody, ItemTree, StepsTree, Choice, PlanTree}
+
+-- one for a combination, and the points of its passes' boxes and of its item
+abbrev pub steps_units : Option StepsTree → ℕ
+steps_units None = 1
+steps_units (Some s) = 1 + (sum_by (λ (p : PassTree). count p.domain) s.passes + count s.item.domain)
+
+-- at most so many units has a plan
+abbrev pub units : PlanTree → ℕ
+units plan = sum_by (λ (c : Choice). steps_units (slice_get plan.steps c.steps)) plan.combinations
+
+-- a box, the coverages that are read there, and the bodies that are evaluated at each of its points
+pub record Stage : Type 0 where
+  pub box : List Axis
+  pub coverages : List ℕ
+  pub bodies : List Tree
+
+-- one stage for each tile of a box
+abbrev pub tile_stages : List ℕ → List Tree → List Axis → List Stage
+tile_stages coverages bodies box = map (λ b. record { box = b; coverages = coverages; bodies = bodies }) (tile_boxes box)
+
+abbrev pub pass_stages : List ℕ → PassTree → List Stage
+pass_stages coverages p = tile_stages coverages (p.condition ∷ p.body ∷ []) p.domain
+
+abbrev pub condition_stages : List ℕ → Option Tree → List Stage
+condition_stages coverages None = []
+condition_stages coverages (Some c) = record { box = []; coverages = coverages; bodies = c ∷ [] } ∷ []
+
+abbrev pub item_bodies : ItemTree → List Tree
+item_bodies i = map (λ (b : BindTree). b.position) i.binds ++ map (λ (f : FieldBody). f.body) i.fields
+
+-- of a combination: the tiles of each pass in order
+abbrev pub passes_boxes : List ℕ → Option StepsTree → List Stage
+passes_boxes coverages None = []
+passes_boxes coverages (Some s) = flat_map (pass_stages coverages) s.passes
+
+-- of a combination: the box without axes of its condition, if any, then the tiles of its item
+abbrev pub out_boxes : List ℕ → Option StepsTree → List Stage
+out_boxes coverages None = []
+out_boxes coverages (Some s) = condition_stages coverages s.condition ++ tile_stages coverages (item_bodies s.item) s.item.domain
+
+-- all boxes of a plan in their order: the passes, then what is given out
+abbrev pub boxes : PlanTree → List Stage
+boxes plan =
+    flat_map (λ (c : Choice). passes_boxes c.coverages (slice_get plan.steps c.steps)) plan.combinations
+    ++ flat_map (λ (c : Choice). out_boxes c.coverages (slice_get plan.steps c.steps)) plan.combinations
+
+-- a number that is not yet listed goes to the end
+abbrev pub added : List ℕ → ℕ → List ℕ
+added seen n = cond (list_any (λ m. nat_eq m n) seen) seen (seen ++ n ∷ [])
+
+abbrev pub distinct_after : List ℕ → List ℕ → List ℕ
+distinct_after seen [] = seen
+distinct_after seen (n ∷ ns) = distinct_after (added seen n) ns
+
+-- the different numbers of a list, in order of their first place
+abbrev pub distinct : List ℕ → List ℕ
+distinct ns = distinct_after [] ns
+
+-- the number of the tile that a point of a coverage is in
+abbrev pub tile_number : List Axis → List ℤ → ℕ
+tile_number axes p = rank_of (grid (edge_of (length axes)) axes) (tile_at (edge_of (length axes)) axes p)
+
+-- the tiles that hold a point which the indexes give from a point of the box
+abbrev pub tiles_read : List Axis → List Axis → List Index → List ℕ
+tiles_read axes box is = distinct (map (λ p. tile_number axes (numbers_at p is)) (points box))
+
+-- constants, and variables among the first n
+abbrev pub index_below : ℕ → Index → Bool
+index_below n (Const z) = true
+index_below n (Var k) = nat_lt k n
+
+abbrev pub domain_of : Option Signature → List Axis
+domain_of None = []
+domain_of (Some c) = c.domain
+
+-- how many tiles a read under no fold may fetch: where its indexes are constants and variables of the box, those that
+-- hold a point which it indexes; else one for each point of the box
+abbrev pub bound_read : Option Signature → List Axis → List Index → ℕ
+bound_read c box is = cond (list_all (index_below (length box)) is) (length (tiles_read (domain_of c) box is)) (count box)
+
+-- the reads of a body, each n times; under folds the points of their boxes times as often
+abbrev pub bound_times : ℕ → Tree → ℕ
+bound_times n (lit z) = 0
+bound_times n (var k) = 0
+bound_times n (reg k) = 0
+bound_times n (op1 op e) = bound_times n e
+bound_times n (op2 op l r) = bound_times n l + bound_times n r
+bound_times n (read c f is) = n
+bound_times n (table box items is) = 0
+bound_times n (bind i lo hi e) = bound_times n i + bound_times n e
+bound_times n (fold op box c e) = bound_times (n * count box) c + bound_times (n * count box) e
+
+-- the sum over the reads of a body; cs are the coverages that it names
+abbrev pub bound_of : List Signature → List Axis → Tree → ℕ
+bound_of cs box (lit z) = 0
+bound_of cs box (var k) = 0
+bound_of cs box (reg k) = 0
+bound_of cs box (op1 op e) = bound_of cs box e
+bound_of cs box (op2 op l r) = bound_of cs box l + bound_of cs box r
+bound_of cs box (read c f is) = bound_read (slice_get cs c) box is
+bound_of cs box (table b items is) = 0
+bound_of cs box (bind i lo hi e) = bound_of cs box i + bound_of cs box e
+bound_of cs box (fold op b c e) = bound_times (count box * count b) c + bound_times (count box * count b) e
+
+abbrev pub found : Option Signature → List Signature
+found None = []
+found (Some c) = c ∷ []
+
+-- the coverages at those places, as far as they are there
+abbrev pub chosen_of : List Signature → List ℕ → List Signature
+chosen_of all ks = flat_map (λ k. found (slice_get all k)) ks
+
+-- at most so many tiles the evaluation of a stage of a plan fetches
+abbrev pub bound : PlanTree → Stage → ℕ
+bound plan stage = sum_by (bound_of (chosen_of plan.coverages stage.coverages) stage.box) stage.bodies

@@ -1,0 +1,276 @@
+//! The items of a plan, point by point.
+
+ghost use Rattle.std.specs.Prelude.{◌≡◌, ◌≤◌, ◌*◌, ℕ, ℤ, List, [], ◌∷◌, ◌++◌, Ok, Err, Result, IfOk, IfErr, OnOk, length, map, option_map, option_copied, slice_get};
+ghost use Rattle.wcps_mean.specs.Errors.{TellsFault, PushesCells, PassesOn};
+ghost use Rattle.wcps_mean.specs.Answer.{joined, given, cell_of, line_of, field_count};
+ghost use Rattle.wcps_mean.specs.Reports.{Reports};
+ghost use Rattle.wcps_mean.specs.declared.cell.Outcome.{Outcome};
+ghost use Rattle.plan_ir.specs.Bodies.{body_view, fold_view};
+ghost use Rattle.plan_ir.specs.Run.{run};
+ghost use Rattle.plan_ir.specs.Plans.{pass_view, bind_view, field_view, item_view, steps_view, choice_view, plan_view};
+ghost use Rattle.plan_ir.specs.Planned.{pass_outcome, registers, registers_after, bound, field_cell, cells_at, item_cells, item_planned, chosen, given_out, steps_planned, cells_of, choice_planned, planned};
+
+use crate::body::{Body, Fold};
+use crate::eval::{Frame, coordinate, eval, fold, push};
+use crate::plan::{Bind, Combination, Field, Item as PlannedItem, Plan, Steps};
+use arr_core::Cell;
+use std::alloc::{AllocError, Global};
+use wcps_mean::{
+    CellError, CellList, Cells, EvalError, Item, Outcome, cell_of, is_set, push_point, run_length,
+};
+
+/// The items of a plan: combinations in order, for each its condition, and where that is true the cells of its item,
+/// points in row-major order and fields in order; or the first fault among these. A pass's fault counts only where its
+/// register is demanded. What `cells` reports passes through.
+pub fn run<C: Cells>(alloc: Global, cells: &mut C, plan: &Plan) -> Result<Vec<Item>, EvalError>
+    ensures items { IfOk result (λ items. C.intact cells.old → planned (C.cells cells.old) (plan_view plan.now) ≡ Ok items.items) }
+    ensures fault { IfErr result (λ e. C.intact cells.old → TellsFault e (planned (C.cells cells.old) (plan_view plan.now))) }
+    ensures same { C.cells cells.new ≡ C.cells cells.old }
+    ensures kept { C.kept cells.new ≡ C.kept cells.old }
+    ensures intact { C.intact cells.old → C.intact cells.new }
+    ensures reports { PassesOn result (C.intact cells.old) (C.failures cells.old) (C.failures cells.new) }
+{
+    let mut items = Vec::new(alloc);
+    for combination in &plan.combinations {
+        push_combination(alloc, cells, &plan.steps, combination, &mut items)?;
+    }
+    Ok(items)
+}
+
+/// Puts the item of a combination, if it gives one, at the end of a list.
+fn push_combination<C: Cells>(
+    alloc: Global,
+    cells: &mut C,
+    steps: &[Steps],
+    combination: &Combination,
+    items: &mut Vec<Item>,
+) -> Result<(), EvalError>
+    ensures value { OnOk result (C.intact cells.old → PushesCells (choice_planned (C.cells cells.old) combination.now.coverages.items (option_map steps_view (slice_get steps.now combination.now.steps))) items.old.items items.new.items) }
+    ensures fault { IfErr result (λ e. C.intact cells.old → TellsFault e (choice_planned (C.cells cells.old) combination.now.coverages.items (option_map steps_view (slice_get steps.now combination.now.steps)))) }
+    ensures same { C.cells cells.new ≡ C.cells cells.old }
+    ensures kept { C.kept cells.new ≡ C.kept cells.old }
+    ensures intact { C.intact cells.old → C.intact cells.new }
+    ensures reports { PassesOn result (C.intact cells.old) (C.failures cells.old) (C.failures cells.new) }
+{
+    match steps_at(steps, combination.steps) {
+        None => Ok(()),
+        Some(steps) => {
+            let coverages = coverages_of(alloc, combination)?;
+            push_steps(alloc, cells, coverages, steps, items)?;
+            Ok(())
+        }
+    }
+}
+
+/// The steps at a place.
+fn steps_at(steps: &[Steps], k: usize) -> Option<&Steps>
+    ensures { option_copied result ≡ slice_get steps.now k }
+{
+    steps.get(k)
+}
+
+/// The coverages of a combination.
+fn coverages_of(alloc: Global, combination: &Combination) -> Result<Vec<usize>, AllocError>
+    ensures { IfOk result (λ v. v.items ≡ combination.now.coverages.items) }
+{
+    let list = combination.coverages.to_vec(alloc)?;
+    Ok(list)
+}
+
+/// Runs steps over coverages, and puts their item, if they give one, at the end of a list.
+fn push_steps<C: Cells>(
+    alloc: Global,
+    cells: &mut C,
+    coverages: Vec<usize>,
+    steps: &Steps,
+    items: &mut Vec<Item>,
+) -> Result<(), EvalError>
+    ensures value { OnOk result (C.intact cells.old → PushesCells (steps_planned (cells_of (C.cells cells.old) coverages.items) (steps_view steps.now)) items.old.items items.new.items) }
+    ensures fault { IfErr result (λ e. C.intact cells.old → TellsFault e (steps_planned (cells_of (C.cells cells.old) coverages.items) (steps_view steps.now))) }
+    ensures same { C.cells cells.new ≡ C.cells cells.old }
+    ensures kept { C.kept cells.new ≡ C.kept cells.old }
+    ensures intact { C.intact cells.old → C.intact cells.new }
+    ensures reports { PassesOn result (C.intact cells.old) (C.failures cells.old) (C.failures cells.new) }
+{
+    let frame = run_passes(alloc, cells, coverages, &steps.passes)?;
+    let gives_item = is_chosen(alloc, cells, &frame, &steps.condition)?;
+    if !gives_item {
+        return Ok(());
+    }
+    let item = item_of(alloc, cells, &frame, &steps.item)?;
+    items.push(item)?;
+    Ok(())
+}
+
+/// The outcomes of passes in their order.
+fn run_passes<C: Cells>(
+    alloc: Global,
+    cells: &mut C,
+    coverages: Vec<usize>,
+    passes: &[Fold],
+) -> Result<Frame, CellError>
+    ensures registers { IfOk result (λ frame. C.intact cells.old → frame.registers.items ≡ registers (cells_of (C.cells cells.old) coverages.items) (map pass_view passes.now)) }
+    ensures coverages { IfOk result (λ frame. frame.coverages ≡ coverages) }
+    ensures same { C.cells cells.new ≡ C.cells cells.old }
+    ensures kept { C.kept cells.new ≡ C.kept cells.old }
+    ensures intact { C.intact cells.old → C.intact cells.new }
+    ensures reports { Reports result (C.intact cells.old) (C.failures cells.old) (C.failures cells.new) }
+{
+    let mut frame = Frame {
+        coverages,
+        registers: Vec::new(alloc),
+    };
+    let mut vars = Vec::new(alloc);
+    for pass in passes {
+        let o = fold(alloc, cells, &frame, pass, &mut vars)?;
+        push_register(&mut frame.registers, o)?;
+    }
+    Ok(frame)
+}
+
+/// Puts an outcome at the end of a list.
+fn push_register(registers: &mut Vec<Outcome>, o: Outcome) -> Result<(), AllocError>
+    ensures { OnOk result (registers.new.items ≡ registers.old.items ++ o ∷ []) }
+{
+    registers.push(o)?;
+    Ok(())
+}
+
+/// Whether there is an item: there is no condition, or it is true.
+fn is_chosen<C: Cells>(
+    alloc: Global,
+    cells: &mut C,
+    frame: &Frame,
+    condition: &Option<Body>,
+) -> Result<bool, EvalError>
+    ensures value { IfOk result (λ b. C.intact cells.old → chosen (cells_of (C.cells cells.old) frame.now.coverages.items) frame.now.registers.items (option_map body_view condition.now) ≡ Ok b) }
+    ensures fault { IfErr result (λ e. C.intact cells.old → TellsFault e (chosen (cells_of (C.cells cells.old) frame.now.coverages.items) frame.now.registers.items (option_map body_view condition.now))) }
+    ensures same { C.cells cells.new ≡ C.cells cells.old }
+    ensures kept { C.kept cells.new ≡ C.kept cells.old }
+    ensures intact { C.intact cells.old → C.intact cells.new }
+    ensures reports { PassesOn result (C.intact cells.old) (C.failures cells.old) (C.failures cells.new) }
+{
+    match condition {
+        None => Ok(true),
+        Some(body) => {
+            let mut vars = Vec::new(alloc);
+            let o = eval(alloc, cells, frame, body, &mut vars)?;
+            match o {
+                Outcome::Fault(f) => Err(EvalError::Fault(f)),
+                Outcome::Value(x) => Ok(is_set(x)),
+            }
+        }
+    }
+}
+
+/// An item.
+fn item_of<C: Cells>(
+    alloc: Global,
+    cells: &mut C,
+    frame: &Frame,
+    item: &PlannedItem,
+) -> Result<Item, EvalError>
+    ensures value { IfOk result (λ i. C.intact cells.old → item_planned (cells_of (C.cells cells.old) frame.now.coverages.items) frame.now.registers.items (item_view item.now) ≡ Ok i) }
+    ensures fault { IfErr result (λ e. C.intact cells.old → TellsFault e (item_planned (cells_of (C.cells cells.old) frame.now.coverages.items) frame.now.registers.items (item_view item.now))) }
+    ensures same { C.cells cells.new ≡ C.cells cells.old }
+    ensures kept { C.kept cells.new ≡ C.kept cells.old }
+    ensures intact { C.intact cells.old → C.intact cells.new }
+    ensures reports { PassesOn result (C.intact cells.old) (C.failures cells.old) (C.failures cells.new) }
+{
+    let mut list = Vec::new(alloc);
+    let mut vars = Vec::new(alloc);
+    for place in 0..item.domain.points() {
+        push_point(&mut vars, &item.domain, place)?;
+        push_cells(alloc, cells, frame, item, &mut vars, &mut list)?;
+        vars.truncate(0);
+    }
+    Ok(Item {
+        line: run_length(item.domain.axes()),
+        fields: count_of(&item.fields),
+        cells: CellList::new(list),
+    })
+}
+
+/// How many fields an item tells.
+fn count_of(fields: &[Field]) -> u32
+    ensures { result ≡ field_count (length fields.now) }
+{
+    fields.len().min(4_294_967_295) as u32
+}
+
+/// Puts the cells of the fields at a point at the end of a list. The variables of the binds are left behind the point.
+fn push_cells<C: Cells>(
+    alloc: Global,
+    cells: &mut C,
+    frame: &Frame,
+    item: &PlannedItem,
+    vars: &mut Vec<i32>,
+    list: &mut Vec<Cell>,
+) -> Result<(), EvalError>
+    ensures value { OnOk result (C.intact cells.old → PushesCells (cells_at (cells_of (C.cells cells.old) frame.now.coverages.items) frame.now.registers.items (item_view item.now) vars.old.items) list.old.items list.new.items) }
+    ensures fault { IfErr result (λ e. C.intact cells.old → TellsFault e (cells_at (cells_of (C.cells cells.old) frame.now.coverages.items) frame.now.registers.items (item_view item.now) vars.old.items)) }
+    ensures same { C.cells cells.new ≡ C.cells cells.old }
+    ensures kept { C.kept cells.new ≡ C.kept cells.old }
+    ensures intact { C.intact cells.old → C.intact cells.new }
+    ensures reports { PassesOn result (C.intact cells.old) (C.failures cells.old) (C.failures cells.new) }
+{
+    push_bound(alloc, cells, frame, &item.binds, vars)?;
+    push_fields(alloc, cells, frame, &item.fields, vars, list)?;
+    Ok(())
+}
+
+/// Puts the variables of binds at the end of those before them.
+fn push_bound<C: Cells>(
+    alloc: Global,
+    cells: &mut C,
+    frame: &Frame,
+    binds: &[Bind],
+    vars: &mut Vec<i32>,
+) -> Result<(), EvalError>
+    ensures value { OnOk result (C.intact cells.old → bound (cells_of (C.cells cells.old) frame.now.coverages.items) frame.now.registers.items (map bind_view binds.now) vars.old.items ≡ Ok vars.new.items) }
+    ensures fault { IfErr result (λ e. C.intact cells.old → TellsFault e (bound (cells_of (C.cells cells.old) frame.now.coverages.items) frame.now.registers.items (map bind_view binds.now) vars.old.items)) }
+    ensures same { C.cells cells.new ≡ C.cells cells.old }
+    ensures kept { C.kept cells.new ≡ C.kept cells.old }
+    ensures intact { C.intact cells.old → C.intact cells.new }
+    ensures reports { PassesOn result (C.intact cells.old) (C.failures cells.old) (C.failures cells.new) }
+{
+    match binds {
+        [] => Ok(()),
+        [bind, rest @ ..] => {
+            let o = eval(alloc, cells, frame, &bind.position, vars)?;
+            match coordinate(o, bind.interval) {
+                Err(f) => Err(EvalError::Fault(f)),
+                Ok(z) => {
+                    push(vars, z)?;
+                    push_bound(alloc, cells, frame, rest, vars)
+                }
+            }
+        }
+    }
+}
+
+/// Puts the cells of fields at the end of a list.
+fn push_fields<C: Cells>(
+    alloc: Global,
+    cells: &mut C,
+    frame: &Frame,
+    fields: &[Field],
+    vars: &mut Vec<i32>,
+    list: &mut Vec<Cell>,
+) -> Result<(), EvalError>
+    ensures value { OnOk result (C.intact cells.old → PushesCells (joined (map (field_cell (cells_of (C.cells cells.old) frame.now.coverages.items) frame.now.registers.items vars.old.items) (map field_view fields.now))) list.old.items list.new.items) }
+    ensures fault { IfErr result (λ e. C.intact cells.old → TellsFault e (joined (map (field_cell (cells_of (C.cells cells.old) frame.now.coverages.items) frame.now.registers.items vars.old.items) (map field_view fields.now)))) }
+    ensures same { C.cells cells.new ≡ C.cells cells.old }
+    ensures kept { C.kept cells.new ≡ C.kept cells.old }
+    ensures intact { C.intact cells.old → C.intact cells.new }
+    ensures reports { PassesOn result (C.intact cells.old) (C.failures cells.old) (C.failures cells.new) }
+{
+    for field in fields {
+        let o = eval(alloc, cells, frame, &field.body, vars)?;
+        match o {
+            Outcome::Fault(f) => return Err(EvalError::Fault(f)),
+            Outcome::Value(x) => list.push(cell_of(field.boolean, x))?,
+        }
+    }
+    Ok(())
+}

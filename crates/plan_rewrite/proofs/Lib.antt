@@ -1,0 +1,4 @@
+pub mod Scopes
+pub mod Settles
+pub mod SettledPlans
+pub mod SettledPlaced

@@ -1,0 +1,167 @@
+-- A settled plan gives what the plan gives, and is well-formed.
+use Rattle.std.proofs.Common.{◌≡◌, ℕ, zero, suc, ◌+◌, ◌<◌, ◌≤◌, List, [], ◌∷◌, ◌++◌, length, map, refl, sym, ap, ◌∙◌, subst, arith, ℤ, pos, ◌≤ℤ◌, cond, T, Bool, true, false, Result, Ok, Err}
+use Rattle.std.specs.Prelude.{Option, Some, None, slice_get, option_map, IsSomeAnd, int_le, ◌&&◌}
+use Rattle.std.specs.Int.Signed.{le_z_yes}
+use Rattle.std.proofs.lemmas.List.{map-append, length-map}
+use Rattle.arr_core.specs.declared.cell.Cell.{Cell}
+use Rattle.arr_core.specs.declared.signature.Signature.{Signature}
+use Rattle.arr_core.specs.Domains.{points}
+use Rattle.wcps_mean.specs.declared.cell.PointFault.{PointFault}
+use Rattle.wcps_mean.specs.declared.cell.PointFault.TheVariants.{OutOfDomain}
+use Rattle.wcps_mean.specs.declared.cell.Outcome.{Outcome}
+use Rattle.wcps_mean.specs.declared.cell.Outcome.TheVariants.{Value, Fault}
+use Rattle.wcps_mean.specs.declared.item.Item.{Item}
+use Rattle.wcps_mean.specs.Cells.{is_true}
+use Rattle.wcps_mean.specs.Answer.{then_of, given, joined, cell_of, line_of, field_count}
+use Rattle.plan_ir.specs.declared.body.Index.{Index}
+use Rattle.plan_ir.specs.declared.body.Index.TheVariants.{Const, Var}
+use Rattle.plan_ir.specs.declared.body.Interval.{Interval}
+use Rattle.plan_ir.specs.Bodies.{Tree, fold}
+use Rattle.plan_ir.specs.Run.{number_at, numbers_at, run}
+use Rattle.plan_ir.specs.Plans.{PassTree, BindTree, FieldBody, ItemTree, StepsTree, Choice, PlanTree}
+use Rattle.plan_ir.specs.Planned.{pass_outcome, registers_after, registers, coordinate, bound, field_cell, cells_at, item_cells, item_planned, chosen, given_out, steps_planned, cells_of, choice_planned, planned}
+use Rattle.plan_ir.specs.Placed.{spans, Indexes, IsPlaced}
+use Rattle.plan_ir.proofs.Parts.{slice_get-map}
+use Rattle.plan_rewrite.specs.Settling.{levels, stand_in, settled}
+use Rattle.plan_rewrite.specs.Settled.{Ground, way, after_bind, ground, kept, kept_binds, settled_pass, settled_field, settled_item, settled_steps, settled_plan}
+use Rattle.plan_rewrite.proofs.Scopes.{Lie, lie-length, lie-one, Each, points-lie, indexes-append, levels-lie, indexes-under, numbers-levels, numbers-under}
+use Rattle.plan_rewrite.proofs.Settles.{gives-way, one-more, settled-means}
+
+-- a settled pass gives what the pass gives
+pass-settled : (s : ℕ → ℕ → List ℤ → ℤ) (regs : List Outcome) (p : PassTree) → pass_outcome s regs (settled_pass p) ≡ pass_outcome s regs p
+pass-settled s regs p = settled-means (fold p.op p.domain p.condition p.body) s regs [] [] [] [] tt tt
+
+registers-settled : (s : ℕ → ℕ → List ℤ → ℤ) (regs : List Outcome) (ps : List PassTree) → registers_after s regs (map settled_pass ps) ≡ registers_after s regs ps
+registers-settled s regs [] = refl
+registers-settled s regs (p ∷ ps) =
+    ap (λ o. registers_after s (regs ++ o ∷ []) (map settled_pass ps)) (pass-settled s regs p) ∙ registers-settled s (regs ++ pass_outcome s regs p ∷ []) ps
+
+chosen-settled : (s : ℕ → ℕ → List ℤ → ℤ) (regs : List Outcome) (c : Option Tree) → chosen s regs (option_map (settled [] []) c) ≡ chosen s regs c
+chosen-settled s regs None = refl
+chosen-settled s regs (Some c) = ap (given is_true) (settled-means c s regs [] [] [] [] tt tt)
+
+-- the intervals of the old variables after some binds
+abbrev pub behind : List Interval → List BindTree → List Interval
+behind old [] = old
+behind old (b ∷ binds) = behind (old ++ record { lo = b.lo; hi = b.hi } ∷ []) binds
+
+ground-one : (b : BindTree) (binds : List BindTree) (old scope : List Interval) (env : List Index) (o : Option Index) → way env scope b ≡ o → Indexes old scope env → ((scope' : List Interval) (env' : List Index) → Indexes (old ++ record { lo = b.lo; hi = b.hi } ∷ []) scope' env' → Indexes (behind (old ++ record { lo = b.lo; hi = b.hi } ∷ []) binds) (ground env' scope' binds).scope (ground env' scope' binds).env) → Indexes (behind (old ++ record { lo = b.lo; hi = b.hi } ∷ []) binds) (after_bind env scope b o (λ env' scope'. ground env' scope' binds)).scope (after_bind env scope b o (λ env' scope'. ground env' scope' binds)).env
+ground-one b binds old scope env (Some i) is h go =
+    let w = gives-way scope b.lo b.hi (settled env scope b.position) i is in
+    go scope (env ++ i ∷ []) (indexes-append old (record { lo = b.lo; hi = b.hi } ∷ []) scope env (i ∷ []) h (w.stands.lies, tt))
+ground-one b binds old scope env None is h go = go (scope ++ record { lo = b.lo; hi = b.hi } ∷ []) (env ++ Var (length scope) ∷ []) (indexes-under old scope (record { lo = b.lo; hi = b.hi } ∷ []) env h)
+
+pub ground-indexes : (binds : List BindTree) (old scope : List Interval) (env : List Index) → Indexes old scope env → Indexes (behind old binds) (ground env scope binds).scope (ground env scope binds).env
+ground-indexes [] old scope env h = h
+ground-indexes (b ∷ binds) old scope env h = ground-one b binds old scope env (way env scope b) refl h (λ scope' env' h'. ground-indexes binds (old ++ record { lo = b.lo; hi = b.hi } ∷ []) scope' env' h')
+
+-- new variables stand for old ones, or there is the same fault
+abbrev Follows : Result (List ℤ) PointFault → Result (List ℤ) PointFault → Ground → Type 0
+Follows (Err f) old g = old ≡ Err f
+Follows (Ok vars) old g = (old ≡ Ok (numbers_at vars g.env)) × Lie g.scope vars
+
+abbrev tested_by : Bool → ℤ → Result ℤ PointFault
+tested_by b x = cond b (Ok x) (Err OutOfDomain)
+
+tested : (b c : Bool) (x z : ℤ) → tested_by (b && c) x ≡ Ok z → T b × T c × (x ≡ z)
+tested true true x z h = (tt, tt, (cc))
+tested true false x z h = absurd (cc)
+tested false c x z h = absurd (cc)
+
+-- a coordinate that passed its test lies inside
+coordinate-inside : (o : Outcome) (lo hi z : ℤ) → coordinate o lo hi ≡ Ok z → (lo ≤ℤ z) × (z ≤ℤ hi)
+coordinate-inside (Fault f) lo hi z h = absurd (cc)
+coordinate-inside (Value x) lo hi z h =
+    let t = tested (int_le lo x) (int_le x hi) x z h in
+    (subst (λ y. lo ≤ℤ y) t.2 (le_z_yes t.0), subst (λ y. y ≤ℤ hi) t.2 (le_z_yes t.1))
+
+passes : (b c : Bool) (x : ℤ) → T b → T c → tested_by (b && c) x ≡ Ok x
+passes true true x l u = refl
+passes true false x l u = absurd u
+passes false c x l u = absurd l
+
+coordinate-of : (o : Outcome) (lo hi z : ℤ) → o ≡ Value z → lo ≤ℤ z → z ≤ℤ hi → coordinate o lo hi ≡ Ok z
+coordinate-of o lo hi z e l u = ap (λ x. coordinate x lo hi) e ∙ passes (int_le lo z) (int_le z hi) z l.le u.le
+
+follows-one : (r : Result ℤ PointFault) (s : ℕ → ℕ → List ℤ → ℤ) (regs : List Outcome) (new binds : List BindTree) (vars : List ℤ) (g : Ground) (numbers : List ℤ) → ((z : ℤ) → r ≡ Ok z → Follows (bound s regs new (vars ++ z ∷ [])) (bound s regs binds (numbers ++ z ∷ [])) g) → Follows (then_of r (λ z. bound s regs new (vars ++ z ∷ []))) (then_of r (λ z. bound s regs binds (numbers ++ z ∷ []))) g
+follows-one (Err f) s regs new binds vars g numbers h = refl
+follows-one (Ok z) s regs new binds vars g numbers h = h z refl
+
+bind-follows : (b : BindTree) (binds : List BindTree) (s : ℕ → ℕ → List ℤ → ℤ) (regs : List Outcome) (old scope : List Interval) (env : List Index) (vars : List ℤ) (o : Option Index) → way env scope b ≡ o → Indexes old scope env → Lie scope vars → ((scope' : List Interval) (env' : List Index) (vars' : List ℤ) → Indexes (old ++ record { lo = b.lo; hi = b.hi } ∷ []) scope' env' → Lie scope' vars' → Follows (bound s regs (kept_binds env' scope' binds) vars') (bound s regs binds (numbers_at vars' env')) (ground env' scope' binds)) → Follows (bound s regs (kept o (settled env scope b.position) b (after_bind env scope b o (λ env' scope'. kept_binds env' scope' binds))) vars) (bound s regs (b ∷ binds) (numbers_at vars env)) (after_bind env scope b o (λ env' scope'. ground env' scope' binds))
+bind-follows b binds s regs old scope env vars (Some i) is h l go =
+    let w = gives-way scope b.lo b.hi (settled env scope b.position) i is in
+    let same : run s regs b.position (numbers_at vars env) ≡ Value (number_at vars i) = sym (settled-means b.position s regs old scope env vars h l) ∙ w.means s regs vars in
+    let here : bound s regs (b ∷ binds) (numbers_at vars env) ≡ bound s regs binds (numbers_at vars (env ++ i ∷ [])) =
+    ap (λ r. then_of r (λ z. bound s regs binds (numbers_at vars env ++ z ∷ []))) (coordinate-of (run s regs b.position (numbers_at vars env)) b.lo b.hi (number_at vars i) same (w.stands.above vars l) (w.stands.below vars l))
+    ∙ ap (bound s regs binds) (sym (map-append (number_at vars) env (i ∷ []))) in
+    subst (λ r. Follows (bound s regs (kept_binds (env ++ i ∷ []) scope binds) vars) r (ground (env ++ i ∷ []) scope binds)) (sym here)
+    (go scope (env ++ i ∷ []) vars (indexes-append old (record { lo = b.lo; hi = b.hi } ∷ []) scope env (i ∷ []) h (w.stands.lies, tt)) l)
+bind-follows b binds s regs old scope env vars None is h l go =
+    let v : Interval = record { lo = b.lo; hi = b.hi } in
+    let new = kept_binds (env ++ Var (length scope) ∷ []) (scope ++ v ∷ []) binds in
+    let g = ground (env ++ Var (length scope) ∷ []) (scope ++ v ∷ []) binds in
+    let old_r = coordinate (run s regs b.position (numbers_at vars env)) b.lo b.hi in
+    subst (λ r. Follows (then_of r (λ z. bound s regs new (vars ++ z ∷ []))) (then_of old_r (λ z. bound s regs binds (numbers_at vars env ++ z ∷ []))) g)
+    (ap (λ o. coordinate o b.lo b.hi) (sym (settled-means b.position s regs old scope env vars h l)))
+    (follows-one old_r s regs new binds vars g (numbers_at vars env) (λ z e.
+    let inside = coordinate-inside (run s regs b.position (numbers_at vars env)) b.lo b.hi z e in
+    subst (λ n. Follows (bound s regs new (vars ++ z ∷ [])) (bound s regs binds n) g) (one-more old scope env vars v z h l inside.0 inside.1)
+    (go (scope ++ v ∷ []) (env ++ Var (length scope) ∷ []) (vars ++ z ∷ []) (indexes-under old scope (v ∷ []) env h) (lie-one scope v vars z l inside.0 inside.1))))
+
+bound-follows : (binds : List BindTree) (s : ℕ → ℕ → List ℤ → ℤ) (regs : List Outcome) (old scope : List Interval) (env : List Index) (vars : List ℤ) → Indexes old scope env → Lie scope vars → Follows (bound s regs (kept_binds env scope binds) vars) (bound s regs binds (numbers_at vars env)) (ground env scope binds)
+bound-follows [] s regs old scope env vars h l = (refl, l)
+bound-follows (b ∷ binds) s regs old scope env vars h l =
+    bind-follows b binds s regs old scope env vars (way env scope b) refl h l (λ scope' env' vars' h' l'. bound-follows binds s regs (old ++ record { lo = b.lo; hi = b.hi } ∷ []) scope' env' vars' h' l')
+
+fields-settled : (fields : List FieldBody) (s : ℕ → ℕ → List ℤ → ℤ) (regs : List Outcome) (old : List Interval) (g : Ground) (vars : List ℤ) → Indexes old g.scope g.env → Lie g.scope vars → map (field_cell s regs vars) (map (settled_field g) fields) ≡ map (field_cell s regs (numbers_at vars g.env)) fields
+fields-settled [] s regs old g vars h l = refl
+fields-settled (f ∷ fields) s regs old g vars h l =
+    ap (λ o. given (λ z. cell_of f.boolean z ∷ []) o ∷ map (field_cell s regs vars) (map (settled_field g) fields)) (settled-means f.body s regs old g.scope g.env vars h l)
+    ∙ ap (λ r. field_cell s regs (numbers_at vars g.env) f ∷ r) (fields-settled fields s regs old g vars h l)
+
+point-settled : (r old : Result (List ℤ) PointFault) (g : Ground) (outer : List Interval) (s : ℕ → ℕ → List ℤ → ℤ) (regs : List Outcome) (fields : List FieldBody) → Indexes outer g.scope g.env → Follows r old g → then_of r (λ vars. joined (map (field_cell s regs vars) (map (settled_field g) fields))) ≡ then_of old (λ vars. joined (map (field_cell s regs vars) fields))
+point-settled (Err f) old g outer s regs fields h k = sym (ap (λ q. then_of q (λ vars. joined (map (field_cell s regs vars) fields))) k)
+point-settled (Ok vars) old g outer s regs fields h k =
+    ap joined (fields-settled fields s regs outer g vars h k.1) ∙ sym (ap (λ q. then_of q (λ vars. joined (map (field_cell s regs vars) fields))) k.0)
+
+cells-settled : (i : ItemTree) (s : ℕ → ℕ → List ℤ → ℤ) (regs : List Outcome) (p : List ℤ) → Lie (spans i.domain) p → cells_at s regs (settled_item i) p ≡ cells_at s regs i p
+cells-settled i s regs p l =
+    let box = spans i.domain in
+    let g = ground (levels 0 box) box i.binds in
+    let all = levels-lie [] box 0 refl in
+    point-settled (bound s regs (kept_binds (levels 0 box) box i.binds) p) (bound s regs i.binds (numbers_at p (levels 0 box))) g (behind box i.binds) s regs i.fields (ground-indexes i.binds box box (levels 0 box) all) (bound-follows i.binds s regs box box (levels 0 box) p all l)
+    ∙ ap (λ v. then_of (bound s regs i.binds v) (λ vars. joined (map (field_cell s regs vars) i.fields))) (numbers-levels [] p box 0 refl (lie-length box p l))
+
+map-same : {X Y : Type 0} (P : X → Type 0) (f g : X → Y) (xs : List X) → ((x : X) → P x → f x ≡ g x) → Each P xs → map f xs ≡ map g xs
+map-same P f g [] h a = refl
+map-same P f g (x ∷ xs) h a = ap (λ y. y ∷ map f xs) (h x a.0) ∙ ap (λ l. g x ∷ l) (map-same P f g xs h a.1)
+
+item-settled : (i : ItemTree) (s : ℕ → ℕ → List ℤ → ℤ) (regs : List Outcome) → item_planned s regs (settled_item i) ≡ item_planned s regs i
+item-settled i s regs =
+    ap (λ (r : Result (List Cell) PointFault). then_of r (λ cells. Ok (record { line = line_of i.domain; fields = field_count (length (settled_item i).fields); cells = cells })))
+    (ap joined (map-same (Lie (spans i.domain)) (cells_at s regs (settled_item i)) (cells_at s regs i) (points i.domain) (λ p l. cells-settled i s regs p l) (points-lie i.domain)))
+    ∙ ap (λ n. then_of (item_cells s regs i) (λ cells. Ok (record { line = line_of i.domain; fields = field_count n; cells = cells }))) (length-map i.fields (settled_field (ground (levels 0 (spans i.domain)) (spans i.domain) i.binds)))
+
+abbrev out_of : Result Bool PointFault → Result Item PointFault → Result (List Item) PointFault
+out_of c i = then_of c (λ b. cond b (then_of i (λ x. Ok (x ∷ []))) (Ok []))
+
+steps-settled : (t : StepsTree) (s : ℕ → ℕ → List ℤ → ℤ) → steps_planned s (settled_steps t) ≡ steps_planned s t
+steps-settled t s =
+    ap (λ r. given_out s r (settled_steps t)) (registers-settled s [] t.passes)
+    ∙ ap (λ c. out_of c (item_planned s (registers s t.passes) (settled_item t.item))) (chosen-settled s (registers s t.passes) t.condition)
+    ∙ ap (out_of (chosen s (registers s t.passes) t.condition)) (item-settled t.item s (registers s t.passes))
+
+choice-settled : (s : ℕ → ℕ → List ℤ → ℤ) (coverages : List ℕ) (o : Option StepsTree) → choice_planned s coverages (option_map settled_steps o) ≡ choice_planned s coverages o
+choice-settled s coverages None = refl
+choice-settled s coverages (Some t) = steps-settled t (cells_of s coverages)
+
+choices-settled : (s : ℕ → ℕ → List ℤ → ℤ) (steps : List StepsTree) (all : List Choice) → map (λ (c : Choice). choice_planned s c.coverages (slice_get (map settled_steps steps) c.steps)) all ≡ map (λ (c : Choice). choice_planned s c.coverages (slice_get steps c.steps)) all
+choices-settled s steps [] = refl
+choices-settled s steps (c ∷ all) =
+    ap (λ o. choice_planned s c.coverages o ∷ map (λ (c : Choice). choice_planned s c.coverages (slice_get (map settled_steps steps) c.steps)) all) (slice_get-map settled_steps steps c.steps)
+    ∙ ap (λ o. o ∷ map (λ (c : Choice). choice_planned s c.coverages (slice_get (map settled_steps steps) c.steps)) all) (choice-settled s c.coverages (slice_get steps c.steps))
+    ∙ ap (λ l. choice_planned s c.coverages (slice_get steps c.steps) ∷ l) (choices-settled s steps all)
+
+-- a settled plan gives what the plan gives
+pub settled-planned : (p : PlanTree) (s : ℕ → ℕ → List ℤ → ℤ) → planned s (settled_plan p) ≡ planned s p
+settled-planned p s = ap joined (choices-settled s p.steps p.combinations)

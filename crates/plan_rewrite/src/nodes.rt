@@ -1,0 +1,58 @@
+//! Making bodies of bodies.
+
+ghost use Rattle.std.specs.Prelude.{◌≡◌, IfOk};
+ghost use Rattle.plan_ir.specs.Bodies.{body_view, fold_view, op1, op2, bind};
+
+use plan_ir::{Body, Fold, Interval};
+use std::alloc::{AllocError, Global};
+use wcps_types::{Operation1, Operation2};
+
+/// A body on the heap.
+fn boxed(alloc: Global, body: Body) -> Result<Box<Body>, AllocError>
+    ensures { IfOk result (λ b. b.value ≡ body) }
+{
+    let b = Box::new(alloc, body)?;
+    Ok(b)
+}
+
+/// An operation on one operand.
+pub fn op1_body(alloc: Global, op: Operation1, e: Body) -> Result<Body, AllocError>
+    ensures { IfOk result (λ b. body_view b ≡ op1 op (body_view e)) }
+{
+    Ok(Body::Op1(op, boxed(alloc, e)?))
+}
+
+/// An operation on two operands.
+pub fn op2_body(alloc: Global, op: Operation2, l: Body, r: Body) -> Result<Body, AllocError>
+    ensures { IfOk result (λ b. body_view b ≡ op2 op (body_view l) (body_view r)) }
+{
+    let l = boxed(alloc, l)?;
+    let r = boxed(alloc, r)?;
+    Ok(Body::Op2(op, l, r))
+}
+
+/// A body under one more variable.
+pub fn bind_body(
+    alloc: Global,
+    position: Body,
+    interval: Interval,
+    body: Body,
+) -> Result<Body, AllocError>
+    ensures { IfOk result (λ b. body_view b ≡ bind (body_view position) interval.lo interval.hi (body_view body)) }
+{
+    let position = boxed(alloc, position)?;
+    let body = boxed(alloc, body)?;
+    Ok(Body::Bind {
+        position,
+        interval,
+        body,
+    })
+}
+
+/// A fold as a body.
+pub fn fold_body(alloc: Global, fold: Fold) -> Result<Body, AllocError>
+    ensures { IfOk result (λ b. body_view b ≡ fold_view fold) }
+{
+    let f = Box::new(alloc, fold)?;
+    Ok(Body::Fold(f))
+}
