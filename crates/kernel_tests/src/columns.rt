@@ -1,0 +1,177 @@
+//! Columns as rows write them.
+
+use crate::words::{outcome, shown};
+use anyhow::{Context, Result, bail};
+use std::alloc::Global;
+use tile_kernel::{Column, MAX_PLACES, operate_columns};
+use wcps_mean::{Outcome, PointFault};
+use wcps_types::Operation2;
+
+/// The outcomes of a column's first place, of its inner places, and of its last place.
+#[derive(Clone, Copy)]
+struct Ends {
+    first: Outcome,
+    inner: Outcome,
+    last: Outcome,
+}
+
+/// What a column of an outcome at each place is made of.
+#[derive(Clone, Copy)]
+enum Part {
+    /// The value, and 0 where there is none.
+    Value,
+    /// What it is divided by: 0 where a division by 0 is wanted, and else 1.
+    Divisor,
+    /// The bit of 0 that is asked for: 64 where a bad bit is wanted, and else 0.
+    Bit,
+}
+
+impl Part {
+    fn of(self, outcome: Outcome) -> i64 {
+        match (self, outcome) {
+            (Part::Value, Outcome::Value(number)) => number,
+            (Part::Divisor, Outcome::Fault(PointFault::DivideByZero)) => 0,
+            (Part::Divisor, _) => 1,
+            (Part::Bit, Outcome::Fault(PointFault::BadBit)) => 64,
+            _ => 0,
+        }
+    }
+}
+
+/// Whether an outcome is a fault; an error for a fault that no division and no bit has.
+fn is_fault(outcome: Outcome) -> Result<bool> {
+    match outcome {
+        Outcome::Value(_) => Ok(false),
+        Outcome::Fault(PointFault::DivideByZero | PointFault::BadBit) => Ok(true),
+        Outcome::Fault(_) => bail!("no division and no bit has this fault"),
+    }
+}
+
+impl Ends {
+    /// Reads a first, an inner and a last outcome, as `DivideByZero,3,BadBit`.
+    fn read(words: &str) -> Result<Ends> {
+        let (first, rest) = words.split_once(',').context("no inner place")?;
+        let (inner, last) = rest.split_once(',').context("no last place")?;
+        Ok(Ends {
+            first: outcome(first)?,
+            inner: outcome(inner)?,
+            last: outcome(last)?,
+        })
+    }
+
+    /// The outcome at a place of `len`; the first place stands before the last one.
+    fn at(&self, place: usize, len: usize) -> Outcome {
+        if place == 0 {
+            self.first
+        } else if place.saturating_add(1) < len {
+            self.inner
+        } else {
+            self.last
+        }
+    }
+
+    fn has_fault(&self) -> Result<bool> {
+        let first = is_fault(self.first)?;
+        let inner = is_fault(self.inner)?;
+        let last = is_fault(self.last)?;
+        Ok(first || inner || last)
+    }
+
+    /// A column of one part of the outcome at each place.
+    fn parts(&self, alloc: Global, len: usize, part: Part) -> Result<Column> {
+        let mut cells = Vec::new(alloc);
+        for place in 0..len {
+            cells.push(part.of(self.at(place, len)))?;
+        }
+        written(alloc, &cells)
+    }
+
+    /// The values, and the faults of a division by 0.
+    fn quotients(&self, alloc: Global, len: usize) -> Result<Column> {
+        let values = self.parts(alloc, len, Part::Value)?;
+        let divisors = self.parts(alloc, len, Part::Divisor)?;
+        operated(alloc, Operation2::Divide, &values, &divisors)
+    }
+
+    /// 0, and the faults of a bit 64.
+    fn bits(&self, alloc: Global, len: usize) -> Result<Column> {
+        let zeros = filled(alloc, len, Outcome::Value(0))?;
+        let bits = self.parts(alloc, len, Part::Bit)?;
+        operated(alloc, Operation2::Bit, &zeros, &bits)
+    }
+}
+
+/// A column of values.
+fn written(alloc: Global, cells: &[i64]) -> Result<Column> {
+    let mut column = Column::new(alloc)?;
+    if cells.len() > MAX_PLACES {
+        bail!("too many places");
+    }
+    column.write(cells);
+    Ok(column)
+}
+
+/// A column of one outcome.
+fn filled(alloc: Global, len: usize, outcome: Outcome) -> Result<Column> {
+    let mut column = Column::new(alloc)?;
+    if len > MAX_PLACES {
+        bail!("too many places");
+    }
+    column.fill(len, outcome);
+    Ok(column)
+}
+
+/// An operation on two columns.
+pub fn operated(alloc: Global, op: Operation2, left: &Column, right: &Column) -> Result<Column> {
+    let mut out = Column::new(alloc)?;
+    if left.len() != right.len() {
+        bail!("columns of two lengths");
+    }
+    operate_columns(op, left, right, &mut out);
+    Ok(out)
+}
+
+/// A column of one outcome everywhere, as `=7`; or of a first, an inner and a last outcome, as `DivideByZero,3,BadBit`,
+/// each a value or a fault of a division by 0 or of a bit 64.
+pub fn column(alloc: Global, len: usize, words: &str) -> Result<Column> {
+    if let Some(word) = words.strip_prefix("=") {
+        return filled(alloc, len, outcome(word)?);
+    }
+    let ends = Ends::read(words)?;
+    if !ends.has_fault()? {
+        return ends.parts(alloc, len, Part::Value);
+    }
+    let quotients = ends.quotients(alloc, len)?;
+    let bits = ends.bits(alloc, len)?;
+    operated(alloc, Operation2::Add, &quotients, &bits)
+}
+
+/// The outcome of the places between the first and the last, an error where they differ.
+fn inner(column: &Column) -> Result<Outcome> {
+    let len = column.len();
+    if len < 3 {
+        bail!("no inner place");
+    }
+    let outcome = column.at(1);
+    for place in 2..len - 1 {
+        if column.at(place) != outcome {
+            bail!("place {place} differs from place 1");
+        }
+    }
+    Ok(outcome)
+}
+
+/// A column as its first, its inner and its last outcome; as one outcome where it has one place, and `-` without places.
+pub fn text(alloc: Global, column: &Column) -> Result<String> {
+    let len = column.len();
+    if len == 0 {
+        return Ok(String::from_str(alloc, "-")?);
+    }
+    let first = shown(alloc, column.at(0))?;
+    if len == 1 {
+        return Ok(first);
+    }
+    let inner = shown(alloc, inner(column)?)?;
+    let last = shown(alloc, column.at(len - 1))?;
+    Ok(format!(in alloc; "{first},{inner},{last}")?)
+}

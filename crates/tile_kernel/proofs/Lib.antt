@@ -1,0 +1,9 @@
+pub mod Signs
+pub mod Results
+pub mod Places
+pub mod Bests
+pub mod Orders
+pub mod Faults
+pub mod Merges
+pub mod Reductions
+pub mod Tellings

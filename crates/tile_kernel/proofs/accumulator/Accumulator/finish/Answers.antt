@@ -1,0 +1,6 @@
+use Rattle.tile_kernel.specs.Told.{outcomes}
+use Rattle.tile_kernel.proofs.Merges.{fed_in_order}
+use Rattle.tile_kernel.proofs.accumulator.Accumulator.finish.Goals as goal
+
+pub returns : goal.returns
+returns c = λ told ordered s p r. c.finish.ensures (outcomes ordered) (fed_in_order c.args.self told ordered s p r)

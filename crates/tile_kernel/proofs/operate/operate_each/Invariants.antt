@@ -1,0 +1,7 @@
+use Rattle.std.proofs.Common.{◌≡◌, ℕ, ◌<◌, get_or, pos, None}
+use Rattle.wcps_mean.specs.Cells.{operate2}
+use Rattle.tile_kernel.specs.Columns.{outcome_of, outcome_at}
+use Rattle.tile_kernel.proofs.operate.operate_each.Given as goal
+
+abbrev pub invariant-loop-place : goal.invariant-loop-place
+invariant-loop-place l = (k : ℕ) → k < l.place → outcome_of (get_or l.numbers k (pos 0)) (get_or l.marks k None) ≡ operate2 l.op (outcome_at l.left k) (outcome_at l.right k)

@@ -1,0 +1,6 @@
+use Rattle.std.proofs.Common.{◌≡◌, ◌≤◌, take}
+use Rattle.wcps_mean.specs.Condensers.{trues}
+use Rattle.tile_kernel.proofs.reduce.trues_over.Given as goal
+
+abbrev pub invariant-loop-place : goal.invariant-loop-place
+invariant-loop-place l = record { value : l.count ≡ trues (take l.place l.values); few : l.count ≤ l.place }

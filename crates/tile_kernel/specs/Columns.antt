@@ -1,0 +1,42 @@
+-- Columns as lists of outcomes.
+use Rattle.std.specs.Prelude.{◌≡◌, ℕ, ◌≤◌, ℤ, pos, List, [], ◌∷◌, map, length, take, replicate, slice_index_or, Option, Some, None}
+use Rattle.wcps_types.specs.declared.typed.Operation1.{Operation1}
+use Rattle.wcps_types.specs.declared.typed.Operation2.{Operation2}
+use Rattle.wcps_mean.specs.declared.cell.PointFault.{PointFault}
+use Rattle.wcps_mean.specs.declared.cell.Outcome.{Outcome}
+use Rattle.wcps_mean.specs.declared.cell.Outcome.TheVariants.{Value, Fault}
+use Rattle.wcps_mean.specs.Cells.{operate1, operate2}
+use Rattle.tile_kernel.specs.declared.form.Form.{Form}
+use Rattle.tile_kernel.specs.declared.form.Form.TheVariants.{Same, Values, Mixed}
+
+-- a place's outcome, by its value and its fault
+abbrev pub outcome_of : ℤ → Option PointFault → Outcome
+outcome_of z None = Value z
+outcome_of z (Some f) = Fault f
+
+abbrev pub outcomes_of : List ℤ → List (Option PointFault) → List Outcome
+outcomes_of [] fs = []
+outcomes_of (z ∷ zs) [] = []
+outcomes_of (z ∷ zs) (f ∷ fs) = outcome_of z f ∷ outcomes_of zs fs
+
+-- the outcomes at the first n places
+abbrev pub seen : Form → ℕ → List ℤ → List (Option PointFault) → List Outcome
+seen (Same o) n zs fs = replicate n o
+seen Values n zs fs = map Value (take n zs)
+seen Mixed n zs fs = outcomes_of (take n zs) (take n fs)
+
+-- a column has at most 4,096 places, and room for as many
+pub record IsRoomy (n : ℕ) (zs : List ℤ) (fs : List (Option PointFault)) : Type 0 where
+  pub few : n ≤ 4096
+  pub values : length zs ≡ 4096
+  pub faults : length fs ≡ 4096
+
+-- the outcome at a place of a column
+abbrev pub outcome_at : List Outcome → ℕ → Outcome
+outcome_at column k = slice_index_or column k (Value (pos 0))
+
+-- the operation at each place
+abbrev pub operate_all : Operation2 → List Outcome → List Outcome → List Outcome
+operate_all op [] rs = []
+operate_all op (l ∷ ls) [] = []
+operate_all op (l ∷ ls) (r ∷ rs) = operate2 op l r ∷ operate_all op ls rs

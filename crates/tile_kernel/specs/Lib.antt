@@ -1,0 +1,4 @@
+pub mod Columns
+pub mod Told
+pub mod Joins
+pub mod Standing

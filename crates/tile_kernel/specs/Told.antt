@@ -1,0 +1,54 @@
+-- Points that a condenser has been told of.
+use Rattle.std.specs.Prelude.{◌≡◌, ℕ, ◌<◌, ◌≤◌, List, [], ◌∷◌, ◌++◌, map, Option, Some, None}
+use Rattle.std.specs.List.{All, Contains, enumerate_from}
+use Rattle.wcps_mean.specs.declared.cell.PointFault.{PointFault}
+use Rattle.wcps_mean.specs.declared.cell.Outcome.{Outcome}
+use Rattle.wcps_mean.specs.declared.cell.Outcome.TheVariants.{Value, Fault}
+use Rattle.wcps_mean.specs.Condensers.{demanded}
+
+-- a point, by its place in the row-major list of its box, and its outcome
+abbrev pub Told : Type 0
+Told = ℕ × Outcome
+
+abbrev pub outcomes : List Told → List Outcome
+outcomes told = map (λ (t : Told). t.1) told
+
+-- all points of a box, in row-major order
+abbrev pub in_order : List Outcome → List Told
+in_order outs = enumerate_from 0 outs
+
+-- each place is above those before it
+abbrev pub AreRising : List Told → Type 0
+AreRising [] = Unit {0}
+AreRising (t ∷ told) = All (λ (u : Told). t.0 < u.0) told × AreRising told
+
+-- the cells of a column, at their places
+abbrev pub told_at : List ℕ → List Outcome → List Told
+told_at [] os = []
+told_at (p ∷ ps) [] = []
+told_at (p ∷ ps) (o ∷ os) = (p, o) ∷ told_at ps os
+
+-- what a place adds under a condition: the condition's fault, or nothing, or the value's outcome
+abbrev pub demanded_of : ℕ → Outcome → Outcome → List Told
+demanded_of p c o = map (λ (d : Outcome). (p, d)) (demanded c o)
+
+-- what the cells of a column add under the condition of each
+abbrev pub demanded_at : List ℕ → List Outcome → List Outcome → List Told
+demanded_at [] cs os = []
+demanded_at (p ∷ ps) [] os = []
+demanded_at (p ∷ ps) (c ∷ cs) [] = []
+demanded_at (p ∷ ps) (c ∷ cs) (o ∷ os) = demanded_of p c o ++ demanded_at ps cs os
+
+abbrev pub IsValue : Outcome → Type 0
+IsValue (Value z) = Unit {0}
+IsValue (Fault f) = ⊥
+
+-- a fault stands at place p or above
+abbrev pub StandsFrom : ℕ → ℕ → Outcome → Type 0
+StandsFrom p k (Value z) = Unit {0}
+StandsFrom p k (Fault f) = p ≤ k
+
+-- there is no fault; or this one stands at its place, and none at a lower one
+abbrev pub IsLeastFault : Option PointFault → ℕ → List Told → Type 0
+IsLeastFault None place told = All (λ (t : Told). IsValue t.1) told
+IsLeastFault (Some f) place told = Contains told (place, Fault f) × All (λ (t : Told). StandsFrom place t.0 t.1) told

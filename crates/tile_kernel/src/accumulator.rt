@@ -1,0 +1,136 @@
+//! What is kept of the points that a condenser has been told of, in whatever order.
+
+ghost use Rattle.std.specs.Prelude.{◌≡◌, ◌+◌, ◌<◌, ◌≤◌, ◌^◌, List, [], ◌∷◌, ◌++◌};
+ghost use Rattle.tile_kernel.specs.Told.{Told, IsLeastFault};
+
+use crate::joined::joined;
+use crate::operations::is_set;
+use wcps_mean::{Aggregate, Outcome, PointFault, Running};
+
+/// What is kept of the points of a box, at most 2^24 of them, that a condenser has been told of. The order of telling
+/// does not matter: sums are exact in 128 bits, products keep sign, magnitude and whether there is a zero, and of the
+/// faults that at the least place stands.
+#[derive(Drop, Debug)]
+pub struct Accumulator {
+    /// How many points, what is kept of their values, and the fault at the least place.
+    pub running: Running,
+    /// The place of that fault in the row-major list of the box; where there is none it means nothing.
+    pub place: u64,
+}
+
+impl Accumulator {
+    ghost use Rattle.std.specs.List.Sorted.{IsPermutation};
+    ghost use Rattle.wcps_mean.specs.Condensers.{condensed};
+    ghost use Rattle.tile_kernel.specs.Told.{outcomes, AreRising, demanded_of};
+    ghost use Rattle.tile_kernel.specs.Standing.{Stands};
+
+    /// Of no point.
+    pub fn empty(op: Aggregate) -> Accumulator
+        ensures stands { Stands result [] }
+        ensures op { result.running.op ≡ op }
+    {
+        Accumulator {
+            running: Running::new(op),
+            place: 0,
+        }
+    }
+
+    /// Of one point, by its place in the row-major list of the box.
+    pub fn one(op: Aggregate, place: u64, o: Outcome) -> Accumulator
+        ensures stands { Stands result ((place, o) ∷ []) }
+        ensures op { result.running.op ≡ op }
+    {
+        let mut running = Running::new(op);
+        running.add(o);
+        Accumulator { running, place }
+    }
+
+    /// The fault at the least place.
+    fn placed(&self) -> Placed
+        ensures fault { result.fault ≡ self.now.running.fault }
+        ensures place { result.place ≡ self.now.place }
+    {
+        Placed {
+            fault: self.running.fault,
+            place: self.place,
+        }
+    }
+
+    /// Takes in the points of another accumulator of the same kind.
+    pub fn merge(&mut self, other: Accumulator)
+        requires op { self.old.running.op ≡ other.running.op }
+        requires room { self.old.running.count + other.running.count ≤ 2 ^ 24 }
+        ensures stands { (told more : List Told) → Stands self.old told → Stands other more → Stands self.new (told ++ more) }
+        ensures op { self.new.running.op ≡ self.old.running.op }
+        ensures count { self.new.running.count ≡ self.old.running.count + other.running.count }
+    {
+        let first = least_fault(self.placed(), other.placed());
+        self.running = joined(&self.running, &other.running, first.fault);
+        self.place = first.place;
+    }
+
+    /// Takes in one point.
+    pub fn add(&mut self, place: u64, o: Outcome)
+        requires { self.old.running.count < 2 ^ 24 }
+        ensures stands { (told : List Told) → Stands self.old told → Stands self.new (told ++ (place, o) ∷ []) }
+        ensures op { self.new.running.op ≡ self.old.running.op }
+        ensures count { self.new.running.count ≡ self.old.running.count + 1 }
+    {
+        self.merge(Accumulator::one(self.running.op, place, o));
+    }
+
+    /// Takes in one point under a condition: the condition's fault, or nothing where it is false, else the point.
+    pub fn add_where(&mut self, place: u64, condition: Outcome, o: Outcome)
+        requires { self.old.running.count < 2 ^ 24 }
+        ensures stands { (told : List Told) → Stands self.old told → Stands self.new (told ++ demanded_of place condition o) }
+        ensures op { self.new.running.op ≡ self.old.running.op }
+        ensures count { self.new.running.count ≤ self.old.running.count + 1 }
+    {
+        match condition {
+            Outcome::Fault(f) => {
+                self.add(place, Outcome::Fault(f));
+                return;
+            }
+            Outcome::Value(x) => {
+                if is_set(x) {
+                    self.add(place, o);
+                    return;
+                }
+                return;
+            }
+        }
+    }
+
+    /// The condenser's outcome. Put in the order of their places, the points that it was told of have the outcomes that
+    /// it condenses.
+    pub fn finish(self) -> Outcome
+        ensures { (told ordered : List Told) → Stands self told → IsPermutation told ordered → AreRising ordered → result ≡ condensed self.running.op (outcomes ordered) }
+    {
+        self.running.finish()
+    }
+}
+
+/// A fault, if there is one, and its place.
+#[derive(Clone, Copy)]
+struct Placed {
+    fault: Option<PointFault>,
+    place: u64,
+}
+
+/// The fault at the lower place of two.
+fn least_fault(a: Placed, b: Placed) -> Placed
+    ensures { (told more : List Told) → IsLeastFault a.fault a.place told → IsLeastFault b.fault b.place more → IsLeastFault result.fault result.place (told ++ more) }
+{
+    match a.fault {
+        None => return b,
+        Some(_) => match b.fault {
+            None => return a,
+            Some(_) => {
+                if a.place <= b.place {
+                    return a;
+                }
+                return b;
+            }
+        },
+    }
+}

@@ -1,0 +1,116 @@
+//! What is kept of two lists of values at once.
+
+ghost use Rattle.std.specs.Prelude.{◌≡◌, ◌+◌, ◌*◌, ◌<◌, ◌≤◌, ◌^◌, ℤ, List, ◌++◌, ◌&&◌, ◌||◌};
+ghost use Rattle.wcps_mean.specs.Cells.{differ};
+ghost use Rattle.wcps_mean.specs.Condensers.{larger, smaller};
+ghost use Rattle.wcps_mean.specs.Magnitudes.{cap};
+ghost use Rattle.wcps_mean.specs.Products.{StandsFor};
+ghost use Rattle.wcps_mean.specs.Feeding.{Keeps};
+ghost use Rattle.tile_kernel.specs.Joins.{better, best_both};
+
+use wcps_mean::{Aggregate, PointFault, Product, Running};
+
+/// What two condensers of one kind keep together, and the fault that stands for both.
+pub(crate) fn joined(a: &Running, b: &Running, fault: Option<PointFault>) -> Running
+    requires op { a.now.op ≡ b.now.op }
+    requires room { a.now.count + b.now.count ≤ 2 ^ 24 }
+    ensures kept { (zs ws : List ℤ) → Keeps a.now.op a.now zs → Keeps a.now.op b.now ws → Keeps a.now.op result (zs ++ ws) }
+    ensures op { result.op ≡ a.now.op }
+    ensures count { result.count ≡ a.now.count + b.now.count }
+    ensures fault { result.fault ≡ fault }
+{
+    Running {
+        op: a.op,
+        count: a.count + b.count,
+        trues: a.trues + b.trues,
+        fault,
+        sum: a.sum + b.sum,
+        product: product_of(a.product, b.product),
+        best: best_of(a.op, a.best, b.best),
+        all: both(a.all, b.all),
+        some: either(a.some, b.some),
+    }
+}
+
+/// The product of two products.
+fn product_of(a: Product, b: Product) -> Product
+    ensures { (zs ws : List ℤ) → StandsFor a zs → StandsFor b ws → StandsFor result (zs ++ ws) }
+{
+    Product {
+        has_zero: either(a.has_zero, b.has_zero),
+        negative: are_unlike(a.negative, b.negative),
+        magnitude: capped(a.magnitude, b.magnitude),
+    }
+}
+
+/// The magnitude that stands for all above 2^63.
+const BEYOND: u64 = 9_223_372_036_854_775_809;
+
+/// The product of two magnitudes, where anything above 2^63 counts as 2^63 + 1.
+fn capped(m: u64, n: u64) -> u64
+    requires left { 0 < m }
+    requires right { 0 < n }
+    ensures value { result ≡ cap (m * n) }
+    ensures positive { 0 < result }
+    ensures capped { result ≤ 2 ^ 63 + 1 }
+{
+    m.saturating_mul(n).min(BEYOND)
+}
+
+/// The better of two values, where there are such.
+fn best_of(op: Aggregate, a: Option<i64>, b: Option<i64>) -> Option<i64>
+    ensures { result ≡ best_both op a b }
+{
+    match a {
+        None => b,
+        Some(x) => match b {
+            None => Some(x),
+            Some(y) => Some(better(op, x, y)),
+        },
+    }
+}
+
+/// The larger one for a greatest, else the smaller one.
+fn better(op: Aggregate, x: i64, y: i64) -> i64
+    ensures { result ≡ better op x y }
+{
+    match op {
+        Aggregate::Greatest => larger(x, y),
+        _ => smaller(x, y),
+    }
+}
+
+/// The larger of two values.
+pub(crate) fn larger(x: i64, y: i64) -> i64
+    ensures { result ≡ larger x y }
+{
+    if x <= y { y } else { x }
+}
+
+/// The smaller of two values.
+pub(crate) fn smaller(x: i64, y: i64) -> i64
+    ensures { result ≡ smaller x y }
+{
+    if x <= y { x } else { y }
+}
+
+/// Whether both are true.
+fn both(a: bool, b: bool) -> bool
+    ensures { result ≡ (a && b) }
+{
+    if a { b } else { false }
+}
+
+/// Whether one is true.
+fn either(a: bool, b: bool) -> bool
+    ensures { result ≡ (a || b) }
+{
+    if a { true } else { b }
+}
+
+/// Whether two truth values differ.
+fn are_unlike(a: bool, b: bool) -> bool
+    ensures { result ≡ differ a b }
+{
+    if a { !b } else { b }
+}

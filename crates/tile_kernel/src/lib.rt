@@ -1,0 +1,22 @@
+//! Columns of a tile's outcomes: a cell operation over a whole column at a time, and condensers that take in columns in
+//! any order.
+#![tactic(auto)]
+
+mod accumulator;
+mod column;
+mod folds;
+mod form;
+mod joined;
+mod loops;
+mod operand;
+mod operate;
+mod operate_one;
+mod operations;
+mod reduce;
+mod trial;
+
+pub use accumulator::Accumulator;
+pub use column::{Column, MAX_PLACES};
+pub use folds::{add_column, add_column_where, fold_column, fold_column_where};
+pub use operate::operate_columns;
+pub use operate_one::operate_column;

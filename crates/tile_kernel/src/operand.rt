@@ -1,0 +1,47 @@
+//! Operands of a kernel: a value at each place, or one at every place.
+
+ghost use Rattle.std.specs.Prelude.{◌≡◌, ℕ, ℤ, pos, ◌<◌, length, slice_index_or};
+
+/// The values that a kernel reads.
+pub(crate) trait Operand {
+    ghost value: { Self → ℕ → ℤ };
+
+    ghost places: { Self → ℕ };
+
+    /// The value at a place.
+    fn value(&self, place: usize) -> i64
+        requires { place < places self.now }
+        ensures { result ≡ value self.now place };
+}
+
+/// A value at each place.
+#[derive(Clone, Copy, Drop)]
+pub(crate) struct Each<'a> {
+    pub values: &'a [i64],
+}
+
+impl Operand for Each<'_> {
+    ghost value = { λ s k. slice_index_or s.values.now k (pos 0) };
+
+    ghost places = { λ s. length s.values.now };
+
+    fn value(&self, place: usize) -> i64 {
+        self.values[place]
+    }
+}
+
+/// The same value at every place.
+#[derive(Clone, Copy, Drop)]
+pub(crate) struct Same {
+    pub value: i64,
+}
+
+impl Operand for Same {
+    ghost value = { λ s k. s.value };
+
+    ghost places = { λ s. 4096 };
+
+    fn value(&self, _: usize) -> i64 {
+        self.value
+    }
+}

@@ -1,0 +1,145 @@
+//! A cell operation over columns.
+
+ghost use Rattle.std.specs.Prelude.{◌≡◌, ℕ, ℤ, pos, ◌<◌, ◌≤◌, length, map, slice_index_or, IsTrue, None};
+ghost use Rattle.wcps_mean.specs.declared.cell.Outcome.TheVariants.{Value};
+ghost use Rattle.wcps_mean.specs.Cells.{exact2, operate2};
+ghost use Rattle.tile_kernel.specs.Columns.{outcome_of, outcome_at, operate_all};
+
+use crate::column::{Column, parts};
+use crate::form::Form;
+use crate::loops::try_places;
+use crate::operand::{Each, Operand, Same};
+use crate::operations::{
+    BitSet, Both, Difference, Either, IsAtLeast, IsAtMost, IsEqual, IsGreater, IsLess, IsOther,
+    OneOnly, Product, Quotient, Sum,
+};
+use wcps_mean::{Outcome, PointFault, operate_both};
+use wcps_types::Operation2;
+
+/// Makes `out` the operation at each place: the left operand's fault, else the right one's, else the exact result,
+/// tested. It takes no memory. Operands without faults are tried in one loop; only where some result there is no value
+/// is each place taken by itself.
+pub fn operate_columns(op: Operation2, left: &Column, right: &Column, out: &mut Column)
+    requires { length left.now ≡ length right.now }
+    ensures { out.new ≡ operate_all op left.now right.now }
+{
+    out.len = left.len;
+    if let Form::Same(l) = left.form {
+        if let Form::Same(r) = right.form {
+            out.form = Form::Same(operate_both(op, l, r));
+            return;
+        }
+    }
+    if try_columns(op, left, right, &mut out.values) {
+        out.form = Form::Values;
+        return;
+    }
+    operate_each(op, left, right, &mut out.values, &mut out.faults);
+    out.form = Form::Mixed;
+}
+
+/// Tries an operation where no operand has a fault; tells whether each result is its outcome.
+fn try_columns(op: Operation2, left: &Column, right: &Column, out: &mut Vec<i64>) -> bool
+    requires same { length left.now ≡ length right.now }
+    requires room { length out.old.items ≡ 4096 }
+    ensures value { IsTrue result → (k : ℕ) → k < length left.now → operate2 op (outcome_at left.now k) (outcome_at right.now k) ≡ Value (slice_index_or out.new.items k (pos 0)) }
+    ensures room { length out.new.items ≡ 4096 }
+{
+    let cells = out.as_mut_slice();
+    match left.form {
+        Form::Values => {
+            let each = Each {
+                values: left.values.as_slice(),
+            };
+            return try_right(op, left.len, &each, right, cells);
+        }
+        Form::Same(o) => match o {
+            Outcome::Value(value) => return try_right(op, left.len, &Same { value }, right, cells),
+            Outcome::Fault(_) => return false,
+        },
+        Form::Mixed => return false,
+    }
+}
+
+/// Tries an operation whose right operand is a column.
+fn try_right<L: Operand>(
+    op: Operation2,
+    len: usize,
+    left: &L,
+    right: &Column,
+    out: &mut [i64],
+) -> bool
+    requires left { len ≤ L.places left.now }
+    requires right { len ≡ length right.now }
+    requires out { length out.old ≡ 4096 }
+    ensures { IsTrue result → (k : ℕ) → k < len → operate2 op (Value (L.value left.now k)) (outcome_at right.now k) ≡ Value (slice_index_or out.new k (pos 0)) }
+{
+    match right.form {
+        Form::Values => {
+            let each = Each {
+                values: right.values.as_slice(),
+            };
+            return try_operation(op, len, left, &each, out);
+        }
+        Form::Same(o) => match o {
+            Outcome::Value(value) => return try_operation(op, len, left, &Same { value }, out),
+            Outcome::Fault(_) => return false,
+        },
+        Form::Mixed => return false,
+    }
+}
+
+/// Tries an operation at the first `len` places; tells whether each result is its value.
+fn try_operation<L: Operand, R: Operand>(
+    op: Operation2,
+    len: usize,
+    left: &L,
+    right: &R,
+    out: &mut [i64],
+) -> bool
+    requires left { len ≤ L.places left.now }
+    requires right { len ≤ R.places right.now }
+    requires out { len ≤ length out.old }
+    ensures { IsTrue result → (k : ℕ) → k < len → exact2 op (L.value left.now k) (R.value right.now k) ≡ Value (slice_index_or out.new k (pos 0)) }
+{
+    match op {
+        Operation2::Multiply => try_places::<Product, L, R>(len, left, right, out),
+        Operation2::Divide => try_places::<Quotient, L, R>(len, left, right, out),
+        Operation2::Add => try_places::<Sum, L, R>(len, left, right, out),
+        Operation2::Subtract => try_places::<Difference, L, R>(len, left, right, out),
+        Operation2::Less => try_places::<IsLess, L, R>(len, left, right, out),
+        Operation2::LessEqual => try_places::<IsAtMost, L, R>(len, left, right, out),
+        Operation2::Greater => try_places::<IsGreater, L, R>(len, left, right, out),
+        Operation2::GreaterEqual => try_places::<IsAtLeast, L, R>(len, left, right, out),
+        Operation2::Equal => try_places::<IsEqual, L, R>(len, left, right, out),
+        Operation2::NotEqual => try_places::<IsOther, L, R>(len, left, right, out),
+        Operation2::And => try_places::<Both, L, R>(len, left, right, out),
+        Operation2::Or => try_places::<Either, L, R>(len, left, right, out),
+        Operation2::Xor => try_places::<OneOnly, L, R>(len, left, right, out),
+        Operation2::Bit => try_places::<BitSet, L, R>(len, left, right, out),
+    }
+}
+
+/// The operation place by place.
+fn operate_each(
+    op: Operation2,
+    left: &Column,
+    right: &Column,
+    values: &mut Vec<i64>,
+    faults: &mut Vec<Option<PointFault>>,
+)
+    requires same { length left.now ≡ length right.now }
+    requires values { length values.old.items ≡ 4096 }
+    requires faults { length faults.old.items ≡ 4096 }
+    ensures values { length values.new.items ≡ 4096 }
+    ensures faults { length faults.new.items ≡ 4096 }
+    ensures outcomes { (k : ℕ) → k < length left.now → outcome_of (slice_index_or values.new.items k (pos 0)) (slice_index_or faults.new.items k None) ≡ operate2 op (outcome_at left.now k) (outcome_at right.now k) }
+{
+    let numbers = values.as_mut_slice();
+    let marks = faults.as_mut_slice();
+    for place in 0..left.len() {
+        let (value, fault) = parts(operate_both(op, left.at(place), right.at(place)));
+        numbers[place] = value;
+        marks[place] = fault;
+    }
+}

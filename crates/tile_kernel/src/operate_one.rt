@@ -1,0 +1,88 @@
+//! A cell operation over one column.
+
+ghost use Rattle.std.specs.Prelude.{◌≡◌, ℕ, pos, ◌<◌, ◌≤◌, length, map, slice_index_or, IsTrue, None};
+ghost use Rattle.wcps_mean.specs.declared.cell.Outcome.TheVariants.{Value};
+ghost use Rattle.wcps_mean.specs.Cells.{exact1, operate1};
+ghost use Rattle.tile_kernel.specs.Columns.{outcome_of, outcome_at};
+
+use crate::column::{Column, parts};
+use crate::form::Form;
+use crate::loops::try_places;
+use crate::operand::{Each, Same};
+use crate::operations::{Itself, Magnitude, Negative, Opposite};
+use wcps_mean::{PointFault, operate};
+use wcps_types::Operation1;
+
+/// Makes `out` the operation at each place: the operand's fault, else the exact result, tested. It takes no memory.
+pub fn operate_column(op: Operation1, operand: &Column, out: &mut Column)
+    ensures { out.new ≡ map (operate1 op) operand.now }
+{
+    out.len = operand.len;
+    if let Form::Same(o) = operand.form {
+        out.form = Form::Same(operate(op, o));
+        return;
+    }
+    if try_column(op, operand, &mut out.values) {
+        out.form = Form::Values;
+        return;
+    }
+    operate_each_one(op, operand, &mut out.values, &mut out.faults);
+    out.form = Form::Mixed;
+}
+
+/// Tries an operation where the operand has no fault; tells whether each result is its outcome.
+fn try_column(op: Operation1, operand: &Column, out: &mut Vec<i64>) -> bool
+    requires { length out.old.items ≡ 4096 }
+    ensures value { IsTrue result → (k : ℕ) → k < length operand.now → operate1 op (outcome_at operand.now k) ≡ Value (slice_index_or out.new.items k (pos 0)) }
+    ensures room { length out.new.items ≡ 4096 }
+{
+    let cells = out.as_mut_slice();
+    match operand.form {
+        Form::Values => {
+            let each = Each {
+                values: operand.values.as_slice(),
+            };
+            return try_one(op, operand.len, &each, cells);
+        }
+        Form::Same(_) => return false,
+        Form::Mixed => return false,
+    }
+}
+
+/// Tries an operation at the first `len` places; tells whether each result is its value.
+fn try_one(op: Operation1, len: usize, operand: &Each<'_>, out: &mut [i64]) -> bool
+    requires operand { len ≤ length operand.now.values.now }
+    requires few { len ≤ 4096 }
+    requires out { len ≤ length out.old }
+    ensures { IsTrue result → (k : ℕ) → k < len → exact1 op (slice_index_or operand.now.values.now k (pos 0)) ≡ Value (slice_index_or out.new k (pos 0)) }
+{
+    let none = Same { value: 0 };
+    match op {
+        Operation1::Negate => try_places::<Negative, Each<'_>, Same>(len, operand, &none, out),
+        Operation1::Plus => try_places::<Itself, Each<'_>, Same>(len, operand, &none, out),
+        Operation1::Not => try_places::<Opposite, Each<'_>, Same>(len, operand, &none, out),
+        Operation1::Absolute => try_places::<Magnitude, Each<'_>, Same>(len, operand, &none, out),
+    }
+}
+
+/// The operation place by place.
+fn operate_each_one(
+    op: Operation1,
+    operand: &Column,
+    values: &mut Vec<i64>,
+    faults: &mut Vec<Option<PointFault>>,
+)
+    requires values { length values.old.items ≡ 4096 }
+    requires faults { length faults.old.items ≡ 4096 }
+    ensures values { length values.new.items ≡ 4096 }
+    ensures faults { length faults.new.items ≡ 4096 }
+    ensures outcomes { (k : ℕ) → k < length operand.now → outcome_of (slice_index_or values.new.items k (pos 0)) (slice_index_or faults.new.items k None) ≡ operate1 op (outcome_at operand.now k) }
+{
+    let numbers = values.as_mut_slice();
+    let marks = faults.as_mut_slice();
+    for place in 0..operand.len() {
+        let (value, fault) = parts(operate(op, operand.at(place)));
+        numbers[place] = value;
+        marks[place] = fault;
+    }
+}
