@@ -1,41 +1,52 @@
-//! Whole connections: streams that are cut, long or no messages, heads at their limits, and a writer that fails.
+//! Readers and writers that give and take their bytes in pieces, and may fail.
 ghost use Rattle.std.specs.Prelude.{◌<◌};
 
-use crate::exchanges::{INSERT, empty_server, exchange, message, served};
 use coverage_server::{ConnEnd, Server};
+use disk_face::FailDisk;
 use std::alloc::{AllocError, Global};
 use std::io;
 use std::io::{ErrorKind, Read, Write};
-use std::process::Abort;
-use std::test::Fail;
 
-/// Gives one byte a read.
+/// Gives bytes, the first read of at most `first`, each later one of at most `step`. Behind them it ends or fails.
 #[derive(Drop)]
-struct OneByte<'a> {
-    bytes: &'a [u8],
+pub struct Source<'a> {
+    pub bytes: &'a [u8],
+    pub first: usize,
+    pub step: usize,
+    pub fails: bool,
 }
 
-impl Read for OneByte<'_> {
+impl Read for Source<'_> {
     ghost use Rattle.std.specs.Prelude.{Some};
 
     ghost remaining = { λ r. Some r.bytes.now };
 
     fn read(&mut self, buf: &mut [u8]) -> io::Result<usize> {
-        let count = self.bytes.len().min(1).min(buf.len());
+        if self.bytes.is_empty() && self.fails {
+            return Err(ErrorKind::Other.into());
+        }
+        let most = if self.first == 0 {
+            self.step
+        } else {
+            self.first
+        };
+        let count = self.bytes.len().min(most.max(1)).min(buf.len());
         buf[..count].copy_from_slice(&self.bytes[..count]);
         self.bytes = &self.bytes[count..];
+        self.first = self.first.saturating_sub(count);
         Ok(count)
     }
 }
 
-/// Takes so many bytes, and then fails.
+/// Takes bytes, at most `step` a write and `room` in all, and then fails.
 #[derive(Drop)]
-struct Narrow {
-    text: Vec<u8>,
-    room: usize,
+pub struct Sink {
+    pub text: Vec<u8>,
+    pub step: usize,
+    pub room: usize,
 }
 
-impl Write for Narrow {
+impl Write for Sink {
     ghost use Rattle.std.specs.Prelude.{Some};
 
     ghost contents = { λ w. Some w.text.items };
@@ -44,7 +55,7 @@ impl Write for Narrow {
         if self.room == 0 {
             return Err(ErrorKind::Other.into());
         }
-        let count = buf.len().min(self.room);
+        let count = buf.len().min(self.room).min(self.step.max(1));
         self.text.extend_from_slice(&buf[..count])?;
         self.room -= count;
         Ok(count)
@@ -55,158 +66,100 @@ impl Write for Narrow {
     }
 }
 
-/// A refusal with which the connection ends.
-const BAD_HEAD: &str =
-    "HTTP/1.1 400 Bad Request\r\nContent-Type: text/plain\r\nContent-Length: 18\r\nConnection: close\r\n\r\nrefused 1 BadHead\n";
-
-const LIST: &str = "GET /ows?request=ListCoverages HTTP/1.1\r\nHost: h\r\n\r\n";
-
-const EMPTY: &str = "HTTP/1.1 200 OK\r\nContent-Type: text/plain\r\nContent-Length: 0\r\n\r\n";
-
-const LAST_EMPTY: &str =
-    "HTTP/1.1 200 OK\r\nContent-Type: text/plain\r\nContent-Length: 0\r\nConnection: close\r\n\r\n";
-
-/// Streams, and what is written for each by a server without coverages.
-#[test]
-fn streams(rt: HostRuntime) -> Result<(), Fail> {
-    let alloc = rt.alloc();
-    let not_served =
-        "HTTP/1.1 501 Not Implemented\r\nContent-Type: text/plain\r\nContent-Length: 20\r\nConnection: close\r\n\r\n";
-    let rows = [
-        ("", "", ""),
-        (
-            "GET /ows?request=ListCoverages HTTP/1.1\r\n\r\nGET /ows?request=ListCoverages HTTP/1.1\r\n\r\n",
-            EMPTY,
-            EMPTY,
-        ),
-        (
-            "GET /ows?request=ListCoverages HTTP/1.1\r\n\r\nGET /ows?requ",
-            EMPTY,
-            BAD_HEAD,
-        ),
-        ("nothing\r\n\r\n", BAD_HEAD, ""),
-        (
-            "GET /ows?request=ListCoverages HTTP/1.0\r\n\r\nGET",
-            LAST_EMPTY,
-            "",
-        ),
-        (
-            "GET /ows?request=ListCoverages HTTP/1.1\r\nConnection: x, \tCLOSE \r\n\r\nGET",
-            LAST_EMPTY,
-            "",
-        ),
-        ("HEAD /ows HTTP/1.1\r\n\r\n", not_served, ""),
-        (
-            "PUT /ows HTTP/1.1\r\n\r\nGET",
-            not_served,
-            "refused 4 NotServed\n",
-        ),
-        (
-            "GET /x HTTP/1.1\r\nContent-Length: 0\r\n\r\n",
-            not_served,
-            "refused 4 NotServed\n",
-        ),
-        (
-            "GET /ows HTTP/1.1\r\nTransfer-Encoding: chunked\r\n\r\n",
-            not_served,
-            "refused 4 NotServed\n",
-        ),
-        (
-            "GET /x HTTP/1.0\r\n\r\n",
-            "HTTP/1.1 404 Not Found\r\nContent-Type: text/plain\r\nContent-Length: 21\r\nConnection: close\r\n\r\n",
-            "refused 3 NoSuchPath\n",
-        ),
-    ];
-    for (stream, first, second) in rows {
-        let mut server = empty_server(&rt, alloc);
-        let output = served(&rt, alloc, &mut server, stream.as_bytes());
-        let expected = format!(in alloc; "{first}{second}")?;
-        assert_eq!(rt; output.as_slice(), expected.as_bytes(), "{stream}");
-        let mut input = OneByte {
-            bytes: stream.as_bytes(),
-        };
-        let mut output = Vec::new(alloc);
-        let end = server.serve_connection(&mut input, &mut output);
-        assert_eq!(rt; end, ConnEnd::Finished);
-        assert_eq!(rt;
-            output.as_slice(),
-            expected.as_bytes(),
-            "by one byte: {stream}"
-        );
-    }
-    Ok(())
-}
-
-/// A head with so many bytes and so many fields.
-fn long_head(alloc: Global, length: usize, fields: usize) -> Result<String, AllocError> {
-    let mut head = String::from_str(alloc, "GET /ows?request=ListCoverages&unused=")?;
-    let tail = fields.saturating_mul(4).saturating_add(13);
-    let filling = length.saturating_sub(tail).saturating_sub(head.len());
-    for _ in 0..filling {
-        head.push_str("a")?;
-    }
-    head.push_str(" HTTP/1.1\r\n")?;
-    for _ in 0..fields {
-        head.push_str("a:\r\n")?;
-    }
-    head.push_str("\r\n")?;
-    Ok(head)
-}
-
-#[test]
-fn limits_of_heads(rt: HostRuntime) -> Result<(), Fail> {
-    let alloc = rt.alloc();
-    for (length, fields, expected) in [
-        (16384, 2, EMPTY),
-        (16385, 2, BAD_HEAD),
-        (1000, 64, EMPTY),
-        (1000, 65, BAD_HEAD),
-    ] {
-        let mut server = empty_server(&rt, alloc);
-        let head = long_head(alloc, length, fields)?;
-        assert_eq!(rt; head.len(), length);
-        let output = served(&rt, alloc, &mut server, head.as_bytes());
-        assert_eq!(rt; output.as_slice(), expected.as_bytes(), "{length} {fields}");
-    }
-    Ok(())
-}
-
-#[test]
-fn a_thousand_messages(rt: HostRuntime) -> Result<(), Fail> {
-    let alloc = rt.alloc();
-    let mut stream = String::new(alloc);
-    let mut expected = String::new(alloc);
-    for _ in 0..1001 {
-        stream.push_str(LIST)?;
-    }
-    for _ in 0..999 {
-        expected.push_str(EMPTY)?;
-    }
-    expected.push_str(LAST_EMPTY)?;
-    let mut server = empty_server(&rt, alloc);
-    let output = served(&rt, alloc, &mut server, stream.as_bytes());
-    assert_eq!(rt; output.as_slice(), expected.as_bytes());
-    Ok(())
-}
-
-#[test]
-fn a_failing_writer(rt: HostRuntime) -> Result<(), Fail> {
-    let alloc = rt.alloc();
-    let mut server = empty_server(&rt, alloc);
-    let stream = message(alloc, INSERT)?;
-    let mut input = stream.as_bytes();
-    let mut output = Narrow {
+/// What is written for a connection, and behind it how it ended where that is by a fault.
+pub fn served(
+    alloc: Global,
+    server: &mut Server<FailDisk>,
+    source: &mut Source<'_>,
+    step: usize,
+    room: usize,
+) -> Result<Vec<u8>, AllocError> {
+    let mut sink = Sink {
         text: Vec::new(alloc),
-        room: 5,
+        step,
+        room,
     };
-    let end = server.serve_connection(&mut input, &mut output);
-    assert_eq!(rt; end, ConnEnd::WriteFault);
-    assert_eq!(rt; output.text.as_slice(), b"HTTP/".as_slice());
-    exchange(
-        &rt,
-        alloc,
-        &mut server,
-        "> request=ListCoverages\n200 OK, plain\nlai\n",
-    )?;
-    Ok(())
+    let end = server.serve_connection(source, &mut sink);
+    let Sink {
+        mut text,
+        step: _,
+        room: _,
+    } = sink;
+    let fault = match end {
+        ConnEnd::Finished => "",
+        ConnEnd::ReadFault => " ReadFault",
+        ConnEnd::WriteFault => " WriteFault",
+    };
+    text.extend_from_slice(fault.as_bytes())?;
+    Ok(text)
+}
+
+/// What is written for a stream that comes in one piece.
+pub fn whole(
+    alloc: Global,
+    server: &mut Server<FailDisk>,
+    stream: &[u8],
+) -> Result<Vec<u8>, AllocError> {
+    let mut source = Source {
+        bytes: stream,
+        first: 0,
+        step: usize::MAX,
+        fails: false,
+    };
+    served(alloc, server, &mut source, usize::MAX, usize::MAX)
+}
+
+/// What is written for a stream whose reader fails behind it.
+pub fn broken(
+    alloc: Global,
+    server: &mut Server<FailDisk>,
+    stream: &[u8],
+) -> Result<Vec<u8>, AllocError> {
+    let mut source = Source {
+        bytes: stream,
+        first: 0,
+        step: usize::MAX,
+        fails: true,
+    };
+    served(alloc, server, &mut source, usize::MAX, usize::MAX)
+}
+
+/// What is written for a stream by a writer that takes so many bytes.
+pub fn narrow(
+    alloc: Global,
+    server: &mut Server<FailDisk>,
+    room: usize,
+    stream: &[u8],
+) -> Result<Vec<u8>, AllocError> {
+    let mut source = Source {
+        bytes: stream,
+        first: 0,
+        step: usize::MAX,
+        fails: false,
+    };
+    served(alloc, server, &mut source, usize::MAX, room)
+}
+
+/// What is written for a stream, where it is the same for that stream in one piece, in two that part at each byte, and
+/// byte by byte; else what first differs.
+pub fn pieces(
+    alloc: Global,
+    server: &mut Server<FailDisk>,
+    stream: &[u8],
+) -> Result<Vec<u8>, AllocError> {
+    let expected = whole(alloc, server, stream)?;
+    for first in 0..stream.len() {
+        let mut source = Source {
+            bytes: stream,
+            first,
+            step: if first == 0 { 1 } else { usize::MAX },
+            fails: false,
+        };
+        let step = if first == 0 { 1 } else { usize::MAX };
+        let output = served(alloc, server, &mut source, step, usize::MAX)?;
+        if output.as_slice() != expected.as_slice() {
+            return Ok(output);
+        }
+    }
+    Ok(expected)
 }

@@ -1,0 +1,111 @@
+#!/usr/bin/env python3
+"""Seconds and MiB for typing the worst queries that were found, each beside the length of its text and beside a plain
+chain of 65,536 bytes.
+
+usage: bench/typing.py [the program, else crates/query_bench/out/query_bench]
+
+The program cuts the text into tokens, reads them as a query and types it over its own coverages; the figures are those
+of the whole process, which the first row shows without any work. `rt lib` or `rt run` in its folder builds it.
+"""
+import os
+import subprocess
+import sys
+import time
+
+TOP = os.path.dirname(os.path.dirname(os.path.abspath(__file__)))
+PROGRAM = sys.argv[1] if len(sys.argv) > 1 else f"{TOP}/crates/query_bench/out/query_bench"
+LENGTH = 65536
+
+
+def letters(number):
+    """A short name of its own for each number; no keyword has a digit."""
+    return "abcdefghijklmnopqrstuvwxyz"[number % 26] + (str(number // 26) if number >= 26 else "0")
+
+
+def balanced(leaf, count):
+    """So many leaves, in a sum that is not high."""
+    if count == 1:
+        return leaf
+    if count <= 16:
+        return "+".join([leaf] * count)
+    half = count // 2
+    return f"({balanced(leaf, half)}+{balanced(leaf, count - half)})"
+
+
+def over(names, item):
+    return f"for c in ({','.join(names)}) return encode({item}, csv)"
+
+
+def parts(value, count):
+    return "{" + ";".join(f"{letters(n)}:{value}" for n in range(count)) + "}"
+
+
+def fitted(make):
+    """The longest text of that form that fits."""
+    few, many = 1, LENGTH
+    while few < many:
+        middle = (few + many + 1) // 2
+        if len(make(middle)) <= LENGTH:
+            few = middle
+        else:
+            many = middle - 1
+    return make(few)
+
+
+LAI = ["lai"] * 64
+UNLIKE = [f"u{n}" for n in range(64)]
+ROWS = [
+    ("nothing", ""),
+    ("700 parts at a position of 1,400 zeros, 64 times", over(LAI, parts("c", 700) + f"[x({balanced('0', 1400)})]")),
+    ("parts at a position, once", fitted(lambda n: over(["lai"], parts("c", n) + f"[x({balanced('0', n)})]"))),
+    ("parts at a position, 64 times", fitted(lambda n: over(LAI, parts("c", n) + f"[x({balanced('0', n)})]"))),
+    ("parts at a position, 64 unlike", fitted(lambda n: over(UNLIKE, parts("c", n) + f"[x({balanced('0', n)})]"))),
+    ("64 fields at a position, 64 times", fitted(lambda n: over(["wide"] * 64, f"c[x({balanced('0', n)})]"))),
+    ("a sum of zeros, 64 times", fitted(lambda n: over(LAI, balanced("0", n)))),
+    ("a sum of zeros, 64 unlike", fitted(lambda n: over(UNLIKE, balanced("0", n)))),
+    ("a sum of fields of 64, 64 times", fitted(lambda n: over(["wide"] * 64, balanced("c.f0", n)))),
+    (
+        "nested records, 64 times",
+        fitted(lambda n: over(LAI, "{a:" * 30 + f"{parts('c', n)}.a0" + "}.a" * 30)),
+    ),
+    (
+        "256 iterators, then a sum",
+        fitted(
+            lambda n: over(
+                ["lai"],
+                "".join(
+                    f"condense + over {','.join(f'$i{4 * k + j} {axis}(0:0)' for j, axis in enumerate('abcd'))} using "
+                    for k in range(60)
+                )
+                + balanced("$i239", n),
+            )
+        ),
+    ),
+    (
+        "many variables, then a sum",
+        fitted(lambda n: f"for {','.join(f'v{k} in (lai)' for k in range(n))} return {balanced('1', n)}"),
+    ),
+    ("a chain of 1, 64 KiB", fitted(lambda n: "for c in (lai) return 1" + "+1" * n)),
+    ("a chain of brackets, 64 KiB", fitted(lambda n: "for c in (lai) return encode(c" + "[x(0:9)]" * n + ",csv)")),
+    ("a value list, 64 KiB", fitted(lambda n: "for c in (lai) return add(coverage m over $i x(1:" + str(n) + ") value list <1" + ";1" * (n - 1) + ">)")),
+]
+
+
+def measured(text):
+    begun = time.monotonic()
+    ran = subprocess.Popen([PROGRAM, "1", "typed"], stdin=subprocess.PIPE, stdout=subprocess.PIPE)
+    ran.stdin.write(text.encode())
+    ran.stdin.close()
+    found = ran.stdout.read().decode().strip()
+    _, _, used = os.wait4(ran.pid, 0)
+    return time.monotonic() - begun, used.ru_maxrss / 1024, found
+
+
+def main():
+    print(f"{'query':50} {'found':22} {'bytes':>7} {'seconds':>9} {'MiB':>8}")
+    for name, text in ROWS:
+        taken, memory, found = measured(text)
+        print(f"{name:50} {found:22} {len(text):7} {taken:9.3f} {memory:8.1f}")
+
+
+main()
