@@ -3,14 +3,16 @@
 
   .ci/edits.py               names the crates whose edits are not recorded as refused on the text that stands here
   .ci/edits.py try [NAME..]  tries those, or the named ones, and records each crate whose edits were all refused
-  .ci/edits.py gate          the gate in CI's clone: `rt ci` with the edits set aside, then, over the libraries that it
-                             built, the edits that are not recorded and those of about one crate in eight besides
+  .ci/edits.py gate          the gate, on a copy of this tree: `rt ci` without the edits, then, over the libraries that it
+                             built, the edits. In CI's clone those alone that are not recorded, and those of about one
+                             crate in eight besides
 
 What an edit comes to follows from the toolchain, the crate's text and that of the crates below it. The record,
 .ci/edits.txt, has the sum of all these for each crate, as it was when its edits were last all refused. A changed byte
 changes the sum, and the edits are tried again. Which other crates are tried besides, the commit decides.
 """
 
+import contextlib
 import hashlib
 import os
 import re
@@ -80,7 +82,7 @@ def record(now, names):
 
 
 def tried(names, builds):
-    """Tries the edits of these crates and says what came of each. Returns the crates whose edits were all refused, and how many edits were and were not."""
+    """Tries the edits of these crates and says what came of each. Returns the crates whose edits were all refused, how many edits were, and what is told of the others."""
     import grouped
 
     crates = [it for it in grouped.rt.rtlib.crates_below(os.getcwd()) if it.name in names]
@@ -93,48 +95,70 @@ def tried(names, builds):
     told = grouped.side_by_side(crates, lambda each: print("".join(f"{text}\n" for _, text in each), end="", flush=True))
     outcomes = [it for each in told.values() for it in each]
     refused = [name for name, each in told.items() if all(is_refused for is_refused, _ in each)]
-    well = sum(is_refused for is_refused, _ in outcomes)
-    return refused, well, len(outcomes) - well
+    return refused, sum(is_refused for is_refused, _ in outcomes), [text for is_refused, text in outcomes if not is_refused]
 
 
-def closed(passed, failed):
-    """Prints the closing line, and returns the status."""
-    print(f"{passed} passed, {failed} failed", flush=True)
-    return 1 if failed else 0
+def closed(passed, faults):
+    """Prints what failed once more, and the closing line. Returns the status."""
+    print("".join(f"{it}\n" for it in faults), end="")
+    print(f"{passed} passed, {len(faults)} failed", flush=True)
+    return 1 if faults else 0
+
+
+def minutes():
+    """The processor minutes of all that has run so far."""
+    spent = os.times()
+    return f"{(spent.children_user + spent.children_system) / 60:.0f} processor minutes"
+
+
+@contextlib.contextmanager
+def copied():
+    """Goes into a copy of this tree, of what git keeps or would keep, with an empty folder beside it."""
+    home, files = os.getcwd(), said_by("git", "ls-files", "-z", "--cached", "--others", "--exclude-standard").split("\0")
+    with tempfile.TemporaryDirectory(prefix="gate-") as room:
+        os.makedirs(f"{room}/aside")
+        # a program runs as nobody, who has to find it
+        os.chmod(room, 0o755)
+        for it in files:
+            if os.path.isfile(it):
+                os.makedirs(os.path.dirname(f"{room}/tree/{it}"), exist_ok=True)
+                shutil.copy(it, f"{room}/tree/{it}")
+        os.chdir(f"{room}/tree")
+        try:
+            yield
+        finally:
+            os.chdir(home)
 
 
 def without_edits(names):
     """Runs `rt ci` with the edits of these crates set aside. Returns its status and its last line."""
-    with tempfile.TemporaryDirectory(prefix="edits-aside-") as aside:
-        try:
-            for name in names:
-                shutil.move(f"crates/{name}/must-fail", f"{aside}/{name}")
-            last = ""
-            with subprocess.Popen(["rt", "ci"], stdin=subprocess.DEVNULL, stdout=subprocess.PIPE, text=True, errors="replace") as ran:
-                for last in ran.stdout:
-                    print(last, end="", flush=True)
-        finally:
-            for name in os.listdir(aside):
-                shutil.move(f"{aside}/{name}", f"crates/{name}/must-fail")
+    for name in names:
+        shutil.move(f"crates/{name}/must-fail", f"../aside/{name}")
+    last = ""
+    with subprocess.Popen(["rt", "ci"], stdin=subprocess.DEVNULL, stdout=subprocess.PIPE, text=True, errors="replace") as ran:
+        for last in ran.stdout:
+            print(last, end="", flush=True)
+    for name in names:
+        shutil.move(f"../aside/{name}", f"crates/{name}/must-fail")
     return ran.returncode, last
 
 
 def gate():
-    """The gate as CI runs it. What earlier runs left in the clone is not read."""
-    import grouped_test
-
     now, then, commit = sums(), recorded(), said_by("git", "rev-parse", "HEAD").strip()
-    chosen = {it for it in now if int(sum_of(commit, it), 16) % 8 == 0}
-    for name in dependencies():
-        shutil.rmtree(f"crates/{name}/out", ignore_errors=True)
-    status, last = without_edits(now)
-    proved = re.fullmatch(r"(\d+) passed, 0 failed\n", last)
-    if status or not proved:
-        return status or 1
-    faults = grouped_test.faults()
-    print("".join(f"the trier of edits: {it}\n" for it in faults) or "the trier of edits and its control: ok", flush=True)
-    _, passed, failed = tried([it for it in now if then.get(it) != now[it] or it in chosen], builds=False)
-    return closed(int(proved[1]) + passed, failed + len(faults))
+    is_left_out = lambda it: os.environ.get("CI") == "true" and then.get(it) == now[it] and int(sum_of(commit, it), 16) % 8
+    with copied():
+        import grouped_test
+
+        status, last = without_edits(now)
+        proved = re.fullmatch(r"(\d+) passed, 0 failed\n", last)
+        print(f"without edits: {minutes()}", flush=True)
+        if status or not proved:
+            return status or 1
+        faults = [f"the trier of edits: {it}" for it in grouped_test.faults()]
+        print(*faults or ["the trier of edits and its control: ok"], sep="\n", flush=True)
+        _, passed, failed = tried([it for it in now if not is_left_out(it)], builds=False)
+        print(f"with these edits: {minutes()}", flush=True)
+        return closed(int(proved[1]) + passed, faults + failed)
 
 
 def main(verb="", *named):
