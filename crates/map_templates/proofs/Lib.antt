@@ -7,3 +7,10 @@ pub mod Values
 pub mod Laws
 pub mod Same
 pub mod Planes
+pub mod Marks
+pub mod Names
+pub mod Written
+pub mod Spelled
+pub mod Limits
+pub mod Found
+pub mod Read

@@ -7,3 +7,4 @@ pub mod Tomlin
 pub mod Meaning
 pub mod TypedTrees
 pub mod Laws
+pub mod Queries

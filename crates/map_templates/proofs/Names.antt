@@ -1,0 +1,154 @@
+-- Names are read as names.
+use Rattle.std.proofs.Common.{◌≡◌, ℕ, ◌≤◌, ◌<◌, Bool, true, false, not, ◌&&◌, nat_le, List, [], ◌∷◌, ◌++◌, length, get_or, codes, decimal, ◌+◌, Ok, refl, sym, subst, arith}
+use Rattle.std.proofs.lemmas.Bool.Decides.{nat_tests}
+use Rattle.std.proofs.lemmas.Fmt.{decimal_by_steps}
+use Rattle.std.proofs.lemmas.List.Folds.{list_any_at}
+use Rattle.std.proofs.lemmas.Slice.Eq.{bytes_eq-Decides}
+use Rattle.std.specs.Char.{is_ascii_digit}
+use Rattle.std.specs.List.{list_all}
+use Rattle.std.specs.Str.{str_eq_ignore_ascii_case}
+use Rattle.arr_core.specs.Names as names
+use Rattle.arr_core.specs.Names.{keywords, is_keyword, goes_on_name, is_spelled}
+use Rattle.wcps_text.specs.declared.token.Keyword.{Keyword}
+use Rattle.wcps_text.specs.declared.token.Keyword.TheVariants as words
+use Rattle.wcps_text.specs.Token.{name, dollar}
+use Rattle.wcps_text.specs.Lexing.{continues_name, Every, keyword_text, IsWritten, IsName, is_name, Reads, plain, marked}
+use Rattle.wcps_text.proofs.Fronts.{true_false}
+use Rattle.wcps_text.proofs.Words.{place, place_bound}
+
+keyword_at : (k : Keyword) → get_or keywords (place k) [] ≡ keyword_text k
+keyword_at words.For = refl
+keyword_at words.In = refl
+keyword_at words.Where = refl
+keyword_at words.Return = refl
+keyword_at words.Encode = refl
+keyword_at words.Csv = refl
+keyword_at words.Coverage = refl
+keyword_at words.Over = refl
+keyword_at words.Values = refl
+keyword_at words.Value = refl
+keyword_at words.List = refl
+keyword_at words.Condense = refl
+keyword_at words.Using = refl
+keyword_at words.And = refl
+keyword_at words.Or = refl
+keyword_at words.Xor = refl
+keyword_at words.Not = refl
+keyword_at words.Abs = refl
+keyword_at words.Bit = refl
+keyword_at words.True = refl
+keyword_at words.False = refl
+keyword_at words.Count = refl
+keyword_at words.Some = refl
+keyword_at words.All = refl
+keyword_at words.Add = refl
+keyword_at words.Avg = refl
+keyword_at words.Min = refl
+keyword_at words.Max = refl
+keyword_at words.ImageCrsDomain = refl
+
+written_keyword : (k : Keyword) (x : List ℕ) → IsWritten k x → is_keyword x ≡ true
+unfolding is_keyword
+written_keyword k x e =
+    list_any_at (str_eq_ignore_ascii_case x) keywords (place k) [] (place_bound k)
+    (subst (λ (w : List ℕ). str_eq_ignore_ascii_case x w ≡ true) (sym (keyword_at k)) ((bytes_eq-Decides _ _).1 e))
+
+goes_on : (b : ℕ) → goes_on_name b ≡ true → continues_name b ≡ true
+goes_on b h = grind (arith, nat_tests)
+
+digit_goes_on : (d : ℕ) → is_ascii_digit d ≡ true → continues_name d ≡ true
+digit_goes_on d h = grind (arith, nat_tests)
+
+both : (a b : Bool) → (a && b) ≡ true → (a ≡ true) × (b ≡ true)
+both true b h = (refl, h)
+both false b h = absurd (true_false h refl)
+
+all_go_on : (bs : List ℕ) → list_all goes_on_name bs ≡ true → Every continues_name bs
+all_go_on [] h = tt
+all_go_on (b ∷ bs) h = let e = both (goes_on_name b) (list_all goes_on_name bs) h in (goes_on b e.0, all_go_on bs e.1)
+
+spelled_name : (x : List ℕ) → is_spelled x ≡ true → IsName x
+spelled_name [] h = absurd (true_false h refl)
+spelled_name (b ∷ bs) h = let e = both (names.begins_name b) (list_all goes_on_name bs) h in is_name e.0 (all_go_on bs e.1)
+
+-- what a name is
+record Name (x : List ℕ) : Type 0 where
+  spelled : is_spelled x ≡ true
+  short : nat_le (length x) 64 ≡ true
+  free : not (is_keyword x) ≡ true
+
+name_parts : (x : List ℕ) → names.IsName x → Name x
+unfolding names.is_name
+name_parts x h =
+    let e = both (is_spelled x && nat_le (length x) 64) (not (is_keyword x)) h in
+    let f = both (is_spelled x) (nat_le (length x) 64) e.0 in
+    record { spelled = f.0; short = f.1; free = e.1 }
+
+at_most : (n : ℕ) → nat_le n 64 ≡ true → n ≤ 64
+at_most n h = grind (arith, nat_tests)
+
+not_true : (b : Bool) → not b ≡ true → b ≡ true → ⊥
+not_true true h e = true_false h refl
+not_true false h e = true_false e refl
+
+pub name_reads : (x : List ℕ) → names.IsName x → Reads x (Ok (name x))
+name_reads x h =
+    let n = name_parts x h in
+    plain (spelled_name x n.spelled) (at_most (length x) n.short) (λ k written. not_true (is_keyword x) n.free (written_keyword k x written))
+
+-- the names of variables in templates
+short_a : names.IsName (codes "a")
+unfolding names.is_name is_keyword
+short_a = refl
+
+pub a_reads : Reads (codes "a") (Ok (name (codes "a")))
+a_reads = name_reads (codes "a") short_a
+
+short_b : names.IsName (codes "b")
+unfolding names.is_name is_keyword
+short_b = refl
+
+pub b_reads : Reads (codes "b") (Ok (name (codes "b")))
+b_reads = name_reads (codes "b") short_b
+
+short_z : names.IsName (codes "z")
+unfolding names.is_name is_keyword
+short_z = refl
+
+pub z_reads : Reads (codes "z") (Ok (name (codes "z")))
+z_reads = name_reads (codes "z") short_z
+
+short_f : names.IsName (codes "f")
+unfolding names.is_name is_keyword
+short_f = refl
+
+pub f_reads : Reads (codes "f") (Ok (name (codes "f")))
+f_reads = name_reads (codes "f") short_f
+
+pub p_reads : Reads (codes "$p") (Ok (dollar (codes "$p")))
+p_reads = marked (is_name refl tt) (omega arith)
+
+pub q_reads : Reads (codes "$q") (Ok (dollar (codes "$q")))
+q_reads = marked (is_name refl tt) (omega arith)
+
+pub u_reads : Reads (codes "$u") (Ok (dollar (codes "$u")))
+u_reads = marked (is_name refl tt) (omega arith)
+
+pub v_reads : Reads (codes "$v") (Ok (dollar (codes "$v")))
+v_reads = marked (is_name refl tt) (omega arith)
+
+-- the digit of a number
+one_digit : (k : ℕ) → k < 10 → decimal k ≡ (48 + k) ∷ []
+one_digit k lt = decimal_by_steps (λ (n : ℕ) (ds : List ℕ). n < 10 → ds ≡ (48 + n) ∷ []) (λ n small _. refl) (λ n ds large _ small. absurd (omega arith)) k (omega arith) lt
+
+digit : (k : ℕ) → k < 10 → is_ascii_digit (48 + k) ≡ true
+digit k lt = grind (arith, nat_tests)
+
+-- the variables with a digit
+pub p_number : (k : ℕ) → k < 10 → Reads (codes "$p" ++ decimal k) (Ok (dollar (codes "$p" ++ decimal k)))
+p_number k lt =
+    subst (λ (ds : List ℕ). Reads (codes "$p" ++ ds) (Ok (dollar (codes "$p" ++ ds)))) (sym (one_digit k lt)) (marked (is_name refl (digit_goes_on (48 + k) (digit k lt), tt)) (omega arith))
+
+pub u_number : (k : ℕ) → k < 10 → Reads (codes "$u" ++ decimal k) (Ok (dollar (codes "$u" ++ decimal k)))
+u_number k lt =
+    subst (λ (ds : List ℕ). Reads (codes "$u" ++ ds) (Ok (dollar (codes "$u" ++ ds)))) (sym (one_digit k lt)) (marked (is_name refl (digit_goes_on (48 + k) (digit k lt), tt)) (omega arith))
