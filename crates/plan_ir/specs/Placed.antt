@@ -1,5 +1,5 @@
 -- Well-formed plans: each name has its place, and what a cell is read at lies in its coverage.
-use Rattle.std.specs.Prelude.{◌≡◌, ℕ, ◌+◌, ◌<◌, ◌≤◌, ◌≤ℤ◌, List, [], ◌∷◌, ◌++◌, map, length, Option, Some, None, slice_get, IsSomeAnd, All}
+use Rattle.std.specs.Prelude.{◌≡◌, ℕ, ◌+◌, ◌<◌, ◌≤ℤ◌, List, [], ◌∷◌, ◌++◌, map, length, Option, Some, None, slice_get, IsSomeAnd, All}
 use Rattle.arr_core.specs.declared.domain.Axis.{Axis}
 use Rattle.arr_core.specs.declared.signature.Signature.{Signature}
 use Rattle.arr_core.specs.Domains.{count}
@@ -7,7 +7,7 @@ use Rattle.plan_ir.specs.declared.body.Interval.{Interval}
 use Rattle.plan_ir.specs.declared.body.Index.{Index}
 use Rattle.plan_ir.specs.declared.body.Index.TheVariants.{Const, Var}
 use Rattle.plan_ir.specs.Bodies.{Tree, lit, var, reg, op1, op2, read, table, bind, fold}
-use Rattle.plan_ir.specs.Plans.{PassTree, BindTree, FieldBody, StepsTree, Choice, PlanTree}
+use Rattle.plan_ir.specs.Plans.{PassTree, BindTree, FieldBody, StepsTree, Choice, PlanTree, signature_of}
 
 -- the interval of an axis
 abbrev pub span : Axis → Interval
@@ -37,53 +37,45 @@ abbrev pub HasCells : Option Signature → ℕ → List Interval → List Index 
 HasCells None f scope is = ⊥
 HasCells (Some c) f scope is = (f < length c.fields) × Indexes (spans c.domain) scope is
 
--- A body under variables that go over the intervals `scope`, with so many registers, over the coverages `cs`.
-abbrev pub IsPlaced : List Signature → ℕ → List Interval → Tree → Type 0
+-- A body under variables that go over the intervals `scope`, with so many registers; cs has the coverage of each place.
+abbrev pub IsPlaced : (ℕ → Option Signature) → ℕ → List Interval → Tree → Type 0
 IsPlaced cs regs scope (lit z) = Unit {0}
 IsPlaced cs regs scope (var k) = k < length scope
 IsPlaced cs regs scope (reg k) = k < regs
 IsPlaced cs regs scope (op1 op e) = IsPlaced cs regs scope e
 IsPlaced cs regs scope (op2 op l r) = IsPlaced cs regs scope l × IsPlaced cs regs scope r
-IsPlaced cs regs scope (read c f is) = HasCells (slice_get cs c) f scope is
+IsPlaced cs regs scope (read c f is) = HasCells (cs c) f scope is
 IsPlaced cs regs scope (table box items is) = Indexes (spans box) scope is × (length items ≡ count box)
 IsPlaced cs regs scope (bind i lo hi e) = IsPlaced cs regs scope i × IsPlaced cs regs (scope ++ record { lo = lo; hi = hi } ∷ []) e
 IsPlaced cs regs scope (fold op box c e) = IsPlaced cs regs (scope ++ spans box) c × IsPlaced cs regs (scope ++ spans box) e
 
 -- a condition, where there is one
-abbrev pub ConditionIsPlaced : List Signature → ℕ → List Interval → Option Tree → Type 0
+abbrev pub ConditionIsPlaced : (ℕ → Option Signature) → ℕ → List Interval → Option Tree → Type 0
 ConditionIsPlaced cs regs scope None = Unit {0}
 ConditionIsPlaced cs regs scope (Some c) = IsPlaced cs regs scope c
 
 -- each pass reads earlier registers alone
-abbrev pub PassesArePlaced : List Signature → ℕ → List PassTree → Type 0
+abbrev pub PassesArePlaced : (ℕ → Option Signature) → ℕ → List PassTree → Type 0
 PassesArePlaced cs regs [] = Unit {0}
 PassesArePlaced cs regs (p ∷ passes) = IsPlaced cs regs (spans p.domain) p.condition × IsPlaced cs regs (spans p.domain) p.body × PassesArePlaced cs (regs + 1) passes
 
-abbrev pub FieldsArePlaced : List Signature → ℕ → List Interval → List FieldBody → Type 0
+abbrev pub FieldsArePlaced : (ℕ → Option Signature) → ℕ → List Interval → List FieldBody → Type 0
 FieldsArePlaced cs regs scope [] = Unit {0}
 FieldsArePlaced cs regs scope (f ∷ fields) = IsPlaced cs regs scope f.body × FieldsArePlaced cs regs scope fields
 
 -- each bind adds its interval to the variables of what follows
-abbrev pub ItemIsPlaced : List Signature → ℕ → List Interval → List BindTree → List FieldBody → Type 0
+abbrev pub ItemIsPlaced : (ℕ → Option Signature) → ℕ → List Interval → List BindTree → List FieldBody → Type 0
 ItemIsPlaced cs regs scope [] fields = FieldsArePlaced cs regs scope fields
 ItemIsPlaced cs regs scope (b ∷ binds) fields = IsPlaced cs regs scope b.position × ItemIsPlaced cs regs (scope ++ record { lo = b.lo; hi = b.hi } ∷ []) binds fields
 
-pub record AreSteps (cs : List Signature) (s : StepsTree) : Type 0 where
+pub record AreSteps (cs : ℕ → Option Signature) (s : StepsTree) : Type 0 where
   pub passes : PassesArePlaced cs 0 s.passes
   pub condition : ConditionIsPlaced cs (length s.passes) [] s.condition
-  pub some_field : 1 ≤ length s.item.fields
   pub item : ItemIsPlaced cs (length s.passes) (spans s.item.domain) s.item.binds s.item.fields
 
--- the coverages at those places
-abbrev pub AreChosen : List Signature → List ℕ → List Signature → Type 0
-AreChosen all [] [] = Unit {0}
-AreChosen all (k ∷ ks) (c ∷ cs) = (slice_get all k ≡ Some c) × AreChosen all ks cs
-AreChosen all [] (c ∷ cs) = ⊥
-AreChosen all (k ∷ ks) [] = ⊥
-
--- a combination's steps stand over the coverages that it chooses
+-- a combination has steps, which stand over the coverages that it chooses
 abbrev pub IsChoice : PlanTree → Choice → Type 0
-IsChoice plan c = IsSomeAnd (slice_get plan.steps c.steps) (λ s. (cs : List Signature) × AreChosen plan.coverages c.coverages cs × AreSteps cs s)
+IsChoice plan c = IsSomeAnd (slice_get plan.steps c.steps) (AreSteps (signature_of plan.coverages c.coverages))
 
 abbrev pub IsPlan : PlanTree → Type 0
 IsPlan plan = All (IsChoice plan) plan.combinations

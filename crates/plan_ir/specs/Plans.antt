@@ -1,5 +1,5 @@
 -- Plans as values alone.
-use Rattle.std.specs.Prelude.{ℕ, ℤ, List, map, Bool, Option, option_map}
+use Rattle.std.specs.Prelude.{ℕ, ℤ, List, map, Bool, Option, option_map, slice_get, slice_index_or}
 use Rattle.arr_core.specs.declared.domain.Axis.{Axis}
 use Rattle.arr_core.specs.declared.signature.Signature.{Signature}
 use Rattle.wcps_mean.specs.declared.aggregate.Aggregate.{Aggregate}
@@ -52,6 +52,10 @@ pub record PlanTree : Type 0 where
   pub coverages : List Signature
   pub steps : List StepsTree
   pub combinations : List Choice
+
+-- the coverage that a combination chooses for a place
+abbrev pub signature_of : List Signature → List ℕ → ℕ → Option Signature
+signature_of all coverages c = slice_get all (slice_index_or coverages c 0)
 
 abbrev pub pass_view : Fold → PassTree
 pass_view p = record { op = p.op; domain = p.domain; condition = condition_view p.condition; body = body_view p.body }

@@ -11,12 +11,17 @@ use Rattle.plan_ir.specs.declared.body.Index.{Index}
 use Rattle.plan_ir.specs.declared.body.Index.TheVariants.{Const, Var}
 use Rattle.plan_ir.specs.Bodies.{Tree, lit, var, reg, op1, op2, read, table, bind, fold}
 use Rattle.plan_ir.specs.Run.{numbers_at}
-use Rattle.plan_ir.specs.Plans.{PassTree, BindTree, FieldBody, ItemTree, StepsTree, Choice, PlanTree}
+use Rattle.plan_ir.specs.Plans.{PassTree, BindTree, FieldBody, ItemTree, StepsTree, Choice, PlanTree, signature_of}
+
+-- the points of an item; without fields there is nothing to evaluate
+abbrev pub item_units : List Axis → List FieldBody → ℕ
+item_units box [] = 0
+item_units box (f ∷ fields) = count box
 
 -- one for a combination, and the points of its passes' boxes and of its item
 abbrev pub steps_units : Option StepsTree → ℕ
 steps_units None = 1
-steps_units (Some s) = 1 + (sum_by (λ (p : PassTree). count p.domain) s.passes + count s.item.domain)
+steps_units (Some s) = 1 + (sum_by (λ (p : PassTree). count p.domain) s.passes + item_units s.item.domain s.item.fields)
 
 -- at most so many units has a plan
 abbrev pub units : PlanTree → ℕ
@@ -39,8 +44,11 @@ abbrev pub condition_stages : List ℕ → Option Tree → List Stage
 condition_stages coverages None = []
 condition_stages coverages (Some c) = record { box = []; coverages = coverages; bodies = c ∷ [] } ∷ []
 
-abbrev pub item_bodies : ItemTree → List Tree
-item_bodies i = map (λ (b : BindTree). b.position) i.binds ++ map (λ (f : FieldBody). f.body) i.fields
+-- the positions of the binds, then the bodies of the fields, if there are any
+abbrev pub item_stages : List ℕ → ItemTree → List FieldBody → List Stage
+item_stages coverages i [] = []
+item_stages coverages i (f ∷ fields) =
+    tile_stages coverages (map (λ (b : BindTree). b.position) i.binds ++ map (λ (f : FieldBody). f.body) (f ∷ fields)) i.domain
 
 -- of a combination: the tiles of each pass in order
 abbrev pub passes_boxes : List ℕ → Option StepsTree → List Stage
@@ -50,7 +58,7 @@ passes_boxes coverages (Some s) = flat_map (pass_stages coverages) s.passes
 -- of a combination: the box without axes of its condition, if any, then the tiles of its item
 abbrev pub out_boxes : List ℕ → Option StepsTree → List Stage
 out_boxes coverages None = []
-out_boxes coverages (Some s) = condition_stages coverages s.condition ++ tile_stages coverages (item_bodies s.item) s.item.domain
+out_boxes coverages (Some s) = condition_stages coverages s.condition ++ item_stages coverages s.item s.item.fields
 
 -- all boxes of a plan in their order: the passes, then what is given out
 abbrev pub boxes : PlanTree → List Stage
@@ -104,26 +112,18 @@ bound_times n (table box items is) = 0
 bound_times n (bind i lo hi e) = bound_times n i + bound_times n e
 bound_times n (fold op box c e) = bound_times (n * count box) c + bound_times (n * count box) e
 
--- the sum over the reads of a body; cs are the coverages that it names
-abbrev pub bound_of : List Signature → List Axis → Tree → ℕ
+-- the sum over the reads of a body; cs has the coverage of each place
+abbrev pub bound_of : (ℕ → Option Signature) → List Axis → Tree → ℕ
 bound_of cs box (lit z) = 0
 bound_of cs box (var k) = 0
 bound_of cs box (reg k) = 0
 bound_of cs box (op1 op e) = bound_of cs box e
 bound_of cs box (op2 op l r) = bound_of cs box l + bound_of cs box r
-bound_of cs box (read c f is) = bound_read (slice_get cs c) box is
+bound_of cs box (read c f is) = bound_read (cs c) box is
 bound_of cs box (table b items is) = 0
 bound_of cs box (bind i lo hi e) = bound_of cs box i + bound_of cs box e
 bound_of cs box (fold op b c e) = bound_times (count box * count b) c + bound_times (count box * count b) e
 
-abbrev pub found : Option Signature → List Signature
-found None = []
-found (Some c) = c ∷ []
-
--- the coverages at those places, as far as they are there
-abbrev pub chosen_of : List Signature → List ℕ → List Signature
-chosen_of all ks = flat_map (λ k. found (slice_get all k)) ks
-
 -- at most so many tiles the evaluation of a stage of a plan fetches
 abbrev pub bound : PlanTree → Stage → ℕ
-bound plan stage = sum_by (bound_of (chosen_of plan.coverages stage.coverages) stage.box) stage.bodies
+bound plan stage = sum_by (bound_of (signature_of plan.coverages stage.coverages) stage.box) stage.bodies

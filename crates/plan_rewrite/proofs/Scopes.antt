@@ -163,12 +163,14 @@ numbers-levels vars (x ∷ xs) (i ∷ more) n e l =
     ∙ ap (λ l. x ∷ l) (ap (λ v. numbers_at v (levels (n + 1) more)) (sym (append_assoc vars (x ∷ []) xs)) ∙ numbers-levels (vars ++ x ∷ []) xs more (n + 1) longer (omega (arith, l)))
 
 -- the numbers under further variables, one for each further index
-pub numbers-under : (old scope : List Interval) (env : List Index) (vars xs : List ℤ) (more : List Interval) → Indexes old scope env → Lie scope vars → Lie more xs → numbers_at (vars ++ xs) (env ++ levels (length scope) more) ≡ numbers_at vars env ++ xs
-numbers-under old scope env vars xs more h l m =
-    let e = lie-length scope vars l in
+pub numbers-with : (old scope : List Interval) (env : List Index) (vars xs : List ℤ) (more : List Interval) → Indexes old scope env → length vars ≡ length scope → length xs ≡ length more → numbers_at (vars ++ xs) (env ++ levels (length scope) more) ≡ numbers_at vars env ++ xs
+numbers-with old scope env vars xs more h e f =
     map-append (number_at (vars ++ xs)) env (levels (length scope) more)
     ∙ ap (λ z. z ++ numbers_at (vars ++ xs) (levels (length scope) more)) (numbers-more old scope vars xs env e h)
-    ∙ ap (λ z. numbers_at vars env ++ z) (numbers-levels vars xs more (length scope) e (lie-length more xs m))
+    ∙ ap (λ z. numbers_at vars env ++ z) (numbers-levels vars xs more (length scope) e f)
+
+pub numbers-under : (old scope : List Interval) (env : List Index) (vars xs : List ℤ) (more : List Interval) → Indexes old scope env → Lie scope vars → Lie more xs → numbers_at (vars ++ xs) (env ++ levels (length scope) more) ≡ numbers_at vars env ++ xs
+numbers-under old scope env vars xs more h l m = numbers-with old scope env vars xs more h (lie-length scope vars l) (lie-length more xs m)
 
 -- indexes under further variables
 pub indexes-under : (old scope more : List Interval) (env : List Index) → Indexes old scope env → Indexes (old ++ more) (scope ++ more) (env ++ levels (length scope) more)

@@ -7,8 +7,8 @@ use Rattle.plan_ir.specs.declared.body.Index.{Index}
 use Rattle.plan_ir.specs.declared.body.Index.TheVariants.{Const, Var}
 use Rattle.plan_ir.specs.declared.body.Interval.{Interval}
 use Rattle.plan_ir.specs.Bodies.{Tree}
-use Rattle.plan_ir.specs.Plans.{PassTree, BindTree, FieldBody, ItemTree, StepsTree, Choice, PlanTree}
-use Rattle.plan_ir.specs.Placed.{spans, Indexes, IsPlaced, ConditionIsPlaced, PassesArePlaced, FieldsArePlaced, ItemIsPlaced, AreSteps, AreChosen, IsChoice, IsPlan}
+use Rattle.plan_ir.specs.Plans.{PassTree, BindTree, FieldBody, ItemTree, StepsTree, Choice, PlanTree, signature_of}
+use Rattle.plan_ir.specs.Placed.{spans, Indexes, IsPlaced, ConditionIsPlaced, PassesArePlaced, FieldsArePlaced, ItemIsPlaced, AreSteps, IsChoice, IsPlan}
 use Rattle.plan_ir.proofs.Parts.{slice_get-map}
 use Rattle.plan_rewrite.specs.Settling.{levels, stand_in, settled}
 use Rattle.plan_rewrite.specs.Settled.{Ground, way, after_bind, ground, kept, kept_binds, settled_pass, settled_field, settled_item, settled_steps, settled_plan}
@@ -16,54 +16,52 @@ use Rattle.plan_rewrite.specs.Rewritten.{IsReduced, PassesAreReduced, ConditionI
 use Rattle.plan_rewrite.proofs.Scopes.{indexes-append, levels-lie, indexes-under}
 use Rattle.plan_rewrite.proofs.Settles.{gives-way, settled-placed, settled-reduced}
 
-passes-placed : (ps : List PassTree) (cs : List Signature) (regs : ℕ) → PassesArePlaced cs regs ps → PassesArePlaced cs regs (map settled_pass ps)
+passes-placed : (ps : List PassTree) (cs : ℕ → Option Signature) (regs : ℕ) → PassesArePlaced cs regs ps → PassesArePlaced cs regs (map settled_pass ps)
 passes-placed [] cs regs h = tt
 passes-placed (p ∷ ps) cs regs h =
     let box = spans p.domain in
     let all = levels-lie [] box 0 refl in
     (settled-placed p.condition cs regs box box (levels 0 box) h.0 all, settled-placed p.body cs regs box box (levels 0 box) h.1 all, passes-placed ps cs (regs + 1) h.2)
 
-condition-placed : (c : Option Tree) (cs : List Signature) (regs : ℕ) → ConditionIsPlaced cs regs [] c → ConditionIsPlaced cs regs [] (option_map (settled [] []) c)
+condition-placed : (c : Option Tree) (cs : ℕ → Option Signature) (regs : ℕ) → ConditionIsPlaced cs regs [] c → ConditionIsPlaced cs regs [] (option_map (settled [] []) c)
 condition-placed None cs regs h = tt
 condition-placed (Some c) cs regs h = settled-placed c cs regs [] [] [] h tt
 
-fields-placed : (fields : List FieldBody) (cs : List Signature) (regs : ℕ) (old : List Interval) (g : Ground) → FieldsArePlaced cs regs old fields → Indexes old g.scope g.env → FieldsArePlaced cs regs g.scope (map (settled_field g) fields)
+fields-placed : (fields : List FieldBody) (cs : ℕ → Option Signature) (regs : ℕ) (old : List Interval) (g : Ground) → FieldsArePlaced cs regs old fields → Indexes old g.scope g.env → FieldsArePlaced cs regs g.scope (map (settled_field g) fields)
 fields-placed [] cs regs old g h i = tt
 fields-placed (f ∷ fields) cs regs old g h i = (settled-placed f.body cs regs old g.scope g.env h.0 i, fields-placed fields cs regs old g h.1 i)
 
-bind-item : (b : BindTree) (binds : List BindTree) (fields : List FieldBody) (cs : List Signature) (regs : ℕ) (old scope : List Interval) (env : List Index) (o : Option Index) → way env scope b ≡ o → IsPlaced cs regs scope (settled env scope b.position) → Indexes old scope env → ((scope' : List Interval) (env' : List Index) → Indexes (old ++ record { lo = b.lo; hi = b.hi } ∷ []) scope' env' → ItemIsPlaced cs regs scope' (kept_binds env' scope' binds) (map (settled_field (ground env' scope' binds)) fields)) → ItemIsPlaced cs regs scope (kept o (settled env scope b.position) b (after_bind env scope b o (λ env' scope'. kept_binds env' scope' binds))) (map (settled_field (after_bind env scope b o (λ env' scope'. ground env' scope' binds))) fields)
+bind-item : (b : BindTree) (binds : List BindTree) (fields : List FieldBody) (cs : ℕ → Option Signature) (regs : ℕ) (old scope : List Interval) (env : List Index) (o : Option Index) → way env scope b ≡ o → IsPlaced cs regs scope (settled env scope b.position) → Indexes old scope env → ((scope' : List Interval) (env' : List Index) → Indexes (old ++ record { lo = b.lo; hi = b.hi } ∷ []) scope' env' → ItemIsPlaced cs regs scope' (kept_binds env' scope' binds) (map (settled_field (ground env' scope' binds)) fields)) → ItemIsPlaced cs regs scope (kept o (settled env scope b.position) b (after_bind env scope b o (λ env' scope'. kept_binds env' scope' binds))) (map (settled_field (after_bind env scope b o (λ env' scope'. ground env' scope' binds))) fields)
 bind-item b binds fields cs regs old scope env (Some i) is p h go =
     let w = gives-way scope b.lo b.hi (settled env scope b.position) i is in
     go scope (env ++ i ∷ []) (indexes-append old (record { lo = b.lo; hi = b.hi } ∷ []) scope env (i ∷ []) h (w.stands.lies, tt))
 bind-item b binds fields cs regs old scope env None is p h go =
     (p, go (scope ++ record { lo = b.lo; hi = b.hi } ∷ []) (env ++ Var (length scope) ∷ []) (indexes-under old scope (record { lo = b.lo; hi = b.hi } ∷ []) env h))
 
-item-placed : (binds : List BindTree) (fields : List FieldBody) (cs : List Signature) (regs : ℕ) (old scope : List Interval) (env : List Index) → ItemIsPlaced cs regs old binds fields → Indexes old scope env → ItemIsPlaced cs regs scope (kept_binds env scope binds) (map (settled_field (ground env scope binds)) fields)
+item-placed : (binds : List BindTree) (fields : List FieldBody) (cs : ℕ → Option Signature) (regs : ℕ) (old scope : List Interval) (env : List Index) → ItemIsPlaced cs regs old binds fields → Indexes old scope env → ItemIsPlaced cs regs scope (kept_binds env scope binds) (map (settled_field (ground env scope binds)) fields)
 item-placed [] fields cs regs old scope env h i = fields-placed fields cs regs old (record { env = env; scope = scope }) h i
 item-placed (b ∷ binds) fields cs regs old scope env h i =
     bind-item b binds fields cs regs old scope env (way env scope b) refl (settled-placed b.position cs regs old scope env h.0 i) i
     (λ scope' env' i'. item-placed binds fields cs regs (old ++ record { lo = b.lo; hi = b.hi } ∷ []) scope' env' h.1 i')
 
-steps-placed : (t : StepsTree) (cs : List Signature) → AreSteps cs t → AreSteps cs (settled_steps t)
+steps-placed : (t : StepsTree) (cs : ℕ → Option Signature) → AreSteps cs t → AreSteps cs (settled_steps t)
 steps-placed t cs h =
     let box = spans t.item.domain in
     let same = sym (length-map t.passes settled_pass) in
     record {
       passes = passes-placed t.passes cs 0 h.passes;
       condition = subst (λ n. ConditionIsPlaced cs n [] (option_map (settled [] []) t.condition)) same (condition-placed t.condition cs (length t.passes) h.condition);
-      some_field = subst (λ n. 1 ≤ n) (sym (length-map t.item.fields (settled_field (ground (levels 0 box) box t.item.binds)))) h.some_field;
       item = subst (λ n. ItemIsPlaced cs n box (settled_item t.item).binds (settled_item t.item).fields) same (item-placed t.item.binds t.item.fields cs (length t.passes) box box (levels 0 box) h.item (levels-lie [] box 0 refl));
     }
 
-abbrev Over : List Signature → List ℕ → StepsTree → Type 0
-Over all ks s = (cs : List Signature) × AreChosen all ks cs × AreSteps cs s
-
-option-placed : (o : Option StepsTree) (all : List Signature) (ks : List ℕ) → IsSomeAnd o (Over all ks) → IsSomeAnd (option_map settled_steps o) (Over all ks)
-option-placed None all ks h = absurd h
-option-placed (Some t) all ks h = (h.0, h.1, steps-placed t h.0 h.2)
+option-placed : (o : Option StepsTree) (cs : ℕ → Option Signature) → IsSomeAnd o (AreSteps cs) → IsSomeAnd (option_map settled_steps o) (AreSteps cs)
+option-placed None cs h = absurd h
+option-placed (Some t) cs h = steps-placed t cs h
 
 choice-placed : (p : PlanTree) (c : Choice) → IsChoice p c → IsChoice (settled_plan p) c
-choice-placed p c h = subst (λ o. IsSomeAnd o (Over p.coverages c.coverages)) (sym (slice_get-map settled_steps p.steps c.steps)) (option-placed (slice_get p.steps c.steps) p.coverages c.coverages h)
+choice-placed p c h =
+    let cs = signature_of p.coverages c.coverages in
+    subst (λ o. IsSomeAnd o (AreSteps cs)) (sym (slice_get-map settled_steps p.steps c.steps)) (option-placed (slice_get p.steps c.steps) cs h)
 
 -- a settled plan is well-formed
 pub plan-placed : (p : PlanTree) → IsPlan p → IsPlan (settled_plan p)

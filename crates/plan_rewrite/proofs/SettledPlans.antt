@@ -132,7 +132,7 @@ cells-settled i s regs p l =
     point-settled (bound s regs (kept_binds (levels 0 box) box i.binds) p) (bound s regs i.binds (numbers_at p (levels 0 box))) g (behind box i.binds) s regs i.fields (ground-indexes i.binds box box (levels 0 box) all) (bound-follows i.binds s regs box box (levels 0 box) p all l)
     ∙ ap (λ v. then_of (bound s regs i.binds v) (λ vars. joined (map (field_cell s regs vars) i.fields))) (numbers-levels [] p box 0 refl (lie-length box p l))
 
-map-same : {X Y : Type 0} (P : X → Type 0) (f g : X → Y) (xs : List X) → ((x : X) → P x → f x ≡ g x) → Each P xs → map f xs ≡ map g xs
+pub map-same : {X Y : Type 0} (P : X → Type 0) (f g : X → Y) (xs : List X) → ((x : X) → P x → f x ≡ g x) → Each P xs → map f xs ≡ map g xs
 map-same P f g [] h a = refl
 map-same P f g (x ∷ xs) h a = ap (λ y. y ∷ map f xs) (h x a.0) ∙ ap (λ l. g x ∷ l) (map-same P f g xs h a.1)
 

@@ -160,7 +160,7 @@ numbers-moved env vars (Var k ∷ is) =
     ap (λ z. z ∷ numbers_at vars (map (moved env) is)) (sym (at-map (number_at vars) env k (Const (pos 0))))
     ∙ ap (λ l. get_or (numbers_at vars env) k (pos 0) ∷ l) (numbers-moved env vars is)
 
-variable-means : (s : ℕ → ℕ → List ℤ → ℤ) (regs : List Outcome) (vars : List ℤ) (i : Index) → run s regs (variable i) vars ≡ Value (number_at vars i)
+pub variable-means : (s : ℕ → ℕ → List ℤ → ℤ) (regs : List Outcome) (vars : List ℤ) (i : Index) → run s regs (variable i) vars ≡ Value (number_at vars i)
 variable-means s regs vars (Const z) = refl
 variable-means s regs vars (Var k) = refl
 
@@ -205,7 +205,7 @@ settled-means (fold op box c e) s regs old scope env vars h l =
     ∙ ap (demanded (run s regs c (numbers_at vars env ++ x)))
     (settled-means e s regs (old ++ spans box) (scope ++ spans box) inner (vars ++ x) is lies ∙ ap (run s regs e) under)) (points-lie box))
 
-variable-placed : (cs : List Signature) (count : ℕ) (old scope : List Interval) (env : List Index) (k : ℕ) → Indexes old scope env → k < length old → IsPlaced cs count scope (variable (get_or env k (Const (pos 0))))
+pub variable-placed : (cs : ℕ → Option Signature) (count : ℕ) (old scope : List Interval) (env : List Index) (k : ℕ) → Indexes old scope env → k < length old → IsPlaced cs count scope (variable (get_or env k (Const (pos 0))))
 variable-placed cs count [] scope env k h lt = absurd (omega arith)
 variable-placed cs count (a ∷ old) scope [] k h lt = absurd h
 variable-placed cs count (a ∷ old) scope (Const z ∷ env) zero h lt = tt
@@ -232,20 +232,20 @@ cells-moved : (c : Option Signature) (f : ℕ) (old scope : List Interval) (env 
 cells-moved None f old scope env is h l = absurd l
 cells-moved (Some c) f old scope env is h l = (l.0, indexes-moved (spans c.domain) old scope env is h l.1)
 
-bind-placed : (cs : List Signature) (count : ℕ) (old scope : List Interval) (env : List Index) (q e : Tree) (lo hi : ℤ) (o : Option Index) → stand_in scope lo hi q ≡ o → Indexes old scope env → IsPlaced cs count scope q → ((scope' : List Interval) (env' : List Index) → Indexes (old ++ record { lo = lo; hi = hi } ∷ []) scope' env' → IsPlaced cs count scope' (settled env' scope' e)) → IsPlaced cs count scope (bind_or_go env scope lo hi q o (λ env' scope'. settled env' scope' e))
+bind-placed : (cs : ℕ → Option Signature) (count : ℕ) (old scope : List Interval) (env : List Index) (q e : Tree) (lo hi : ℤ) (o : Option Index) → stand_in scope lo hi q ≡ o → Indexes old scope env → IsPlaced cs count scope q → ((scope' : List Interval) (env' : List Index) → Indexes (old ++ record { lo = lo; hi = hi } ∷ []) scope' env' → IsPlaced cs count scope' (settled env' scope' e)) → IsPlaced cs count scope (bind_or_go env scope lo hi q o (λ env' scope'. settled env' scope' e))
 bind-placed cs count old scope env q e lo hi (Some i) is h p go =
     let w = gives-way scope lo hi q i is in
     go scope (env ++ i ∷ []) (indexes-append old (record { lo = lo; hi = hi } ∷ []) scope env (i ∷ []) h (w.stands.lies, tt))
 bind-placed cs count old scope env q e lo hi None is h p go =
     (p, go (scope ++ record { lo = lo; hi = hi } ∷ []) (env ++ Var (length scope) ∷ []) (indexes-under old scope (record { lo = lo; hi = hi } ∷ []) env h))
 
-pub settled-placed : (t : Tree) (cs : List Signature) (count : ℕ) (old scope : List Interval) (env : List Index) → IsPlaced cs count old t → Indexes old scope env → IsPlaced cs count scope (settled env scope t)
+pub settled-placed : (t : Tree) (cs : ℕ → Option Signature) (count : ℕ) (old scope : List Interval) (env : List Index) → IsPlaced cs count old t → Indexes old scope env → IsPlaced cs count scope (settled env scope t)
 settled-placed (lit z) cs count old scope env t h = tt
 settled-placed (var k) cs count old scope env t h = variable-placed cs count old scope env k h t
 settled-placed (reg k) cs count old scope env t h = t
 settled-placed (op1 op e) cs count old scope env t h = settled-placed e cs count old scope env t h
 settled-placed (op2 op l r) cs count old scope env t h = (settled-placed l cs count old scope env t.0 h, settled-placed r cs count old scope env t.1 h)
-settled-placed (read c f is) cs count old scope env t h = cells-moved (slice_get cs c) f old scope env is h t
+settled-placed (read c f is) cs count old scope env t h = cells-moved (cs c) f old scope env is h t
 settled-placed (table box items is) cs count old scope env t h = (indexes-moved (spans box) old scope env is h t.0, t.1)
 settled-placed (bind p lo hi e) cs count old scope env t h =
     bind-placed cs count old scope env (settled env scope p) e lo hi (stand_in scope lo hi (settled env scope p)) refl h

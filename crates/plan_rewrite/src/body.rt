@@ -142,7 +142,7 @@ pub fn settled_fold(
 }
 
 /// What has the number of an index.
-fn variable(i: Index) -> Body
+pub fn variable(i: Index) -> Body
     ensures { body_view result ≡ variable i }
 {
     match i {
@@ -152,7 +152,7 @@ fn variable(i: Index) -> Body
 }
 
 /// The index of a variable.
-fn index_at(env: &[Index], k: usize) -> Index
+pub fn index_at(env: &[Index], k: usize) -> Index
     ensures { result ≡ slice_index_or env.now k (Index.Const (pos 0)) }
 {
     match env.get(k) {

@@ -1,10 +1,12 @@
 //! Making bodies of bodies.
 
 ghost use Rattle.std.specs.Prelude.{◌≡◌, IfOk};
-ghost use Rattle.plan_ir.specs.Bodies.{body_view, fold_view, op1, op2, bind};
+ghost use Rattle.plan_ir.specs.Bodies.{body_view, fold_view, op1, op2, read, table, bind, fold, always};
 
-use plan_ir::{Body, Fold, Interval};
+use arr_core::Domain;
+use plan_ir::{Body, Fold, Index, Interval};
 use std::alloc::{AllocError, Global};
+use wcps_mean::Aggregate;
 use wcps_types::{Operation1, Operation2};
 
 /// A body on the heap.
@@ -55,4 +57,83 @@ pub fn fold_body(alloc: Global, fold: Fold) -> Result<Body, AllocError>
 {
     let f = Box::new(alloc, fold)?;
     Ok(Body::Fold(f))
+}
+
+/// The cell of a field at a point.
+pub fn read_body(
+    alloc: Global,
+    coverage: usize,
+    field: usize,
+    point: &[Index],
+) -> Result<Body, AllocError>
+    ensures { IfOk result (λ b. body_view b ≡ read coverage field point.now) }
+{
+    let indexes = point.to_vec(alloc)?;
+    Ok(Body::Read {
+        coverage,
+        field,
+        indexes,
+    })
+}
+
+/// The item of a list at a point.
+pub fn table_body(
+    alloc: Global,
+    domain: &Domain,
+    items: &[i64],
+    point: &[Index],
+) -> Result<Body, AllocError>
+    ensures { IfOk result (λ b. body_view b ≡ table domain.now items.now point.now) }
+{
+    let domain = domain.copy(alloc)?;
+    let items = items.to_vec(alloc)?;
+    let indexes = point.to_vec(alloc)?;
+    Ok(Body::Table {
+        domain,
+        items,
+        indexes,
+    })
+}
+
+/// A fold of a body at all points of a domain.
+pub fn plain_fold(
+    alloc: Global,
+    op: Aggregate,
+    domain: &Domain,
+    body: Body,
+) -> Result<Body, AllocError>
+    ensures { IfOk result (λ b. body_view b ≡ fold op domain.now always (body_view body)) }
+{
+    let domain = domain.copy(alloc)?;
+    fold_body(
+        alloc,
+        Fold {
+            op,
+            domain,
+            condition: None,
+            body,
+        },
+    )
+}
+
+/// A fold of a body at the points of a domain where a condition is true.
+pub fn conditional_fold(
+    alloc: Global,
+    op: Aggregate,
+    domain: &Domain,
+    condition: Body,
+    body: Body,
+) -> Result<Body, AllocError>
+    ensures { IfOk result (λ b. body_view b ≡ fold op domain.now (body_view condition) (body_view body)) }
+{
+    let domain = domain.copy(alloc)?;
+    fold_body(
+        alloc,
+        Fold {
+            op,
+            domain,
+            condition: Some(condition),
+            body,
+        },
+    )
 }

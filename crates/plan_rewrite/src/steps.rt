@@ -151,7 +151,7 @@ fn push_interval(scope: &mut Vec<Interval>, interval: Interval) -> Result<(), Al
 }
 
 /// Puts a bind at the end of a list.
-fn push_bind(list: &mut Vec<Bind>, position: Body, interval: Interval) -> Result<(), AllocError>
+pub fn push_bind(list: &mut Vec<Bind>, position: Body, interval: Interval) -> Result<(), AllocError>
     ensures { OnOk result (map bind_view list.new.items ≡ map bind_view list.old.items ++ record { position = body_view position; lo = interval.lo; hi = interval.hi } ∷ []) }
 {
     list.push(Bind { position, interval })?;

@@ -1,0 +1,79 @@
+-- Lowering: what a typed tree becomes under the variables of a body. Trims are left out, slices become binds, arrays give
+-- their iterators away, and each cell is read at the indexes of the point.
+use Rattle.std.specs.Prelude.{ℕ, ℤ, pos, List, [], ◌∷◌, ◌++◌, length, slice_index_or, insert}
+use Rattle.arr_core.specs.declared.domain.Axis.{Axis}
+use Rattle.wcps_types.specs.Typed.{Typed, number, iterator, cell, unary, binary, scalar, select, bracket, slice, array, listed, condense, condense_where, reduce}
+use Rattle.wcps_mean.specs.Aggregates.{of_condenser, of_reduction}
+use Rattle.plan_ir.specs.declared.body.Index.{Index}
+use Rattle.plan_ir.specs.declared.body.Index.TheVariants.{Const, Var}
+use Rattle.plan_ir.specs.declared.body.Interval.{Interval}
+use Rattle.plan_ir.specs.Bodies.{Tree, lit, op1, op2, read, table, bind, fold, always}
+use Rattle.plan_ir.specs.Placed.{spans}
+use Rattle.plan_rewrite.specs.declared.context.Context.{Context}
+use Rattle.plan_rewrite.specs.Settling.{variable, levels}
+
+-- where a tree is lowered: the interval of each variable, the index of each iterator, outermost first, and the index of
+-- each coordinate of the point
+pub record Setting : Type 0 where
+  pub scope : List Interval
+  pub iterators : List Index
+  pub point : List Index
+
+abbrev pub setting_of : Context → Setting
+setting_of c = record { scope = c.scope.items; iterators = c.iterators.items; point = c.point.items }
+
+-- under variables for iterators, and behind them variables for the axes of the point
+abbrev pub outermost : List Axis → List Axis → Setting
+outermost iterators axes = record {
+  scope = spans iterators ++ spans axes;
+  iterators = levels 0 (spans iterators);
+  point = levels (length iterators) (spans axes);
+}
+
+-- at the point without coordinates
+abbrev pub at_scalar : Setting → Setting
+at_scalar c = record { scope = c.scope; iterators = c.iterators; point = [] }
+
+-- the coordinates of the point are further iterators
+abbrev pub at_iterators : Setting → Setting
+at_iterators c = record { scope = c.scope; iterators = c.iterators ++ c.point; point = [] }
+
+-- one variable more, from lo to hi, is a coordinate of the point
+abbrev pub at_slice : Setting → ℕ → ℤ → ℤ → Setting
+at_slice c axis lo hi = record {
+  scope = c.scope ++ record { lo = lo; hi = hi } ∷ [];
+  iterators = c.iterators;
+  point = insert c.point axis (Var (length c.scope));
+}
+
+-- further variables, over the axes of a box, are further iterators
+abbrev pub at_box : Setting → List Axis → Setting
+at_box c box = record {
+  scope = c.scope ++ spans box;
+  iterators = c.iterators ++ levels (length c.scope) (spans box);
+  point = [];
+}
+
+-- or are the point
+abbrev pub at_points : Setting → List Axis → Setting
+at_points c box = record {
+  scope = c.scope ++ spans box;
+  iterators = c.iterators;
+  point = levels (length c.scope) (spans box);
+}
+
+abbrev pub lowered : Setting → Typed → Tree
+lowered c (number z) = lit z
+lowered c (iterator k) = variable (slice_index_or c.iterators k (Const (pos 0)))
+lowered c (cell coverage field) = read coverage field c.point
+lowered c (unary op e) = op1 op (lowered c e)
+lowered c (binary op l r) = op2 op (lowered c l) (lowered c r)
+lowered c (scalar e) = lowered (at_scalar c) e
+lowered c (select e) = lowered c e
+lowered c (bracket e) = lowered c e
+lowered c (slice e axis lo hi i) = bind (lowered (at_scalar c) i) lo hi (lowered (at_slice c axis lo hi) e)
+lowered c (array e) = lowered (at_iterators c) e
+lowered c (listed box items) = table box items c.point
+lowered c (condense op box e) = fold (of_condenser op) box always (lowered (at_box c box) e)
+lowered c (condense_where op box b e) = fold (of_condenser op) box (lowered (at_box c box) b) (lowered (at_box c box) e)
+lowered c (reduce op box e) = fold (of_reduction op) box always (lowered (at_points c box) e)
