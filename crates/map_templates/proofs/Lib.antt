@@ -14,3 +14,9 @@ pub mod Spelled
 pub mod Limits
 pub mod Found
 pub mod Read
+pub mod Layers
+pub mod LocalTyped
+pub mod FocalTyped
+pub mod Asked
+pub mod ZonalTyped
+pub mod ZonalAnswered

@@ -138,7 +138,7 @@ pub v_reads : Reads (codes "$v") (Ok (dollar (codes "$v")))
 v_reads = marked (is_name refl tt) (omega arith)
 
 -- the digit of a number
-one_digit : (k : ℕ) → k < 10 → decimal k ≡ (48 + k) ∷ []
+pub one_digit : (k : ℕ) → k < 10 → decimal k ≡ (48 + k) ∷ []
 one_digit k lt = decimal_by_steps (λ (n : ℕ) (ds : List ℕ). n < 10 → ds ≡ (48 + n) ∷ []) (λ n small _. refl) (λ n ds large _ small. absurd (omega arith)) k (omega arith) lt
 
 digit : (k : ℕ) → k < 10 → is_ascii_digit (48 + k) ≡ true

@@ -138,7 +138,7 @@ on-within a x ordered =
     back : a.lo +ℤ pos (gap a.lo a.hi) ≡ a.hi → x <ℤ (a.lo +ℤ pos (gap a.lo a.hi + 1)) → x ≤ℤ a.hi
     back whole h = omega (arith, ints)
 
-window-size : (r : ℕ) (a : Axis) → size_of (window_of r a) ≡ (r + r) + 1
+pub window-size : (r : ℕ) (a : Axis) → size_of (window_of r a) ≡ (r + r) + 1
 window-size r a =
     let whole : (pos 0 -ℤ pos r) +ℤ pos (r + r) ≡ pos r = omega (arith, ints) in
     ap (λ (n : ℕ). n + 1) (ap (λ (z : ℤ). gap (pos 0 -ℤ pos r) z) (sym whole) ∙ gap-add (pos 0 -ℤ pos r) (r + r))

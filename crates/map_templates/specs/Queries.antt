@@ -1,5 +1,5 @@
--- That the text of a template is a query of the language.
-use Rattle.std.specs.Prelude.{ℕ, ◌≤◌, List, length, All}
+-- That the text of a template is a query of the language, and what its answer is.
+use Rattle.std.specs.Prelude.{◌≡◌, ℕ, ◌≤◌, List, length, All}
 use Rattle.arr_core.specs.declared.domain.Axis.{Axis}
 use Rattle.arr_core.specs.declared.field.Field.{Field}
 use Rattle.arr_core.specs.declared.signature.Signature.{Signature}
@@ -10,6 +10,12 @@ use Rattle.wcps_text.specs.Tree.{QueryTree}
 use Rattle.wcps_text.specs.Limits.{query_height}
 use Rattle.wcps_text.specs.Grammar.{IsSpelled}
 use Rattle.wcps_parse.specs.Outcome.{IsWithinLimits}
+use Rattle.std.specs.Prelude.{Ok}
+use Rattle.wcps_types.specs.Typed.{TypedTree}
+use Rattle.wcps_types.specs.Queries.{typ_query}
+use Rattle.wcps_mean.specs.Answer.{answer}
+use Rattle.map_templates.specs.Expansion.{Operation}
+use Rattle.map_templates.specs.Meaning.{Cells, AreIntegers, listed, array_of}
 use Rattle.map_templates.specs.Laws.{IsSmall}
 
 -- an axis has a name, and bounds of 32 bits
@@ -35,3 +41,14 @@ pub record IsText (text : List ℕ) (q : QueryTree) : Type 0 where
   pub within : IsWithinLimits (tokens_of pieces)
   pub spelled : IsSpelled (tokens_of pieces) q
   pub low : query_height q ≤ 64
+
+-- Where the types of the query are accepted, its answer over cells of 64 bits is the array that the operation gives, or
+-- Overflow where a value of that leaves 64 bits somewhere. The cells are named as the coverages are.
+abbrev pub IsAnswered : List Signature → Operation → QueryTree → Type 0
+IsAnswered signatures o q = (t : TypedTree) (cells : Cells) → typ_query signatures q ≡ Ok t → AreIntegers cells → answer (listed cells t.coverages) t ≡ array_of cells o
+
+-- the text is a query of the language, whose answer is what the operation gives
+pub record IsQueryOf (signatures : List Signature) (o : Operation) (text : List ℕ) : Type 0 where
+  pub query : QueryTree
+  pub reads : IsText text query
+  pub answered : IsAnswered signatures o query

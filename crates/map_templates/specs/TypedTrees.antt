@@ -73,10 +73,13 @@ first_moved = binary twos.Add (iterator 0) (iterator 2)
 abbrev pub second_moved : Typed
 second_moved = binary twos.Add (iterator 1) (iterator 3)
 
+-- a location moved by an offset is one of the domain
+abbrev pub edges_tree : Axis → Axis → Typed
+edges_tree x y = binary twos.And (binary twos.And (edge_tree first_moved x) (binary twos.GreaterEqual second_moved (literal y.lo))) (binary twos.LessEqual second_moved (literal y.hi))
+
 abbrev pub focal_tree : Summary → Axis → Axis → ℕ → Typed → Typed
 focal_tree op x y r a =
-    array (condense_where (condenser_of op) (windows_of r (x ∷ y ∷ []))
-    (binary twos.And (binary twos.And (edge_tree first_moved x) (binary twos.GreaterEqual second_moved (literal y.lo))) (binary twos.LessEqual second_moved (literal y.hi)))
+    array (condense_where (condenser_of op) (windows_of r (x ∷ y ∷ [])) (edges_tree x y)
     (bracket (located a 0 (x ∷ y ∷ []) (first_moved ∷ second_moved ∷ []))))
 
 -- ---- queries

@@ -1,10 +1,8 @@
 //! Expanding a template.
 
-ghost use Rattle.std.specs.Prelude.{◌≡◌, string_bytes, IfOk, Ok};
-ghost use Rattle.std.specs.Prelude.{All};
-ghost use Rattle.wcps_text.specs.Tree.{QueryTree};
+ghost use Rattle.std.specs.Prelude.{◌≡◌, string_bytes, All, IfOk, Ok};
 ghost use Rattle.map_templates.specs.Laws.{IsTomlins};
-ghost use Rattle.map_templates.specs.Queries.{IsCoverage, IsText};
+ghost use Rattle.map_templates.specs.Queries.{IsCoverage, IsQueryOf};
 ghost use Rattle.arr_core.specs.declared.signature.Signature.{Signature};
 ghost use Rattle.std.specs.Borrow.{Bor};
 ghost use Rattle.map_templates.specs.Refusals.{Says};
@@ -35,7 +33,7 @@ pub fn expand(
     signatures: &[Signature],
 ) -> Result<String, ExpandError>
     ensures text { Says string_bytes result (as_text (asked template.now params.now signatures.now)) }
-    ensures reads { All IsCoverage signatures.now → IfOk result (λ text. (o : Operation) → asked template.now params.now signatures.now ≡ Ok o → (q : QueryTree) × IsText (string_bytes text) q) }
+    ensures queries { All IsCoverage signatures.now → IfOk result (λ text. (o : Operation) → asked template.now params.now signatures.now ≡ Ok o → IsQueryOf signatures.now o (string_bytes text)) }
     ensures means { IfOk result (λ text. (o : Operation) → asked template.now params.now signatures.now ≡ Ok o → IsTomlins o) }
 {
     expand_template(alloc, template_named(template), params, signatures)
