@@ -6,11 +6,11 @@ import tempfile
 
 
 @contextlib.contextmanager
-def compiled(source):
-    """The path of the program that `cc -O2` makes of a text in C, while it is needed."""
+def compiled(source, *options):
+    """The path of the program that `cc -O2` makes of a text in C, while it is needed; other options may follow."""
     with tempfile.TemporaryDirectory() as folder:
         program = os.path.join(folder, "loops")
-        subprocess.run(["cc", "-O2", "-x", "c", "-o", program, "-"], input=source, check=True, text=True)
+        subprocess.run(["cc", "-O2", *options, "-x", "c", "-o", program, "-"], input=source, check=True, text=True)
         yield program
 
 

@@ -146,32 +146,40 @@ pub fn column(alloc: Global, len: usize, words: &str) -> Result<Column> {
     operated(alloc, Operation2::Add, &quotients, &bits)
 }
 
+/// The outcomes of a column.
+pub fn outcomes(alloc: Global, column: &Column) -> Result<Vec<Outcome>> {
+    let mut outcomes = Vec::new(alloc);
+    for place in 0..column.len() {
+        outcomes.push(column.at(place))?;
+    }
+    Ok(outcomes)
+}
+
 /// The outcome of the places between the first and the last, an error where they differ.
-fn inner(column: &Column) -> Result<Outcome> {
-    let len = column.len();
+fn inner(outcomes: &[Outcome]) -> Result<Outcome> {
+    let len = outcomes.len();
     if len < 3 {
         bail!("no inner place");
     }
-    let outcome = column.at(1);
+    let outcome = outcomes[1];
     for place in 2..len - 1 {
-        if column.at(place) != outcome {
+        if outcomes[place] != outcome {
             bail!("place {place} differs from place 1");
         }
     }
     Ok(outcome)
 }
 
-/// A column as its first, its inner and its last outcome; as one outcome where it has one place, and `-` without places.
-pub fn text(alloc: Global, column: &Column) -> Result<String> {
-    let len = column.len();
-    if len == 0 {
-        return Ok(String::from_str(alloc, "-")?);
+/// Outcomes as the first, the inner and the last one; as one where there is one, and `-` for none.
+pub fn text(alloc: Global, outcomes: &[Outcome]) -> Result<String> {
+    match outcomes {
+        [] => Ok(String::from_str(alloc, "-")?),
+        [one] => Ok(shown(alloc, *one)?),
+        [first, .., last] => {
+            let first = shown(alloc, *first)?;
+            let inner = shown(alloc, inner(outcomes)?)?;
+            let last = shown(alloc, *last)?;
+            Ok(format!(in alloc; "{first},{inner},{last}")?)
+        }
     }
-    let first = shown(alloc, column.at(0))?;
-    if len == 1 {
-        return Ok(first);
-    }
-    let inner = shown(alloc, inner(column)?)?;
-    let last = shown(alloc, column.at(len - 1))?;
-    Ok(format!(in alloc; "{first},{inner},{last}")?)
 }

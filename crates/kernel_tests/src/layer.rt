@@ -1,11 +1,12 @@
 //! The calls of the rows.
 
-use crate::columns::{column, operated, text};
+use crate::columns::{column, operated, outcomes, text};
+use crate::folds::{added, added_where, folded, folded_where, merged};
 use crate::words::{aggregate, operation, operation_on_one, outcome, shown};
 use anyhow::{Context, Result, bail};
 use std::alloc::Global;
 use test_rows::Layer;
-use tile_kernel::{Accumulator, Column, fold_column, operate_column};
+use tile_kernel::{Accumulator, Column, operate_column};
 
 /// The calls of the kernels.
 #[derive(Drop)]
@@ -19,7 +20,8 @@ fn both(alloc: Global, words: &str) -> Result<String> {
     let len = len.parse::<usize>()?;
     let left = column(alloc, len, left)?;
     let right = column(alloc, len, right)?;
-    text(alloc, &operated(alloc, operation(op)?, &left, &right)?)
+    let out = operated(alloc, operation(op)?, &left, &right)?;
+    text(alloc, &outcomes(alloc, &out)?)
 }
 
 /// An operation on a column, as `65 negate 3,3,3`.
@@ -29,7 +31,7 @@ fn one(alloc: Global, words: &str) -> Result<String> {
     let operand = column(alloc, len.parse::<usize>()?, operand)?;
     let mut out = Column::new(alloc)?;
     operate_column(operation_on_one(op)?, &operand, &mut out);
-    text(alloc, &out)
+    text(alloc, &outcomes(alloc, &out)?)
 }
 
 /// A condenser told of points in this order, as `sum 65:Overflow,64:DivideByZero`; `-` for none.
@@ -46,26 +48,7 @@ fn told(alloc: Global, words: &str) -> Result<String> {
             }
         }
     }
-    shown_end(alloc, accumulator)
-}
-
-fn shown_end(alloc: Global, accumulator: Accumulator) -> Result<String> {
     Ok(shown(alloc, accumulator.finish())?)
-}
-
-/// A condenser of a column whose cells have places one after the other, as `sum 65 3,3,3`.
-fn folded(alloc: Global, words: &str) -> Result<String> {
-    let (op, rest) = words.split_once(' ').context("no length")?;
-    let (len, cells) = rest.split_once(' ').context("no column")?;
-    let cells = column(alloc, len.parse::<usize>()?, cells)?;
-    let mut places = Vec::new(alloc);
-    for place in 0..cells.len() {
-        places.push(place as u64)?;
-    }
-    if places.len() != cells.len() {
-        bail!("places of another number");
-    }
-    shown_end(alloc, fold_column(aggregate(op)?, &cells, &places))
 }
 
 impl Layer for Kernels {
@@ -77,6 +60,10 @@ impl Layer for Kernels {
             "one" => one(alloc, words),
             "told" => told(alloc, words),
             "folded" => folded(alloc, words),
+            "folded_where" => folded_where(alloc, words),
+            "merged" => merged(alloc, words),
+            "added" => added(alloc, words),
+            "added_where" => added_where(alloc, words),
             _ => bail!("no call {verb}"),
         }
     }

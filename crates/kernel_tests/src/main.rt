@@ -1,8 +1,9 @@
-//! Worked values of the kernels, each a row of standard input: operations on columns of every length, and condensers that
-//! are told of their points in any order.
+//! Worked values of the kernels, each a row of standard input: operations on columns of every length, and condensers
+//! that are told of their points in any order.
 #![tactic(auto)]
 
 mod columns;
+mod folds;
 mod layer;
 mod words;
 

@@ -4,7 +4,7 @@ use Rattle.std.proofs.lemmas.Int.{ints, by_lt_z}
 use Rattle.wcps_mean.specs.declared.aggregate.Aggregate.{Aggregate}
 use Rattle.wcps_mean.specs.declared.aggregate.Aggregate.TheVariants.{Sum, Product, Greatest, Least, Every, Any, Count, Average}
 use Rattle.wcps_mean.specs.Condensers.{larger, smaller, greatest, least}
-use Rattle.wcps_mean.specs.Best.{greatest_of, least_of, top_of, bottom_of}
+use Rattle.wcps_mean.specs.Best.{greatest_of, least_of}
 use Rattle.tile_kernel.specs.Joins.{better, best_both}
 
 -- ---- the larger of two

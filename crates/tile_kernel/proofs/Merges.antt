@@ -1,5 +1,5 @@
 -- What is kept of two lists of points at once.
-use Rattle.std.proofs.Common.{◌≡◌, ℕ, zero, suc, ◌+◌, ◌*◌, ◌^◌, ◌<◌, ◌≤◌, min, arith, List, [], ◌∷◌, ◌++◌, length, map, refl, sym, ap, ◌∙◌, subst, ℤ, pos, negsuc, ◌+ℤ◌, Bool, true, false, ◌&&◌, ◌||◌, cond, Option, Some, None, inl, inr, mul_assoc, mul_comm, length-append}
+use Rattle.std.proofs.Common.{◌≡◌, ℕ, zero, suc, ◌+◌, ◌*◌, ◌^◌, ◌<◌, ◌≤◌, min, arith, List, [], ◌∷◌, ◌++◌, refl, sym, ap, ◌∙◌, subst, ℤ, pos, negsuc, ◌+ℤ◌, Bool, true, false, ◌&&◌, ◌||◌, inl, inr, mul_assoc, mul_comm, length-append}
 use Rattle.std.specs.List.Sorted.{IsPermutation}
 use Rattle.std.proofs.Math.Nat.{mul-le-mul_right, le-mul_of_pos_right}
 use Rattle.std.proofs.lemmas.Int.{ints}
@@ -10,17 +10,16 @@ use Rattle.wcps_mean.specs.declared.aggregate.Aggregate.{Aggregate}
 use Rattle.wcps_mean.specs.declared.aggregate.Aggregate.TheVariants.{Sum, Product, Greatest, Least, Every, Any, Count, Average}
 use Rattle.wcps_mean.specs.declared.running.Running.{Running}
 use Rattle.wcps_mean.specs.declared.product.Product as kept
-use Rattle.wcps_mean.specs.declared.cell.PointFault.{PointFault}
 use Rattle.wcps_mean.specs.declared.cell.Outcome.{Outcome}
 use Rattle.wcps_mean.specs.declared.cell.Outcome.TheVariants.{Value, Fault}
 use Rattle.wcps_mean.specs.Cells.{is_true, differ}
-use Rattle.wcps_mean.specs.Condensers.{values, total, every, any, trues, first_fault}
+use Rattle.wcps_mean.specs.Condensers.{values, total, every, any, trues}
 use Rattle.wcps_mean.specs.Best.{greatest_of, least_of}
 use Rattle.wcps_mean.specs.Magnitudes.{cap, is_zero, is_negative, magnitude_of, has_zero_of, sign_of, size_of}
 use Rattle.wcps_mean.specs.Products.{StandsFor}
 use Rattle.wcps_mean.specs.Feeding.{Keeps, Fed}
 use Rattle.tile_kernel.specs.declared.accumulator.Accumulator.{Accumulator}
-use Rattle.tile_kernel.specs.Told.{Told, outcomes, AreRising, IsLeastFault}
+use Rattle.tile_kernel.specs.Told.{Told, outcomes, AreRising, IsFirst}
 use Rattle.tile_kernel.specs.Joins.{best_both}
 use Rattle.tile_kernel.specs.Standing.{Stands}
 use Rattle.tile_kernel.proofs.Bests.{greatest_of-append, least_of-append}
@@ -163,12 +162,12 @@ keeps_permuted Count r told ordered p h = h ∙ trues-permuted told ordered p
 pub stands_one : (r : Running) (place : ℕ) (o : Outcome) → Fed r (o ∷ []) → Stands (record { running = r; place = place }) ((place, o) ∷ [])
 stands_one r place o h = record {
   counted = h.counted;
-  faulted = subst (λ f. IsLeastFault f place ((place, o) ∷ [])) (sym h.faulted) (fault_of_one place o);
+  faulted = subst (λ f. IsFirst f place ((place, o) ∷ [])) (sym h.faulted) (fault_of_one place o);
   kept = h.kept;
 }
 
 pub stands_merged : (a b r : Accumulator) (told more : List Told) → r.running.count ≡ a.running.count + b.running.count → r.running.op ≡ a.running.op → a.running.op ≡ b.running.op
-    → ((told more : List Told) → IsLeastFault a.running.fault a.place told → IsLeastFault b.running.fault b.place more → IsLeastFault r.running.fault r.place (told ++ more))
+    → ((told more : List Told) → IsFirst a.running.fault a.place told → IsFirst b.running.fault b.place more → IsFirst r.running.fault r.place (told ++ more))
     → ((zs ws : List ℤ) → Keeps a.running.op a.running zs → Keeps a.running.op b.running ws → Keeps a.running.op r.running (zs ++ ws))
     → Stands a told → Stands b more → Stands r (told ++ more)
 stands_merged a b r told more n o same f k h g = record {

@@ -1,5 +1,5 @@
 -- What does not depend on the order of a list.
-use Rattle.std.proofs.Common.{◌≡◌, ℕ, zero, suc, ◌+◌, ◌*◌, ◌<◌, ◌≤◌, arith, List, [], ◌∷◌, length, get_or, set, map, refl, sym, ap, ◌∙◌, ℤ, pos, ◌+ℤ◌, Bool, true, false, ◌&&◌, ◌||◌, cond, Option, Some, None, mul_assoc, mul_comm}
+use Rattle.std.proofs.Common.{◌≡◌, ℕ, zero, suc, ◌+◌, ◌*◌, ◌<◌, arith, List, [], ◌∷◌, length, get_or, set, refl, sym, ap, ◌∙◌, ℤ, ◌+ℤ◌, Bool, true, false, ◌&&◌, ◌||◌, cond, mul_assoc, mul_comm}
 use Rattle.std.specs.List.{swap}
 use Rattle.std.specs.List.Sorted.{IsPermutation}
 use Rattle.std.proofs.lemmas.List.Sorted.{IsPermutation-keeps}
@@ -7,7 +7,7 @@ use Rattle.std.proofs.lemmas.Int.{ints}
 use Rattle.wcps_mean.specs.declared.cell.Outcome.{Outcome}
 use Rattle.wcps_mean.specs.declared.cell.Outcome.TheVariants.{Value, Fault}
 use Rattle.wcps_mean.specs.Cells.{is_true, differ}
-use Rattle.wcps_mean.specs.Condensers.{values, total, every, any, trues, greatest, least}
+use Rattle.wcps_mean.specs.Condensers.{values, total, every, any, trues}
 use Rattle.wcps_mean.specs.Best.{greatest_of, least_of}
 use Rattle.wcps_mean.specs.Magnitudes.{is_zero, is_negative, magnitude_of, has_zero_of, sign_of, size_of}
 use Rattle.tile_kernel.specs.Told.{Told, outcomes}

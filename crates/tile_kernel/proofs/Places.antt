@@ -104,6 +104,11 @@ value_there form n zs fs column cells k f e room same lt =
     let m = places_are form n zs fs column e room in
     ap (λ c. outcome_at c k) (sym e ∙ ap (λ g. seen g n zs fs) f) ∙ at_values n k zs fs (pos 0) (Value (pos 0)) (omega arith) room ∙ ap (λ l. Value (get_or l k (pos 0))) (sym same)
 
+pub same_there : (form : Form) (n : ℕ) (zs : List ℤ) (fs : List (Option PointFault)) (column : List Outcome) (o : Outcome) (k : ℕ) → form ≡ Same o → seen form n zs fs ≡ column → IsRoomy n zs fs → k < length column → outcome_at column k ≡ o
+same_there form n zs fs column o k f e room lt =
+    let m = places_are form n zs fs column e room in
+    ap (λ c. outcome_at c k) (sym e ∙ ap (λ g. seen g n zs fs) f) ∙ at_same o n k zs fs (Value (pos 0)) (omega arith)
+
 pub mixed_there : (form : Form) (n : ℕ) (zs : List ℤ) (fs : List (Option PointFault)) (column : List Outcome) (k : ℕ) (z : ℤ) (f : Option PointFault) (o : Outcome) → form ≡ Mixed → seen form n zs fs ≡ column → IsRoomy n zs fs → k < length column → z ≡ get_or zs k z → f ≡ get_or fs k f → o ≡ outcome_of z f → slice_get column k ≡ Some o
 mixed_there form n zs fs column k z f o g e room lt p q h =
     let m = places_are form n zs fs column e room in

@@ -1,9 +1,9 @@
 -- Results that lie in 64 bits.
-use Rattle.std.proofs.Common.{◌≡◌, ℕ, suc, ◌-◌, ◌^◌, ◌<◌, ◌≤◌, arith, ℤ, pos, negsuc, ◌*ℤ◌, ap, sym, ◌∙◌, inl, inr, w64, to_z, FitsSigned, SFits, cond, Bool, true, false, subst, of_z}
-use Rattle.std.specs.Int.{int_wrapping_mul}
+use Rattle.std.proofs.Common.{◌≡◌, ◌-◌, ◌≤◌, ◌^◌, unsigned_abs, arith, ℤ, pos, negsuc, ◌*ℤ◌, ap, sym, ◌∙◌, w64, to_z, FitsSigned, SFits, cond, Bool, false, subst, of_z}
+use Rattle.std.specs.Int.{w32, int_wrapping_mul}
 use Rattle.std.specs.Bool.{FalseIff}
 use Rattle.wcps_mean.specs.declared.cell.Outcome.{Outcome}
-use Rattle.std.proofs.lemmas.Int.{ints, wrapping_mul_is, int_wrap_fits, to_z-of_z}
+use Rattle.std.proofs.lemmas.Int.{ints, fits_signed_mul, wrapping_mul_is, int_wrap_fits, to_z-of_z}
 use Rattle.std.proofs.lemmas.Bool.{lt-ltb}
 use Rattle.wcps_mean.specs.declared.cell.PointFault.TheVariants.{Overflow}
 use Rattle.wcps_mean.specs.declared.cell.Outcome.TheVariants.{Value, Fault}
@@ -28,3 +28,13 @@ read_result exact a b x y v f g h p q e =
     ap (λ x. exact x y) (sym p) ∙ ap (λ y. exact a y) (sym q)
     ∙ ap (λ x. exact x b) (sym (to_z-of_z w64 a f)) ∙ ap (λ y. exact (to_z w64 (of_z w64 a)) y) (sym (to_z-of_z w64 b g))
     ∙ e ∙ ap Value (sym (to_z-of_z w64 v h))
+
+narrow_size : (x : ℤ) → FitsSigned w32 x → unsigned_abs x ≤ 2 ^ 31
+narrow_size (pos n) h = omega (arith, ints, h)
+narrow_size (negsuc n) h = omega (arith, ints, h)
+
+-- the product of two values that fit 32 bits
+pub narrow_product : (x y v : ℤ) → SFits w64 x → SFits w64 y → FitsSigned w32 x → FitsSigned w32 y → v ≡ int_wrapping_mul w64 x y → SFits w64 v → ranged (x *ℤ y) ≡ Value v
+narrow_product x y v f g a b e fits =
+    let wide : FitsSigned w64 (x *ℤ y) = fits_signed_mul w64 x y (2 ^ 31) (2 ^ 31) (narrow_size x a) (narrow_size y b) (omega arith) in
+    ranged_same (x *ℤ y) v (product_kept x y f g wide ∙ sym e) fits

@@ -1,22 +1,25 @@
 -- Accumulators of columns.
 use Rattle.std.proofs.Common.{◌≡◌, ℕ, zero, suc, ◌+◌, ◌<◌, ◌≤◌, ◌≢◌, arith, List, [], ◌∷◌, ◌++◌, length, get_or, set, take, map, refl, sym, ap, ◌∙◌, subst, ℤ, pos, Option, Some, None, below_more, get_or-set_other, get_or-set_same}
-use Rattle.std.specs.Prelude.{slice_get}
+use Rattle.std.specs.Prelude.{slice_get, IfSome, replicate, Bool, true, false, cond}
 use Rattle.std.specs.List.{All}
-use Rattle.std.proofs.lemmas.Option.{slice_get-get_or, slice_get_within}
-use Rattle.std.proofs.lemmas.List.{take_more, append-nil, append_assoc}
-use Rattle.std.proofs.lemmas.List.Elements.{All-cons, All-nil}
+use Rattle.std.proofs.lemmas.Option.{slice_get-get_or}
+use Rattle.std.proofs.Common.{length-append}
+use Rattle.std.proofs.lemmas.List.{take_more, append-nil, append_assoc, length-replicate, get_or-replicate}
+use Rattle.std.proofs.lemmas.List.Elements.{All-cons, All-nil, All-append}
 use Rattle.wcps_mean.specs.declared.running.Running.{Running}
 use Rattle.wcps_mean.specs.declared.aggregate.Aggregate.{Aggregate}
-use Rattle.wcps_mean.specs.declared.cell.PointFault.{PointFault}
 use Rattle.wcps_mean.specs.declared.cell.Outcome.{Outcome}
-use Rattle.wcps_mean.specs.declared.cell.Outcome.TheVariants.{Value}
-use Rattle.wcps_mean.specs.Condensers.{values}
+use Rattle.wcps_mean.specs.declared.cell.Outcome.TheVariants.{Value, Fault}
+use Rattle.wcps_mean.specs.Cells.{is_true}
+use Rattle.wcps_mean.specs.Condensers.{values, demanded}
+use Rattle.wcps_mean.proofs.Feeds.{values-append}
 use Rattle.wcps_mean.specs.Feeding.{Keeps}
 use Rattle.tile_kernel.specs.declared.accumulator.Accumulator.{Accumulator}
 use Rattle.tile_kernel.specs.Columns.{outcome_at}
-use Rattle.tile_kernel.specs.Told.{Told, outcomes, told_at, demanded_of, demanded_at, IsValue, IsLeastFault}
-use Rattle.tile_kernel.specs.Standing.{Stands, EachStands}
-use Rattle.tile_kernel.proofs.Places.{outcome_there, other_default}
+use Rattle.tile_kernel.specs.Told.{Told, outcomes, told_at, demanded_of, demanded_at, IsValue, IsFirst}
+use Rattle.tile_kernel.specs.Selected.{selected, Chooses}
+use Rattle.tile_kernel.specs.Standing.{Stands, IsCondensed, IsCondensedWhere}
+use Rattle.tile_kernel.proofs.Places.{outcome_there}
 
 -- ---- cells at their places
 
@@ -39,32 +42,6 @@ told_more ps os k p o a b h lt e f step s =
     let there : outcome_at os k ≡ o = outcome_there os k o f in
     let here : get_or (told_at ps os) k (p, o) ≡ (p, o) = get_or-told_at ps os k 0 (Value (pos 0)) (p, o) h lt ∙ ap (λ q. (q, outcome_at os k)) (sym e) ∙ ap (λ x. (p, x)) there in
     subst (Stands b) (sym (take_more (told_at ps os) k (p, o) (omega arith) ∙ ap (λ t. take k (told_at ps os) ++ t ∷ []) here)) (step (take k (told_at ps os)) s)
-
-outcomes-told_at : (ps : List ℕ) (os : List Outcome) → length ps ≡ length os → outcomes (told_at ps os) ≡ os
-outcomes-told_at [] [] h = refl
-outcomes-told_at [] (o ∷ os) h = absurd (omega arith)
-outcomes-told_at (p ∷ ps) [] h = absurd (omega arith)
-outcomes-told_at (p ∷ ps) (o ∷ os) h = ap (λ l. o ∷ l) (outcomes-told_at ps os (omega arith))
-
-values_of_values : (zs : List ℤ) → values (map Value zs) ≡ zs
-values_of_values [] = refl
-values_of_values (z ∷ zs) = ap (λ l. z ∷ l) (values_of_values zs)
-
-all_values : (ps : List ℕ) (zs : List ℤ) → All (λ (t : Told). IsValue t.1) (told_at ps (map Value zs))
-all_values [] zs = All-nil (λ (t : Told). IsValue t.1)
-all_values (p ∷ ps) [] = All-nil (λ (t : Told). IsValue t.1)
-all_values (p ∷ ps) (z ∷ zs) = All-cons (λ (t : Told). IsValue t.1) (p, Value z) (told_at ps (map Value zs)) tt (all_values ps zs)
-
--- a column without faults
-pub stands_values : (r : Running) (op : Aggregate) (ps : List ℕ) (zs : List ℤ) (column : List Outcome) → map Value zs ≡ column → length ps ≡ length column → r.op ≡ op → r.count ≡ length column → r.fault ≡ None → Keeps op r zs → Stands (record { running = r; place = 0 }) (told_at ps column)
-stands_values r op ps zs column e h o n f k =
-    subst (λ c. length ps ≡ length c → r.count ≡ length c → Stands (record { running = r; place = 0 }) (told_at ps c)) e
-    (λ l m. record {
-      counted = m ∙ sym (length-told_at ps (map Value zs) l);
-      faulted = subst (λ f. IsLeastFault f 0 (told_at ps (map Value zs))) (sym f) (all_values ps zs);
-      kept = subst (λ op. Keeps op r (values (outcomes (told_at ps (map Value zs))))) (sym o)
-          (subst (Keeps op r) (sym (ap values (outcomes-told_at ps (map Value zs) l) ∙ values_of_values zs)) k);
-    }) h n
 
 -- ---- under a condition
 
@@ -100,6 +77,118 @@ told_whole ps os k a h le s = let n = length-told_at ps os h in subst (Stands a)
 pub demanded_whole : (ps : List ℕ) (cs os : List Outcome) (k : ℕ) (a : Accumulator) → length ps ≡ length os → length cs ≡ length os → length os ≤ k → Stands a (demanded_at (take k ps) (take k cs) (take k os)) → Stands a (demanded_at ps cs os)
 demanded_whole ps cs os k a h g le s =
     subst (Stands a) (ap (λ l. demanded_at l (take k cs) (take k os)) (whole k ps (omega arith)) ∙ ap (λ l. demanded_at ps l (take k os)) (whole k cs (omega arith)) ∙ ap (demanded_at ps cs) (whole k os le)) s
+
+-- ---- places that count
+
+outcomes-append : (a b : List Told) → outcomes (a ++ b) ≡ outcomes a ++ outcomes b
+outcomes-append [] b = refl
+outcomes-append (t ∷ a) b = ap (λ l. t.1 ∷ l) (outcomes-append a b)
+
+outcomes-same : (p : ℕ) (os : List Outcome) → outcomes (map (λ (d : Outcome). (p, d)) os) ≡ os
+outcomes-same p [] = refl
+outcomes-same p (o ∷ os) = ap (λ l. o ∷ l) (outcomes-same p os)
+
+-- what a chosen value adds
+values_chosen : (b : Bool) (z : ℤ) → values (cond b (Value z ∷ []) []) ≡ cond b (z ∷ []) []
+values_chosen true z = refl
+values_chosen false z = refl
+
+length_chosen : (b : Bool) (z : ℤ) (p : ℕ) → length {A = Told} (map (λ (d : Outcome). (p, d)) (cond b (Value z ∷ []) [])) ≡ length (cond b (z ∷ []) [])
+length_chosen true z p = refl
+length_chosen false z p = refl
+
+faultless_chosen : (b : Bool) (z : ℤ) (p : ℕ) → All (λ (t : Told). IsValue t.1) (map (λ (d : Outcome). (p, d)) (cond b (Value z ∷ []) []))
+faultless_chosen true z p = All-cons (λ (t : Told). IsValue t.1) (p, Value z) [] tt (All-nil (λ (t : Told). IsValue t.1))
+faultless_chosen false z p = All-nil (λ (t : Told). IsValue t.1)
+
+-- the values of a column that count, at their places
+record IsChosen (told : List Told) (zs : List ℤ) : Type 0 where
+  counted : length told ≡ length zs
+  faultless : All (λ (t : Told). IsValue t.1) told
+  kept : values (outcomes told) ≡ zs
+
+chosen_step : (b : Bool) (z : ℤ) (p : ℕ) (more : List Outcome) (told : List Told) (zs : List ℤ) → more ≡ cond b (Value z ∷ []) [] → IsChosen told zs → IsChosen (told ++ map (λ (d : Outcome). (p, d)) more) (zs ++ cond b (z ∷ []) [])
+chosen_step b z p more told zs e h =
+    subst (λ (m : List Outcome). IsChosen (told ++ map (λ (d : Outcome). (p, d)) m) (zs ++ cond b (z ∷ []) [])) (sym e)
+    (record {
+      counted = length-append told (map (λ (d : Outcome). (p, d)) (cond b (Value z ∷ []) [])) ∙ ap (λ n. n + length {A = Told} (map (λ (d : Outcome). (p, d)) (cond b (Value z ∷ []) []))) h.counted ∙ ap (λ n. length zs + n) (length_chosen b z p) ∙ sym (length-append zs (cond b (z ∷ []) []));
+      faultless = All-append (λ (t : Told). IsValue t.1) told (map (λ (d : Outcome). (p, d)) (cond b (Value z ∷ []) [])) h.faultless (faultless_chosen b z p);
+      kept = ap values (outcomes-append told (map (λ (d : Outcome). (p, d)) (cond b (Value z ∷ []) [])) ∙ ap (λ l. outcomes told ++ l) (outcomes-same p (cond b (Value z ∷ []) []))) ∙ values-append (outcomes told) (cond b (Value z ∷ []) []) ∙ ap (λ l. l ++ values (cond b (Value z ∷ []) [])) h.kept ∙ ap (λ l. zs ++ l) (values_chosen b z);
+    })
+
+chosen_front : (P : ℕ → Bool) (v : ℕ → ℤ) (ps : List ℕ) (cs os : List Outcome) → length ps ≡ length os → length cs ≡ length os → Chooses P cs → ((k : ℕ) → k < length os → outcome_at os k ≡ Value (v k))
+    → (k : ℕ) → k ≤ length os → IsChosen (demanded_at (take k ps) (take k cs) (take k os)) (selected P v k)
+chosen_front P v ps cs os h g choose at zero le = record { counted = refl; faultless = All-nil (λ (t : Told). IsValue t.1); kept = refl }
+chosen_front P v ps cs os h g choose at (suc k) le =
+    let lt : k < length os = omega arith in
+    let c = outcome_at cs k in
+    let o = outcome_at os k in
+    let there : slice_get cs k ≡ Some c = slice_get-get_or cs k (Value (pos 0)) (omega arith) in
+    let here : slice_get os k ≡ Some o = slice_get-get_or os k (Value (pos 0)) lt in
+    let before = chosen_front P v ps cs os h g choose at k (omega arith) in
+    let step = chosen_step (P k) (v k) (get_or ps k 0) (demanded c o) (demanded_at (take k ps) (take k cs) (take k os)) (selected P v k)
+    (choose k o (omega arith) ∙ ap (λ o. cond (P k) (o ∷ []) []) (at k lt)) before in
+    subst (λ l. IsChosen l (selected P v (suc k))) (sym (demanded_suc ps cs os k (get_or ps k 0) c o h g lt refl there here)) step
+
+-- what is kept of the values that count stands for the places that count
+pub stands_chosen : (op : Aggregate) (r : Running) (P : ℕ → Bool) (v : ℕ → ℤ) (n : ℕ) (column : List Outcome) → n ≡ length column → ((k : ℕ) → k < length column → outcome_at column k ≡ Value (v k))
+    → r.op ≡ op → r.count ≡ length (selected P v n) → r.fault ≡ None → Keeps op r (selected P v n) → IsCondensed op P column (record { running = r; place = 0 })
+stands_chosen op r P v n column e at o m f k = λ places condition h g choose.
+    let told = demanded_at places condition column in
+    let whole_of : demanded_at (take n places) (take n condition) (take n column) ≡ told =
+    ap (λ l. demanded_at l (take n condition) (take n column)) (whole n places (omega arith)) ∙ ap (λ l. demanded_at places l (take n column)) (whole n condition (omega arith)) ∙ ap (demanded_at places condition) (whole n column (omega arith)) in
+    let chosen = subst (λ l. IsChosen l (selected P v n)) whole_of (chosen_front P v places condition column h g choose at n (omega arith)) in (
+      o,
+      record {
+        counted = m ∙ sym chosen.counted;
+        faulted = subst (λ f. IsFirst f 0 told) (sym f) chosen.faultless;
+        kept = subst (λ op. Keeps op r (values (outcomes told))) (sym o) (subst (Keeps op r) (sym chosen.kept) k);
+      },
+    )
+
+pub condensed_where : (r : Option Accumulator) (op : Aggregate) (P : ℕ → Bool) (condition column : List Outcome) → length condition ≡ length column → Chooses P condition
+    → IfSome r (λ a. IsCondensed op P column a) → IfSome r (λ a. IsCondensedWhere op condition column a)
+condensed_where None op P condition column h choose f = f
+condensed_where (Some a) op P condition column h choose f = λ places g. f places condition g h choose
+
+-- a condition that is true everywhere
+all_demanded : (ps : List ℕ) (os : List Outcome) → demanded_at ps (replicate (length os) (Value (pos 1))) os ≡ told_at ps os
+all_demanded [] os = refl
+all_demanded (p ∷ ps) [] = refl
+all_demanded (p ∷ ps) (o ∷ os) = ap (λ l. (p, o) ∷ l) (all_demanded ps os)
+
+pub chooses_same : (n : ℕ) (x : ℤ) (P : ℕ → Bool) → ((k : ℕ) → P k ≡ is_true x) → Chooses P (replicate n (Value x))
+chooses_same n x P h = λ k o lt.
+    ap (λ c. demanded c o) (get_or-replicate n k (Value x) (Value (pos 0)) (omega (arith, length-replicate n (Value x)))) ∙ ap (λ b. cond b (o ∷ []) []) (sym (h k))
+
+-- every cell counts
+pub stands_all : (op : Aggregate) (column : List Outcome) (a : Accumulator) (places : List ℕ) → length places ≡ length column → IsCondensed op (λ k. true) column a → (a.running.op ≡ op) × Stands a (told_at places column)
+stands_all op column a places h f =
+    let n = length-replicate (length column) (Value (pos 1)) in
+    let s = f places (replicate (length column) (Value (pos 1))) h n (chooses_same (length column) (pos 1) (λ k. true) (λ k. refl)) in
+    (s.0, subst (Stands a) (all_demanded places column) s.1)
+
+-- a condition that is false everywhere
+none_demanded : (x : ℤ) (ps : List ℕ) (os : List Outcome) → is_true x ≡ false → demanded_at ps (replicate (length os) (Value x)) os ≡ []
+none_demanded x [] os h = refl
+none_demanded x (p ∷ ps) [] h = refl
+none_demanded x (p ∷ ps) (o ∷ os) h = ap (λ b. map (λ (d : Outcome). (p, d)) (cond b (o ∷ []) []) ++ demanded_at ps (replicate (length os) (Value x)) os) h ∙ none_demanded x ps os h
+
+pub condensed_none : (op : Aggregate) (condition column : List Outcome) (x : ℤ) (n : ℕ) (a : Accumulator) → replicate n (Value x) ≡ condition → length condition ≡ length column → is_true x ≡ false → a.running.op ≡ op → Stands a [] → IsCondensedWhere op condition column a
+condensed_none op condition column x n a e h f o s = λ places g.
+    let m : n ≡ length column = sym (length-replicate n (Value x)) ∙ ap length e ∙ h in
+    (o, subst (Stands a) (sym (ap (λ c. demanded_at places c column) (sym e ∙ ap (λ k. replicate k (Value x)) m) ∙ none_demanded x places column f)) s)
+
+few_chosen : (b : Bool) (p : ℕ) (o : Outcome) (told : List Told) (n : ℕ) → length told ≤ n → length {A = Told} (map (λ (d : Outcome). (p, d)) (cond b (o ∷ []) []) ++ told) ≤ suc n
+few_chosen true p o told n h = omega arith
+few_chosen false p o told n h = omega arith
+
+pub few_demanded : (ps : List ℕ) (cs os : List Outcome) → length (demanded_at ps cs os) ≤ length os
+few_demanded [] cs os = omega arith
+few_demanded (p ∷ ps) [] os = omega arith
+few_demanded (p ∷ ps) (c ∷ cs) [] = omega arith
+few_demanded (p ∷ ps) (Value z ∷ cs) (o ∷ os) = few_chosen (is_true z) p o (demanded_at ps cs os) (length os) (few_demanded ps cs os)
+few_demanded (p ∷ ps) (Fault f ∷ cs) (o ∷ os) = let h = few_demanded ps cs os in omega arith
 
 -- ---- an accumulator at each place
 

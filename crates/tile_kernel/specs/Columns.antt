@@ -1,5 +1,5 @@
 -- Columns as lists of outcomes.
-use Rattle.std.specs.Prelude.{◌≡◌, ℕ, ◌≤◌, ℤ, pos, List, [], ◌∷◌, map, length, take, replicate, slice_index_or, Option, Some, None}
+use Rattle.std.specs.Prelude.{◌≡◌, ℕ, ◌<◌, ◌≤◌, ℤ, pos, List, [], ◌∷◌, map, length, take, replicate, slice_index_or, Option, Some, None}
 use Rattle.wcps_types.specs.declared.typed.Operation1.{Operation1}
 use Rattle.wcps_types.specs.declared.typed.Operation2.{Operation2}
 use Rattle.wcps_mean.specs.declared.cell.PointFault.{PointFault}
@@ -34,6 +34,25 @@ pub record IsRoomy (n : ℕ) (zs : List ℤ) (fs : List (Option PointFault)) : T
 -- the outcome at a place of a column
 abbrev pub outcome_at : List Outcome → ℕ → Outcome
 outcome_at column k = slice_index_or column k (Value (pos 0))
+
+-- the operation at a place
+abbrev pub each1 : Operation1 → List Outcome → ℕ → Outcome
+each1 op column k = operate1 op (outcome_at column k)
+
+abbrev pub each2 : Operation2 → List Outcome → List Outcome → ℕ → Outcome
+each2 op left right k = operate2 op (outcome_at left k) (outcome_at right k)
+
+-- with a value on the left
+abbrev pub each_with : Operation2 → (ℕ → ℤ) → List Outcome → ℕ → Outcome
+each_with op left right k = operate2 op (Value (left k)) (outcome_at right k)
+
+-- each of the first n outcomes is the value there
+abbrev pub AreValues : ℕ → (ℕ → Outcome) → List ℤ → Type 0
+AreValues n outcomes zs = (k : ℕ) → k < n → outcomes k ≡ Value (slice_index_or zs k (pos 0))
+
+-- each of the first n outcomes is told by the value and the fault there
+abbrev pub AreOutcomes : ℕ → (ℕ → Outcome) → List ℤ → List (Option PointFault) → Type 0
+AreOutcomes n outcomes zs fs = (k : ℕ) → k < n → outcome_of (slice_index_or zs k (pos 0)) (slice_index_or fs k None) ≡ outcomes k
 
 -- the operation at each place
 abbrev pub operate_all : Operation2 → List Outcome → List Outcome → List Outcome

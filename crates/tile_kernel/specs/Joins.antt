@@ -1,8 +1,12 @@
 -- What is kept of two lists of values at once.
-use Rattle.std.specs.Prelude.{◌≡◌, ℤ, List, ◌++◌, Option, Some, None}
+use Rattle.std.specs.Prelude.{ℤ, List, ◌++◌, Option, Some, None}
 use Rattle.wcps_mean.specs.declared.aggregate.Aggregate.{Aggregate}
-use Rattle.wcps_mean.specs.declared.aggregate.Aggregate.TheVariants.{Sum, Product, Greatest, Least, Every, Any, Count, Average}
+use Rattle.wcps_mean.specs.declared.aggregate.Aggregate.TheVariants.{Greatest}
 use Rattle.wcps_mean.specs.Condensers.{larger, smaller}
+
+-- what holds of one list and what holds of another give what holds of both, one after the other
+abbrev pub HoldsOfBoth : {X : Type 0} → (List X → Type 0) → (List X → Type 0) → (List X → Type 0) → Type 0
+HoldsOfBoth P Q R = (xs ys : List _) → P xs → Q ys → R (xs ++ ys)
 
 -- the better of two values: of a greatest the larger one, else the smaller one
 abbrev pub better : Aggregate → ℤ → ℤ → ℤ

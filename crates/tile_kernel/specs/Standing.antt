@@ -1,16 +1,45 @@
 -- What an accumulator stands for.
-use Rattle.std.specs.Prelude.{◌≡◌, ℕ, ◌<◌, List, length, slice_index_or}
+use Rattle.std.specs.Prelude.{◌≡◌, ℕ, ◌<◌, ◌≤◌, List, ◌++◌, length, slice_index_or, Bool}
+use Rattle.std.specs.List.{All}
+use Rattle.wcps_mean.specs.declared.aggregate.Aggregate.{Aggregate}
+use Rattle.wcps_mean.specs.declared.cell.Outcome.{Outcome}
 use Rattle.wcps_mean.specs.Condensers.{values}
 use Rattle.wcps_mean.specs.Feeding.{Keeps}
 use Rattle.tile_kernel.specs.declared.accumulator.Accumulator.{Accumulator}
-use Rattle.tile_kernel.specs.Told.{Told, outcomes, IsLeastFault}
+use Rattle.tile_kernel.specs.Selected.{Chooses}
+use Rattle.tile_kernel.specs.Told.{Told, outcomes, demanded_at, IsFirst}
 
 -- it stands for these points, told in any order
 pub record Stands (a : Accumulator) (told : List Told) : Type 0 where
   pub counted : a.running.count ≡ length told
-  pub faulted : IsLeastFault a.running.fault a.place told
+  pub faulted : IsFirst a.running.fault a.place told
   pub kept : Keeps a.running.op a.running (values (outcomes told))
+
+-- whatever it stood for before, it stands for these points besides
+abbrev pub TakesIn : Accumulator → Accumulator → List Told → Type 0
+TakesIn before after more = (told : List Told) → Stands before told → Stands after (told ++ more)
 
 -- an accumulator at each place, each for points of its own
 abbrev pub EachStands : List Accumulator → (ℕ → List Told) → Type 0
 EachStands folds told = (k : ℕ) (d : Accumulator) → k < length folds → Stands (slice_index_or folds k d) (told k)
+
+-- each takes in points of its own
+abbrev pub EachTakesIn : List Accumulator → List Accumulator → (ℕ → List Told) → Type 0
+EachTakesIn before after more = (told : ℕ → List Told) → EachStands before told → EachStands after (λ k. told k ++ more k)
+
+-- all are of one kind
+abbrev pub AreOf : Aggregate → List Accumulator → Type 0
+AreOf op folds = All (λ (a : Accumulator). a.running.op ≡ op) folds
+
+-- none has been told of more than n points
+abbrev pub HaveAtMost : ℕ → List Accumulator → Type 0
+HaveAtMost n folds = All (λ (a : Accumulator). a.running.count ≤ n) folds
+
+-- it stands for the cells of a column under any condition that is true where a place counts
+abbrev pub IsCondensed : Aggregate → (ℕ → Bool) → List Outcome → Accumulator → Type 0
+IsCondensed op counts column a = (places : List ℕ) (condition : List Outcome) → length places ≡ length column → length condition ≡ length column
+    → Chooses counts condition → (a.running.op ≡ op) × Stands a (demanded_at places condition column)
+
+-- it stands for the cells of a column under a condition, whatever places they have
+abbrev pub IsCondensedWhere : Aggregate → List Outcome → List Outcome → Accumulator → Type 0
+IsCondensedWhere op condition column a = (places : List ℕ) → length places ≡ length column → (a.running.op ≡ op) × Stands a (demanded_at places condition column)

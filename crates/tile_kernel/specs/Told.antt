@@ -1,10 +1,13 @@
 -- Points that a condenser has been told of.
 use Rattle.std.specs.Prelude.{◌≡◌, ℕ, ◌<◌, ◌≤◌, List, [], ◌∷◌, ◌++◌, map, Option, Some, None}
 use Rattle.std.specs.List.{All, Contains, enumerate_from}
+use Rattle.std.specs.List.Sorted.{IsPermutation}
 use Rattle.wcps_mean.specs.declared.cell.PointFault.{PointFault}
 use Rattle.wcps_mean.specs.declared.cell.Outcome.{Outcome}
 use Rattle.wcps_mean.specs.declared.cell.Outcome.TheVariants.{Value, Fault}
-use Rattle.wcps_mean.specs.Condensers.{demanded}
+use Rattle.wcps_mean.specs.declared.aggregate.Aggregate.{Aggregate}
+use Rattle.wcps_mean.specs.Condensers.{demanded, condensed}
+use Rattle.tile_kernel.specs.Columns.{outcome_at}
 
 -- a point, by its place in the row-major list of its box, and its outcome
 abbrev pub Told : Type 0
@@ -39,6 +42,15 @@ demanded_at (p ∷ ps) [] os = []
 demanded_at (p ∷ ps) (c ∷ cs) [] = []
 demanded_at (p ∷ ps) (c ∷ cs) (o ∷ os) = demanded_of p c o ++ demanded_at ps cs os
 
+-- what each cell of a column adds at one place, under the condition of each
+abbrev pub demanded_from : ℕ → List Outcome → List Outcome → ℕ → List Told
+demanded_from p cs os k = demanded_of p (outcome_at cs k) (outcome_at os k)
+
+-- the same points in the order of their places
+pub record AreOrdered (told ordered : List Told) : Type 0 where
+  pub same : IsPermutation told ordered
+  pub rising : AreRising ordered
+
 abbrev pub IsValue : Outcome → Type 0
 IsValue (Value z) = Unit {0}
 IsValue (Fault f) = ⊥
@@ -49,6 +61,10 @@ StandsFrom p k (Value z) = Unit {0}
 StandsFrom p k (Fault f) = p ≤ k
 
 -- there is no fault; or this one stands at its place, and none at a lower one
-abbrev pub IsLeastFault : Option PointFault → ℕ → List Told → Type 0
-IsLeastFault None place told = All (λ (t : Told). IsValue t.1) told
-IsLeastFault (Some f) place told = Contains told (place, Fault f) × All (λ (t : Told). StandsFrom place t.0 t.1) told
+abbrev pub IsFirst : Option PointFault → ℕ → List Told → Type 0
+IsFirst None place told = All (λ (t : Told). IsValue t.1) told
+IsFirst (Some f) place told = Contains told (place, Fault f) × All (λ (t : Told). StandsFrom place t.0 t.1) told
+
+-- what a condenser makes of points, in the order of their places
+abbrev pub ComesTo : Aggregate → List Told → Outcome → Type 0
+ComesTo op told o = (ordered : List Told) → AreOrdered told ordered → o ≡ condensed op (outcomes ordered)

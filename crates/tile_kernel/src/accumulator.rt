@@ -1,11 +1,11 @@
 //! What is kept of the points that a condenser has been told of, in whatever order.
 
-ghost use Rattle.std.specs.Prelude.{◌≡◌, ◌+◌, ◌<◌, ◌≤◌, ◌^◌, List, [], ◌∷◌, ◌++◌};
-ghost use Rattle.tile_kernel.specs.Told.{Told, IsLeastFault};
+ghost use Rattle.std.specs.Prelude.{◌≡◌, ◌+◌, ◌<◌, ◌≤◌, ◌^◌, List, [], ◌∷◌};
+ghost use Rattle.tile_kernel.specs.Told.{Told, IsFirst};
+ghost use Rattle.tile_kernel.specs.Joins.{HoldsOfBoth};
 
 use crate::joined::joined;
-use crate::operations::is_set;
-use wcps_mean::{Aggregate, Outcome, PointFault, Running};
+use wcps_mean::{Aggregate, Outcome, PointFault, Running, is_set};
 
 /// What is kept of the points of a box, at most 2^24 of them, that a condenser has been told of. The order of telling
 /// does not matter: sums are exact in 128 bits, products keep sign, magnitude and whether there is a zero, and of the
@@ -19,10 +19,8 @@ pub struct Accumulator {
 }
 
 impl Accumulator {
-    ghost use Rattle.std.specs.List.Sorted.{IsPermutation};
-    ghost use Rattle.wcps_mean.specs.Condensers.{condensed};
-    ghost use Rattle.tile_kernel.specs.Told.{outcomes, AreRising, demanded_of};
-    ghost use Rattle.tile_kernel.specs.Standing.{Stands};
+    ghost use Rattle.tile_kernel.specs.Told.{demanded_of, ComesTo};
+    ghost use Rattle.tile_kernel.specs.Standing.{Stands, TakesIn};
 
     /// Of no point.
     pub fn empty(op: Aggregate) -> Accumulator
@@ -60,7 +58,7 @@ impl Accumulator {
     pub fn merge(&mut self, other: Accumulator)
         requires op { self.old.running.op ≡ other.running.op }
         requires room { self.old.running.count + other.running.count ≤ 2 ^ 24 }
-        ensures stands { (told more : List Told) → Stands self.old told → Stands other more → Stands self.new (told ++ more) }
+        ensures stands { (more : List Told) → Stands other more → TakesIn self.old self.new more }
         ensures op { self.new.running.op ≡ self.old.running.op }
         ensures count { self.new.running.count ≡ self.old.running.count + other.running.count }
     {
@@ -72,7 +70,7 @@ impl Accumulator {
     /// Takes in one point.
     pub fn add(&mut self, place: u64, o: Outcome)
         requires { self.old.running.count < 2 ^ 24 }
-        ensures stands { (told : List Told) → Stands self.old told → Stands self.new (told ++ (place, o) ∷ []) }
+        ensures stands { TakesIn self.old self.new ((place, o) ∷ []) }
         ensures op { self.new.running.op ≡ self.old.running.op }
         ensures count { self.new.running.count ≡ self.old.running.count + 1 }
     {
@@ -82,7 +80,7 @@ impl Accumulator {
     /// Takes in one point under a condition: the condition's fault, or nothing where it is false, else the point.
     pub fn add_where(&mut self, place: u64, condition: Outcome, o: Outcome)
         requires { self.old.running.count < 2 ^ 24 }
-        ensures stands { (told : List Told) → Stands self.old told → Stands self.new (told ++ demanded_of place condition o) }
+        ensures stands { TakesIn self.old self.new (demanded_of place condition o) }
         ensures op { self.new.running.op ≡ self.old.running.op }
         ensures count { self.new.running.count ≤ self.old.running.count + 1 }
     {
@@ -104,7 +102,7 @@ impl Accumulator {
     /// The condenser's outcome. Put in the order of their places, the points that it was told of have the outcomes that
     /// it condenses.
     pub fn finish(self) -> Outcome
-        ensures { (told ordered : List Told) → Stands self told → IsPermutation told ordered → AreRising ordered → result ≡ condensed self.running.op (outcomes ordered) }
+        ensures { (told : List Told) → Stands self told → ComesTo self.running.op told result }
     {
         self.running.finish()
     }
@@ -119,7 +117,7 @@ struct Placed {
 
 /// The fault at the lower place of two.
 fn least_fault(a: Placed, b: Placed) -> Placed
-    ensures { (told more : List Told) → IsLeastFault a.fault a.place told → IsLeastFault b.fault b.place more → IsLeastFault result.fault result.place (told ++ more) }
+    ensures { HoldsOfBoth (IsFirst a.fault a.place) (IsFirst b.fault b.place) (IsFirst result.fault result.place) }
 {
     match a.fault {
         None => return b,

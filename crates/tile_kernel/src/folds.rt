@@ -1,17 +1,43 @@
 //! Condensers over columns.
 
-ghost use Rattle.std.specs.Prelude.{◌≡◌, ℕ, ◌+◌, ◌<◌, ◌≤◌, ◌^◌, List, [], ◌∷◌, ◌++◌, length, All};
+ghost use Rattle.std.specs.Prelude.{◌≡◌, ℕ, ◌+◌, ◌<◌, ◌≤◌, ◌^◌, [], ◌∷◌, length, IfSome};
 ghost use Rattle.wcps_mean.specs.declared.aggregate.Aggregate.{Aggregate};
-ghost use Rattle.tile_kernel.specs.declared.accumulator.Accumulator.{Accumulator};
 ghost use Rattle.tile_kernel.specs.Columns.{outcome_at};
-ghost use Rattle.tile_kernel.specs.Told.{Told, told_at, demanded_of, demanded_at};
-ghost use Rattle.tile_kernel.specs.Standing.{Stands, EachStands};
+ghost use Rattle.tile_kernel.specs.Told.{told_at, demanded_at, demanded_from};
+ghost use Rattle.tile_kernel.specs.Standing.{Stands, AreOf, HaveAtMost, EachTakesIn, IsCondensed};
+ghost use Rattle.tile_kernel.specs.Standing.{IsCondensedWhere};
 
 use crate::accumulator::Accumulator;
+use crate::choice::{Always, Choice, Where};
 use crate::column::Column;
 use crate::form::Form;
+use crate::operand::{Each, Same};
 use crate::reduce::condense_values;
-use wcps_mean::Aggregate;
+use wcps_mean::{Aggregate, Outcome, is_set};
+
+/// What a condenser keeps of those places of a column that count, where no outcome of the column is a fault.
+fn condense_column<C: Choice>(op: Aggregate, column: &Column, choice: &C) -> Option<Accumulator>
+    requires { length column.now ≤ C.places choice.now }
+    ensures { IfSome result (λ a. IsCondensed op (C.counts choice.now) column.now a) }
+{
+    match column.form {
+        Form::Values => {
+            let values = Each {
+                values: column.values.as_slice(),
+            };
+            let running = condense_values(op, column.len, &values, choice);
+            return Some(Accumulator { running, place: 0 });
+        }
+        Form::Same(o) => match o {
+            Outcome::Value(value) => {
+                let running = condense_values(op, column.len, &Same { value }, choice);
+                return Some(Accumulator { running, place: 0 });
+            }
+            Outcome::Fault(_) => return None,
+        },
+        Form::Mixed => return None,
+    }
+}
 
 /// The accumulator of a whole column, whose cells have these places in the row-major list of the condenser's box. A
 /// column without faults is taken in one loop.
@@ -21,13 +47,9 @@ pub fn fold_column(op: Aggregate, column: &Column, places: &[u64]) -> Accumulato
     ensures op { result.running.op ≡ op }
     ensures count { result.running.count ≡ length column.now }
 {
-    match column.form {
-        Form::Values => {
-            let running = condense_values(op, column.len, column.values.as_slice());
-            return Accumulator { running, place: 0 };
-        }
-        Form::Same(_) => return fold_each(op, column, places),
-        Form::Mixed => return fold_each(op, column, places),
+    match condense_column(op, column, &Always { len: column.len() }) {
+        Some(accumulator) => return accumulator,
+        None => return fold_each(op, column, places),
     }
 }
 
@@ -45,24 +67,68 @@ fn fold_each(op: Aggregate, column: &Column, places: &[u64]) -> Accumulator
     accumulator
 }
 
-/// Each accumulator is told of one more point, that with this place in the box of all of them: the k-th of the outcome at
-/// the k-th place of the column.
+/// Each accumulator is told of one more point, that with this place in the box of all of them: the k-th of the outcome
+/// at the k-th place of the column.
 pub fn add_column(folds: &mut [Accumulator], place: u64, column: &Column)
     requires length { length folds.old ≡ length column.now }
-    requires room { All (λ (a : Accumulator). a.running.count ≤ place) folds.old }
+    requires room { HaveAtMost place folds.old }
     requires few { place < 2 ^ 24 }
-    ensures stands { (told : ℕ → List Told) → EachStands folds.old told → EachStands folds.new (λ k. told k ++ (place, outcome_at column.now k) ∷ []) }
-    ensures room { All (λ (a : Accumulator). a.running.count ≤ place + 1) folds.new }
-    ensures op { (op : Aggregate) → All (λ (a : Accumulator). a.running.op ≡ op) folds.old → All (λ (a : Accumulator). a.running.op ≡ op) folds.new }
+    ensures stands { EachTakesIn folds.old folds.new (λ k. (place, outcome_at column.now k) ∷ []) }
+    ensures room { HaveAtMost (place + 1) folds.new }
+    ensures op { (op : Aggregate) → AreOf op folds.old → AreOf op folds.new }
 {
     for k in 0..folds.len() {
         folds[k].add(place, column.at(k));
     }
 }
 
+/// What a condenser keeps of a column under a condition, where neither of them has a fault.
+fn condense_where(op: Aggregate, condition: &Column, column: &Column) -> Option<Accumulator>
+    requires { length condition.now ≡ length column.now }
+    ensures { IfSome result (λ a. IsCondensedWhere op condition.now column.now a) }
+{
+    match condition.form {
+        Form::Values => {
+            let choice = Where {
+                condition: condition.values.as_slice(),
+            };
+            return condense_column(op, column, &choice);
+        }
+        Form::Same(o) => match o {
+            Outcome::Value(x) => {
+                if is_set(x) {
+                    return condense_column(op, column, &Always { len: column.len() });
+                }
+                return Some(Accumulator::empty(op));
+            }
+            Outcome::Fault(_) => return None,
+        },
+        Form::Mixed => return None,
+    }
+}
+
 /// The accumulator of a column under a condition: a cell counts where the condition's cell is true, and a fault of the
-/// condition counts.
+/// condition counts. Columns without faults are taken in one loop.
 pub fn fold_column_where(
+    op: Aggregate,
+    condition: &Column,
+    column: &Column,
+    places: &[u64],
+) -> Accumulator
+    requires places { length places.now ≡ length column.now }
+    requires condition { length condition.now ≡ length column.now }
+    ensures stands { Stands result (demanded_at places.now condition.now column.now) }
+    ensures op { result.running.op ≡ op }
+    ensures count { result.running.count ≤ length column.now }
+{
+    match condense_where(op, condition, column) {
+        Some(accumulator) => return accumulator,
+        None => return fold_each_where(op, condition, column, places),
+    }
+}
+
+/// The accumulator of a column under a condition, place by place.
+fn fold_each_where(
     op: Aggregate,
     condition: &Column,
     column: &Column,
@@ -85,11 +151,11 @@ pub fn fold_column_where(
 pub fn add_column_where(folds: &mut [Accumulator], place: u64, condition: &Column, column: &Column)
     requires length { length folds.old ≡ length column.now }
     requires condition { length condition.now ≡ length column.now }
-    requires room { All (λ (a : Accumulator). a.running.count ≤ place) folds.old }
+    requires room { HaveAtMost place folds.old }
     requires few { place < 2 ^ 24 }
-    ensures stands { (told : ℕ → List Told) → EachStands folds.old told → EachStands folds.new (λ k. told k ++ demanded_of place (outcome_at condition.now k) (outcome_at column.now k)) }
-    ensures room { All (λ (a : Accumulator). a.running.count ≤ place + 1) folds.new }
-    ensures op { (op : Aggregate) → All (λ (a : Accumulator). a.running.op ≡ op) folds.old → All (λ (a : Accumulator). a.running.op ≡ op) folds.new }
+    ensures stands { EachTakesIn folds.old folds.new (demanded_from place condition.now column.now) }
+    ensures room { HaveAtMost (place + 1) folds.new }
+    ensures op { (op : Aggregate) → AreOf op folds.old → AreOf op folds.new }
 {
     for k in 0..folds.len() {
         folds[k].add_where(place, condition.at(k), column.at(k));

@@ -1,12 +1,12 @@
 //! What is kept of two lists of values at once.
 
-ghost use Rattle.std.specs.Prelude.{◌≡◌, ◌+◌, ◌*◌, ◌<◌, ◌≤◌, ◌^◌, ℤ, List, ◌++◌, ◌&&◌, ◌||◌};
+ghost use Rattle.std.specs.Prelude.{◌≡◌, ◌+◌, ◌*◌, ◌<◌, ◌≤◌, ◌^◌, ◌&&◌, ◌||◌};
 ghost use Rattle.wcps_mean.specs.Cells.{differ};
 ghost use Rattle.wcps_mean.specs.Condensers.{larger, smaller};
 ghost use Rattle.wcps_mean.specs.Magnitudes.{cap};
 ghost use Rattle.wcps_mean.specs.Products.{StandsFor};
 ghost use Rattle.wcps_mean.specs.Feeding.{Keeps};
-ghost use Rattle.tile_kernel.specs.Joins.{better, best_both};
+ghost use Rattle.tile_kernel.specs.Joins.{HoldsOfBoth, better, best_both};
 
 use wcps_mean::{Aggregate, PointFault, Product, Running};
 
@@ -14,7 +14,7 @@ use wcps_mean::{Aggregate, PointFault, Product, Running};
 pub(crate) fn joined(a: &Running, b: &Running, fault: Option<PointFault>) -> Running
     requires op { a.now.op ≡ b.now.op }
     requires room { a.now.count + b.now.count ≤ 2 ^ 24 }
-    ensures kept { (zs ws : List ℤ) → Keeps a.now.op a.now zs → Keeps a.now.op b.now ws → Keeps a.now.op result (zs ++ ws) }
+    ensures kept { HoldsOfBoth (Keeps a.now.op a.now) (Keeps a.now.op b.now) (Keeps a.now.op result) }
     ensures op { result.op ≡ a.now.op }
     ensures count { result.count ≡ a.now.count + b.now.count }
     ensures fault { result.fault ≡ fault }
@@ -34,7 +34,7 @@ pub(crate) fn joined(a: &Running, b: &Running, fault: Option<PointFault>) -> Run
 
 /// The product of two products.
 fn product_of(a: Product, b: Product) -> Product
-    ensures { (zs ws : List ℤ) → StandsFor a zs → StandsFor b ws → StandsFor result (zs ++ ws) }
+    ensures { HoldsOfBoth (StandsFor a) (StandsFor b) (StandsFor result) }
 {
     Product {
         has_zero: either(a.has_zero, b.has_zero),

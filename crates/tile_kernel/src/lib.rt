@@ -3,6 +3,7 @@
 #![tactic(auto)]
 
 mod accumulator;
+mod choice;
 mod column;
 mod folds;
 mod form;

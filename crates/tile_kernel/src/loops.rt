@@ -1,7 +1,7 @@
 //! The loop of a kernel.
 
-ghost use Rattle.std.specs.Prelude.{◌≡◌, ℕ, ℤ, pos, ◌<◌, ◌≤◌, length, slice_index_or, IsTrue};
-ghost use Rattle.wcps_mean.specs.declared.cell.Outcome.TheVariants.{Value};
+ghost use Rattle.std.specs.Prelude.{◌≤◌, length, IsTrue};
+ghost use Rattle.tile_kernel.specs.Columns.{AreValues};
 
 use crate::operand::Operand;
 use crate::trial::Trial;
@@ -16,7 +16,7 @@ pub(crate) fn try_places<O: Trial, L: Operand, R: Operand>(
     requires left { len ≤ L.places left.now }
     requires right { len ≤ R.places right.now }
     requires out { len ≤ length out.old }
-    ensures { IsTrue result → (k : ℕ) → k < len → O.exact (L.value left.now k) (R.value right.now k) ≡ Value (slice_index_or out.new k (pos 0)) }
+    ensures { IsTrue result → AreValues len (λ k. O.exact (L.value left.now k) (R.value right.now k)) out.new }
 {
     let mut marks: i64 = 0;
     for place in 0..len {

@@ -1,9 +1,9 @@
 //! A cell operation over columns.
 
-ghost use Rattle.std.specs.Prelude.{◌≡◌, ℕ, ℤ, pos, ◌<◌, ◌≤◌, length, map, slice_index_or, IsTrue, None};
-ghost use Rattle.wcps_mean.specs.declared.cell.Outcome.TheVariants.{Value};
-ghost use Rattle.wcps_mean.specs.Cells.{exact2, operate2};
-ghost use Rattle.tile_kernel.specs.Columns.{outcome_of, outcome_at, operate_all};
+ghost use Rattle.std.specs.Prelude.{◌≡◌, ◌≤◌, length, IsTrue};
+ghost use Rattle.wcps_mean.specs.Cells.{exact2};
+ghost use Rattle.wcps_types.specs.declared.typed.Operation2.TheVariants.{Multiply};
+ghost use Rattle.tile_kernel.specs.Columns.{operate_all, each2, each_with, AreValues, AreOutcomes};
 
 use crate::column::{Column, parts};
 use crate::form::Form;
@@ -11,7 +11,7 @@ use crate::loops::try_places;
 use crate::operand::{Each, Operand, Same};
 use crate::operations::{
     BitSet, Both, Difference, Either, IsAtLeast, IsAtMost, IsEqual, IsGreater, IsLess, IsOther,
-    OneOnly, Product, Quotient, Sum,
+    NarrowProduct, OneOnly, Product, Quotient, Sum,
 };
 use wcps_mean::{Outcome, PointFault, operate_both};
 use wcps_types::Operation2;
@@ -42,7 +42,7 @@ pub fn operate_columns(op: Operation2, left: &Column, right: &Column, out: &mut 
 fn try_columns(op: Operation2, left: &Column, right: &Column, out: &mut Vec<i64>) -> bool
     requires same { length left.now ≡ length right.now }
     requires room { length out.old.items ≡ 4096 }
-    ensures value { IsTrue result → (k : ℕ) → k < length left.now → operate2 op (outcome_at left.now k) (outcome_at right.now k) ≡ Value (slice_index_or out.new.items k (pos 0)) }
+    ensures value { IsTrue result → AreValues (length left.now) (each2 op left.now right.now) out.new.items }
     ensures room { length out.new.items ≡ 4096 }
 {
     let cells = out.as_mut_slice();
@@ -72,7 +72,7 @@ fn try_right<L: Operand>(
     requires left { len ≤ L.places left.now }
     requires right { len ≡ length right.now }
     requires out { length out.old ≡ 4096 }
-    ensures { IsTrue result → (k : ℕ) → k < len → operate2 op (Value (L.value left.now k)) (outcome_at right.now k) ≡ Value (slice_index_or out.new k (pos 0)) }
+    ensures { IsTrue result → AreValues len (each_with op (L.value left.now) right.now) out.new }
 {
     match right.form {
         Form::Values => {
@@ -100,10 +100,10 @@ fn try_operation<L: Operand, R: Operand>(
     requires left { len ≤ L.places left.now }
     requires right { len ≤ R.places right.now }
     requires out { len ≤ length out.old }
-    ensures { IsTrue result → (k : ℕ) → k < len → exact2 op (L.value left.now k) (R.value right.now k) ≡ Value (slice_index_or out.new k (pos 0)) }
+    ensures { IsTrue result → AreValues len (λ k. exact2 op (L.value left.now k) (R.value right.now k)) out.new }
 {
     match op {
-        Operation2::Multiply => try_places::<Product, L, R>(len, left, right, out),
+        Operation2::Multiply => try_product(len, left, right, out),
         Operation2::Divide => try_places::<Quotient, L, R>(len, left, right, out),
         Operation2::Add => try_places::<Sum, L, R>(len, left, right, out),
         Operation2::Subtract => try_places::<Difference, L, R>(len, left, right, out),
@@ -120,6 +120,19 @@ fn try_operation<L: Operand, R: Operand>(
     }
 }
 
+/// Tries products, first as those of values that fit 32 bits; tells whether each result is the product.
+fn try_product<L: Operand, R: Operand>(len: usize, left: &L, right: &R, out: &mut [i64]) -> bool
+    requires left { len ≤ L.places left.now }
+    requires right { len ≤ R.places right.now }
+    requires out { len ≤ length out.old }
+    ensures { IsTrue result → AreValues len (λ k. exact2 Multiply (L.value left.now k) (R.value right.now k)) out.new }
+{
+    if try_places::<NarrowProduct, L, R>(len, left, right, out) {
+        return true;
+    }
+    try_places::<Product, L, R>(len, left, right, out)
+}
+
 /// The operation place by place.
 fn operate_each(
     op: Operation2,
@@ -133,7 +146,7 @@ fn operate_each(
     requires faults { length faults.old.items ≡ 4096 }
     ensures values { length values.new.items ≡ 4096 }
     ensures faults { length faults.new.items ≡ 4096 }
-    ensures outcomes { (k : ℕ) → k < length left.now → outcome_of (slice_index_or values.new.items k (pos 0)) (slice_index_or faults.new.items k None) ≡ operate2 op (outcome_at left.now k) (outcome_at right.now k) }
+    ensures outcomes { AreOutcomes (length left.now) (each2 op left.now right.now) values.new.items faults.new.items }
 {
     let numbers = values.as_mut_slice();
     let marks = faults.as_mut_slice();

@@ -1,9 +1,8 @@
 //! A cell operation over one column.
 
-ghost use Rattle.std.specs.Prelude.{◌≡◌, ℕ, pos, ◌<◌, ◌≤◌, length, map, slice_index_or, IsTrue, None};
-ghost use Rattle.wcps_mean.specs.declared.cell.Outcome.TheVariants.{Value};
+ghost use Rattle.std.specs.Prelude.{◌≡◌, pos, ◌≤◌, length, map, slice_index_or, IsTrue};
 ghost use Rattle.wcps_mean.specs.Cells.{exact1, operate1};
-ghost use Rattle.tile_kernel.specs.Columns.{outcome_of, outcome_at};
+ghost use Rattle.tile_kernel.specs.Columns.{each1, AreValues, AreOutcomes};
 
 use crate::column::{Column, parts};
 use crate::form::Form;
@@ -33,7 +32,7 @@ pub fn operate_column(op: Operation1, operand: &Column, out: &mut Column)
 /// Tries an operation where the operand has no fault; tells whether each result is its outcome.
 fn try_column(op: Operation1, operand: &Column, out: &mut Vec<i64>) -> bool
     requires { length out.old.items ≡ 4096 }
-    ensures value { IsTrue result → (k : ℕ) → k < length operand.now → operate1 op (outcome_at operand.now k) ≡ Value (slice_index_or out.new.items k (pos 0)) }
+    ensures value { IsTrue result → AreValues (length operand.now) (each1 op operand.now) out.new.items }
     ensures room { length out.new.items ≡ 4096 }
 {
     let cells = out.as_mut_slice();
@@ -54,7 +53,7 @@ fn try_one(op: Operation1, len: usize, operand: &Each<'_>, out: &mut [i64]) -> b
     requires operand { len ≤ length operand.now.values.now }
     requires few { len ≤ 4096 }
     requires out { len ≤ length out.old }
-    ensures { IsTrue result → (k : ℕ) → k < len → exact1 op (slice_index_or operand.now.values.now k (pos 0)) ≡ Value (slice_index_or out.new k (pos 0)) }
+    ensures { IsTrue result → AreValues len (λ k. exact1 op (slice_index_or operand.now.values.now k (pos 0))) out.new }
 {
     let none = Same { value: 0 };
     match op {
@@ -76,7 +75,7 @@ fn operate_each_one(
     requires faults { length faults.old.items ≡ 4096 }
     ensures values { length values.new.items ≡ 4096 }
     ensures faults { length faults.new.items ≡ 4096 }
-    ensures outcomes { (k : ℕ) → k < length operand.now → outcome_of (slice_index_or values.new.items k (pos 0)) (slice_index_or faults.new.items k None) ≡ operate1 op (outcome_at operand.now k) }
+    ensures outcomes { AreOutcomes (length operand.now) (each1 op operand.now) values.new.items faults.new.items }
 {
     let numbers = values.as_mut_slice();
     let marks = faults.as_mut_slice();

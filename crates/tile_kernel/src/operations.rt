@@ -1,9 +1,11 @@
 //! The cell operations as trials.
 
-ghost use Rattle.std.specs.Prelude.{◌≡◌, pos, int_le, int_lt, ◌&&◌, ◌||◌, not};
-ghost use Rattle.wcps_mean.specs.Cells.{number, is_true, int_eq};
+ghost use Rattle.std.specs.Prelude.{◌≡◌, pos, int_le, int_lt, ◌&&◌, ◌||◌, not, IsTrue, FitsSigned};
+ghost use Rattle.std.specs.Int.{w32};
+ghost use Rattle.wcps_mean.specs.Cells.{number, int_eq};
 
 use crate::trial::{Trial, Tried};
+use wcps_mean::is_set;
 
 /// A result that cannot be wrong.
 fn sure(value: i64) -> Tried
@@ -17,13 +19,6 @@ fn number(b: bool) -> i64
     ensures { result ≡ number b }
 {
     if b { 1 } else { 0 }
-}
-
-/// Whether a Boolean that stands as a number is true.
-pub(crate) fn is_set(x: i64) -> bool
-    ensures { result ≡ is_true x }
-{
-    x != 0
 }
 
 /// The sum. It wrapped where its sign differs from both operands'.
@@ -59,6 +54,32 @@ impl Trial for Difference {
             value,
             mark: (x ^ y) & (x ^ value),
         }
+    }
+}
+
+/// Whether a value fits 32 bits.
+fn is_narrow(x: i64) -> bool
+    ensures { IsTrue result → FitsSigned w32 x }
+{
+    -2_147_483_648 <= x && x <= 2_147_483_647
+}
+
+/// The product of two values that fit 32 bits; of others it says that it may be wrong. It makes no other test, so its
+/// loop becomes vector code.
+pub(crate) struct NarrowProduct;
+
+impl Trial for NarrowProduct {
+    ghost use Rattle.wcps_mean.specs.Cells.{exact2};
+    ghost use Rattle.wcps_types.specs.declared.typed.Operation2.TheVariants.{Multiply};
+
+    ghost exact = { exact2 Multiply };
+
+    fn tried(x: i64, y: i64) -> Tried {
+        let value = x.wrapping_mul(y);
+        if is_narrow(x) && is_narrow(y) {
+            return sure(value);
+        }
+        Tried { value, mark: -1 }
     }
 }
 

@@ -1,60 +1,91 @@
 //! What a condenser keeps of a column's values.
 
-ghost use Rattle.std.specs.Prelude.{◌≡◌, ◌+◌, ◌*◌, ◌≤◌, ◌^◌, ℤ, pos, neg_ℤ, ◌+ℤ◌, ◌≤ℤ◌, length, take, None, cond};
+ghost use Rattle.std.specs.Prelude.{◌≡◌, ◌+◌, ◌*◌, ◌≤◌, ◌^◌, ℤ, pos, neg_ℤ, ◌+ℤ◌, ◌≤ℤ◌, List, ◌++◌, ◌∷◌, []};
+ghost use Rattle.std.specs.Prelude.{length, None, cond};
 ghost use Rattle.wcps_mean.specs.Cells.{is_true};
-ghost use Rattle.wcps_mean.specs.Condensers.{total, trues};
+ghost use Rattle.wcps_mean.specs.Condensers.{total, trues, larger, smaller};
 ghost use Rattle.wcps_mean.specs.Best.{greatest_of, least_of};
 ghost use Rattle.wcps_mean.specs.Products.{StandsFor};
 ghost use Rattle.wcps_mean.specs.Feeding.{Keeps};
+ghost use Rattle.tile_kernel.specs.Selected.{selected};
 
+use crate::choice::Choice;
 use crate::joined::{larger, smaller};
-use wcps_mean::{Aggregate, Product, Running};
+use crate::operand::Operand;
+use wcps_mean::{Aggregate, Product, Running, is_set};
 
-/// What a condenser keeps of the first `len` values.
-pub(crate) fn condense_values(op: Aggregate, len: usize, values: &[i64]) -> Running
+/// What a condenser keeps of the values at those of the first `len` places that count.
+pub(crate) fn condense_values<V: Operand, C: Choice>(
+    op: Aggregate,
+    len: usize,
+    values: &V,
+    choice: &C,
+) -> Running
     requires few { len ≤ 4096 }
-    requires room { len ≤ length values.now }
-    ensures kept { Keeps op result (take len values.now) }
+    requires values { len ≤ V.places values.now }
+    requires choice { len ≤ C.places choice.now }
+    ensures kept { Keeps op result (selected (C.counts choice.now) (V.value values.now) len) }
     ensures op { result.op ≡ op }
-    ensures count { result.count ≡ len }
+    ensures count { result.count ≡ length (selected (C.counts choice.now) (V.value values.now) len) }
     ensures fault { result.fault ≡ None }
 {
     let mut running = Running::new(op);
-    running.count = len as u32;
+    let count = places_over(len, values, choice);
+    running.count = count as u32;
     match op {
         Aggregate::Sum => {
-            running.sum = sum_over(len, values);
+            running.sum = sum_over(len, values, choice, count);
             return running;
         }
         Aggregate::Average => {
-            running.sum = sum_over(len, values);
+            running.sum = sum_over(len, values, choice, count);
             return running;
         }
         Aggregate::Product => {
-            running.product = product_over(len, values);
+            running.product = product_over(len, values, choice);
             return running;
         }
         Aggregate::Greatest => {
-            running.best = greatest_over(len, values);
+            running.best = greatest_over(len, values, choice, count);
             return running;
         }
         Aggregate::Least => {
-            running.best = least_over(len, values);
+            running.best = least_over(len, values, choice, count);
             return running;
         }
         Aggregate::Every => {
-            running.all = trues_over(len, values) == len as u64;
+            running.all = trues_over(len, values, choice) == count;
             return running;
         }
         Aggregate::Any => {
-            running.some = 0 < trues_over(len, values);
+            running.some = 0 < trues_over(len, values, choice);
             return running;
         }
         Aggregate::Count => {
-            running.trues = trues_over(len, values) as u32;
+            running.trues = trues_over(len, values, choice) as u32;
             return running;
         }
     }
+}
+
+/// The number where a place counts, else 0.
+fn weighted(counts: bool, x: u64) -> u64
+    ensures { result ≡ cond counts x 0 }
+{
+    if counts { x } else { 0 }
+}
+
+/// How many of the first `len` places count.
+fn places_over<V: Operand, C: Choice>(len: usize, values: &V, choice: &C) -> u64
+    requires { len ≤ C.places choice.now }
+    ensures value { result ≡ length (selected (C.counts choice.now) (V.value values.now) len) }
+    ensures few { result ≤ len }
+{
+    let mut count: u64 = 0;
+    for place in 0..len {
+        count += weighted(choice.counts(place), 1);
+    }
+    count
 }
 
 /// A value raised by 2^63, so that it is not negative.
@@ -64,64 +95,116 @@ fn raised(x: i64) -> u64
     x.cast_unsigned().wrapping_add(1 << 63)
 }
 
-/// The exact sum: the low and the high halves of the raised values are summed apart.
-fn sum_over(len: usize, values: &[i64]) -> i128
+/// The exact sum of so many values: the low and the high halves of the raised values are summed apart.
+fn sum_over<V: Operand, C: Choice>(len: usize, values: &V, choice: &C, count: u64) -> i128
     requires few { len ≤ 4096 }
-    requires room { len ≤ length values.now }
-    ensures value { result ≡ total (take len values.now) }
-    ensures from_below { neg_ℤ (pos (len * 2 ^ 63)) ≤ℤ result }
-    ensures from_above { (result +ℤ pos len) ≤ℤ pos (len * 2 ^ 63) }
+    requires values { len ≤ V.places values.now }
+    requires choice { len ≤ C.places choice.now }
+    requires count { count ≡ length (selected (C.counts choice.now) (V.value values.now) len) }
+    ensures value { result ≡ total (selected (C.counts choice.now) (V.value values.now) len) }
+    ensures from_below { neg_ℤ (pos (count * 2 ^ 63)) ≤ℤ result }
+    ensures from_above { (result +ℤ pos count) ≤ℤ pos (count * 2 ^ 63) }
 {
     let mut low: u64 = 0;
     let mut high: u64 = 0;
     for place in 0..len {
-        let bits = raised(values[place]);
-        low += bits % 4_294_967_296;
-        high += bits / 4_294_967_296;
+        let counts = choice.counts(place);
+        let bits = raised(values.value(place));
+        low += weighted(counts, bits % 4_294_967_296);
+        high += weighted(counts, bits / 4_294_967_296);
     }
-    low as i128 + high as i128 * 4_294_967_296 - len as i128 * 9_223_372_036_854_775_808
+    low as i128 + high as i128 * 4_294_967_296 - count as i128 * 9_223_372_036_854_775_808
 }
 
-/// The product of the first `len` values.
-fn product_over(len: usize, values: &[i64]) -> Product
-    requires { len ≤ length values.now }
-    ensures { StandsFor result (take len values.now) }
+/// The product with one more factor, where it counts.
+fn times_if(counts: bool, product: Product, x: i64) -> Product
+    ensures { (zs : List ℤ) → StandsFor product zs → StandsFor result (zs ++ cond counts (x ∷ []) []) }
 {
-    let mut product = Product::new();
-    for place in 0..len {
-        product = product.times(values[place]);
+    if counts {
+        return product.times(x);
     }
     product
 }
 
-/// The greatest of the first `len` values, if there are any.
-fn greatest_over(len: usize, values: &[i64]) -> Option<i64>
-    requires { len ≤ length values.now }
-    ensures { result ≡ greatest_of (take len values.now) }
+/// The product.
+fn product_over<V: Operand, C: Choice>(len: usize, values: &V, choice: &C) -> Product
+    requires values { len ≤ V.places values.now }
+    requires choice { len ≤ C.places choice.now }
+    ensures { StandsFor result (selected (C.counts choice.now) (V.value values.now) len) }
 {
-    if len == 0 {
-        return None;
+    let mut product = Product::new();
+    for place in 0..len {
+        product = times_if(choice.counts(place), product, values.value(place));
     }
-    let mut best = values[0];
-    for place in 1..len {
-        best = larger(best, values[place]);
+    product
+}
+
+/// The larger of two values where the second one counts, else the first one.
+fn larger_if(counts: bool, best: i64, x: i64) -> i64
+    ensures { result ≡ cond counts (larger best x) best }
+{
+    if counts { larger(best, x) } else { best }
+}
+
+/// The smaller of two values where the second one counts, else the first one.
+fn smaller_if(counts: bool, best: i64, x: i64) -> i64
+    ensures { result ≡ cond counts (smaller best x) best }
+{
+    if counts { smaller(best, x) } else { best }
+}
+
+/// The greatest of so many values, if there are any.
+fn greatest_over<V: Operand, C: Choice>(
+    len: usize,
+    values: &V,
+    choice: &C,
+    count: u64,
+) -> Option<i64>
+    requires values { len ≤ V.places values.now }
+    requires choice { len ≤ C.places choice.now }
+    requires count { count ≡ length (selected (C.counts choice.now) (V.value values.now) len) }
+    ensures { result ≡ greatest_of (selected (C.counts choice.now) (V.value values.now) len) }
+{
+    let mut best = i64::MIN;
+    for place in 0..len {
+        best = larger_if(choice.counts(place), best, values.value(place));
+    }
+    if count == 0 {
+        return None;
     }
     Some(best)
 }
 
-/// The least of the first `len` values, if there are any.
-fn least_over(len: usize, values: &[i64]) -> Option<i64>
-    requires { len ≤ length values.now }
-    ensures { result ≡ least_of (take len values.now) }
+/// The least of so many values, if there are any.
+fn least_over<V: Operand, C: Choice>(len: usize, values: &V, choice: &C, count: u64) -> Option<i64>
+    requires values { len ≤ V.places values.now }
+    requires choice { len ≤ C.places choice.now }
+    requires count { count ≡ length (selected (C.counts choice.now) (V.value values.now) len) }
+    ensures { result ≡ least_of (selected (C.counts choice.now) (V.value values.now) len) }
 {
-    if len == 0 {
+    let mut best = i64::MAX;
+    for place in 0..len {
+        best = smaller_if(choice.counts(place), best, values.value(place));
+    }
+    if count == 0 {
         return None;
     }
-    let mut best = values[0];
-    for place in 1..len {
-        best = smaller(best, values[place]);
-    }
     Some(best)
+}
+
+/// How many of the values are true.
+fn trues_over<V: Operand, C: Choice>(len: usize, values: &V, choice: &C) -> u64
+    requires values { len ≤ V.places values.now }
+    requires choice { len ≤ C.places choice.now }
+    ensures value { result ≡ trues (selected (C.counts choice.now) (V.value values.now) len) }
+    ensures few { result ≤ len }
+    ensures some { result ≤ length (selected (C.counts choice.now) (V.value values.now) len) }
+{
+    let mut count: u64 = 0;
+    for place in 0..len {
+        count += weighted(choice.counts(place), weight(values.value(place)));
+    }
+    count
 }
 
 /// 1 for true and 0 for false.
@@ -129,18 +212,5 @@ fn weight(x: i64) -> u64
     ensures value { result ≡ cond (is_true x) 1 0 }
     ensures small { result ≤ 1 }
 {
-    if x != 0 { 1 } else { 0 }
-}
-
-/// How many of the first `len` values are true.
-fn trues_over(len: usize, values: &[i64]) -> u64
-    requires { len ≤ length values.now }
-    ensures value { result ≡ trues (take len values.now) }
-    ensures few { result ≤ len }
-{
-    let mut count: u64 = 0;
-    for place in 0..len {
-        count += weight(values[place]);
-    }
-    count
+    if is_set(x) { 1 } else { 0 }
 }

@@ -1,6 +1,4 @@
-use Rattle.std.proofs.Common.{◌≡◌, ℕ, ◌<◌, ◌≤ℤ◌, ◌^◌, pos, rules, arith, sym, ap, subst, ◌∙◌, SFits, w64, to_z, of_z}
-use Rattle.std.proofs.lemmas.Int.{to_z-of_z}
-use Rattle.wcps_mean.specs.declared.cell.Outcome.TheVariants.{Value}
+use Rattle.std.proofs.Common.{◌<◌, ◌^◌, rules, arith, SFits, w64, of_z}
 use Rattle.tile_kernel.proofs.Signs.{or_left, or_right, below_64}
 use Rattle.tile_kernel.proofs.Places.{written}
 use Rattle.tile_kernel.proofs.Results.{read_result}

@@ -1,5 +1,3 @@
-use Rattle.wcps_mean.specs.declared.cell.PointFault.{PointFault}
-use Rattle.std.proofs.Common.{◌≡◌, sym, length}
 use Rattle.tile_kernel.specs.Columns.{IsRoomy}
 use Rattle.tile_kernel.proofs.Places.{places_are, operated_one_scalar, operated_one_values, operated_one_mixed}
 use Rattle.tile_kernel.proofs.operate_one.operate_column.Goals as goal

@@ -1,15 +1,20 @@
-use Rattle.std.proofs.Common.{◌≡◌, ◌<◌, ◌∙◌, ap, arith, rules, Some, SFits, w64, get_or, pos, length}
+use Rattle.std.proofs.Common.{◌≡◌, ◌+◌, ◌∙◌, ap, sym, subst, rules, SFits, w64, to_z, of_z, cond, negsuc}
 use Rattle.std.proofs.lemmas.Int.{to_z-of_z}
 use Rattle.wcps_mean.specs.Condensers.{larger}
-use Rattle.tile_kernel.proofs.Places.{other_default}
-use Rattle.tile_kernel.proofs.Reductions.{greatest_more}
+use Rattle.tile_kernel.specs.Selected.{selected}
+use Rattle.tile_kernel.proofs.Reductions.{IsTop, top_next}
 use Rattle.tile_kernel.proofs.reduce.greatest_over.Goals as goal
 
 pub loop-place-preserved : goal.loop-place-preserved
-loop-place-preserved c =
-    let fits : SFits w64 c.larger-best.result = search rules in
-    let cell : SFits w64 (get_or c.args.values.now c.loop-place.place (pos 0)) = search rules in
-    let lt : c.loop-place.place < length c.args.values.now = omega arith in
-    ap Some (to_z-of_z w64 c.larger-best.result fits)
-    ∙ greatest_more c.args.values.now c.loop-place.place (get_or c.args.values.now c.loop-place.place (pos 0)) _ c.larger-best.result lt (other_default _ _ _ _ lt)
-    (c.larger-best.ensures ∙ ap (larger _) (to_z-of_z w64 (get_or c.args.values.now c.loop-place.place (pos 0)) cell)) c.loop-place.invariant
+loop-place-preserved g c =
+    let P = g.C.Choice.counts c.args.choice.now in
+    let v = g.V.Operand.value c.args.values.now in
+    let k = c.loop-place.place in
+    let t = to_z w64 c.loop-place.best-bits in
+    let fits : SFits w64 c.larger_if-best.result = search rules in
+    let cell : SFits w64 c.value.result = search rules in
+    let there : SFits w64 (v k) = subst (SFits w64) c.value.ensures cell in
+    let best : to_z w64 (of_z w64 c.larger_if-best.result) ≡ cond (P k) (larger t (v k)) t =
+    to_z-of_z w64 c.larger_if-best.result fits ∙ c.larger_if-best.ensures ∙ ap (λ b. cond b (larger t (to_z w64 (of_z w64 c.value.result))) t) c.counts.ensures
+    ∙ ap (λ x. cond (P k) (larger t x) t) (to_z-of_z w64 c.value.result cell ∙ c.value.ensures) in
+    subst (IsTop (negsuc 9223372036854775807) (selected P v (k + 1))) (sym best) (top_next P v k t there c.loop-place.invariant)

@@ -1,6 +1,7 @@
-use Rattle.std.proofs.Common.{◌≡◌, take, Some}
-use Rattle.wcps_mean.specs.Best.{greatest_of}
+use Rattle.std.proofs.Common.{negsuc}
+use Rattle.tile_kernel.specs.Selected.{selected}
+use Rattle.tile_kernel.proofs.Reductions.{IsTop}
 use Rattle.tile_kernel.proofs.reduce.greatest_over.Given as goal
 
 abbrev pub invariant-loop-place : goal.invariant-loop-place
-invariant-loop-place l = Some l.best ≡ greatest_of (take l.place l.values)
+invariant-loop-place g l = IsTop (negsuc 9223372036854775807) (selected (g.C.Choice.counts l.choice) (g.V.Operand.value l.values) l.place) l.best

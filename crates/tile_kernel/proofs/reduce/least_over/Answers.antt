@@ -1,15 +1,20 @@
-use Rattle.std.proofs.Common.{◌≡◌, ◌<◌, ◌∙◌, ap, arith, rules, Some, SFits, w64, get_or, pos, length}
+use Rattle.std.proofs.Common.{◌≡◌, ◌+◌, ◌∙◌, ap, sym, subst, rules, SFits, w64, to_z, of_z, cond, pos}
 use Rattle.std.proofs.lemmas.Int.{to_z-of_z}
 use Rattle.wcps_mean.specs.Condensers.{smaller}
-use Rattle.tile_kernel.proofs.Places.{other_default}
-use Rattle.tile_kernel.proofs.Reductions.{least_more}
+use Rattle.tile_kernel.specs.Selected.{selected}
+use Rattle.tile_kernel.proofs.Reductions.{IsBottom, bottom_next}
 use Rattle.tile_kernel.proofs.reduce.least_over.Goals as goal
 
 pub loop-place-preserved : goal.loop-place-preserved
-loop-place-preserved c =
-    let fits : SFits w64 c.smaller-best.result = search rules in
-    let cell : SFits w64 (get_or c.args.values.now c.loop-place.place (pos 0)) = search rules in
-    let lt : c.loop-place.place < length c.args.values.now = omega arith in
-    ap Some (to_z-of_z w64 c.smaller-best.result fits)
-    ∙ least_more c.args.values.now c.loop-place.place (get_or c.args.values.now c.loop-place.place (pos 0)) _ c.smaller-best.result lt (other_default _ _ _ _ lt)
-    (c.smaller-best.ensures ∙ ap (smaller _) (to_z-of_z w64 (get_or c.args.values.now c.loop-place.place (pos 0)) cell)) c.loop-place.invariant
+loop-place-preserved g c =
+    let P = g.C.Choice.counts c.args.choice.now in
+    let v = g.V.Operand.value c.args.values.now in
+    let k = c.loop-place.place in
+    let t = to_z w64 c.loop-place.best-bits in
+    let fits : SFits w64 c.smaller_if-best.result = search rules in
+    let cell : SFits w64 c.value.result = search rules in
+    let there : SFits w64 (v k) = subst (SFits w64) c.value.ensures cell in
+    let best : to_z w64 (of_z w64 c.smaller_if-best.result) ≡ cond (P k) (smaller t (v k)) t =
+    to_z-of_z w64 c.smaller_if-best.result fits ∙ c.smaller_if-best.ensures ∙ ap (λ b. cond b (smaller t (to_z w64 (of_z w64 c.value.result))) t) c.counts.ensures
+    ∙ ap (λ x. cond (P k) (smaller t x) t) (to_z-of_z w64 c.value.result cell ∙ c.value.ensures) in
+    subst (IsBottom (pos 9223372036854775807) (selected P v (k + 1))) (sym best) (bottom_next P v k t there c.loop-place.invariant)

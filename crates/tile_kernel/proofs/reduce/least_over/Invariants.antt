@@ -1,6 +1,7 @@
-use Rattle.std.proofs.Common.{◌≡◌, take, Some}
-use Rattle.wcps_mean.specs.Best.{least_of}
+use Rattle.std.proofs.Common.{pos}
+use Rattle.tile_kernel.specs.Selected.{selected}
+use Rattle.tile_kernel.proofs.Reductions.{IsBottom}
 use Rattle.tile_kernel.proofs.reduce.least_over.Given as goal
 
 abbrev pub invariant-loop-place : goal.invariant-loop-place
-invariant-loop-place l = Some l.best ≡ least_of (take l.place l.values)
+invariant-loop-place g l = IsBottom (pos 9223372036854775807) (selected (g.C.Choice.counts l.choice) (g.V.Operand.value l.values) l.place) l.best

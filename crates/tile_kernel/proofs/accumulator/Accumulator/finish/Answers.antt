@@ -3,4 +3,4 @@ use Rattle.tile_kernel.proofs.Merges.{fed_in_order}
 use Rattle.tile_kernel.proofs.accumulator.Accumulator.finish.Goals as goal
 
 pub returns : goal.returns
-returns c = λ told ordered s p r. c.finish.ensures (outcomes ordered) (fed_in_order c.args.self told ordered s p r)
+returns c = λ told s ordered o. c.finish.ensures (outcomes ordered) (fed_in_order c.args.self told ordered s o.same o.rising)

@@ -1,7 +1,7 @@
 use Rattle.std.proofs.Common.{◌≡◌, ◌≤◌, take}
 use Rattle.tile_kernel.specs.Told.{demanded_at}
 use Rattle.tile_kernel.specs.Standing.{Stands}
-use Rattle.tile_kernel.proofs.folds.fold_column_where.Given as goal
+use Rattle.tile_kernel.proofs.folds.fold_each_where.Given as goal
 
 abbrev pub invariant-loop-k : goal.invariant-loop-k
 invariant-loop-k l = record {

@@ -1,0 +1,202 @@
+#!/usr/bin/env python3
+"""The time of each kernel and each condenser over 4,096 cells, beside a plain loop in C over the same cells.
+
+usage: bench/kernels.py [WORD..]    only the lines that have all of these words
+
+The kernels are run by crates/kernel_bench, which `rt run` in its folder builds. Each line is an operation on two columns,
+on a column and the scalar 3 (scalar), or on one column (one); or a condenser of a column (fold), of a column under a
+condition (where), or of 4,096 condensers that are told of a cell each (each). The cells are one number, each kept by
+itself (constant), noise of 32 bits (noise) or of 62 bits (wide), or noise of 32 bits and a fault at the last place.
+
+The loops in C make the same tests on numbers of 64 bits: whether a sum, a difference or a product left them, whether a
+divisor is 0, or -1 beside the least number, whether a bit's number is 0 to 63. A sum is kept in 128 bits. They are
+compiled by cc -O2 and by cc -O3, both for the processor that Rattle compiles for. The figure is the processor time that
+one more round takes, the least of several, so that starting, making the cells and what else the machine does do not
+count; the three programs take turns.
+"""
+import os
+import resource
+import subprocess
+import sys
+
+from compiled import compiled
+
+TOP = os.path.dirname(os.path.dirname(os.path.abspath(__file__)))
+PROGRAM = f"{TOP}/crates/kernel_bench/out/kernel_bench"
+PROCESSOR = "-march=x86-64-v2"
+REPEATS = 5
+BOTH = ["+", "-", "*", "/", "<", "<=", ">", ">=", "=", "!=", "and", "or", "xor", "bit"]
+ONE = ["negate", "plus", "not", "abs"]
+CONDENSERS = ["sum", "product", "greatest", "least", "every", "any", "count", "average"]
+PLAIN = ["constant", "noise"]
+# the kernels, their shape, and the data that they are run on
+LINES = [
+    (BOTH, "columns", PLAIN),
+    (["/"], "columns", ["wide"]),
+    (BOTH, "scalar", PLAIN),
+    (["/"], "scalar", ["wide"]),
+    (ONE, "one", PLAIN),
+    (CONDENSERS, "fold", PLAIN),
+    (CONDENSERS, "where", PLAIN),
+    (CONDENSERS, "each", PLAIN),
+    (["-", "*", "/", "bit"], "columns", ["faults"]),
+]
+
+LOOPS = r"""
+#include <stdint.h>
+#include <stdio.h>
+#include <stdlib.h>
+#include <string.h>
+#define CELLS 4096
+#define LOOP for (long i = 0; i < CELLS; i++)
+#define FUNCTION __attribute__((noinline)) static int64_t
+typedef __int128 wide;
+typedef struct { int has_zero, negative; uint64_t magnitude; } factors;
+static int64_t a[CELLS], b[CELLS], c[CELLS], out[CELLS];
+int64_t scalar = 3;
+static wide sums[CELLS];
+static int64_t bests[CELLS], counts[CELLS];
+static factors products[CELLS];
+
+#define BOTH(name, step) \
+    FUNCTION name##_columns(void) { int64_t wrong = 0, value; LOOP { int64_t x = a[i], y = b[i]; step; out[i] = value; } return wrong; } \
+    FUNCTION name##_scalar(void) { int64_t wrong = 0, value, y = scalar; LOOP { int64_t x = a[i]; step; out[i] = value; } return wrong; }
+BOTH(add, value = (uint64_t)x + (uint64_t)y; wrong |= (x ^ value) & (y ^ value))
+BOTH(subtract, value = (uint64_t)x - (uint64_t)y; wrong |= (x ^ y) & (x ^ value))
+BOTH(multiply, wrong |= -(int64_t)__builtin_mul_overflow(x, y, &value))
+BOTH(divide, if (y == 0 || (y == -1 && x == INT64_MIN)) { value = 0; wrong = -1; } else value = x / y)
+BOTH(less, value = x < y)
+BOTH(at_most, value = x <= y)
+BOTH(greater, value = x > y)
+BOTH(at_least, value = x >= y)
+BOTH(equal, value = x == y)
+BOTH(other, value = x != y)
+BOTH(both, value = x != 0 && y != 0)
+BOTH(either, value = x != 0 || y != 0)
+BOTH(one_only, value = (x != 0) != (y != 0))
+BOTH(bit, if (y < 0 || y > 63) { value = 0; wrong = -1; } else value = (uint64_t)x >> y & 1)
+
+#define ONE(name, step) FUNCTION name(void) { int64_t wrong = 0, value; LOOP { int64_t x = a[i]; step; out[i] = value; } return wrong; }
+ONE(negate, value = 0 - (uint64_t)x; wrong |= x & value)
+ONE(plus, value = x)
+ONE(not, value = x == 0)
+ONE(absolute, value = x < 0 ? 0 - (uint64_t)x : x; wrong |= value)
+
+static inline factors times(factors p, int64_t x) {
+    if (x == 0) { p.has_zero = 1; return p; }
+    p.negative ^= x < 0;
+    uint64_t size = x < 0 ? 0 - (uint64_t)x : x, beyond = ((uint64_t)1 << 63) + 1;
+    if (__builtin_mul_overflow(p.magnitude, size, &p.magnitude) || p.magnitude > beyond) p.magnitude = beyond;
+    return p;
+}
+#define FOLD(name, start, step, end) \
+    FUNCTION name##_fold(void) { start; LOOP { int64_t x = a[i]; step; } end; } \
+    FUNCTION name##_where(void) { start; LOOP { if (c[i]) { int64_t x = a[i]; step; } } end; }
+FOLD(sum, wide sum = 0, sum += x, return (int64_t)sum ^ (int64_t)(sum >> 64))
+FOLD(product, factors p = ((factors){0, 0, 1}), p = times(p, x), return p.magnitude ^ p.negative ^ p.has_zero)
+FOLD(greatest, int64_t best = INT64_MIN, if (x > best) best = x, return best)
+FOLD(least, int64_t best = INT64_MAX, if (x < best) best = x, return best)
+FOLD(every, int64_t all = 1, all &= x != 0, return all)
+FOLD(any, int64_t some = 0, some |= x != 0, return some)
+FOLD(count, int64_t count = 0, count += x != 0, return count)
+
+#define EACH(name, step) FUNCTION name##_each(void) { LOOP { int64_t x = a[i]; step; } return 0; }
+EACH(sum, sums[i] += x)
+EACH(product, products[i] = times(products[i], x))
+EACH(greatest, if (x > bests[i]) bests[i] = x)
+EACH(least, if (x < bests[i]) bests[i] = x)
+EACH(every, counts[i] &= x != 0)
+EACH(any, counts[i] |= x != 0)
+EACH(count, counts[i] += x != 0)
+
+typedef struct { const char *name, *shape; int64_t (*run)(void); } line;
+#define TWO(word, name) {word, "columns", name##_columns}, {word, "scalar", name##_scalar}
+#define THREE(word, name) {word, "fold", name##_fold}, {word, "where", name##_where}, {word, "each", name##_each}
+static const line lines[] = {
+    TWO("+", add), TWO("-", subtract), TWO("*", multiply), TWO("/", divide), TWO("<", less), TWO("<=", at_most),
+    TWO(">", greater), TWO(">=", at_least), TWO("=", equal), TWO("!=", other), TWO("and", both), TWO("or", either),
+    TWO("xor", one_only), TWO("bit", bit),
+    {"negate", "one", negate}, {"plus", "one", plus}, {"not", "one", not}, {"abs", "one", absolute},
+    THREE("sum", sum), THREE("product", product), THREE("greatest", greatest), THREE("least", least),
+    THREE("every", every), THREE("any", any), THREE("count", count), THREE("average", sum),
+};
+
+static uint64_t mixed(uint64_t place) {
+    uint64_t x = (place + 1) * 0x9e3779b97f4a7c15u;
+    x = (x ^ (x >> 30)) * 0xbf58476d1ce4e5b9u;
+    return x ^ (x >> 27);
+}
+static int64_t with_sign(const char *data, uint64_t number) {
+    if (!strcmp(data, "wide")) return (int64_t)(number % ((uint64_t)1 << 62)) - ((int64_t)1 << 61);
+    return (int64_t)(number % ((uint64_t)1 << 32)) - ((int64_t)1 << 31);
+}
+static void fill(const char *kernel, const char *data) {
+    int is_constant = !strcmp(data, "constant"), is_faulty = !strcmp(data, "faults");
+    for (long i = 0; i < CELLS; i++) {
+        uint64_t number = mixed(i + CELLS);
+        a[i] = is_constant ? 7 : with_sign(data, mixed(i));
+        b[i] = is_constant ? 3 : with_sign(data, number);
+        if (!strcmp(kernel, "/") && !is_constant) b[i] |= 1;
+        if (!strcmp(kernel, "bit")) b[i] = number % 64;
+        c[i] = is_constant ? 1 : mixed(i) >> 63;
+        products[i].magnitude = 1;
+    }
+    if (is_faulty) {
+        a[CELLS - 1] = INT64_MAX;
+        if (!strcmp(kernel, "/")) b[CELLS - 1] = 0;
+        if (!strcmp(kernel, "bit")) b[CELLS - 1] = 64;
+        if (!strcmp(kernel, "-")) b[CELLS - 1] = -2;
+    }
+}
+int main(int count, char **words) {
+    int64_t seen = 0;
+    fill(words[1], words[3]);
+    for (unsigned n = 0; n < sizeof lines / sizeof *lines; n++) {
+        if (strcmp(lines[n].name, words[1]) || strcmp(lines[n].shape, words[2])) continue;
+        for (long r = atol(words[4]); r > 0; r--) {
+            seen += lines[n].run() ^ out[r % CELLS];
+            __asm__ volatile("" : : : "memory");
+        }
+        printf("%ld\n", (long)seen);
+        return 0;
+    }
+    return 1;
+}
+"""
+
+
+def seconds(program, case, rounds):
+    begun = resource.getrusage(resource.RUSAGE_CHILDREN)
+    subprocess.run([program, *case, str(rounds)], capture_output=True, check=True)
+    ended = resource.getrusage(resource.RUSAGE_CHILDREN)
+    return ended.ru_utime - begun.ru_utime + ended.ru_stime - begun.ru_stime
+
+
+def one_more(programs, case):
+    """The seconds that one more round of each program takes; they take turns."""
+    many = []
+    for program in programs:
+        rounds = 100
+        while seconds(program, case, rounds) < 0.03:
+            rounds *= 2
+        many.append(rounds)
+    few = [min(seconds(program, case, 1) for _ in range(3)) for program in programs]
+    times = [[seconds(program, case, rounds) for program, rounds in zip(programs, many)] for _ in range(REPEATS)]
+    least = [min(column) for column in zip(*times)]
+    return [(time - start) / rounds for time, start, rounds in zip(least, few, many)]
+
+
+def main():
+    wanted = sys.argv[1:]
+    print(f"{'4,096 cells':28} {'us':>8} {'C -O2 us':>9} {'C -O3 us':>9} {'to -O2':>7} {'to -O3':>7}")
+    with compiled(LOOPS, PROCESSOR) as second, compiled(LOOPS, PROCESSOR, "-O3") as third:
+        for kernels, shape, datas in LINES:
+            for case in [(kernel, shape, data) for kernel in kernels for data in datas]:
+                if wanted and not set(wanted) <= set(case):
+                    continue
+                ours, plain, best = one_more([PROGRAM, second, third], case)
+                print(f"{' '.join(case):28} {ours * 1e6:8.2f} {plain * 1e6:9.2f} {best * 1e6:9.2f}"
+                      f" {ours / plain:7.2f} {ours / best:7.2f}", flush=True)
+
+
+main()

@@ -1,0 +1,111 @@
+//! The cells of the columns.
+
+use std::alloc::{AllocError, Global};
+use tile_kernel::{Column, MAX_PLACES};
+use wcps_mean::Outcome;
+use wcps_types::Operation2;
+
+/// What cells a column has.
+#[derive(Clone, Copy)]
+pub enum Data {
+    /// One number at each place, each kept by itself.
+    Constant,
+    /// Noise of 32 bits.
+    Noise,
+    /// Noise of 62 bits.
+    Wide,
+    /// Noise of 32 bits; the last place divides by 0, or leaves 64 bits.
+    Faults,
+}
+
+/// Noise for a place.
+fn mixed(place: u64) -> u64 {
+    let x = place.wrapping_add(1).wrapping_mul(0x9e37_79b9_7f4a_7c15);
+    let y = (x ^ (x >> 30)).wrapping_mul(0xbf58_476d_1ce4_e5b9);
+    y ^ (y >> 27)
+}
+
+/// The number in as many of the low bits as the data has, with a sign.
+fn signed(data: Data, number: u64) -> i64 {
+    match data {
+        Data::Wide => (number % (1 << 62)) as i64 - (1 << 61),
+        _ => (number % (1 << 32)) as i64 - (1 << 31),
+    }
+}
+
+/// The cell of a left operand.
+fn left(data: Data, place: u64) -> i64 {
+    match data {
+        Data::Constant => 7,
+        Data::Faults if place == 4095 => i64::MAX,
+        _ => signed(data, mixed(place)),
+    }
+}
+
+/// The cell of a right operand: never 0 as a divisor, save for the fault, and of 0 to 63 as the number of a bit.
+fn right(op: Operation2, data: Data, place: u64) -> i64 {
+    let number = mixed(place | 4096);
+    match (op, data) {
+        (Operation2::Bit, Data::Faults) if place == 4095 => 64,
+        (Operation2::Divide, Data::Faults) if place == 4095 => 0,
+        (Operation2::Subtract, Data::Faults) if place == 4095 => -2,
+        (Operation2::Bit, _) => (number % 64) as i64,
+        (_, Data::Constant) => 3,
+        (Operation2::Divide, _) => signed(data, number) | 1,
+        _ => signed(data, number),
+    }
+}
+
+fn column(cells: &[i64], alloc: Global) -> Result<Column, AllocError> {
+    let mut column = Column::new(alloc)?;
+    if cells.len() <= MAX_PLACES {
+        column.write(cells);
+    }
+    Ok(column)
+}
+
+/// A column of left operands.
+pub fn lefts(alloc: Global, data: Data) -> Result<Column, AllocError> {
+    let mut cells = Vec::new(alloc);
+    for place in 0u64..4096 {
+        cells.push(left(data, place))?;
+    }
+    column(&cells, alloc)
+}
+
+/// A column of right operands.
+pub fn rights(alloc: Global, op: Operation2, data: Data) -> Result<Column, AllocError> {
+    let mut cells = Vec::new(alloc);
+    for place in 0u64..4096 {
+        cells.push(right(op, data, place))?;
+    }
+    column(&cells, alloc)
+}
+
+/// A column of truth values: true everywhere for constant data, else noise.
+pub fn conditions(alloc: Global, data: Data) -> Result<Column, AllocError> {
+    let mut cells = Vec::new(alloc);
+    for place in 0u64..4096 {
+        cells.push(match data {
+            Data::Constant => 1,
+            _ => (mixed(place) >> 63) as i64,
+        })?;
+    }
+    column(&cells, alloc)
+}
+
+/// A column that is one scalar at each place.
+pub fn scalar(alloc: Global, number: i64) -> Result<Column, AllocError> {
+    let mut column = Column::new(alloc)?;
+    column.fill(MAX_PLACES, Outcome::Value(number));
+    Ok(column)
+}
+
+/// The places of a column's cells, from 0 on.
+pub fn places(alloc: Global) -> Result<Vec<u64>, AllocError> {
+    let mut places = Vec::new(alloc);
+    for place in 0u64..4096 {
+        places.push(place)?;
+    }
+    Ok(places)
+}

@@ -1,0 +1,149 @@
+//! Kernels and condensers, run again and again.
+
+ghost use Rattle.std.specs.Prelude.{◌≡◌, ◌≤◌, ◌<◌, ◌^◌, length, All, IsTrue};
+ghost use Rattle.tile_kernel.specs.declared.accumulator.Accumulator.{Accumulator};
+
+use crate::cells::{Data, conditions, lefts, places, rights, scalar};
+use anyhow::Result;
+use std::alloc::Global;
+use tile_kernel::{
+    Accumulator, Column, add_column, fold_column, fold_column_where, operate_column,
+    operate_columns,
+};
+use wcps_mean::{Aggregate, Outcome};
+use wcps_types::{Operation1, Operation2};
+
+/// A number for an outcome.
+fn number(outcome: Outcome) -> i64 {
+    match outcome {
+        Outcome::Value(value) => value,
+        Outcome::Fault(_) => -1,
+    }
+}
+
+/// A number for one of the outcomes of a column, another one in each round.
+fn picked(column: &Column, round: u32) -> i64 {
+    let place = (round % 4096) as usize;
+    if place < column.len() {
+        return number(column.at(place));
+    }
+    0
+}
+
+fn operated(op: Operation2, left: &Column, right: &Column, out: &mut Column, rounds: u32) -> i64 {
+    let mut sum: i64 = 0;
+    for round in 0..rounds {
+        if left.len() == right.len() {
+            operate_columns(op, left, right, out);
+        }
+        sum = sum.wrapping_add(picked(out, round));
+    }
+    sum
+}
+
+/// An operation on two columns.
+pub fn both(alloc: Global, op: Operation2, data: Data, rounds: u32) -> Result<i64> {
+    let left = lefts(alloc, data)?;
+    let right = rights(alloc, op, data)?;
+    let mut out = Column::new(alloc)?;
+    Ok(operated(op, &left, &right, &mut out, rounds))
+}
+
+/// An operation on a column and the scalar 3.
+pub fn with_scalar(alloc: Global, op: Operation2, data: Data, rounds: u32) -> Result<i64> {
+    let left = lefts(alloc, data)?;
+    let right = scalar(alloc, 3)?;
+    let mut out = Column::new(alloc)?;
+    Ok(operated(op, &left, &right, &mut out, rounds))
+}
+
+/// An operation on one column.
+pub fn one(alloc: Global, op: Operation1, data: Data, rounds: u32) -> Result<i64> {
+    let operand = lefts(alloc, data)?;
+    let mut out = Column::new(alloc)?;
+    let mut sum: i64 = 0;
+    for round in 0..rounds {
+        operate_column(op, &operand, &mut out);
+        sum = sum.wrapping_add(picked(&out, round));
+    }
+    Ok(sum)
+}
+
+fn fold_once(op: Aggregate, column: &Column, places: &[u64]) -> i64 {
+    if places.len() != column.len() {
+        return 0;
+    }
+    number(fold_column(op, column, places).finish())
+}
+
+/// A condenser of a column.
+pub fn folded(alloc: Global, op: Aggregate, data: Data, rounds: u32) -> Result<i64> {
+    let column = lefts(alloc, data)?;
+    let places = places(alloc)?;
+    let mut sum: i64 = 0;
+    for _ in 0..rounds {
+        sum = sum.wrapping_add(fold_once(op, &column, &places));
+    }
+    Ok(sum)
+}
+
+fn fold_once_where(op: Aggregate, condition: &Column, column: &Column, places: &[u64]) -> i64 {
+    if places.len() != column.len() || condition.len() != column.len() {
+        return 0;
+    }
+    number(fold_column_where(op, condition, column, places).finish())
+}
+
+/// A condenser of a column under a condition.
+pub fn folded_where(alloc: Global, op: Aggregate, data: Data, rounds: u32) -> Result<i64> {
+    let column = lefts(alloc, data)?;
+    let condition = conditions(alloc, data)?;
+    let places = places(alloc)?;
+    let mut sum: i64 = 0;
+    for _ in 0..rounds {
+        sum = sum.wrapping_add(fold_once_where(op, &condition, &column, &places));
+    }
+    Ok(sum)
+}
+
+/// So many accumulators of no point.
+fn empties(alloc: Global, op: Aggregate, len: usize) -> Result<Vec<Accumulator>> {
+    let mut folds = Vec::new(alloc);
+    for _ in 0..len {
+        folds.push(Accumulator::empty(op))?;
+    }
+    Ok(folds)
+}
+
+/// Whether no accumulator has been told of a point.
+fn are_empty(folds: &[Accumulator]) -> bool
+    ensures { IsTrue result → All (λ (a : Accumulator). a.running.count ≤ 0) folds.now }
+{
+    folds.iter().all(|a| a.running.count == 0)
+}
+
+/// Accumulators that are told of a column's cells in each round.
+fn told(folds: &mut [Accumulator], column: &Column, rounds: u32)
+    requires length { length folds.old ≡ length column.now }
+    requires empty { All (λ (a : Accumulator). a.running.count ≤ 0) folds.old }
+    requires few { rounds ≤ 2 ^ 24 }
+    ensures { length folds.new ≡ length folds.old }
+{
+    for round in 0..rounds {
+        add_column(folds, u64::from(round), column);
+    }
+}
+
+/// Condensers of one cell of a column each.
+pub fn added(alloc: Global, op: Aggregate, data: Data, rounds: u32) -> Result<i64> {
+    let column = lefts(alloc, data)?;
+    let mut folds = empties(alloc, op, column.len())?;
+    if folds.len() == column.len() && rounds <= 16_777_216 && are_empty(&folds) {
+        told(folds.as_mut_slice(), &column, rounds);
+    }
+    let mut sum: i64 = 0;
+    for accumulator in folds {
+        sum = sum.wrapping_add(number(accumulator.finish()));
+    }
+    Ok(sum)
+}
