@@ -5,3 +5,7 @@ pub mod SettledPlaced
 pub mod Lowers
 pub mod LoweredItems
 pub mod LoweredSteps
+pub mod Lifts
+pub mod Hoists
+pub mod HoistedSteps
+pub mod HoistedPlans

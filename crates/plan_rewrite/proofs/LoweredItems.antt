@@ -1,6 +1,6 @@
 -- A lowered item gives what the item gives.
-use Rattle.std.proofs.Common.{◌≡◌, ℕ, zero, suc, ◌+◌, ◌<◌, ◌≤◌, List, [], ◌∷◌, ◌++◌, length, map, get_or, drop, refl, sym, ap, ◌∙◌, subst, arith, ℤ, Bool, true, false, cond, Result, Ok, Err}
-use Rattle.std.specs.Prelude.{int_le, ◌&&◌, insert}
+use Rattle.std.proofs.Common.{◌≡◌, ℕ, zero, suc, ◌<◌, List, [], ◌∷◌, ◌++◌, length, map, get_or, drop, refl, sym, ap, ◌∙◌, arith, ℤ, Bool, true, false, cond, Result, Ok, Err}
+use Rattle.std.specs.Prelude.{int_le, ◌&&◌}
 use Rattle.std.proofs.lemmas.List.{length-map}
 use Rattle.std.proofs.lemmas.Simd.{map-map}
 use Rattle.arr_core.specs.declared.cell.Cell.{Cell}
@@ -18,10 +18,9 @@ use Rattle.wcps_mean.specs.Meaning.{val}
 use Rattle.wcps_mean.specs.Answer.{then_of, given, joined, cell_of, line_of, field_count, cells_at as answer_cells, item_answer}
 use Rattle.plan_ir.specs.Run.{run}
 use Rattle.plan_ir.specs.Placed.{span, spans}
-use Rattle.plan_ir.specs.Plans.{BindTree, FieldBody}
-use Rattle.plan_ir.specs.Planned.{coordinate, bound, field_cell, cells_at, item_cells, item_planned}
+use Rattle.plan_ir.specs.Planned.{coordinate, bound, field_cell, cells_at, item_planned}
 use Rattle.plan_rewrite.specs.Lowering.{Setting, outermost, at_scalar, at_slice, lowered}
-use Rattle.plan_rewrite.specs.LoweredItems.{Chain, end, bracketed, sliced, chain_of, chain_tree, slice_bind, chain_binds, chain_fields, lowered_field, item_binds, lowered_item}
+use Rattle.plan_rewrite.specs.LoweredItems.{Chain, end, bracketed, sliced, chain_of, chain_tree, chain_binds, chain_fields, lowered_field, item_binds, lowered_item}
 use Rattle.plan_rewrite.proofs.Scopes.{Lie, lie-length, points-lie}
 use Rattle.plan_rewrite.proofs.SettledPlans.{map-same}
 use Rattle.plan_rewrite.proofs.Lowers.{outer-means}

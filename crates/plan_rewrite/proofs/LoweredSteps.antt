@@ -1,5 +1,5 @@
 -- Lowered steps give what the condition and the item give, are well-formed, and have no more units than their work and one.
-use Rattle.std.proofs.Common.{◌≡◌, ℕ, zero, suc, ◌+◌, ◌*◌, ◌≤◌, List, [], ◌∷◌, ◌++◌, length, map, refl, sym, ap, ◌∙◌, subst, arith, ℤ, Bool, true, false, cond, Result, Ok, Err}
+use Rattle.std.proofs.Common.{◌≡◌, ℕ, zero, suc, ◌+◌, ◌*◌, ◌≤◌, List, [], ◌∷◌, length, map, refl, sym, ap, ◌∙◌, subst, arith, ℤ, Bool, cond, Result, Ok}
 use Rattle.std.specs.Prelude.{Option, Some, None, slice_get, option_map}
 use Rattle.arr_core.specs.declared.domain.Axis.{Axis}
 use Rattle.arr_core.specs.declared.signature.Signature.{Signature}
@@ -12,12 +12,12 @@ use Rattle.wcps_types.specs.Work.{work_of, fields_work, item_work, condition_wor
 use Rattle.wcps_mean.specs.declared.cell.PointFault.{PointFault}
 use Rattle.wcps_mean.specs.declared.item.Item.{Item}
 use Rattle.wcps_mean.specs.Cells.{is_true}
-use Rattle.wcps_mean.specs.Answer.{then_of, given, chosen as answer_chosen, item_answer, combination_answer}
+use Rattle.wcps_mean.specs.Answer.{then_of, given, chosen as answer_chosen, combination_answer}
 use Rattle.plan_ir.specs.Plans.{FieldBody}
 use Rattle.plan_ir.specs.Planned.{chosen, item_planned, steps_planned}
-use Rattle.plan_ir.specs.Placed.{spans, IsPlaced, ConditionIsPlaced, FieldsArePlaced, ItemIsPlaced, AreSteps}
+use Rattle.plan_ir.specs.Placed.{spans, ConditionIsPlaced, FieldsArePlaced, ItemIsPlaced, AreSteps}
 use Rattle.plan_ir.specs.Units.{item_units, steps_units}
-use Rattle.plan_rewrite.specs.Lowering.{Setting, outermost, at_slice, lowered}
+use Rattle.plan_rewrite.specs.Lowering.{Setting, outermost, at_slice}
 use Rattle.plan_rewrite.specs.LoweredItems.{Chain, end, bracketed, sliced, chain_of, chain_binds, chain_fields, lowered_field, item_binds, lowered_item, returned, lowered_scalar, lowered_steps}
 use Rattle.plan_rewrite.proofs.Lowers.{outer-means, outer-placed}
 use Rattle.plan_rewrite.proofs.LoweredItems.{chain_views, chain-views, end-views, bracket-fields, no-fields, fields-length, item-lowered}

@@ -1,12 +1,11 @@
 -- A lowered body means what the typed tree means, and is well-formed.
-use Rattle.std.proofs.Common.{◌≡◌, ℕ, zero, suc, ◌+◌, ◌<◌, ◌≤◌, List, [], ◌∷◌, ◌++◌, length, map, get_or, take, drop, refl, sym, ap, ◌∙◌, subst, arith, ℤ, pos, ◌≤ℤ◌, length-append}
+use Rattle.std.proofs.Common.{◌≡◌, ℕ, zero, suc, List, [], ◌∷◌, ◌++◌, length, map, get_or, take, drop, refl, sym, ap, ◌∙◌, subst, arith, ℤ, pos, length-append}
 use Rattle.std.specs.Prelude.{Option, Some, None, slice_get, insert}
-use Rattle.std.specs.List.{flat_map}
 use Rattle.std.proofs.lemmas.List.{map-append, length-map, take-map, drop-map}
 use Rattle.std.proofs.lemmas.List.Concat.{flat_map_single}
 use Rattle.arr_core.specs.declared.domain.Axis.{Axis}
 use Rattle.arr_core.specs.declared.signature.Signature.{Signature}
-use Rattle.arr_core.specs.Domains.{points, rank_of}
+use Rattle.arr_core.specs.Domains.{points}
 use Rattle.wcps_types.specs.Typed.{Typed, number, iterator, cell, unary, binary, scalar, select, bracket, slice, array, listed, condense, condense_where, reduce}
 use Rattle.wcps_types.specs.WellTyped.{LieWithin, from_to, IsTyped, HasCells as TreeHasCells}
 use Rattle.wcps_mean.specs.declared.cell.Outcome.{Outcome}
@@ -19,7 +18,7 @@ use Rattle.plan_ir.specs.declared.body.Index.{Index}
 use Rattle.plan_ir.specs.declared.body.Index.TheVariants.{Const, Var}
 use Rattle.plan_ir.specs.declared.body.Interval.{Interval}
 use Rattle.plan_ir.specs.Run.{number_at, numbers_at, run}
-use Rattle.plan_ir.specs.Placed.{span, spans, LiesWithin, LiesIn, Indexes, HasCells, IsPlaced}
+use Rattle.plan_ir.specs.Placed.{span, spans, LiesIn, Indexes, HasCells, IsPlaced}
 use Rattle.plan_rewrite.specs.Settling.{levels}
 use Rattle.plan_rewrite.specs.Lowering.{Setting, outermost, at_scalar, at_iterators, at_slice, at_box, at_points, lowered}
 use Rattle.plan_rewrite.proofs.Scopes.{Lie, lie-length, points-lie, flat-same, at-map, lies-wider, indexes-more, indexes-append, levels-lie, numbers-more, numbers-levels, numbers-with, indexes-under}

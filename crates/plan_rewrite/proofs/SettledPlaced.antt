@@ -1,18 +1,18 @@
 -- A settled plan is well-formed, and has no bind left that would give way.
-use Rattle.std.proofs.Common.{◌≡◌, ℕ, ◌+◌, ◌≤◌, List, [], ◌∷◌, ◌++◌, length, map, get_or, refl, sym, subst, ℤ}
+use Rattle.std.proofs.Common.{◌≡◌, ℕ, ◌+◌, List, [], ◌∷◌, ◌++◌, length, map, get_or, refl, sym, subst}
 use Rattle.std.specs.Prelude.{Option, Some, None, slice_get, option_map, IsSomeAnd}
 use Rattle.std.proofs.lemmas.List.{length-map}
 use Rattle.arr_core.specs.declared.signature.Signature.{Signature}
 use Rattle.plan_ir.specs.declared.body.Index.{Index}
-use Rattle.plan_ir.specs.declared.body.Index.TheVariants.{Const, Var}
+use Rattle.plan_ir.specs.declared.body.Index.TheVariants.{Var}
 use Rattle.plan_ir.specs.declared.body.Interval.{Interval}
 use Rattle.plan_ir.specs.Bodies.{Tree}
-use Rattle.plan_ir.specs.Plans.{PassTree, BindTree, FieldBody, ItemTree, StepsTree, Choice, PlanTree, signature_of}
+use Rattle.plan_ir.specs.Plans.{PassTree, BindTree, FieldBody, StepsTree, Choice, PlanTree, signature_of}
 use Rattle.plan_ir.specs.Placed.{spans, Indexes, IsPlaced, ConditionIsPlaced, PassesArePlaced, FieldsArePlaced, ItemIsPlaced, AreSteps, IsChoice, IsPlan}
 use Rattle.plan_ir.proofs.Parts.{slice_get-map}
-use Rattle.plan_rewrite.specs.Settling.{levels, stand_in, settled}
+use Rattle.plan_rewrite.specs.Settling.{levels, settled}
 use Rattle.plan_rewrite.specs.Settled.{Ground, way, after_bind, ground, kept, kept_binds, settled_pass, settled_field, settled_item, settled_steps, settled_plan}
-use Rattle.plan_rewrite.specs.Rewritten.{IsReduced, PassesAreReduced, ConditionIsReduced, FieldsAreReduced, ItemIsReduced, StepsAreReduced}
+use Rattle.plan_rewrite.specs.Rewritten.{PassesAreReduced, ConditionIsReduced, FieldsAreReduced, ItemIsReduced, StepsAreReduced}
 use Rattle.plan_rewrite.proofs.Scopes.{indexes-append, levels-lie, indexes-under}
 use Rattle.plan_rewrite.proofs.Settles.{gives-way, settled-placed, settled-reduced}
 

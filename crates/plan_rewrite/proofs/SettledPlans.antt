@@ -1,10 +1,9 @@
 -- A settled plan gives what the plan gives, and is well-formed.
-use Rattle.std.proofs.Common.{◌≡◌, ℕ, zero, suc, ◌+◌, ◌<◌, ◌≤◌, List, [], ◌∷◌, ◌++◌, length, map, refl, sym, ap, ◌∙◌, subst, arith, ℤ, pos, ◌≤ℤ◌, cond, T, Bool, true, false, Result, Ok, Err}
-use Rattle.std.specs.Prelude.{Option, Some, None, slice_get, option_map, IsSomeAnd, int_le, ◌&&◌}
+use Rattle.std.proofs.Common.{◌≡◌, ℕ, List, [], ◌∷◌, ◌++◌, length, map, refl, sym, ap, ◌∙◌, subst, ℤ, ◌≤ℤ◌, cond, T, Bool, true, false, Result, Ok, Err}
+use Rattle.std.specs.Prelude.{Option, Some, None, slice_get, option_map, int_le, ◌&&◌}
 use Rattle.std.specs.Int.Signed.{le_z_yes}
 use Rattle.std.proofs.lemmas.List.{map-append, length-map}
 use Rattle.arr_core.specs.declared.cell.Cell.{Cell}
-use Rattle.arr_core.specs.declared.signature.Signature.{Signature}
 use Rattle.arr_core.specs.Domains.{points}
 use Rattle.wcps_mean.specs.declared.cell.PointFault.{PointFault}
 use Rattle.wcps_mean.specs.declared.cell.PointFault.TheVariants.{OutOfDomain}
@@ -14,17 +13,17 @@ use Rattle.wcps_mean.specs.declared.item.Item.{Item}
 use Rattle.wcps_mean.specs.Cells.{is_true}
 use Rattle.wcps_mean.specs.Answer.{then_of, given, joined, cell_of, line_of, field_count}
 use Rattle.plan_ir.specs.declared.body.Index.{Index}
-use Rattle.plan_ir.specs.declared.body.Index.TheVariants.{Const, Var}
+use Rattle.plan_ir.specs.declared.body.Index.TheVariants.{Var}
 use Rattle.plan_ir.specs.declared.body.Interval.{Interval}
 use Rattle.plan_ir.specs.Bodies.{Tree, fold}
 use Rattle.plan_ir.specs.Run.{number_at, numbers_at, run}
 use Rattle.plan_ir.specs.Plans.{PassTree, BindTree, FieldBody, ItemTree, StepsTree, Choice, PlanTree}
 use Rattle.plan_ir.specs.Planned.{pass_outcome, registers_after, registers, coordinate, bound, field_cell, cells_at, item_cells, item_planned, chosen, given_out, steps_planned, cells_of, choice_planned, planned}
-use Rattle.plan_ir.specs.Placed.{spans, Indexes, IsPlaced}
+use Rattle.plan_ir.specs.Placed.{spans, Indexes}
 use Rattle.plan_ir.proofs.Parts.{slice_get-map}
-use Rattle.plan_rewrite.specs.Settling.{levels, stand_in, settled}
+use Rattle.plan_rewrite.specs.Settling.{levels, settled}
 use Rattle.plan_rewrite.specs.Settled.{Ground, way, after_bind, ground, kept, kept_binds, settled_pass, settled_field, settled_item, settled_steps, settled_plan}
-use Rattle.plan_rewrite.proofs.Scopes.{Lie, lie-length, lie-one, Each, points-lie, indexes-append, levels-lie, indexes-under, numbers-levels, numbers-under}
+use Rattle.plan_rewrite.proofs.Scopes.{Lie, lie-length, lie-one, Each, points-lie, indexes-append, levels-lie, indexes-under, numbers-levels}
 use Rattle.plan_rewrite.proofs.Settles.{gives-way, one-more, settled-means}
 
 -- a settled pass gives what the pass gives

@@ -1,8 +1,7 @@
 -- A settled body means what the body means, is well-formed, and has no bind left that would give way.
-use Rattle.std.proofs.Common.{◌≡◌, ℕ, zero, suc, ◌+◌, ◌<◌, ◌≤◌, List, [], ◌∷◌, ◌++◌, length, map, get_or, refl, sym, ap, ◌∙◌, subst, arith, ℤ, pos, ◌≤ℤ◌, cond, T, Bool, true, false}
+use Rattle.std.proofs.Common.{◌≡◌, ℕ, zero, suc, ◌<◌, List, [], ◌∷◌, ◌++◌, length, map, get_or, refl, sym, ap, ◌∙◌, subst, arith, ℤ, pos, ◌≤ℤ◌, cond, T, Bool, true, false}
 use Rattle.std.specs.Prelude.{Option, Some, None, slice_get, IsSomeAnd, option_and_then, int_le, ◌&&◌}
 use Rattle.std.specs.Int.Signed.{le_z_yes}
-use Rattle.std.specs.List.{flat_map}
 use Rattle.std.proofs.lemmas.Int.{ints}
 use Rattle.std.proofs.lemmas.List.{map-append}
 use Rattle.arr_core.specs.declared.signature.Signature.{Signature}
@@ -20,7 +19,7 @@ use Rattle.plan_ir.specs.Run.{number_at, numbers_at, run}
 use Rattle.plan_ir.specs.Placed.{spans, LiesWithin, LiesIn, Indexes, HasCells, IsPlaced}
 use Rattle.plan_rewrite.specs.Settling.{variable, moved, levels, told, literal, constant_in, variable_in, stand_in, bind_or_go, settled}
 use Rattle.plan_rewrite.specs.Rewritten.{IsReduced}
-use Rattle.plan_rewrite.proofs.Scopes.{Lie, lie-length, lie-append, lie-one, points-lie, flat-same, at-map, some-within, lies-wider, indexes-append, numbers-under, indexes-under}
+use Rattle.plan_rewrite.proofs.Scopes.{Lie, lie-append, lie-one, points-lie, flat-same, at-map, some-within, lies-wider, indexes-append, numbers-under, indexes-under}
 
 -- a test that gave something passed
 test-some : (b : Bool) (x i : Index) → cond b (Some x) None ≡ Some i → T b × (x ≡ i)

@@ -1,7 +1,6 @@
 -- Binds that give way: a body with its variables renamed, and without the binds whose position is a literal or a variable
 -- inside their interval.
 use Rattle.std.specs.Prelude.{ℕ, ◌+◌, ℤ, pos, int_le, ◌&&◌, cond, List, [], ◌∷◌, ◌++◌, map, length, slice_get, slice_index_or, Option, Some, None, option_and_then}
-use Rattle.arr_core.specs.declared.domain.Axis.{Axis}
 use Rattle.wcps_mean.specs.declared.cell.Outcome.{Outcome}
 use Rattle.wcps_mean.specs.declared.cell.Outcome.TheVariants.{Value, Fault}
 use Rattle.wcps_mean.specs.Cells.{exact1}

@@ -1,4 +1,4 @@
-use Rattle.std.proofs.Common.{◌≡◌, ◌∙◌, ap, sym}
+use Rattle.std.proofs.Common.{◌∙◌, ap, sym}
 use Rattle.plan_ir.specs.Bodies.{Tree, body_view, fold_view, fold}
 use Rattle.plan_ir.specs.Plans.{PassTree}
 use Rattle.plan_ir.proofs.Folds.{folded}

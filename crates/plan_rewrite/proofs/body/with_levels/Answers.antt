@@ -1,4 +1,4 @@
-use Rattle.std.proofs.Common.{◌≡◌, ◌+◌, ◌<◌, ◌∙◌, ap, sym, arith, [], ◌∷◌, ◌++◌, append_assoc, length, take, suc}
+use Rattle.std.proofs.Common.{◌≡◌, ◌+◌, ◌∙◌, ap, sym, arith, [], ◌∷◌, ◌++◌, append_assoc, length, take, suc}
 use Rattle.plan_ir.specs.declared.body.Index.TheVariants.{Var}
 use Rattle.plan_ir.specs.Placed.{spans}
 use Rattle.plan_rewrite.specs.Settling.{levels}

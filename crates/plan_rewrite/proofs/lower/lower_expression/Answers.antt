@@ -1,4 +1,4 @@
-use Rattle.std.proofs.Common.{◌≡◌, ◌∙◌, ◌++◌, ap, sym, subst}
+use Rattle.std.proofs.Common.{◌∙◌, ◌++◌, ap, sym, subst}
 use Rattle.std.specs.Prelude.{slice_get}
 use Rattle.wcps_types.specs.Typed.{field_tree}
 use Rattle.plan_ir.specs.Run.{run}

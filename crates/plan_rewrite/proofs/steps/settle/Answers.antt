@@ -1,4 +1,4 @@
-use Rattle.std.proofs.Common.{◌≡◌, ◌∙◌, ap, sym, subst, map}
+use Rattle.std.proofs.Common.{◌∙◌, ap, sym, subst, map}
 use Rattle.plan_ir.specs.Plans.{PlanTree, steps_view, plan_view}
 use Rattle.plan_ir.specs.Planned.{planned}
 use Rattle.plan_ir.specs.Placed.{IsPlan}
