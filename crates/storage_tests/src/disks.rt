@@ -1,87 +1,184 @@
-//! What no clause says: that the calls succeed, and worked values.
-use disk_face::{Disk, DiskFault, FailDisk, FileDisk, MemDisk};
-use std::alloc::{AllocError, Global};
+//! Disks in memory, of which one call fails or one read lies, and disks over files.
+
+use crate::words::{DISK_FAULT, counted, cut, number, told};
+use anyhow::{Result, bail};
+use disk_face::{Disk, DiskFault, FailDisk, FileDisk, FullFile, MemDisk, StdFile};
+use std::alloc::Global;
 use std::fs;
+use test_rows::{Files, hex, refusal};
 
-/// A disk in memory with these bytes.
-fn disk_of(alloc: Global, bytes: &[u8]) -> Result<MemDisk, AllocError> {
-    let mut content = Vec::new(alloc);
-    content.extend_from_slice(bytes)?;
-    Ok(MemDisk::new(content))
+/// A disk in memory of which one call fails, and one read gives each byte inverted. So of what it reads nothing is said.
+#[derive(Drop)]
+pub struct TestDisk {
+    disk: FailDisk,
+    /// How many reads are left until one lies, or 0 for none.
+    left: u64,
 }
 
-#[test]
-fn a_gap_is_filled_with_zeros(rt: HostRuntime) -> Result<(), AllocError> {
-    let mut disk = disk_of(rt.alloc(), &[1, 2, 3])?;
-    assert_eq!(rt; disk.write_at(5, &[7, 8]), Ok(()));
-    assert_eq!(rt; disk.write_at(1, &[9]), Ok(()));
-    assert_eq!(rt; disk.len(), 7);
-    let mut bytes = [0u8; 4];
-    assert_eq!(rt; disk.read_at(2, &mut bytes), Ok(()));
-    assert_eq!(rt; bytes, [3, 0, 0, 7]);
-    assert_eq!(rt;
-        disk.into_bytes().as_slice() == [1u8, 9, 3, 0, 0, 7, 8].as_slice(),
-        true
-    );
-    Ok(())
-}
-
-#[test]
-fn a_read_past_the_length_fails(rt: HostRuntime) -> Result<(), AllocError> {
-    let mut disk = disk_of(rt.alloc(), &[1, 2, 3])?;
-    for (at, expected) in [
-        (0, Ok(())),
-        (1, Ok(())),
-        (2, Err(DiskFault)),
-        (3, Err(DiskFault)),
-        (18446744073709551615, Err(DiskFault)),
-    ] {
-        let mut bytes = [0u8; 2];
-        assert_eq!(rt; disk.read_at(at, &mut bytes), expected, "at {at}");
+impl TestDisk {
+    /// The disk with these bytes whose call of a number fails, and whose read of a number lies, or none for 0.
+    fn new(bytes: Vec<u8>, fails: u64, lies: u64) -> TestDisk {
+        TestDisk {
+            disk: FailDisk::new(MemDisk::new(bytes), fails),
+            left: lies,
+        }
     }
-    assert_eq!(rt; disk.read_at(3, &mut []), Ok(()));
-    assert_eq!(rt;
-        disk.write_at(18446744073709551615, &[1, 2]),
-        Err(DiskFault)
-    );
-    assert_eq!(rt; disk.len(), 3);
-    Ok(())
 }
 
-#[test]
-fn one_call_fails(rt: HostRuntime) -> Result<(), AllocError> {
-    for k in 0..5u64 {
-        let mut disk = FailDisk::new(disk_of(rt.alloc(), &[1, 2, 3, 4])?, k);
-        let mut bytes = [0u8; 2];
-        assert_eq!(rt; disk.write_at(0, &[5, 6]).is_err(), k == 1, "call {k}");
-        assert_eq!(rt; disk.read_at(0, &mut bytes).is_err(), k == 2, "call {k}");
-        assert_eq!(rt; disk.sync().is_err(), k == 3, "call {k}");
-        assert_eq!(rt; disk.len(), 4);
-        let content = disk.into_disk().into_bytes();
-        let second = if k == 1 { 2 } else { 6 };
-        assert_eq!(rt;
-            content.as_slice() == [5, second, 3, 4].as_slice(),
-            true,
-            "call {k}"
-        );
+impl Disk for TestDisk {
+    ghost use Rattle.std.specs.Prelude.{false};
+
+    ghost content = { λ d. d.disk.content };
+
+    ghost synced = { λ d. d.disk.content };
+
+    ghost failures = { λ d. d.disk.failures };
+
+    ghost honest = { λ _. false };
+
+    fn read_at(&mut self, at: u64, buf: &mut [u8]) -> Result<(), DiskFault> {
+        let lies = self.left == 1;
+        self.left = self.left.saturating_sub(1);
+        self.disk.read_at(at, buf)?;
+        if lies {
+            for byte in buf.iter_mut() {
+                *byte = 255 - *byte;
+            }
+        }
+        Ok(())
     }
-    Ok(())
+
+    fn write_at(&mut self, at: u64, bytes: &[u8]) -> Result<(), DiskFault> {
+        self.disk.write_at(at, bytes)
+    }
+
+    fn len(&self) -> u64 {
+        self.disk.len()
+    }
+
+    fn sync(&mut self) -> Result<(), DiskFault> {
+        self.disk.sync()
+    }
 }
 
-#[test]
-fn a_file_reads_what_was_written(rt: HostRuntime) -> Result<(), DiskFault> {
-    let path = "disk_face_test.tmp";
-    let mut disk = FileDisk::open(&rt, path)?;
-    disk.write_at(3, &[7, 8])?;
-    disk.sync()?;
-    assert_eq!(rt; disk.len(), 5);
-    let mut again = FileDisk::open(&rt, path)?;
-    assert_eq!(rt; again.len(), 5);
-    let mut bytes = [1u8; 4];
-    again.read_at(1, &mut bytes)?;
-    assert_eq!(rt; bytes, [0, 0, 7, 8]);
-    assert_eq!(rt; again.read_at(2, &mut bytes), Err(DiskFault));
-    assert_eq!(rt; fs::remove_file(&rt, path).is_ok(), true);
-    assert_eq!(rt; FileDisk::open(&rt, "no_such_folder/file").is_err(), true);
-    Ok(())
+/// The disk that rows speak to.
+#[derive(Drop)]
+pub enum AnyDisk {
+    Memory(MemDisk),
+    Test(TestDisk),
+    Full(FileDisk<FullFile>),
+    Real(FileDisk<StdFile>),
+}
+
+/// `ok`, or that the disk failed.
+pub fn done(alloc: Global, outcome: Result<(), DiskFault>) -> Result<String> {
+    match outcome {
+        Ok(()) => told(alloc, "ok"),
+        Err(DiskFault) => refusal(alloc, DISK_FAULT),
+    }
+}
+
+/// So many bytes from a place on, as `2 4`.
+fn read<D: Disk>(alloc: Global, disk: &mut D, words: &str) -> Result<String> {
+    let (at, count) = cut(words);
+    let mut bytes = vec![in alloc; 0u8; number(count) as usize]?;
+    match disk.read_at(number(at), &mut bytes) {
+        Ok(()) => Ok(hex(alloc, &bytes)?),
+        Err(DiskFault) => refusal(alloc, DISK_FAULT),
+    }
+}
+
+/// Writes bytes from a place on, as `5 0x0708`.
+fn write<D: Disk>(alloc: Global, disk: &mut D, files: &Files, words: &str) -> Result<String> {
+    let (at, words) = cut(words);
+    let bytes = files.bytes(alloc, words)?;
+    done(alloc, disk.write_at(number(at), &bytes))
+}
+
+/// A call on a disk.
+fn called<D: Disk>(
+    alloc: Global,
+    disk: &mut D,
+    files: &Files,
+    verb: &str,
+    words: &str,
+) -> Result<String> {
+    match verb {
+        "read" => read(alloc, disk, words),
+        "write" => write(alloc, disk, files, words),
+        "length" => counted(alloc, disk.len()),
+        "sync" => done(alloc, disk.sync()),
+        _ => bail!("no such call"),
+    }
+}
+
+impl AnyDisk {
+    /// A disk in memory of which a call fails and a read lies, as `2 0 lai`.
+    pub fn test(alloc: Global, files: &Files, words: &str) -> Result<AnyDisk> {
+        let (fails, rest) = cut(words);
+        let (lies, words) = cut(rest);
+        let bytes = files.bytes(alloc, words)?;
+        let disk = TestDisk::new(bytes, number(fails), number(lies));
+        Ok(AnyDisk::Test(disk))
+    }
+
+    /// A disk over a file in memory on a device that has room for so many bytes, as `8 lai`.
+    fn full(alloc: Global, files: &Files, words: &str) -> Result<AnyDisk> {
+        let (room, words) = cut(words);
+        let bytes = files.bytes(alloc, words)?;
+        let room = number(room) as usize;
+        Ok(AnyDisk::Full(FileDisk::new(FullFile { bytes, room })?))
+    }
+
+    /// A disk, as `memory lai`.
+    pub fn new(alloc: Global, files: &Files, kind: &str, words: &str) -> Result<AnyDisk> {
+        match kind {
+            "memory" => Ok(AnyDisk::Memory(MemDisk::new(files.bytes(alloc, words)?))),
+            "full" => AnyDisk::full(alloc, files, words),
+            _ => AnyDisk::test(alloc, files, words),
+        }
+    }
+
+    /// A call on the disk.
+    pub fn called(
+        &mut self,
+        alloc: Global,
+        files: &Files,
+        verb: &str,
+        words: &str,
+    ) -> Result<String> {
+        match self {
+            AnyDisk::Memory(disk) => called(alloc, disk, files, verb, words),
+            AnyDisk::Test(disk) => called(alloc, disk, files, verb, words),
+            AnyDisk::Full(disk) => called(alloc, disk, files, verb, words),
+            AnyDisk::Real(disk) => called(alloc, disk, files, verb, words),
+        }
+    }
+
+    /// The bytes that it holds, but for a real file.
+    pub fn into_bytes(self) -> Result<Vec<u8>> {
+        match self {
+            AnyDisk::Memory(disk) => Ok(disk.into_bytes()),
+            AnyDisk::Test(disk) => Ok(disk.disk.into_disk().into_bytes()),
+            AnyDisk::Full(disk) => Ok(disk.into_file()?.bytes),
+            AnyDisk::Real(_) => bail!("a file of the system"),
+        }
+    }
+}
+
+/// Opens a disk over a file of the system into a place for a disk.
+pub fn open_file(rt: &HostRuntime, disk: &mut Option<AnyDisk>, path: &str) -> Result<String> {
+    match FileDisk::open(rt, path) {
+        Ok(file) => {
+            *disk = Some(AnyDisk::Real(file));
+            told(rt.alloc(), "ok")
+        }
+        Err(DiskFault) => refusal(rt.alloc(), DISK_FAULT),
+    }
+}
+
+/// Takes a file of the system away.
+pub fn remove_file(rt: &HostRuntime, path: &str) -> Result<String> {
+    fs::remove_file(rt, path)?;
+    told(rt.alloc(), "ok")
 }

@@ -1,162 +1,151 @@
-//! Worked values of names, refusals, cells, fields, domains and tiles.
+//! Names, cells, fields, domains and tiles.
 
-use arr_core::{Axis, Cell, Domain, Field, FieldType, Fields, Name, refusal_name};
+use crate::words::{counted, cut, joined, number, told};
+use anyhow::{Result, bail};
+use arr_core::{Domain, Name, refusal_name};
 use std::alloc::Global;
-use std::test::Fail;
+use test_rows::{axes, cell, domain, fields, kind, point, refusal, shown, text, yes};
 
-fn axes_of(alloc: Global, list: &[(&str, i32, i32)]) -> Result<Vec<Axis>, Fail> {
-    let mut axes = Vec::new(alloc);
-    for (name, lo, hi) in list {
-        let name = Name::new(alloc, name)?;
-        axes.push(Axis {
-            name,
-            lo: *lo,
-            hi: *hi,
-        })?;
+/// A name, of which a copy is the same one; `BadName` where the text is none.
+fn name(alloc: Global, written: &str) -> Result<String> {
+    let words = text(alloc, written)?;
+    let Ok(name) = Name::new(alloc, words.as_str()) else {
+        return told(alloc, "BadName");
+    };
+    if !name.is_same(&name.copy(alloc)?) {
+        return told(alloc, "not its copy");
     }
-    Ok(axes)
+    told(alloc, name.as_str())
 }
 
-fn plane(alloc: Global, x: (i32, i32), y: (i32, i32)) -> Result<Domain, Fail> {
-    Ok(Domain::new(axes_of(alloc, &[("x", x.0, x.1), ("y", y.0, y.1)])?)?)
+/// How many points and tiles a domain has, as `4225 points, 4 tiles`, or its refusal.
+fn size(alloc: Global, words: &str) -> Result<String> {
+    let Ok(domain) = Domain::new(axes(alloc, words)?) else {
+        return refusal(alloc, 22);
+    };
+    let points = domain.points();
+    let tiles = domain.tiles();
+    Ok(format!(in alloc; "{points} points, {tiles} tiles")?)
 }
 
-#[test]
-fn names(rt: HostRuntime) -> Result<(), Fail> {
-    let longest = "a123456789b123456789c123456789d123456789e123456789f123456789g123";
-    let too_long = "a123456789b123456789c123456789d123456789e123456789f123456789g1234";
-    for (text, is_name) in [
-        ("lai", true),
-        ("_", true),
-        ("x9_Z", true),
-        ("maxi", true),
-        (longest, true),
-        (too_long, false),
-        ("", false),
-        ("9x", false),
-        ("a-b", false),
-        ("é", false),
-        ("max", false),
-        ("For", false),
-        ("IMAGECRSDOMAIN", false),
-    ] {
-        assert_eq!(rt; Name::new(rt.alloc(), text).is_ok(), is_name, "at {text}");
+/// The place of a point and the number of its tile, as `65 in tile 0`.
+fn rank(alloc: Global, domain: &Domain, words: &str) -> Result<String> {
+    let point = point(alloc, words)?;
+    if !domain.contains(&point) {
+        return told(alloc, "outside");
     }
-    let lai = Name::new(rt.alloc(), "lai")?;
-    assert!(rt; lai.is_same(&lai.copy(rt.alloc())?));
-    assert_eq!(rt; lai.as_str(), "lai");
-    Ok(())
+    let place = domain.rank(&point);
+    let tile = domain.tile_of(&point);
+    Ok(format!(in alloc; "{place} in tile {tile}")?)
 }
 
-#[test]
-fn refusals(rt: HostRuntime) {
-    for (number, name) in [
-        (0, ""),
-        (1, "BadHead"),
-        (22, "BadDomain"),
-        (95, "NotClosed"),
-        (96, ""),
-    ] {
-        assert_eq!(rt; refusal_name(number), name, "at {number}");
+/// The point at a place.
+fn unrank(alloc: Global, domain: &Domain, place: u64) -> Result<String> {
+    if place >= domain.points() {
+        return told(alloc, "outside");
+    }
+    joined(alloc, &domain.unrank(alloc, place)?)
+}
+
+/// The box of a tile.
+fn tile_box(alloc: Global, domain: &Domain, tile: u64) -> Result<String> {
+    if tile >= domain.tiles() {
+        return told(alloc, "none");
+    }
+    Ok(shown(alloc, &domain.tile_box(alloc, tile)?)?)
+}
+
+/// The tiles that a box meets.
+fn meeting(alloc: Global, whole: &Domain, words: &str) -> Result<String> {
+    let area = domain(alloc, words)?;
+    joined(alloc, &whole.tiles_meeting(alloc, &area)?)
+}
+
+/// The domain with other bounds of an axis, as `0 5 6`.
+fn narrow(alloc: Global, domain: &Domain, words: &str) -> Result<String> {
+    let (axis, bounds) = cut(words);
+    let (lo, hi) = cut(bounds);
+    let axis = number(axis) as usize;
+    let lo = lo.parse::<i32>().unwrap_or(i32::MAX);
+    let hi = hi.parse::<i32>().unwrap_or(i32::MIN);
+    if !domain.can_narrow(axis, lo, hi) {
+        return told(alloc, "no");
+    }
+    Ok(shown(alloc, &domain.narrow(alloc, axis, lo, hi)?)?)
+}
+
+/// The domain without an axis.
+fn drop_axis(alloc: Global, domain: &Domain, axis: usize) -> Result<String> {
+    if axis >= domain.axes().len() {
+        return told(alloc, "no");
+    }
+    Ok(shown(alloc, &domain.drop_axis(alloc, axis)?)?)
+}
+
+/// Whether axes are those of a box of a domain.
+fn is_box(alloc: Global, whole: &Domain, words: &str) -> Result<String> {
+    let area = domain(alloc, words)?;
+    yes(alloc, area.is_box_of(whole))
+}
+
+/// Whether fields may be those of a coverage, as `2 fields`, or their refusal.
+fn field_count(alloc: Global, words: &str) -> Result<String> {
+    let fields = fields(alloc, words)?;
+    if !fields.are_fields() {
+        return refusal(alloc, 23);
+    }
+    let count = fields.copy(alloc)?.len();
+    Ok(format!(in alloc; "{count} fields")?)
+}
+
+/// A place, or `none`.
+fn place(alloc: Global, place: Option<usize>) -> Result<String> {
+    match place {
+        Some(place) => counted(alloc, place as u64),
+        None => told(alloc, "none"),
     }
 }
 
-#[test]
-fn cells(rt: HostRuntime) {
-    for (kind, cell, held) in [
-        (FieldType::Bool, Cell::Bool(true), true),
-        (FieldType::Bool, Cell::Int(1), false),
-        (FieldType::U8, Cell::Int(255), true),
-        (FieldType::U8, Cell::Int(-1), false),
-        (FieldType::I16, Cell::Int(-32768), true),
-        (FieldType::I16, Cell::Int(32768), false),
-        (FieldType::I32, Cell::Int(2147483647), true),
-        (FieldType::I64, Cell::Int(-9223372036854775808), true),
-        (FieldType::I64, Cell::Bool(false), false),
-    ] {
-        assert_eq!(rt; kind.holds(cell), held, "{cell:?} in {kind:?}");
+/// The place of a field with a name.
+fn field(alloc: Global, words: &str) -> Result<String> {
+    let (list, name) = cut(words);
+    let fields = fields(alloc, list)?;
+    place(alloc, fields.place_of(name))
+}
+
+/// Whether a field of a type may have a cell.
+fn holds(alloc: Global, words: &str) -> Result<String> {
+    let (type_name, word) = cut(words);
+    let kind = kind(type_name)?;
+    yes(alloc, kind.holds(cell(word)?))
+}
+
+/// A call on a domain.
+fn of_domain(alloc: Global, verb: &str, words: &str) -> Result<String> {
+    let (axes, rest) = cut(words);
+    let whole = domain(alloc, axes)?;
+    match verb {
+        "rank" => rank(alloc, &whole, rest),
+        "unrank" => unrank(alloc, &whole, number(rest)),
+        "tile_box" => tile_box(alloc, &whole, number(rest)),
+        "tiles_meeting" => meeting(alloc, &whole, rest),
+        "narrow" => narrow(alloc, &whole, rest),
+        "drop_axis" => drop_axis(alloc, &whole, number(rest) as usize),
+        "is_box" => is_box(alloc, &whole, rest),
+        "axis" => place(alloc, whole.place_of(rest)),
+        _ => bail!("no such call"),
     }
 }
 
-#[test]
-fn plane_of_four_tiles(rt: HostRuntime) -> Result<(), Fail> {
-    let alloc = rt.alloc();
-    let d = plane(alloc, (0, 64), (0, 64))?;
-    assert_eq!(rt; d.points(), 4225);
-    assert!(rt; d.contains(&[1, 0]));
-    assert_eq!(rt; d.rank(&[1, 0]), 65);
-    assert_eq!(rt; d.unrank(alloc, 64)?.as_slice(), [0, 64].as_slice());
-    assert_eq!(rt; d.tiles(), 4);
-    assert!(rt;
-        d.tile_box(alloc, 1)?
-            .is_same(&plane(alloc, (0, 63), (64, 64))?)
-    );
-    let row = plane(alloc, (63, 64), (0, 0))?;
-    assert_eq!(rt; d.tiles_meeting(alloc, &row)?.as_slice(), [0, 2].as_slice());
-    assert!(rt; d.can_narrow(0, 5, 6));
-    assert!(rt;
-        d.narrow(alloc, 0, 5, 6)?
-            .is_same(&plane(alloc, (5, 6), (0, 64))?)
-    );
-    assert!(rt; d.axes().len() == 2);
-    assert!(rt;
-        d.drop_axis(alloc, 0)?
-            .is_same(&Domain::new(axes_of(alloc, &[("y", 0, 64)])?)?)
-    );
-    Ok(())
-}
-
-#[test]
-fn domains_at_the_limits(rt: HostRuntime) -> Result<(), Fail> {
-    let alloc = rt.alloc();
-    let largest = plane(alloc, (0, 4095), (0, 4095))?;
-    assert_eq!(rt; largest.points(), 16_777_216);
-    assert_eq!(rt; largest.tiles(), 4096);
-    for refused in [
-        [("x", 0, 4095), ("y", 0, 4096)],
-        [("x", 1, 0), ("y", 0, 0)],
-        [("x", 0, 0), ("x", 0, 0)],
-        [("x", -2147483648, 2147483647), ("y", 0, 0)],
-    ] {
-        assert!(rt; Domain::new(axes_of(alloc, &refused)?).is_err());
+/// A call on a name, a cell, fields or a domain.
+pub fn called(alloc: Global, verb: &str, words: &str) -> Result<String> {
+    match verb {
+        "name" => name(alloc, words),
+        "refusal" => told(alloc, refusal_name(words.parse::<u16>().unwrap_or(0))),
+        "holds" => holds(alloc, words),
+        "fields" => field_count(alloc, words),
+        "field" => field(alloc, words),
+        "domain" => size(alloc, words),
+        _ => of_domain(alloc, verb, words),
     }
-    let five = [
-        ("a", 0, 0),
-        ("b", 0, 0),
-        ("c", 0, 0),
-        ("d", 0, 0),
-        ("e", 0, 0),
-    ];
-    assert!(rt; Domain::new(axes_of(alloc, &five)?).is_err());
-    assert!(rt; Domain::new(axes_of(alloc, &five[..4])?).is_ok());
-    let ends = plane(alloc, (-2147483648, -2147483647), (2147483646, 2147483647))?;
-    assert!(rt; ends.contains(&[-2147483647, 2147483646]));
-    assert_eq!(rt; ends.rank(&[-2147483647, 2147483646]), 2);
-    let point = Domain::new(Vec::new(alloc))?;
-    assert_eq!(rt; point.points(), 1);
-    assert_eq!(rt; point.tiles(), 1);
-    Ok(())
-}
-
-#[test]
-fn fields(rt: HostRuntime) -> Result<(), Fail> {
-    let alloc = rt.alloc();
-    let mut list = Vec::new(alloc);
-    for (name, kind) in [("v", FieldType::I16), ("w", FieldType::Bool)] {
-        let name = Name::new(alloc, name)?;
-        list.push(Field { name, kind })?;
-    }
-    let fields = Fields::new(list);
-    assert!(rt; fields.are_fields());
-    assert_eq!(rt; fields.place_of("w"), Some(1));
-    assert_eq!(rt; fields.place_of("W"), None);
-    assert_eq!(rt; fields.copy(alloc)?.len(), 2);
-    let mut twice = fields.into_vec();
-    let name = Name::new(alloc, "v")?;
-    twice.push(Field {
-        name,
-        kind: FieldType::U8,
-    })?;
-    assert!(rt; !Fields::new(twice).are_fields());
-    Ok(())
 }
