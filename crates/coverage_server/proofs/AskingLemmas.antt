@@ -34,7 +34,7 @@ use Rattle.coverage_server.specs.Answered.{Answered}
 use Rattle.coverage_server.specs.Machine.{Answers}
 use Rattle.coverage_server.specs.declared.arguments.Refusal.{Refusal}
 use Rattle.coverage_server.specs.declared.arguments.Refusal.TheVariants.{Numbered, NoMemory, DiskFault, NoRoom, Damaged}
-use Rattle.coverage_server.specs.declared.front.reply.Reply.TheVariants.{Csv}
+use Rattle.http_front.specs.declared.reply.Reply.TheVariants.{Csv}
 
 -- the coverage that has the name of a signature, if there is one
 named_alike : (store : Store) (o : Option Signature)

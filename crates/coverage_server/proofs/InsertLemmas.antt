@@ -11,8 +11,8 @@ use Rattle.catalogue.specs.declared.error.InsertError.{InsertError}
 use Rattle.catalogue.specs.declared.error.InsertError.TheVariants as insertion
 use Rattle.catalogue.specs.Signatures.{IsRefused, MayInsert}
 use Rattle.raster_store.specs.Calls.{signature_of}
-use Rattle.coverage_server.specs.declared.front.reply.Reply.TheVariants.{Text, Refused}
-use Rattle.coverage_server.specs.declared.request.Interval.{Interval}
+use Rattle.http_front.specs.declared.reply.Reply.TheVariants.{Text, Refused}
+use Rattle.kvp_front.specs.declared.request.Interval.{Interval}
 use Rattle.coverage_server.specs.declared.arguments.Refusal.{Refusal}
 use Rattle.coverage_server.specs.declared.arguments.Refusal.TheVariants.{Numbered, NoMemory, DiskFault, NoRoom, Damaged}
 use Rattle.coverage_server.specs.Answered.{Answered}

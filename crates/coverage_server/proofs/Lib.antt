@@ -1,14 +1,8 @@
-pub mod BufferLemmas
-pub mod HeadLemmas
-pub mod StreamLemmas
-pub mod TakenLemmas
-pub mod SpellingLemmas
-pub mod RequestLemmas
-pub mod ReplyLemmas
 pub mod ListLemmas
 pub mod StoreLemmas
 pub mod ServingLemmas
 pub mod MachineLemmas
+pub mod RemovalLemmas
 pub mod InsertLemmas
 pub mod UpdateLemmas
 pub mod WriteLemmas

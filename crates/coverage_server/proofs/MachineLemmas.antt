@@ -10,10 +10,10 @@ use Rattle.arr_core.specs.declared.signature.Signature.{Signature}
 use Rattle.arr_core.specs.Domains.{IsBoxOf}
 use Rattle.arr_core.specs.Fields.{AreFields, place_of as field_place}
 use Rattle.arr_core.specs.Stores.{Coverage, Store, found, inserted, updated}
-use Rattle.coverage_server.specs.declared.front.reply.Reply.{Reply}
-use Rattle.coverage_server.specs.declared.front.reply.Reply.TheVariants.{Text, Refused}
-use Rattle.coverage_server.specs.declared.request.Interval.{Interval}
-use Rattle.coverage_server.specs.Contents.{Cells, fill, values}
+use Rattle.http_front.specs.declared.reply.Reply.{Reply}
+use Rattle.http_front.specs.declared.reply.Reply.TheVariants.{Text, Refused}
+use Rattle.kvp_front.specs.declared.request.Interval.{Interval}
+use Rattle.kvp_front.specs.Contents.{Cells, fill, values}
 use Rattle.coverage_server.specs.Writing.{AreCellsOf, AreRefused, MayWrite, IsNoWrite}
 use Rattle.coverage_server.specs.Room.{numbers_of}
 use Rattle.coverage_server.proofs.ListLemmas.{position_within}

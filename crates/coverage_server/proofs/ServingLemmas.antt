@@ -1,21 +1,23 @@
 -- A connection that is being served, and how it ends.
-use Rattle.std.proofs.Common.{◌≡◌, ℕ, ◌+◌, ◌<◌, ◌≤◌, Result, Ok, Err, inl, inr, Bool, true, false, List, [], ◌∷◌, ◌++◌, length, Option, refl, sym, ap, ◌∙◌, subst, arith, append_assoc, append-nil}
+use Rattle.std.proofs.Common.{◌≡◌, ◌≢◌, ℕ, ◌+◌, ◌<◌, ◌≤◌, Result, Ok, Err, inl, inr, Bool, true, false, List, [], ◌∷◌, ◌++◌, length, Option, None, refl, sym, ap, ◌∙◌, subst, arith, append_assoc, append-nil}
 use Rattle.std.proofs.lemmas.List.{length-append}
 use Rattle.std.specs.Io.KnownBytes.{Appends, Consumes, IsAtEnd}
 use Rattle.std.proofs.KnownBytes.{Appends-trans, Consumes-trans}
-use Rattle.coverage_server.specs.declared.front.reply.Reply.{Reply}
 use Rattle.arr_core.specs.Stores.{Store}
-use Rattle.coverage_server.specs.Bytes.{AppendsPrefix}
-use Rattle.coverage_server.specs.Replies.{reply_bytes}
-use Rattle.coverage_server.specs.Stream.{HasNoHead, Item, at_end, at_fault, Messages, Taken, Fronts}
-use Rattle.coverage_server.proofs.TakenLemmas.{Taken-append, Taken-push, Messages-after, Begins-after, rest_of, rest_at_end, all_of, last_message, one_message, whole_message, room_after}
+use Rattle.stream_face.specs.Faults.{AppendsPrefix}
+use Rattle.http_front.specs.declared.conn.Next.{Next}
+use Rattle.http_front.specs.declared.conn.Next.TheVariants as next
+use Rattle.http_front.specs.declared.reply.Reply.{Reply}
+use Rattle.http_front.specs.Replies.{reply_bytes}
+use Rattle.http_front.specs.Stream.{HasNoMessage, Item, at_end, at_fault, Messages, Taken, Fronts, TellsNext}
+use Rattle.http_front.proofs.TakenLemmas.{Taken-append, Taken-push, Messages-after, Begins-after, rest_of, rest_at_end, all_of, last_message, one_message, whole_message, room_after}
 use Rattle.coverage_server.specs.declared.server.ConnEnd.{ConnEnd}
 use Rattle.coverage_server.specs.declared.server.ConnEnd.TheVariants.{Finished, ReadFault, WriteFault}
 use Rattle.disk_face.specs.Disk.{Rose}
-use Rattle.coverage_server.specs.Requests.{Asks, spelled}
-use Rattle.coverage_server.specs.declared.request.RequestError.{RequestError}
+use Rattle.kvp_front.specs.Requests.{Asks, spelled}
+use Rattle.kvp_front.specs.declared.request.RequestError.{RequestError}
 use Rattle.coverage_server.specs.Machine.{SpelledStep, MessageStep, Run}
-use Rattle.coverage_server.specs.Serves.{ServesConnection}
+use Rattle.coverage_server.specs.Serves.{Ends, ServesConnection}
 
 -- what the machine may tell where the disk may have failed holds where that is told of a longer time too
 spelled-later : {P Q : Type 0} → (P → Q) → (r : Result Asks RequestError) (old : Store) (reply : Reply) (new : Store) → SpelledStep P r old reply new
@@ -36,11 +38,11 @@ run-later f old [] text new x = x
 run-later f old (item ∷ items) text new x =
     (x.0, x.1, x.2, step-later f old item.asked x.1 x.0 x.3, x.4, run-later f x.0 items x.2 new x.5)
 
-pub connection-later : {P Q : Type 0} → (P → Q) → (before after held holds : Option (List ℕ)) (old new : Store) (end : ConnEnd)
-    → ServesConnection P before after held holds old new end → ServesConnection Q before after held holds old new end
-connection-later f before after held holds old new Finished x = (x.0, x.1, x.2, x.3, x.4, run-later f old x.2 x.4 new x.5, x.6)
-connection-later f before after held holds old new ReadFault x = (x.0, x.1, x.2, x.3, x.4, run-later f old x.2 x.4 new x.5, x.6)
-connection-later f before after held holds old new WriteFault x = (
+pub connection-later : {P Q : Type 0} → (P → Q) → (e : Ends) (old new : Store) (end : ConnEnd) → ServesConnection P e old new end
+    → ServesConnection Q e old new end
+connection-later f e old new Finished x = (x.0, x.1, x.2, x.3, x.4, run-later f old x.2 x.4 new x.5, x.6)
+connection-later f e old new ReadFault x = (x.0, x.1, x.2, x.3, x.4, run-later f old x.2 x.4 new x.5, x.6)
+connection-later f e old new WriteFault x = (
   x.0,
   x.1,
   x.2,
@@ -55,6 +57,26 @@ connection-later f before after held holds old new WriteFault x = (
   step-later f x.6 x.3.asked x.10 new x.11,
   x.12,
 )
+
+-- what is neither the end nor a fault was found without a fault
+pub quiet_item : (failed fails : Option Bool) (found : Next) → TellsNext failed fails found → found ≢ next.Ended → found ≢ next.ReadFault → fails ≡ failed
+quiet_item failed fails (next.Message pairs) x a b = x
+quiet_item failed fails (next.Refused code) x a b = x
+quiet_item failed fails next.Ended x a b = absurd (a refl)
+quiet_item failed fails next.ReadFault x a b = absurd (b refl)
+
+-- the bytes that came in and went out; of faults nothing
+abbrev pub bytes_alone : Option (List ℕ) → Option (List ℕ) → Option (List ℕ) → Option (List ℕ) → Ends
+bytes_alone before after held holds = record {
+  before = before;
+  after = after;
+  read_failed = None;
+  read_fails = None;
+  held = held;
+  holds = holds;
+  write_failed = None;
+  write_fails = None;
+}
 
 -- a count that rose by some time has risen by a later one, and since an earlier one
 pub rose-by : (old mid new : ℕ) → mid ≤ new → Rose old mid → Rose old new
@@ -105,7 +127,7 @@ module _ {failed : Type 0} {before now held holds : Option (List ℕ)} {old new 
   from_zero : count ≡ 0 + length s.items
   from_zero = omega (arith, s.counted)
 
-  pub ended : IsAtEnd later → buffer ++ more ≡ [] → ServesConnection failed before later held holds old new Finished
+  pub ended : IsAtEnd later → buffer ++ more ≡ [] → ServesConnection failed (bytes_alone before later held holds) old new Finished
   ended end none =
       let nothing : (buffer ++ more) ++ rest_of later ≡ [] =
       ap (λ (l : List ℕ). (buffer ++ more) ++ l) (rest_at_end later end) ∙ append-nil (buffer ++ more) ∙ none in
@@ -119,7 +141,7 @@ module _ {failed : Type 0} {before now held holds : Option (List ℕ)} {old new 
         s.sent,
       )
 
-  pub faulted : HasNoHead (buffer ++ more) → ServesConnection failed before later held holds old new ReadFault
+  pub faulted : HasNoMessage (buffer ++ more) → ServesConnection failed (bytes_alone before later held holds) old new ReadFault
   faulted none =
       let messages = Messages-after at_fault 0 count _ s.items [] _ from_zero (Taken-append 0 s.came s.items buffer more s.taken) none in (
         s.came ++ more,
@@ -136,7 +158,7 @@ module _ {failed : Type 0} {before now held holds : Option (List ℕ)} {old new 
     ran : Run fails old s.items s.replies new
     ran = run-later since old s.items s.replies new s.run
 
-    pub answered : last ≡ true → Appends holds gone (reply_bytes last bare reply) → ServesConnection fails before later held gone old newer Finished
+    pub answered : last ≡ true → Appends holds gone (reply_bytes last bare reply) → ServesConnection fails (bytes_alone before later held gone) old newer Finished
     answered closed sent = (
       (s.came ++ more) ++ rest_of later,
       all_of before later (s.came ++ more) took_all,
@@ -148,7 +170,7 @@ module _ {failed : Type 0} {before now held holds : Option (List ℕ)} {old new 
       Appends-trans held holds gone s.replies (reply_bytes item.last item.bare reply) s.sent (subst (λ b. Appends holds gone (reply_bytes b item.bare reply)) is (subst (λ d. Appends holds gone (reply_bytes last d reply)) shown sent)),
     )
 
-    pub unwritten : AppendsPrefix holds gone (reply_bytes last bare reply) → ServesConnection fails before later held gone old newer WriteFault
+    pub unwritten : AppendsPrefix holds gone (reply_bytes last bare reply) → ServesConnection fails (bytes_alone before later held gone) old newer WriteFault
     unwritten sent = (
       (s.came ++ more) ++ rest_of later,
       all_of before later (s.came ++ more) took_all,

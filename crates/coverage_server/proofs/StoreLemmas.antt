@@ -57,7 +57,7 @@ unfound_fresh name (c ∷ store) e k = by_test (bytes_eq c.name name) refl (λ e
 pub signatures_inserted : (s : Signature) (store : Store) → signatures_of (inserted s.name s.domain s.fields store) ≡ signatures_of store ++ s ∷ []
 signatures_inserted s store = map-append signature_of store _
 
-keeps_all : (name : List ℕ) (held : List Signature) → (Contains (names_of held) name → ⊥) → without name held ≡ held
+pub keeps_all : (name : List ℕ) (held : List Signature) → (Contains (names_of held) name → ⊥) → without name held ≡ held
 keeps_all name [] n = refl
 keeps_all name (s ∷ held) n =
     let differs : bytes_eq s.name name ≡ false = other_name s.name name (λ e. n (subst (λ x. Contains (s.name ∷ names_of held) x) e (contains_here s.name (names_of held)))) in

@@ -7,9 +7,9 @@ use Rattle.arr_core.specs.Fields.{place_of as field_place}
 use Rattle.arr_core.specs.Stores.{Coverage, Store, found, updated}
 use Rattle.disk_face.specs.Disk.{Rose}
 use Rattle.raster_store.specs.Calls.{HasField}
-use Rattle.coverage_server.specs.Contents.{Cells}
-use Rattle.coverage_server.specs.declared.front.reply.Reply.TheVariants.{Text, Refused}
-use Rattle.coverage_server.specs.declared.request.Interval.{Interval}
+use Rattle.kvp_front.specs.Contents.{Cells}
+use Rattle.http_front.specs.declared.reply.Reply.TheVariants.{Text, Refused}
+use Rattle.kvp_front.specs.declared.request.Interval.{Interval}
 use Rattle.coverage_server.specs.declared.arguments.Refusal.{Refusal}
 use Rattle.coverage_server.specs.declared.arguments.Refusal.TheVariants.{Numbered, NoMemory, DiskFault, NoRoom, Damaged}
 use Rattle.coverage_server.specs.Answered.{Answered}

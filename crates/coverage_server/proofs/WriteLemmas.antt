@@ -17,7 +17,7 @@ use Rattle.tile_store.specs.declared.fault.Fault.TheVariants as device
 use Rattle.raster_store.specs.declared.fault.WriteFault.{WriteFault}
 use Rattle.raster_store.specs.declared.fault.WriteFault.TheVariants as writing
 use Rattle.raster_store.specs.Calls.{signature_of, HasNumbers, Refuses}
-use Rattle.coverage_server.specs.Contents.{fill}
+use Rattle.kvp_front.specs.Contents.{fill}
 use Rattle.coverage_server.specs.Views.{ServerView, IsSound, signatures_of}
 use Rattle.coverage_server.specs.Room.{LacksRoomToWrite}
 use Rattle.coverage_server.specs.Writing.{write_refusal, FindsCoverage, MayWrite, WriteRefused}

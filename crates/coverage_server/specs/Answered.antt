@@ -2,12 +2,12 @@
 use Rattle.std.specs.Prelude.{◌⊎◌, Result, Ok, Err, ⊤}
 use Rattle.disk_face.specs.Disk.{Rose}
 use Rattle.arr_core.specs.Stores.{Store}
-use Rattle.coverage_server.specs.Requests.{Asks}
+use Rattle.kvp_front.specs.Requests.{Asks}
 use Rattle.coverage_server.specs.Machine.{Serves, Fails}
 use Rattle.coverage_server.specs.Room.{LacksRoom}
 use Rattle.coverage_server.specs.Views.{ServerView, IsSound}
-use Rattle.coverage_server.specs.declared.front.reply.Reply.{Reply}
-use Rattle.coverage_server.specs.declared.front.reply.Reply.TheVariants.{Text, Csv, Refused}
+use Rattle.http_front.specs.declared.reply.Reply.{Reply}
+use Rattle.http_front.specs.declared.reply.Reply.TheVariants.{Text, Csv, Refused}
 use Rattle.coverage_server.specs.declared.arguments.Refusal.{Refusal}
 use Rattle.coverage_server.specs.declared.arguments.Refusal.TheVariants.{Numbered, NoMemory, DiskFault, NoRoom, Damaged}
 

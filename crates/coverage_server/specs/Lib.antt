@@ -1,13 +1,6 @@
-pub mod Bytes
-pub mod Head
-pub mod Stream
-pub mod Values
-pub mod Spelling
-pub mod Contents
-pub mod Requests
-pub mod Replies
 pub mod Views
 pub mod Asking
+pub mod Describing
 pub mod Machine
 pub mod Room
 pub mod Writing

@@ -9,16 +9,17 @@ use Rattle.arr_core.specs.declared.field.Field.{Field}
 use Rattle.arr_core.specs.Cells.{stored, Holds}
 use Rattle.arr_core.specs.Domains.{count, IsDomain, IsBoxOf}
 use Rattle.arr_core.specs.Fields.{AreFields, place_of as field_place}
-use Rattle.arr_core.specs.Stores.{Coverage, Store, found, inserted, updated}
-use Rattle.coverage_server.specs.Contents.{Cells, fill, values}
-use Rattle.coverage_server.specs.Requests.{Asks, insert_coverage, update_coverage, list_coverages, process_coverages, spelled, number_of}
+use Rattle.arr_core.specs.Stores.{Coverage, Store, found, inserted, deleted, updated}
+use Rattle.kvp_front.specs.Contents.{Cells, fill, values}
+use Rattle.kvp_front.specs.Requests.{Asks, insert_coverage, update_coverage, delete_coverage, list_coverages, describe_coverage, process_coverages, spelled, number_of}
 use Rattle.coverage_server.specs.Asking.{QueryAnswer, TextAnswer}
-use Rattle.coverage_server.specs.Replies.{reply_bytes}
-use Rattle.coverage_server.specs.Stream.{Item}
-use Rattle.coverage_server.specs.declared.request.Interval.{Interval}
-use Rattle.coverage_server.specs.declared.request.RequestError.{RequestError}
-use Rattle.coverage_server.specs.declared.front.reply.Reply.{Reply}
-use Rattle.coverage_server.specs.declared.front.reply.Reply.TheVariants.{Text, Csv, Refused}
+use Rattle.coverage_server.specs.Describing.{description}
+use Rattle.http_front.specs.Replies.{reply_bytes}
+use Rattle.http_front.specs.Stream.{Item}
+use Rattle.kvp_front.specs.declared.request.Interval.{Interval}
+use Rattle.kvp_front.specs.declared.request.RequestError.{RequestError}
+use Rattle.http_front.specs.declared.reply.Reply.{Reply}
+use Rattle.http_front.specs.declared.reply.Reply.TheVariants.{Text, Csv, Refused}
 
 -- a reply with this text
 abbrev pub IsText : Reply → List ℕ → Type 0
@@ -94,12 +95,21 @@ Updates name field intervals cells old reply new =
     MatchOption (found name old) (Refuses 20 old reply new)
     (λ c. UpdatesField name c field intervals cells old reply new)
 
+-- DeleteCoverage: 20 for a name that is not there; else the coverage with it is taken out
+abbrev pub Deletes : List ℕ → Store → Reply → Store → Type 0
+Deletes name old reply new = MatchOption (found name old) (Refuses 20 old reply new) (λ c. Does (deleted name old) reply new)
+
 -- ListCoverages: each name on a line, in order of insertion
 abbrev pub line_of : Coverage → List ℕ
 line_of c = c.name ++ codes "\n"
 
 abbrev pub Lists : Store → Reply → Store → Type 0
 Lists old reply new = IsText reply (flat_map line_of old) × (new ≡ old)
+
+-- DescribeCoverage: 20 for a name that is not there; else the axes and the fields of the coverage with it
+abbrev pub Describes : List ℕ → Store → Reply → Store → Type 0
+Describes name old reply new =
+    MatchOption (found name old) (Refuses 20 old reply new) (λ c. IsText reply (description c.domain c.fields) × (new ≡ old))
 
 -- the reply to a query with this answer
 abbrev pub Tells : QueryAnswer → Reply → Type 0
@@ -118,14 +128,18 @@ Answers query old reply new = (a : QueryAnswer) × TextAnswer old query a × Tel
 abbrev pub Serves : Asks → Store → Reply → Store → Type 0
 Serves (insert_coverage name intervals fields) = Inserts name intervals fields
 Serves (update_coverage name field intervals cells) = Updates name field intervals cells
+Serves (delete_coverage name) = Deletes name
 Serves list_coverages = Lists
+Serves (describe_coverage name) = Describes name
 Serves (process_coverages query) = Answers query
 
--- the requests that write, which alone may want room
+-- insertions and updates alone may want room
 abbrev pub MayWantRoom : Asks → Type 0
 MayWantRoom (insert_coverage name intervals fields) = ⊤
 MayWantRoom (update_coverage name field intervals cells) = ⊤
+MayWantRoom (delete_coverage name) = ⊥
 MayWantRoom list_coverages = ⊥
+MayWantRoom (describe_coverage name) = ⊥
 MayWantRoom (process_coverages query) = ⊥
 
 -- Want of memory, a disk fault or want of room, which change nothing. A disk fault is told only where the disk may have failed,

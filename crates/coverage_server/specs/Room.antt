@@ -10,11 +10,11 @@ use Rattle.arr_core.specs.Stores.{found}
 use Rattle.catalogue.specs.Bytes.{catalogue_bytes}
 use Rattle.raster_store.specs.Views.{reserve}
 use Rattle.raster_store.specs.Calls.{LacksRoomFor}
-use Rattle.coverage_server.specs.Contents.{Cells, fill, values}
-use Rattle.coverage_server.specs.Requests.{Asks, insert_coverage, update_coverage, list_coverages, process_coverages}
+use Rattle.kvp_front.specs.Contents.{Cells, fill, values}
+use Rattle.kvp_front.specs.Requests.{Asks, insert_coverage, update_coverage, delete_coverage, list_coverages, describe_coverage, process_coverages}
 use Rattle.coverage_server.specs.Machine.{axes_of}
 use Rattle.coverage_server.specs.Views.{ServerView, signatures_of}
-use Rattle.coverage_server.specs.declared.request.Interval.{Interval}
+use Rattle.kvp_front.specs.declared.request.Interval.{Interval}
 
 -- the metadata with a new coverage, which has no tiles, takes more blocks than are free
 abbrev pub LacksRoomToInsert : Signature → ServerView → Type 0
@@ -39,5 +39,7 @@ LacksRoomToUpdate name field intervals cells v =
 abbrev pub LacksRoom : Asks → ServerView → Type 0
 LacksRoom (insert_coverage name intervals fields) v = LacksRoomToInsert (record { name = name; domain = axes_of intervals; fields = fields }) v
 LacksRoom (update_coverage name field intervals cells) v = LacksRoomToUpdate name field intervals cells v
+LacksRoom (delete_coverage name) v = ⊥
 LacksRoom list_coverages v = ⊥
+LacksRoom (describe_coverage name) v = ⊥
 LacksRoom (process_coverages query) v = ⊥

@@ -16,7 +16,7 @@ use Rattle.tile_store.specs.declared.fault.Fault.TheVariants as device
 use Rattle.raster_store.specs.declared.fault.WriteFault.{WriteFault}
 use Rattle.raster_store.specs.declared.fault.WriteFault.TheVariants as writing
 use Rattle.raster_store.specs.Calls.{signature_of}
-use Rattle.coverage_server.specs.Contents.{Cells, fill, values}
+use Rattle.kvp_front.specs.Contents.{Cells, fill, values}
 use Rattle.coverage_server.specs.Room.{LacksRoomToInsert, LacksRoomToWrite}
 use Rattle.coverage_server.specs.Views.{ServerView, IsSound, signatures_of}
 use Rattle.coverage_server.specs.declared.arguments.Refusal.{Refusal}

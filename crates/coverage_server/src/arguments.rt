@@ -4,8 +4,8 @@ ghost use Rattle.std.specs.Int.{w32};
 ghost use Rattle.std.specs.Option.{SomeIff};
 ghost use Rattle.coverage_server.specs.Machine.{FitBounds, SpellDomain, axis_of, axes_of};
 
-use crate::request::Interval;
 use arr_core::{Axis, Domain, Field, Fields};
+use kvp_front::Interval;
 use std::alloc::{AllocError, AllocFailed, Global};
 use thiserror::Error;
 

@@ -1,7 +1,7 @@
 //! The coverages of a disk: their catalogue, and their cells in tiles.
 ghost use Rattle.std.specs.Prelude.{◌≡◌, ◌/◌, ◌<◌, ◌≤◌, ◌⊎◌, map, length, IsSomeAnd, IfOk, IfErr, OnOk, OnErr, IsErrOf, IsTrue};
 ghost use Rattle.arr_core.specs.Domains.{points};
-ghost use Rattle.arr_core.specs.Stores.{found, inserted, updated, value_at};
+ghost use Rattle.arr_core.specs.Stores.{found, inserted, deleted, updated, value_at};
 ghost use Rattle.arr_core.specs.Tiles.{tile_boxes};
 ghost use Rattle.block_file.specs.Format.{IsHeader, HeaderTorn, KeepsHeader, Closes};
 ghost use Rattle.catalogue.specs.Bytes.{catalogue_bytes};
@@ -12,20 +12,21 @@ ghost use Rattle.tile_store.specs.Faults.{FaultCounts};
 ghost use Rattle.tile_store.specs.Stored.{tile_box};
 ghost use Rattle.raster_store.specs.Calls.{HasField, index_of};
 ghost use Rattle.disk_face.specs.Disk.{Counts, Rose};
-ghost use Rattle.coverage_server.specs.Contents.{content_view};
+ghost use Rattle.kvp_front.specs.Contents.{content_view};
 ghost use Rattle.coverage_server.specs.Closing.{bytes_written, IsWritten};
-ghost use Rattle.coverage_server.specs.Contents as contents;
+ghost use Rattle.kvp_front.specs.Contents as contents;
 ghost use Rattle.coverage_server.specs.Disk.{HoldsStore};
 ghost use Rattle.coverage_server.specs.Room.{LacksRoomToInsert, LacksRoomToWrite, numbers_of};
 ghost use Rattle.coverage_server.specs.Views.{IsSound, IsUnchanged, signatures_of, still_of};
 ghost use Rattle.coverage_server.specs.Writing.{device_refusal, write_refusal, insert_refusal, FindsCoverage, InsertRefused, MayWrite, WriteRefused};
 
 use crate::arguments::Refusal;
-use crate::request::content::Content;
 use arr_core::{Cell, Domain, Name, Signature};
 use block_file::{BlockFile, State};
 use catalogue::{Catalogue, InsertError};
 use disk_face::{Disk, DiskFault};
+use http_front::refusals;
+use kvp_front::Content;
 use metadata::catalogue_part;
 use raster_store::{Fault, RasterStore, WriteFault};
 use std::alloc::{AllocError, Global};
@@ -62,10 +63,10 @@ fn insert_refusal(error: InsertError) -> Refusal
     ensures { result ≡ insert_refusal error }
 {
     match error {
-        InsertError::CoverageExists => Refusal::Numbered(21),
-        InsertError::BadDomain => Refusal::Numbered(22),
-        InsertError::BadField => Refusal::Numbered(23),
-        InsertError::TooManyCoverages => Refusal::Numbered(27),
+        InsertError::CoverageExists => Refusal::Numbered(refusals::COVERAGE_EXISTS),
+        InsertError::BadDomain => Refusal::Numbered(refusals::BAD_DOMAIN),
+        InsertError::BadField => Refusal::Numbered(refusals::BAD_FIELD),
+        InsertError::TooManyCoverages => Refusal::Numbered(refusals::TOO_MANY_COVERAGES),
         InsertError::NoMemory => Refusal::NoMemory,
     }
 }
@@ -75,9 +76,9 @@ fn write_refusal(fault: WriteFault) -> Refusal
     ensures { result ≡ write_refusal fault }
 {
     match fault {
-        WriteFault::OutsideDomain => Refusal::Numbered(24),
-        WriteFault::ValueCount => Refusal::Numbered(25),
-        WriteFault::ValueRange => Refusal::Numbered(26),
+        WriteFault::OutsideDomain => Refusal::Numbered(refusals::OUTSIDE_DOMAIN),
+        WriteFault::ValueCount => Refusal::Numbered(refusals::VALUE_COUNT),
+        WriteFault::ValueRange => Refusal::Numbered(refusals::VALUE_RANGE),
         WriteFault::Device(fault) => device_refusal(fault),
     }
 }
@@ -159,6 +160,18 @@ impl<D: Disk> Coverages<D> {
                 Err(device_refusal(fault))
             }
         }
+    }
+
+    /// Takes the coverage with a name out, where there is one. Takes no memory.
+    pub fn remove(&mut self, name: &Name)
+        ensures removed { self.new.store ≡ deleted name.now self.old.store }
+        ensures sound { IsSound self.old → IsSound self.new }
+        ensures content { self.new.content ≡ self.old.content }
+        ensures honest { self.new.honest ≡ self.old.honest }
+        ensures failures { self.new.failures ≡ self.old.failures }
+    {
+        let _removed = self.catalogue.remove(name);
+        self.cells.remove(name);
     }
 
     /// Writes cells into a box of a field, by its place. Refused for a box that is none of the coverage, then for

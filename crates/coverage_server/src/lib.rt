@@ -6,15 +6,11 @@ mod arguments;
 mod cells;
 mod closing;
 mod coverages;
-mod front;
+mod describing;
 mod opening;
 mod query;
-mod request;
 mod server;
 
 pub use closing::{CloseFault, NotClosed};
-pub use front::reply::Reply;
 pub use opening::{NotOpened, OpenFault};
-pub use request::content::Content;
-pub use request::{Insertion, Interval, Request, RequestError, Update, read_request};
 pub use server::{ConnEnd, Server};

@@ -15,10 +15,10 @@ ghost use Rattle.coverage_server.specs.Views.{IsSound, still_of};
 use crate::arguments::Refusal;
 use crate::cells::AskedCells;
 use crate::coverages::Coverages;
-use crate::front::reply::Reply;
 use arr_core::{Name, Signature};
 use csv_out::csv_text;
 use disk_face::Disk;
+use http_front::{Reply, refusals};
 use std::alloc::{AllocError, Global};
 use wcps_mean::{CellError, EvalError, Item, eval_plain};
 use wcps_parse::{ParseError, parse};
@@ -34,8 +34,8 @@ fn tokens_of(alloc: Global, text: &str) -> Result<Vec<Token<'_>>, Refusal>
 {
     match lex(alloc, text) {
         Ok(tokens) => Ok(tokens),
-        Err(LexError::BadToken) => Err(Refusal::Numbered(30)),
-        Err(LexError::NumberTooLarge) => Err(Refusal::Numbered(31)),
+        Err(LexError::BadToken) => Err(Refusal::Numbered(refusals::BAD_TOKEN)),
+        Err(LexError::NumberTooLarge) => Err(Refusal::Numbered(refusals::NUMBER_TOO_LARGE)),
         Err(LexError::NoMemory) => Err(Refusal::NoMemory),
     }
 }
@@ -46,8 +46,8 @@ fn query_of(alloc: Global, tokens: &[Token]) -> Result<Query, Refusal>
 {
     match parse(alloc, tokens) {
         Ok(query) => Ok(query),
-        Err(ParseError::BadSyntax) => Err(Refusal::Numbered(32)),
-        Err(ParseError::TooDeep) => Err(Refusal::Numbered(33)),
+        Err(ParseError::BadSyntax) => Err(Refusal::Numbered(refusals::BAD_SYNTAX)),
+        Err(ParseError::TooDeep) => Err(Refusal::Numbered(refusals::TOO_DEEP)),
         Err(ParseError::NoMemory) => Err(Refusal::NoMemory),
     }
 }
@@ -114,7 +114,7 @@ pub fn typed_text<D: Disk>(
     ensures { GivesText coverages.now.store text.now result }
 {
     if text.len() > MAX_QUERY {
-        return Err(Refusal::Numbered(14));
+        return Err(Refusal::Numbered(refusals::BAD_VALUE));
     }
     let tokens = tokens_of(alloc, text)?;
     let query = query_of(alloc, &tokens)?;

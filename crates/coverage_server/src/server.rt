@@ -2,27 +2,27 @@
 ghost use Rattle.std.specs.Prelude.{◌≡◌, ◌≤◌, ℕ, List, Result, IfOk, OnErr};
 ghost use Rattle.block_file.specs.Format.{KeepsHeader};
 ghost use Rattle.disk_face.specs.Disk.{Rose};
-ghost use Rattle.coverage_server.specs.Requests.{asks};
-ghost use Rattle.coverage_server.specs.Stream.{Shows};
-ghost use Rattle.coverage_server.specs.Machine.{Inserts, Updates, Lists, Serves, MessageStep, axes_of};
+ghost use Rattle.kvp_front.specs.Contents.{content_view};
+ghost use Rattle.kvp_front.specs.Requests.{asks};
+ghost use Rattle.http_front.specs.Stream.{Shows};
+ghost use Rattle.coverage_server.specs.Machine.{Inserts, Updates, Deletes, Lists, Describes, Serves, MessageStep, axes_of};
 ghost use Rattle.coverage_server.specs.Answered.{Answered, IsAnswer, Steps};
-ghost use Rattle.coverage_server.specs.Contents.{content_view};
 ghost use Rattle.coverage_server.specs.Room.{LacksRoom, LacksRoomToInsert, LacksRoomToUpdate};
-ghost use Rattle.coverage_server.specs.Serves.{ServesConnection};
+ghost use Rattle.coverage_server.specs.Serves.{ServesConnection, TellsEnd, ends_of};
 ghost use Rattle.coverage_server.specs.Views.{IsSound, IsUnchanged};
 
 use crate::arguments::{Refusal, copied_fields, domain_of};
 use crate::cells::AskedCells;
 use crate::coverages::Coverages;
-use crate::front::conn::{Conn, Next};
-use crate::front::reply::{Reply, send};
+use crate::describing::description;
 use crate::query::process;
-use crate::request::{Insertion, Request, Update, read_request};
-use arr_core::Signature;
+use arr_core::{Name, Signature};
 use disk_face::Disk;
+use http_front::{Conn, Next, Reply, WriteFault, refusals};
+use kvp_front::{Insertion, Request, Update, read_request};
 use std::alloc::Global;
-use std::io::{Read, Write};
 use std::marker::Model;
+use stream_face::{Sink, Source};
 
 /// How a connection ended: by a message or the end of the stream, or by a read or a write that failed.
 #[derive(Clone, Copy, Debug, PartialEq, Eq)]
@@ -61,9 +61,9 @@ fn insert<D: Disk>(
     ensures failures { coverages.new.failures ≡ coverages.old.failures }
 {
     if coverages.signature(&insertion.coverage).is_some() {
-        return Err(Refusal::Numbered(21));
+        return Err(Refusal::Numbered(refusals::COVERAGE_EXISTS));
     }
-    let domain = domain_of(alloc, &insertion.intervals, 22)?;
+    let domain = domain_of(alloc, &insertion.intervals, refusals::BAD_DOMAIN)?;
     let fields = copied_fields(alloc, &insertion.fields)?;
     let name = insertion.coverage.copy(alloc)?;
     let reply = String::from_str(alloc, "ok\n")?;
@@ -91,15 +91,49 @@ fn update<D: Disk>(
     ensures no_fewer { coverages.old.failures ≤ coverages.new.failures }
 {
     let Some(signature) = coverages.signature(&update.coverage) else {
-        return Err(Refusal::Numbered(20));
+        return Err(Refusal::Numbered(refusals::NO_SUCH_COVERAGE));
     };
     let Some(field) = signature.fields.place_of(update.field.as_str()) else {
-        return Err(Refusal::Numbered(42));
+        return Err(Refusal::Numbered(refusals::NO_SUCH_FIELD));
     };
-    let area = domain_of(alloc, &update.intervals, 24)?;
+    let area = domain_of(alloc, &update.intervals, refusals::OUTSIDE_DOMAIN)?;
     let reply = String::from_str(alloc, "ok\n")?;
     coverages.write(&update.coverage, field, &area, &update.content)?;
     Ok(Reply::Text(reply))
+}
+
+/// Takes a coverage out.
+fn delete<D: Disk>(
+    alloc: Global,
+    coverages: &mut Coverages<D>,
+    name: &Name,
+) -> Result<Reply, Refusal>
+    ensures answered { Answered (Deletes name.now) ⊥ coverages.old coverages.new result }
+    ensures answer { IfOk result IsAnswer }
+    ensures unchanged { OnErr result (IsUnchanged coverages.old coverages.new) }
+    ensures sound { IsSound coverages.old → IsSound coverages.new }
+    ensures content { coverages.new.content ≡ coverages.old.content }
+    ensures honest { coverages.new.honest ≡ coverages.old.honest }
+    ensures failures { coverages.new.failures ≡ coverages.old.failures }
+{
+    let Some(_) = coverages.signature(name) else {
+        return Err(Refusal::Numbered(refusals::NO_SUCH_COVERAGE));
+    };
+    let reply = String::from_str(alloc, "ok\n")?;
+    coverages.remove(name);
+    Ok(Reply::Text(reply))
+}
+
+/// The axes and the fields of a coverage, each on a line.
+fn describe<D: Disk>(alloc: Global, coverages: &Coverages<D>, name: &Name) -> Result<Reply, Refusal>
+    ensures answered { Answered (Describes name.now) ⊥ coverages.now coverages.now result }
+    ensures answer { IfOk result IsAnswer }
+{
+    let Some(signature) = coverages.signature(name) else {
+        return Err(Refusal::Numbered(refusals::NO_SUCH_COVERAGE));
+    };
+    let text = description(alloc, signature)?;
+    Ok(Reply::Text(text))
 }
 
 /// The names of the coverages, each on a line.
@@ -134,7 +168,9 @@ impl<D: Disk> Server<D> {
                 insert(alloc, &mut self.cells.coverages, insertion)
             }
             Request::UpdateCoverage(change) => update(alloc, &mut self.cells.coverages, change),
+            Request::DeleteCoverage(name) => delete(alloc, &mut self.cells.coverages, name),
             Request::ListCoverages => list(alloc, &self.cells.coverages),
+            Request::DescribeCoverage(name) => describe(alloc, &self.cells.coverages, name),
             Request::ProcessCoverages(query) => process(&mut self.cells, query.as_str()),
         }
     }
@@ -153,10 +189,10 @@ impl<D: Disk> Server<D> {
         match self.answered(request) {
             Ok(reply) => reply,
             Err(Refusal::Numbered(code)) => Reply::Refused(code),
-            Err(Refusal::NoMemory) => Reply::Refused(90),
-            Err(Refusal::DiskFault) => Reply::Refused(91),
-            Err(Refusal::NoRoom) => Reply::Refused(92),
-            Err(Refusal::Damaged) => Reply::Refused(93),
+            Err(Refusal::NoMemory) => Reply::Refused(refusals::NO_MEMORY),
+            Err(Refusal::DiskFault) => Reply::Refused(refusals::DISK_FAULT),
+            Err(Refusal::NoRoom) => Reply::Refused(refusals::NO_ROOM),
+            Err(Refusal::Damaged) => Reply::Refused(refusals::DAMAGED),
         }
     }
 
@@ -175,7 +211,7 @@ impl<D: Disk> Server<D> {
                 Err(error) => Reply::Refused(error.number()),
             },
             Next::Refused(code) => Reply::Refused(code),
-            _ => Reply::Refused(90),
+            _ => Reply::Refused(refusals::NO_MEMORY),
         }
     }
 
@@ -186,9 +222,15 @@ impl<D: Disk> Server<D> {
         self.cells.coverages.fetched()
     }
 
-    /// Serves a connection to its end: reads messages, answers each and writes the replies.
-    pub fn serve_connection<R: Read, W: Write>(&mut self, reader: &mut R, writer: &mut W) -> ConnEnd
-        ensures served { IsSound self.old → ServesConnection (Rose self.old.failures self.new.failures) (R.remaining reader.old) (R.remaining reader.new) (W.contents writer.old) (W.contents writer.new) self.old.store self.new.store result }
+    /// Serves a connection to its end: reads messages, answers each and writes the replies. `ReadFault` and `WriteFault`
+    /// are answered exactly where a read or a write failed in it.
+    pub fn serve_connection<R: Source, W: Sink>(
+        &mut self,
+        reader: &mut R,
+        writer: &mut W,
+    ) -> ConnEnd
+        ensures served { IsSound self.old → ServesConnection (Rose self.old.failures self.new.failures) (ends_of R.remaining R.failed W.contents W.failed reader.old reader.new writer.old writer.new) self.old.store self.new.store result }
+        ensures told { TellsEnd (ends_of R.remaining R.failed W.contents W.failed reader.old reader.new writer.old writer.new) result }
         ensures sound { IsSound self.old → IsSound self.new }
         ensures header { KeepsHeader self.old.content self.new.content }
         ensures honest { self.new.honest ≡ self.old.honest }
@@ -202,8 +244,9 @@ impl<D: Disk> Server<D> {
                 Next::ReadFault => return ConnEnd::ReadFault,
                 next => {
                     let reply = self.reply_to(next);
-                    if !send(writer, &reply, conn.over, conn.bare) {
-                        return ConnEnd::WriteFault;
+                    match conn.send(writer, &reply) {
+                        Ok(()) => {}
+                        Err(WriteFault) => return ConnEnd::WriteFault,
                     }
                     if conn.over {
                         return ConnEnd::Finished;

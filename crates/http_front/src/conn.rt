@@ -9,6 +9,7 @@ ghost use Rattle.http_front.specs.Stream.{Shows, Finds, TellsNext};
 use crate::body::{Body, take_body};
 use crate::buffer::{Buffer, Filled, HEAD_LIMIT};
 use crate::head::{Asked, Front, WholeHead, front_of};
+use crate::refusals::{BAD_HEAD, NO_MEMORY};
 use crate::reply::{Reply, WriteFault, send};
 use std::alloc::Global;
 use stream_face::{Sink, Source};
@@ -73,7 +74,7 @@ impl Conn {
         self.buffer.discard(head.len);
         let keep = is_body(head.asked);
         match take_body(&mut self.buffer, alloc, source, len, keep) {
-            Body::Short => return Next::Refused(1),
+            Body::Short => return Next::Refused(BAD_HEAD),
             Body::Cut => return Next::ReadFault,
             Body::Dropped => {
                 self.over = either(head.last, self.count == LAST_MESSAGE);
@@ -109,7 +110,7 @@ impl Conn {
                 Front::Bad => {
                     self.over = true;
                     self.bare = false;
-                    return Next::Refused(1);
+                    return Next::Refused(BAD_HEAD);
                 }
                 Front::Partial => {}
             }
@@ -117,7 +118,7 @@ impl Conn {
             if seen >= HEAD_LIMIT {
                 self.over = true;
                 self.bare = false;
-                return Next::Refused(1);
+                return Next::Refused(BAD_HEAD);
             }
             match self.buffer.fill(source) {
                 Filled::More => {}
@@ -127,7 +128,7 @@ impl Conn {
                     if seen == 0 {
                         return Next::Ended;
                     }
-                    return Next::Refused(1);
+                    return Next::Refused(BAD_HEAD);
                 }
                 Filled::Fault => {
                     self.over = true;
@@ -154,9 +155,9 @@ fn prepare(alloc: Global, held: &[u8], asked: Asked) -> Next
     match asked {
         Asked::Query(span) => match span.of(held).to_vec(alloc) {
             Ok(pairs) => Next::Message(pairs),
-            Err(_) => Next::Refused(90),
+            Err(_) => Next::Refused(NO_MEMORY),
         },
-        Asked::Body => Next::Refused(90),
+        Asked::Body => Next::Refused(NO_MEMORY),
         Asked::Refuses(code) => Next::Refused(code),
     }
 }

@@ -6,6 +6,7 @@ ghost use Rattle.http1.specs.Fields.{known_fields};
 ghost use Rattle.http_front.specs.Bytes.{has_line_end};
 ghost use Rattle.http_front.specs.Head.{FrontOf, query_of, query_at, IsQueryPlaced, asked_at, asked_parts, IsPlaced, framing_of, is_served};
 
+use crate::refusals::{BAD_HEAD, BODY_TOO_LONG, NO_SUCH_PATH, NOT_SERVED};
 use http1::fields::{ContentLength, KnownFields, TransferEncoding};
 use httparse::Status;
 use httparse::spans::{EMPTY_HEADER_SPAN, HeaderSpan, Span, parse_request};
@@ -65,7 +66,7 @@ fn query_at(bytes: &[u8], target: Span) -> Result<Span, u16>
             end: target.end,
         })
     } else {
-        Err(3)
+        Err(NO_SUCH_PATH)
     }
 }
 
@@ -88,7 +89,7 @@ fn asked_of(bytes: &[u8], method: &[u8], target: Span) -> Asked
             Err(code) => Asked::Refuses(code),
         };
     }
-    Asked::Refuses(4)
+    Asked::Refuses(NOT_SERVED)
 }
 
 /// How many bytes the body has, or the number of the refusal.
@@ -98,13 +99,19 @@ fn framing_of(coding: TransferEncoding, length: ContentLength) -> Result<u64, u1
     match coding {
         TransferEncoding::Absent => match length {
             ContentLength::Absent => Ok(0),
-            ContentLength::Value(len) => { if len <= BODY_LIMIT { Ok(len) } else { Err(2) } }
-            ContentLength::Invalid => Err(1),
+            ContentLength::Value(len) => {
+                if len <= BODY_LIMIT {
+                    Ok(len)
+                } else {
+                    Err(BODY_TOO_LONG)
+                }
+            }
+            ContentLength::Invalid => Err(BAD_HEAD),
         },
-        TransferEncoding::Chunked => Err(4),
-        TransferEncoding::Other => Err(4),
-        TransferEncoding::Blank => Err(4),
-        TransferEncoding::Invalid => Err(4),
+        TransferEncoding::Chunked => Err(NOT_SERVED),
+        TransferEncoding::Other => Err(NOT_SERVED),
+        TransferEncoding::Blank => Err(NOT_SERVED),
+        TransferEncoding::Invalid => Err(NOT_SERVED),
     }
 }
 

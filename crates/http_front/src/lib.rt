@@ -6,9 +6,8 @@ mod buffer;
 mod conn;
 mod head;
 mod letter;
-mod refusal;
+pub mod refusals;
 mod reply;
 
 pub use conn::{Conn, Next};
-pub use refusal::status_of;
 pub use reply::{Reply, WriteFault};

@@ -5,7 +5,7 @@ ghost use Rattle.http_front.specs.Sending.{IsUnderWay, Sends};
 ghost use Rattle.http_front.specs.Replies.{phrase_of, opening, reply_bytes, body_shown};
 
 use crate::letter::Letter;
-use crate::refusal::status_of;
+use crate::refusals::status_of;
 use arr_core::refusal_name;
 use http::StatusCode;
 use itoa::Buffer;

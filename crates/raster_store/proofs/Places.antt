@@ -9,7 +9,8 @@ use Rattle.std.proofs.lemmas.Slice.Eq.{bytes_eq-Decides}
 use Rattle.arr_core.specs.declared.domain.Axis.{Axis}
 use Rattle.arr_core.specs.Stores.{found, deleted, updated, updated_coverage}
 use Rattle.raster_store.specs.declared.held.Held.{Held}
-use Rattle.raster_store.specs.Calls.{index_of}
+use Rattle.raster_store.specs.Views.{Index}
+use Rattle.raster_store.specs.Calls.{index_of, indexes_without}
 use Rattle.raster_store.specs.Holding.{coverages_of, coverage_of, indexes_of, has_name, NoneNamed, AreApart, IsNamedAt}
 
 same_name : (a b : List ℕ) → bytes_eq a b ≡ true → a ≡ b
@@ -99,6 +100,23 @@ pub deleted_named : (content name : List ℕ) (held : List Held) (i : ℕ) → I
 deleted_named content name [] i at = absurd at
 deleted_named content name (g ∷ held) zero at = rw at.0 (sym (deleted_none content name held at.1))
 deleted_named content name (g ∷ held) (suc i) at = rw at.0 (ap (λ rest. coverage_of content g ∷ rest) (deleted_named content name held i at.1))
+
+-- the indexes, where none has the name
+indexes_kept : (content name : List ℕ) (held : List Held) → NoneNamed name held → indexes_without name (coverages_of content held) (indexes_of held) ≡ indexes_of held
+indexes_kept content name [] none = refl
+indexes_kept content name (g ∷ held) none =
+    rw none.0 (ap (λ (rest : List (List Index)). g.fields.items ∷ rest) (indexes_kept content name held none.1))
+
+-- a removal takes the indexes of the coverage with the name out
+pub indexes_taken : (content name : List ℕ) (held : List Held) (i : ℕ) → IsNamedAt name held i
+    → indexes_of (remove held i) ≡ indexes_without name (coverages_of content held) (indexes_of held)
+indexes_taken content name [] i at = absurd at
+indexes_taken content name (g ∷ held) zero at = rw at.0 (sym (indexes_kept content name held at.1))
+indexes_taken content name (g ∷ held) (suc i) at =
+    rw at.0 (ap (λ (rest : List (List Index)). g.fields.items ∷ rest) (indexes_taken content name held i at.1))
+
+pub indexes_left : (content name : List ℕ) (held : List Held) → NoneNamed name held → indexes_of held ≡ indexes_without name (coverages_of content held) (indexes_of held)
+indexes_left content name held none = sym (indexes_kept content name held none)
 
 -- where the first coverage with the name is
 pub named_position : (name : List ℕ) (held : List Held) (i : ℕ) → AreApart held → position (has_name name) held ≡ Some i → IsNamedAt name held i

@@ -82,6 +82,13 @@ index_of name field [] indexes = None
 index_of name field (c ∷ coverages) [] = None
 index_of name field (c ∷ coverages) (i ∷ indexes) = if bytes_eq c.name name then slice_get i field else index_of name field coverages indexes
 
+-- the indexes without those of the coverage with a name
+abbrev pub indexes_without : List ℕ → Store → List (List Index) → List (List Index)
+indexes_without name [] indexes = []
+indexes_without name (c ∷ coverages) [] = []
+indexes_without name (c ∷ coverages) (i ∷ indexes) =
+    if bytes_eq c.name name then indexes_without name coverages indexes else i ∷ indexes_without name coverages indexes
+
 -- Fewer blocks are free than the new tiles of a box and the metadata after it need.
 abbrev pub LacksRoomFor : List ℕ → ℕ → List Axis → List ℤ → ℕ → List ℕ → Store → List (List Index) → ℕ → Type 0
 LacksRoomFor name field area numbers catalogue content coverages indexes free =

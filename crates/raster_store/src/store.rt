@@ -13,7 +13,7 @@ ghost use Rattle.tile_store.specs.Room.{AreMeeting};
 ghost use Rattle.tile_store.specs.Stored.{tile_box};
 ghost use Rattle.disk_face.specs.Disk.{Counts};
 ghost use Rattle.raster_store.specs.Views.{coverage_in, AreIntact, times_all, listed_blocks, reserve, AreBelow, Fetched};
-ghost use Rattle.raster_store.specs.Calls.{signature_of, AreSameSignatures, AreWhole, AreListed, HasField, HasNumbers, Refuses, WriteCounts, LacksRoomFor, MayAttach, index_of};
+ghost use Rattle.raster_store.specs.Calls.{signature_of, AreSameSignatures, AreWhole, AreListed, HasField, HasNumbers, Refuses, WriteCounts, LacksRoomFor, MayAttach, index_of, indexes_without};
 
 use crate::fault::WriteFault;
 use crate::held::{Held, give_back_fields, place_held, place_of};
@@ -293,6 +293,7 @@ impl<B: Blocks> RasterStore<B> {
     /// nothing.
     pub fn remove(&mut self, name: &Name)
         ensures removed { self.new.coverages ≡ deleted name.now self.old.coverages }
+        ensures indexes { self.new.indexes ≡ indexes_without name.now self.old.coverages self.old.indexes }
         ensures free { B.free_blocks self.new.blocks + listed_blocks self.new.indexes ≡ B.free_blocks self.old.blocks + listed_blocks self.old.indexes }
         ensures intact { AreIntact (B.content self.old.blocks) self.old.coverages self.old.indexes → AreIntact (B.content self.new.blocks) self.new.coverages self.new.indexes }
         ensures content { B.content self.new.blocks ≡ B.content self.old.blocks }

@@ -11,6 +11,7 @@ mod tests;
 
 use commands::Command;
 use disk_face::{FileDisk, MemDisk};
+use http_front::refusals::{DISK_FAULT, NO_MEMORY};
 use session::{NOT_OPENED, put, session_status, tell};
 use std::env;
 use std::io::{Read, Write};
@@ -21,11 +22,6 @@ const USAGE: &str = "usage: rasterd FILE run or rasterd FILE listen PORT COUNT\n
 
 /// The status where the words ask nothing.
 const NO_COMMAND: u8 = 2;
-
-/// The refusals that are told before a disk is there.
-const NO_MEMORY: u16 = 90;
-
-const DISK_FAULT: u16 = 91;
 
 /// The command that the words after the program's name are, which is `FILE run`.
 pub fn command(words: &[String]) -> Option<Command<'_>>

@@ -2,6 +2,7 @@
 ghost use Rattle.std.specs.Prelude.{◌≡◌, ◌⊎◌, IsSomeAnd, IsTrue};
 ghost use Rattle.block_file.specs.Format.{HeaderTorn};
 ghost use Rattle.disk_face.specs.Disk.{Rose};
+ghost use Rattle.coverage_server.specs.Serves.{ends_of};
 ghost use Rattle.rasterd.specs.Sessions.{Served};
 
 use arr_core::refusal_name;
@@ -9,7 +10,8 @@ use coverage_server::Server;
 use disk_face::Disk;
 use itoa::Buffer;
 use std::alloc::Global;
-use std::io::{Read, Write};
+use std::io::Write;
+use stream_face::{Sink, Source};
 
 /// The status of a session whose store was closed.
 pub const CLOSED: u8 = 0;
@@ -40,7 +42,7 @@ pub fn tell<E: Write>(errors: &mut E, what: &str, number: u16) {
 
 /// Opens the store that a disk holds, serves one connection, and closes the store. Gives the status of the program, and
 /// the disk where it came back: `CLOSED`, or `NOT_OPENED` or `NOT_CLOSED` with a line that says why.
-pub fn session_status<D: Disk + Drop, R: Read, W: Write, E: Write>(
+pub fn session_status<D: Disk + Drop, R: Source, W: Sink, E: Write>(
     alloc: Global,
     disk: D,
     reader: &mut R,
@@ -48,7 +50,7 @@ pub fn session_status<D: Disk + Drop, R: Read, W: Write, E: Write>(
     errors: &mut E,
 ) -> (u8, Option<D>)
     ensures status { (result.0 ≡ 0) ⊎ (result.0 ≡ 3) ⊎ (result.0 ≡ 4) }
-    ensures served { result.0 ≡ 0 → IsSomeAnd result.1 (λ after. IsTrue (D.honest disk) → Served (Rose (D.failures disk) (D.failures after)) (D.content disk) (R.remaining reader.old) (R.remaining reader.new) (W.contents writer.old) (W.contents writer.new) (D.content after)) }
+    ensures served { result.0 ≡ 0 → IsSomeAnd result.1 (λ after. IsTrue (D.honest disk) → Served (Rose (D.failures disk) (D.failures after)) (D.content disk) (ends_of R.remaining R.failed W.contents W.failed reader.old reader.new writer.old writer.new) (D.content after)) }
     ensures not_opened { result.0 ≡ 3 → IsSomeAnd result.1 (λ after. IsTrue (D.honest disk) → HeaderTorn (D.content disk) (D.content after)) }
 {
     let mut server = match Server::open(alloc, disk) {

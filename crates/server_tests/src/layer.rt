@@ -2,10 +2,11 @@
 
 use crate::disks::Site;
 use crate::messages::{body_of, queried, repeated, replied, reply_to};
-use crate::streams::{broken, narrow, pieces, whole};
+use crate::streams::{broken, failing, narrow, pieces, whole};
 use anyhow::{Context, Result, bail};
-use coverage_server::{Reply, Server};
+use coverage_server::Server;
 use disk_face::FailDisk;
+use http_front::Reply;
 use std::alloc::Global;
 use test_rows::{Layer, bytes, text};
 
@@ -24,6 +25,11 @@ fn streamed(
             let (room, written) = written.split_once(' ').context("no stream")?;
             let stream = bytes(alloc, written)?;
             narrow(alloc, server, room.parse::<usize>()?, &stream)?
+        }
+        "failing" => {
+            let (step, written) = written.split_once(' ').context("no stream")?;
+            let stream = bytes(alloc, written)?;
+            failing(alloc, server, step.parse::<usize>()?, &stream)?
         }
         _ => bail!("no call {verb}"),
     };

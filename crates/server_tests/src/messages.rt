@@ -2,8 +2,10 @@
 
 use crate::streams::whole;
 use anyhow::Result;
-use coverage_server::{Reply, Request, Server, read_request};
+use coverage_server::Server;
 use disk_face::FailDisk;
+use http_front::Reply;
+use kvp_front::{Request, read_request};
 use std::alloc::{AllocError, Global};
 use test_rows::refusal;
 

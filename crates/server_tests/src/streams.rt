@@ -7,12 +7,14 @@ use std::alloc::{AllocError, Global};
 use std::io;
 use std::io::{ErrorKind, Read, Write};
 
-/// Gives bytes, the first read of at most `first`, each later one of at most `step`. Behind them it ends or fails.
+/// Gives bytes, the first read of at most `first`, each later one of at most `step`. It fails after so many reads, and
+/// behind the bytes it ends or fails.
 #[derive(Drop)]
 pub struct Source<'a> {
     pub bytes: &'a [u8],
     pub first: usize,
     pub step: usize,
+    pub reads: usize,
     pub fails: bool,
 }
 
@@ -22,9 +24,10 @@ impl Read for Source<'_> {
     ghost remaining = { λ r. Some r.bytes.now };
 
     fn read(&mut self, buf: &mut [u8]) -> io::Result<usize> {
-        if self.bytes.is_empty() && self.fails {
+        if self.reads == 0 || self.bytes.is_empty() && self.fails {
             return Err(ErrorKind::Other.into());
         }
+        self.reads -= 1;
         let most = if self.first == 0 {
             self.step
         } else {
@@ -104,6 +107,7 @@ pub fn whole(
         bytes: stream,
         first: 0,
         step: usize::MAX,
+        reads: usize::MAX,
         fails: false,
     };
     served(alloc, server, &mut source, usize::MAX, usize::MAX)
@@ -119,9 +123,33 @@ pub fn broken(
         bytes: stream,
         first: 0,
         step: usize::MAX,
+        reads: usize::MAX,
         fails: true,
     };
     served(alloc, server, &mut source, usize::MAX, usize::MAX)
+}
+
+/// What is written for a stream whose reader gives so many bytes a read and fails at its first read, then where it fails
+/// at its second, and so on up to the read behind the stream.
+pub fn failing(
+    alloc: Global,
+    server: &mut Server<FailDisk>,
+    step: usize,
+    stream: &[u8],
+) -> Result<Vec<u8>, AllocError> {
+    let mut text = Vec::new(alloc);
+    for reads in 0..=stream.len().div_ceil(step.max(1)) {
+        let mut source = Source {
+            bytes: stream,
+            first: 0,
+            step,
+            reads,
+            fails: true,
+        };
+        let output = served(alloc, server, &mut source, usize::MAX, usize::MAX)?;
+        text.extend_from_slice(&output)?;
+    }
+    Ok(text)
 }
 
 /// What is written for a stream by a writer that takes so many bytes.
@@ -135,6 +163,7 @@ pub fn narrow(
         bytes: stream,
         first: 0,
         step: usize::MAX,
+        reads: usize::MAX,
         fails: false,
     };
     served(alloc, server, &mut source, usize::MAX, room)
@@ -153,6 +182,7 @@ pub fn pieces(
             bytes: stream,
             first,
             step: if first == 0 { 1 } else { usize::MAX },
+            reads: usize::MAX,
             fails: false,
         };
         let step = if first == 0 { 1 } else { usize::MAX };

@@ -2,7 +2,7 @@ use Rattle.std.proofs.Common.{◌≡◌, List, ap, ◌∙◌, subst}
 use Rattle.std.proofs.lemmas.Result.{err_from_is_err_and}
 use Rattle.arr_core.specs.declared.domain.Axis.{Axis}
 use Rattle.arr_core.specs.Stores.{updated}
-use Rattle.coverage_server.specs.Contents.{content_view}
+use Rattle.kvp_front.specs.Contents.{content_view}
 use Rattle.coverage_server.specs.Machine.{SpellDomain, axes_of}
 use Rattle.coverage_server.specs.Room.{numbers_of}
 use Rattle.coverage_server.specs.Writing.{MayWrite, WriteRefused}

@@ -1,7 +1,8 @@
-use Rattle.std.proofs.Common.{[], refl, sym, ◌∙◌, arith}
+use Rattle.std.proofs.Common.{[], refl, sym, ap, ◌∙◌, arith}
 use Rattle.std.proofs.KnownBytes.{Appends-nil, Consumes-nil}
-use Rattle.coverage_server.proofs.TakenLemmas.{found_item}
-use Rattle.coverage_server.proofs.ServingLemmas.{ended, faulted, answered, unwritten, continued, roomy, step-later, rose-by, rose-since}
+use Rattle.stream_face.specs.Faults.{fault_told}
+use Rattle.http_front.proofs.TakenLemmas.{found_item}
+use Rattle.coverage_server.proofs.ServingLemmas.{ended, faulted, answered, unwritten, continued, roomy, step-later, rose-by, rose-since, quiet_item}
 use Rattle.coverage_server.proofs.server.Server.serve_connection.Goals as goal
 
 pub serving-init : goal.serving-init
@@ -18,6 +19,8 @@ serving-init g c = record {
     sent = Appends-nil _;
     counted = c.new-conn.ensures.count;
   };
+  read = refl;
+  written = refl;
   sound = λ sound. sound;
   header = λ state count from size h. h;
   honest = refl;
@@ -26,27 +29,48 @@ serving-init g c = record {
 
 pub returns-in-Ended-clause-served : goal.returns-in-Ended-clause-served
 returns-in-Ended-clause-served g c =
-    let f = c.in-Ended.ensures.found in λ sound. ended (c.serving.invariant.served sound) (g.R.Read.remaining c.next.new.reader) f.0 f.1 f.2.0 f.2.1
+    let f = c.in-Ended.ensures.found in λ sound. ended (c.serving.invariant.served sound) (g.R.Source.remaining c.next.new.source) f.0 f.1 f.2.0 f.2.1
+
+pub returns-in-Ended-clause-told : goal.returns-in-Ended-clause-told
+returns-in-Ended-clause-told g c = (c.in-Ended.ensures.told ∙ c.serving.invariant.read, c.serving.invariant.written)
 
 pub returns-in-ReadFault-clause-served : goal.returns-in-ReadFault-clause-served
 returns-in-ReadFault-clause-served g c =
-    let f = c.in-ReadFault.ensures.found in λ sound. faulted (c.serving.invariant.served sound) (g.R.Read.remaining c.next.new.reader) f.0 f.1 f.2.0
+    let f = c.in-ReadFault.ensures.found in λ sound. faulted (c.serving.invariant.served sound) (g.R.Source.remaining c.next.new.source) f.0 f.1 f.2.0
 
-pub returns-then-not-send-clause-served : goal.returns-then-not-send-clause-served
-returns-then-not-send-clause-served g c =
+pub returns-in-ReadFault-clause-told : goal.returns-in-ReadFault-clause-told
+returns-in-ReadFault-clause-told g c =
+    (c.in-ReadFault.ensures.told ∙ ap fault_told c.serving.invariant.read, c.serving.invariant.written)
+
+pub returns-in-Err-clause-served : goal.returns-in-Err-clause-served
+returns-in-Err-clause-served g c =
     let f = c.next.ensures.found in
     let x = found_item _ _ _ _ c.next.result _ _ f.2 c.in_default.not-Ended c.in_default.not-ReadFault in
     let inv = c.serving.invariant in
-    λ sound. unwritten (inv.served sound) (g.R.Read.remaining c.next.new.reader) f.0 f.1 _ x.0 x.1 _ _ _
-    (rose-by _ _ _ c.reply_to-reply.ensures.no_fewer) (step-later (rose-since _ _ _ inv.no_fewer) _ _ _ _ (c.reply_to-reply.ensures.step (inv.sound sound) x.0.asked x.2)) _ _ x.3 x.4 _ c.if-not-send.ensures
+    λ sound. unwritten (inv.served sound) (g.R.Source.remaining c.next.new.source) f.0 f.1 _ x.0 x.1 _ _ _
+    (rose-by _ _ _ c.reply_to-reply.ensures.no_fewer) (step-later (rose-since _ _ _ inv.no_fewer) _ _ _ _ (c.reply_to-reply.ensures.step (inv.sound sound) x.0.asked x.2)) _ _ x.3 x.4 _ c.in-Err.ensures.0
+
+pub returns-in-Err-clause-told : goal.returns-in-Err-clause-told
+returns-in-Err-clause-told g c =
+    let inv = c.serving.invariant in (
+      quiet_item _ _ c.next.result c.next.ensures.told c.in_default.not-Ended c.in_default.not-ReadFault ∙ inv.read,
+      c.in-Err.ensures.1 ∙ ap fault_told inv.written,
+    )
 
 pub returns-then-conn-clause-served : goal.returns-then-conn-clause-served
 returns-then-conn-clause-served g c =
     let f = c.next.ensures.found in
     let x = found_item _ _ _ _ c.next.result _ _ f.2 c.in_default.not-Ended c.in_default.not-ReadFault in
     let inv = c.serving.invariant in
-    λ sound. answered (inv.served sound) (g.R.Read.remaining c.next.new.reader) f.0 f.1 _ x.0 x.1 _ _ _
-    (rose-by _ _ _ c.reply_to-reply.ensures.no_fewer) (step-later (rose-since _ _ _ inv.no_fewer) _ _ _ _ (c.reply_to-reply.ensures.step (inv.sound sound) x.0.asked x.2)) _ _ x.3 x.4 _ c.if-conn.true c.if-not-send.ensures
+    λ sound. answered (inv.served sound) (g.R.Source.remaining c.next.new.source) f.0 f.1 _ x.0 x.1 _ _ _
+    (rose-by _ _ _ c.reply_to-reply.ensures.no_fewer) (step-later (rose-since _ _ _ inv.no_fewer) _ _ _ _ (c.reply_to-reply.ensures.step (inv.sound sound) x.0.asked x.2)) _ _ x.3 x.4 _ c.if-conn.true c.in-Ok.ensures.0
+
+pub returns-then-conn-clause-told : goal.returns-then-conn-clause-told
+returns-then-conn-clause-told g c =
+    let inv = c.serving.invariant in (
+      quiet_item _ _ c.next.result c.next.ensures.told c.in_default.not-Ended c.in_default.not-ReadFault ∙ inv.read,
+      c.in-Ok.ensures.1 ∙ inv.written,
+    )
 
 pub serving-preserved-else-conn : goal.serving-preserved-else-conn
 serving-preserved-else-conn g c =
@@ -54,12 +78,14 @@ serving-preserved-else-conn g c =
     let x = found_item _ _ _ _ c.next.result _ _ f.2 c.in_default.not-Ended c.in_default.not-ReadFault in
     let counted = c.next.ensures.count c.if-conn.false in
     let inv = c.serving.invariant in
-    let later = g.R.Read.remaining c.next.new.reader in
+    let later = g.R.Source.remaining c.next.new.source in
     record {
       going = c.if-conn.false;
       few = roomy c.serving.conn.count c.serving.conn.buffer f.0 _ later x.0 x.1 _ x.3 _ counted c.if-conn.false inv.few;
       served = λ sound. continued (inv.served sound) later f.0 f.1 _ x.0 x.1 _ _ _
-          (rose-by _ _ _ c.reply_to-reply.ensures.no_fewer) (step-later (rose-since _ _ _ inv.no_fewer) _ _ _ _ (c.reply_to-reply.ensures.step (inv.sound sound) x.0.asked x.2)) _ _ x.3 x.4 _ _ counted c.if-conn.false c.if-not-send.ensures;
+          (rose-by _ _ _ c.reply_to-reply.ensures.no_fewer) (step-later (rose-since _ _ _ inv.no_fewer) _ _ _ _ (c.reply_to-reply.ensures.step (inv.sound sound) x.0.asked x.2)) _ _ x.3 x.4 _ _ counted c.if-conn.false c.in-Ok.ensures.0;
+      read = quiet_item _ _ c.next.result c.next.ensures.told c.in_default.not-Ended c.in_default.not-ReadFault ∙ inv.read;
+      written = c.in-Ok.ensures.1 ∙ inv.written;
       sound = λ sound. c.reply_to-reply.ensures.sound (inv.sound sound);
       header = λ state count from size h. c.reply_to-reply.ensures.header state count from size (inv.header state count from size h);
       honest = c.reply_to-reply.ensures.honest ∙ inv.honest;
@@ -72,12 +98,14 @@ serving-preserved-else-conn-2 g c =
     let x = found_item _ _ _ _ c.next.result _ _ f.2 c.in_default.not-Ended c.in_default.not-ReadFault in
     let counted = c.next.ensures.count c.if-conn.false in
     let inv = c.serving.invariant in
-    let later = g.R.Read.remaining c.next.new.reader in
+    let later = g.R.Source.remaining c.next.new.source in
     record {
       going = c.if-conn.false;
       few = roomy c.serving.conn.count c.serving.conn.buffer f.0 _ later x.0 x.1 _ x.3 _ counted c.if-conn.false inv.few;
       served = λ sound. continued (inv.served sound) later f.0 f.1 _ x.0 x.1 _ _ _
-          (rose-by _ _ _ c.reply_to-reply.ensures.no_fewer) (step-later (rose-since _ _ _ inv.no_fewer) _ _ _ _ (c.reply_to-reply.ensures.step (inv.sound sound) x.0.asked x.2)) _ _ x.3 x.4 _ _ counted c.if-conn.false c.if-not-send.ensures;
+          (rose-by _ _ _ c.reply_to-reply.ensures.no_fewer) (step-later (rose-since _ _ _ inv.no_fewer) _ _ _ _ (c.reply_to-reply.ensures.step (inv.sound sound) x.0.asked x.2)) _ _ x.3 x.4 _ _ counted c.if-conn.false c.in-Ok.ensures.0;
+      read = quiet_item _ _ c.next.result c.next.ensures.told c.in_default.not-Ended c.in_default.not-ReadFault ∙ inv.read;
+      written = c.in-Ok.ensures.1 ∙ inv.written;
       sound = λ sound. c.reply_to-reply.ensures.sound (inv.sound sound);
       header = λ state count from size h. c.reply_to-reply.ensures.header state count from size (inv.header state count from size h);
       honest = c.reply_to-reply.ensures.honest ∙ inv.honest;
@@ -90,20 +118,22 @@ serving-preserved g c =
     let x = found_item _ _ _ _ c.next.result _ _ f.2 c.in_default.not-Ended c.in_default.not-ReadFault in
     let counted = c.next.ensures.count c.if-conn.false in
     let inv = c.serving.invariant in
-    let later = g.R.Read.remaining c.next.new.reader in
+    let later = g.R.Source.remaining c.next.new.source in
     record {
       going = c.if-conn.false;
       few = roomy c.serving.conn.count c.serving.conn.buffer f.0 _ later x.0 x.1 _ x.3 _ counted c.if-conn.false inv.few;
       served = λ sound. continued (inv.served sound) later f.0 f.1 _ x.0 x.1 _ _ _
-          (rose-by _ _ _ c.reply_to-reply.ensures.no_fewer) (step-later (rose-since _ _ _ inv.no_fewer) _ _ _ _ (c.reply_to-reply.ensures.step (inv.sound sound) x.0.asked x.2)) _ _ x.3 x.4 _ _ counted c.if-conn.false c.if-not-send.ensures;
+          (rose-by _ _ _ c.reply_to-reply.ensures.no_fewer) (step-later (rose-since _ _ _ inv.no_fewer) _ _ _ _ (c.reply_to-reply.ensures.step (inv.sound sound) x.0.asked x.2)) _ _ x.3 x.4 _ _ counted c.if-conn.false c.in-Ok.ensures.0;
+      read = quiet_item _ _ c.next.result c.next.ensures.told c.in_default.not-Ended c.in_default.not-ReadFault ∙ inv.read;
+      written = c.in-Ok.ensures.1 ∙ inv.written;
       sound = λ sound. c.reply_to-reply.ensures.sound (inv.sound sound);
       header = λ state count from size h. c.reply_to-reply.ensures.header state count from size (inv.header state count from size h);
       honest = c.reply_to-reply.ensures.honest ∙ inv.honest;
       no_fewer = omega (arith, inv.no_fewer, c.reply_to-reply.ensures.no_fewer);
     }
 
-pub returns-then-not-send-clause-header : goal.returns-then-not-send-clause-header
-returns-then-not-send-clause-header g c =
+pub returns-in-Err-clause-header : goal.returns-in-Err-clause-header
+returns-in-Err-clause-header g c =
     λ state count from size h. c.reply_to-reply.ensures.header state count from size (c.serving.invariant.header state count from size h)
 
 pub returns-then-conn-clause-header : goal.returns-then-conn-clause-header

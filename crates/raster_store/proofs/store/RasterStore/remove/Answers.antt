@@ -16,7 +16,7 @@ use Rattle.tile_store.specs.Stored.{block_count}
 use Rattle.raster_store.specs.declared.held.Held.{Held}
 use Rattle.raster_store.specs.Views.{Index, times_fields}
 use Rattle.raster_store.specs.Holding.{IsHeld}
-use Rattle.raster_store.proofs.Places.{named_within, deleted_named, deleted_none}
+use Rattle.raster_store.proofs.Places.{named_within, deleted_named, deleted_none, indexes_taken, indexes_left}
 use Rattle.raster_store.proofs.Totals.{listed_blocks-remove}
 use Rattle.raster_store.proofs.Contents.{intact-remove}
 use Rattle.raster_store.proofs.Writes.{used_fields, held_remove}
@@ -112,3 +112,20 @@ returns-in-None-clause-removed g c =
     let name = c.args.name.now in
     let none : NoneNamed name held = subst (λ (l : List Held). NoneNamed name l) c.deref.ensures.value c.in-None.ensures.none in
     rw (← c.self.view_is) (sym (deleted_none content name held none))
+
+pub returns-in-Some-clause-indexes : goal.returns-in-Some-clause-indexes
+returns-in-Some-clause-indexes g c =
+    let held = c.self.inside.coverages.items in
+    let content = g.B.Blocks.content c.self.inside.blocks in
+    let name = c.args.name.now in
+    let place = c.in-Some.place in
+    let at : IsNamedAt name held place = subst (λ (l : List Held). IsNamedAt name l place) c.deref.ensures.value c.in-Some.ensures.some in
+    rw (← c.self.view_is, c.remove-held.ensures.items) (indexes_taken content name held place at)
+
+pub returns-in-None-clause-indexes : goal.returns-in-None-clause-indexes
+returns-in-None-clause-indexes g c =
+    let held = c.self.inside.coverages.items in
+    let content = g.B.Blocks.content c.self.inside.blocks in
+    let name = c.args.name.now in
+    let none : NoneNamed name held = subst (λ (l : List Held). NoneNamed name l) c.deref.ensures.value c.in-None.ensures.none in
+    rw (← c.self.view_is) (indexes_left content name held none)
