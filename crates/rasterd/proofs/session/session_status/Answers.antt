@@ -1,4 +1,3 @@
-use Rattle.std.proofs.Common.{◌≡◌, sym}
 use Rattle.coverage_server.specs.Serves.{Ends, ends_of}
 use Rattle.coverage_server.proofs.ServingLemmas.{connection-later, rose-by}
 use Rattle.rasterd.proofs.session.session_status.Goals as goal
