@@ -16,3 +16,4 @@ pub mod Bindings
 pub mod Ends
 pub mod Queries
 pub mod Outcomes
+pub mod Texts

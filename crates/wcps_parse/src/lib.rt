@@ -9,4 +9,4 @@ mod limits;
 mod query;
 
 pub use error::ParseError;
-pub use query::{one_query, parse};
+pub use query::{one_query, one_reading, parse};

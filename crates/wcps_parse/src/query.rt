@@ -1,7 +1,9 @@
 //! Whole queries.
 
-ghost use Rattle.std.specs.Prelude.{◌≡◌, ◌<◌, ◌≤◌, length, IfOk, IfErr, List};
+ghost use Rattle.std.specs.Prelude.{◌≡◌, ℕ, ◌<◌, ◌≤◌, length, IfOk, IfErr, List};
+ghost use Rattle.wcps_text.specs.declared.error.LexError.{LexError};
 ghost use Rattle.wcps_text.specs.Token.{Tok, toks};
+ghost use Rattle.wcps_text.specs.Lexing.{Piece, Lexed, Refused};
 ghost use Rattle.wcps_text.specs.Tree.{QueryTree, condition_of, binding_view, bindings_of, item_view, query_view};
 ghost use Rattle.wcps_text.specs.Limits.{condition_height, item_height, query_height};
 ghost use Rattle.wcps_text.specs.Grammar.{IsSpelled};
@@ -166,4 +168,11 @@ fn names<'t, 'a>(
 /// No tokens spell two queries.
 pub fn one_query()
     ensures { (ts : List Tok) (p q : QueryTree) → IsSpelled ts p → IsSpelled ts q → p ≡ q }
+{}
+
+/// A text has one list of tokens, or one first refusal, and not both.
+pub fn one_reading()
+    ensures tokens { (text : List ℕ) (ps qs : List Piece) → Lexed 0 text ps → Lexed 0 text qs → ps ≡ qs }
+    ensures refusal { (text : List ℕ) (e f : LexError) → Refused text e → Refused text f → e ≡ f }
+    ensures apart { (text : List ℕ) (ps : List Piece) (e : LexError) → Lexed 0 text ps → Refused text e → ⊥ }
 {}
