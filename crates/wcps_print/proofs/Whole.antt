@@ -1,13 +1,16 @@
 -- What a printed text is.
-use Rattle.std.proofs.Common.{◌≡◌, ◌++◌, ℕ, List, [], append-nil, sym, ◌∙◌, subst, ap}
+use Rattle.std.proofs.Common.{◌≡◌, ◌≤◌, ◌++◌, ℕ, List, [], append-nil, sym, ◌∙◌, subst, ap, arith}
 use Rattle.wcps_text.specs.Token.{Tok}
 use Rattle.wcps_text.specs.Tree.{QueryTree}
+use Rattle.wcps_text.specs.Limits.{deepest, forms}
 use Rattle.wcps_text.specs.Grammar.{IsSpelled}
 use Rattle.wcps_print.specs.Printing.{text_of, query_tokens}
-use Rattle.wcps_print.specs.Printed.{IsTextOf}
+use Rattle.wcps_print.specs.Printed.{IsTextOf, IsTextWithin}
 use Rattle.wcps_print.proofs.Written.{proper_lexed}
 use Rattle.wcps_print.proofs.Again.{again_query}
 use Rattle.wcps_print.proofs.Cuts.{cut}
+use Rattle.wcps_print.proofs.Forms.{same-forms}
+use Rattle.wcps_print.proofs.Depths.{query-within}
 
 nothing_behind : (bs : List ℕ) → bs ++ text_of [] ≡ bs
 unfolding text_of
@@ -20,7 +23,26 @@ tokens_again q text h =
     let pieces = cut (query_tokens q) 0 again.written in
     record { pieces = pieces.pieces; lexed = pieces.lexed; spelled = subst (λ (ts : List Tok). IsSpelled ts q) (sym pieces.same) again.spelled }
 
+within_again : (q : QueryTree) (text : List ℕ) → IsTextWithin text q → IsTextWithin (text_of (query_tokens q)) q
+within_again q text h =
+    let again = again_query h.spelled (proper_lexed h.lexed) in
+    let pieces = cut (query_tokens q) 0 again.written in
+    let few : forms (query_tokens q) ≤ 256 = omega (arith, same-forms again.spelled h.spelled, h.words) in
+    record {
+      pieces = pieces.pieces;
+      lexed = pieces.lexed;
+      spelled = subst (λ (ts : List Tok). IsSpelled ts q) (sym pieces.same) again.spelled;
+      brackets = subst (λ (ts : List Tok). deepest 0 ts ≤ 512) (sym pieces.same) (query-within 512 q (omega (arith, h.low)));
+      words = subst (λ (ts : List Tok). forms ts ≤ 256) (sym pieces.same) few;
+      low = h.low;
+    }
+
 pub printed : (q : QueryTree) (before after text : List ℕ) → before ≡ [] → after ++ text_of [] ≡ before ++ text_of (query_tokens q) → IsTextOf text q → IsTextOf after q
 printed q before after text none whole h =
     let same : after ≡ text_of (query_tokens q) = sym (nothing_behind after) ∙ whole ∙ ap (λ (bs : List ℕ). bs ++ text_of (query_tokens q)) none in
     subst (λ (bs : List ℕ). IsTextOf bs q) (sym same) (tokens_again q text h)
+
+pub printed_within : (q : QueryTree) (before after text : List ℕ) → before ≡ [] → after ++ text_of [] ≡ before ++ text_of (query_tokens q) → IsTextWithin text q → IsTextWithin after q
+printed_within q before after text none whole h =
+    let same : after ≡ text_of (query_tokens q) = sym (nothing_behind after) ∙ whole ∙ ap (λ (bs : List ℕ). bs ++ text_of (query_tokens q)) none in
+    subst (λ (bs : List ℕ). IsTextWithin bs q) (sym same) (within_again q text h)

@@ -5,7 +5,7 @@ ghost use Rattle.wcps_text.specs.Token.{sign, word};
 ghost use Rattle.wcps_text.specs.Tree.{bindings_of, item_view, query_view, view};
 ghost use Rattle.wcps_text.specs.declared.token.Keyword.TheVariants as words;
 ghost use Rattle.wcps_text.specs.declared.token.Symbol.TheVariants as signs;
-ghost use Rattle.wcps_print.specs.Printed.{IsTextOf};
+ghost use Rattle.wcps_print.specs.Printed.{IsTextOf, IsTextWithin};
 ghost use Rattle.wcps_print.specs.Printing.{bindings_tokens, expr_tokens, item_tokens, names_tokens, query_tokens, text_of, Puts};
 
 use crate::expression::{put_condition, put_expr};
@@ -16,9 +16,11 @@ use wcps_text::{Binding, Expr, Item, Keyword, Query, QueryName, Symbol};
 /// The query as text, every operand in parentheses.
 ///
 /// If the tokens of some text spell the query, as they do of any query that was parsed, then the printed text has
-/// tokens, and they spell the same query. It calls itself as deep as the query is high. The only error is want of memory.
+/// tokens, and they spell the same query; and where that text is within the limits of a query, so is the printed one, which
+/// a parser then takes. It calls itself as deep as the query is high. The only error is want of memory.
 pub fn print(alloc: Global, query: &Query) -> Result<String, AllocError>
-    ensures { IfOk result (λ printed. (text : List ℕ) → IsTextOf text (query_view query.now) → IsTextOf (string_bytes printed) (query_view query.now)) }
+    ensures spelled { IfOk result (λ printed. (text : List ℕ) → IsTextOf text (query_view query.now) → IsTextOf (string_bytes printed) (query_view query.now)) }
+    ensures within { IfOk result (λ printed. (text : List ℕ) → IsTextWithin text (query_view query.now) → IsTextWithin (string_bytes printed) (query_view query.now)) }
 {
     let mut out = String::new(alloc);
     put_query(&mut out, query)?;
