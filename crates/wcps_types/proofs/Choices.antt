@@ -25,11 +25,11 @@ pub record Step (choices : List Choice) (i : ℕ) (x : Choice) (rest number : �
       ≡ bound_to x.variable (slice_index x.coverages.items (number / rest)) ∷ combination_at (map choice_view (drop (i + 1) choices)) (number % rest)
 
 -- factors of a product that is above some number
-left_positive : (a b n : ℕ) → n < a * b → 0 < a
+pub left_positive : (a b n : ℕ) → n < a * b → 0 < a
 left_positive zero b n h = omega (arith, h)
 left_positive (suc a) b n h = omega arith
 
-right_positive : (a b n : ℕ) → n < a * b → 0 < b
+pub right_positive : (a b n : ℕ) → n < a * b → 0 < b
 right_positive a zero n h = omega (arith, h)
 right_positive a (suc b) n h = omega arith
 

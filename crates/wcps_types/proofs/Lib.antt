@@ -15,3 +15,9 @@ pub mod SoundQueries
 pub mod KindForms
 pub mod SoundKinds
 pub mod Counted
+pub mod RenamedForms
+pub mod Renamed
+pub mod LikeTrees
+pub mod There
+pub mod SharedEfforts
+pub mod TokenNames

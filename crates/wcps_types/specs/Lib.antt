@@ -4,6 +4,8 @@ pub mod WellTypedOnce
 pub mod Kinds
 pub mod KindsOnce
 pub mod TypedQueries
+pub mod Renamed
+pub mod SharedQueries
 pub mod Names
 pub mod Shapes
 pub mod Operators
@@ -17,4 +19,5 @@ pub mod Variables
 pub mod Bindings
 pub mod Typing
 pub mod Queries
+pub mod Sharing
 pub mod Refusals

@@ -33,7 +33,7 @@ pub struct Bindings {
 pub const MAX_COMBINATIONS: u64 = 64;
 
 /// A signature of one's own.
-fn copied(alloc: Global, signature: &Signature) -> Result<Signature, AllocError>
+pub fn copied(alloc: Global, signature: &Signature) -> Result<Signature, AllocError>
     ensures { IfOk result (λ s. s ≡ signature.now) }
 {
     let name = signature.name.copy(alloc)?;

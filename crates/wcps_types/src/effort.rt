@@ -2,8 +2,10 @@
 
 ghost use Rattle.std.specs.Prelude.{◌≡◌, ◌≤◌, ◌+◌, ◌*◌, ◌^◌, map, [], ◌∷◌};
 ghost use Rattle.wcps_types.specs.Typed.{field_tree, fields_view, item_view, combination_view};
+ghost use Rattle.wcps_types.specs.Renamed.{shared_view};
 ghost use Rattle.wcps_types.specs.Work.{work_of, fields_work, item_work, condition_work, query_work, max_work, capped};
 
+use crate::shared::SharedCombination;
 use crate::typed::{Combination, Node, TypedItem, TypedQuery};
 
 /// How much work is allowed.
@@ -160,6 +162,27 @@ pub fn combinations_work(combinations: &[Combination]) -> u64
     let mut total = 0;
     for combination in combinations {
         total = plus(total, combination_work(combination));
+    }
+    total
+}
+
+/// The work of a combination that shares its tree.
+fn work_of_shared(trees: &[Combination], combination: &SharedCombination) -> u64
+    ensures { result ≡ capped (query_work (shared_view trees.now combination.now ∷ [])) }
+{
+    match trees.get(combination.tree) {
+        None => 1,
+        Some(tree) => combination_work(tree),
+    }
+}
+
+/// The work of all combinations that share trees, or one more than `MAX_WORK` where it is more.
+pub fn shared_work(trees: &[Combination], combinations: &[SharedCombination]) -> u64
+    ensures { result ≡ capped (query_work (map (shared_view trees.now) combinations.now)) }
+{
+    let mut total = 0;
+    for combination in combinations {
+        total = plus(total, work_of_shared(trees, combination));
     }
     total
 }

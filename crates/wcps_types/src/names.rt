@@ -1,7 +1,10 @@
 //! Looking names up.
 
-ghost use Rattle.std.specs.Prelude.{◌≡◌, is_some};
+ghost use Rattle.std.specs.Prelude.{◌≡◌, ◌↔◌, ℕ, List, Ok, is_some};
 ghost use Rattle.std.specs.Str.{bytes_eq};
+ghost use Rattle.arr_core.specs.Names.{IsName};
+ghost use Rattle.wcps_text.specs.Lexing.{Reads};
+ghost use Rattle.wcps_text.specs.Token as token;
 ghost use Rattle.wcps_types.specs.Names.{axis_place, coverage_place, bound_place, name_place, is_name_of};
 
 use crate::shape::Label;
@@ -73,3 +76,9 @@ pub fn is_named(label: &Label, name: &QueryName) -> bool
 {
     is_name_of(&label.name, name)
 }
+
+/// What may be the name of a coverage, a field or an axis is just what a text has as one token that is a name without
+/// `$`: so the two tables of keywords are one.
+pub fn names_are_tokens()
+    ensures { (w : List ℕ) → IsName w ↔ Reads w (Ok (token.name w)) }
+{}

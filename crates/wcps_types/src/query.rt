@@ -84,7 +84,7 @@ fn typed_item(
 }
 
 /// The query with one choice of coverages: its `where`, then its item.
-fn combination(
+pub fn combination(
     alloc: Global,
     coverages: &[Signature],
     bound: &[Bound],

@@ -1,0 +1,10 @@
+use Rattle.std.proofs.Common.{◌≡◌, ◌+◌, ◌≤◌, map, drop}
+use Rattle.wcps_types.specs.Renamed.{shared_view}
+use Rattle.wcps_types.specs.Cells.{result_cells, capped_cells}
+use Rattle.wcps_types.proofs.cells.shared_cells.Given as goal
+
+abbrev pub invariant-loop-combination : goal.invariant-loop-combination
+invariant-loop-combination l = record {
+  few : l.total ≤ 1048577;
+  counted : capped_cells (l.total + result_cells (map (shared_view l.trees) (drop l.combination-index l.combinations))) ≡ capped_cells (result_cells (map (shared_view l.trees) l.combinations));
+}

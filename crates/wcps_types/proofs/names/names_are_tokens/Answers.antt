@@ -1,0 +1,5 @@
+use Rattle.wcps_types.proofs.TokenNames.{token-of-name, name-of-token}
+use Rattle.wcps_types.proofs.names.names_are_tokens.Goals as goal
+
+pub returns : goal.returns
+returns c w = (token-of-name w, name-of-token w)

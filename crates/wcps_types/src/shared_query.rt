@@ -1,0 +1,131 @@
+//! The check of a whole query, whose combinations share trees.
+
+ghost use Rattle.std.specs.Prelude.{◌≡◌, ◌<◌, ◌≤◌, [], IfOk, OnOk, length, map, Some, slice_get};
+ghost use Rattle.wcps_types.specs.Cells.{result_cells, max_cells};
+ghost use Rattle.wcps_types.specs.Work.{query_work, max_work};
+ghost use Rattle.wcps_text.specs.Tree.{query_view};
+ghost use Rattle.wcps_types.specs.Renamed.{over, shared_view};
+ghost use Rattle.wcps_types.specs.SharedQueries.{shared_query_view};
+ghost use Rattle.wcps_types.specs.Shapes.{Says};
+ghost use Rattle.wcps_types.specs.Bindings.{choice_view, combination_count, combinations};
+ghost use Rattle.wcps_types.specs.Sharing.{own, coverages_in, AreBelow, ChoicesAreBelow, Grows, HasTree, AreMade};
+ghost use Rattle.wcps_types.specs.Queries.{typ_combination, typ_each, typ_query};
+
+use crate::bindings::{Choice, combination_at, combination_count, resolve_bindings};
+use crate::cells::{MAX_CELLS, shared_cells};
+use crate::effort::{MAX_WORK, shared_work};
+use crate::names::Bound;
+use crate::query::combination;
+use crate::refusal::{CheckError, TypeRefusal};
+use crate::shared::{SharedCombination, SharedQuery};
+use crate::sharing::{own_variables, places_of, signatures_of, tree_of_like};
+use crate::typed::Combination;
+use arr_core::Signature;
+use std::alloc::Global;
+use wcps_text::Query;
+
+/// The query over the variables of a combination, each with the signature of its coverage.
+fn shared_tree(
+    alloc: Global,
+    coverages: &[Signature],
+    bound: &[Bound],
+    query: &Query,
+) -> Result<Combination, CheckError>
+    requires there { AreBelow (length coverages.now) (coverages_in bound.now) }
+    ensures said { Says (λ t. over (coverages_in bound.now) (Some t)) result (typ_combination coverages.now (query_view query.now) bound.now) }
+    ensures made { IfOk result (λ t. HasTree coverages.now (query_view query.now) (own 0 bound.now) (coverages_in bound.now) (Some t)) }
+{
+    let signatures = signatures_of(alloc, coverages, bound)?;
+    let variables = own_variables(alloc, bound)?;
+    combination(alloc, &signatures, &variables, query)
+}
+
+/// The place of the tree of a query over coverages: that of a maker whose coverages are like these, else of a new tree,
+/// whose maker this combination is.
+fn place_of_tree(
+    alloc: Global,
+    coverages: &[Signature],
+    bound: &[Bound],
+    query: &Query,
+    trees: &mut Vec<Combination>,
+    makers: &mut Vec<SharedCombination>,
+) -> Result<usize, CheckError>
+    requires there { AreBelow (length coverages.now) (coverages_in bound.now) }
+    requires made { AreMade coverages.now (query_view query.now) (own 0 bound.now) trees.old.items makers.old.items }
+    ensures said { Says (λ t. over (coverages_in bound.now) (slice_get trees.new.items t)) result (typ_combination coverages.now (query_view query.now) bound.now) }
+    ensures inside { IfOk result (λ t. t < length trees.new.items) }
+    ensures made { OnOk result (AreMade coverages.now (query_view query.now) (own 0 bound.now) trees.new.items makers.new.items) }
+    ensures kept { OnOk result (Grows trees.old.items trees.new.items) }
+    ensures longer { OnOk result (length trees.old.items ≤ length trees.new.items) }
+{
+    if let Some(tree) = tree_of_like(coverages, makers, bound) {
+        return Ok(tree);
+    }
+    let made = shared_tree(alloc, coverages, bound, query)?;
+    let tree = trees.len();
+    let coverages = places_of(alloc, bound)?;
+    trees.push(made)?;
+    makers.push(SharedCombination { tree, coverages })?;
+    Ok(tree)
+}
+
+/// Trees, and combinations that have them.
+#[derive(Debug, Drop)]
+struct Combined {
+    trees: Vec<Combination>,
+    combinations: Vec<SharedCombination>,
+}
+
+/// The query with each choice of coverages in order.
+fn each_shared(
+    alloc: Global,
+    coverages: &[Signature],
+    choices: &[Choice],
+    count: u64,
+    query: &Query,
+) -> Result<Combined, CheckError>
+    requires counted { count ≡ combination_count (map choice_view choices.now) }
+    requires there { ChoicesAreBelow (length coverages.now) (map choice_view choices.now) }
+    ensures { Says (λ all. map (shared_view all.trees.items) all.combinations.items) result (typ_each coverages.now (query_view query.now) [] (combinations (map choice_view choices.now))) }
+{
+    let mut trees = Vec::new(alloc);
+    let mut makers = Vec::new(alloc);
+    let mut combinations = Vec::new(alloc);
+    for number in 0..count {
+        let bound = combination_at(alloc, choices, count, number)?;
+        let tree = place_of_tree(alloc, coverages, &bound, query, &mut trees, &mut makers)?;
+        let places = places_of(alloc, &bound)?;
+        combinations.push(SharedCombination {
+            tree,
+            coverages: places,
+        })?;
+    }
+    Ok(Combined {
+        trees,
+        combinations,
+    })
+}
+
+/// The typed query with shared trees, or the first refusal: first the `for` list and the number of combinations, then
+/// each combination in order, then the number of result cells, then the work. It is what `check` gives, in memory for as
+/// many trees as there are different choices of domains and fields, not as there are combinations.
+pub fn check_shared(
+    alloc: Global,
+    signatures: &[Signature],
+    query: &Query,
+) -> Result<SharedQuery, CheckError>
+    ensures said { Says shared_query_view result (typ_query signatures.now (query_view query.now)) }
+    ensures few_cells { IfOk result (λ q. result_cells (map (shared_view q.trees.items) q.combinations.items) ≤ max_cells) }
+    ensures little_work { IfOk result (λ q. query_work (map (shared_view q.trees.items) q.combinations.items) ≤ max_work) }
+{
+    let bindings = resolve_bindings(alloc, signatures, &query.bindings)?;
+    let count = combination_count(&bindings.choices)?;
+    let all = each_shared(alloc, &bindings.coverages, &bindings.choices, count, query)?;
+    if shared_cells(&all.trees, &all.combinations) > MAX_CELLS {
+        return Err(CheckError::Refused(TypeRefusal::ResultTooLarge));
+    }
+    if shared_work(&all.trees, &all.combinations) > MAX_WORK {
+        return Err(CheckError::Refused(TypeRefusal::TooMuchWork));
+    }
+    Ok(SharedQuery::new(bindings.coverages, all.trees, all.combinations))
+}

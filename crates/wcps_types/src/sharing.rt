@@ -1,0 +1,153 @@
+//! Combinations of coverages with the same domains and fields have one tree.
+
+ghost use Rattle.std.specs.Prelude.{◌≡◌, ◌<◌, ◌↔◌, [], ◌++◌, length, IfOk, IfSome, IsTrue, List, Ok, slice_get};
+ghost use Rattle.wcps_text.specs.Tree.{QueryTree};
+ghost use Rattle.wcps_types.specs.declared.typed.Combination.{Combination};
+ghost use Rattle.wcps_types.specs.Renamed.{over};
+ghost use Rattle.wcps_types.specs.Queries.{typ_combination};
+ghost use Rattle.wcps_types.specs.Sharing.{own, coverages_in, with_signature, signatures_at, AreLike, AlikeAt, Alike, AreMade};
+
+use crate::bindings::copied;
+use crate::names::Bound;
+use crate::shared::SharedCombination;
+use arr_core::{Field, Signature};
+use std::alloc::{AllocError, Global};
+use wcps_text::QueryName;
+
+/// Whether two fields have the same name and type.
+fn is_same_field(a: &Field, b: &Field) -> bool
+    ensures { IsTrue result ↔ (a.now ≡ b.now) }
+{
+    a.name.is_same(&b.name) && a.kind == b.kind
+}
+
+/// Whether two lists of fields are the same.
+fn are_same_fields(fields: &[Field], other: &[Field]) -> bool
+    ensures { IsTrue result ↔ (fields.now ≡ other.now) }
+{
+    match fields {
+        [] => other.is_empty(),
+        [a, rest @ ..] => match other {
+            [] => false,
+            [b, further @ ..] => is_same_field(a, b) && are_same_fields(rest, further),
+        },
+    }
+}
+
+/// Whether two signatures have the same domain and fields.
+fn is_like(a: &Signature, b: &Signature) -> bool
+    ensures { IsTrue result ↔ AreLike a.now b.now }
+{
+    a.domain.is_same(&b.domain) && are_same_fields(a.fields.as_slice(), b.fields.as_slice())
+}
+
+/// Whether the coverages at two places have the same domain and fields; at one place they have.
+fn are_like_at(coverages: &[Signature], a: usize, b: usize) -> bool
+    ensures { IsTrue result → AlikeAt (slice_get coverages.now a) (slice_get coverages.now b) }
+{
+    match coverages.get(a) {
+        None => false,
+        Some(first) => {
+            if a == b {
+                return true;
+            }
+            match coverages.get(b) {
+                None => false,
+                Some(second) => is_like(first, second),
+            }
+        }
+    }
+}
+
+/// Whether the coverages of a combination are, one by one, like those at other places.
+fn are_alike(coverages: &[Signature], bound: &[Bound], places: &[usize]) -> bool
+    ensures { IsTrue result → Alike coverages.now (coverages_in bound.now) places.now }
+{
+    match bound {
+        [] => places.is_empty(),
+        [b, rest @ ..] => match places {
+            [] => false,
+            [place, more @ ..] => {
+                are_like_at(coverages, b.coverage, *place) && are_alike(coverages, rest, more)
+            }
+        },
+    }
+}
+
+/// The place of the tree of a maker whose coverages are like those of a combination.
+pub fn tree_of_like(
+    coverages: &[Signature],
+    makers: &[SharedCombination],
+    bound: &[Bound],
+) -> Option<usize>
+    ensures typed { (q : QueryTree) (trees : List Combination) → AreMade coverages.now q (own 0 bound.now) trees makers.now → IfSome result (λ t. typ_combination coverages.now q bound.now ≡ Ok (over (coverages_in bound.now) (slice_get trees t))) }
+    ensures inside { (q : QueryTree) (trees : List Combination) → AreMade coverages.now q (own 0 bound.now) trees makers.now → IfSome result (λ t. t < length trees) }
+{
+    match makers {
+        [] => None,
+        [maker, more @ ..] => {
+            if are_alike(coverages, bound, &maker.coverages) {
+                return Some(maker.tree);
+            }
+            tree_of_like(coverages, more, bound)
+        }
+    }
+}
+
+/// Signatures, and after them that of the coverage at a place, if it is there.
+fn with_signature(
+    alloc: Global,
+    coverages: &[Signature],
+    place: usize,
+    signatures: Vec<Signature>,
+) -> Result<Vec<Signature>, AllocError>
+    ensures { IfOk result (λ v. v.items ≡ signatures.items ++ with_signature (slice_get coverages.now place) []) }
+{
+    match coverages.get(place) {
+        None => Ok(signatures),
+        Some(signature) => {
+            let mut signatures = signatures;
+            signatures.push(copied(alloc, signature)?)?;
+            Ok(signatures)
+        }
+    }
+}
+
+/// The signatures of the coverages of a combination, each for one variable.
+pub fn signatures_of(
+    alloc: Global,
+    coverages: &[Signature],
+    bound: &[Bound],
+) -> Result<Vec<Signature>, AllocError>
+    ensures { IfOk result (λ v. v.items ≡ signatures_at coverages.now (coverages_in bound.now)) }
+{
+    let mut signatures = Vec::new(alloc);
+    for b in bound {
+        signatures = with_signature(alloc, coverages, b.coverage, signatures)?;
+    }
+    Ok(signatures)
+}
+
+/// The variables of a combination, each with a coverage of its own.
+pub fn own_variables(alloc: Global, bound: &[Bound]) -> Result<Vec<Bound>, AllocError>
+    ensures { IfOk result (λ v. v.items ≡ own 0 bound.now) }
+{
+    let mut variables = Vec::new(alloc);
+    for b in bound {
+        let variable = QueryName::new(alloc, b.variable.as_str())?;
+        let coverage = variables.len();
+        variables.push(Bound { variable, coverage })?;
+    }
+    Ok(variables)
+}
+
+/// The places of the coverages of a combination.
+pub fn places_of(alloc: Global, bound: &[Bound]) -> Result<Vec<usize>, AllocError>
+    ensures { IfOk result (λ v. v.items ≡ coverages_in bound.now) }
+{
+    let mut places = Vec::new(alloc);
+    for b in bound {
+        places.push(b.coverage)?;
+    }
+    Ok(places)
+}
