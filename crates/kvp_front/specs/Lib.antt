@@ -1,4 +1,5 @@
 pub mod Values
 pub mod Spelling
 pub mod Contents
+pub mod Templates
 pub mod Requests

@@ -1,9 +1,10 @@
 -- The request that the pairs of a message spell, and the first refusal of those that spell none.
 use Rattle.std.specs.Prelude.{ℕ, List, [], ◌∷◌, Result, Ok, Err, if◌then◌else◌, bytes_eq, codes, string_bytes}
 use Rattle.arr_core.specs.declared.field.Field.{Field}
-use Rattle.kvp_front.specs.Values.{pairs_of, values_of, only_value, and_then}
+use Rattle.kvp_front.specs.Values.{pairs_of, values_of, and_then, read_under}
 use Rattle.kvp_front.specs.Spelling.{name_in, interval_in, field_in, list_in, query_in}
 use Rattle.kvp_front.specs.Contents.{Cells, content_view, content_of}
+use Rattle.kvp_front.specs.Templates.{Template, template_view, template_of}
 use Rattle.kvp_front.specs.declared.request.Interval.{Interval}
 use Rattle.kvp_front.specs.declared.request.Request.{Request}
 use Rattle.kvp_front.specs.declared.request.Request.TheVariants as Asked
@@ -25,6 +26,10 @@ pub data Asks : Type 0 where
   describe_coverage : List ℕ → Asks
   -- the answer to the query of this text
   process_coverages : List ℕ → Asks
+  -- the text of the query that a template stands for
+  expand_template : Template → Asks
+  -- the answer to that query
+  process_template : Template → Asks
 
 abbrev pub asks : Request → Asks
 asks (Asked.InsertCoverage r) = insert_coverage r.coverage r.intervals.items r.fields.items
@@ -33,6 +38,8 @@ asks (Asked.DeleteCoverage coverage) = delete_coverage coverage
 asks Asked.ListCoverages = list_coverages
 asks (Asked.DescribeCoverage coverage) = describe_coverage coverage
 asks (Asked.ProcessCoverages query) = process_coverages (string_bytes query)
+asks (Asked.ExpandTemplate template) = expand_template (template_view template)
+asks (Asked.ProcessTemplate template) = process_template (template_view template)
 
 -- the number of a refusal
 abbrev pub number_of : RequestError → ℕ
@@ -42,10 +49,6 @@ number_of MissingKey = 12
 number_of RepeatedKey = 13
 number_of BadValue = 14
 number_of NoMemory = 90
-
--- the one value of a key, read
-abbrev pub read_under : {X : Type 0} → (List ℕ → Result X RequestError) → List ℕ → List (List ℕ × List ℕ) → Result X RequestError
-read_under read key pairs = and_then read (only_value (values_of key pairs))
 
 -- each request reads its keys in this order, and the first refusal stands
 abbrev pub insertion_of : List (List ℕ × List ℕ) → Result Asks RequestError
@@ -67,6 +70,12 @@ description_of pairs = and_then (λ coverage. Ok (describe_coverage coverage)) (
 abbrev pub query_of : List (List ℕ × List ℕ) → Result Asks RequestError
 query_of pairs = and_then (λ query. Ok (process_coverages query)) (read_under query_in (codes "query") pairs)
 
+abbrev pub expansion_of : List (List ℕ × List ℕ) → Result Asks RequestError
+expansion_of pairs = and_then (λ template. Ok (expand_template template)) (template_of pairs)
+
+abbrev pub processing_of : List (List ℕ × List ℕ) → Result Asks RequestError
+processing_of pairs = and_then (λ template. Ok (process_template template)) (template_of pairs)
+
 -- the request of this name
 abbrev pub kind_of : List (List ℕ × List ℕ) → List ℕ → Result Asks RequestError
 kind_of pairs kind =
@@ -75,7 +84,9 @@ kind_of pairs kind =
     else (if bytes_eq kind (codes "DeleteCoverage") then deletion_of pairs
     else (if bytes_eq kind (codes "ListCoverages") then Ok list_coverages
     else (if bytes_eq kind (codes "DescribeCoverage") then description_of pairs
-    else (if bytes_eq kind (codes "ProcessCoverages") then query_of pairs else Err UnknownRequest)))))
+    else (if bytes_eq kind (codes "ProcessCoverages") then query_of pairs
+    else (if bytes_eq kind (codes "ExpandTemplate") then expansion_of pairs
+    else (if bytes_eq kind (codes "ProcessTemplate") then processing_of pairs else Err UnknownRequest)))))))
 
 abbrev pub spelled_by : List (List ℕ × List ℕ) → List (List ℕ) → Result Asks RequestError
 spelled_by pairs [] = Err NoRequest

@@ -48,6 +48,10 @@ abbrev pub and_then : {A B : Type 0} → (A → Result B RequestError) → Resul
 and_then f (Ok a) = f a
 and_then f (Err e) = Err e
 
+-- the one value of a key, read
+abbrev pub read_under : {X : Type 0} → (List ℕ → Result X RequestError) → List ℕ → List (List ℕ × List ℕ) → Result X RequestError
+read_under read key pairs = and_then read (only_value (values_of key pairs))
+
 -- The answer stands for what is expected, a value or a refusal; in its place want of memory may be told.
 abbrev pub Gives : {T X : Type 0} → (T → X) → Result X RequestError → Result T RequestError → Type 0
 Gives view expected (Ok value) = expected ≡ Ok (view value)

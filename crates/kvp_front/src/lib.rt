@@ -7,7 +7,10 @@ mod pairs;
 mod reading;
 mod request;
 mod spelling;
+mod templates;
 
 pub use content::Content;
 pub use reading::read_request;
-pub use request::{Insertion, Interval, Request, RequestError, Update};
+pub use request::{
+    Insertion, Interval, Request, RequestError, RequestedLayer, TemplateRequest, Update,
+};

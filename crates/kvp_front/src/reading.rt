@@ -1,13 +1,14 @@
 //! Requests, read from the pairs of a message.
 ghost use Rattle.std.specs.Prelude.{map};
 ghost use Rattle.kvp_front.specs.Values.{pair_view};
-ghost use Rattle.kvp_front.specs.Requests.{asks, Gives, spelled, spelled_of, insertion_of, update_of, deletion_of, description_of, query_of};
+ghost use Rattle.kvp_front.specs.Requests.{asks, Gives, spelled, spelled_of, insertion_of, update_of, deletion_of, description_of, query_of, expansion_of, processing_of};
 
 use crate::content::content_under;
 use crate::lists::list_under;
 use crate::pairs::{Pair, pairs_of, value_under};
 use crate::request::{Insertion, Request, RequestError, Update};
 use crate::spelling::{name_under, query_under};
+use crate::templates::template_under;
 use std::alloc::Global;
 
 /// Reads the request that some bytes spell as the pairs of a web form, or says what is wrong with them first: the key
@@ -36,6 +37,8 @@ fn request_of(alloc: Global, pairs: &[Pair<'_>]) -> Result<Request, RequestError
         "ListCoverages" => Ok(Request::ListCoverages),
         "DescribeCoverage" => read_description(alloc, pairs),
         "ProcessCoverages" => read_query(alloc, pairs),
+        "ExpandTemplate" => read_expansion(alloc, pairs),
+        "ProcessTemplate" => read_processing(alloc, pairs),
         _ => Err(RequestError::UnknownRequest),
     }
 }
@@ -87,4 +90,18 @@ fn read_query(alloc: Global, pairs: &[Pair<'_>]) -> Result<Request, RequestError
 {
     let query = query_under(alloc, pairs)?;
     Ok(Request::ProcessCoverages(query))
+}
+
+fn read_expansion(alloc: Global, pairs: &[Pair<'_>]) -> Result<Request, RequestError>
+    ensures { Gives asks (expansion_of (map pair_view pairs.now)) result }
+{
+    let template = template_under(alloc, pairs)?;
+    Ok(Request::ExpandTemplate(template))
+}
+
+fn read_processing(alloc: Global, pairs: &[Pair<'_>]) -> Result<Request, RequestError>
+    ensures { Gives asks (processing_of (map pair_view pairs.now)) result }
+{
+    let template = template_under(alloc, pairs)?;
+    Ok(Request::ProcessTemplate(template))
 }

@@ -32,6 +32,22 @@ pub struct Update {
     pub content: Content,
 }
 
+/// A layer of a template: a coverage, or a field of it.
+#[derive(Debug, Drop)]
+pub struct RequestedLayer {
+    pub coverage: Name,
+    pub field: Option<Name>,
+}
+
+/// A template, by its name, and its parameters. Each template takes some of them.
+#[derive(Debug, Drop)]
+pub struct TemplateRequest {
+    pub template: String,
+    pub layer: RequestedLayer,
+    pub second: Option<RequestedLayer>,
+    pub radius: Option<i64>,
+}
+
 /// What a message asks of the store.
 #[derive(Debug, Drop)]
 pub enum Request {
@@ -42,6 +58,10 @@ pub enum Request {
     DescribeCoverage(Name),
     /// The text of the query.
     ProcessCoverages(String),
+    /// The text of a template's query is asked for.
+    ExpandTemplate(TemplateRequest),
+    /// The answer to a template's query is asked for.
+    ProcessTemplate(TemplateRequest),
 }
 
 /// Why some pairs spell no request.

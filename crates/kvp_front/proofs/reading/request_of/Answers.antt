@@ -1,3 +1,4 @@
+-- The request of the name under the key `request`.
 use Rattle.std.proofs.Common.{inl, sym, ◌∙◌, subst, map}
 use Rattle.std.specs.Prelude.{string_bytes, codes}
 use Rattle.kvp_front.specs.Values.{Gives, pair_view}
@@ -40,8 +41,22 @@ returns-in-ProcessCoverages c =
     let kind = sym c.as_str.ensures.value ∙ c.in-ProcessCoverages.is in
     subst (λ x. Gives asks x c.read_query.result) (sym (is ∙ kind_known pairs _ (codes "ProcessCoverages") kind)) c.read_query.ensures
 
+pub returns-in-ExpandTemplate : goal.returns-in-ExpandTemplate
+returns-in-ExpandTemplate c =
+    let pairs = map pair_view c.args.pairs.now in
+    let is = spelled_kind pairs (string_bytes c.in-Ok.kind) c.in-Ok.ensures in
+    let kind = sym c.as_str.ensures.value ∙ c.in-ExpandTemplate.is in
+    subst (λ x. Gives asks x c.read_expansion.result) (sym (is ∙ kind_known pairs _ (codes "ExpandTemplate") kind)) c.read_expansion.ensures
+
+pub returns-in-ProcessTemplate : goal.returns-in-ProcessTemplate
+returns-in-ProcessTemplate c =
+    let pairs = map pair_view c.args.pairs.now in
+    let is = spelled_kind pairs (string_bytes c.in-Ok.kind) c.in-Ok.ensures in
+    let kind = sym c.as_str.ensures.value ∙ c.in-ProcessTemplate.is in
+    subst (λ x. Gives asks x c.read_processing.result) (sym (is ∙ kind_known pairs _ (codes "ProcessTemplate") kind)) c.read_processing.ensures
+
 pub returns : goal.returns
 returns c =
     let is = spelled_kind (map pair_view c.args.pairs.now) (string_bytes c.in-Ok.kind) c.in-Ok.ensures in
     let text = c.as_str.ensures.value in
-    inl (is ∙ kind_unknown (map pair_view c.args.pairs.now) (string_bytes c.in-Ok.kind) (λ e. c.in_default.not-InsertCoverage (text ∙ e)) (λ e. c.in_default.not-UpdateCoverage (text ∙ e)) (λ e. c.in_default.not-DeleteCoverage (text ∙ e)) (λ e. c.in_default.not-ListCoverages (text ∙ e)) (λ e. c.in_default.not-DescribeCoverage (text ∙ e)) (λ e. c.in_default.not-ProcessCoverages (text ∙ e)))
+    inl (is ∙ kind_unknown (map pair_view c.args.pairs.now) (string_bytes c.in-Ok.kind) (λ e. c.in_default.not-InsertCoverage (text ∙ e)) (λ e. c.in_default.not-UpdateCoverage (text ∙ e)) (λ e. c.in_default.not-DeleteCoverage (text ∙ e)) (λ e. c.in_default.not-ListCoverages (text ∙ e)) (λ e. c.in_default.not-DescribeCoverage (text ∙ e)) (λ e. c.in_default.not-ProcessCoverages (text ∙ e)) (λ e. c.in_default.not-ExpandTemplate (text ∙ e)) (λ e. c.in_default.not-ProcessTemplate (text ∙ e)))
