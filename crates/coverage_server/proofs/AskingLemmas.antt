@@ -60,7 +60,7 @@ tokens_shown [] = refl
 tokens_shown (t ∷ ts) = ap (λ (l : List Tok). tok t ∷ l) (tokens_shown ts)
 
 -- a query that is not too high
-tree_within : (store : Store) (q : QueryTree) → query_height q ≤ 64 → tree_typed store q ≡ numbered (typ_query (map signature_of store) q)
+pub tree_within : (store : Store) (q : QueryTree) → query_height q ≤ 64 → tree_typed store q ≡ numbered (typ_query (map signature_of store) q)
 tree_within store q low = let t : nat_le (query_height q) 64 ≡ true = le-leb (query_height q) 64 low in rw t refl
 
 tree_too_high : (store : Store) (q : QueryTree) → 64 < query_height q → tree_typed store q ≡ Err 33

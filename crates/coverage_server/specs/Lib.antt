@@ -1,7 +1,9 @@
 pub mod Views
 pub mod Asking
 pub mod Describing
+pub mod Templates
 pub mod Machine
+pub mod Tomlin
 pub mod Room
 pub mod Writing
 pub mod Answered

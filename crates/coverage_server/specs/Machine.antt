@@ -11,9 +11,12 @@ use Rattle.arr_core.specs.Domains.{count, IsDomain, IsBoxOf}
 use Rattle.arr_core.specs.Fields.{AreFields, place_of as field_place}
 use Rattle.arr_core.specs.Stores.{Coverage, Store, found, inserted, deleted, updated}
 use Rattle.kvp_front.specs.Contents.{Cells, fill, values}
-use Rattle.kvp_front.specs.Requests.{Asks, insert_coverage, update_coverage, delete_coverage, list_coverages, describe_coverage, process_coverages, spelled, number_of}
+use Rattle.kvp_front.specs.Requests.{Asks, insert_coverage, update_coverage, delete_coverage, list_coverages, describe_coverage, process_coverages, expand_template, process_template, spelled, number_of}
+use Rattle.kvp_front.specs.Templates.{Template}
+use Rattle.map_templates.specs.Refusals.{Answer, number_of as template_number}
 use Rattle.coverage_server.specs.Asking.{QueryAnswer, TextAnswer}
 use Rattle.coverage_server.specs.Describing.{description}
+use Rattle.coverage_server.specs.Templates.{expansion}
 use Rattle.http_front.specs.Replies.{reply_bytes}
 use Rattle.http_front.specs.Stream.{Item}
 use Rattle.kvp_front.specs.declared.request.Interval.{Interval}
@@ -124,6 +127,22 @@ Tells (Err number) (Text text) = ⊥
 abbrev pub Answers : List ℕ → Store → Reply → Store → Type 0
 Answers query old reply new = (a : QueryAnswer) × TextAnswer old query a × Tells a reply × (new ≡ old)
 
+-- ExpandTemplate: the text of the template's query on a line, or the refusal of the template; nothing changes
+abbrev pub TellsText : Answer (List ℕ) → Store → Reply → Store → Type 0
+TellsText (Ok text) old reply new = IsText reply (text ++ codes "\n") × (new ≡ old)
+TellsText (Err refusal) old reply new = Refuses (template_number refusal) old reply new
+
+abbrev pub Expands : Template → Store → Reply → Store → Type 0
+Expands template old reply new = TellsText (expansion template old) old reply new
+
+-- ProcessTemplate: the answer to the template's query, as that of any query, or the refusal of the template
+abbrev pub AnswersText : Answer (List ℕ) → Store → Reply → Store → Type 0
+AnswersText (Ok text) old reply new = Answers text old reply new
+AnswersText (Err refusal) old reply new = Refuses (template_number refusal) old reply new
+
+abbrev pub AnswersTemplate : Template → Store → Reply → Store → Type 0
+AnswersTemplate template old reply new = AnswersText (expansion template old) old reply new
+
 -- what the machine does where it has memory and room, and the disk does not fail
 abbrev pub Serves : Asks → Store → Reply → Store → Type 0
 Serves (insert_coverage name intervals fields) = Inserts name intervals fields
@@ -132,6 +151,8 @@ Serves (delete_coverage name) = Deletes name
 Serves list_coverages = Lists
 Serves (describe_coverage name) = Describes name
 Serves (process_coverages query) = Answers query
+Serves (expand_template template) = Expands template
+Serves (process_template template) = AnswersTemplate template
 
 -- insertions and updates alone may want room
 abbrev pub MayWantRoom : Asks → Type 0
@@ -141,6 +162,8 @@ MayWantRoom (delete_coverage name) = ⊥
 MayWantRoom list_coverages = ⊥
 MayWantRoom (describe_coverage name) = ⊥
 MayWantRoom (process_coverages query) = ⊥
+MayWantRoom (expand_template template) = ⊥
+MayWantRoom (process_template template) = ⊥
 
 -- Want of memory, a disk fault or want of room, which change nothing. A disk fault is told only where the disk may have failed,
 -- and want of room only where it may be wanting.

@@ -7,7 +7,7 @@ ghost use Rattle.block_file.specs.Format.{IsHeader, HeaderTorn, KeepsHeader, Clo
 ghost use Rattle.catalogue.specs.Bytes.{catalogue_bytes};
 ghost use Rattle.metadata.specs.Metadata.{part_bytes, metadata_bytes};
 ghost use Rattle.tile_index.specs.Bytes.{index_bytes};
-ghost use Rattle.catalogue.specs.Signatures.{MayInsert};
+ghost use Rattle.catalogue.specs.Signatures.{IsCatalogue, MayInsert};
 ghost use Rattle.tile_store.specs.Faults.{FaultCounts};
 ghost use Rattle.tile_store.specs.Stored.{tile_box};
 ghost use Rattle.raster_store.specs.Calls.{HasField, index_of};
@@ -116,6 +116,14 @@ impl<D: Disk> Coverages<D> {
         ensures { result ≡ self.now.fetched }
     {
         self.cells.fetched()
+    }
+
+    /// How many coverages there are: at most 1,024, each with a name of its own.
+    pub fn len(&self) -> usize
+        ensures len { result ≡ length self.now.store }
+        ensures catalogue { IsCatalogue (signatures_of self.now.store) }
+    {
+        self.catalogue.len()
     }
 
     /// The signatures of the coverages, in the order of their insertion.

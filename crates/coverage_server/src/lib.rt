@@ -10,7 +10,9 @@ mod describing;
 mod opening;
 mod query;
 mod server;
+mod templates;
 
 pub use closing::{CloseFault, NotClosed};
 pub use opening::{NotOpened, OpenFault};
 pub use server::{ConnEnd, Server};
+pub use templates::templates_are_tomlins;

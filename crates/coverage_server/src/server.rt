@@ -9,13 +9,15 @@ ghost use Rattle.coverage_server.specs.Machine.{Inserts, Updates, Deletes, Lists
 ghost use Rattle.coverage_server.specs.Answered.{Answered, IsAnswer, Steps};
 ghost use Rattle.coverage_server.specs.Room.{LacksRoom, LacksRoomToInsert, LacksRoomToUpdate};
 ghost use Rattle.coverage_server.specs.Serves.{ServesConnection, TellsEnd, ends_of};
-ghost use Rattle.coverage_server.specs.Views.{IsSound, IsUnchanged};
+ghost use Rattle.catalogue.specs.Signatures.{IsCatalogue};
+ghost use Rattle.coverage_server.specs.Views.{IsSound, IsUnchanged, signatures_of};
 
 use crate::arguments::{Refusal, copied_fields, domain_of};
 use crate::cells::AskedCells;
 use crate::coverages::Coverages;
 use crate::describing::description;
 use crate::query::process;
+use crate::templates::{expand_template, process_template};
 use arr_core::{Name, Signature};
 use disk_face::Disk;
 use http_front::{Conn, Next, Reply, WriteFault, refusals};
@@ -172,20 +174,26 @@ impl<D: Disk> Server<D> {
             Request::ListCoverages => list(alloc, &self.cells.coverages),
             Request::DescribeCoverage(name) => describe(alloc, &self.cells.coverages, name),
             Request::ProcessCoverages(query) => process(&mut self.cells, query.as_str()),
+            Request::ExpandTemplate(template) => {
+                expand_template(alloc, &self.cells.coverages, template)
+            }
+            Request::ProcessTemplate(template) => process_template(&mut self.cells, template),
         }
     }
 
     /// Answers a request: one step of the machine, on an honest disk whose tiles are intact, which stay so. In place
     /// of any reply want of memory (90), a disk fault (91) or want of room (92) may be told. A refusal leaves the
-    /// signatures and the indexes as they were on any disk.
+    /// signatures and the indexes as they were on any disk. The coverages are those of a catalogue.
     pub fn answer(&mut self, request: &Request) -> Reply
         ensures step { IsSound self.old → Steps (asks request.now) self.old result self.new }
+        ensures catalogue { IsCatalogue (signatures_of self.old.store) }
         ensures refused { (IsAnswer result → ⊥) → IsUnchanged self.old self.new }
         ensures sound { IsSound self.old → IsSound self.new }
         ensures header { KeepsHeader self.old.content self.new.content }
         ensures honest { self.new.honest ≡ self.old.honest }
         ensures no_fewer { self.old.failures ≤ self.new.failures }
     {
+        let _count = self.cells.coverages.len();
         match self.answered(request) {
             Ok(reply) => reply,
             Err(Refusal::Numbered(code)) => Reply::Refused(code),

@@ -1,0 +1,113 @@
+//! Templates of map algebra over the coverages: the text of a template's query, and the answer to it.
+ghost use Rattle.std.specs.Prelude.{◌≡◌, ◌≤◌, IfOk};
+ghost use Rattle.kvp_front.specs.Templates.{template_view};
+ghost use Rattle.coverage_server.specs.Answered.{Answered, IsAnswer};
+ghost use Rattle.coverage_server.specs.Machine.{AnswersTemplate, Expands};
+ghost use Rattle.coverage_server.specs.Templates.{GivesExpansion, expansion, layer_of, params_of};
+ghost use Rattle.coverage_server.specs.Tomlin.{TemplatesAreTomlins};
+ghost use Rattle.coverage_server.specs.Views.{still_of};
+
+use crate::arguments::Refusal;
+use crate::cells::AskedCells;
+use crate::coverages::Coverages;
+use crate::query::process;
+use disk_face::Disk;
+use http_front::Reply;
+use kvp_front::{RequestedLayer, TemplateRequest};
+use map_templates::{ExpandError, Layer, Params, expand};
+use std::alloc::{AllocError, Global};
+
+/// The layer that a request spells.
+fn layer_of(alloc: Global, requested: &RequestedLayer) -> Result<Layer, AllocError>
+    ensures { IfOk result (λ layer. layer ≡ layer_of requested.now) }
+{
+    let coverage = requested.coverage.copy(alloc)?;
+    match &requested.field {
+        Some(name) => {
+            let field = name.copy(alloc)?;
+            Ok(Layer {
+                coverage,
+                field: Some(field),
+            })
+        }
+        None => Ok(Layer {
+            coverage,
+            field: None,
+        }),
+    }
+}
+
+/// The parameters that a request spells.
+fn params_of(alloc: Global, request: &TemplateRequest) -> Result<Params, AllocError>
+    ensures { IfOk result (λ params. params ≡ params_of (template_view request.now)) }
+{
+    let layer = layer_of(alloc, &request.layer)?;
+    let radius = request.radius;
+    match &request.second {
+        Some(requested) => {
+            let second = layer_of(alloc, requested)?;
+            Ok(Params {
+                layer,
+                second: Some(second),
+                radius,
+            })
+        }
+        None => Ok(Params {
+            layer,
+            second: None,
+            radius,
+        }),
+    }
+}
+
+/// The text of a template's query over the coverages, or the refusal of the template.
+fn expansion<D: Disk>(
+    alloc: Global,
+    coverages: &Coverages<D>,
+    request: &TemplateRequest,
+) -> Result<String, Refusal>
+    ensures { GivesExpansion (expansion (template_view request.now) coverages.now.store) result }
+{
+    let params = params_of(alloc, request)?;
+    let signatures = coverages.signatures(alloc)?;
+    match expand(alloc, request.template.as_str(), &params, &signatures) {
+        Ok(text) => Ok(text),
+        Err(ExpandError::Refused(refusal)) => Err(Refusal::Numbered(refusal.number())),
+        Err(ExpandError::NoMemory) => Err(Refusal::NoMemory),
+    }
+}
+
+/// The text of a template's query, on a line.
+pub fn expand_template<D: Disk>(
+    alloc: Global,
+    coverages: &Coverages<D>,
+    request: &TemplateRequest,
+) -> Result<Reply, Refusal>
+    ensures answered { Answered (Expands (template_view request.now)) ⊥ coverages.now coverages.now result }
+    ensures answer { IfOk result IsAnswer }
+{
+    let mut text = expansion(alloc, coverages, request)?;
+    text.push_str("\n")?;
+    Ok(Reply::Text(text))
+}
+
+/// The answer to a template's query, as comma-separated values. By `templates_are_tomlins` it is the array of Tomlin's
+/// operation, or Overflow where a value of that leaves 64 bits, wherever the types of the query are accepted.
+pub fn process_template<D: Disk>(
+    cells: &mut AskedCells<D>,
+    request: &TemplateRequest,
+) -> Result<Reply, Refusal>
+    ensures answered { Answered (AnswersTemplate (template_view request.now)) ⊥ cells.old.coverages cells.new.coverages result }
+    ensures answer { IfOk result IsAnswer }
+    ensures still { still_of cells.new.coverages ≡ still_of cells.old.coverages }
+    ensures no_fewer { cells.old.coverages.failures ≤ cells.new.coverages.failures }
+{
+    let text = expansion(cells.alloc, &cells.coverages, request)?;
+    process(cells, text.as_str())
+}
+
+/// Over the coverages of a catalogue, whose numbers have 64 bits, the answer to a template that asks for an operation is the
+/// array of that operation, defined by sets of locations, or Overflow; unless the query of its text is refused.
+pub fn templates_are_tomlins()
+    ensures { TemplatesAreTomlins }
+{}
