@@ -1,6 +1,6 @@
 -- The metadata that a closing writes is that of the store, and the disk then holds it.
 use Rattle.std.proofs.Common.{◌≡◌, ◌≢◌, ℕ, ◌+◌, ◌/◌, ◌<◌, ◌≤◌, Bool, true, false, List, [], ◌∷◌, ◌++◌, length, take, get_or, Option, None, Some, Result, Ok, Err, OnOk, refl, sym, ap, ◌∙◌, subst, arith, Contains, inr, append_assoc, append-nil}
-use Rattle.std.specs.Prelude.{IsSomeAnd, IsTrue, slice_get}
+use Rattle.std.specs.Prelude.{IsErrOf, IsSomeAnd, IsTrue, slice_get}
 use Rattle.std.specs.List.{flat_map}
 use Rattle.std.specs.Str.{bytes_eq}
 use Rattle.std.proofs.lemmas.Grind.{flat_map-append}
@@ -22,7 +22,13 @@ use Rattle.tile_index.specs.Bytes.{index_bytes}
 use Rattle.raster_store.specs.Views.{Index, times_all, metadata_size, fields_size, AreIntact}
 use Rattle.raster_store.specs.Calls.{index_of, AreWhole, AreListed}
 use Rattle.coverage_server.specs.Views.{signatures_of, IsClosable}
-use Rattle.coverage_server.specs.Closing.{indexes_named, field_indexes, bytes_named, bytes_written, IsWritten}
+use Rattle.disk_face.specs.Disk.{Rose}
+use Rattle.tile_store.specs.declared.fault.Fault.{Fault}
+use Rattle.tile_store.specs.declared.fault.Fault.TheVariants as device
+use Rattle.tile_store.specs.Faults.{FaultCounts}
+use Rattle.coverage_server.specs.declared.closing.CloseFault.{CloseFault}
+use Rattle.coverage_server.specs.declared.closing.CloseFault.TheVariants as closing
+use Rattle.coverage_server.specs.Closing.{indexes_named, field_indexes, bytes_named, bytes_written, IsWritten, close_fault}
 use Rattle.coverage_server.specs.Disk.{AreTiles, HoldsStore}
 
 -- the index of a field is one of those of its coverage
@@ -183,3 +189,18 @@ nothing_named bytes name store indexes none =
 pub on_ok : {X E : Type 0} (r : Result X E) (P Q : Type 0) → (P → Q) → OnOk r P → OnOk r Q
 on_ok (Ok x) P Q f p = f p
 on_ok (Err e) P Q f p = tt
+
+-- where memory was wanting for the metadata no failure was counted
+pub not_counted : (T U : Type 0) (fault : Fault) (told : CloseFault) (old new : ℕ) → told ≡ close_fault fault → FaultCounts {T = T} (Err fault) old new
+    → IsErrOf {T = U} (Err told) closing.NoMemory → new ≡ old
+not_counted T U device.NoMemory told old new is counts wants = counts.others (λ (e : IsErrOf {T = T} (Err device.NoMemory) device.DiskFault). absurd cc)
+not_counted T U device.DiskFault told old new is counts wants = absurd cc
+not_counted T U device.NoRoom told old new is counts wants = counts.others (λ (e : IsErrOf {T = T} (Err device.NoRoom) device.DiskFault). absurd cc)
+not_counted T U device.Damaged told old new is counts wants = counts.others (λ (e : IsErrOf {T = T} (Err device.Damaged) device.DiskFault). absurd cc)
+
+pub counted : (T U : Type 0) (fault : Fault) (told : CloseFault) (old new : ℕ) → told ≡ close_fault fault → FaultCounts {T = T} (Err fault) old new
+    → IsErrOf {T = U} (Err told) closing.DiskFault → Rose old new
+counted T U device.NoMemory told old new is counts wants = absurd cc
+counted T U device.DiskFault told old new is counts wants = counts.disk refl
+counted T U device.NoRoom told old new is counts wants = absurd cc
+counted T U device.Damaged told old new is counts wants = absurd cc

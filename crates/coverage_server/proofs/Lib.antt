@@ -12,3 +12,4 @@ pub mod TomlinLemmas
 pub mod ClosingLemmas
 pub mod LayoutLemmas
 pub mod OpeningLemmas
+pub mod SessionLemmas

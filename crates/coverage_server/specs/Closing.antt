@@ -9,6 +9,10 @@ use Rattle.block_file.specs.Format.{IsClosed, link, first_of, chain_blocks}
 use Rattle.catalogue.specs.Bytes.{catalogue_bytes}
 use Rattle.metadata.specs.Metadata.{part_bytes, indexes_bytes}
 use Rattle.raster_store.specs.Views.{Index, times_all}
+use Rattle.tile_store.specs.declared.fault.Fault.{Fault}
+use Rattle.tile_store.specs.declared.fault.Fault.TheVariants as device
+use Rattle.coverage_server.specs.declared.closing.CloseFault.{CloseFault}
+use Rattle.coverage_server.specs.declared.closing.CloseFault.TheVariants as closing
 use Rattle.coverage_server.specs.Views.{signatures_of}
 
 -- the indexes of the fields of the coverage with a name
@@ -34,3 +38,10 @@ bytes_written store indexes =
 pub record IsWritten (content metadata : List ℕ) (indexes : List (List Index)) : Type 0 where
   pub closed : IsClosed content metadata
   pub apart : (i : ℕ) → i < chain_blocks (length metadata) → times_all (link (block_at content) (first_of content) i) indexes ≡ 0
+
+-- why a server is not closed
+abbrev pub close_fault : Fault → CloseFault
+close_fault device.NoMemory = closing.NoMemory
+close_fault device.DiskFault = closing.DiskFault
+close_fault device.NoRoom = closing.NoMemory
+close_fault device.Damaged = closing.NoMemory

@@ -8,6 +8,7 @@ pub mod Room
 pub mod Writing
 pub mod Answered
 pub mod Serves
+pub mod Sessions
 pub mod Stages
 pub mod Tiles
 pub mod Closing

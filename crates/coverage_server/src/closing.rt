@@ -1,6 +1,7 @@
 //! A server is closed: the metadata is written, then the header, and the disk comes out.
 ghost use Rattle.std.specs.Prelude.{◌≡◌, ◌++◌, ◌<◌, ◌≤◌, length, IsSomeAnd, IsErrOf, IsTrue, IfOk, IfErr, OnOk, OnErr};
 ghost use Rattle.arr_core.specs.Stores.{found};
+ghost use Rattle.block_file.specs.Format.{KeepsHeader};
 ghost use Rattle.catalogue.specs.Bytes.{catalogue_bytes};
 ghost use Rattle.catalogue.specs.Signatures.{IsCatalogue};
 ghost use Rattle.disk_face.specs.Disk.{Rose};
@@ -10,9 +11,9 @@ ghost use Rattle.raster_store.specs.Calls.{AreWhole};
 ghost use Rattle.tile_index.specs.Bytes.{index_bytes};
 ghost use Rattle.coverage_server.specs.Closing.{bytes_named, bytes_written, IsWritten};
 ghost use Rattle.coverage_server.specs.Disk.{HoldsStore};
+ghost use Rattle.coverage_server.specs.Sessions.{IsNotClosed};
 ghost use Rattle.coverage_server.specs.Views.{IsSound, IsUnchanged, signatures_of};
 
-use crate::arguments::Refusal;
 use crate::cells::AskedCells;
 use crate::coverages::Coverages;
 use crate::server::Server;
@@ -101,14 +102,11 @@ fn write_closed<D: Disk>(alloc: Global, coverages: &mut Coverages<D>) -> Result<
     ensures sound { IsSound coverages.old → IsSound coverages.new }
     ensures honest { coverages.new.honest ≡ coverages.old.honest }
     ensures disk_fault { IsErrOf result CloseFault.DiskFault → Rose coverages.old.failures coverages.new.failures }
+    ensures no_memory { IsErrOf result CloseFault.NoMemory → KeepsHeader coverages.old.content coverages.new.content × (coverages.new.failures ≡ coverages.old.failures) }
     ensures no_fewer { coverages.old.failures ≤ coverages.new.failures }
 {
     let metadata = metadata_of(alloc, coverages)?;
-    match coverages.write_metadata(&metadata) {
-        Ok(()) => Ok(()),
-        Err(Refusal::DiskFault) => Err(CloseFault::DiskFault),
-        Err(_) => Err(CloseFault::NoMemory),
-    }
+    coverages.write_metadata(&metadata)
 }
 
 impl<D: Disk> Server<D> {
@@ -117,11 +115,8 @@ impl<D: Disk> Server<D> {
     pub fn close(self) -> Result<D, NotClosed<D>>
         ensures held { IfOk result (λ disk. IsSound self → HoldsStore (D.content disk) self.store) }
         ensures honest { IfOk result (λ disk. D.honest disk ≡ self.honest) }
-        ensures unchanged { IfErr result (λ refused. IsUnchanged self refused.server) }
-        ensures sound { IfErr result (λ refused. IsSound self → IsSound refused.server) }
-        ensures disk_fault { IfErr result (λ refused. refused.fault ≡ CloseFault.DiskFault → Rose self.failures refused.server.failures) }
         ensures closed_no_fewer { IfOk result (λ disk. self.failures ≤ D.failures disk) }
-        ensures no_fewer { IfErr result (λ refused. self.failures ≤ refused.server.failures) }
+        ensures refused { IfErr result (λ refused. IsNotClosed refused.fault self refused.server) }
     {
         let Server { mut cells } = self;
         let alloc = cells.alloc;

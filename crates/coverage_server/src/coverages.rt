@@ -1,5 +1,5 @@
 //! The coverages of a disk: their catalogue, and their cells in tiles.
-ghost use Rattle.std.specs.Prelude.{◌≡◌, ◌/◌, ◌<◌, ◌≤◌, ◌⊎◌, map, length, IsSomeAnd, IfOk, IfErr, OnOk, OnErr, IsErrOf, IsTrue};
+ghost use Rattle.std.specs.Prelude.{◌≡◌, ◌/◌, ◌<◌, ◌≤◌, map, length, IsSomeAnd, IfOk, IfErr, OnOk, OnErr, IsErrOf, IsTrue};
 ghost use Rattle.arr_core.specs.Domains.{points};
 ghost use Rattle.arr_core.specs.Stores.{found, inserted, deleted, updated, value_at};
 ghost use Rattle.arr_core.specs.Tiles.{tile_boxes};
@@ -13,7 +13,7 @@ ghost use Rattle.tile_store.specs.Stored.{tile_box};
 ghost use Rattle.raster_store.specs.Calls.{HasField, index_of};
 ghost use Rattle.disk_face.specs.Disk.{Counts, Rose};
 ghost use Rattle.kvp_front.specs.Contents.{content_view};
-ghost use Rattle.coverage_server.specs.Closing.{bytes_written, IsWritten};
+ghost use Rattle.coverage_server.specs.Closing.{bytes_written, IsWritten, close_fault};
 ghost use Rattle.kvp_front.specs.Contents as contents;
 ghost use Rattle.coverage_server.specs.Disk.{HoldsStore};
 ghost use Rattle.coverage_server.specs.Room.{LacksRoomToInsert, LacksRoomToWrite, numbers_of};
@@ -21,6 +21,7 @@ ghost use Rattle.coverage_server.specs.Views.{IsSound, IsUnchanged, signatures_o
 ghost use Rattle.coverage_server.specs.Writing.{device_refusal, write_refusal, insert_refusal, FindsCoverage, InsertRefused, MayWrite, WriteRefused};
 
 use crate::arguments::Refusal;
+use crate::closing::CloseFault;
 use arr_core::{Cell, Domain, Name, Signature};
 use block_file::{BlockFile, State};
 use catalogue::{Catalogue, InsertError};
@@ -92,6 +93,18 @@ fn device_refusal(fault: Fault) -> Refusal
         Fault::DiskFault => Refusal::DiskFault,
         Fault::NoRoom => Refusal::NoRoom,
         Fault::Damaged => Refusal::Damaged,
+    }
+}
+
+/// Why a server is not closed. Room is never wanting then, and no tile is read.
+fn close_fault(fault: Fault) -> CloseFault
+    ensures { result ≡ close_fault fault }
+{
+    match fault {
+        Fault::NoMemory => CloseFault::NoMemory,
+        Fault::DiskFault => CloseFault::DiskFault,
+        Fault::NoRoom => CloseFault::NoMemory,
+        Fault::Damaged => CloseFault::NoMemory,
     }
 }
 
@@ -296,37 +309,37 @@ impl<D: Disk> Coverages<D> {
 
     /// Writes the metadata into blocks that are free, and then the header of a closed file. Refused for memory, or
     /// where the disk has counted a failure.
-    pub fn write_metadata(&mut self, metadata: &[u8]) -> Result<(), Refusal>
+    pub fn write_metadata(&mut self, metadata: &[u8]) -> Result<(), CloseFault>
         requires { metadata.now ≡ bytes_written self.old.store self.old.indexes }
         ensures written { OnOk result (IsSound self.old → IsWritten self.new.content (metadata_bytes (signatures_of self.old.store) self.old.indexes) self.new.indexes) }
         ensures unchanged { IsUnchanged self.old self.new }
         ensures sound { IsSound self.old → IsSound self.new }
         ensures honest { self.new.honest ≡ self.old.honest }
-        ensures disk_fault { IsErrOf result Refusal.DiskFault → Rose self.old.failures self.new.failures }
+        ensures disk_fault { IsErrOf result CloseFault.DiskFault → Rose self.old.failures self.new.failures }
         ensures no_fewer { self.old.failures ≤ self.new.failures }
-        ensures fault { IfErr result (λ e. (e ≡ Refusal.NoMemory) ⊎ (e ≡ Refusal.DiskFault)) }
+        ensures no_memory { IsErrOf result CloseFault.NoMemory → KeepsHeader self.old.content self.new.content × (self.new.failures ≡ self.old.failures) }
     {
         let _catalogue = self.catalogue.len();
         let _whole = self.cells.len();
         match self.cells.write_meta(metadata) {
-            Err(fault) => Err(device_refusal(fault)),
+            Err(fault) => Err(close_fault(fault)),
             Ok(first) => self.write_header(first, metadata.len() as u64),
         }
     }
 
     /// Writes the header of a closed file.
-    fn write_header(&mut self, first: u32, length: u64) -> Result<(), Refusal>
+    fn write_header(&mut self, first: u32, length: u64) -> Result<(), CloseFault>
         ensures closes { OnOk result (IsTrue self.old.honest → Closes first length self.old.content self.new.content) }
         ensures unchanged { IsUnchanged self.old self.new }
         ensures sound { IsSound self.old → IsSound self.new }
         ensures honest { self.new.honest ≡ self.old.honest }
         ensures disk_fault { OnErr result (Rose self.old.failures self.new.failures) }
         ensures no_fewer { self.old.failures ≤ self.new.failures }
-        ensures fault { IfErr result (λ e. e ≡ Refusal.DiskFault) }
+        ensures fault { IsErrOf result CloseFault.NoMemory → ⊥ }
     {
         match self.cells.write_header(State::Closed, first, length) {
             Ok(()) => Ok(()),
-            Err(_) => Err(Refusal::DiskFault),
+            Err(_) => Err(CloseFault::DiskFault),
         }
     }
 

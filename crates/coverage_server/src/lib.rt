@@ -10,9 +10,11 @@ mod describing;
 mod opening;
 mod query;
 mod server;
+mod session;
 mod templates;
 
 pub use closing::{CloseFault, NotClosed};
 pub use opening::{NotOpened, OpenFault};
 pub use server::{ConnEnd, Server};
+pub use session::{SessionFault, serve_session, sessions_compose};
 pub use templates::templates_are_tomlins;

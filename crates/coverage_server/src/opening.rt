@@ -1,19 +1,19 @@
 //! A disk is opened: its metadata is read, its blocks are claimed, its coverages attached, and then its header tells
 //! that it is open.
-ghost use Rattle.std.specs.Prelude.{◌≡◌, ◌≢◌, ◌+◌, ◌<◌, ◌≤◌, ◌/◌, ◌⊎◌, ◌++◌, ◌∷◌, [], ℕ, List, Vec, map, length, IsTrue, IsErrOf, IfOk, IfErr, OnOk};
+ghost use Rattle.std.specs.Prelude.{◌≡◌, ◌+◌, ◌<◌, ◌≤◌, ◌/◌, ◌⊎◌, ◌++◌, ◌∷◌, [], ℕ, List, Vec, map, length, IsTrue, IsErrOf, IfOk, IfErr, OnOk};
 ghost use Rattle.arr_core.specs.declared.signature.Signature.{Signature};
 ghost use Rattle.arr_core.specs.Stores.{Store};
-ghost use Rattle.block_file.specs.Format.{IsHeader, HeaderTorn};
+ghost use Rattle.block_file.specs.Format.{IsHeader};
 ghost use Rattle.block_file.specs.View.{IsFresh, CanClaim, free_in, kept_in};
 ghost use Rattle.catalogue.specs.Bytes.{catalogue_bytes};
 ghost use Rattle.catalogue.specs.Signatures.{IsCatalogue};
-ghost use Rattle.disk_face.specs.Disk.{Rose};
 ghost use Rattle.metadata.specs.Metadata.{IsMetadata, AreCounted};
 ghost use Rattle.raster_store.specs.Calls.{MayAttach};
 ghost use Rattle.raster_store.specs.Views.{Index, coverages_in, times_all, times_fields, reserve};
 ghost use Rattle.tile_store.specs.Listing.{times};
-ghost use Rattle.coverage_server.specs.Disk.{AreTiles, ListsStore, HoldsStore, IsWant, IsNoStore};
+ghost use Rattle.coverage_server.specs.Disk.{AreTiles, ListsStore, HoldsStore};
 ghost use Rattle.coverage_server.specs.Opening.{items_of, IsOpened, IsListed, IsNotLaidOut, ClaimsListed, Lists, Departs, attach_fault, chain_fault};
+ghost use Rattle.coverage_server.specs.Sessions.{IsNotOpened, disk_view};
 ghost use Rattle.coverage_server.specs.Views.{IsSound};
 
 use crate::cells::AskedCells;
@@ -231,6 +231,7 @@ fn coverages_of<D: Disk>(alloc: Global, opened: Opened<D>) -> Result<Coverages<D
     ensures refused { IfErr result (λ refused. Departs (IsTrue opened.file.honest → (0 < length opened.file.content) × IsNotLaidOut opened.file.content) refused.fault) }
     ensures same { IfErr result (λ refused. D.content refused.disk ≡ opened.file.content) }
     ensures honest_disk { IfErr result (λ refused. D.honest refused.disk ≡ opened.file.honest) }
+    ensures failures_disk { IfErr result (λ refused. D.failures refused.disk ≡ opened.file.failures) }
 {
     let Opened { mut file, metadata } = opened;
     let Metadata { catalogue, indexes } = match claim_layout(alloc, &mut file, &metadata) {
@@ -267,12 +268,7 @@ impl<D: Disk> Server<D> {
         ensures header { IfOk result (λ server. IsTrue (D.honest disk) → IsHeader server.content State.Open (length server.content / 4096) 0 0) }
         ensures honest { IfOk result (λ server. server.honest ≡ D.honest disk) }
         ensures failures { IfOk result (λ server. server.failures ≡ D.failures disk) }
-        ensures want { IfErr result (λ refused. IsTrue (D.honest disk) → (store : Store) → HoldsStore (D.content disk) store → IsWant refused.fault) }
-        ensures refused { IfErr result (λ refused. IsTrue (D.honest disk) → IsNoStore (D.content disk) refused.fault) }
-        ensures disk_fault { IfErr result (λ refused. refused.fault ≡ OpenFault.DiskFault → Rose (D.failures disk) (D.failures refused.disk)) }
-        ensures same { IfErr result (λ refused. refused.fault ≢ OpenFault.DiskFault → D.content refused.disk ≡ D.content disk) }
-        ensures torn { IfErr result (λ refused. IsTrue (D.honest disk) → HeaderTorn (D.content disk) (D.content refused.disk)) }
-        ensures honest_disk { IfErr result (λ refused. D.honest refused.disk ≡ D.honest disk) }
+        ensures refused { IfErr result (λ refused. IsNotOpened refused.fault (disk_view D.content D.honest D.failures disk) (disk_view D.content D.honest D.failures refused.disk)) }
     {
         let opened = match BlockFile::open(alloc, disk) {
             Ok(opened) => opened,

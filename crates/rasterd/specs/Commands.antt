@@ -1,8 +1,19 @@
 -- What the words after the program's name ask.
-use Rattle.std.specs.Prelude.{◌≡◌, ℕ, List}
+use Rattle.std.specs.Prelude.{◌≡◌, ℕ, ◌≤◌, List, [], ◌∷◌, codes}
+use Rattle.std.specs.Str.Parse.{IsNumeral, digits_value}
 use Rattle.rasterd.specs.declared.commands.Command.{Command}
-use Rattle.rasterd.specs.declared.commands.Command.TheVariants.{Run}
+use Rattle.rasterd.specs.declared.commands.Command.TheVariants.{Run, Listen}
 
--- to serve standard input over this file
-abbrev pub Runs : Command → List ℕ → Type 0
-Runs (Run text) file = text.now ≡ file
+-- decimal digits alone, one or more, that write this number, which is from 1 to a limit
+pub record IsNumber (most : ℕ) (text : List ℕ) (number : ℕ) : Type 0 where
+  pub digits : IsNumeral 10 text
+  pub value : number ≡ digits_value 10 text
+  pub some : 1 ≤ number
+  pub limit : number ≤ most
+
+-- `FILE run`, or `FILE listen PORT COUNT`
+abbrev pub Asks : List (List ℕ) → Command → Type 0
+Asks words (Run file) = words ≡ file.now ∷ codes "run" ∷ []
+Asks words (Listen file port count) =
+    (port_text : List ℕ) × (count_text : List ℕ) × (words ≡ file.now ∷ codes "listen" ∷ port_text ∷ count_text ∷ [])
+    × IsNumber 65535 port_text port × IsNumber 1000000 count_text count

@@ -1,14 +1,18 @@
--- What a session does to a disk.
-use Rattle.std.specs.Prelude.{List, ℕ}
-use Rattle.arr_core.specs.Stores.{Store}
-use Rattle.coverage_server.specs.Disk.{HoldsStore}
-use Rattle.coverage_server.specs.Serves.{Ends, ServesConnection, TellsEnd}
-use Rattle.coverage_server.specs.declared.server.ConnEnd.{ConnEnd}
+-- How the program's session ends.
+use Rattle.std.specs.Prelude.{◌≡◌, ℕ, ◌≤◌, List}
+use Rattle.coverage_server.specs.Disk.{open_number, close_number}
+use Rattle.coverage_server.specs.declared.opening.OpenFault.{OpenFault}
+use Rattle.coverage_server.specs.declared.closing.CloseFault.{CloseFault}
+use Rattle.coverage_server.specs.Serves.{Ends}
+use Rattle.coverage_server.specs.Sessions.{DiskView, IsNotOpened, ServesSession, ServesUnclosed}
+use Rattle.coverage_server.specs.Views.{ServerView}
 
--- From a disk that holds a store to one that holds the next: what went out are the replies of one run of the machine over the
--- messages that came in, from the one store to the other, up to the end or to a fault of the reader or the writer, where one
--- came. Disk faults are among them only where the disk may have failed.
-abbrev pub Served : Type 0 → List ℕ → Ends → List ℕ → Type 0
-Served failed content ends content' =
-    (store : Store) → HoldsStore content store
-    → (next : Store) × (end : ConnEnd) × HoldsStore content' next × TellsEnd ends end × ServesConnection failed ends store next end
+-- what a line on standard error says, by the two words that it begins with and the number of a fault
+module _ (says : List ℕ → ℕ → Type 0) where
+  -- not opened: the disk as it is left, the fault, and its line
+  abbrev pub EndsUnopened : List ℕ → DiskView → DiskView → Type 0
+  EndsUnopened what old left = (fault : OpenFault) × IsNotOpened fault old left × says what (open_number fault)
+
+  -- not closed: there is a server with the connections' store, the fault, and its line
+  abbrev pub EndsUnclosed : List ℕ → List Ends → DiskView → Type 0
+  EndsUnclosed what ends old = (fault : CloseFault) × (server : ServerView) × ServesUnclosed fault ends old server × says what (close_number fault)

@@ -1,21 +1,24 @@
-//! A coverage server over standard input and output.
+//! A coverage server over standard input and output, or over sockets of this machine.
 #![tactic(auto)]
 
-ghost use Rattle.std.specs.Prelude.{◌≡◌, ℕ, List, [], ◌∷◌, map, codes, string_bytes, IfSome, IsSomeAnd};
-ghost use Rattle.rasterd.specs.Commands.{Runs};
-
 mod commands;
+mod lines;
+mod listening;
 mod session;
 #[cfg(test)]
 mod tests;
+mod words;
 
 use commands::Command;
 use disk_face::{FileDisk, MemDisk};
 use http_front::refusals::{DISK_FAULT, NO_MEMORY};
-use session::{NOT_OPENED, put, session_status, tell};
+use lines::{say, tell};
+use listening::listen;
+use session::{NOT_OPENED, session_status};
 use std::env;
 use std::io::{Read, Write};
 use std::process::ExitCode;
+use words::command;
 
 /// What the program says where its words ask nothing.
 const USAGE: &str = "usage: rasterd FILE run or rasterd FILE listen PORT COUNT\n";
@@ -23,33 +26,21 @@ const USAGE: &str = "usage: rasterd FILE run or rasterd FILE listen PORT COUNT\n
 /// The status where the words ask nothing.
 const NO_COMMAND: u8 = 2;
 
-/// The command that the words after the program's name are, which is `FILE run`.
-pub fn command(words: &[String]) -> Option<Command<'_>>
-    ensures runs { (file : List ℕ) → map string_bytes words.now ≡ file ∷ codes "run" ∷ [] → IsSomeAnd result (λ c. Runs c file) }
-    ensures only { IfSome result (λ c. (file : List ℕ) × (map string_bytes words.now ≡ file ∷ codes "run" ∷ []) × Runs c file) }
-{
-    match words {
-        [file, verb] => {
-            if verb.as_str() == "run" {
-                Some(Command::Run(file.as_str()))
-            } else {
-                None
-            }
-        }
-        _ => None,
-    }
-}
-
-/// Serves one connection over the store in a file, which is made where there is none. Gives the status.
+/// Serves one connection, its reader and its writer, over the store in a file, which is made where there is none. Gives the
+/// status.
 fn serve_file<R: Read, W: Write, E: Write>(
     rt: &HostRuntime,
     file: &str,
-    input: &mut R,
-    output: &mut W,
+    connection: &mut [(R, W); 1],
     errors: &mut E,
 ) -> u8 {
+    let alloc = rt.alloc();
+    if file == "-" {
+        let disk = MemDisk::new(Vec::new(alloc));
+        return session_status(alloc, disk, connection, errors).0;
+    }
     match FileDisk::open(rt, file) {
-        Ok(disk) => session_status(rt.alloc(), disk, input, output, errors).0,
+        Ok(disk) => session_status(alloc, disk, connection, errors).0,
         Err(_) => {
             tell(errors, "not opened", DISK_FAULT);
             NOT_OPENED
@@ -57,27 +48,19 @@ fn serve_file<R: Read, W: Write, E: Write>(
     }
 }
 
-/// Does what the words after the program's name ask, from an input to an output, and says on a line of `errors` what
-/// was not done. Gives the status.
+/// Does what the words after the program's name ask, and says on a line of `errors` what was not done. `FILE run` serves the
+/// connection. Gives the status.
 fn run<R: Read, W: Write, E: Write>(
     rt: &HostRuntime,
     words: &[String],
-    input: &mut R,
-    output: &mut W,
+    connection: &mut [(R, W); 1],
     errors: &mut E,
 ) -> u8 {
-    let alloc = rt.alloc();
     match command(words) {
-        Some(Command::Run(file)) => {
-            if file == "-" {
-                let disk = MemDisk::new(Vec::new(alloc));
-                return session_status(alloc, disk, input, output, errors).0;
-            }
-            serve_file(rt, file, input, output, errors)
-        }
+        Some(Command::Run(file)) => serve_file(rt, file, connection, errors),
+        Some(Command::Listen(file, port, count)) => listen(rt, file, port, count, errors),
         None => {
-            put(errors, USAGE);
-            let _flushed = errors.flush();
+            say(errors, USAGE);
             NO_COMMAND
         }
     }
@@ -103,7 +86,6 @@ fn main(rt: HostRuntime) -> ExitCode {
         tell(&mut errors, "not opened", NO_MEMORY);
         return ExitCode::from(NOT_OPENED);
     };
-    let mut input = rt.stdin().lock();
-    let mut output = rt.stdout();
-    ExitCode::from(run(&rt, &words, &mut input, &mut output, &mut errors))
+    let mut connection = [(rt.stdin().lock(), rt.stdout())];
+    ExitCode::from(run(&rt, &words, &mut connection, &mut errors))
 }

@@ -1,8 +1,9 @@
 //! Sessions on disks in memory, one after the other.
 
 use crate::commands::Command;
+use crate::run;
 use crate::session::session_status;
-use crate::{command, run};
+use crate::words::command;
 use disk_face::{FailDisk, MemDisk};
 use std::alloc::{AllocError, Global};
 use std::fs;
@@ -27,18 +28,17 @@ struct Ended {
 }
 
 /// A session on a disk of these bytes, with a stream of requests.
-fn session(alloc: Global, bytes: Vec<u8>, requests: &[u8]) -> Ended {
-    let mut reader = requests;
-    let mut replies = Vec::new(alloc);
+fn session(alloc: Global, bytes: Vec<u8>, requests: &[u8]) -> Result<Ended, AllocError> {
+    let mut connection = [(requests, Vec::new(alloc))];
     let mut errors = Vec::new(alloc);
     let disk = MemDisk::new(bytes);
-    let (status, disk) = session_status(alloc, disk, &mut reader, &mut replies, &mut errors);
-    Ended {
+    let (status, disk) = session_status(alloc, disk, &mut connection, &mut errors);
+    Ok(Ended {
         status,
         disk,
-        replies,
+        replies: Vec::from_slice(alloc, connection[0].1.as_slice())?,
         errors,
-    }
+    })
 }
 
 /// The bytes of the disk after a session.
@@ -66,12 +66,12 @@ const SEVEN: &[u8] = b"HTTP/1.1 200 OK\r\nContent-Type: text/csv\r\nContent-Leng
 #[test]
 fn a_store_is_found_again(rt: HostRuntime) -> Result<(), Fail> {
     let alloc = rt.alloc();
-    let first = session(alloc, Vec::new(alloc), WRITES);
+    let first = session(alloc, Vec::new(alloc), WRITES)?;
     assert_eq!(rt; first.status, 0);
-    let second = session(alloc, bytes_after(alloc, first), ASKS);
+    let second = session(alloc, bytes_after(alloc, first), ASKS)?;
     assert_eq!(rt; second.status, 0);
     assert_eq!(rt; second.replies.as_slice(), SEVEN);
-    let third = session(alloc, bytes_after(alloc, second), ASKS);
+    let third = session(alloc, bytes_after(alloc, second), ASKS)?;
     assert_eq!(rt; third.replies.as_slice(), SEVEN);
     Ok(())
 }
@@ -93,10 +93,10 @@ fn ran(
 ) -> Result<(u8, Vec<u8>, Vec<u8>), AllocError> {
     let alloc = rt.alloc();
     let list = words_of(alloc, words)?;
-    let mut reader = requests;
-    let mut replies = Vec::new(alloc);
+    let mut connection = [(requests, Vec::new(alloc))];
     let mut errors = Vec::new(alloc);
-    let status = run(rt, &list, &mut reader, &mut replies, &mut errors);
+    let status = run(rt, &list, &mut connection, &mut errors);
+    let replies = Vec::from_slice(alloc, connection[0].1.as_slice())?;
     Ok((status, replies, errors))
 }
 
@@ -134,20 +134,20 @@ fn runs_that_serve_nothing(rt: HostRuntime) -> Result<(), Fail> {
 #[test]
 fn statuses_and_lines(rt: HostRuntime) -> Result<(), Fail> {
     let alloc = rt.alloc();
-    let zeros = session(alloc, vec![in alloc; 0u8; 4096]?, b"");
+    let zeros = session(alloc, vec![in alloc; 0u8; 4096]?, b"")?;
     assert_eq!(rt; zeros.status, 3);
     assert_eq!(rt;
         zeros.errors.as_slice(),
         b"not opened: 94 NotAStore\n".as_slice()
     );
-    let empty = session(alloc, Vec::new(alloc), b"");
+    let empty = session(alloc, Vec::new(alloc), b"")?;
     assert_eq!(rt; empty.status, 0);
     assert!(rt; empty.errors.is_empty());
     let mut bytes = bytes_after(alloc, empty);
     assert_eq!(rt; bytes.len(), 8192);
     // The state of an open file.
     bytes[12] = 1;
-    let open = session(alloc, bytes, b"");
+    let open = session(alloc, bytes, b"")?;
     assert_eq!(rt; open.status, 3);
     assert_eq!(rt;
         open.errors.as_slice(),
@@ -161,11 +161,11 @@ fn a_disk_that_fails_at_the_close(rt: HostRuntime) -> Result<(), Fail> {
     let alloc = rt.alloc();
     let mut told = false;
     for call in 1..8 {
-        let mut reader: &[u8] = b"";
-        let mut replies = Vec::new(alloc);
+        let reader: &[u8] = b"";
+        let mut connection = [(reader, Vec::new(alloc))];
         let mut errors = Vec::new(alloc);
         let disk = FailDisk::new(MemDisk::new(Vec::new(alloc)), call);
-        let (status, _) = session_status(alloc, disk, &mut reader, &mut replies, &mut errors);
+        let (status, _) = session_status(alloc, disk, &mut connection, &mut errors);
         if status == 4 {
             told = true;
             assert_eq!(rt; errors.as_slice(), b"not closed: 91 DiskFault\n".as_slice());
@@ -180,20 +180,34 @@ fn a_disk_that_fails_at_the_close(rt: HostRuntime) -> Result<(), Fail> {
 #[test]
 fn commands(rt: HostRuntime) -> Result<(), Fail> {
     let alloc = rt.alloc();
-    for (words, file) in [
-        ("- run", "-"),
-        ("a.store run", "a.store"),
-        ("", ""),
-        ("-", ""),
-        ("- listen", ""),
-        ("- run more", ""),
+    for (words, file, port, count) in [
+        ("- run", "-", 0, 0),
+        ("a.store run", "a.store", 0, 0),
+        ("a.store listen 1 1", "a.store", 1, 1),
+        ("- listen 65535 1000000", "-", 65535, 1_000_000),
+        ("- listen 0080 007", "-", 80, 7),
+        ("", "", 0, 0),
+        ("-", "", 0, 0),
+        ("- listen", "", 0, 0),
+        ("- run more", "", 0, 0),
+        ("- run 1 1", "", 0, 0),
+        ("- listen 0 1", "", 0, 0),
+        ("- listen 1 0", "", 0, 0),
+        ("- listen 65536 1", "", 0, 0),
+        ("- listen 1 1000001", "", 0, 0),
+        ("- listen +1 1", "", 0, 0),
+        ("- listen 1 1x", "", 0, 0),
+        ("- listen  1", "", 0, 0),
+        ("- listen 1 99999999999", "", 0, 0),
+        ("- listen 1 1 1", "", 0, 0),
     ] {
         let list = words_of(alloc, words)?;
         let found = match command(&list) {
-            Some(Command::Run(name)) => name,
-            None => "",
+            Some(Command::Run(name)) => (name, 0, 0),
+            Some(Command::Listen(name, port, count)) => (name, port, count),
+            None => ("", 0, 0),
         };
-        assert_eq!(rt; found, file, "{words}");
+        assert!(rt; found == (file, port, count), "{words}");
     }
     Ok(())
 }

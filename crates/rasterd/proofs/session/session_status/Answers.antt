@@ -1,13 +1,27 @@
-use Rattle.coverage_server.specs.Serves.{Ends, ends_of}
-use Rattle.coverage_server.proofs.ServingLemmas.{connection-later, rose-by}
+-- Each status tells how the session ended.
+use Rattle.std.proofs.Common.{Err, refl, ap}
 use Rattle.rasterd.proofs.session.session_status.Goals as goal
 
-pub returns-in-Ok-close-clause-served : goal.returns-in-Ok-close-clause-served
-returns-in-Ok-close-clause-served g c =
-    λ closed honest store holds.
-    let sound = c.in-Ok.ensures.sound honest store holds in
-    let after = c.serve_connection-end.ensures.sound sound in
-    let ends : Ends = ends_of g.R.Source.remaining g.R.Source.failed g.W.Sink.contents g.W.Sink.failed c.args.reader.now c.serve_connection-end.new.reader c.args.writer.now c.serve_connection-end.new.writer in
-    let served = connection-later (rose-by _ _ _ c.in-Ok-close.ensures.closed_no_fewer) ends _ _ _ (c.serve_connection-end.ensures.served sound) in
-    rw (← c.in-Ok.ensures.store honest store holds, ← c.in-Ok.ensures.failures)
-    (c.serve_connection-end.new.self.store, c.serve_connection-end.result, c.in-Ok-close.ensures.held after, c.serve_connection-end.ensures.told, served)
+pub returns-in-Err-NotOpened-clause-not_opened : goal.returns-in-Err-NotOpened-clause-not_opened
+returns-in-Err-NotOpened-clause-not_opened g c =
+    λ is. (
+      c.in-Err-NotOpened.fault,
+      (c.in-Err-NotOpened.ensures.not_opened c.in-Err-NotOpened.disk c.in-Err-NotOpened.fault (ap Err c.in-Err-NotOpened.field-0-is)).0,
+      rw c.number.ensures at c.tell.ensures,
+    )
+
+pub returns-in-Err-NotOpened-clause-untouched : goal.returns-in-Err-NotOpened-clause-untouched
+returns-in-Err-NotOpened-clause-untouched g c =
+    λ is. (c.in-Err-NotOpened.ensures.not_opened c.in-Err-NotOpened.disk c.in-Err-NotOpened.fault (ap Err c.in-Err-NotOpened.field-0-is)).1
+
+pub returns-in-Err-NotClosed-clause-not_closed : goal.returns-in-Err-NotClosed-clause-not_closed
+returns-in-Err-NotClosed-clause-not_closed g c =
+    λ is. (
+      (
+        c.in-Err-NotClosed.fault,
+        _,
+        c.in-Err-NotClosed.ensures.not_closed _ _ (ap Err c.in-Err-NotClosed.field-0-is),
+        rw c.number-in-Err-NotClosed.ensures at c.tell-in-Err-NotClosed.ensures,
+      ),
+      refl,
+    )

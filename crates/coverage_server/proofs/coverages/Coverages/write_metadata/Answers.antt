@@ -4,7 +4,7 @@ use Rattle.block_file.specs.View.{free_in}
 use Rattle.metadata.specs.Metadata.{metadata_bytes}
 use Rattle.coverage_server.specs.Closing.{bytes_written}
 use Rattle.coverage_server.specs.Views.{ServerView, IsSound, signatures_of}
-use Rattle.coverage_server.proofs.ClosingLemmas.{written_fits, is_written, on_ok}
+use Rattle.coverage_server.proofs.ClosingLemmas.{written_fits, is_written, on_ok, not_counted, counted}
 use Rattle.coverage_server.proofs.coverages.Coverages.write_metadata.Goals as goal
 
 pub write_meta-requires-clause-room : goal.write_meta-requires-clause-room
@@ -27,3 +27,12 @@ returns-in-Ok-clause-written g c =
     (c.in-Ok.ensures.chain sound.honest) (closes (subst (λ (b : Bool). IsTrue b) (sym c.in-Ok.ensures.honest) sound.honest)) (c.in-Ok.ensures.unlisted sound.honest)
     c.write_header.ensures.unchanged.indexes)
     c.write_header.ensures.closes)
+
+pub returns-in-Err-clause-no_memory : goal.returns-in-Err-clause-no_memory
+returns-in-Err-clause-no_memory g c =
+    rw (← c.self.view_is)
+    (λ wants. (c.in-Err.ensures.header, not_counted _ _ c.in-Err.fault c.close_fault.result _ _ c.close_fault.ensures c.in-Err.ensures.counts wants))
+
+pub returns-in-Err-clause-disk_fault : goal.returns-in-Err-clause-disk_fault
+returns-in-Err-clause-disk_fault g c =
+    rw (← c.self.view_is) (λ told. counted _ _ c.in-Err.fault c.close_fault.result _ _ c.close_fault.ensures c.in-Err.ensures.counts told)

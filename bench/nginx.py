@@ -1,0 +1,186 @@
+#!/usr/bin/env python3
+"""nginx in front of the built program, by tools/nginx.conf: what it lets through, and requests a second.
+
+usage: bench/nginx.py [SECONDS]
+
+Starts, in a fresh folder and on free ports of this machine, a server that writes, four on copies of its closed file, each
+by tools/serve, and nginx with a certificate of its own making and a password. It compares replies over TLS, with and
+without the password, from 64 clients at once, and over a run's end; and then counts for so many seconds (5) how many
+requests of 16 clients are answered where one server reads and where four do. Ends with status 1 where a reply was
+wrong. It needs nginx (`apt-get install nginx`), openssl and curl; `rt run` in crates/rasterd builds the program.
+"""
+import base64
+import concurrent.futures
+import http.client
+import os
+import re
+import shutil
+import signal
+import socket
+import ssl
+import subprocess
+import sys
+import tempfile
+import time
+
+TOP = os.path.dirname(os.path.dirname(os.path.abspath(__file__)))
+PROGRAM = os.environ.get("SERVER", f"{TOP}/crates/rasterd/out/rasterd")
+NGINX = shutil.which("nginx") or "/usr/sbin/nginx"
+SIDE = 256
+SUM = "request=ProcessCoverages&query=for+c+in+(lai)+return+add(c)"
+LIST = "request=ListCoverages"
+PASSWORD = {"Authorization": "Basic " + base64.b64encode(b"editor:secret").decode()}
+
+
+def free_ports(count):
+    probes = [socket.socket() for _ in range(count)]
+    for probe in probes:
+        probe.bind(("127.0.0.1", 0))
+    ports = [probe.getsockname()[1] for probe in probes]
+    for probe in probes:
+        probe.close()
+    return ports
+
+
+def wait_for(port):
+    end = time.monotonic() + 20
+    while time.monotonic() < end:
+        try:
+            socket.create_connection(("127.0.0.1", port), 1).close()
+            return
+        except OSError:
+            time.sleep(0.05)
+    raise SystemExit(f"nothing listens on {port}")
+
+
+class Site:
+    """The servers and nginx, in a folder."""
+
+    def __init__(self, folder):
+        self.folder = folder
+        self.running = []
+        self.writer, self.front, *self.readers = free_ports(6)
+        self.make_certificate()
+
+    def make_certificate(self):
+        made = ["openssl", "req", "-x509", "-newkey", "rsa:2048", "-nodes", "-days", "1", "-subj", "/CN=localhost"]
+        made += ["-keyout", f"{self.folder}/key.pem", "-out", f"{self.folder}/certificate.pem"]
+        subprocess.run(made, check=True, capture_output=True)
+        word = subprocess.run(["openssl", "passwd", "-apr1", "secret"], check=True, capture_output=True, text=True).stdout
+        with open(f"{self.folder}/passwords", "w") as file:
+            file.write(f"editor:{word}")
+
+    def serve(self, name, port, count):
+        words = [f"{TOP}/tools/serve", f"{self.folder}/{name}", str(port), str(count)]
+        self.running.append(subprocess.Popen(words, env=dict(os.environ, SERVER=PROGRAM), start_new_session=True))
+        wait_for(port)
+
+    def start_nginx(self, readers):
+        with open(f"{TOP}/tools/nginx.conf") as file:
+            text = file.read()
+        entries = "".join(f"        server 127.0.0.1:{port} max_fails=0;\n" for port in readers)
+        text = re.sub(r"(        server 127\.0\.0\.1:800[1-4] max_fails=0;\n)+", entries * (2 if len(readers) == 1 else 1), text)
+        text = text.replace("127.0.0.1:8000", f"127.0.0.1:{self.writer}").replace("listen 443", f"listen 127.0.0.1:{self.front}")
+        text = text.replace("/etc/rasterd", self.folder).replace("/run/nginx.pid", f"{self.folder}/pid")
+        text = text.replace("/var/log/nginx", self.folder)
+        places = "".join(f"    {kind}_temp_path {self.folder}/{kind};\n" for kind in ["client_body", "proxy", "fastcgi", "uwsgi", "scgi"])
+        text = text.replace("    access_log off;\n", "    access_log off;\n" + places)
+        with open(f"{self.folder}/nginx.conf", "w") as file:
+            file.write("daemon off;\nuser root;\n" + text)
+        words = [NGINX, "-p", self.folder, "-c", f"{self.folder}/nginx.conf", "-e", f"{self.folder}/error.log"]
+        self.nginx = subprocess.Popen(words, start_new_session=True)
+        wait_for(self.front)
+
+    def stop_nginx(self):
+        self.nginx.terminate()
+        self.nginx.wait(20)
+
+    def stop_servers(self):
+        for script in self.running:
+            os.killpg(script.pid, signal.SIGTERM)
+        ends = [script.wait(60) for script in self.running]
+        self.running = []
+        if any(ends):
+            raise SystemExit(f"WRONG: tools/serve ended with {ends}")
+
+    def client(self):
+        context = ssl.create_default_context(cafile=f"{self.folder}/certificate.pem")
+        context.check_hostname = False
+        return http.client.HTTPSConnection("127.0.0.1", self.front, timeout=60, context=context)
+
+    def ask(self, path, pairs, headers={}, body=None):
+        """The status and the body of a reply."""
+        client = self.client()
+        client.request("POST" if body else "GET", f"{path}?{pairs}" if pairs else path, body, headers)
+        answer = client.getresponse()
+        found = answer.status, answer.read().decode()
+        client.close()
+        return found
+
+
+def same(found, wanted):
+    if found != wanted:
+        raise SystemExit(f"WRONG: {found!r} is not {wanted!r}")
+
+
+def fill(site):
+    """A coverage, written over TLS with the password and refused without."""
+    insert = f"request=InsertCoverage&coverage=lai&domain=x(0:{SIDE - 1}),y(0:{SIDE - 1})&fields=v:i16"
+    same(site.ask("/edit/ows", insert)[0], 401)
+    same(site.ask("/edit/ows", insert, PASSWORD), (200, "ok\n"))
+    update = f"request=UpdateCoverage&coverage=lai&field=v&box=x(0:{SIDE - 1}),y(0:{SIDE - 1})&fill=1"
+    same(site.ask("/edit/ows", "", PASSWORD, update), (200, "ok\n"))
+    # 300 requests at once over the ends of runs of 50 connections: each is answered.
+    with concurrent.futures.ThreadPoolExecutor(16) as pool:
+        for found in pool.map(lambda _: site.ask("/edit/ows", LIST, PASSWORD), range(300)):
+            same(found, (200, "lai\n"))
+
+
+def rate(site, seconds):
+    """How many requests a second 16 clients have answered."""
+    end = time.monotonic() + seconds
+
+    def one(_):
+        client, count = site.client(), 0
+        while time.monotonic() < end:
+            client.request("GET", f"/ows?{SUM}")
+            same(client.getresponse().read(), b"%d\n" % (SIDE * SIDE))
+            count += 1
+        return count
+
+    with concurrent.futures.ThreadPoolExecutor(16) as pool:
+        return sum(pool.map(one, range(16))) / seconds
+
+
+def main():
+    seconds = float(sys.argv[1]) if len(sys.argv) > 1 else 5.0
+    with tempfile.TemporaryDirectory() as folder:
+        site = Site(folder)
+        site.serve("store", site.writer, 50)
+        site.start_nginx(site.readers)
+        try:
+            fill(site)
+            site.stop_servers()
+            for number, port in enumerate(site.readers):
+                shutil.copy(f"{folder}/store", f"{folder}/copy{number}")
+                site.serve(f"copy{number}", port, 10000)
+            site.serve("store", site.writer, 50)
+            with concurrent.futures.ThreadPoolExecutor(64) as pool:
+                for found in pool.map(lambda _: site.ask("/ows", SUM), range(256)):
+                    same(found, (200, f"{SIDE * SIDE}\n"))
+            same(site.ask("/other", LIST)[0], 404)
+            four = rate(site, seconds)
+            site.stop_nginx()
+            site.start_nginx(site.readers[:1])
+            one = rate(site, seconds)
+        finally:
+            site.stop_nginx()
+            for script in site.running:
+                os.killpg(script.pid, signal.SIGTERM)
+        for script in site.running:
+            script.wait(60)
+    print(f"sum of {SIDE} x {SIDE} cells over TLS, 16 clients: {one:.0f} requests a second by one server, {four:.0f} by four, {four / one:.2f} times")
+
+
+if __name__ == "__main__":
+    main()

@@ -1,0 +1,130 @@
+-- One connection more, and sessions one after the other.
+use Rattle.std.proofs.Common.{◌≡◌, ℕ, zero, suc, ◌+◌, ◌/◌, ◌<◌, ◌≤◌, Bool, List, [], ◌∷◌, ◌++◌, length, take, drop, slice_set, get_or, Option, refl, sym, ap, ◌∙◌, subst, subst₂, arith}
+use Rattle.std.specs.Prelude.{IsTrue}
+use Rattle.std.specs.List.{flat_map}
+use Rattle.std.proofs.lemmas.List.{take_more, take_more_set, get_or-drop, drop-set-lt, drop-drop}
+use Rattle.arr_core.specs.Stores.{Store}
+use Rattle.block_file.specs.Format.{IsHeader, KeepsHeader}
+use Rattle.block_file.specs.declared.header.State.TheVariants.{Open}
+use Rattle.disk_face.specs.Disk.{Rose}
+use Rattle.coverage_server.specs.declared.server.ConnEnd.{ConnEnd}
+use Rattle.coverage_server.specs.declared.closing.CloseFault.{CloseFault}
+use Rattle.coverage_server.specs.Disk.{HoldsStore}
+use Rattle.coverage_server.specs.Serves.{Ends, ServesConnection, TellsEnd, ends_of}
+use Rattle.coverage_server.specs.Sessions.{DiskView, IsNotClosed, ServesAll, ServesSession, ServesUnclosed, Sessions, ends_all}
+use Rattle.coverage_server.specs.Views.{ServerView, IsSound}
+use Rattle.coverage_server.proofs.ServingLemmas.{connection-later}
+
+-- what is told of a time is told of a longer one
+pub all-later : {P Q : Type 0} → (P → Q) → (ends : List Ends) (old new : Store) → ServesAll P ends old new → ServesAll Q ends old new
+all-later f [] old new x = x
+all-later f (e ∷ ends) old new x = (x.0, x.1, x.2, connection-later f e old x.0 x.1 x.3, all-later f ends x.0 new x.4)
+
+-- connections and then others
+pub all-append : (P : Type 0) (first second : List Ends) (old mid new : Store) → ServesAll P first old mid → ServesAll P second mid new
+    → ServesAll P (first ++ second) old new
+all-append P [] second old mid new x y = subst (λ (s : Store). ServesAll P second s new) x y
+all-append P (e ∷ first) second old mid new x y = (x.0, x.1, x.2, x.3, all-append P first second x.0 mid new x.4 y)
+
+-- the count of failures rose in a longer time
+rose-within : (a b c d : ℕ) → a ≤ b → c ≤ d → Rose b c → Rose a d
+rose-within a b c d x y r = omega (arith, x, y, r)
+
+sessions_rise : (sessions : List (List Ends)) (old new : DiskView) → Sessions sessions old new → old.failures ≤ new.failures
+sessions_rise [] old new x = let e = ap (λ (v : DiskView). v.failures) x in omega (arith, e)
+sessions_rise (ends ∷ sessions) old new x = let e = sessions_rise sessions x.0 new x.4 in let m = x.3 in omega (arith, e, m)
+
+-- all sessions of a list are as one over all their connections
+pub composed : (sessions : List (List Ends)) (old new : DiskView) → Sessions sessions old new → ServesSession (flat_map (λ (ends : List Ends). ends) sessions) old new
+composed [] old new x honest store holds = (store, subst (λ (v : DiskView). HoldsStore v.content store) (sym x) holds, refl)
+composed (ends ∷ sessions) old new x honest store holds =
+    let mid : DiskView = x.0 in
+    let first = x.1 honest store holds in
+    let later = composed sessions mid new x.4 (subst IsTrue (sym x.2) honest) first.0 first.1 in
+    let more = sessions_rise sessions mid new x.4 in (
+      later.0,
+      later.1,
+      all-append (Rose old.failures new.failures) ends (flat_map (λ (e : List Ends). e) sessions) store first.0 later.0
+          (all-later (rose-within old.failures old.failures mid.failures new.failures (omega arith) more) ends store first.0 first.2)
+          (all-later (rose-within old.failures mid.failures new.failures new.failures x.3 (omega arith)) (flat_map (λ (e : List Ends). e) sessions) first.0 later.0 later.2),
+    )
+
+-- a session whose server was not closed
+pub unclosed : (fault : CloseFault) (ends : List Ends) (disk : DiskView) (opened served left : ServerView)
+    → (IsTrue disk.honest → (store : Store) → HoldsStore disk.content store → (opened.store ≡ store) × IsSound opened)
+    → (IsTrue disk.honest → IsHeader opened.content Open (length opened.content / 4096) 0 0) → opened.honest ≡ disk.honest → opened.failures ≡ disk.failures
+    → (IsSound opened → ServesAll (Rose opened.failures served.failures) ends opened.store served.store × IsSound served)
+    → KeepsHeader opened.content served.content → served.honest ≡ opened.honest → opened.failures ≤ served.failures
+    → IsNotClosed fault served left → ServesUnclosed fault ends disk left
+unclosed fault ends disk opened served left opens header honest count serves keeps still more refused = record {
+  served = λ truly store holds.
+      let found = opens truly store holds in
+      let all = serves found.1 in
+      let same : left.store ≡ served.store = refused.unchanged.store all.1.honest in
+      let rises : Rose opened.failures served.failures → Rose disk.failures left.failures = rose-within disk.failures opened.failures served.failures left.failures (omega (arith, count)) refused.no_fewer in (
+        refused.sound all.1,
+        subst₂ (λ (from to : Store). ServesAll (Rose disk.failures left.failures) ends from to) found.0 (sym same) (all-later rises ends opened.store served.store all.0),
+      );
+  disk_fault = λ e. let rose : Rose served.failures left.failures = refused.disk_fault e in omega (arith, rose, count, more);
+  no_memory = λ e truly. (length opened.content / 4096, (refused.no_memory e).0 Open (length opened.content / 4096) 0 0 (keeps Open (length opened.content / 4096) 0 0 (header truly)));
+  honest = refused.honest ∙ still ∙ honest;
+  no_fewer = let fewer : served.failures ≤ left.failures = refused.no_fewer in omega (arith, count, more, fewer);
+}
+
+module _ {R W : Type 0} where
+  pub rest_kept : (xs ys : List (R × W)) (i : ℕ) (y : R × W) → drop i ys ≡ drop i xs → drop (i + 1) (slice_set ys i y) ≡ drop (i + 1) xs
+  rest_kept xs ys i y e = drop-set-lt (i + 1) ys i y (omega arith) ∙ sym (drop-drop 1 i ys) ∙ ap (drop 1) e ∙ drop-drop 1 i xs
+
+  same_at : (xs ys : List (R × W)) (i : ℕ) (d : R × W) → drop i ys ≡ drop i xs → get_or xs i d ≡ get_or ys i d
+  same_at xs ys i d e =
+      let here : i + 0 ≡ i = omega arith in
+      subst (λ k. get_or xs k d ≡ get_or ys k d) here
+      (sym (get_or-drop i xs 0 d) ∙ ap (λ (l : List (R × W)). get_or l 0 d) (sym e) ∙ get_or-drop i ys 0 d)
+
+  module _ (remaining : R → Option (List ℕ)) (read_failed : R → Option Bool) (contents : W → Option (List ℕ)) (write_failed : W → Option Bool) where
+    ends-push : (xs ys : List (R × W)) (x y : R × W) → length xs ≡ length ys
+        → ends_all remaining read_failed contents write_failed (xs ++ x ∷ []) (ys ++ y ∷ [])
+        ≡ ends_all remaining read_failed contents write_failed xs ys ++ ends_of remaining read_failed contents write_failed x.0 y.0 x.1 y.1 ∷ []
+    ends-push [] [] x y e = refl
+    ends-push [] (b ∷ bs) x y e = absurd (omega (arith, e))
+    ends-push (a ∷ rest) [] x y e = absurd (omega (arith, e))
+    ends-push (a ∷ rest) (b ∷ bs) x y e =
+        ap (λ (l : List Ends). ends_of remaining read_failed contents write_failed a.0 b.0 a.1 b.1 ∷ l) (ends-push rest bs x y (omega (arith, e)))
+
+    -- the ends of one connection more
+    ends-more : (xs ys : List (R × W)) (i : ℕ) (d y : R × W) → length ys ≡ length xs → i < length xs → drop i ys ≡ drop i xs
+        → ends_all remaining read_failed contents write_failed (take (i + 1) xs) (take (i + 1) (slice_set ys i y))
+        ≡ ends_all remaining read_failed contents write_failed (take i xs) (take i ys)
+        ++ ends_of remaining read_failed contents write_failed (get_or ys i d).0 y.0 (get_or ys i d).1 y.1 ∷ []
+    ends-more xs ys i d y long inside e =
+        let within : i < length ys = omega (arith, long, inside) in
+        ap (λ (l : List (R × W)). ends_all remaining read_failed contents write_failed l (take (i + 1) (slice_set ys i y))) (take_more xs i d inside ∙ ap (λ (z : R × W). take i xs ++ z ∷ []) (same_at xs ys i d e))
+        ∙ ap (λ (l : List (R × W)). ends_all remaining read_failed contents write_failed (take i xs ++ get_or ys i d ∷ []) l) (take_more_set ys i y within)
+        ∙ ends-push (take i xs) (take i ys) (get_or ys i d) y (take_long i xs ys long)
+      where
+        take_long : (i : ℕ) (first second : List (R × W)) → length second ≡ length first → length (take i first) ≡ length (take i second)
+        take_long zero first second e = refl
+        take_long (suc i) [] [] e = refl
+        take_long (suc i) [] (b ∷ second) e = absurd (omega (arith, e))
+        take_long (suc i) (a ∷ first) [] e = absurd (omega (arith, e))
+        take_long (suc i) (a ∷ first) (b ∷ second) e = ap suc (take_long i first second (omega (arith, e)))
+
+    -- one connection more is served
+    pub served-more : (xs ys : List (R × W)) (i : ℕ) (d y : R × W) (begin now end : ℕ) (old mid new : Store) (conn : ConnEnd)
+        → length ys ≡ length xs → i < length xs → drop i ys ≡ drop i xs → begin ≤ now → now ≤ end
+        → ServesAll (Rose begin now) (ends_all remaining read_failed contents write_failed (take i xs) (take i ys)) old mid
+        → TellsEnd (ends_of remaining read_failed contents write_failed (get_or ys i d).0 y.0 (get_or ys i d).1 y.1) conn
+        → ServesConnection (Rose now end) (ends_of remaining read_failed contents write_failed (get_or ys i d).0 y.0 (get_or ys i d).1 y.1) mid new conn
+        → ServesAll (Rose begin end) (ends_all remaining read_failed contents write_failed (take (i + 1) xs) (take (i + 1) (slice_set ys i y))) old new
+    served-more xs ys i d y begin now end old mid new conn long inside e up rest x told c =
+        subst (λ (ends : List Ends). ServesAll (Rose begin end) ends old new) (sym (ends-more xs ys i d y long inside e))
+        (all-append (Rose begin end) (ends_all remaining read_failed contents write_failed (take i xs) (take i ys))
+        (ends_of remaining read_failed contents write_failed (get_or ys i d).0 y.0 (get_or ys i d).1 y.1 ∷ []) old mid new
+        (all-later (rose-within begin begin now end (omega arith) rest) (ends_all remaining read_failed contents write_failed (take i xs) (take i ys)) old mid x) (
+          new,
+          conn,
+          told,
+          connection-later (rose-within begin now end end up (omega arith))
+              (ends_of remaining read_failed contents write_failed (get_or ys i d).0 y.0 (get_or ys i d).1 y.1) mid new conn c,
+          refl,
+        ))

@@ -1,0 +1,25 @@
+-- Each connection is served from the store that the one before left.
+use Rattle.std.proofs.Common.{◌<◌, ◌∙◌, length, arith}
+use Rattle.std.proofs.lemmas.List.{length-set}
+use Rattle.coverage_server.proofs.SessionLemmas.{served-more, rest_kept}
+use Rattle.coverage_server.proofs.session.serve_all.Goals as goal
+
+pub loop-connection-preserved : goal.loop-connection-preserved
+loop-connection-preserved g c =
+    let v = c.loop-connection.invariant in
+    let i = c.loop-connection.connection-index in
+    let inside : i < length c.loop-connection.connections = omega arith in
+    let first : i < length c.args.connections.now = omega (arith, inside, v.2) in
+    let fewer = c.serve_connection-end.ensures.no_fewer in
+    let so_far = v.6 in (
+      λ sound.
+          served-more g.R.Source.remaining g.R.Source.failed g.W.Sink.contents g.W.Sink.failed c.args.connections.now c.loop-connection.connections i
+          c.connection-item.result (c.serve_connection-end.new.reader, c.serve_connection-end.new.writer) _ _ _ _ _ _ _ v.2 first v.1 so_far fewer (v.0 sound)
+          c.serve_connection-end.ensures.told (c.serve_connection-end.ensures.served (v.3 sound)),
+      rest_kept c.args.connections.now c.loop-connection.connections i (c.serve_connection-end.new.reader, c.serve_connection-end.new.writer) v.1,
+      length-set c.loop-connection.connections i _ ∙ v.2,
+      λ sound. c.serve_connection-end.ensures.sound (v.3 sound),
+      λ state blocks from bytes was. c.serve_connection-end.ensures.header state blocks from bytes (v.4 state blocks from bytes was),
+      c.serve_connection-end.ensures.honest ∙ v.5,
+      omega (arith, fewer, so_far),
+    )

@@ -1,0 +1,86 @@
+-- Sessions: a disk is opened, connections are served one after the other, and the disk is closed.
+use Rattle.std.specs.Prelude.{◌≡◌, ◌≢◌, ℕ, ◌≤◌, Bool, IsTrue, List, [], ◌∷◌, ◌++◌, Option, IfSome}
+use Rattle.std.specs.List.{flat_map}
+use Rattle.arr_core.specs.Stores.{Store}
+use Rattle.block_file.specs.Format.{IsHeader, HeaderTorn, KeepsHeader}
+use Rattle.block_file.specs.declared.header.State.TheVariants.{Open}
+use Rattle.disk_face.specs.Disk.{Rose}
+use Rattle.coverage_server.specs.declared.opening.OpenFault.{OpenFault}
+use Rattle.coverage_server.specs.declared.opening.OpenFault.TheVariants as opening
+use Rattle.coverage_server.specs.declared.closing.CloseFault.{CloseFault}
+use Rattle.coverage_server.specs.declared.closing.CloseFault.TheVariants as closing
+use Rattle.coverage_server.specs.declared.server.ConnEnd.{ConnEnd}
+use Rattle.coverage_server.specs.Disk.{HoldsStore, IsWant, IsNoStore}
+use Rattle.coverage_server.specs.Serves.{Ends, ServesConnection, TellsEnd, ends_of}
+use Rattle.coverage_server.specs.Views.{ServerView, IsSound, IsUnchanged}
+
+-- what a disk tells: the bytes that it holds, whether it is honest, and how many of its calls have failed
+pub record DiskView : Type 0 where
+  pub content : List ℕ
+  pub honest : Bool
+  pub failures : ℕ
+
+abbrev pub disk_view : {D : Type 0} → (D → List ℕ) → (D → Bool) → (D → ℕ) → D → DiskView
+disk_view content honest failures disk = record { content = content disk; honest = honest disk; failures = failures disk }
+
+-- What is left of a disk that was not opened, and why it was not. It is refused by the rules of opening, or for want of memory,
+-- or because a call failed. Where none did it is as it was; else the header block alone may have changed.
+pub record IsNotOpened (fault : OpenFault) (old left : DiskView) : Type 0 where
+  pub why : IsTrue old.honest → IsNoStore old.content fault
+  pub want : IsTrue old.honest → (store : Store) → HoldsStore old.content store → IsWant fault
+  pub disk_fault : fault ≡ opening.DiskFault → Rose old.failures left.failures
+  pub others : fault ≢ opening.DiskFault → (left.content ≡ old.content) × (left.failures ≡ old.failures)
+  pub torn : IsTrue old.honest → HeaderTorn old.content left.content
+  pub honest : left.honest ≡ old.honest
+
+-- What is left of a server that was not closed, and why it was not: for want of memory, where the header still is the one that
+-- it was, or because a call of the disk failed. It has its store, and may be closed again.
+pub record IsNotClosed (fault : CloseFault) (old left : ServerView) : Type 0 where
+  pub unchanged : IsUnchanged old left
+  pub sound : IsSound old → IsSound left
+  pub disk_fault : fault ≡ closing.DiskFault → Rose old.failures left.failures
+  pub no_memory : fault ≡ closing.NoMemory → KeepsHeader old.content left.content × (left.failures ≡ old.failures)
+  pub honest : left.honest ≡ old.honest
+  pub no_fewer : old.failures ≤ left.failures
+
+-- what the reader and the writer of each connection told before the connections and after them
+abbrev pub ends_all : {R W : Type 0} → (R → Option (List ℕ)) → (R → Option Bool) → (W → Option (List ℕ)) → (W → Option Bool)
+    → List (R × W) → List (R × W) → List Ends
+ends_all remaining read_failed contents write_failed [] news = []
+ends_all remaining read_failed contents write_failed (old ∷ olds) [] = []
+ends_all remaining read_failed contents write_failed (old ∷ olds) (new ∷ news) =
+    ends_of remaining read_failed contents write_failed old.0 new.0 old.1 new.1 ∷ ends_all remaining read_failed contents write_failed olds news
+
+-- Connections one after the other: each is served from the store that the one before left, so that the replies of all are those of
+-- one run of the machine. Each has its end, by a fault exactly where one came.
+abbrev pub ServesAll : Type 0 → List Ends → Store → Store → Type 0
+ServesAll failed [] old new = new ≡ old
+ServesAll failed (e ∷ ends) old new =
+    (mid : Store) × (end : ConnEnd) × TellsEnd e end × ServesConnection failed e old mid end × ServesAll failed ends mid new
+
+-- A session that ended by a close: a disk that held a store holds the next one.
+abbrev pub ServesSession : List Ends → DiskView → DiskView → Type 0
+ServesSession ends old new =
+    IsTrue old.honest → (store : Store) → HoldsStore old.content store
+    → (next : Store) × HoldsStore new.content next × ServesAll (Rose old.failures new.failures) ends store next
+
+-- A session that did not end by a close: the server has the next store. A disk fault is told where the count of failures has risen
+-- since the opening, and where memory was wanting the header still is that of an open file.
+pub record ServesUnclosed (fault : CloseFault) (ends : List Ends) (old : DiskView) (server : ServerView) : Type 0 where
+  pub served : IsTrue old.honest → (store : Store) → HoldsStore old.content store → IsSound server × ServesAll (Rose old.failures server.failures) ends store server.store
+  pub disk_fault : fault ≡ closing.DiskFault → Rose old.failures server.failures
+  pub no_memory : fault ≡ closing.NoMemory → IsTrue old.honest → (blocks : ℕ) × IsHeader server.content Open blocks 0 0
+  pub honest : server.honest ≡ old.honest
+  pub no_fewer : old.failures ≤ server.failures
+
+-- sessions that were closed, one after the other on one disk: each is opened as the one before left it
+abbrev pub Sessions : List (List Ends) → DiskView → DiskView → Type 0
+Sessions [] old new = new ≡ old
+Sessions (ends ∷ sessions) old new =
+    (mid : DiskView) × ServesSession ends old mid × (mid.honest ≡ old.honest) × (old.failures ≤ mid.failures) × Sessions sessions mid new
+
+-- Sessions compose: all of them together serve all connections in order, from a disk that held a store to one that holds the next,
+-- by one run of the machine. A disk without a byte holds the store without coverages.
+pub record Composes : Type 0 where
+  pub all : (sessions : List (List Ends)) (old new : DiskView) → Sessions sessions old new → ServesSession (flat_map (λ (ends : List Ends). ends) sessions) old new
+  pub begin : HoldsStore [] []

@@ -1,0 +1,42 @@
+//! What the program says of errors, a line each.
+ghost use Rattle.std.specs.Prelude.{ℕ, Bool, List, Option, ◌++◌};
+ghost use Rattle.stream_face.specs.Faults.{Sent};
+ghost use Rattle.rasterd.specs.Lines.{Says, fault_line};
+
+use arr_core::refusal_name;
+use itoa::Buffer;
+use stream_face::{Sink, flush_if, send_all};
+
+/// Writes a text too, unless an earlier write failed. It says whether nothing has failed.
+fn put<E: Sink>(errors: &mut E, ok: bool, text: &str) -> bool
+    ensures { (held : Option (List ℕ)) (failed : Option Bool) (before : List ℕ) → Sent held (E.contents errors.old) failed (E.failed errors.old) ok before
+        → Sent held (E.contents errors.new) failed (E.failed errors.new) result (before ++ text.now) }
+{
+    if !ok {
+        return false;
+    }
+    send_all(errors, text.as_bytes())
+}
+
+/// Writes a line; what cannot be written is left out.
+pub fn say<E: Sink>(errors: &mut E, line: &str)
+    ensures { Says (E.contents errors.old) (E.contents errors.new) (E.failed errors.old) (E.failed errors.new) line.now }
+{
+    let ok = send_all(errors, line.as_bytes());
+    let _flushed = flush_if(errors, ok);
+}
+
+/// Says on a line why a store was not opened or not closed, as `not opened: 94 NotAStore`.
+pub fn tell<E: Sink>(errors: &mut E, what: &str, number: u16)
+    ensures { Says (E.contents errors.old) (E.contents errors.new) (E.failed errors.old) (E.failed errors.new) (fault_line what.now number) }
+{
+    let mut digits = Buffer::new();
+    let number_text = digits.format(number);
+    let ok = send_all(errors, what.as_bytes());
+    let ok = put(errors, ok, ": ");
+    let ok = put(errors, ok, number_text);
+    let ok = put(errors, ok, " ");
+    let ok = put(errors, ok, refusal_name(number));
+    let ok = put(errors, ok, "\n");
+    let _flushed = flush_if(errors, ok);
+}

@@ -1,0 +1,77 @@
+//! Sockets: connections at a port of this machine, one after the other, over one store.
+
+use crate::lines::{say, tell};
+use crate::session::{CLOSED, NOT_CLOSED, NOT_OPENED};
+use coverage_server::Server;
+use disk_face::{Disk, FileDisk, MemDisk};
+use http_front::refusals::DISK_FAULT;
+use std::alloc::Global;
+use std::net::{Ipv4Addr, SocketAddrV4, TcpListener, TcpStream};
+use std::time::Duration;
+use stream_face::Sink;
+
+/// The status where no socket was bound.
+const NO_SOCKET: u8 = 5;
+
+/// How long a connection may stay silent, or take nothing, in seconds.
+const PATIENCE: u64 = 60;
+
+/// Serves a connection that was accepted to its end. A read or a write that waits for too long has failed.
+fn serve_stream<D: Disk>(server: &mut Server<D>, stream: &TcpStream) {
+    let _reads = stream.set_read_timeout(Some(Duration::from_secs(PATIENCE)));
+    let _writes = stream.set_write_timeout(Some(Duration::from_secs(PATIENCE)));
+    let _small = stream.set_nodelay(true);
+    let _end = server.serve_connection(&mut &*stream, &mut &*stream);
+}
+
+/// Opens the store of a disk, serves so many connections, one after the other, and closes the store. One that could not be
+/// accepted counts as one without messages. Gives the status.
+fn serve_listener<D: Disk + Drop, E: Sink>(
+    alloc: Global,
+    disk: D,
+    listener: &TcpListener,
+    count: u32,
+    errors: &mut E,
+) -> u8 {
+    let mut server = match Server::open(alloc, disk) {
+        Ok(server) => server,
+        Err(refused) => {
+            tell(errors, "not opened", refused.fault.number());
+            return NOT_OPENED;
+        }
+    };
+    for _connection in 0..count {
+        match listener.accept() {
+            Ok((stream, _client)) => serve_stream(&mut server, &stream),
+            Err(_) => {}
+        }
+    }
+    match server.close() {
+        Ok(_disk) => CLOSED,
+        Err(refused) => {
+            tell(errors, "not closed", refused.fault.number());
+            NOT_CLOSED
+        }
+    }
+}
+
+/// Serves so many connections at a port of this machine over the store in a file. The socket is bound before the store is
+/// opened. Gives the status.
+pub fn listen<E: Sink>(rt: &HostRuntime, file: &str, port: u16, count: u32, errors: &mut E) -> u8 {
+    let alloc = rt.alloc();
+    let Ok(listener) = TcpListener::bind(rt, SocketAddrV4::new(Ipv4Addr::LOCALHOST, port)) else {
+        say(errors, "no socket\n");
+        return NO_SOCKET;
+    };
+    if file == "-" {
+        let disk = MemDisk::new(Vec::new(alloc));
+        return serve_listener(alloc, disk, &listener, count, errors);
+    }
+    match FileDisk::open(rt, file) {
+        Ok(disk) => serve_listener(alloc, disk, &listener, count, errors),
+        Err(_) => {
+            tell(errors, "not opened", DISK_FAULT);
+            NOT_OPENED
+        }
+    }
+}
