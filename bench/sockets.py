@@ -195,19 +195,35 @@ def not_opened(path):
     same(Server(path, 1000001).status(), (2, b"usage: rasterd FILE run or rasterd FILE listen PORT COUNT\n"))
 
 
+def insert(port, name):
+    """Inserts a coverage; a connection that was reset waited where a run ended, was not served, and is tried again."""
+    for _ in range(100):
+        try:
+            with connect(port) as client:
+                client.sendall(INSERT % name)
+                client.shutdown(socket.SHUT_WR)
+                found = rest(client)
+            if found:
+                return found
+        except OSError:
+            time.sleep(0.02)
+    raise AssertionError("never served")
+
+
 def stopped(path):
     """tools/serve is stopped: it uses up the connections that are left, and the file is closed."""
     port = free_port()
     environment = dict(os.environ, SERVER=PROGRAM)
     words = [f"{TOP}/tools/serve", path, str(port), "40"]
     script = subprocess.Popen(words, env=environment, start_new_session=True)
-    for number in range(90):
-        with connect(port) as client:
-            client.sendall(INSERT % (b"c%d" % number))
-            client.shutdown(socket.SHUT_WR)
-            same(rest(client), OK)
-    os.killpg(script.pid, signal.SIGTERM)
-    same(script.wait(LONGEST), 0)
+    try:
+        for number in range(90):
+            same(insert(port, b"c%d" % number), OK)
+        script.send_signal(signal.SIGTERM)
+        same(script.wait(LONGEST), 0)
+    finally:
+        if script.poll() is None:
+            os.killpg(script.pid, signal.SIGKILL)
     server = Server(path, 1)
     same(server.talk(LIST), reply(b"".join(b"c%d\n" % number for number in range(90))))
     same(server.status(), (0, b""))
