@@ -5,6 +5,10 @@ pub mod SettledPlaced
 pub mod Lowers
 pub mod LoweredItems
 pub mod LoweredSteps
+pub mod LoweredPlans
+pub mod FoldPoints
+pub mod HoistedReduced
+pub mod LoweredWork
 pub mod Lifts
 pub mod Hoists
 pub mod HoistedSteps

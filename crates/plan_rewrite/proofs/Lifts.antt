@@ -37,7 +37,7 @@ some-behind P (y ∷ outer) xs j zero e s = absurd (omega (arith, e))
 some-behind P (y ∷ outer) xs j (suc k) e s = some-behind P outer xs j k (omega (arith, e)) s
 
 -- a variable that is none of the first n
-behind-first : (n k : ℕ) → T (nat_le n k) → k ≡ n + (k - n)
+pub behind-first : (n k : ℕ) → T (nat_le n k) → k ≡ n + (k - n)
 behind-first n k h = let l = leb_yes {a = n} {b = k} h in omega (arith, l)
 
 numbers-without : (outer vars : List ℤ) (is : List Index) → T (list_all (index_from (length outer)) is) → numbers_at vars (map (index_without (length outer)) is) ≡ numbers_at (outer ++ vars) is

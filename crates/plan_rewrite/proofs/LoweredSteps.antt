@@ -78,7 +78,7 @@ steps-placed condition i cs t = record {
 }
 
 -- each tree takes work
-work-some : (t : Typed) → 1 ≤ work_of t
+pub work-some : (t : Typed) → 1 ≤ work_of t
 work-some (number z) = omega arith
 work-some (iterator k) = omega arith
 work-some (cell c f) = omega arith

@@ -5,3 +5,5 @@ pub mod Lowering
 pub mod LoweredItems
 pub mod Hoisting
 pub mod HoistedPlans
+pub mod LoweredPlans
+pub mod FoldPoints

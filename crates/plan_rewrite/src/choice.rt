@@ -13,8 +13,8 @@ ghost use Rattle.plan_ir.specs.Units.{steps_units};
 ghost use Rattle.plan_rewrite.specs.LoweredItems.{returned, lowered_scalar, lowered_steps};
 
 use crate::context::Context;
+use crate::expression::lowered;
 use crate::item::lowered_item;
-use crate::lower::lowered;
 use plan_ir::{Body, Steps};
 use std::alloc::{AllocError, Global};
 use wcps_types::{Node, TypedItem};

@@ -7,7 +7,7 @@ ghost use Rattle.plan_rewrite.specs.Lowering.{setting_of};
 ghost use Rattle.plan_rewrite.specs.LoweredItems.{chain_of, chain_binds, chain_fields, lowered_field, item_binds, lowered_item};
 
 use crate::context::Context;
-use crate::lower::{lowered, lowered_scalar};
+use crate::expression::{lowered, lowered_scalar};
 use crate::steps::push_bind;
 use plan_ir::{Bind, Field, Interval, Item};
 use std::alloc::{AllocError, Global};

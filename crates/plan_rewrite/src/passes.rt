@@ -24,7 +24,7 @@ pub fn hoist(alloc: Global, plan: Plan) -> Result<Plan, AllocError>
 }
 
 /// The hoisted plan.
-fn hoist_all(alloc: Global, plan: Plan) -> Result<Plan, AllocError>
+pub fn hoist_all(alloc: Global, plan: Plan) -> Result<Plan, AllocError>
     ensures { IfOk result (λ r. plan_view r ≡ hoisted_plan (plan_view plan)) }
 {
     let Plan {

@@ -24,7 +24,7 @@ pub fn settle(alloc: Global, plan: Plan) -> Result<Plan, AllocError>
 }
 
 /// The settled plan.
-fn settle_all(alloc: Global, plan: Plan) -> Result<Plan, AllocError>
+pub fn settle_all(alloc: Global, plan: Plan) -> Result<Plan, AllocError>
     ensures { IfOk result (λ r. plan_view r ≡ settled_plan (plan_view plan)) }
 {
     let Plan {

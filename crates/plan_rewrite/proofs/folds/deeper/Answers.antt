@@ -1,4 +1,4 @@
-use Rattle.std.proofs.Common.{◌≡◌, ◌+◌, ◌∙◌, ap, length, length-append}
+use Rattle.std.proofs.Common.{◌+◌, ◌∙◌, ap, length, length-append}
 use Rattle.std.proofs.lemmas.List.{length-map}
 use Rattle.plan_ir.specs.Placed.{span, spans}
 use Rattle.plan_rewrite.proofs.folds.deeper.Goals as goal

@@ -3,7 +3,7 @@ use Rattle.std.specs.Prelude.{pos}
 use Rattle.wcps_types.specs.declared.typed.Node.{Node}
 use Rattle.wcps_types.specs.Typed.{number, field_tree, only_tree}
 use Rattle.wcps_types.proofs.Fields.{record_part, record_none}
-use Rattle.plan_rewrite.proofs.lower.+lower.Goals as goal
+use Rattle.plan_rewrite.proofs.expression.+lower.Goals as goal
 
 -- a field of a record is the only one of the part at its place
 pub lowered-returns-in-None : goal.lowered-returns-in-None

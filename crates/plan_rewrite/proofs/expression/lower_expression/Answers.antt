@@ -4,7 +4,7 @@ use Rattle.wcps_types.specs.Typed.{field_tree}
 use Rattle.plan_ir.specs.Run.{run}
 use Rattle.plan_ir.specs.Placed.{spans, IsPlaced}
 use Rattle.plan_rewrite.proofs.Lowers.{outer-means, outer-placed}
-use Rattle.plan_rewrite.proofs.lower.lower_expression.Goals as goal
+use Rattle.plan_rewrite.proofs.expression.lower_expression.Goals as goal
 
 pub returns-clause-value : goal.returns-clause-value
 returns-clause-value c s regs env p e f =

@@ -1,0 +1,171 @@
+-- The units of a lowered query and the points of its folds are within its work.
+use Rattle.std.proofs.Common.{◌≡◌, ℕ, zero, suc, ◌+◌, ◌*◌, ◌≤◌, List, [], ◌∷◌, ◌++◌, length, map, refl, sym, ap, ◌∙◌, subst, arith, ℤ, pos, get_or, Bool}
+use Rattle.std.specs.Prelude.{Option, Some, None, slice_get, option_map, sum_by}
+use Rattle.std.proofs.lemmas.List.{length-map}
+use Rattle.std.proofs.lemmas.List.Sums.{sum_by-cons}
+use Rattle.arr_core.specs.declared.domain.Axis.{Axis}
+use Rattle.arr_core.specs.declared.signature.Signature.{Signature}
+use Rattle.arr_core.specs.Domains.{gap, size_of, count}
+use Rattle.wcps_types.specs.declared.typed.Node.{Node}
+use Rattle.wcps_types.specs.declared.typed.TypedItem.{TypedItem}
+use Rattle.wcps_types.specs.declared.typed.Combination.{Combination}
+use Rattle.wcps_types.specs.declared.shared.SharedCombination.{SharedCombination}
+use Rattle.wcps_types.specs.Typed.{Typed, number, iterator, cell, unary, binary, scalar, select, bracket, slice, array, listed, condense, condense_where, reduce, FieldTree, CombinationTree, only_tree, fields_view, item_view, combination_view}
+use Rattle.wcps_types.specs.Renamed.{renamed_combination, over, shared_view}
+use Rattle.wcps_types.specs.Work.{work_of, fields_work, condition_work, item_work, query_work}
+use Rattle.wcps_types.proofs.SharedEfforts.{work_over}
+use Rattle.plan_ir.specs.declared.body.Index.{Index}
+use Rattle.plan_ir.specs.declared.body.Index.TheVariants.{Const, Var}
+use Rattle.plan_ir.specs.Plans.{FieldBody, StepsTree, Choice, PlanTree}
+use Rattle.plan_ir.specs.Units.{item_units, steps_units, units}
+use Rattle.plan_ir.proofs.Parts.{slice_get-map}
+use Rattle.plan_rewrite.specs.Lowering.{Setting, outermost, at_scalar, at_iterators, at_slice, at_box, at_points, lowered}
+use Rattle.plan_rewrite.specs.LoweredItems.{Chain, end, bracketed, sliced, chain_of, chain_tree, chain_binds, chain_fields, lowered_field, item_binds, lowered_item, lowered_scalar, lowered_steps}
+use Rattle.plan_rewrite.specs.LoweredPlans.{lowered_tree, lowered_choice, lowered_choices}
+use Rattle.plan_rewrite.specs.FoldPoints.{body_folds, condition_folds, binds_folds, fields_folds, steps_folds, fold_points}
+use Rattle.plan_rewrite.proofs.FoldPoints.{variable-folds, both_of}
+use Rattle.plan_rewrite.proofs.LoweredItems.{chain_views, chain-views, end-views, no-fields}
+use Rattle.plan_rewrite.proofs.LoweredSteps.{work-some}
+
+times-one : (n m : ℕ) → 1 ≤ m → 1 ≤ (n + 1) * m
+times-one n m h = let e : (n + 1) * m ≡ m + n * m = grind arith in omega (arith, h, e)
+
+-- a box has a point
+count-some : (axes : List Axis) → 1 ≤ count axes
+count-some [] = omega arith
+count-some (a ∷ axes) = times-one (gap a.lo a.hi) (count axes) (count-some axes)
+
+-- a sum is at most one more than the product
+sum-product : (n m : ℕ) → 1 ≤ n → 1 ≤ m → n + m ≤ 1 + n * m
+sum-product zero m h k = absurd (omega (arith, h))
+sum-product (suc n) zero h k = absurd (omega (arith, k))
+sum-product (suc n) (suc m) h k = let e : suc n * suc m ≡ 1 + (n + (m + n * m)) = grind arith in omega (arith, e)
+
+-- the folds of a body are within the work of its tree
+lowered-folds : (t : Typed) (c : Setting) → body_folds (lowered c t) ≤ work_of t
+lowered-folds (number z) c = omega arith
+lowered-folds (iterator k) c = let a = variable-folds (get_or c.iterators k (Const (pos 0))) in omega (arith, a)
+lowered-folds (cell v f) c = omega arith
+lowered-folds (unary op e) c = let a = lowered-folds e c in omega (arith, a)
+lowered-folds (binary op l r) c = let a = lowered-folds l c in let b = lowered-folds r c in omega (arith, a, b)
+lowered-folds (scalar e) c = lowered-folds e (at_scalar c)
+lowered-folds (select e) c = let a = lowered-folds e c in omega (arith, a)
+lowered-folds (bracket e) c = let a = lowered-folds e c in omega (arith, a)
+lowered-folds (slice e axis lo hi i) c =
+    let a = lowered-folds i (at_scalar c) in
+    let b = lowered-folds e (at_slice c axis lo hi) in
+    omega (arith, a, b)
+lowered-folds (array e) c = let a = lowered-folds e (at_iterators c) in omega (arith, a)
+lowered-folds (listed box items) c = omega arith
+lowered-folds (condense op box e) c =
+    let a = lowered-folds e (at_box c box) in
+    let b = sum-product (count box) (work_of e) (count-some box) (work-some e) in
+    omega (arith, a, b)
+lowered-folds (condense_where op box w e) c =
+    let a = lowered-folds w (at_box c box) in
+    let b = lowered-folds e (at_box c box) in
+    let some = work-some e in
+    let d = sum-product (count box) (work_of w + work_of e) (count-some box) (omega (arith, some)) in
+    omega (arith, a, b, d)
+lowered-folds (reduce op box e) c =
+    let a = lowered-folds e (at_points c box) in
+    let b = sum-product (count box) (work_of e) (count-some box) (work-some e) in
+    omega (arith, a, b)
+
+fields-within : (fs : List FieldTree) (c : Setting) → fields_folds (map (lowered_field c) fs) ≤ fields_work fs
+fields-within [] c = omega arith
+fields-within (f ∷ fs) c = let a = lowered-folds f.tree c in let b = fields-within fs c in omega (arith, a, b)
+
+bracket-work : (h : Chain) (k : ℕ) (bs : List Bool) → fields_work (chain_views h k bs) ≤ fields_work (chain_views (bracketed h) k bs)
+bracket-work h k [] = omega arith
+bracket-work h k (b ∷ bs) = let a = bracket-work h (suc k) bs in omega (arith, a)
+
+slice-work : (h : Chain) (axis : ℕ) (lo hi : ℤ) (i : Typed) (k : ℕ) (bs : List Bool) → fields_work (chain_views h k bs) ≤ fields_work (chain_views (sliced axis lo hi i h) k bs)
+slice-work h axis lo hi i k [] = omega arith
+slice-work h axis lo hi i k (b ∷ bs) = let a = slice-work h axis lo hi i (suc k) bs in omega (arith, a)
+
+chain-within : (h : Chain) (c : Setting) (b : Bool) (bs : List Bool) → binds_folds (chain_binds c h) + fields_folds (chain_fields c h (b ∷ bs)) ≤ fields_work (chain_views h 0 (b ∷ bs))
+chain-within (end e) c b bs =
+    let a = subst (λ l. fields_folds (chain_fields c (end e) (b ∷ bs)) ≤ fields_work l) (end-views e 0 (b ∷ bs)) (fields-within (fields_view e 0 (b ∷ bs)) c) in
+    omega (arith, a)
+chain-within (bracketed h) c b bs = let a = chain-within h c b bs in let d = bracket-work h 0 (b ∷ bs) in omega (arith, a, d)
+chain-within (sliced axis lo hi i h) c b bs =
+    let a = lowered-folds i (at_scalar c) in
+    let d = chain-within h (at_slice c axis lo hi) b bs in
+    let e = slice-work h axis lo hi i 1 bs in
+    omega (arith, a, d, e)
+
+units-few : (box : List Axis) (fs : List FieldBody) → item_units box fs ≤ count box
+units-few box [] = omega arith
+units-few box (f ∷ fs) = omega arith
+
+first-work : (h : Chain) (b : Bool) (bs : List Bool) → 1 ≤ fields_work (chain_views h 0 (b ∷ bs))
+first-work h b bs = let a = work-some (chain_tree h 0) in omega (arith, a)
+
+condition-within : (o : Option Node) → condition_folds (option_map lowered_scalar o) ≤ condition_work (option_map only_tree o)
+condition-within None = omega arith
+condition-within (Some e) = lowered-folds (only_tree e) (outermost [] [])
+
+-- the units of an item and the points of its folds
+item-within : (h : Chain) (c : Setting) (box : List Axis) (bs : List Bool) (w : ℕ) → fields_work (chain_views h 0 bs) ≡ w
+    → item_units box (chain_fields c h bs) + (binds_folds (item_binds bs (chain_binds c h)) + fields_folds (chain_fields c h bs)) ≤ 1 + count box * w
+item-within h c box [] w e = subst (λ l. item_units box l + (0 + fields_folds l) ≤ 1 + count box * w) (sym (no-fields h c)) (omega arith)
+item-within h c box (b ∷ bs) w e =
+    let a = chain-within h c b bs in
+    let u = units-few box (chain_fields c h (b ∷ bs)) in
+    let some = first-work h b bs in
+    let d = sum-product (count box) w (count-some box) (omega (arith, some, e)) in
+    omega (arith, a, u, d, e)
+
+tree-within : (t : Combination) → both_of (Some (lowered_tree t)) ≤ 2 + query_work (combination_view t ∷ [])
+tree-within t =
+    let c = outermost [] t.item.domain in
+    let a = condition-within t.condition in
+    let w = fields_work (item_view t.item).fields in
+    let b = item-within (chain_of t.item.node) c t.item.domain t.item.booleans.items w (ap fields_work (chain-views t.item.node 0 t.item.booleans.items)) in
+    omega (arith, a, b)
+
+abbrev units_at : List Combination → Choice → ℕ
+units_at trees c = steps_units (slice_get (map lowered_tree trees) c.steps)
+
+abbrev folds_at : List Combination → Choice → ℕ
+folds_at trees c = steps_folds (slice_get (map lowered_tree trees) c.steps)
+
+abbrev units_in : List Combination → List Choice → ℕ
+units_in trees all = sum_by (units_at trees) all
+
+abbrev folds_in : List Combination → List Choice → ℕ
+folds_in trees all = sum_by (folds_at trees) all
+
+one-within : (o : Option Combination) (trees : List Combination) (c : SharedCombination) (rest : List Choice) (n : ℕ) → slice_get trees c.tree ≡ o → units_in trees rest + folds_in trees rest ≤ n
+    → units_in trees (lowered_choice o c ++ rest) + folds_in trees (lowered_choice o c ++ rest) ≤ (2 + query_work (over c.coverages.items o ∷ [])) + n
+one-within None trees c rest n e h = omega (arith, h)
+one-within (Some t) trees c rest n e h =
+    let a = tree-within t in
+    let is = slice_get-map lowered_tree trees c.tree ∙ ap (option_map lowered_tree) e in
+    let b = subst (λ o. both_of o ≤ 2 + query_work (combination_view t ∷ [])) (sym is) a in
+    let d : query_work (over c.coverages.items (Some t) ∷ []) ≡ query_work (combination_view t ∷ []) = work_over c.coverages.items (combination_view t) in
+    let x : Choice = record { steps = c.tree; coverages = c.coverages.items } in
+    let u : units_in trees (lowered_choice (Some t) c ++ rest) ≡ steps_units (slice_get (map lowered_tree trees) c.tree) + units_in trees rest = sum_by-cons (units_at trees) x rest in
+    let v : folds_in trees (lowered_choice (Some t) c ++ rest) ≡ steps_folds (slice_get (map lowered_tree trees) c.tree) + folds_in trees rest = sum_by-cons (folds_at trees) x rest in
+    omega (arith, h, b, d, u, v)
+
+choices-within : (all : List SharedCombination) (trees : List Combination) → units_in trees (lowered_choices trees all) + folds_in trees (lowered_choices trees all) ≤ 2 * length all + query_work (map (shared_view trees) all)
+choices-within [] trees = omega arith
+choices-within (c ∷ all) trees =
+    let a = choices-within all trees in
+    let b = one-within (slice_get trees c.tree) trees c (lowered_choices trees all) (2 * length all + query_work (map (shared_view trees) all)) refl a in
+    omega (arith, b)
+
+within-product : (n w : ℕ) → 1 ≤ n → 2 * n + w ≤ n * (2 + w)
+within-product zero w h = absurd (omega (arith, h))
+within-product (suc n) w h = let e : suc n * (2 + w) ≡ 2 * suc n + (w + n * w) = grind arith in omega (arith, e)
+
+-- the units of a query's plan and the points of its folds
+pub query-within : (cs : List Signature) (trees : List Combination) (all : List SharedCombination) → 1 ≤ length all
+    → units (record { coverages = cs; steps = map lowered_tree trees; combinations = lowered_choices trees all }) + fold_points (record { coverages = cs; steps = map lowered_tree trees; combinations = lowered_choices trees all })
+    ≤ length (map (shared_view trees) all) * (2 + query_work (map (shared_view trees) all))
+query-within cs trees all some =
+    let a = choices-within all trees in
+    let b = within-product (length all) (query_work (map (shared_view trees) all)) some in
+    subst (λ n. units_in trees (lowered_choices trees all) + folds_in trees (lowered_choices trees all) ≤ n * (2 + query_work (map (shared_view trees) all))) (sym (length-map all (shared_view trees))) (omega (arith, a, b))

@@ -1,0 +1,41 @@
+-- The clauses of `rewrite`: a settled and then hoisted plan.
+use Rattle.std.proofs.Common.{◌≡◌, ◌+◌, ◌≤◌, ◌∙◌, ap, sym, subst, map}
+use Rattle.plan_ir.specs.Plans.{PlanTree, steps_view, plan_view}
+use Rattle.plan_ir.specs.Planned.{planned}
+use Rattle.plan_ir.specs.Placed.{IsPlan}
+use Rattle.plan_ir.specs.Units.{units}
+use Rattle.plan_rewrite.specs.Settled.{settled_steps, settled_plan}
+use Rattle.plan_rewrite.specs.Rewritten.{StepsAreReduced}
+use Rattle.plan_rewrite.specs.HoistedPlans.{StepsAreOpen}
+use Rattle.plan_rewrite.specs.FoldPoints.{fold_points}
+use Rattle.plan_rewrite.proofs.SettledPlans.{settled-planned}
+use Rattle.plan_rewrite.proofs.SettledPlaced.{plan-placed, steps-reduced}
+use Rattle.plan_rewrite.proofs.HoistedPlans.{hoisted-planned, hoisted-placed, steps-open}
+use Rattle.plan_rewrite.proofs.HoistedReduced.{steps-stay-reduced}
+use Rattle.plan_rewrite.proofs.FoldPoints.{rewritten-few}
+use Rattle.plan_rewrite.proofs.rewriting.rewrite.Goals as goal
+
+pub returns-clause-planned : goal.returns-clause-planned
+returns-clause-planned c h s =
+    let p = plan_view c.args.plan in
+    ap (planned s) c.in_ok-r.ensures ∙ hoisted-planned (settled_plan p) s (plan-placed p h) ∙ settled-planned p s
+
+pub returns-clause-placed : goal.returns-clause-placed
+returns-clause-placed c h =
+    let p = plan_view c.args.plan in
+    subst IsPlan (sym c.in_ok-r.ensures) (hoisted-placed (settled_plan p) (plan-placed p h))
+
+pub returns-clause-reduced : goal.returns-clause-reduced
+returns-clause-reduced c =
+    let all = map steps_view c.args.plan.steps.items in
+    subst StepsAreReduced (sym (ap (λ (p : PlanTree). p.steps) c.in_ok-r.ensures)) (steps-stay-reduced (map settled_steps all) (steps-reduced all))
+
+pub returns-clause-open : goal.returns-clause-open
+returns-clause-open c =
+    let all = map steps_view c.args.plan.steps.items in
+    subst StepsAreOpen (sym (ap (λ (p : PlanTree). p.steps) c.in_ok-r.ensures)) (steps-open (map settled_steps all))
+
+pub returns-clause-units : goal.returns-clause-units
+returns-clause-units c =
+    let p = plan_view c.args.plan in
+    subst (λ r. units r + fold_points r ≤ units p + fold_points p) (sym c.in_ok-r.ensures) (rewritten-few p)

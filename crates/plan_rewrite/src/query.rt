@@ -1,0 +1,131 @@
+//! Lowering of queries.
+
+ghost use Rattle.std.specs.Prelude.{◌≡◌, ◌++◌, ◌∷◌, [], ◌+◌, ◌*◌, ◌≤◌, ℕ, ℤ, List, IfOk, OnOk, length, map, option_copied, slice_get};
+ghost use Rattle.wcps_types.specs.SharedQueries.{shared_query_view};
+ghost use Rattle.wcps_types.specs.Work.{query_work};
+ghost use Rattle.wcps_mean.specs.Answer.{answer};
+ghost use Rattle.plan_ir.specs.Plans.{Choice, steps_view, choice_view, plan_view};
+ghost use Rattle.plan_ir.specs.Planned.{planned};
+ghost use Rattle.plan_ir.specs.Placed.{IsPlan};
+ghost use Rattle.plan_ir.specs.Units.{units};
+ghost use Rattle.plan_rewrite.specs.FoldPoints.{fold_points};
+ghost use Rattle.plan_rewrite.specs.LoweredItems.{lowered_steps};
+ghost use Rattle.plan_rewrite.specs.LoweredPlans.{lowered_tree, lowered_choices};
+
+use crate::choice::lowered_steps;
+use arr_core::Signature;
+use plan_ir::{Combination as Choice, Plan, Steps};
+use std::alloc::{AllocError, Global};
+use wcps_types::{Combination, SharedCombination, SharedQuery};
+
+/// The plan of a query, without passes. It gives the query's answer, its first fault too, and is well-formed. Steps stand
+/// once for each tree, and combinations that share a tree share them. `rewrite` makes it a plan of at most as many units as
+/// the number of combinations times two more than the work.
+pub fn lower(alloc: Global, query: &SharedQuery) -> Result<Plan, AllocError>
+    ensures planned { IfOk result (λ p. (s : ℕ → ℕ → List ℤ → ℤ) → planned s (plan_view p) ≡ answer s (shared_query_view query.now)) }
+    ensures placed { IfOk result (λ p. IsPlan (plan_view p)) }
+    ensures units { IfOk result (λ p. units (plan_view p) + fold_points (plan_view p) ≤ length (shared_query_view query.now).combinations * (2 + query_work (shared_query_view query.now).combinations)) }
+    ensures coverages { IfOk result (λ p. p.coverages.items ≡ (shared_query_view query.now).coverages) }
+    ensures shared { IfOk result (λ p. length p.steps.items ≡ length query.now.trees.items) }
+{
+    let coverages = copies(alloc, query.coverages())?;
+    let steps = each_lowered(alloc, query.trees())?;
+    let combinations = choices(alloc, query.trees(), query.combinations())?;
+    Ok(Plan {
+        coverages,
+        steps,
+        combinations,
+    })
+}
+
+/// Copies of signatures.
+fn copies(alloc: Global, all: &[Signature]) -> Result<Vec<Signature>, AllocError>
+    ensures { IfOk result (λ v. v.items ≡ all.now) }
+{
+    let mut list = Vec::new(alloc);
+    for signature in all {
+        list.push(copy(alloc, signature)?)?;
+    }
+    Ok(list)
+}
+
+/// A copy of a signature.
+fn copy(alloc: Global, signature: &Signature) -> Result<Signature, AllocError>
+    ensures { IfOk result (λ s. s ≡ signature.now) }
+{
+    let name = signature.name.copy(alloc)?;
+    let domain = signature.domain.copy(alloc)?;
+    let fields = signature.fields.copy(alloc)?;
+    Ok(Signature {
+        name,
+        domain,
+        fields,
+    })
+}
+
+/// The steps of each tree.
+fn each_lowered(alloc: Global, trees: &[Combination]) -> Result<Vec<Steps>, AllocError>
+    ensures { IfOk result (λ v. map steps_view v.items ≡ map lowered_tree trees.now) }
+{
+    let mut list = Vec::new(alloc);
+    for tree in trees {
+        list.push(lowered_steps(alloc, &tree.condition, &tree.item)?)?;
+    }
+    Ok(list)
+}
+
+/// The combinations that have a tree, which in a checked query all do.
+fn choices(
+    alloc: Global,
+    trees: &[Combination],
+    all: &[SharedCombination],
+) -> Result<Vec<Choice>, AllocError>
+    ensures { IfOk result (λ v. map choice_view v.items ≡ lowered_choices trees.now all.now) }
+{
+    let mut list = Vec::new(alloc);
+    push_choices(alloc, trees, all, &mut list)?;
+    Ok(list)
+}
+
+/// Puts the combinations that have a tree at the end of a list.
+fn push_choices(
+    alloc: Global,
+    trees: &[Combination],
+    all: &[SharedCombination],
+    list: &mut Vec<Choice>,
+) -> Result<(), AllocError>
+    ensures { OnOk result (map choice_view list.new.items ≡ map choice_view list.old.items ++ lowered_choices trees.now all.now) }
+{
+    match all {
+        [] => Ok(()),
+        [combination, rest @ ..] => {
+            if let Some(_tree) = tree_at(trees, combination.tree) {
+                push_choice(alloc, combination, list)?;
+            }
+            push_choices(alloc, trees, rest, list)
+        }
+    }
+}
+
+/// The tree at a place.
+fn tree_at(trees: &[Combination], k: usize) -> Option<&Combination>
+    ensures { option_copied result ≡ slice_get trees.now k }
+{
+    trees.get(k)
+}
+
+/// Puts a combination at the end of a list. Its steps have the place of its tree.
+fn push_choice(
+    alloc: Global,
+    combination: &SharedCombination,
+    list: &mut Vec<Choice>,
+) -> Result<(), AllocError>
+    ensures { OnOk result (map choice_view list.new.items ≡ map choice_view list.old.items ++ record { steps = combination.now.tree; coverages = combination.now.coverages.items } ∷ []) }
+{
+    let coverages = combination.coverages.to_vec(alloc)?;
+    list.push(Choice {
+        steps: combination.tree,
+        coverages,
+    })?;
+    Ok(())
+}
