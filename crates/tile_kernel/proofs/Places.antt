@@ -185,3 +185,11 @@ operated_one_scalar op f n zs fs ls l o p v room e =
     let i = length-replicate n l in
     operated_one op (replicate n l) (replicate n o) (length-replicate n o ∙ sym i) (λ k d lt. get_or-replicate n k o d (omega arith) ∙ e ∙ ap (operate1 op) (sym (get_or-replicate n k l (Value (pos 0)) (omega arith))))
     ∙ ap (map (operate1 op)) x
+
+-- a column of outcomes
+pub outcomes_written : (os : List Outcome) (zs : List ℤ) (fs : List (Option PointFault)) → IsRoomy (length os) zs fs → ((k : ℕ) → k < length os → outcome_of (get_or zs k (pos 0)) (get_or fs k None) ≡ outcome_at os k) → seen Mixed (length os) zs fs ≡ os
+outcomes_written os zs fs room at =
+    let n = length-seen Mixed (length os) zs fs room in
+    same_lists (seen Mixed (length os) zs fs) os n (λ k d lt.
+    let l : k < length os = omega arith in
+    at_mixed (length os) k zs fs (pos 0) None d l room ∙ at k l ∙ other_default os k (Value (pos 0)) d l)

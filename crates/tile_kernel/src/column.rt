@@ -3,7 +3,7 @@
 ghost use Rattle.std.specs.Prelude.{◌≡◌, ◌<◌, ◌≤◌, [], length, map, replicate, slice_get, Some, IfOk};
 ghost use Rattle.std.specs.Prelude.{take};
 ghost use Rattle.wcps_mean.specs.declared.cell.Outcome.TheVariants.{Value};
-ghost use Rattle.tile_kernel.specs.Columns.{outcome_of};
+ghost use Rattle.tile_kernel.specs.Columns.{outcome_of, outcome_at, AreOutcomes};
 
 use crate::form::Form;
 use std::alloc::{AllocError, Global};
@@ -111,6 +111,34 @@ impl Column {
         copy_in(&mut self.values, cells);
         self.len = cells.len();
         self.form = Form::Values;
+    }
+
+    /// Makes it these outcomes.
+    pub fn write_outcomes(&mut self, outcomes: &[Outcome])
+        requires { length outcomes.now ≤ 4096 }
+        ensures { self.new ≡ outcomes.now }
+    {
+        copy_outcomes(&mut self.values, &mut self.faults, outcomes);
+        self.len = outcomes.len();
+        self.form = Form::Mixed;
+    }
+}
+
+/// Puts the values and the faults that stand for outcomes to the front of lists.
+fn copy_outcomes(values: &mut Vec<i64>, faults: &mut Vec<Option<PointFault>>, outcomes: &[Outcome])
+    requires few { length outcomes.now ≤ 4096 }
+    requires values { length values.old.items ≡ 4096 }
+    requires faults { length faults.old.items ≡ 4096 }
+    ensures values { length values.new.items ≡ 4096 }
+    ensures faults { length faults.new.items ≡ 4096 }
+    ensures outcomes { AreOutcomes (length outcomes.now) (outcome_at outcomes.now) values.new.items faults.new.items }
+{
+    let numbers = values.as_mut_slice();
+    let marks = faults.as_mut_slice();
+    for place in 0..outcomes.len() {
+        let (value, fault) = parts(outcomes[place]);
+        numbers[place] = value;
+        marks[place] = fault;
     }
 }
 

@@ -1,0 +1,6 @@
+use Rattle.std.proofs.Common.{◌≡◌, ℕ, ◌<◌, get_or, pos, None}
+use Rattle.tile_kernel.specs.Columns.{outcome_of, outcome_at}
+use Rattle.tile_kernel.proofs.column.copy_outcomes.Given as goal
+
+abbrev pub invariant-loop-place : goal.invariant-loop-place
+invariant-loop-place l = (k : ℕ) → k < l.place → outcome_of (get_or l.numbers k (pos 0)) (get_or l.marks k None) ≡ outcome_at l.outcomes k
