@@ -16,8 +16,8 @@ use Rattle.wcps_text.specs.Grammar.{IsSpelled}
 use Rattle.wcps_text.specs.Tree.{QueryTree, query_view}
 use Rattle.wcps_parse.specs.Outcome.{IsWithinLimits, IsTooDeep}
 use Rattle.wcps_types.specs.Queries.{typ_query}
-use Rattle.wcps_types.specs.declared.typed.TypedQuery.{TypedQuery}
-use Rattle.wcps_types.specs.TypedQueries.{query_view as typed_view}
+use Rattle.wcps_types.specs.declared.shared.SharedQuery.{SharedQuery}
+use Rattle.wcps_types.specs.SharedQueries.{shared_query_view as typed_view}
 use Rattle.wcps_mean.specs.declared.item.Item.{Item}
 use Rattle.wcps_mean.specs.Answer.{answer}
 use Rattle.wcps_mean.specs.Errors.{TellsFault, TellsStore}
@@ -95,7 +95,7 @@ by_query store text ts q r short cut x is =
     by_tokens store text ts r short cut
     (subst (λ (b : TypedAnswer). TokensTyped store (map tok ts) b) (tree_within store (query_view q) x.2 ∙ is) (query (query_view q) x.0 x.1))
 
-pub text_types : (store : Store) (text : List ℕ) (ts : List Token) (q : Query) (r : Result TypedQuery Refusal) → length text ≤ 65536 → Lexed 0 text (map piece ts)
+pub text_types : (store : Store) (text : List ℕ) (ts : List Token) (q : Query) (r : Result SharedQuery Refusal) → length text ≤ 65536 → Lexed 0 text (map piece ts)
     → GivesQuery (map tok ts) (Ok q) → GivesTyped (typ_query (map signature_of store) (query_view q)) r → GivesText store text r
 text_types store text ts q (Ok typed) short cut x g = by_query store text ts q (Ok (typed_view typed)) short cut x (ap numbered g)
 text_types store text ts q (Err (Numbered code)) short cut x g = by_query store text ts q (Err code) short cut x (ap numbered g.1 ∙ ap Err (sym g.2))
@@ -118,7 +118,7 @@ refused_text v text DiskFault x = absurd x
 refused_text v text NoRoom x = absurd x
 refused_text v text Damaged x = absurd x
 
-module _ (v w : ServerView) (still : w.store ≡ v.store) (text : List ℕ) (q : TypedQuery) (typed : TextTyped v.store text (Ok (typed_view q))) where
+module _ (v w : ServerView) (still : w.store ≡ v.store) (text : List ℕ) (q : SharedQuery) (typed : TextTyped v.store text (Ok (typed_view q))) where
   pub refused_values : (e : Refusal) → (IsSound v → GivesValues (evaluated v.store (Ok (typed_view q))) (Err e)) → FailsReading v w e → Answered (Answers text) ⊥ v w (Err e)
   refused_values (Numbered code) is fails = refused v w text code still (λ sound. (Ok (typed_view q), typed, sym (is sound)))
   refused_values NoMemory is fails = tt
@@ -146,7 +146,7 @@ too_high store ts q spelled high = by_depth (nat_lt 512 (deepest 0 ts)) (nat_lt 
     by_depth false false x y = subst (TokensTyped store ts) (tree_too_high store q high) (query q (within x y) spelled)
 
 -- the values of a typed query, from what its evaluation gives
-pub values_faulty : (store : Store) (q : TypedQuery) (e : Refusal) → GivesItems (answer (cells_of store q.coverages.items) (typed_view q)) (Err e)
+pub values_faulty : (store : Store) (q : SharedQuery) (e : Refusal) → GivesItems (answer (cells_of store q.coverages.items) (typed_view q)) (Err e)
     → GivesValues (evaluated store (Ok (typed_view q))) (Err e)
 values_faulty store q (Numbered code) x = ap items_answer x.1 ∙ ap Err (sym x.2)
 values_faulty store q NoMemory x = tt
@@ -154,7 +154,7 @@ values_faulty store q DiskFault x = tt
 values_faulty store q NoRoom x = tt
 values_faulty store q Damaged x = tt
 
-pub values_given : (store : Store) (q : TypedQuery) (items : List Item) (text : String Global) → answer (cells_of store q.coverages.items) (typed_view q) ≡ Ok items
+pub values_given : (store : Store) (q : SharedQuery) (items : List Item) (text : String Global) → answer (cells_of store q.coverages.items) (typed_view q) ≡ Ok items
     → string_bytes text ≡ csv items → evaluated store (Ok (typed_view q)) ≡ Ok (string_bytes text)
 values_given store q items text x written = ap items_answer x ∙ ap Ok (sym written)
 

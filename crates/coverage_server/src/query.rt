@@ -1,11 +1,13 @@
 //! The answers of queries over the coverages.
-ghost use Rattle.std.specs.Prelude.{◌≡◌, ◌≤◌, Ok, IfOk, IfErr, map};
+ghost use Rattle.std.specs.Prelude.{◌≡◌, ◌≤◌, ℕ, ℤ, List, Ok, IfOk, IfErr, map};
 ghost use Rattle.arr_core.specs.declared.signature.Signature.{Signature};
 ghost use Rattle.wcps_text.specs.Token.{tok};
 ghost use Rattle.wcps_text.specs.Tree.{query_view};
 ghost use Rattle.wcps_types.specs.Queries.{typ_query};
-ghost use Rattle.wcps_types.specs.TypedQueries.{query_view as typed_view};
+ghost use Rattle.wcps_types.specs.SharedQueries.{shared_query_view as typed_view};
 ghost use Rattle.wcps_mean.specs.Answer.{answer};
+ghost use Rattle.plan_ir.specs.Plans.{plan_view};
+ghost use Rattle.plan_ir.specs.Planned.{planned};
 ghost use Rattle.coverage_server.specs.Asking.{cells_of, evaluated};
 ghost use Rattle.coverage_server.specs.Stages.{GivesTokens, GivesQuery, GivesTyped, GivesText, GivesItems, GivesValues, FailsReading, error_refusal};
 ghost use Rattle.coverage_server.specs.Machine.{Answers};
@@ -19,11 +21,13 @@ use arr_core::{Name, Signature};
 use csv_out::csv_text;
 use disk_face::Disk;
 use http_front::{Reply, refusals};
+use plan_ir::{Plan, run};
+use plan_rewrite::{lower, rewrite};
 use std::alloc::{AllocError, Global};
-use wcps_mean::{CellError, EvalError, Item, eval_plain};
+use wcps_mean::{CellError, EvalError, Item};
 use wcps_parse::{ParseError, parse};
 use wcps_text::{LexError, Query, Token, lex};
-use wcps_types::{CheckError, TypedQuery, check};
+use wcps_types::{CheckError, SharedQuery, check_shared};
 
 /// The most bytes of a query.
 const MAX_QUERY: usize = 65_536;
@@ -53,10 +57,10 @@ fn query_of(alloc: Global, tokens: &[Token]) -> Result<Query, Refusal>
 }
 
 /// The typed query.
-fn typed_of(alloc: Global, signatures: &[Signature], query: &Query) -> Result<TypedQuery, Refusal>
+fn typed_of(alloc: Global, signatures: &[Signature], query: &Query) -> Result<SharedQuery, Refusal>
     ensures { GivesTyped (typ_query signatures.now (query_view query.now)) result }
 {
-    match check(alloc, signatures, query) {
+    match check_shared(alloc, signatures, query) {
         Ok(typed) => Ok(typed),
         Err(CheckError::Refused(refusal)) => Err(Refusal::Numbered(refusal.number())),
         Err(CheckError::NoMemory) => Err(Refusal::NoMemory),
@@ -87,8 +91,17 @@ fn error_refusal(error: EvalError) -> Refusal
     }
 }
 
-/// The items of the answer.
-fn items_of<D: Disk>(cells: &mut AskedCells<D>, typed: &TypedQuery) -> Result<Vec<Item>, Refusal>
+/// The plan of a typed query, as it is run.
+fn plan_of(alloc: Global, typed: &SharedQuery) -> Result<Plan, AllocError>
+    ensures { IfOk result (λ p. (s : ℕ → ℕ → List ℤ → ℤ) → planned s (plan_view p) ≡ answer s (typed_view typed.now)) }
+{
+    let lowered = lower(alloc, typed)?;
+    let plan = rewrite(alloc, lowered)?;
+    Ok(plan)
+}
+
+/// The items of the answer, by a run of the query's plan.
+fn items_of<D: Disk>(cells: &mut AskedCells<D>, typed: &SharedQuery) -> Result<Vec<Item>, Refusal>
     ensures items { IsSound cells.old.coverages → GivesItems (answer (cells_of cells.old.coverages.store typed.now.coverages.items) (typed_view typed.now)) result }
     ensures faults { IfErr result (FailsReading cells.old.coverages cells.new.coverages) }
     ensures still { still_of cells.new.coverages ≡ still_of cells.old.coverages }
@@ -98,7 +111,8 @@ fn items_of<D: Disk>(cells: &mut AskedCells<D>, typed: &TypedQuery) -> Result<Ve
     let names = names_of(alloc, typed.coverages())?;
     cells.names = names;
     cells.tiles.clear();
-    match eval_plain(alloc, cells, typed) {
+    let plan = plan_of(alloc, typed)?;
+    match run(alloc, cells, &plan) {
         Ok(items) => Ok(items),
         Err(error) => Err(error_refusal(error)),
     }
@@ -110,7 +124,7 @@ pub fn typed_text<D: Disk>(
     alloc: Global,
     coverages: &Coverages<D>,
     text: &str,
-) -> Result<TypedQuery, Refusal>
+) -> Result<SharedQuery, Refusal>
     ensures { GivesText coverages.now.store text.now result }
 {
     if text.len() > MAX_QUERY {
@@ -124,7 +138,7 @@ pub fn typed_text<D: Disk>(
 }
 
 /// The comma-separated values of a typed query, or the refusal by its evaluation.
-fn values_of<D: Disk>(cells: &mut AskedCells<D>, typed: &TypedQuery) -> Result<String, Refusal>
+fn values_of<D: Disk>(cells: &mut AskedCells<D>, typed: &SharedQuery) -> Result<String, Refusal>
     ensures values { IsSound cells.old.coverages → GivesValues (evaluated cells.old.coverages.store (Ok (typed_view typed.now))) result }
     ensures faults { IfErr result (FailsReading cells.old.coverages cells.new.coverages) }
     ensures still { still_of cells.new.coverages ≡ still_of cells.old.coverages }
