@@ -103,6 +103,15 @@ impl Layer for Site {
                 return self.open(alloc, number.parse::<u64>()?, words);
             }
             "close" => return self.close(alloc),
+            "session" => return self.session(alloc, 0, rest),
+            "session_failing" => {
+                let (number, words) = rest.split_once(' ').context("no file")?;
+                return self.session(alloc, number.parse::<u64>()?, words);
+            }
+            "session_pieces" => {
+                let (count, words) = rest.split_once(' ').context("no file")?;
+                return self.session_pieces(alloc, count.parse::<usize>()?, words);
+            }
             "is_closed" => return self.is_closed(alloc, rest),
             "state" => self.keep(alloc, rest)?,
             "ask" => return self.ask(alloc, &bytes(alloc, rest)?),

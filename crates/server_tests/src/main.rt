@@ -5,6 +5,7 @@
 mod disks;
 mod layer;
 mod messages;
+mod sessions;
 mod streams;
 
 use anyhow::Result;
