@@ -1,0 +1,3 @@
+pub mod Ranges
+pub mod Turns
+pub mod Gathers

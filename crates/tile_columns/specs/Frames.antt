@@ -1,0 +1,55 @@
+-- Frames: the numbers of all variables at each place of a column.
+use Rattle.std.specs.Prelude.{◌≡◌, ℕ, ◌+◌, ◌/◌, ◌%◌, ◌<◌, ◌≤◌, ℤ, pos, ◌+ℤ◌, ◌≤ℤ◌, List, [], ◌∷◌, ◌++◌, map, length, slice_index_or}
+use Rattle.std.specs.List.{All, range_with_len}
+use Rattle.arr_core.specs.declared.domain.Axis.{Axis}
+use Rattle.arr_core.specs.Domains.{gap, count}
+use Rattle.tile_columns.specs.declared.frame.Variable.{Variable}
+use Rattle.tile_columns.specs.declared.frame.Variable.TheVariants as variable
+
+-- the coordinate of an axis at a place: each coordinate comes so many times, one after the other, and after the last one
+-- the first one comes again
+abbrev pub turn : ℤ → ℤ → ℕ → ℕ → ℤ
+turn lo hi every place = lo +ℤ pos ((place / every) % (gap lo hi + 1))
+
+-- the number of a variable at a place
+abbrev pub number_of : ℕ → Variable → ℤ
+number_of place (variable.Const z) = z
+number_of place (variable.Axis lo hi every) = turn lo hi every place
+number_of place (variable.Column zs) = slice_index_or zs.items place (pos 0)
+
+-- the numbers of all variables at a place
+abbrev pub environment : List Variable → ℕ → List ℤ
+environment variables place = map (number_of place) variables
+
+-- place by place
+abbrev pub environments : ℕ → List Variable → List (List ℤ)
+environments places variables = map (environment variables) (range_with_len 0 places)
+
+-- a variable has a number at each place
+abbrev pub HasPlaces : ℕ → Variable → Type 0
+HasPlaces places (variable.Const z) = Unit {0}
+HasPlaces places (variable.Axis lo hi every) = (lo ≤ℤ hi) × (0 < every)
+HasPlaces places (variable.Column zs) = length zs.items ≡ places
+
+pub record IsFrame (places : ℕ) (variables : List Variable) : Type 0 where
+  pub few : places ≤ 4096
+  pub whole : All (HasPlaces places) variables
+
+-- with further variables, which have the same numbers at each place
+abbrev pub under : List (List ℤ) → List ℤ → List (List ℤ)
+under envs numbers = map (λ e. e ++ numbers) envs
+
+-- with one more variable, which has a number for each place
+abbrev pub extended : List (List ℤ) → List ℤ → List (List ℤ)
+extended envs zs = map (λ k. slice_index_or envs k [] ++ slice_index_or zs k (pos 0) ∷ []) (range_with_len 0 (length envs))
+
+-- the coordinates of all axes at a place, the last one fastest
+abbrev pub turns : List Axis → ℕ → List ℤ
+turns [] place = []
+turns (a ∷ axes) place = turn a.lo a.hi (count axes) place ∷ turns axes place
+
+-- a variable has a number at this place
+abbrev pub TellsAt : ℕ → Variable → Type 0
+TellsAt place (variable.Const z) = Unit {0}
+TellsAt place (variable.Axis lo hi every) = (lo ≤ℤ hi) × (0 < every)
+TellsAt place (variable.Column zs) = place < length zs.items

@@ -1,0 +1,15 @@
+//! Columns of what a plan's bodies read: the numbers of variables at the places of a tile box, and the cells of coverages
+//! there, which come a tile at a time.
+#![tactic(auto)]
+
+mod frame;
+mod gather;
+mod lookup;
+mod scratch;
+mod source;
+
+pub use frame::Frame;
+pub use gather::{Reading, read};
+pub use lookup::{fill_variable, look_up};
+pub use scratch::Scratch;
+pub use source::Tiles;

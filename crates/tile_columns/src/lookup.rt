@@ -1,0 +1,122 @@
+//! Numbers of variables, points of indexes, and items of lists, at each place of a column.
+
+ghost use Rattle.std.specs.Prelude.{◌≡◌, ◌<◌, ◌≤◌, pos, List, [], length, map, slice_index_or, OnOk};
+ghost use Rattle.std.specs.List.{All};
+ghost use Rattle.arr_core.specs.Domains.{count, IsInside, rank_of};
+ghost use Rattle.wcps_mean.specs.declared.cell.Outcome.TheVariants.{Value};
+ghost use Rattle.plan_ir.specs.Run.{number_at, numbers_at};
+
+use crate::frame::Frame;
+use crate::scratch::Scratch;
+use arr_core::Domain;
+use plan_ir::Index;
+use std::alloc::AllocError;
+use tile_kernel::Column;
+
+/// The coordinate that an index stands for at a place.
+fn coordinate(frame: &Frame, place: usize, index: Index) -> i32
+    requires { place < length frame.now }
+    ensures { result ≡ number_at (slice_index_or frame.now place []) index }
+{
+    match index {
+        Index::Const(z) => z,
+        Index::Var(k) => frame.number(k, place),
+    }
+}
+
+/// Makes `point` the point of the indexes at a place.
+pub(crate) fn point_at(
+    frame: &Frame,
+    place: usize,
+    indexes: &[Index],
+    point: &mut Vec<i32>,
+) -> Result<(), AllocError>
+    requires { place < length frame.now }
+    ensures { OnOk result (point.new.items ≡ numbers_at (slice_index_or frame.now place []) indexes.now) }
+{
+    point.clear();
+    for index in indexes {
+        point.push(coordinate(frame, place, *index))?;
+    }
+    Ok(())
+}
+
+/// Makes `out` the numbers of a variable, 0 where there is no such variable.
+pub fn fill_variable(
+    frame: &Frame,
+    k: usize,
+    scratch: &mut Scratch,
+    out: &mut Column,
+) -> Result<(), AllocError>
+    ensures { OnOk result (out.new ≡ map (λ (e : List _). Value (slice_index_or e k (pos 0))) frame.now) }
+{
+    let _few = frame.places();
+    numbers_of(frame, k, &mut scratch.cells)?;
+    out.write(&scratch.cells);
+    Ok(())
+}
+
+/// Makes a list the numbers of a variable.
+fn numbers_of(frame: &Frame, k: usize, cells: &mut Vec<i64>) -> Result<(), AllocError>
+    ensures { OnOk result (cells.new.items ≡ map (λ (e : List _). slice_index_or e k (pos 0)) frame.now) }
+{
+    cells.clear();
+    for place in 0..frame.places() {
+        cells.push(frame.number(k, place) as i64)?;
+    }
+    Ok(())
+}
+
+/// Makes `out` the items of a list, which has one for each point of the domain in row-major order, at the points of the
+/// indexes.
+pub fn look_up(
+    domain: &Domain,
+    items: &[i64],
+    indexes: &[Index],
+    frame: &Frame,
+    scratch: &mut Scratch,
+    out: &mut Column,
+) -> Result<(), AllocError>
+    requires whole { length items.now ≡ count domain.now }
+    requires inside { All (λ e. IsInside domain.now (numbers_at e indexes.now)) frame.now }
+    ensures { OnOk result (out.new ≡ map (λ e. Value (slice_index_or items.now (rank_of domain.now (numbers_at e indexes.now)) (pos 0))) frame.now) }
+{
+    let _few = frame.places();
+    let table = Table {
+        domain,
+        items,
+        indexes,
+    };
+    items_of(&table, frame, &mut scratch.point, &mut scratch.cells)?;
+    out.write(&scratch.cells);
+    Ok(())
+}
+
+/// A list with an item for each point of a domain, and an index for each axis.
+#[derive(Clone, Copy)]
+struct Table<'a> {
+    domain: &'a Domain,
+    items: &'a [i64],
+    indexes: &'a [Index],
+}
+
+/// Makes `cells` the items at the points of the indexes.
+fn items_of(
+    table: &Table<'_>,
+    frame: &Frame,
+    point: &mut Vec<i32>,
+    cells: &mut Vec<i64>,
+) -> Result<(), AllocError>
+    requires whole { length table.now.items.now ≡ count table.now.domain.now }
+    requires inside { All (λ e. IsInside table.now.domain.now (numbers_at e table.now.indexes.now)) frame.now }
+    ensures { OnOk result (cells.new.items ≡ map (λ e. slice_index_or table.now.items.now (rank_of table.now.domain.now (numbers_at e table.now.indexes.now)) (pos 0)) frame.now) }
+{
+    cells.clear();
+    for place in 0..frame.places() {
+        point_at(frame, place, table.indexes, point)?;
+        let _few = table.domain.points();
+        let rank = table.domain.rank(point);
+        cells.push(table.items[rank as usize])?;
+    }
+    Ok(())
+}
