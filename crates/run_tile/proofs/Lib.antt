@@ -2,3 +2,4 @@ pub mod Spelling
 pub mod Values
 pub mod Pushes
 pub mod Counts
+pub mod Progress

@@ -1,12 +1,10 @@
 -- The runs that bytes read as, one after another.
-use Rattle.std.proofs.Common.{◌≡◌, ◌≢◌, ℕ, zero, suc, ◌+◌, ◌*◌, ◌/◌, ◌%◌, ◌<◌, ◌≤◌, ℤ, List, [], ◌∷◌, ◌++◌, length, take, drop, map, flat_map, replicate, get_or, refl, sym, ap, subst, ◌∙◌, ◌-◌, arith, length-append, length-drop, append-nil, append_assoc, mul-le-mul_right, div-mul-le_self, take_all, div-add-mod', eq-or-lt_of_le, ⊎_elim, Option, Some, None}
+use Rattle.std.proofs.Common.{◌≡◌, ◌≢◌, ℕ, zero, suc, ◌+◌, ◌*◌, ◌/◌, ◌%◌, ◌<◌, ◌≤◌, ℤ, List, [], ◌∷◌, ◌++◌, length, take, drop, replicate, refl, ap, subst, ◌∙◌, ◌-◌, arith, length-append, length-drop, append-nil, mul-le-mul_right, div-mul-le_self, take_all, div-add-mod', eq-or-lt_of_le, ⊎_elim, Option, Some, None}
 use Rattle.std.proofs.lemmas.List.{length-replicate}
 use Rattle.std.proofs.lemmas.Grind.{flat_map-append}
 use Rattle.std.proofs.lemmas.List.FromFn.{map-range_with_len_more}
-use Rattle.std.specs.List.{range_with_len}
 use Rattle.arr_core.specs.declared.cell.FieldType.{FieldType}
-use Rattle.run_tile.specs.Types.{width_of}
-use Rattle.run_tile.specs.Runs.{run_size, run_at, run_count, run_of, first_runs, cells_of, IsRun, IsSpelling}
+use Rattle.run_tile.specs.Runs.{run_size, run_at, run_count, run_of, first_runs, cells_of, IsSpelling}
 use Rattle.run_tile.specs.declared.run.Run.{Run}
 
 -- a run at a place before the last one stands inside the bytes
@@ -49,13 +47,6 @@ length-within kind bytes i n h =
     let e : i + (n - i) ≡ n = omega arith in
     let P : ℕ → Type 0 = λ k. length (cells_of (first_runs kind bytes i)) ≤ length (cells_of (first_runs kind bytes k)) in
     subst P e m
-
--- what a resize past the end leaves
-pub resized : (xs ys : List ℤ) (m n : ℕ) (v : ℤ) → m ≡ length xs → ys ≡ take (m + n) xs ++ replicate (m + n - m) v → ys ≡ xs ++ replicate n v
-resized xs ys m n v e h =
-    let whole = take_all (m + n) xs (omega arith) in
-    let count : m + n - m ≡ n = omega arith in
-    h ∙ ap (λ (zs : List ℤ). zs ++ replicate (m + n - m) v) whole ∙ ap (λ (k : ℕ). xs ++ replicate k v) count
 
 -- the run that was read at a place is the one there
 pub read-at : (kind : FieldType) (bytes : List ℕ) (place size : ℕ) (r : Run) → size ≡ run_size kind → r ≡ run_of kind (take (length bytes - place * size) (drop (place * size) bytes)) → r ≡ run_at kind bytes place

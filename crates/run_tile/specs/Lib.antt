@@ -1,3 +1,4 @@
 pub mod Types
 pub mod Runs
 pub mod Bytes
+pub mod Reading

@@ -1,23 +1,38 @@
 //! Bytes to cells.
 
-ghost use Rattle.std.specs.Prelude.{◌≡◌, ℤ, List, length, IfOk, IsErrOf, IsTrue, ◌↔◌, Some};
+ghost use Rattle.std.specs.Prelude.{◌≡◌, ◌≤◌, ◌<◌, ℤ, List, length, vec_capacity, IfOk, OnOk, IsErrOf};
 ghost use Rattle.run_tile.specs.Runs.{IsSpelling};
 
 use crate::error::DecodeError;
-use crate::run::{Run, width};
+use crate::reading::read_cells;
 use arr_core::FieldType;
 use std::alloc::Global;
 
-/// Whether the run before, if there was one, had a value.
-fn repeats(before: Option<i64>, value: i64) -> bool
-    ensures { IsTrue result ↔ before ≡ Some value }
+/// Writes the `count` cells of a type that the bytes spell into a buffer, whatever it held before: `Damaged` where they
+/// spell no such list, so where runs are cut short, empty, too long or of another type, where neighbouring runs have
+/// one value, and where the runs have more or fewer cells. A buffer that has room for the cells takes no memory. After
+/// a refusal it holds any cells.
+pub fn decode_into(
+    kind: FieldType,
+    count: usize,
+    bytes: &[u8],
+    cells: &mut Vec<i64>,
+) -> Result<(), DecodeError>
+    ensures spelled { OnOk result (IsSpelling kind bytes.now cells.new.items) }
+    ensures counted { OnOk result (length cells.new.items ≡ count) }
+    ensures damaged { IsErrOf result DecodeError.Damaged → (list : List ℤ) → length list ≡ count → ¬ IsSpelling kind bytes.now list }
+    ensures no_memory { IsErrOf result DecodeError.NoMemory → vec_capacity cells.old < count }
+    ensures capacity { vec_capacity cells.old ≤ vec_capacity cells.new }
 {
-    before == Some(value)
+    cells.resize(count, 0)?;
+    if read_cells(kind, bytes, cells) {
+        Ok(())
+    } else {
+        Err(DecodeError::Damaged)
+    }
 }
 
-/// The `count` cells of a type that the bytes spell: `Damaged` where they spell no such list,
-/// so where runs are cut short, empty, too long or of another type, where neighbouring runs have
-/// one value, and where the runs have more or fewer cells.
+/// The `count` cells of a type that the bytes spell, in a vector of their own: refused as `decode_into`.
 pub fn decode(
     alloc: Global,
     kind: FieldType,
@@ -28,23 +43,7 @@ pub fn decode(
     ensures counted { IfOk result (λ cells. length cells.items ≡ count) }
     ensures damaged { IsErrOf result DecodeError.Damaged → (cells : List ℤ) → length cells ≡ count → ¬ IsSpelling kind bytes.now cells }
 {
-    let size = 2 + width(kind);
-    if bytes.len() % size != 0 {
-        return Err(DecodeError::Damaged);
-    }
-    let mut cells = Vec::with_capacity(alloc, count)?;
-    let mut last = None;
-    for place in 0..bytes.len() / size {
-        let run = Run::read(kind, &bytes[place * size..]);
-        let after = cells.len() + run.count as usize;
-        if !run.is_run(kind) || repeats(last, run.value) || count < after {
-            return Err(DecodeError::Damaged);
-        }
-        cells.resize(after, run.value)?;
-        last = Some(run.value);
-    }
-    if cells.len() < count {
-        return Err(DecodeError::Damaged);
-    }
+    let mut cells = Vec::new(alloc);
+    decode_into(kind, count, bytes, &mut cells)?;
     Ok(cells)
 }

@@ -5,8 +5,9 @@
 mod decoding;
 mod encoding;
 mod error;
+mod reading;
 mod run;
 
-pub use decoding::decode;
+pub use decoding::{decode, decode_into};
 pub use encoding::encode;
 pub use error::DecodeError;

@@ -37,9 +37,9 @@ fn read_value(kind: FieldType, bytes: &[u8]) -> i64
 {
     match kind {
         FieldType::Bool | FieldType::U8 => i64::from(bytes[0]),
-        FieldType::I16 => LittleEndian::read_int(bytes, 2),
-        FieldType::I32 => LittleEndian::read_int(bytes, 4),
-        FieldType::I64 => LittleEndian::read_int(bytes, 8),
+        FieldType::I16 => i64::from(LittleEndian::read_i16(bytes)),
+        FieldType::I32 => i64::from(LittleEndian::read_i32(bytes)),
+        FieldType::I64 => LittleEndian::read_i64(bytes),
     }
 }
 

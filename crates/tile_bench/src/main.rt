@@ -7,7 +7,7 @@ ghost use Rattle.std.specs.Prelude.{◌↔◌, All, IsTrue};
 ghost use Rattle.arr_core.specs.Cells.{Fits};
 
 use arr_core::FieldType;
-use run_tile::{decode, encode};
+use run_tile::{decode_into, encode};
 use std::alloc::{AllocError, Global};
 use std::{env, io};
 
@@ -70,7 +70,7 @@ fn encoded(
     Ok(size)
 }
 
-/// Encodes the cells once and decodes them in each round; gives how many cells the last time.
+/// Encodes the cells once and decodes them in each round, into one buffer; gives how many cells it holds then.
 fn decoded(
     alloc: Global,
     kind: FieldType,
@@ -82,8 +82,9 @@ fn decoded(
         return Ok(size);
     }
     let bytes = encode(alloc, kind, cells)?;
+    let mut again = Vec::new(alloc);
     for _ in 0..rounds {
-        if let Ok(again) = decode(alloc, kind, cells.len(), &bytes) {
+        if let Ok(()) = decode_into(kind, cells.len(), &bytes, &mut again) {
             size = again.len();
         }
     }
