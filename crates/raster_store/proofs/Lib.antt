@@ -5,3 +5,4 @@ pub mod Readings
 pub mod Writes
 pub mod Named
 pub mod CellKinds
+pub mod Placed

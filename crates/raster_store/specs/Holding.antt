@@ -1,13 +1,15 @@
 -- How a store is held: for each coverage its signature, and the index of each field.
-use Rattle.std.specs.Prelude.{◌≡◌, ℕ, zero, suc, ◌+◌, ◌<◌, ◌≤◌, ◌^◌, Bool, true, false, IsTrue, List, [], ◌∷◌, map, length, slice_index_or, sum_by, All}
+use Rattle.std.specs.Prelude.{◌≡◌, ℕ, zero, suc, ◌<◌, Bool, true, false, IsTrue, List, [], ◌∷◌, map, length, slice_get, slice_index_or, All, IsSomeAnd}
 use Rattle.std.specs.List.{AllByRecursion as Each}
 use Rattle.std.specs.Str.{bytes_eq}
-use Rattle.std.specs.declared.alloc.Global.{Global}
 use Rattle.arr_core.specs.declared.signature.Signature.{Signature}
 use Rattle.arr_core.specs.Stores.{Coverage, Store}
 use Rattle.block_file.specs.Blocks.{block_at}
 use Rattle.tile_index.specs.Index.{IsIndex}
+use Rattle.arr_core.specs.declared.field.Field.{Field}
+use Rattle.tile_store.specs.Stored.{IsTileSpelled}
 use Rattle.raster_store.specs.declared.held.Held.{Held}
+use Rattle.raster_store.specs.declared.reading.TileAt.{TileAt}
 use Rattle.raster_store.specs.Views.{Index, coverage_in, coverages_in, times_all, AreBelow}
 
 abbrev pub signatures_of : List Held → List Signature
@@ -30,6 +32,11 @@ index_at h field = slice_index_or h.fields.items field []
 -- an index for each field, with tiles of the domain alone
 abbrev pub IsWhole : Held → Type 0
 IsWhole h = (length h.fields.items ≡ length h.signature.fields) × All IsIndex h.fields.items × AreBelow h.signature.domain h.fields.items
+
+-- a tile of a field is not listed, or its bytes spell as many cells of the field's type as it has points
+abbrev pub IsHeldTileSpelled : List ℕ → Held → TileAt → Type 0
+IsHeldTileSpelled content h at =
+    IsSomeAnd (slice_get h.signature.fields at.field) (λ (f : Field). IsTileSpelled f.kind h.signature.domain (index_at h at.field) content at.tile)
 
 -- whether a coverage has a name
 abbrev pub has_name : List ℕ → Held → Bool

@@ -1,3 +1,4 @@
 pub mod Views
 pub mod Calls
 pub mod Holding
+pub mod Fetches

@@ -10,5 +10,6 @@ mod store;
 mod writing;
 
 pub use fault::WriteFault;
+pub use reading::TileAt;
 pub use store::RasterStore;
 pub use tile_store::Fault;

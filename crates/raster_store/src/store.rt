@@ -1,6 +1,6 @@
 //! Coverages by their names: functions on boxes.
 
-ghost use Rattle.std.specs.Prelude.{◌≡◌, ℕ, ◌+◌, ◌<◌, ◌≤◌, List, [], ◌∷◌, ◌++◌, map, length, replicate, None, IsSomeAnd, IsErrOf, IfOk, IfErr, OnOk, OnErr, IsTrue, option_copied, option_map};
+ghost use Rattle.std.specs.Prelude.{◌≡◌, ℕ, ◌+◌, ◌<◌, ◌≤◌, List, [], ◌∷◌, ◌++◌, map, length, replicate, None, IsSomeAnd, IsErrOf, IfOk, IfErr, IfSome, IfNone, OnOk, OnErr, MatchResult, IsTrue, option_copied, option_map};
 ghost use Rattle.arr_core.specs.Cells.{stored};
 ghost use Rattle.arr_core.specs.Domains.{points, count, IsInside, IsBoxOf};
 ghost use Rattle.arr_core.specs.Stores.{found, inserted, deleted, updated, value_at};
@@ -13,11 +13,12 @@ ghost use Rattle.tile_store.specs.Room.{AreMeeting};
 ghost use Rattle.tile_store.specs.Stored.{tile_box};
 ghost use Rattle.disk_face.specs.Disk.{Counts};
 ghost use Rattle.raster_store.specs.Views.{coverage_in, AreIntact, times_all, listed_blocks, reserve, AreBelow, Fetched};
+ghost use Rattle.raster_store.specs.Fetches.{IsPlaceOf, HasTile, AreTileCells, HasTileCount, IsSpelledAt, OnlyFetches};
 ghost use Rattle.raster_store.specs.Calls.{signature_of, AreSameSignatures, AreWhole, AreListed, HasField, HasNumbers, Refuses, WriteCounts, LacksRoomFor, MayAttach, index_of, indexes_without};
 
 use crate::fault::WriteFault;
 use crate::held::{Held, give_back_fields, place_held, place_of};
-use crate::reading::{cell_at, cells_in, tile_at};
+use crate::reading::{TileAt, cell_at, cells_in, tile_into};
 use crate::sizes::{created_size, has_room};
 use crate::writing::{check_cell, check_cells, stored_cells, write_at};
 use arr_core::{Cell, Domain, Name, Signature};
@@ -28,13 +29,14 @@ use std::marker::Model;
 use tile_index::TileIndex;
 use tile_store::{Fault, Numbers};
 
-/// The coverages in the order of their insertion, over blocks.
+/// The coverages in the order of their insertion, over blocks; and the buffer that the bytes of a tile are read into.
 #[derive(Drop)]
 pub struct RasterStore<B: Blocks> {
     alloc: Global,
     blocks: B,
     coverages: Vec<Held>,
     fetched: u64,
+    bytes: Vec<u8>,
 }
 
 impl<B: Blocks> Model for RasterStore<B> {
@@ -67,6 +69,7 @@ impl<B: Blocks> RasterStore<B> {
             blocks,
             coverages: Vec::new(alloc),
             fetched: 0,
+            bytes: Vec::new(alloc),
         }
     }
 
@@ -129,6 +132,7 @@ impl<B: Blocks> RasterStore<B> {
         ensures free { B.free_blocks self.new.blocks ≡ B.free_blocks self.old.blocks }
         ensures honest { B.honest self.new.blocks ≡ B.honest self.old.blocks }
         ensures fetched { OnOk result (Fetched 1 self.old.fetched self.new.fetched) }
+        ensures unfetched { OnErr result (self.new.fetched ≡ self.old.fetched) }
         ensures counts { FaultCounts result (B.failures self.old.blocks) (B.failures self.new.blocks) }
     {
         let place = place_held(&self.coverages, name);
@@ -158,6 +162,7 @@ impl<B: Blocks> RasterStore<B> {
         ensures free { B.free_blocks self.new.blocks ≡ B.free_blocks self.old.blocks }
         ensures honest { B.honest self.new.blocks ≡ B.honest self.old.blocks }
         ensures fetched { OnOk result (IsSomeAnd (found name.now self.old.coverages) (λ c. (tiles : List ℕ) × AreMeeting c.domain area.now tiles × Fetched (length tiles) self.old.fetched self.new.fetched)) }
+        ensures unfetched { OnErr result (self.new.fetched ≡ self.old.fetched) }
         ensures counts { FaultCounts result (B.failures self.old.blocks) (B.failures self.new.blocks) }
     {
         let place = place_held(&self.coverages, name);
@@ -166,6 +171,44 @@ impl<B: Blocks> RasterStore<B> {
         let cells = cells_in(self.alloc, &mut self.blocks, coverage, field, area, &tiles)?;
         self.fetched = self.fetched.saturating_add(tiles.len() as u64);
         Ok(cells)
+    }
+
+    /// The place of the coverage with a name, in the order of their insertion, which holds until one is removed. Takes
+    /// no memory.
+    pub fn place(&self, name: &Name) -> Option<usize>
+        ensures some { IfSome result (IsPlaceOf name.now self.now.coverages) }
+        ensures none { IfNone result (found name.now self.now.coverages ≡ None) }
+    {
+        match place_of(&self.coverages, name) {
+            Some(place) => Some(place),
+            None => None,
+        }
+    }
+
+    /// Reads the stored numbers of a tile into `cells`, whatever it held before, in row-major order. `Damaged` comes
+    /// where the tile was read and its bytes do not spell as many cells as it has points, and for no other tile's sake.
+    /// After a refusal `cells` holds anything, and the tile is not counted as fetched.
+    pub fn fetch_tile_into(&mut self, at: TileAt, cells: &mut Vec<i64>) -> Result<(), Fault>
+        requires tile { HasTile at self.old.coverages }
+        ensures value { OnOk result (IsTrue (B.honest self.old.blocks) → AreTileCells at self.old.coverages cells.new.items) }
+        ensures counted { OnOk result (HasTileCount at self.old.coverages cells.new.items) }
+        ensures spelled { OnOk result (IsTrue (B.honest self.old.blocks) → IsSpelledAt at (B.content self.old.blocks) self.old.coverages self.old.indexes) }
+        ensures damaged { IsErrOf result Fault.Damaged → IsTrue (B.honest self.old.blocks) → IsSpelledAt at (B.content self.old.blocks) self.old.coverages self.old.indexes → ⊥ }
+        ensures no_room { IsErrOf result Fault.NoRoom → ⊥ }
+        ensures fetches { OnlyFetches B.content B.uses B.free_blocks B.honest self.old self.new }
+        ensures fetched { MatchResult result (λ _. Fetched 1 self.old.fetched self.new.fetched) (λ _. self.new.fetched ≡ self.old.fetched) }
+        ensures counts { FaultCounts result (B.failures self.old.blocks) (B.failures self.new.blocks) }
+    {
+        tile_into(
+            self.alloc,
+            &mut self.blocks,
+            &self.coverages[at.coverage],
+            at,
+            &mut self.bytes,
+            cells,
+        )?;
+        self.fetched = self.fetched.saturating_add(1);
+        Ok(())
     }
 
     /// The stored numbers of a field, by its place, in a tile of the coverage with a name, by its number, in row-major
@@ -183,17 +226,17 @@ impl<B: Blocks> RasterStore<B> {
         ensures free { B.free_blocks self.new.blocks ≡ B.free_blocks self.old.blocks }
         ensures honest { B.honest self.new.blocks ≡ B.honest self.old.blocks }
         ensures fetched { OnOk result (Fetched 1 self.old.fetched self.new.fetched) }
+        ensures unfetched { OnErr result (self.new.fetched ≡ self.old.fetched) }
         ensures counts { FaultCounts result (B.failures self.old.blocks) (B.failures self.new.blocks) }
     {
         let place = place_held(&self.coverages, name);
-        let cells = tile_at(
-            self.alloc,
-            &mut self.blocks,
-            &self.coverages[place],
+        let at = TileAt {
+            coverage: place,
             field,
             tile,
-        )?;
-        self.fetched = self.fetched.saturating_add(1);
+        };
+        let mut cells = Vec::new(self.alloc);
+        self.fetch_tile_into(at, &mut cells)?;
         Ok(cells)
     }
 
@@ -364,6 +407,7 @@ impl<B: Blocks> RasterStore<B> {
             blocks,
             coverages: _,
             fetched: _,
+            bytes: _,
         } = self;
         blocks
     }

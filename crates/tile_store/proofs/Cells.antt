@@ -17,7 +17,7 @@ use Rattle.tile_index.specs.declared.entry.Entry.{Entry}
 use Rattle.tile_index.specs.Index.{found_at}
 use Rattle.block_file.specs.Blocks.{block_at}
 use Rattle.tile_store.specs.Listing.{entry_times}
-use Rattle.tile_store.specs.Stored.{entry_data, cells_read, tile_cells, tile_box, tile_number, number_at, IsSpelled, KeepsListed}
+use Rattle.tile_store.specs.Stored.{entry_data, cells_read, tile_cells, tile_box, tile_number, number_at, IsSpelled, IsTileSpelled, KeepsListed}
 use Rattle.tile_store.specs.Room.{tile_blocks, cells_after, AreMeeting}
 use Rattle.tile_store.specs.Written.{Spells, EntrySpells, SaysCells, IsWritten}
 use Rattle.tile_store.proofs.Points.{length-points, rank-point, point-inside, at_rank, rank_of-lt-count}
@@ -111,6 +111,24 @@ unfolding IsSpelled
 entry_spells kind domain index content tile box entry n is found size spelled e some =
     let here = spelled tile e (sym found ∙ some) in
     (here.0, here.1 ∙ ap count is ∙ sym size)
+
+-- a tile whose bytes spell so many cells
+pub entry_spelled : (kind : FieldType) (content : List ℕ) (entry : Option Entry) (e : Entry) (bytes : List ℕ) (cells : List ℤ) (n : ℕ) → entry ≡ Some e → bytes ≡ entry_data content e → IsSpelling kind bytes cells → length cells ≡ n → EntrySpells kind content entry n
+entry_spelled kind content entry e bytes cells n some is s size e' same =
+    let other : e ≡ e' = cc in
+    let there : bytes ≡ entry_data content e' = is ∙ ap (entry_data content) other in
+    subst (λ (b : List ℕ). Spells kind b n) there (spells_of kind bytes cells n s size)
+
+-- a tile is spelled exactly where its entry spells as many cells as its box has points
+pub tile_spells : (kind : FieldType) (domain : List Axis) (index : List (ℕ × Entry)) (content : List ℕ) (tile : ℕ) (box : List Axis) (entry : Option Entry) (n : ℕ) → tile_box domain tile ≡ box → entry ≡ found_at tile index → n ≡ count box → IsTileSpelled kind domain index content tile → EntrySpells kind content entry n
+tile_spells kind domain index content tile box entry n is found size spelled e some =
+    let here = spelled e (sym found ∙ some) in
+    (here.0, here.1 ∙ ap count is ∙ sym size)
+
+pub spells_tile : (kind : FieldType) (domain : List Axis) (index : List (ℕ × Entry)) (content : List ℕ) (tile : ℕ) (box : List Axis) (entry : Option Entry) (n : ℕ) → tile_box domain tile ≡ box → entry ≡ found_at tile index → n ≡ count box → EntrySpells kind content entry n → IsTileSpelled kind domain index content tile
+spells_tile kind domain index content tile box entry n is found size spells e some =
+    let here = spells e (found ∙ some) in
+    (here.0, here.1 ∙ size ∙ sym (ap count is))
 
 inside_lo : (x y z : ℤ) → x ≤ℤ y → y ≤ℤ z → x ≤ℤ z
 inside_lo x y z h k = omega (arith, ints)

@@ -1,5 +1,5 @@
 -- Which blocks are listed, and what calls do to blocks. A block is known by its number.
-use Rattle.std.specs.Prelude.{◌≡◌, ℕ, ◌+◌, ◌<◌, ◌≤◌, nat_eq, if◌then◌else◌, List, length, sum_by, Option, Some, None}
+use Rattle.std.specs.Prelude.{◌≡◌, ℕ, ◌+◌, ◌<◌, ◌≤◌, Bool, nat_eq, if◌then◌else◌, List, length, sum_by, Option, Some, None}
 use Rattle.tile_index.specs.declared.entry.Entry.{Entry}
 
 -- how often a block stands in a list
@@ -28,3 +28,10 @@ pub record Extends (old new : List ℕ) (before after : ℕ → ℕ) : Type 0 wh
 -- each block in use that was whole holds what it held
 abbrev pub KeepsUsed : (ℕ → ℕ) → (ℕ → List ℕ) → (ℕ → List ℕ) → Type 0
 KeepsUsed uses old new = (k : ℕ) → 0 < uses k → length (old k) ≡ 4096 → new k ≡ old k
+
+-- a call that only reads has left what the blocks hold, their uses, how many are free and whether they are honest
+pub record OnlyReads {B : Type 0} (content : B → List ℕ) (uses : B → ℕ → ℕ) (free : B → ℕ) (honest : B → Bool) (old new : B) : Type 0 where
+  pub same_content : content new ≡ content old
+  pub same_uses : uses new ≡ uses old
+  pub same_free : free new ≡ free old
+  pub same_honest : honest new ≡ honest old

@@ -46,11 +46,15 @@ field_values kind domain index content = map (number_at kind domain index conten
 abbrev pub IsBelow : ℕ → List (ℕ × Entry) → Type 0
 IsBelow tiles index = All (λ (x : ℕ × Entry). x.0 < tiles) index
 
+-- a tile is not listed, or its bytes spell as many cells as it has points
+abbrev pub IsTileSpelled : FieldType → List Axis → List (ℕ × Entry) → List ℕ → ℕ → Type 0
+IsTileSpelled kind domain index content tile =
+    (e : Entry) → found_at tile index ≡ Some e
+    → IsSpelling kind (entry_data content e) (cells_read kind (entry_data content e)) × (length (cells_read kind (entry_data content e)) ≡ count (tile_box domain tile))
+
 -- each listed tile's bytes spell as many cells as the tile has points
 unfoldable pub IsSpelled : FieldType → List Axis → List (ℕ × Entry) → List ℕ → Type 0
-IsSpelled kind domain index content =
-    (tile : ℕ) (e : Entry) → found_at tile index ≡ Some e
-    → IsSpelling kind (entry_data content e) (cells_read kind (entry_data content e)) × (length (cells_read kind (entry_data content e)) ≡ count (tile_box domain tile))
+IsSpelled kind domain index content = (tile : ℕ) → IsTileSpelled kind domain index content tile
 
 -- each listed block is whole
 abbrev pub AreWhole : List (ℕ × Entry) → List ℕ → Type 0

@@ -1,46 +1,42 @@
 //! The bytes of a tile in its blocks.
 
-ghost use Rattle.std.specs.Prelude.{◌≡◌, ℕ, ◌+◌, ◌*◌, ◌<◌, ◌≤◌, ◌^◌, List, length, take, IsErrOf, IfOk, OnOk, IsTrue};
+ghost use Rattle.std.specs.Prelude.{◌≡◌, ℕ, ◌+◌, ◌*◌, ◌<◌, ◌≤◌, ◌^◌, List, length, take, IsErrOf, OnOk, IsTrue};
 ghost use Rattle.std.specs.List.{flat_map};
 ghost use Rattle.disk_face.specs.Disk.{Counts};
 ghost use Rattle.block_file.specs.Blocks.{block_at, IsDistinct};
 ghost use Rattle.block_file.specs.Format.{KeepsHeader};
 ghost use Rattle.tile_store.specs.Faults.{FaultCounts};
-ghost use Rattle.tile_store.specs.Listing.{times, KeepsUsed};
+ghost use Rattle.tile_store.specs.Listing.{times, KeepsUsed, OnlyReads};
 ghost use Rattle.tile_store.specs.Stored.{entry_data};
 ghost use Rattle.tile_store.specs.Written.{HoldsPart};
 
 use crate::fault::Fault;
 use block_file::{BLOCK_BYTES, Blocks};
 use disk_face::DiskFault;
-use std::alloc::Global;
 use tile_index::Entry;
 
-/// Reads the bytes of a tile.
+/// Reads the bytes of a tile, block by block, into a buffer, whatever it held before.
 pub(crate) fn read_bytes<B: Blocks>(
-    alloc: Global,
     blocks: &mut B,
     entry: &Entry,
-) -> Result<Vec<u8>, Fault>
+    bytes: &mut Vec<u8>,
+) -> Result<(), Fault>
     requires { (k : ℕ) → 0 < times k entry.now.blocks → 0 < B.uses blocks.old k }
-    ensures value { IfOk result (λ bytes. IsTrue (B.honest blocks.old) → bytes.items ≡ entry_data (B.content blocks.old) entry.now) }
-    ensures content { B.content blocks.new ≡ B.content blocks.old }
-    ensures uses { B.uses blocks.new ≡ B.uses blocks.old }
-    ensures free { B.free_blocks blocks.new ≡ B.free_blocks blocks.old }
-    ensures honest { B.honest blocks.new ≡ B.honest blocks.old }
+    ensures value { OnOk result (IsTrue (B.honest blocks.old) → bytes.new.items ≡ entry_data (B.content blocks.old) entry.now) }
+    ensures reads { OnlyReads B.content B.uses B.free_blocks B.honest blocks.old blocks.new }
     ensures counts { FaultCounts result (B.failures blocks.old) (B.failures blocks.new) }
     ensures no_room { IsErrOf result Fault.NoRoom → ⊥ }
     ensures damaged { IsErrOf result Fault.Damaged → ⊥ }
 {
     let numbers = entry.blocks.as_slice();
-    let mut bytes = Vec::new(alloc);
+    bytes.clear();
     for k in numbers {
         let mut block = [0u8; 4096];
         blocks.read(*k, &mut block)?;
         bytes.extend_from_slice(&block)?;
     }
     bytes.truncate(entry.length as usize);
-    Ok(bytes)
+    Ok(())
 }
 
 /// The bytes that stand in the block at a place of a tile's blocks, and zeros after the last one.

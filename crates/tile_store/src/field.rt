@@ -10,18 +10,18 @@ ghost use Rattle.block_file.specs.Format.{chain_blocks, KeepsHeader};
 ghost use Rattle.tile_index.specs.Bytes.{index_bytes};
 ghost use Rattle.tile_index.specs.Index.{IsIndex};
 ghost use Rattle.tile_store.specs.Faults.{FaultCounts};
-ghost use Rattle.tile_store.specs.Listing.{times_in, AreUsed, KeepsUsed};
+ghost use Rattle.tile_store.specs.Listing.{times_in, AreUsed, KeepsUsed, OnlyReads};
 ghost use Rattle.tile_store.specs.Numbers.{AreNumbers, numbers_in};
 ghost use Rattle.tile_store.specs.Overlays.{Overlaid};
 ghost use Rattle.tile_store.specs.Room.{LacksRoom, AreMeeting};
-ghost use Rattle.tile_store.specs.Stored.{number_at, field_values, IsBelow, IsSpelled, AreWhole, tile_box, block_count};
+ghost use Rattle.tile_store.specs.Stored.{number_at, field_values, IsBelow, IsSpelled, IsTileSpelled, AreWhole, tile_box, block_count};
 
 use crate::copy::copy_common;
 use crate::fault::Fault;
 use crate::held::give_back_entries;
 use crate::numbers::Numbers;
 use crate::reserve::{EMPTY_INDEX, index_size};
-use crate::tile::{cell_count, read_tile, zeros};
+use crate::tile::{cell_count, fill_tile, read_tile, zeros};
 use crate::update::write_index;
 use arr_core::{Domain, FieldType};
 use block_file::Blocks;
@@ -117,37 +117,41 @@ pub fn read_point<B: Blocks>(
     Ok(cells[part.rank(point) as usize])
 }
 
-/// The stored numbers of a tile, by its number, at its points in row-major order.
-pub fn read_tile_at<B: Blocks>(
+/// A field as it is read: its type, its domain, and which of its tiles are listed.
+#[derive(Clone, Copy)]
+pub struct FieldTiles<'a> {
+    pub kind: FieldType,
+    pub domain: &'a Domain,
+    pub index: &'a FieldIndex,
+}
+
+/// Reads the stored numbers of a tile, by its number, into `cells`, at its points in row-major order, and its bytes
+/// into `bytes`, whatever the two held before. `Damaged` comes where the tile was read and its bytes do not spell as
+/// many cells as it has points, and for no other tile's sake. After a refusal the two hold anything.
+pub fn read_tile_into<B: Blocks>(
     alloc: Global,
     blocks: &mut B,
-    kind: FieldType,
-    domain: &Domain,
-    field: &FieldIndex,
+    field: FieldTiles,
     tile: u64,
-) -> Result<Vec<i64>, Fault>
-    requires tile { tile < length (tile_boxes domain.now) }
-    requires used { (k : ℕ) → 0 < times_in k field.now → 0 < B.uses blocks.old k }
-    ensures value { IfOk result (λ cells. IsTrue (B.honest blocks.old) → cells.items ≡ map (number_at kind domain.now field.now (B.content blocks.old)) (points (tile_box domain.now tile))) }
-    ensures counted { IfOk result (λ cells. length cells.items ≡ length (points (tile_box domain.now tile))) }
-    ensures fit { IfOk result (λ cells. All (Fits kind) cells.items) }
-    ensures damaged { IsErrOf result Fault.Damaged → IsTrue (B.honest blocks.old) → IsSpelled kind domain.now field.now (B.content blocks.old) → ⊥ }
+    bytes: &mut Vec<u8>,
+    cells: &mut Vec<i64>,
+) -> Result<(), Fault>
+    requires tile { tile < length (tile_boxes field.domain.now) }
+    requires used { (k : ℕ) → 0 < times_in k field.index.now → 0 < B.uses blocks.old k }
+    ensures value { OnOk result (IsTrue (B.honest blocks.old) → cells.new.items ≡ map (number_at field.entry.kind field.entry.domain.now field.entry.index.now (B.content blocks.old)) (points (tile_box field.entry.domain.now tile))) }
+    ensures counted { OnOk result (length cells.new.items ≡ length (points (tile_box field.entry.domain.now tile))) }
+    ensures fit { OnOk result (All (Fits field.entry.kind) cells.new.items) }
+    ensures spelled { OnOk result (IsTrue (B.honest blocks.old) → IsTileSpelled field.entry.kind field.entry.domain.now field.entry.index.now (B.content blocks.old) tile) }
+    ensures damaged { IsErrOf result Fault.Damaged → IsTrue (B.honest blocks.old) → IsTileSpelled field.entry.kind field.entry.domain.now field.entry.index.now (B.content blocks.old) tile → ⊥ }
     ensures no_room { IsErrOf result Fault.NoRoom → ⊥ }
-    ensures content { B.content blocks.new ≡ B.content blocks.old }
-    ensures uses { B.uses blocks.new ≡ B.uses blocks.old }
-    ensures free { B.free_blocks blocks.new ≡ B.free_blocks blocks.old }
-    ensures honest { B.honest blocks.new ≡ B.honest blocks.old }
+    ensures reads { OnlyReads B.content B.uses B.free_blocks B.honest blocks.old blocks.new }
     ensures counts { FaultCounts result (B.failures blocks.old) (B.failures blocks.new) }
 {
-    let part = domain.tile_box(alloc, tile)?;
-    let cells = read_tile(
-        alloc,
-        blocks,
-        kind,
-        field.index.get(tile),
-        cell_count(&part),
-    )?;
-    Ok(cells)
+    let part = field.domain.tile_box(alloc, tile)?;
+    let count = cell_count(&part);
+    let entry = field.index.index().get(tile);
+    fill_tile(blocks, field.kind, entry, count, bytes, cells)?;
+    Ok(())
 }
 
 /// Copies the numbers of a tile to the points of a box that are in it.

@@ -13,5 +13,7 @@ mod tile;
 mod update;
 
 pub use fault::Fault;
-pub use field::{FieldIndex, give_back, read_area, read_point, read_tile_at, write_area};
+pub use field::{
+    FieldIndex, FieldTiles, give_back, read_area, read_point, read_tile_into, write_area,
+};
 pub use numbers::Numbers;

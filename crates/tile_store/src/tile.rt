@@ -10,7 +10,7 @@ ghost use Rattle.block_file.specs.Format.{KeepsHeader};
 ghost use Rattle.tile_index.specs.Entries.{IsEntry};
 ghost use Rattle.tile_index.specs.declared.entry.Entry.{Entry};
 ghost use Rattle.tile_store.specs.Faults.{FaultCounts};
-ghost use Rattle.tile_store.specs.Listing.{times, entry_times, Extends, KeepsUsed};
+ghost use Rattle.tile_store.specs.Listing.{times, entry_times, Extends, KeepsUsed, OnlyReads};
 ghost use Rattle.tile_store.specs.Room.{tile_blocks, entry_blocks};
 ghost use Rattle.tile_store.specs.Written.{EntrySpells, SaysCells, IsWritten};
 
@@ -19,7 +19,7 @@ use crate::copy::count_of;
 use crate::fault::Fault;
 use arr_core::{Domain, FieldType};
 use block_file::{BLOCK_BYTES, Blocks};
-use run_tile::{decode, encode};
+use run_tile::{decode_into, encode};
 use std::alloc::{AllocError, Global};
 use tile_index::{BlockList, Entry};
 
@@ -31,6 +31,40 @@ pub(crate) fn cell_count(tile: &Domain) -> usize
     ensures some { 0 < result }
 {
     count_of(tile.axes())
+}
+
+/// Reads the cells of a tile with `count` points into a buffer, its bytes by way of another, whatever the two held
+/// before. A tile without an entry is 0 everywhere. After a refusal both hold anything.
+pub(crate) fn fill_tile<B: Blocks>(
+    blocks: &mut B,
+    kind: FieldType,
+    entry: Option<&Entry>,
+    count: usize,
+    bytes: &mut Vec<u8>,
+    cells: &mut Vec<i64>,
+) -> Result<(), Fault>
+    requires { (k : ℕ) → 0 < entry_times k (option_copied entry) → 0 < B.uses blocks.old k }
+    ensures value { OnOk result (IsTrue (B.honest blocks.old) → SaysCells kind (B.content blocks.old) (option_copied entry.entry) cells.new.items) }
+    ensures counted { OnOk result (length cells.new.items ≡ count) }
+    ensures fit { OnOk result (All (Fits kind) cells.new.items) }
+    ensures spelled { OnOk result (IsTrue (B.honest blocks.old) → EntrySpells kind (B.content blocks.old) (option_copied entry.entry) count) }
+    ensures damaged { IsErrOf result Fault.Damaged → IsTrue (B.honest blocks.old) → EntrySpells kind (B.content blocks.old) (option_copied entry.entry) count → ⊥ }
+    ensures no_room { IsErrOf result Fault.NoRoom → ⊥ }
+    ensures reads { OnlyReads B.content B.uses B.free_blocks B.honest blocks.old blocks.new }
+    ensures counts { FaultCounts result (B.failures blocks.old) (B.failures blocks.new) }
+{
+    match entry {
+        None => {
+            cells.clear();
+            cells.resize(count, 0)?;
+            Ok(())
+        }
+        Some(entry) => {
+            read_bytes(blocks, entry, bytes)?;
+            decode_into(kind, count, bytes, cells)?;
+            Ok(())
+        }
+    }
 }
 
 /// The cells of a tile with `count` points. A tile without an entry is 0 everywhere.
@@ -45,6 +79,7 @@ pub(crate) fn read_tile<B: Blocks>(
     ensures value { IfOk result (λ cells. IsTrue (B.honest blocks.old) → SaysCells kind (B.content blocks.old) (option_copied entry.entry) cells.items) }
     ensures counted { IfOk result (λ cells. length cells.items ≡ count) }
     ensures fit { IfOk result (λ cells. All (Fits kind) cells.items) }
+    ensures spelled { OnOk result (IsTrue (B.honest blocks.old) → EntrySpells kind (B.content blocks.old) (option_copied entry.entry) count) }
     ensures damaged { IsErrOf result Fault.Damaged → IsTrue (B.honest blocks.old) → EntrySpells kind (B.content blocks.old) (option_copied entry.entry) count → ⊥ }
     ensures content { B.content blocks.new ≡ B.content blocks.old }
     ensures uses { B.uses blocks.new ≡ B.uses blocks.old }
@@ -53,14 +88,10 @@ pub(crate) fn read_tile<B: Blocks>(
     ensures counts { FaultCounts result (B.failures blocks.old) (B.failures blocks.new) }
     ensures no_room { IsErrOf result Fault.NoRoom → ⊥ }
 {
-    match entry {
-        None => Ok(zeros(alloc, count)?),
-        Some(entry) => {
-            let bytes = read_bytes(alloc, blocks, entry)?;
-            let cells = decode(alloc, kind, count, &bytes)?;
-            Ok(cells)
-        }
-    }
+    let mut bytes = Vec::new(alloc);
+    let mut cells = Vec::new(alloc);
+    fill_tile(blocks, kind, entry, count, &mut bytes, &mut cells)?;
+    Ok(cells)
 }
 
 /// So many zeros.
