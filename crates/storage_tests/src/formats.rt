@@ -7,7 +7,7 @@ use crate::words::{DAMAGED, NO_MEMORY, add, counted, cut, joined, number, told};
 use anyhow::{Result, bail};
 use arr_core::FieldType;
 use file_bytes::{Reader, push_i32, push_u32};
-use run_tile::{DecodeError, decode, encode};
+use run_tile::{DecodeError, decode, decode_into, encode};
 use std::alloc::Global;
 use test_rows::{hex, kind, numbers, refusal, text};
 
@@ -90,6 +90,17 @@ pub fn decoded(alloc: Global, words: &str, bytes: &[u8]) -> Result<String> {
     let (type_name, count) = words.split_once(':').unwrap_or((words, ""));
     match decode(alloc, kind(type_name)?, number(count) as usize, bytes) {
         Ok(cells) => joined(alloc, &cells),
+        Err(DecodeError::Damaged) => refusal(alloc, DAMAGED),
+        Err(DecodeError::NoMemory) => refusal(alloc, NO_MEMORY),
+    }
+}
+
+/// The same cells, read into a buffer that held five others.
+pub fn decoded_into(alloc: Global, words: &str, bytes: &[u8]) -> Result<String> {
+    let (type_name, count) = words.split_once(':').unwrap_or((words, ""));
+    let mut cells = vec![in alloc; 3i64; 5]?;
+    match decode_into(kind(type_name)?, number(count) as usize, bytes, &mut cells) {
+        Ok(()) => joined(alloc, &cells),
         Err(DecodeError::Damaged) => refusal(alloc, DAMAGED),
         Err(DecodeError::NoMemory) => refusal(alloc, NO_MEMORY),
     }

@@ -4,7 +4,7 @@ use crate::blocks::{self, Volume};
 use crate::catalogues::{self, read_catalogue};
 use crate::disks::{AnyDisk, open_file, remove_file};
 use crate::domains;
-use crate::formats::{decoded, encoded, read_all, write_all};
+use crate::formats::{decoded, decoded_into, encoded, read_all, write_all};
 use crate::indexes::{self, metadata, read_index};
 use crate::stores::{self, Store};
 use crate::words::{cut, number, told};
@@ -118,6 +118,7 @@ impl Site {
             "catalogue" => read_catalogue(alloc, &mut self.catalogue, &bytes),
             "metadata" => metadata(alloc, words, &bytes),
             "decode" => decoded(alloc, words, &bytes),
+            "decode_into" => decoded_into(alloc, words, &bytes),
             "read_numbers" => read_all(alloc, words, &bytes),
             _ => write_all(alloc, words, &bytes),
         }
@@ -150,9 +151,13 @@ impl Site {
             "catalogue" if verb != "of" => {
                 catalogues::called(alloc, &mut self.catalogue, verb, words)
             }
-            "index" | "catalogue" | "metadata" | "decode" | "read_numbers" | "write_numbers" => {
-                self.on_bytes(alloc, object, rest)
-            }
+            "index"
+            | "catalogue"
+            | "metadata"
+            | "decode"
+            | "decode_into"
+            | "read_numbers"
+            | "write_numbers" => self.on_bytes(alloc, object, rest),
             "encode" => encoded(alloc, rest),
             "file" => self.name(alloc, rest),
             "same" => self.same(alloc, rest),

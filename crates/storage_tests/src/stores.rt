@@ -1,10 +1,11 @@
 //! Stores of coverages.
 
-ghost use Rattle.std.specs.Prelude.{◌<◌, length, IsSomeAnd, IsTrue};
+ghost use Rattle.std.specs.Prelude.{◌<◌, length, IfSome, IsSomeAnd, IsTrue};
 ghost use Rattle.arr_core.specs.Domains.{IsBoxOf, IsInside};
 ghost use Rattle.arr_core.specs.Stores.{found};
 ghost use Rattle.arr_core.specs.Tiles.{tile_boxes};
 ghost use Rattle.raster_store.specs.Calls.{HasField};
+ghost use Rattle.raster_store.specs.Fetches.{HasTile};
 
 use crate::blocks::Volume;
 use crate::disks::TestDisk;
@@ -15,7 +16,7 @@ use crate::words::{
 use anyhow::{Context, Result, bail};
 use arr_core::{Domain, Name};
 use block_file::BlockFile;
-use raster_store::{Fault, RasterStore, WriteFault};
+use raster_store::{Fault, RasterStore, TileAt, WriteFault};
 use std::alloc::Global;
 use test_rows::{cell, domain, hex, point, refusal};
 
@@ -165,6 +166,45 @@ fn tile(alloc: Global, store: &mut Store, words: &str) -> Result<String> {
     numbers(alloc, store.fetch_tile(&name, field, tile))
 }
 
+/// Which tile it is, of which field of the coverage with a name, where there is one.
+fn tile_at(store: &Store, name: &Name, field: usize, tile: u64) -> Option<TileAt>
+    ensures { IfSome result (λ at. HasTile at store.now.coverages) }
+{
+    match store.place(name) {
+        Some(coverage) => {
+            if !has_field(store, name, field) || !has_tile(store, name, tile) {
+                return None;
+            }
+            Some(TileAt {
+                coverage,
+                field,
+                tile,
+            })
+        }
+        None => None,
+    }
+}
+
+/// The numbers of two tiles, which are read into one buffer one after the other, as `lai 0 1 0`.
+fn tiles(alloc: Global, store: &mut Store, words: &str) -> Result<String> {
+    let (name, field, tiles) = target(alloc, words)?;
+    let (first, second) = cut(tiles);
+    let mut read = String::new(alloc);
+    let mut cells = Vec::new(alloc);
+    for tile in [number(first), number(second)] {
+        let at = tile_at(store, &name, field, tile).context("no field or no tile")?;
+        let shown = match store.fetch_tile_into(at, &mut cells) {
+            Ok(()) => joined(alloc, &cells)?,
+            Err(fault) => refusal(alloc, refused(fault))?,
+        };
+        if !read.is_empty() {
+            read.push_str(" | ")?;
+        }
+        read.push_str(shown.as_str())?;
+    }
+    Ok(read)
+}
+
 /// The bytes of the index of a field, as `lai 0 -`.
 fn index_bytes(alloc: Global, store: &Store, words: &str) -> Result<String> {
     let (name, field, _) = target(alloc, words)?;
@@ -224,6 +264,7 @@ pub fn called(
         "box" => read(alloc, store, words),
         "at" => at(alloc, store, words),
         "tile" => tile(alloc, store, words),
+        "tiles" => tiles(alloc, store, words),
         "index" => index_bytes(alloc, store, words),
         "fetched" => counted(alloc, store.fetched()),
         "count" => counted(alloc, store.len() as u64),
