@@ -4,7 +4,7 @@ use anyhow::{Context, Result, bail};
 use csv_out::csv_text;
 use plan_ir::{Bind, Body, Combination, Field, Fold, Index, Interval, Item, Plan, Steps, run};
 use std::alloc::Global;
-use test_rows::{Layer, domain, refusal};
+use test_rows::{domain, refusal};
 use wcps_mean::{Aggregate, CellError, Cells, EvalError};
 use wcps_types::Operation2;
 
@@ -199,22 +199,15 @@ fn plan(alloc: Global, axes: &str, words: &str) -> Result<Plan> {
     })
 }
 
-/// Plans whose runs are asked for.
-#[derive(Drop)]
-pub struct Plans;
-
-impl Layer for Plans {
-    /// The items of `7 x(0:2) var@0`: the number of all cells, the domain of the item, and its words; or its fault.
-    fn answer(&mut self, rt: &HostRuntime, call: &str) -> Result<String> {
-        let alloc = rt.alloc();
-        let (number, rest) = call.split_once(' ').context("no domain")?;
-        let (axes, words) = rest.split_once(' ').context("no words")?;
-        let mut cells = Constant(number.parse::<i64>()?);
-        let plan = plan(alloc, axes, words)?;
-        match run(alloc, &mut cells, &plan) {
-            Ok(items) => Ok(csv_text(alloc, &items)?),
-            Err(EvalError::Fault(fault)) => refusal(alloc, fault.number()),
-            Err(EvalError::Cells(_)) => bail!("a cell is not known"),
-        }
+/// The items of `7 x(0:2) var@0`: the number of all cells, the domain of the item, and its words; or its fault.
+pub fn planned(alloc: Global, call: &str) -> Result<String> {
+    let (number, rest) = call.split_once(' ').context("no domain")?;
+    let (axes, words) = rest.split_once(' ').context("no words")?;
+    let mut cells = Constant(number.parse::<i64>()?);
+    let plan = plan(alloc, axes, words)?;
+    match run(alloc, &mut cells, &plan) {
+        Ok(items) => Ok(csv_text(alloc, &items)?),
+        Err(EvalError::Fault(fault)) => refusal(alloc, fault.number()),
+        Err(EvalError::Cells(_)) => bail!("a cell is not known"),
     }
 }

@@ -1,0 +1,91 @@
+//! Coverages whose cells are listed, as a query reads them.
+
+use anyhow::{Context, Result};
+use arr_core::{Name, Signature};
+use std::alloc::{AllocError, Global};
+use test_rows::{domain, fields, numbers};
+use wcps_mean::{CellError, Cells};
+
+/// Named coverages, and for each a list of numbers a field in row-major order. Where a list ends, its last number stands
+/// for the rest.
+#[derive(Drop)]
+pub struct Coverages {
+    pub signatures: Vec<Signature>,
+    numbers: Vec<Vec<Vec<i64>>>,
+    /// The place of each coverage of the query that is evaluated.
+    listed: Vec<usize>,
+}
+
+impl Coverages {
+    pub fn new(alloc: Global) -> Coverages {
+        Coverages {
+            signatures: Vec::new(alloc),
+            numbers: Vec::new(alloc),
+            listed: Vec::new(alloc),
+        }
+    }
+
+    /// Adds a coverage, as `lai x(0:99) v:i16 7`; between the numbers of two fields stands `;`.
+    pub fn add(&mut self, alloc: Global, words: &str) -> Result<()> {
+        let (name, rest) = words.split_once(' ').context("no domain")?;
+        let (axes, rest) = rest.split_once(' ').context("no fields")?;
+        let (list, cells) = rest.split_once(' ').context("no cells")?;
+        let mut lists = Vec::new(alloc);
+        for field in cells.split(';') {
+            lists.push(numbers(alloc, field)?)?;
+        }
+        self.numbers.push(lists)?;
+        self.signatures.push(Signature {
+            name: Name::new(alloc, name)?,
+            domain: domain(alloc, axes)?,
+            fields: fields(alloc, list)?,
+        })?;
+        Ok(())
+    }
+
+    /// The place of the coverage with a name.
+    fn place_of(&self, name: &str) -> usize {
+        for (place, signature) in self.signatures.iter().enumerate() {
+            if signature.name.as_str() == name {
+                return place;
+            }
+        }
+        self.signatures.len()
+    }
+
+    /// Makes ready for the evaluation of a query over those coverages.
+    pub fn list(&mut self, coverages: &[Signature]) -> Result<(), AllocError> {
+        self.listed.clear();
+        for signature in coverages {
+            let place = self.place_of(signature.name.as_str());
+            self.listed.push(place)?;
+        }
+        Ok(())
+    }
+
+    /// The number of a coverage and a field, by their places, at a point.
+    fn number(&self, place: usize, field: usize, point: &[i32]) -> Option<i64> {
+        let domain = &self.signatures.get(place)?.domain;
+        if !domain.contains(point) {
+            return None;
+        }
+        let list = self.numbers.get(place)?.get(field)?;
+        let rank = usize::try_from(domain.rank(point)).ok()?;
+        list.get(rank).or(list.last()).copied()
+    }
+}
+
+impl Cells for Coverages {
+    ghost use Rattle.std.specs.Prelude.{ℕ, ℤ, pos, List};
+
+    ghost cells = { λ s c f p. pos 0 };
+
+    ghost kept = { λ _. tt };
+
+    ghost intact = { λ _. ⊥ };
+
+    fn cell(&mut self, coverage: usize, field: usize, point: &[i32]) -> Result<i64, CellError> {
+        let place = self.listed.get(coverage).copied().unwrap_or(usize::MAX);
+        self.number(place, field, point).ok_or(CellError::Damaged)
+    }
+}

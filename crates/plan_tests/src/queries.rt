@@ -1,0 +1,123 @@
+//! What queries become.
+
+use crate::coverages::Coverages;
+use crate::plans::planned;
+use crate::words::words_of;
+use anyhow::{Context, Result, bail};
+use arr_core::Signature;
+use csv_out::csv_text;
+use plan_ir::{Plan, run};
+use plan_rewrite::{lower, rewrite};
+use std::alloc::Global;
+use test_rows::{Layer, refusal, text};
+use wcps_mean::{EvalError, Item, eval_plain};
+use wcps_parse::parse;
+use wcps_text::{Query, lex};
+use wcps_types::{SharedQuery, check, check_shared};
+
+/// The query of a text.
+fn read(alloc: Global, text: &str) -> Result<Query> {
+    let tokens = lex(alloc, text).ok().context("no tokens")?;
+    parse(alloc, &tokens).ok().context("no query")
+}
+
+/// The typed query of a text, over variables.
+fn shared(alloc: Global, signatures: &[Signature], text: &str) -> Result<SharedQuery> {
+    let query = read(alloc, text)?;
+    check_shared(alloc, signatures, &query)
+        .ok()
+        .context("no type")
+}
+
+/// The CSV of items, or their fault.
+fn csv(alloc: Global, items: Result<Vec<Item>, EvalError>) -> Result<String> {
+    match items {
+        Ok(items) => Ok(csv_text(alloc, &items)?),
+        Err(EvalError::Fault(fault)) => refusal(alloc, fault.number()),
+        Err(EvalError::Cells(_)) => bail!("a cell is not known"),
+    }
+}
+
+/// The plain answer, which the lowered and the rewritten plan give too.
+fn agreed(plain: String, lowered: &str, rewritten: &str) -> Result<String> {
+    if lowered != plain.as_str() {
+        bail!("lowered {lowered}");
+    }
+    if rewritten != plain.as_str() {
+        bail!("rewritten {rewritten}");
+    }
+    Ok(plain)
+}
+
+impl Coverages {
+    /// What a query gives, evaluated plainly.
+    fn plain(&mut self, alloc: Global, text: &str) -> Result<String> {
+        let query = read(alloc, text)?;
+        let typed = check(alloc, &self.signatures, &query)
+            .ok()
+            .context("no type")?;
+        self.list(typed.coverages())?;
+        let items = eval_plain(alloc, self, &typed);
+        csv(alloc, items)
+    }
+
+    /// What a plan gives.
+    fn run_plan(&mut self, alloc: Global, plan: &Plan) -> Result<String> {
+        let items = run(alloc, self, plan);
+        csv(alloc, items)
+    }
+
+    /// What the plan of a query gives once it is rewritten.
+    fn run_rewritten(&mut self, alloc: Global, plan: Plan) -> Result<String> {
+        let plan = rewrite(alloc, plan)?;
+        self.run_plan(alloc, &plan)
+    }
+
+    /// What a query gives, evaluated plainly, lowered, and rewritten: the three are one.
+    fn queried(&mut self, alloc: Global, text: &str) -> Result<String> {
+        let plain = self.plain(alloc, text)?;
+        let plan = self.lowered(alloc, text)?;
+        let lowered = self.run_plan(alloc, &plan)?;
+        let rewritten = self.run_rewritten(alloc, plan)?;
+        agreed(plain, lowered.as_str(), rewritten.as_str())
+    }
+
+    /// The plan of a query.
+    fn lowered(&self, alloc: Global, text: &str) -> Result<Plan> {
+        let query = shared(alloc, &self.signatures, text)?;
+        Ok(lower(alloc, &query)?)
+    }
+
+    /// The words of a query's plan.
+    fn lowered_words(&self, alloc: Global, text: &str) -> Result<String> {
+        let plan = self.lowered(alloc, text)?;
+        Ok(words_of(alloc, &plan)?)
+    }
+
+    /// The words of a query's plan once it is rewritten.
+    fn rewritten_words(&self, alloc: Global, text: &str) -> Result<String> {
+        let plan = self.lowered(alloc, text)?;
+        let plan = rewrite(alloc, plan)?;
+        Ok(words_of(alloc, &plan)?)
+    }
+}
+
+impl Layer for Coverages {
+    fn answer(&mut self, rt: &HostRuntime, call: &str) -> Result<String> {
+        let alloc = rt.alloc();
+        let (verb, written) = call.split_once(' ').unwrap_or((call, ""));
+        let text = text(alloc, written)?;
+        let rest = text.as_str();
+        match verb {
+            "run" => planned(alloc, rest),
+            "coverage" => {
+                self.add(alloc, rest)?;
+                Ok(String::from_str(alloc, "ok")?)
+            }
+            "query" => self.queried(alloc, rest),
+            "lowered" => self.lowered_words(alloc, rest),
+            "rewritten" => self.rewritten_words(alloc, rest),
+            _ => bail!("no call {verb}"),
+        }
+    }
+}
