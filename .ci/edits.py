@@ -3,9 +3,9 @@
 
   .ci/edits.py               names the crates whose edits are not recorded as refused on the text that stands here
   .ci/edits.py try [NAME..]  tries those, or the named ones, and records each crate whose edits were all refused
-  .ci/edits.py gate          the gate, on a copy of this tree: `rt ci` without the edits, then, over the libraries that it
-                             built, the edits. In CI's clone those alone that are not recorded, and those of about one
-                             crate in eight besides
+  .ci/edits.py gate          the gate, on a copy of this tree: `rt ci` without the edits, the examples of the documents on
+                             the program that it built, then, over its libraries, the edits. In CI's clone those alone
+                             that are not recorded, and those of about one crate in eight besides
 
 What an edit comes to follows from the toolchain, the crate's text and that of the crates below it. The record,
 .ci/edits.txt, has the sum of all these for each crate, as it was when its edits were last all refused. A changed byte
@@ -143,6 +143,16 @@ def without_edits(names):
     return ran.returncode, last
 
 
+def examples():
+    """Runs the examples of the documents, and returns what is told of those that differ. They need curl."""
+    if not shutil.which("curl"):
+        print("the examples of the documents were not run: there is no curl", flush=True)
+        return []
+    ran = subprocess.run(["docs/check.py", "crates/rasterd/out/rasterd"], stdin=subprocess.DEVNULL, capture_output=True, text=True, check=False)
+    print(ran.stdout, ran.stderr, sep="", end="", flush=True)
+    return ["the examples of the documents"] * (ran.returncode != 0)
+
+
 def gate():
     now, then, commit = sums(), recorded(), said_by("git", "rev-parse", "HEAD").strip()
     is_left_out = lambda it: os.environ.get("CI") == "true" and then.get(it) == now[it] and int(sum_of(commit, it), 16) % 8
@@ -154,8 +164,9 @@ def gate():
         print(f"without edits: {minutes()}", flush=True)
         if status or not proved:
             return status or 1
-        faults = [f"the trier of edits: {it}" for it in grouped_test.faults()]
-        print(*faults or ["the trier of edits and its control: ok"], sep="\n", flush=True)
+        wrong = [f"the trier of edits: {it}" for it in grouped_test.faults()]
+        print(*wrong or ["the trier of edits and its control: ok"], sep="\n", flush=True)
+        faults = wrong + examples()
         _, passed, failed = tried([it for it in now if not is_left_out(it)], builds=False)
         print(f"with these edits: {minutes()}", flush=True)
         return closed(int(proved[1]) + passed, faults + failed)

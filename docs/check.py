@@ -1,0 +1,103 @@
+#!/usr/bin/env python3
+"""Runs the examples of the documents against the built program, and fails where an answer is another.
+
+    docs/check.py PROGRAM [DOCUMENT..]
+
+An example is a line of an indented block that begins with `$ `: a command for bash. The indented lines below it, up to the
+next such line or the next paragraph, are what it prints. All of a document's commands run in one shell, in a folder of their own,
+beside a server on an empty store in memory that is theirs alone; it listens where the document says `localhost:8080`.
+Blocks without such a line are not run.
+"""
+
+import contextlib
+import os
+import socket
+import subprocess
+import sys
+import tempfile
+import time
+
+HERE = os.path.dirname(os.path.abspath(__file__))
+SAYS = "localhost:8080"
+
+
+def examples(text):
+    """The commands of a document, each with its line and what it is to print. A blank line inside a block is one of it."""
+    found, is_open, blank = [], False, 0
+    for number, line in enumerate(text.splitlines(), 1):
+        if not line.strip():
+            blank += 1
+        elif line.startswith("    $ "):
+            found.append((number, line[6:], []))
+            is_open, blank = True, 0
+        elif is_open and line.startswith("    "):
+            found[-1][2].extend([""] * blank + [line[4:]])
+            blank = 0
+        else:
+            is_open = False
+    return found
+
+
+def free_port():
+    with socket.socket() as it:
+        it.bind(("127.0.0.1", 0))
+        return it.getsockname()[1]
+
+
+@contextlib.contextmanager
+def served(program, folder):
+    """The port of a server on an empty store in memory, for as long as it is needed."""
+    port = free_port()
+    with subprocess.Popen([program, "-", "listen", str(port), "100000"], cwd=folder) as server:
+        try:
+            for _ in range(100):
+                with contextlib.suppress(OSError), socket.create_connection(("127.0.0.1", port), 1):
+                    break
+                time.sleep(0.05)
+            yield port
+        finally:
+            server.kill()
+
+
+def printed(command, shell, mark):
+    """What a command prints in a running shell, as lines."""
+    shell.stdin.write(f"{command}\nprintf '\\n%s\\n' {mark}\n")
+    shell.stdin.flush()
+    lines = []
+    while (line := shell.stdout.readline()) and line.rstrip("\n") != mark:
+        lines.append(line.rstrip("\n"))
+    # the line end before the mark is ours where what came ended its own line
+    return lines[:-1] if lines and lines[-1] == "" else lines
+
+
+def differences(program, document):
+    """How many examples a document has, and of each that is not so, the line, what it is to print and what it does."""
+    with open(document, encoding="utf-8") as file:
+        found = examples(file.read())
+    told = []
+    with tempfile.TemporaryDirectory() as folder, served(program, folder) as port:
+        words = ["bash", "--norc", "--noprofile"]
+        with subprocess.Popen(words, cwd=folder, stdin=subprocess.PIPE, stdout=subprocess.PIPE, stderr=subprocess.STDOUT, text=True) as shell:
+            for number, command, expected in found:
+                came = printed(command.replace(SAYS, f"localhost:{port}"), shell, f"example-{number}-ended")
+                if came != expected:
+                    told.append((number, command, expected, came))
+            shell.stdin.close()
+    return len(found), told
+
+
+def main(program, *documents):
+    program, all_told, count = os.path.abspath(program), 0, 0
+    listed = documents or [os.path.join(HERE, it) for it in sorted(os.listdir(HERE)) if it.endswith(".md")] + [os.path.join(HERE, "..", "README.md")]
+    for document in listed:
+        examples_in, told = differences(program, document)
+        count += examples_in
+        all_told += len(told)
+        for number, command, expected, came in told:
+            print(f"{os.path.basename(document)}:{number}: {command}", *(f"  wanted: {it}" for it in expected), *(f"  came:   {it}" for it in came), sep="\n")
+    print(f"{count} examples, {all_told} differ")
+    return 1 if all_told or not count else 0
+
+
+if __name__ == "__main__":
+    sys.exit(main(*sys.argv[1:]))
