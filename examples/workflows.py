@@ -126,6 +126,7 @@ def served(program):
 
 
 def main(program, folder=f"{HERE}/pictures"):
+    os.makedirs(folder, exist_ok=True)
     heights = data.terrain()
     classes = data.cover(heights)
     with served(os.path.abspath(program)) as port, rasterd.Session(port=port, timeout=600) as session:
