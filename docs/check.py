@@ -77,9 +77,10 @@ def differences(program, document):
     told = []
     with tempfile.TemporaryDirectory() as folder, served(program, folder) as port:
         words = ["bash", "--norc", "--noprofile"]
-        with subprocess.Popen(words, cwd=folder, stdin=subprocess.PIPE, stdout=subprocess.PIPE, stderr=subprocess.STDOUT, text=True) as shell:
+        plain = {name: value for name, value in os.environ.items() if not name.lower().endswith("_proxy")}
+        with subprocess.Popen(words, cwd=folder, env=plain, stdin=subprocess.PIPE, stdout=subprocess.PIPE, stderr=subprocess.STDOUT, text=True) as shell:
             for number, command, expected in found:
-                came = printed(command.replace(SAYS, f"localhost:{port}"), shell, f"example-{number}-ended")
+                came = printed(command.replace(SAYS, f"127.0.0.1:{port}"), shell, f"example-{number}-ended")
                 if came != expected:
                     told.append((number, command, expected, came))
             shell.stdin.close()
