@@ -9,15 +9,17 @@ beside a server on an empty store in memory that is theirs alone; it listens whe
 Blocks without such a line are not run.
 """
 
-import contextlib
 import os
-import socket
 import subprocess
 import sys
 import tempfile
-import time
 
+sys.dont_write_bytecode = True
 HERE = os.path.dirname(os.path.abspath(__file__))
+sys.path.insert(0, f"{HERE}/../tools")
+
+from served import served
+
 SAYS = "localhost:8080"
 
 
@@ -36,27 +38,6 @@ def examples(text):
         else:
             is_open = False
     return found
-
-
-def free_port():
-    with socket.socket() as it:
-        it.bind(("127.0.0.1", 0))
-        return it.getsockname()[1]
-
-
-@contextlib.contextmanager
-def served(program, folder):
-    """The port of a server on an empty store in memory, for as long as it is needed."""
-    port = free_port()
-    with subprocess.Popen([program, "-", "listen", str(port), "100000"], cwd=folder) as server:
-        try:
-            for _ in range(100):
-                with contextlib.suppress(OSError), socket.create_connection(("127.0.0.1", port), 1):
-                    break
-                time.sleep(0.05)
-            yield port
-        finally:
-            server.kill()
 
 
 def printed(command, shell, mark):

@@ -9,14 +9,11 @@ writes pictures into the folder, else into examples/pictures. It needs Debian's 
 
 import contextlib
 import os
-import socket
-import subprocess
 import sys
-import time
 
 sys.dont_write_bytecode = True
 HERE = os.path.dirname(os.path.abspath(__file__))
-sys.path.insert(0, f"{HERE}/../clients/python")
+sys.path[:0] = [f"{HERE}/../clients/python", f"{HERE}/../tools"]
 try:
     import numpy
     from osgeo import gdal
@@ -25,6 +22,7 @@ except ImportError as missing:
 
 import data
 import rasterd
+from served import served
 
 COLOURS = {0: (245, 245, 245), 1: (90, 140, 200), 2: (235, 215, 130), 3: (70, 130, 70), 4: (190, 60, 50), 5: (130, 125, 120)}
 
@@ -105,24 +103,6 @@ def focal(session, folder):
     picture(f"{folder}/smoothed.png", grey(smoothed))
     picture(f"{folder}/relief.png", grey(high - low))
     return smoothed, high - low
-
-
-@contextlib.contextmanager
-def served(program):
-    """The port of a server on an empty store in memory."""
-    with socket.socket() as it:
-        it.bind(("127.0.0.1", 0))
-        port = it.getsockname()[1]
-    server = subprocess.Popen([program, "-", "listen", str(port), "1000"])
-    try:
-        for _ in range(100):
-            with contextlib.suppress(OSError), socket.create_connection(("127.0.0.1", port), 1):
-                break
-            time.sleep(0.05)
-        yield port
-    finally:
-        server.kill()
-        server.wait()
 
 
 def main(program, folder=f"{HERE}/pictures"):

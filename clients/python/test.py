@@ -8,11 +8,9 @@ It needs Debian's packages python3, python3-numpy and python3-gdal, and says so 
 
 import contextlib
 import os
-import socket
 import subprocess
 import sys
 import tempfile
-import time
 import unittest
 
 sys.dont_write_bytecode = True
@@ -25,35 +23,22 @@ except ImportError as missing:
 import rasterd
 
 HERE = os.path.dirname(os.path.abspath(__file__))
-sys.path.insert(0, f"{HERE}/../../examples")
+sys.path[:0] = [f"{HERE}/../../examples", f"{HERE}/../../tools"]
 
 import data
 import workflows
+from served import served
 
 PROGRAM = os.path.abspath(sys.argv.pop(1)) if len(sys.argv) > 1 else sys.exit(__doc__)
-
-
-def free_port():
-    with socket.socket() as it:
-        it.bind(("127.0.0.1", 0))
-        return it.getsockname()[1]
 
 
 class OverLoopback(unittest.TestCase):
     """Each test has a server on an empty store in memory of its own."""
 
     def setUp(self):
-        self.port = free_port()
-        self.server = subprocess.Popen([PROGRAM, "-", "listen", str(self.port), "1000"])
-        self.addCleanup(self.ended)
-        for _ in range(100):
-            with contextlib.suppress(OSError), socket.create_connection(("127.0.0.1", self.port), 1):
-                break
-            time.sleep(0.05)
-
-    def ended(self):
-        self.server.kill()
-        self.server.wait()
+        server = served(PROGRAM)
+        self.port = server.__enter__()
+        self.addCleanup(server.__exit__, None, None, None)
 
     def session(self):
         return rasterd.Session(port=self.port)
