@@ -23,12 +23,13 @@ ghost use Rattle.coverage_server.specs.Writing.{device_refusal, write_refusal, i
 use crate::arguments::Refusal;
 use crate::closing::CloseFault;
 use arr_core::{Cell, Domain, Name, Signature};
-use block_file::{BlockFile, State};
+use block_file::State;
 use catalogue::{Catalogue, InsertError};
 use disk_face::{Disk, DiskFault};
 use http_front::refusals;
 use kvp_front::Content;
 use metadata::catalogue_part;
+use page_pool::PagePool;
 use raster_store::{Fault, RasterStore, WriteFault};
 use std::alloc::{AllocError, Global};
 use std::marker::Model;
@@ -37,11 +38,11 @@ use std::marker::Model;
 #[derive(Drop)]
 pub struct Coverages<D: Disk> {
     catalogue: Catalogue,
-    cells: RasterStore<BlockFile<D>>,
+    cells: RasterStore<PagePool<D>>,
 }
 
 impl<D: Disk> Model for Coverages<D> {
-    ghost use Rattle.block_file.specs.View.{free_in};
+    ghost use Rattle.page_pool.specs.Pages.{free_of};
     ghost use Rattle.coverage_server.specs.Views.{ServerView, IsClosable};
 
     ghost Value = { ServerView };
@@ -50,13 +51,13 @@ impl<D: Disk> Model for Coverages<D> {
       store = s.cells.coverages;
       indexes = s.cells.indexes;
       content = s.cells.blocks.content;
-      free = free_in s.cells.blocks.marks;
+      free = free_of s.cells.blocks;
       honest = s.cells.blocks.honest;
       failures = s.cells.blocks.failures;
       fetched = s.cells.fetched;
     } };
 
-    ghost invariant = { λ s. IsClosable s.catalogue s.cells.coverages s.cells.indexes (free_in s.cells.blocks.marks) };
+    ghost invariant = { λ s. IsClosable s.catalogue s.cells.coverages s.cells.indexes (free_of s.cells.blocks) };
 }
 
 /// Why a signature is not inserted.
@@ -109,12 +110,12 @@ fn close_fault(fault: Fault) -> CloseFault
 }
 
 impl<D: Disk> Coverages<D> {
-    ghost use Rattle.block_file.specs.View.{free_in};
+    ghost use Rattle.page_pool.specs.Pages.{free_of};
     ghost use Rattle.coverage_server.specs.Views.{IsClosable};
 
     /// The coverages that cells hold, with their catalogue.
-    pub(crate) fn new(catalogue: Catalogue, cells: RasterStore<BlockFile<D>>) -> Coverages<D>
-        requires { IsClosable catalogue cells.coverages cells.indexes (free_in cells.blocks.marks) }
+    pub(crate) fn new(catalogue: Catalogue, cells: RasterStore<PagePool<D>>) -> Coverages<D>
+        requires { IsClosable catalogue cells.coverages cells.indexes (free_of cells.blocks) }
         ensures store { result.store ≡ cells.coverages }
         ensures indexes { result.indexes ≡ cells.indexes }
         ensures content { result.content ≡ cells.blocks.content }
@@ -365,7 +366,7 @@ impl<D: Disk> Coverages<D> {
     {
         let Coverages { catalogue, cells } = self;
         let _catalogue = catalogue.len();
-        cells.into_blocks().into_disk()
+        cells.into_blocks().into_file().into_disk()
     }
 }
 

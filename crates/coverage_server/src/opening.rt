@@ -24,10 +24,14 @@ use block_file::{BlockFile, Blocks, CHAIN_BYTES, Opened, Refused, State};
 use catalogue::Catalogue;
 use disk_face::Disk;
 use metadata::{Metadata, ReadError, read_metadata};
+use page_pool::PagePool;
 use raster_store::{Fault, RasterStore};
 use std::alloc::{AllocError, Global};
 use thiserror::Error;
 use tile_index::TileIndex;
+
+/// How many pages of a file are kept.
+const PAGES: usize = 256;
 
 /// Why a disk is not opened.
 #[derive(Clone, Copy, Debug, PartialEq, Eq, Error)]
@@ -243,11 +247,12 @@ fn coverages_of<D: Disk>(alloc: Global, opened: Opened<D>) -> Result<Coverages<D
             });
         }
     };
-    let mut cells = RasterStore::new(alloc, file);
+    let pool = PagePool::new(alloc, file, PAGES);
+    let mut cells = RasterStore::new(alloc, pool);
     match attach_all(alloc, &mut cells, &catalogue, indexes) {
         Ok(()) => Ok(Coverages::new(catalogue, cells)),
         Err(fault) => Err(NotOpened {
-            disk: cells.into_blocks().into_disk(),
+            disk: cells.into_blocks().into_file().into_disk(),
             fault,
         }),
     }

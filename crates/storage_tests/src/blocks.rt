@@ -1,4 +1,4 @@
-//! A file of blocks.
+//! A file of blocks, and the pages that are kept of it.
 
 use crate::disks::{AnyDisk, TestDisk, done};
 use crate::words::{DAMAGED, DISK_FAULT, NO_MEMORY, NO_ROOM, counted, cut, number, told};
@@ -8,14 +8,15 @@ use block_file::{
     write_chain,
 };
 use disk_face::DiskFault;
+use page_pool::PagePool;
 use std::alloc::Global;
 use std::marker::Model;
 use test_rows::{Files, hex, refusal};
 
-/// A file of blocks, and those that were taken last and are in use.
+/// A file of blocks with its pool, and the blocks that were taken last and are in use.
 #[derive(Drop)]
 pub struct Volume {
-    file: BlockFile<TestDisk>,
+    file: PagePool<TestDisk>,
     taken: Vec<u32>,
     /// The first block of the chain that was written last.
     first: u32,
@@ -33,7 +34,7 @@ impl Model for Volume {
 }
 
 impl Volume {
-    pub fn new(alloc: Global, file: BlockFile<TestDisk>) -> Volume {
+    pub fn new(alloc: Global, file: PagePool<TestDisk>) -> Volume {
         Volume {
             file,
             taken: Vec::new(alloc),
@@ -42,7 +43,7 @@ impl Volume {
     }
 
     /// The blocks, of which none has a name any more.
-    pub fn into_file(self) -> BlockFile<TestDisk> {
+    pub fn into_file(self) -> PagePool<TestDisk> {
         let Volume {
             file,
             taken: _,
@@ -62,12 +63,6 @@ impl Volume {
         self.taken.truncate(count);
         self.file.give_back(&self.taken);
         self.taken.clear();
-    }
-
-    /// Claims blocks; those that were taken before have no name any more.
-    fn claim(&mut self, blocks: &[u32]) -> bool {
-        self.taken.clear();
-        self.file.claim(blocks).is_ok()
     }
 
     /// Writes a block of those that were taken, by its place.
@@ -120,7 +115,7 @@ pub fn open(
     };
     match BlockFile::open(alloc, tested) {
         Ok(Opened { file, metadata }) => {
-            *volume = Some(Volume::new(alloc, file));
+            *volume = Some(Volume::new(alloc, PagePool::new(alloc, file, 0)));
             if metadata.is_empty() {
                 return told(alloc, "ok");
             }
@@ -141,7 +136,7 @@ pub fn open(
 /// The disk of a file of blocks.
 pub fn unmount(volume: &mut Option<Volume>) -> Result<AnyDisk> {
     let volume = volume.take().context("no file of blocks")?;
-    Ok(AnyDisk::Test(volume.into_file().into_disk()))
+    Ok(AnyDisk::Test(volume.into_file().into_file().into_disk()))
 }
 
 fn take_number(fault: TakeFault) -> u16 {
@@ -171,17 +166,26 @@ fn leave(alloc: Global, volume: &mut Volume, words: &str) -> Result<String> {
     }
 }
 
-/// Claims blocks, as `1,2`.
-fn claim(alloc: Global, volume: &mut Volume, words: &str) -> Result<String> {
+/// Claims blocks, as `1,2`. Those that were taken before have no name any more, and no page is kept.
+pub fn claim(alloc: Global, volume: &mut Option<Volume>, words: &str) -> Result<String> {
     let mut blocks = Vec::new(alloc);
     for word in words.split(',') {
         blocks.push(word.parse::<u32>()?)?;
     }
-    if volume.claim(&blocks) {
-        told(alloc, "ok")
-    } else {
-        refusal(alloc, DAMAGED)
+    let before = volume.take().context("no file of blocks")?;
+    let mut file = before.into_file().into_file();
+    let claimed = file.claim(&blocks);
+    *volume = Some(Volume::new(alloc, PagePool::new(alloc, file, 0)));
+    match claimed {
+        Ok(()) => told(alloc, "ok"),
+        Err(_) => refusal(alloc, DAMAGED),
     }
+}
+
+/// Keeps at most so many pages from now on.
+fn resize(alloc: Global, volume: &mut Volume, words: &str) -> Result<String> {
+    volume.file.resize(number(words) as usize);
+    told(alloc, "ok")
 }
 
 /// Writes the first bytes of a block and zeros behind them, as `0 0x0102`.
@@ -257,7 +261,7 @@ pub fn called(
             volume.give_back(number(words) as usize);
             told(alloc, "ok")
         }
-        "claim" => claim(alloc, volume, words),
+        "pages" => resize(alloc, volume, words),
         "write" => write(alloc, volume, files, words),
         "read" => read(alloc, volume, words),
         "chain" => chain(alloc, volume, files, words),

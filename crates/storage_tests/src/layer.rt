@@ -87,6 +87,7 @@ impl Site {
                 self.disk = Some(blocks::unmount(&mut self.volume)?);
                 told(alloc, "ok")
             }
+            "claim" => blocks::claim(alloc, &mut self.volume, rest),
             _ => match &mut self.volume {
                 Some(volume) => blocks::called(alloc, volume, &self.files, verb, rest),
                 None => bail!("no file of blocks"),

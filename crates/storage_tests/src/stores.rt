@@ -15,12 +15,12 @@ use crate::words::{
 };
 use anyhow::{Context, Result, bail};
 use arr_core::{Domain, Name};
-use block_file::BlockFile;
+use page_pool::PagePool;
 use raster_store::{Fault, RasterStore, TileAt, WriteFault};
 use std::alloc::Global;
 use test_rows::{cell, domain, hex, point, refusal};
 
-pub type Store = RasterStore<BlockFile<TestDisk>>;
+pub type Store = RasterStore<PagePool<TestDisk>>;
 
 /// Whether a store has a field, by its place, of the coverage with a name.
 fn has_field(store: &Store, name: &Name, field: usize) -> bool

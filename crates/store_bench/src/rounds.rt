@@ -9,6 +9,9 @@ use std::alloc::{AllocError, Global};
 /// How many rows and columns a window has, as a tile does.
 const WINDOW: u16 = 64;
 
+/// How many places are few.
+const FEW: u64 = 12;
+
 /// What is timed.
 #[derive(Clone, Copy)]
 pub(crate) enum Action {
@@ -22,6 +25,10 @@ pub(crate) enum Action {
     Window,
     /// Reads a number at a scattered place.
     Cell,
+    /// Reads a window at one of a few places, each again and again.
+    Again,
+    /// Reads a number at one of a few places, each again and again.
+    Point,
     /// Writes a number at a scattered place.
     Put,
 }
@@ -35,6 +42,8 @@ impl Action {
             "read" => Action::Read,
             "window" => Action::Window,
             "cell" => Action::Cell,
+            "again" => Action::Again,
+            "point" => Action::Point,
             _ => Action::Put,
         }
     }
@@ -99,6 +108,11 @@ fn once<B: Blocks + Drop>(
         Action::Read => return Ok(grid.sum(area)?),
         Action::Window => return Ok(grid.sum(&window(alloc, round, side)?)?),
         Action::Cell => return Ok(grid.number(&[y, x])?),
+        Action::Again => return Ok(grid.sum(&window(alloc, round % FEW, side)?)?),
+        Action::Point => {
+            let (row, column) = place(round % FEW, side);
+            return Ok(grid.number(&[row as i32, column as i32])?);
+        }
         Action::Put => grid.fill(&square(alloc, (y, x), 1)?, cell(round))?,
     }
     Ok(0)

@@ -10,7 +10,7 @@ use Rattle.coverage_server.proofs.opening.coverages_of.Goals as goal
 pub attach_all-requires-clause-blocks : goal.attach_all-requires-clause-blocks
 attach_all-requires-clause-blocks g c before new after split k some =
     let claimed = c.in-Ok.ensures.claims in
-    rw c.new-cells.ensures.blocks
+    rw (c.new-cells.ensures.blocks, c.new-pool.ensures)
     (may_attach _ c.args.opened.file.marks c.claim_layout.new.file.marks claimed.blocks _ before new after claimed.claims (λ n. claimed.each n ∙ ap (times_all n) split) c.requires.fresh.header
     (rw (c.in-Ok.ensures.content, c.in-Ok.ensures.honest) (λ honest. (c.requires.opened honest).whole)) k some)
 
@@ -19,13 +19,13 @@ new-requires g c =
     let long = counted_all _ _ (listed_counted _ _ _ c.in-Ok.ensures.listed) in
     record {
       signatures = sym (ap signatures_of c.in-Ok-attach_all.ensures.coverages ∙ signatures_same _ _ _ long);
-      room = rw (c.in-Ok-attach_all.ensures.indexes, c.in-Ok-attach_all.ensures.blocks, c.new-cells.ensures.blocks) c.in-Ok.ensures.room;
+      room = rw (c.in-Ok-attach_all.ensures.indexes, c.in-Ok-attach_all.ensures.blocks, c.new-cells.ensures.blocks, c.new-pool.ensures) c.in-Ok.ensures.room;
     }
 
 pub returns-in-Ok-attach_all-clause-lists : goal.returns-in-Ok-attach_all-clause-lists
 returns-in-Ok-attach_all-clause-lists g c honest =
     let opened = c.requires.opened honest in
-    let content = ap (λ (b : BlockFileView). b.content) c.new-cells.ensures.blocks ∙ c.in-Ok.ensures.content in
+    let content = ap (λ (b : BlockFileView). b.content) (c.new-cells.ensures.blocks ∙ c.new-pool.ensures) ∙ c.in-Ok.ensures.content in
     lists_all _ _ _ _ c.in-Ok.layout.catalogue (items_of c.in-Ok.layout.indexes.items) _ _ opened c.requires.fresh (rw c.deref.ensures.value at c.in-Ok.ensures.listed) c.in-Ok.ensures.claims
     c.in-Ok-attach_all.ensures.tiles
     (c.new.ensures.store ∙ c.in-Ok-attach_all.ensures.coverages ∙ ap (λ (l : List ℕ). coverages_in l c.in-Ok.layout.catalogue (items_of c.in-Ok.layout.indexes.items)) content)

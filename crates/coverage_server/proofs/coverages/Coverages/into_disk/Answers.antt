@@ -8,7 +8,7 @@ use Rattle.coverage_server.proofs.coverages.Coverages.into_disk.Goals as goal
 
 pub returns-clause-held : goal.returns-clause-held
 returns-clause-held g c =
-    rw (c.into_disk.ensures.content, ← c.self.view_is)
+    rw (c.into_disk.ensures.content, c.into_file.ensures, ← c.self.view_is)
     (λ written sound.
     holds c.into_blocks.result.content _ c.into_blocks.result.honest c.self.inside.cells.coverages c.self.inside.cells.indexes c.into_blocks.ensures.listed
     (subst (λ (b : BlockFileView). IsTrue b.honest) (sym c.into_blocks.ensures.blocks) sound.honest)

@@ -1,0 +1,46 @@
+//! One page.
+ghost use Rattle.std.specs.Prelude.{◌≡◌, IfOk};
+
+use std::alloc::{AllocError, Global};
+use std::marker::Model;
+
+/// The bytes of a block, on the heap, so that a cache moves a pointer alone.
+#[derive(Drop)]
+pub(crate) struct Page {
+    bytes: Vec<u8>,
+}
+
+impl Model for Page {
+    ghost use Rattle.std.specs.Prelude.{◌≡◌, ℕ, List, length};
+
+    ghost Value = { List ℕ };
+
+    ghost view = { λ p. p.bytes.items };
+
+    ghost invariant = { λ p. length p.bytes.items ≡ 4096 };
+}
+
+impl Page {
+    /// A page with these bytes.
+    pub(crate) fn new(alloc: Global, bytes: &[u8; 4096]) -> Result<Page, AllocError>
+        ensures { IfOk result (λ page. page ≡ bytes.now) }
+    {
+        let mut page = Vec::with_capacity(alloc, 4096)?;
+        page.extend_from_slice(bytes)?;
+        Ok(Page { bytes: page })
+    }
+
+    /// Copies the page.
+    pub(crate) fn read(&self, bytes: &mut [u8; 4096])
+        ensures { bytes.new ≡ self.now }
+    {
+        bytes.copy_from_slice(&self.bytes);
+    }
+
+    /// Makes the page one with these bytes.
+    pub(crate) fn write(&mut self, bytes: &[u8; 4096])
+        ensures { self.new ≡ bytes.now }
+    {
+        self.bytes.copy_from_slice(bytes);
+    }
+}

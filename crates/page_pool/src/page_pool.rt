@@ -1,0 +1,113 @@
+//! The blocks of a file, with pages.
+ghost use Rattle.std.specs.Prelude.{◌≡◌};
+
+use crate::pages::Pages;
+use block_file::{BlockFile, Blocks, State, TakeFault};
+use disk_face::{Disk, DiskFault};
+use std::alloc::Global;
+use std::marker::Model;
+
+/// The blocks of a file, and pages of some of them. Callers see the file below: each write goes to it, and a page is
+/// what its block holds there.
+#[derive(Drop)]
+pub struct PagePool<D: Disk> {
+    file: BlockFile<D>,
+    pages: Pages,
+}
+
+impl<D: Disk> Model for PagePool<D> {
+    ghost use Rattle.block_file.specs.View.{BlockFileView};
+    ghost use Rattle.page_pool.specs.Pages.{ArePages};
+
+    ghost Value = { BlockFileView };
+
+    ghost view = { λ s. s.file };
+
+    ghost invariant = { λ s. ArePages s.file.content s.file.honest s.pages };
+}
+
+impl<D: Disk> PagePool<D> {
+    /// The blocks of a file, with at most so many pages. Where there is no memory for them, there are none.
+    pub fn new(alloc: Global, file: BlockFile<D>, pages: usize) -> PagePool<D>
+        ensures { result ≡ file }
+    {
+        PagePool {
+            file,
+            pages: Pages::new(alloc, pages),
+        }
+    }
+
+    /// Keeps at most so many pages from now on: of those that are there the ones used last stay.
+    pub fn resize(&mut self, pages: usize)
+        ensures { self.new ≡ self.old }
+    {
+        self.pages.resize(pages);
+    }
+
+    /// The file, which has all that was written.
+    pub fn into_file(self) -> BlockFile<D>
+        ensures { result ≡ self }
+    {
+        let PagePool { file, pages: _ } = self;
+        file
+    }
+}
+
+impl<D: Disk> Blocks for PagePool<D> {
+    ghost use Rattle.std.specs.Prelude.{length};
+    ghost use Rattle.block_file.specs.View.{uses_of};
+    ghost use Rattle.page_pool.specs.Pages.{free_of};
+
+    ghost content = { λ s. s.content };
+
+    ghost synced = { λ s. s.synced };
+
+    ghost uses = { λ s. uses_of s.marks };
+
+    ghost extent = { λ s. length s.marks };
+
+    ghost free_blocks = { λ s. free_of s };
+
+    ghost failures = { λ s. s.failures };
+
+    ghost honest = { λ s. s.honest };
+
+    fn read(&mut self, k: u32, bytes: &mut [u8; 4096]) -> Result<(), DiskFault> {
+        if self.pages.get(k, bytes) {
+            return Ok(());
+        }
+        self.file.read(k, bytes)?;
+        self.pages.offer(k, bytes);
+        Ok(())
+    }
+
+    fn write(&mut self, k: u32, bytes: &[u8; 4096]) -> Result<(), DiskFault> {
+        match self.file.write(k, bytes) {
+            Ok(()) => {
+                self.pages.renew(k, bytes);
+                Ok(())
+            }
+            Err(fault) => {
+                self.pages.forget(k);
+                Err(fault)
+            }
+        }
+    }
+
+    fn take(&mut self, n: usize) -> Result<Vec<u32>, TakeFault> {
+        self.file.take(n)
+    }
+
+    fn give_back(&mut self, ks: &[u32]) {
+        self.file.give_back(ks);
+    }
+
+    fn free(&self) -> u32 {
+        self.file.free()
+    }
+
+    fn write_header(&mut self, state: State, first: u32, length: u64) -> Result<(), DiskFault> {
+        self.pages.forget(0);
+        self.file.write_header(state, first, length)
+    }
+}
