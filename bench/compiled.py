@@ -1,6 +1,7 @@
 """Plain loops in C beside which the benchmarks measure."""
 import contextlib
 import os
+import resource
 import subprocess
 import tempfile
 
@@ -19,3 +20,18 @@ def figures(source, *words):
     with compiled(source) as program:
         ended = subprocess.run([program, *words], capture_output=True, check=True, text=True)
     return [float(word) for word in ended.stdout.split()]
+
+
+def seconds(program, words, rounds):
+    """The processor time of a program that is given these words and a number of rounds."""
+    begun = resource.getrusage(resource.RUSAGE_CHILDREN)
+    subprocess.run([program, *words, str(rounds)], capture_output=True, check=True)
+    ended = resource.getrusage(resource.RUSAGE_CHILDREN)
+    return ended.ru_utime - begun.ru_utime + ended.ru_stime - begun.ru_stime
+
+
+def one_more(programs, words, rounds, repeats=7):
+    """The processor time that one more round of each program takes, the least of several; they take turns."""
+    few = [min(seconds(program, words, 1) for _ in range(3)) for program in programs]
+    times = [[seconds(program, words, rounds + 1) for program in programs] for _ in range(repeats)]
+    return [(min(column) - start) / rounds for column, start in zip(zip(*times), few)]

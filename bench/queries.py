@@ -1,102 +1,290 @@
 #!/usr/bin/env python3
-"""Cells a second of some queries, each beside a plain loop in C over the same data in the same run.
+"""The time of queries on three layers of 4,096 x 4,096 cells of i16, each beside a fused loop in C over the same cells.
 
-usage: bench/queries.py [the program, else crates/rasterd/out/rasterd]
+usage: bench/queries.py [WORD..]    only the lines that have all of these words
 
-Each query is asked several times in one session of `rasterd - run`; the figure is the time that one more asking takes, so
-that starting, inserting and filling do not count. The loop in C reads 64-bit cells, and is compiled here by cc -O2.
+The layers are noise; terrain, in runs of about three cells; and land cover of 16 kinds, in runs of about twenty. They are
+made with a fixed seed and written by UpdateCoverage into a store, bench/out/layers.store, which is kept for the next run.
+The queries go to the built program over that file, through a pipe; the time is that from the query to the end of its
+reply, at the client, and the median of several. The loops in C read cells of 16 bits in memory and print with sprintf;
+they are compiled here by cc -O3, and their times are medians too. Each reply is compared with what the loop printed.
+The limit is how many times C's time a query is to take at most. `rt run` in crates/rasterd builds the program; SERVER
+names another one. With --again the store is made anew.
 """
+import array
 import os
+import statistics
 import subprocess
 import sys
+import threading
 import time
-from urllib.parse import quote_plus
+from urllib.parse import urlencode
 
-from compiled import figures
+from compiled import compiled
 
 TOP = os.path.dirname(os.path.dirname(os.path.abspath(__file__)))
-PROGRAM = sys.argv[1] if len(sys.argv) > 1 else f"{TOP}/crates/rasterd/out/rasterd"
+PROGRAM = os.environ.get("SERVER", f"{TOP}/crates/rasterd/out/rasterd")
+FOLDER = f"{TOP}/bench/out"
+STORE = f"{FOLDER}/layers.store"
+SIDE = 4096
+# an update of 64 rows of half the layer, of 7 bytes a cell at most, is within the limit of a body
+ROWS, COLUMNS = 64, 2048
+LAYERS = ["noise", "terrain", "land"]
+# no more askings of a query once they took so many seconds, and no reply is awaited for longer than this
+ENOUGH, LONGEST = 20, 900
 
 LOOPS = r"""
 #include <stdint.h>
 #include <stdio.h>
 #include <stdlib.h>
+#include <string.h>
 #include <time.h>
+#define SIDE 4096
+#define N (SIDE * SIDE)
+#define TIMES 9
+typedef int16_t layer[N];
+static layer noise, terrain, land;
+static char *text;
 static double now(void) { struct timespec t; clock_gettime(CLOCK_MONOTONIC, &t); return t.tv_sec + t.tv_nsec / 1e9; }
-int main(void) {
-    long side = 1024, n = side * side;
-    int64_t *c = malloc(n * 8), *d = malloc(n * 8), sum = 0;
-    for (long i = 0; i < n; i++) { c[i] = 7; d[i] = 3; }
-    double t = now();
-    for (int r = 0; r < 20; r++) { for (long i = 0; i < n; i++) sum += c[i]; __asm__ volatile("" : "+r"(sum) : : "memory"); }
-    printf("%.9f\n", (now() - t) / 20);
-    t = now();
-    for (int r = 0; r < 20; r++) { for (long i = 0; i < n; i++) sum += c[i] + d[i] * 2; __asm__ volatile("" : "+r"(sum) : : "memory"); }
-    printf("%.9f\n", (now() - t) / 20);
-    t = now();
-    for (int r = 0; r < 20; r++) {
-        for (long x = 1; x < 511; x++) for (long y = 1; y < 511; y++)
-            for (long u = -1; u <= 1; u++) for (long v = -1; v <= 1; v++) sum += c[(x + u) * side + y + v];
-        __asm__ volatile("" : "+r"(sum) : : "memory");
+static uint64_t seed = 0x2545f4914f6cdd1d;
+static uint64_t next(void) {
+    uint64_t x = seed += 0x9e3779b97f4a7c15u;
+    x = (x ^ (x >> 30)) * 0xbf58476d1ce4e5b9u;
+    x = (x ^ (x >> 27)) * 0x94d049bb133111ebu;
+    return x ^ (x >> 31);
+}
+static void make(void) {
+    long height = 0, kind = 0;
+    for (long i = 0; i < N; i++) {
+        noise[i] = (int64_t)(next() & 0xffff) - 32768;
+        if (i % SIDE == 0) height = i / SIDE % 130;
+        else if (next() % 3 == 0) height += next() % 2 ? 1 + (long)(next() % 3) : height > 3 ? -1 - (long)(next() % 3) : 1;
+        terrain[i] = height;
+        if (next() % 20 == 0) kind = (kind + 1 + next() % 15) % 16;
+        land[i] = kind;
     }
-    printf("%.9f\n", (now() - t) / 20);
-    char *text = malloc(n * 3), *at = text;
-    t = now();
-    for (int r = 0; r < 5; r++) { at = text; for (long i = 0; i < n; i++) at += sprintf(at, "%ld%c", (long)c[i], (i + 1) % side ? ',' : '\n'); }
-    printf("%.9f\n", (now() - t) / 5);
-    return sum == 1;
+}
+static char *scalar(int64_t value) { return text + sprintf(text, "%ld\n", (long)value); }
+static char *printed(char *at, int64_t value, long column, long columns) {
+    return at + sprintf(at, "%ld%c", (long)value, column + 1 == columns ? '\n' : ',');
+}
+#define FUNCTION __attribute__((noinline)) static char *
+#define ADD(name) FUNCTION add_##name(void) { int64_t sum = 0; for (long i = 0; i < N; i++) sum += name[i]; return scalar(sum); }
+#define MAX(name) FUNCTION max_##name(void) { int16_t best = name[0]; for (long i = 0; i < N; i++) if (name[i] > best) best = name[i]; return scalar(best); }
+#define COUNT(name) FUNCTION count_##name(void) { \
+    int64_t count = 0; for (long i = 0; i < N; i++) count += (name[i] * 3 + 7) / 2 > 100 && name[i] != 0; return scalar(count); }
+ADD(noise) ADD(terrain) ADD(land) MAX(noise) MAX(land) COUNT(noise) COUNT(terrain) COUNT(land)
+FUNCTION difference(void) { int64_t sum = 0; for (long i = 0; i < N; i++) sum += abs(noise[i] - terrain[i]); return scalar(sum); }
+FUNCTION window(void) {
+    char *at = text;
+    for (long y = 1000; y < 1064; y++) for (long x = 1000; x < 1064; x++) at = printed(at, noise[y * SIDE + x], x - 1000, 64);
+    return at;
+}
+static inline char *focal(long radius) {
+    char *at = text;
+    for (long y = 1000; y < 1512; y++) for (long x = 1000; x < 1512; x++) {
+        int64_t sum = 0;
+        for (long v = -radius; v <= radius; v++) for (long u = -radius; u <= radius; u++) sum += terrain[(y + v) * SIDE + x + u];
+        at = printed(at, sum, x - 1000, 512);
+    }
+    return at;
+}
+FUNCTION focal_1(void) { return focal(1); }
+FUNCTION focal_3(void) { return focal(3); }
+FUNCTION zones(void) {
+    int64_t sums[16] = {0};
+    char *at = text;
+    for (long y = 0; y < 1024; y++) for (long x = 0; x < 1024; x++) sums[land[y * SIDE + x]] += noise[y * SIDE + x];
+    for (long k = 0; k < 16; k++) at = printed(at, sums[k], k, 16);
+    return at;
+}
+FUNCTION cells(void) {
+    char *at = text;
+    for (long y = 0; y < 1024; y++) for (long x = 0; x < 1024; x++) at = printed(at, noise[y * SIDE + x], x, 1024);
+    return at;
+}
+static const struct { const char *name; char *(*run)(void); } lines[] = {
+    {"add_noise", add_noise}, {"add_terrain", add_terrain}, {"add_land", add_land}, {"max_noise", max_noise},
+    {"max_land", max_land}, {"count_noise", count_noise}, {"count_terrain", count_terrain}, {"count_land", count_land},
+    {"difference", difference}, {"window", window}, {"focal_1", focal_1}, {"focal_3", focal_3}, {"zones", zones}, {"cells", cells},
+};
+static int earlier(const void *a, const void *b) { double x = *(double *)a, y = *(double *)b; return (x > y) - (x < y); }
+int main(int count, char **words) {
+    text = malloc(N);
+    make();
+    if (count == 2) {
+        const layer *all[] = {&noise, &terrain, &land};
+        for (int i = 0; i < 3; i++) if (!strcmp(words[1], i == 0 ? "noise" : i == 1 ? "terrain" : "land")) fwrite(all[i], 2, N, stdout);
+        return 0;
+    }
+    for (unsigned n = 0; n < sizeof lines / sizeof *lines; n++) {
+        double times[TIMES];
+        char *end = text;
+        for (int t = 0; t < TIMES; t++) {
+            double begun = now();
+            end = lines[n].run();
+            __asm__ volatile("" : : : "memory");
+            times[t] = now() - begun;
+        }
+        qsort(times, TIMES, sizeof *times, earlier);
+        printf("%s %.9f %ld\n", lines[n].name, times[TIMES / 2], (long)(end - text));
+        fwrite(text, 1, end - text, stdout);
+    }
+    return 0;
 }
 """
 
-ROWS = [
-    ("add(c), 2^20 cells", 1 << 20, "for c in (c) return add(c)"),
-    ("add(c + d * 2), 2^20 cells", 1 << 20, "for c in (c), d in (d) return add(c + d * 2)"),
+
+def focal(radius):
+    near = f"$v y(-{radius}:{radius}), $u x(-{radius}:{radius})"
+    return (
+        "for c in (terrain) return encode(coverage f over $y y(1000:1511), $x x(1000:1511) values"
+        f" condense + over {near} using c[y($y + $v), x($x + $u)], csv)"
+    )
+
+
+COUNT = "return count((c * 3 + 7) / 2 > 100 and c != 0)"
+CORNER = "[y(0:1023), x(0:1023)]"
+# what a line is called, its loop in C, its limit where there is one, and its query
+LINES = [
+    ("add(c), noise", "add_noise", 15, "for c in (noise) return add(c)"),
+    ("add(c), terrain", "add_terrain", None, "for c in (terrain) return add(c)"),
+    ("add(c), land", "add_land", 8, "for c in (land) return add(c)"),
+    ("max(c), noise", "max_noise", 15, "for c in (noise) return max(c)"),
+    ("max(c), land", "max_land", 8, "for c in (land) return max(c)"),
+    ("count((c*3+7)/2 > 100 and c != 0), noise", "count_noise", 20, "for c in (noise) " + COUNT),
+    ("the same, terrain", "count_terrain", 20, "for c in (terrain) " + COUNT),
+    ("the same, land", "count_land", 20, "for c in (land) " + COUNT),
+    ("add(abs(c - d)), noise and terrain", "difference", 25, "for c in (noise), d in (terrain) return add(abs(c - d))"),
+    ("64 x 64 window as CSV", "window", 6, "for c in (noise) return encode(c[y(1000:1063), x(1000:1063)], csv)"),
+    ("focal sum, radius 1, 512 x 512 as CSV", "focal_1", 12, focal(1)),
+    ("focal sum, radius 3, 512 x 512 as CSV", "focal_3", 40, focal(3)),
     (
-        "3 x 3 focal sum, 510 x 510 cells",
-        510 * 510,
-        "for c in (c) return add(coverage f over $p x(1:510), $q y(1:510) values condense + over $u x(-1:1), $v y(-1:1)"
-        " using c[x($p + $u), y($q + $v)])",
+        "sums of 16 zones, 1024 x 1024",
+        "zones",
+        100,
+        "for c in (noise), z in (land) return encode(coverage s over $k k(0:15) values"
+        f" add(c{CORNER} * (z{CORNER} = $k)), csv)",
     ),
-    ("CSV of 2^20 cells", 1 << 20, "for c in (c) return encode(c, csv)"),
+    ("2^20 cells as CSV", "cells", 4, f"for c in (noise) return encode(c{CORNER}, csv)"),
 ]
 
 
-def message(pairs):
-    return f"GET /ows?{pairs} HTTP/1.1\r\n\r\n".encode()
+def message(**pairs):
+    body = urlencode(pairs, safe="(),:;").encode()
+    return b"POST /ows HTTP/1.1\r\nContent-Length: %d\r\n\r\n" % len(body) + body
 
 
-def query(text):
-    return message("request=ProcessCoverages&query=" + quote_plus(text, safe="(),;:"))
+class Session:
+    """The program over the store, one connection through a pipe."""
+
+    def __init__(self):
+        self.process = subprocess.Popen([PROGRAM, STORE, "run"], stdin=subprocess.PIPE, stdout=subprocess.PIPE)
+
+    def __enter__(self):
+        return self
+
+    def __exit__(self, *_):
+        self.process.stdin.close()
+        if self.process.wait() != 0:
+            sys.exit(f"the program ended with status {self.process.returncode}")
+
+    def ask(self, request):
+        """The body of the reply to a message."""
+        timer = threading.Timer(LONGEST, self.process.kill)
+        timer.start()
+        self.process.stdin.write(request)
+        self.process.stdin.flush()
+        head = b""
+        while not head.endswith(b"\r\n\r\n"):
+            line = self.process.stdout.readline()
+            if not line:
+                sys.exit("no reply")
+            head += line
+        fields = dict(line.split(b": ", 1) for line in head[:-4].split(b"\r\n")[1:])
+        body = self.process.stdout.read(int(fields[b"Content-Length"]))
+        timer.cancel()
+        if body.startswith(b"refused"):
+            sys.exit(f"a request was refused: {body.decode().strip()}")
+        return body
 
 
-def store():
-    made = b""
-    for name, value in (("c", 7), ("d", 3)):
-        made += message(f"request=InsertCoverage&coverage={name}&domain=x(0:1023),y(0:1023)&fields=v:i16")
-        made += message(f"request=UpdateCoverage&coverage={name}&field=v&box=x(0:1023),y(0:1023)&fill={value}")
-    return made
+def write_layer(session, name, cells):
+    session.ask(message(request="InsertCoverage", coverage=name, domain=f"y(0:{SIDE - 1}),x(0:{SIDE - 1})", fields="v:i16"))
+    for row in range(0, SIDE, ROWS):
+        for column in range(0, SIDE, COLUMNS):
+            parts = (cells[(row + y) * SIDE + column : (row + y) * SIDE + column + COLUMNS] for y in range(ROWS))
+            values = ",".join(",".join(map(str, part)) for part in parts)
+            box = f"y({row}:{row + ROWS - 1}),x({column}:{column + COLUMNS - 1})"
+            session.ask(message(request="UpdateCoverage", coverage=name, field="v", box=box, values=values))
 
 
-def seconds(stream):
+def make_store(loops):
+    os.makedirs(FOLDER, exist_ok=True)
+    if os.path.exists(STORE):
+        os.remove(STORE)
     begun = time.monotonic()
-    ran = subprocess.run([PROGRAM, "-", "run"], input=stream, stdout=subprocess.PIPE, check=True)
-    taken = time.monotonic() - begun
-    if b"refused" in ran.stdout:
-        sys.exit("a request was refused: " + ran.stdout[ran.stdout.index(b"refused"):][:60].decode())
-    return taken
+    with Session() as session:
+        for name in LAYERS:
+            made = subprocess.run([loops, name], stdout=subprocess.PIPE, check=True).stdout
+            write_layer(session, name, array.array("h", made))
+    print(f"made {STORE} of {os.path.getsize(STORE) >> 20} MiB in {time.monotonic() - begun:.0f} s", flush=True)
 
 
-def one_more(text, times):
-    once = min(seconds(store() + query(text)) for _ in range(3))
-    more = min(seconds(store() + query(text) * (1 + times)) for _ in range(3))
-    return (more - once) / times
+def is_made():
+    """Whether the store is there, was closed, and has the layers."""
+    with open(STORE, "rb") as file:
+        if file.read(16)[12:13] != b"\2":
+            return False
+    with Session() as session:
+        return session.ask(message(request="ListCoverages")).split() == [name.encode() for name in LAYERS]
+
+
+def printed_by(loops):
+    """Of each loop in C its time and what it printed."""
+    found = {}
+    left = subprocess.run([loops], stdout=subprocess.PIPE, check=True).stdout
+    while left:
+        line, left = left.split(b"\n", 1)
+        name, seconds, length = line.split()
+        found[name.decode()] = float(seconds), left[: int(length)]
+        left = left[int(length) :]
+    return found
+
+
+def median(session, query, wanted):
+    """The median of the seconds from the query to its reply, which has to be that text."""
+    times = []
+    while len(times) < 5 and sum(times) < ENOUGH:
+        begun = time.monotonic()
+        body = session.ask(message(request="ProcessCoverages", query=query))
+        times.append(time.monotonic() - begun)
+        if body != wanted:
+            sys.exit(f"another answer than C's: {query}: {body[:60]!r} is not {wanted[:60]!r}")
+    return statistics.median(times)
+
+
+def processor():
+    with open("/proc/cpuinfo") as file:
+        names = [line.split(":", 1)[1].strip() for line in file if line.startswith("model name")]
+    return f"{len(names)} x {names[0]}" if names else "a machine without a name"
 
 
 def main():
-    print(f"{'query':36} {'million cells/s':>16} {'times a loop in C':>18}")
-    for (name, cells, text), plain in zip(ROWS, figures(LOOPS)):
-        taken = one_more(text, 3)
-        print(f"{name:36} {cells / taken / 1e6:16.2f} {taken / plain:18.1f}")
+    words = [word for word in sys.argv[1:] if word != "--again"]
+    with compiled(LOOPS, "-O3") as loops:
+        if "--again" in sys.argv[1:] or not os.path.exists(STORE) or not is_made():
+            make_store(loops)
+        print(processor())
+        print(f"{'query':44} {'ms':>10} {'C ms':>9} {'times C':>9} {'limit':>6}")
+        plain = printed_by(loops)
+        with Session() as session:
+            for name, loop, limit, query in LINES:
+                if not all(word in name for word in words):
+                    continue
+                seconds, text = plain[loop]
+                taken = median(session, query, text)
+                print(f"{name:44} {taken * 1e3:10.2f} {seconds * 1e3:9.3f} {taken / seconds:9.1f} {limit or '-':>6}", flush=True)
 
 
 main()

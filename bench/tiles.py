@@ -1,38 +1,42 @@
 #!/usr/bin/env python3
-"""Cells a second of encoding and decoding a tile of 4,096 cells, each beside a plain loop in C over the same cells.
+"""Cells a second of encoding and decoding 64 tiles of 4,096 cells, beside a plain loop in C over the same cells.
 
-usage: bench/tiles.py [the program, else crates/tile_bench/out/tile_bench]
+usage: bench/tiles.py [WORD..]    only the lines that have all of these words
 
-The tiles are of one value, of 64 values in runs of 64 cells, and of noise, each in every type of a field. The figure is
-the time that one more call takes, so that starting and making the cells do not count. The loops in C write and read the
-same runs, and are compiled here by cc -O2. `rt run` in the program's folder builds it.
+The tiles are of one value, of runs of 64 cells, of runs of twenty and of three on the average, and of noise, each in
+every type of a field. The figure is the processor time that one more call takes, the least of several, so that starting
+and making the cells do not count; the two programs take turns. The loops in C write and read the same runs, and are
+compiled here by cc -O2. `rt run` in the program's folder builds it.
 """
 import os
-import subprocess
 import sys
-import time
 
-from compiled import figures
+from compiled import compiled, one_more
 
 TOP = os.path.dirname(os.path.dirname(os.path.abspath(__file__)))
-PROGRAM = sys.argv[1] if len(sys.argv) > 1 else f"{TOP}/crates/tile_bench/out/tile_bench"
-CELLS = 4096
+PROGRAM = os.environ.get("TILES", f"{TOP}/crates/tile_bench/out/tile_bench")
+CELLS = 64 * 4096
 KINDS = ["bool", "u8", "i16", "i32", "i64"]
-PATTERNS = ["one", "runs", "noise"]
+PATTERNS = ["one", "runs", "twenty", "three", "noise"]
+ROUNDS = 100
 
 LOOPS = r"""
 #include <stdint.h>
 #include <stdio.h>
+#include <stdlib.h>
 #include <string.h>
-#include <time.h>
-static double now(void) { struct timespec t; clock_gettime(CLOCK_MONOTONIC, &t); return t.tv_sec + t.tv_nsec / 1e9; }
 static const int widths[] = {1, 1, 2, 4, 8};
-static uint64_t number(int pattern, uint64_t place) {
-    if (pattern == 0) return 1;
-    if (pattern == 1) return place / 64;
+static uint64_t noise(uint64_t place) {
     uint64_t x = (place + 1) * 0x9e3779b97f4a7c15u;
     x = (x ^ (x >> 30)) * 0xbf58476d1ce4e5b9u;
     return x ^ (x >> 27);
+}
+static int begins(const char *pattern, uint64_t place) {
+    if (!strcmp(pattern, "one")) return 0;
+    if (!strcmp(pattern, "runs")) return place % 64 == 0;
+    if (!strcmp(pattern, "twenty")) return noise(~place) % 20 == 0;
+    if (!strcmp(pattern, "three")) return noise(~place) % 3 == 0;
+    return 1;
 }
 static int64_t cell(int kind, uint64_t n) {
     switch (kind) {
@@ -43,9 +47,10 @@ static int64_t cell(int kind, uint64_t n) {
     default: return n / 2;
     }
 }
-int64_t cells[4096], again[4096];
-uint8_t bytes[4096 * 10 + 8];
-__attribute__((noinline)) static long encode(int width) {
+#define TILES 64
+int64_t tiles[TILES][4096], again[4096];
+uint8_t texts[TILES][4096 * 10 + 8];
+__attribute__((noinline)) static long encode(int width, const int64_t *cells, uint8_t *bytes) {
     long end = 0;
     for (long at = 0; at < 4096;) {
         long stop = at + 1;
@@ -58,7 +63,7 @@ __attribute__((noinline)) static long encode(int width) {
     }
     return end;
 }
-__attribute__((noinline)) static void decode(int width, int is_signed, long end) {
+__attribute__((noinline)) static void decode(int width, int is_signed, const uint8_t *bytes, long end) {
     long done = 0;
     for (long at = 0; at < end; at += 2 + width) {
         uint16_t count;
@@ -69,44 +74,43 @@ __attribute__((noinline)) static void decode(int width, int is_signed, long end)
         for (long i = 0; i < count; i++) again[done++] = value;
     }
 }
-int main(void) {
-    for (int kind = 0; kind < 5; kind++) for (int pattern = 0; pattern < 3; pattern++) {
-        for (long i = 0; i < 4096; i++) cells[i] = cell(kind, number(pattern, i));
-        long end = 0;
-        double t = now();
-        for (int r = 0; r < 2000; r++) { end = encode(widths[kind]); __asm__ volatile("" : : : "memory"); }
-        double encoding = (now() - t) / 2000;
-        t = now();
-        for (int r = 0; r < 2000; r++) { decode(widths[kind], kind > 1, end); __asm__ volatile("" : : : "memory"); }
-        printf("%.12f %.12f\n", encoding, (now() - t) / 2000);
+int main(int count, char **words) {
+    static const char *kinds[] = {"bool", "u8", "i16", "i32", "i64"};
+    int kind = 0;
+    long ends[TILES], rounds = atol(words[4]), is_encoding = !strcmp(words[3], "encode");
+    while (strcmp(kinds[kind], words[1])) kind++;
+    for (long t = 0; t < TILES; t++) {
+        uint64_t begin = 0;
+        for (long i = 0; i < 4096; i++) {
+            if (i == 0 || begins(words[2], t * 4096 + i)) begin = t * 4096 + i;
+            tiles[t][i] = cell(kind, noise(begin));
+        }
+        ends[t] = encode(widths[kind], tiles[t], texts[t]);
     }
+    for (long r = 0; r < rounds; r++) for (long t = 0; t < TILES; t++) {
+        if (is_encoding) encode(widths[kind], tiles[t], texts[t]);
+        else decode(widths[kind], kind > 1, texts[t], ends[t]);
+        __asm__ volatile("" : : : "memory");
+    }
+    printf("%ld\n", (long)again[count]);
     return 0;
 }
 """
 
 
-def seconds(kind, pattern, action, rounds):
-    begun = time.monotonic()
-    subprocess.run([PROGRAM, kind, pattern, action, str(rounds)], capture_output=True, check=True)
-    return time.monotonic() - begun
-
-
-def one_more(kind, pattern, action):
-    few = min(seconds(kind, pattern, action, 10) for _ in range(3))
-    many = min(seconds(kind, pattern, action, 5010) for _ in range(3))
-    return (many - few) / 5000
-
-
 def main():
-    plain = iter(figures(LOOPS))
+    wanted = sys.argv[1:]
     print(f"{'tile':12} {'encode M/s':>11} {'to C':>6} {'decode M/s':>11} {'to C':>6}")
-    for kind in KINDS:
-        for pattern in PATTERNS:
-            line = f"{kind + ' ' + pattern:12}"
-            for action in ("encode", "decode"):
-                taken = one_more(kind, pattern, action)
-                line += f" {CELLS / taken / 1e6:11.0f} {taken / next(plain):6.1f}"
-            print(line)
+    with compiled(LOOPS) as plain:
+        for kind in KINDS:
+            for pattern in PATTERNS:
+                if not set(wanted) <= {kind, pattern}:
+                    continue
+                line = f"{kind + ' ' + pattern:12}"
+                for action in ("encode", "decode"):
+                    ours, loop = one_more([PROGRAM, plain], [kind, pattern, action], ROUNDS)
+                    line += f" {CELLS / ours / 1e6:11.0f} {ours / loop:6.2f}"
+                print(line, flush=True)
 
 
 main()

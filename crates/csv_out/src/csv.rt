@@ -1,12 +1,12 @@
 //! CSV text: a line for each run along the last axis, `,` between its cells, a space between the fields of a cell.
 
-ghost use Rattle.std.specs.Prelude.{◌≡◌, ◌+◌, ◌<◌, ◌≤◌, ◌++◌, codes, max, length, IfOk, OnOk, slice_range};
+ghost use Rattle.std.specs.Prelude.{◌≡◌, ◌+◌, ◌<◌, ◌≤◌, ◌++◌, codes, max, length, IfOk, OnOk, slice_range, IsAscii};
 ghost use Rattle.std.specs.String.{string_bytes};
-ghost use Rattle.csv_out.specs.Csv.{cell_text, separator, item_text, csv, cells_text};
+ghost use Rattle.csv_out.specs.Csv.{item_text, csv, cells_text};
 
-use arr_core::Cell;
-use itoa::Buffer;
+use crate::cells::{FEW, ROOM, Shape, write_cells};
 use std::alloc::{AllocError, Global};
+use std::str::from_utf8;
 use wcps_mean::Item;
 
 /// The CSV text of the items: integers in decimal, `true` and `false`; each line ends with LF, and an empty line stands
@@ -38,46 +38,30 @@ fn push_items(text: &mut String, items: &[Item]) -> Result<(), AllocError>
     }
 }
 
-/// Puts the text of an item at the end.
+/// The text of bytes that are ASCII.
+fn ascii(bytes: &[u8]) -> &str
+    requires { IsAscii bytes.now }
+    ensures { result.now ≡ bytes.now }
+{
+    from_utf8(bytes).unwrap()
+}
+
+/// Puts the text of an item at the end, a few cells at a time.
 fn push_item(text: &mut String, item: &Item) -> Result<(), AllocError>
     ensures { OnOk result (string_bytes text.new ≡ string_bytes text.old ++ item_text item.now) }
 {
-    let fields = item.fields.max(1) as u64;
-    let line = item.line.max(1);
-    let mut written = 0;
-    for cell in item.cells.as_slice() {
-        written += 1;
-        push_cell(text, *cell)?;
-        text.push_str(separator(fields, line, written))?;
+    let shape = Shape {
+        fields: item.fields.max(1) as u64,
+        line: item.line.max(1),
+    };
+    let cells = item.cells.as_slice();
+    let mut room = [0; ROOM];
+    let mut done = 0;
+    while done < cells.len() {
+        let end = cells.len().min(done + FEW);
+        let begin = write_cells(&mut room, shape, done as u64, &cells[done..end]);
+        text.push_str(ascii(&room[begin..]))?;
+        done = end;
     }
     Ok(())
-}
-
-/// What stands after so many cells of an item: a space within a point, `,` within a line, LF at its end.
-fn separator(fields: u64, line: u64, written: u64) -> &'static str
-    requires fields { 0 < fields }
-    requires line { 0 < line }
-    ensures { result.now ≡ separator fields line written }
-{
-    if written % fields != 0 {
-        " "
-    } else if written / fields % line != 0 {
-        ","
-    } else {
-        "\n"
-    }
-}
-
-/// Puts the text of a cell at the end.
-fn push_cell(text: &mut String, cell: Cell) -> Result<(), AllocError>
-    ensures { OnOk result (string_bytes text.new ≡ string_bytes text.old ++ cell_text cell) }
-{
-    match cell {
-        Cell::Int(z) => {
-            let mut buffer = Buffer::new();
-            text.push_str(buffer.format(z))
-        }
-        Cell::Bool(true) => text.push_str("true"),
-        Cell::Bool(false) => text.push_str("false"),
-    }
 }

@@ -3,7 +3,7 @@ use Rattle.std.proofs.Common.{◌≡◌, ◌≢◌, ℕ, zero, suc, ◌+◌, ◌
 use Rattle.std.proofs.lemmas.Bool.Decides.{Decides-int_eq}
 use Rattle.std.specs.Ordering.{int_eq}
 use Rattle.arr_core.specs.declared.cell.FieldType.{FieldType}
-use Rattle.run_tile.specs.Runs.{run_size, run_at, run_count, first_runs, cells_of, IsRun, IsSpelling, runs_in}
+use Rattle.run_tile.specs.Runs.{run_size, run_at, run_count, first_runs, cells_of, IsSpelling, runs_in}
 use Rattle.run_tile.proofs.Spelling.{cells_of-more, cells_of-none}
 
 -- the last cell, if there is one, differs from the value

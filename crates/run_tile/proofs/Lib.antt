@@ -3,3 +3,4 @@ pub mod Values
 pub mod Pushes
 pub mod Counts
 pub mod Progress
+pub mod Blocks

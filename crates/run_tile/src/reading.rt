@@ -23,18 +23,40 @@ fn repeats(before: Option<i64>, value: i64) -> bool
     before == Some(value)
 }
 
-/// Writes the cells of a run from a place on.
+/// How many cells of a run are written together.
+const BLOCK: usize = 8;
+
+/// A run of so many cells is filled as a slice is.
+const LONG: u16 = 64;
+
+/// How many runs are read before it is looked at of what kind they were.
+const FEW: usize = 8;
+
+/// Writes the cell of a run of one.
+#[inline(always)]
+fn write_cell(cells: &mut [i64], place: usize, value: i64)
+    requires { place < length cells.old }
+    ensures { take (place + 1) cells.new ≡ take place cells.old ++ replicate 1 value }
+{
+    cells[place] = value;
+}
+
+/// Writes the cells of a run from a place on; what stood after them may be lost, since they are written in blocks.
 #[inline(always)]
 fn write_run(cells: &mut [i64], from: usize, run: Run)
     requires { from + run.count ≤ length cells.old }
     ensures { take (from + run.count) cells.new ≡ take from cells.old ++ replicate run.count run.value }
 {
-    if run.count == 1 {
-        cells[from] = run.value;
+    let end = from + run.count as usize;
+    if run.count >= LONG || cells.len() - end < BLOCK {
+        cells[from..end].fill(run.value);
         return;
     }
-    let end = from + run.count as usize;
-    cells[from..end].fill(run.value);
+    let mut at = from;
+    while at < end {
+        cells[at..at + BLOCK].fill(run.value);
+        at += BLOCK;
+    }
 }
 
 /// Reads on while runs of one cell come, of which noise consists, and stops before any other.
@@ -58,7 +80,7 @@ fn read_singles(kind: FieldType, bytes: &[u8], cells: &mut [i64], at: Progress) 
                 last,
             };
         }
-        write_run(cells, at.cells + k, run);
+        write_cell(cells, at.cells + k, run.value);
         last = Some(run.value);
     }
     Progress {
@@ -91,7 +113,29 @@ fn read_run(kind: FieldType, bytes: &[u8], cells: &mut [i64], at: Progress) -> O
     })
 }
 
-/// Whether the bytes spell as many cells of a type as there is room for, which are written then.
+/// Reads a few runs more, of any length, or those that are left: `None` where there is no spelling of so many cells.
+#[inline(always)]
+fn read_few(kind: FieldType, bytes: &[u8], cells: &mut [i64], from: Progress) -> Option<Progress>
+    requires read { AreRead kind bytes.now cells.old from }
+    requires inside { from.runs < run_count kind bytes.now }
+    ensures read { IfSome result (λ next. AreRead kind bytes.now cells.new next) }
+    ensures inside { IfSome result (λ next. next.runs ≤ run_count kind bytes.now) }
+    ensures further { IfSome result (λ next. from.runs < next.runs) }
+    ensures damaged { IfNone result ((list : List ℤ) → length list ≡ length cells.old → ¬ IsSpelling kind bytes.now list) }
+{
+    let end = (bytes.len() / (2 + width(kind))).min(from.runs + FEW);
+    let mut at = from;
+    'few: while at.runs < end {
+        match read_run(kind, bytes, cells, at) {
+            Some(next) => at = next,
+            None => return None,
+        }
+    }
+    Some(at)
+}
+
+/// Whether the bytes spell as many cells of a type as there is room for, which are written then. Where a few runs had
+/// one cell each, the following ones are read by the loop for such.
 #[inline(always)]
 fn read_runs(kind: FieldType, bytes: &[u8], cells: &mut [i64]) -> bool
     ensures spelled { IsTrue result → IsSpelling kind bytes.now cells.new }
@@ -107,13 +151,18 @@ fn read_runs(kind: FieldType, bytes: &[u8], cells: &mut [i64]) -> bool
         cells: 0,
         last: None,
     };
+    let mut single = true;
     'parts: while at.runs < runs {
-        at = read_singles(kind, bytes, cells, at);
+        if single {
+            at = read_singles(kind, bytes, cells, at);
+        }
         if at.runs < runs {
-            match read_run(kind, bytes, cells, at) {
+            let before = at;
+            match read_few(kind, bytes, cells, at) {
                 Some(next) => at = next,
                 None => return false,
             }
+            single = at.cells == before.cells + (at.runs - before.runs);
         }
     }
     at.cells == cells.len()

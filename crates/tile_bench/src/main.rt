@@ -1,6 +1,7 @@
-//! Encodes or decodes one tile of 4,096 cells as often as it is told, to time how tiles are written and read.
+//! Encodes or decodes 64 tiles of 4,096 cells as often as it is told, to time how tiles are written and read.
 //!
-//! Its words are a type of cells, a pattern of them, `encode` or `decode`, and how often.
+//! Its words are a type of cells, a pattern of them, `encode` or `decode`, and how often. The tiles differ, so that no
+//! processor knows their runs by heart.
 #![tactic(auto)]
 
 ghost use Rattle.std.specs.Prelude.{◌↔◌, All, IsTrue};
@@ -22,16 +23,22 @@ fn kind_of(word: &str) -> FieldType {
     }
 }
 
-/// A number for a place of the tile: 1 everywhere, 64 numbers in runs of 64, or noise.
-fn number(pattern: &str, place: u64) -> u64 {
+/// Noise: a number that its place does not show.
+fn noise(place: u64) -> u64 {
+    let x = place.wrapping_add(1).wrapping_mul(0x9e37_79b9_7f4a_7c15);
+    let y = (x ^ (x >> 30)).wrapping_mul(0xbf58_476d_1ce4_e5b9);
+    y ^ (y >> 27)
+}
+
+/// Whether a run begins at a place of a tile: never, at each 64th place, by chance, so that runs have twenty or three
+/// cells on the average, or at each place.
+fn begins(pattern: &str, place: u64) -> bool {
     match pattern {
-        "one" => 1,
-        "runs" => place / 64,
-        _ => {
-            let x = place.wrapping_add(1).wrapping_mul(0x9e37_79b9_7f4a_7c15);
-            let y = (x ^ (x >> 30)).wrapping_mul(0xbf58_476d_1ce4_e5b9);
-            y ^ (y >> 27)
-        }
+        "one" => false,
+        "runs" => place % 64 == 0,
+        "twenty" => noise(!place) % 20 == 0,
+        "three" => noise(!place) % 3 == 0,
+        _ => true,
     }
 }
 
@@ -53,49 +60,71 @@ fn all_fit(kind: FieldType, cells: &[i64]) -> bool
     cells.iter().all(|cell| kind.fits(*cell))
 }
 
-/// Encodes the cells in each round; gives how many bytes the last time.
-fn encoded(
+/// How many tiles there are.
+const TILES: u64 = 64;
+
+/// The bytes of the cells, empty where they are none of a tile.
+fn encoded(alloc: Global, kind: FieldType, cells: &[i64]) -> Result<Vec<u8>, AllocError> {
+    if cells.is_empty() || cells.len() > 4096 || !all_fit(kind, cells) {
+        return Ok(Vec::new(alloc));
+    }
+    encode(alloc, kind, cells)
+}
+
+/// Encodes the tiles in each round; gives how many bytes it were.
+fn encode_all(
     alloc: Global,
     kind: FieldType,
-    cells: &[i64],
+    tiles: &[Vec<i64>],
     rounds: u32,
-) -> Result<usize, AllocError> {
-    let mut size = 0;
-    if cells.is_empty() || cells.len() > 4096 || !all_fit(kind, cells) {
-        return Ok(size);
-    }
+) -> Result<u64, AllocError> {
+    let mut size: u64 = 0;
     for _ in 0..rounds {
-        size = encode(alloc, kind, cells)?.len();
+        for cells in tiles {
+            size = size.wrapping_add(encoded(alloc, kind, cells)?.len() as u64);
+        }
     }
     Ok(size)
 }
 
-/// Encodes the cells once and decodes them in each round, into one buffer; gives how many cells it holds then.
-fn decoded(
+/// Decodes the tiles in each round, all into one buffer; gives how many cells it were.
+fn decode_all(
     alloc: Global,
     kind: FieldType,
-    cells: &[i64],
+    tiles: &[Vec<i64>],
     rounds: u32,
-) -> Result<usize, AllocError> {
-    let mut size = 0;
-    if cells.is_empty() || cells.len() > 4096 || !all_fit(kind, cells) {
-        return Ok(size);
+) -> Result<u64, AllocError> {
+    let mut texts = Vec::new(alloc);
+    for cells in tiles {
+        texts.push(encoded(alloc, kind, cells)?)?;
     }
-    let bytes = encode(alloc, kind, cells)?;
+    let mut size: u64 = 0;
     let mut again = Vec::new(alloc);
     for _ in 0..rounds {
-        if let Ok(()) = decode_into(kind, cells.len(), &bytes, &mut again) {
-            size = again.len();
+        for bytes in &texts {
+            if let Ok(()) = decode_into(kind, 4096, bytes, &mut again) {
+                size = size.wrapping_add(again.len() as u64);
+            }
         }
     }
     Ok(size)
 }
 
 /// The cells of a tile.
-fn tile(alloc: Global, kind: FieldType, pattern: &str) -> Result<Vec<i64>, AllocError> {
+fn tile(
+    alloc: Global,
+    kind: FieldType,
+    pattern: &str,
+    number: u64,
+) -> Result<Vec<i64>, AllocError> {
     let mut cells = Vec::new(alloc);
-    for place in 0u64..4096 {
-        cells.push(cell(kind, number(pattern, place)))?;
+    let mut begin = 0;
+    for index in 0u64..4096 {
+        let place = number.wrapping_mul(4096).wrapping_add(index);
+        if index == 0 || begins(pattern, place) {
+            begin = place;
+        }
+        cells.push(cell(kind, noise(begin)))?;
     }
     Ok(cells)
 }
@@ -108,15 +137,18 @@ fn main(rt: HostRuntime) -> io::Result<()> {
     match words.as_slice() {
         [kind, pattern, action, rounds] => {
             let kind = kind_of(kind.as_str());
-            let cells = tile(rt.alloc(), kind, pattern.as_str())?;
+            let mut tiles = Vec::new(rt.alloc());
+            for number in 0..TILES {
+                tiles.push(tile(rt.alloc(), kind, pattern.as_str(), number)?)?;
+            }
             let rounds = rounds.parse::<u32>().unwrap_or(0);
             let size = if action.as_str() == "encode" {
-                encoded(rt.alloc(), kind, &cells, rounds)?
+                encode_all(rt.alloc(), kind, &tiles, rounds)?
             } else {
-                decoded(rt.alloc(), kind, &cells, rounds)?
+                decode_all(rt.alloc(), kind, &tiles, rounds)?
             };
             println!(rt; "{size}")
         }
-        _ => println!(rt; "words: TYPE one|runs|noise encode|decode ROUNDS"),
+        _ => println!(rt; "words: TYPE one|runs|twenty|three|noise encode|decode ROUNDS"),
     }
 }

@@ -1,5 +1,4 @@
-use Rattle.std.proofs.Common.{◌≡◌, ◌≢◌, ◌+◌, ◌-◌, ◌*◌, ◌<◌, ◌≤◌, ℕ, ℤ, pos, List, [], ◌∷◌, ◌++◌, length, take, replicate, get_or, sym, ap, subst, ◌∙◌, arith, rules, take_all, SFits, w64, to_z, of_z, to_z-of_z}
-use Rattle.std.specs.Vec.{vec_items}
+use Rattle.std.proofs.Common.{◌≡◌, ◌-◌, ◌*◌, ◌≤◌, ℕ, ℤ, pos, List, [], ◌++◌, length, take, replicate, get_or, sym, ap, subst, ◌∙◌, arith, rules, take_all, SFits, w64, to_z-of_z}
 use Rattle.std.proofs.Math.Nat.{one-le-mul}
 use Rattle.std.proofs.lemmas.Nat.{mul-le}
 use Rattle.run_tile.specs.Runs.{IsSpelling, IsRun, run_at, run_count, run_size, runs_in}

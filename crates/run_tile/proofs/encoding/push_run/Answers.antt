@@ -1,4 +1,4 @@
-use Rattle.std.proofs.Common.{SFits, w64, to_z-of_z, drop, [], ◌∷◌, rules}
+use Rattle.std.proofs.Common.{SFits, w64, to_z-of_z, rules}
 use Rattle.run_tile.proofs.Values.{run-written}
 use Rattle.run_tile.proofs.encoding.push_run.Goals as goal
 

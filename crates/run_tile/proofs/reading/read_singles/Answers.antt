@@ -1,5 +1,5 @@
 -- The run of one cell that was read is the one that stands there.
-use Rattle.std.proofs.Common.{◌≡◌, ℤ, ℕ, ◌+◌, Some, ap, arith, rules, SFits, w64, to_z-of_z, subst}
+use Rattle.std.proofs.Common.{◌≡◌, ℤ, ℕ, ◌+◌, ◌++◌, ◌∙◌, Some, ap, sym, arith, rules, SFits, w64, to_z-of_z, subst, take, replicate}
 use Rattle.arr_core.specs.Cells.{Fits}
 use Rattle.run_tile.specs.Runs.{IsRun}
 use Rattle.run_tile.specs.declared.reading.Progress.{Progress}
@@ -18,5 +18,6 @@ loop-k-preserved c =
     let fits : SFits w64 run.value = search rules in
     let of_type : Fits kind run.value = subst (λ (z : ℤ). Fits kind z) (to_z-of_z fits) (c.fits.ensures.0 (search rules)) in
     let sound : IsRun kind run = (omega arith, omega arith, of_type) in
+    let written = subst (λ (n : ℕ). take (at.cells + n) c.write_cell.new.cells ≡ take at.cells c.loop-k.cells ++ replicate n run.value) (sym one) (c.write_cell.ensures ∙ ap (λ (z : ℤ). take at.cells c.loop-k.cells ++ replicate 1 z) (to_z-of_z fits)) in
     let differs : at.last ≡ Some run.value → ⊥ = search rules in
-    read-more kind bytes c.loop-k.cells c.write_run.new.cells at _ run c.loop-k.invariant read sound differs (omega arith) (omega arith) (ap (λ (z : ℤ). Some z) (to_z-of_z fits)) (search rules) c.write_run.ensures
+    read-more kind bytes c.loop-k.cells c.write_cell.new.cells at _ run c.loop-k.invariant read sound differs (omega arith) (omega arith) (ap (λ (z : ℤ). Some z) (to_z-of_z fits)) (search rules) written
