@@ -8,6 +8,7 @@ pub mod UpdateLemmas
 pub mod WriteLemmas
 pub mod TileLemmas
 pub mod AskingLemmas
+pub mod OneAnswerLemmas
 pub mod TomlinLemmas
 pub mod ClosingLemmas
 pub mod LayoutLemmas

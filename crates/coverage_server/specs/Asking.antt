@@ -86,3 +86,7 @@ evaluated store (Err code) = Err code
 -- the answer to a text: it is typed, then evaluated
 abbrev pub TextAnswer : Store → List ℕ → QueryAnswer → Type 0
 TextAnswer store text a = (r : TypedAnswer) × TextTyped store text r × (a ≡ evaluated store r)
+
+-- a text has at most one answer over a store
+abbrev pub HasOneAnswer : Type 0
+HasOneAnswer = (store : Store) (text : List ℕ) (a b : QueryAnswer) → TextAnswer store text a → TextAnswer store text b → a ≡ b

@@ -7,6 +7,7 @@ mod cells;
 mod closing;
 mod coverages;
 mod describing;
+mod laws;
 mod opening;
 mod query;
 mod server;
@@ -14,6 +15,7 @@ mod session;
 mod templates;
 
 pub use closing::{CloseFault, NotClosed};
+pub use laws::one_answer;
 pub use opening::{NotOpened, OpenFault};
 pub use server::{ConnEnd, Server};
 pub use session::{SessionFault, serve_session, sessions_compose};
