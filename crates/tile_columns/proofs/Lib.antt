@@ -1,3 +1,7 @@
 pub mod Ranges
 pub mod Turns
 pub mod Gathers
+pub mod Placing
+pub mod Bindings
+pub mod Condensings
+pub mod Fetching

@@ -1,3 +1,6 @@
 pub mod Frames
 pub mod Sources
 pub mod Gathering
+pub mod Evaluating
+pub mod Binding
+pub mod Condensing

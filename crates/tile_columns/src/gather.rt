@@ -154,6 +154,7 @@ fn fetch_at<S: Tiles>(
     ensures seen { OnOk result (scratch.new.seen.items ≡ added scratch.old.seen.items (slice_index_or scratch.old.numbers.items place 0)) }
     ensures fetched { OnOk result (S.fetched source.new + length scratch.old.seen.items ≤ S.fetched source.old + length scratch.new.seen.items) }
     ensures same { Leaves (S.cells source.old) (S.cells source.new) (S.coverages source.old) (S.coverages source.new) (S.kept source.old) (S.kept source.new) }
+    ensures rises { S.fetched source.old ≤ S.fetched source.new }
     ensures intact { S.intact source.old → S.intact source.new }
     ensures reports { Reports result (S.intact source.old) (S.failures source.old) (S.failures source.new) }
 {
@@ -211,6 +212,7 @@ fn gather<S: Tiles>(
     ensures value { OnOk result (S.intact source.old → scratch.new.cells.items ≡ map (λ e. S.cells source.old reading.now.coverage reading.now.field (numbers_at e reading.now.indexes.now)) frame.now) }
     ensures places { OnOk result (length scratch.new.cells.items ≡ length frame.now) }
     ensures same { Leaves (S.cells source.old) (S.cells source.new) (S.coverages source.old) (S.coverages source.new) (S.kept source.old) (S.kept source.new) }
+    ensures rises { S.fetched source.old ≤ S.fetched source.new }
     ensures intact { S.intact source.old → S.intact source.new }
     ensures reports { Reports result (S.intact source.old) (S.failures source.old) (S.failures source.new) }
     ensures fetched { OnOk result (S.fetched source.new ≤ S.fetched source.old + length (distinct (map (λ e. tile_number reading.now.domain.now (numbers_at e reading.now.indexes.now)) frame.now))) }
@@ -247,6 +249,7 @@ pub fn read<S: Tiles>(
     ensures value { OnOk result (S.intact source.old → out.new ≡ map (λ e. Value (S.cells source.old reading.now.coverage reading.now.field (numbers_at e reading.now.indexes.now))) frame.now) }
     ensures places { OnOk result (length out.new ≡ length frame.now) }
     ensures same { Leaves (S.cells source.old) (S.cells source.new) (S.coverages source.old) (S.coverages source.new) (S.kept source.old) (S.kept source.new) }
+    ensures rises { S.fetched source.old ≤ S.fetched source.new }
     ensures intact { S.intact source.old → S.intact source.new }
     ensures reports { Reports result (S.intact source.old) (S.failures source.old) (S.failures source.new) }
     ensures fetched { OnOk result (S.fetched source.new ≤ S.fetched source.old + length (distinct (map (λ e. tile_number reading.now.domain.now (numbers_at e reading.now.indexes.now)) frame.now))) }

@@ -2,14 +2,20 @@
 //! there, which come a tile at a time.
 #![tactic(auto)]
 
+mod binds;
+mod bodies;
+mod folds;
 mod frame;
 mod gather;
+mod ground;
 mod lookup;
 mod scratch;
 mod source;
 
+pub use bodies::evaluate;
 pub use frame::Frame;
 pub use gather::{Reading, read};
+pub use ground::Ground;
 pub use lookup::{fill_variable, look_up};
 pub use scratch::Scratch;
 pub use source::Tiles;

@@ -1,9 +1,11 @@
-//! Lists that reads write to, one after the other.
+//! Lists and columns that reads and operations write to, one after the other.
 
-use std::alloc::Global;
+use std::alloc::{AllocError, Global};
+use tile_kernel::Column;
+use wcps_mean::Outcome;
 
-/// Lists of a column's length. They grow as they are needed and are then used again, so that reads that have been done
-/// once take no further memory for them.
+/// Lists of a column's length, and columns that no one uses. They grow as they are needed and are then used again, so
+/// that reads and operations that have been done once take no further memory for them.
 #[derive(Drop)]
 pub struct Scratch {
     alloc: Global,
@@ -12,6 +14,8 @@ pub struct Scratch {
     pub(crate) numbers: Vec<u64>,
     pub(crate) seen: Vec<u64>,
     pub(crate) point: Vec<i32>,
+    pub(crate) outcomes: Vec<Outcome>,
+    spare: Vec<Column>,
 }
 
 impl Scratch {
@@ -24,11 +28,27 @@ impl Scratch {
             numbers: Vec::new(alloc),
             seen: Vec::new(alloc),
             point: Vec::new(alloc),
+            outcomes: Vec::new(alloc),
+            spare: Vec::new(alloc),
         }
     }
 
     /// What makes further lists.
     pub(crate) fn alloc(&self) -> Global {
         self.alloc
+    }
+
+    /// A column to be written: one that was given back, or a new one.
+    pub(crate) fn take_column(&mut self) -> Result<Column, AllocError> {
+        match self.spare.pop() {
+            Some(column) => return Ok(column),
+            None => (),
+        }
+        Column::new(self.alloc)
+    }
+
+    /// Takes back a column that is done with.
+    pub(crate) fn give_back(&mut self, column: Column) {
+        let _ = self.spare.push(column);
     }
 }

@@ -1,6 +1,6 @@
 //! Where tiles come from.
 
-ghost use Rattle.std.specs.Prelude.{◌≡◌, ℕ, ℤ, List, ⊤, map, slice_get, length, OnOk};
+ghost use Rattle.std.specs.Prelude.{◌≡◌, ◌≤◌, ℕ, ℤ, List, ⊤, map, slice_get, length, OnOk};
 ghost use Rattle.arr_core.specs.declared.signature.Signature.{Signature};
 ghost use Rattle.arr_core.specs.Domains.{points, count};
 ghost use Rattle.wcps_mean.specs.Reports.{Reports};
@@ -47,6 +47,11 @@ pub trait Tiles {
         ensures places { OnOk result (length buffer.new.items ≡ count (box_of (slice_get (coverages self.old) coverage) tile)) }
         ensures same { Leaves (cells self.old) (cells self.new) (coverages self.old) (coverages self.new) (Self.kept self.old) (Self.kept self.new) }
         ensures fetched { OnOk result (OneMore (fetched self.old) (fetched self.new)) }
+        ensures rises { fetched self.old ≤ fetched self.new }
         ensures intact { intact self.old → intact self.new }
         ensures reports { Reports result (intact self.old) (failures self.old) (failures self.new) };
+
+    /// How many tiles were fetched, in a `u64`, which stays at its last value.
+    fn count(&self) -> u64
+        ensures { result ≡ fetched self.now };
 }

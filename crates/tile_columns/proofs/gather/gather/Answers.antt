@@ -36,6 +36,7 @@ loop-place-preserved g c =
           (c.in_ok-fetch_at.ensures.value (inv.intact i)
           (subst (λ s. Gathered c.loop-place.scratch.seen.items c.loop-place.scratch.numbers.items (want s) c.loop-place.scratch.cells.items) (sym inv.same.cells) (inv.value i))));
       fetched = omega (arith, c.in_ok-fetch_at.ensures.fetched, inv.fetched);
+      rises = omega (arith, c.fetch_at.ensures.rises, inv.rises);
       same = record { cells = c.fetch_at.ensures.same.cells ∙ inv.same.cells; coverages = c.fetch_at.ensures.same.coverages ∙ inv.same.coverages; kept = c.fetch_at.ensures.same.kept ∙ inv.same.kept };
       intact = λ i. c.fetch_at.ensures.intact (inv.intact i);
       failures = c.in_ok-fetch_at.ensures.reports ∙ inv.failures;

@@ -1,0 +1,27 @@
+use Rattle.std.proofs.Common.{◌≡◌, ◌≤◌, ◌+◌, ◌*◌, length, take, get_or, []}
+use Rattle.arr_core.specs.Domains.{points}
+use Rattle.wcps_mean.specs.declared.aggregate.Aggregate.{Aggregate}
+use Rattle.plan_ir.specs.Bodies.{body_view, condition_view}
+use Rattle.plan_ir.specs.Run.{run}
+use Rattle.plan_ir.specs.Planned.{cells_of}
+use Rattle.plan_ir.specs.Units.{bound_times}
+use Rattle.tile_kernel.specs.Standing.{AreOf, HaveAtMost, EachTakesIn}
+use Rattle.tile_columns.specs.Sources.{Leaves}
+use Rattle.tile_columns.specs.Condensing.{told_of, under_vars}
+use Rattle.tile_columns.proofs.bodies.+evaluate.Given as goal
+
+abbrev pub invariant-tell_points-loop-place : goal.invariant-tell_points-loop-place
+invariant-tell_points-loop-place g l = record {
+  told : g.S.Tiles.intact l.fn.source → EachTakesIn l.fn.folds l.folds (λ k. told_of
+      (under_vars (run (cells_of (g.S.Tiles.cells l.fn.source) l.ground.coverages.now) l.ground.registers.now (condition_view l.fold.condition)) (get_or l.fn.frame k []))
+      (under_vars (run (cells_of (g.S.Tiles.cells l.fn.source) l.ground.coverages.now) l.ground.registers.now (body_view l.fold.body)) (get_or l.fn.frame k []))
+      0 (take l.place (points l.fold.domain)));
+  room : HaveAtMost l.place l.folds;
+  op : (op : Aggregate) → AreOf op l.fn.folds → AreOf op l.folds;
+  frame : l.frame ≡ l.fn.frame;
+  rises : g.S.Tiles.fetched l.fn.source ≤ g.S.Tiles.fetched l.source;
+  fetched : g.S.Tiles.fetched l.source ≤ g.S.Tiles.fetched l.fn.source + (bound_times (length l.fn.frame * l.place) (condition_view l.fold.condition) + bound_times (length l.fn.frame * l.place) (body_view l.fold.body));
+  same : Leaves (g.S.Tiles.cells l.fn.source) (g.S.Tiles.cells l.source) (g.S.Tiles.coverages l.fn.source) (g.S.Tiles.coverages l.source) (g.S.Tiles.kept l.fn.source) (g.S.Tiles.kept l.source);
+  intact : g.S.Tiles.intact l.fn.source → g.S.Tiles.intact l.source;
+  failures : g.S.Tiles.failures l.source ≡ g.S.Tiles.failures l.fn.source;
+}

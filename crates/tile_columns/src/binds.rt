@@ -1,0 +1,99 @@
+//! The positions of a bind at all places of a column.
+
+ghost use Rattle.std.specs.Prelude.{◌≡◌, ◌≤◌, int_le, ◌&&◌, length, map, OnOk, IfOk};
+ghost use Rattle.wcps_mean.specs.Cells.{at_position};
+ghost use Rattle.tile_kernel.specs.Columns.{outcome_at};
+ghost use Rattle.tile_columns.specs.Binding.{coordinate_or_lo, at_positions};
+
+use plan_ir::Interval;
+use std::alloc::{AllocError, Global};
+use tile_kernel::Column;
+use wcps_mean::{Outcome, PointFault};
+
+/// Whether a number lies in an interval.
+fn lies_in(z: i64, interval: Interval) -> bool
+    ensures { result ≡ (int_le interval.lo z && int_le z interval.hi) }
+{
+    interval.lo as i64 <= z && z <= interval.hi as i64
+}
+
+/// The coordinate of a position that lies in the interval, else the lower bound.
+fn coordinate(position: Outcome, interval: Interval) -> i32
+    ensures { result ≡ coordinate_or_lo interval.lo interval.hi position }
+{
+    match position {
+        Outcome::Fault(_) => interval.lo,
+        Outcome::Value(z) => {
+            if lies_in(z, interval) {
+                z as i32
+            } else {
+                interval.lo
+            }
+        }
+    }
+}
+
+/// The coordinates of the positions.
+pub(crate) fn coordinates(
+    alloc: Global,
+    positions: &Column,
+    interval: Interval,
+) -> Result<Vec<i32>, AllocError>
+    ensures { IfOk result (λ v. v.items ≡ map (coordinate_or_lo interval.lo interval.hi) positions.now) }
+{
+    let mut list = Vec::new(alloc);
+    for place in 0..positions.len() {
+        list.push(coordinate(positions.at(place), interval))?;
+    }
+    Ok(list)
+}
+
+/// The position's fault, else `OutOfDomain` where it does not lie in the interval, else the outcome.
+fn settled(position: Outcome, interval: Interval, o: Outcome) -> Outcome
+    ensures { result ≡ at_position position interval.lo interval.hi (λ _. o) }
+{
+    match position {
+        Outcome::Fault(f) => Outcome::Fault(f),
+        Outcome::Value(z) => {
+            if lies_in(z, interval) {
+                o
+            } else {
+                Outcome::Fault(PointFault::OutOfDomain)
+            }
+        }
+    }
+}
+
+/// Leaves the outcomes of `out` where the position lies in the interval, and puts the fault elsewhere.
+pub(crate) fn settle(
+    positions: &Column,
+    interval: Interval,
+    outcomes: &mut Vec<Outcome>,
+    out: &mut Column,
+) -> Result<(), AllocError>
+    requires { length out.old ≡ length positions.now }
+    ensures { OnOk result (out.new ≡ at_positions positions.now interval.lo interval.hi (λ k z. outcome_at out.old k)) }
+{
+    settle_each(positions, interval, out, outcomes)?;
+    out.write_outcomes(outcomes);
+    Ok(())
+}
+
+/// The settled outcomes, place by place.
+fn settle_each(
+    positions: &Column,
+    interval: Interval,
+    column: &Column,
+    outcomes: &mut Vec<Outcome>,
+) -> Result<(), AllocError>
+    requires { length column.now ≡ length positions.now }
+    ensures value { OnOk result (outcomes.new.items ≡ at_positions positions.now interval.lo interval.hi (λ k z. outcome_at column.now k)) }
+    ensures few { OnOk result (length outcomes.new.items ≤ 4096) }
+{
+    outcomes.clear();
+    for place in 0..positions.len() {
+        let o = settled(positions.at(place), interval, column.at(place));
+        outcomes.push(o)?;
+    }
+    Ok(())
+}
