@@ -5,3 +5,4 @@ pub mod Placing
 pub mod Bindings
 pub mod Condensings
 pub mod Fetching
+pub mod Behind

@@ -4,3 +4,4 @@ pub mod Gathering
 pub mod Evaluating
 pub mod Binding
 pub mod Condensing
+pub mod Fields

@@ -4,6 +4,7 @@
 
 mod binds;
 mod bodies;
+mod fields;
 mod folds;
 mod frame;
 mod gather;
@@ -13,6 +14,7 @@ mod scratch;
 mod source;
 
 pub use bodies::evaluate;
+pub use fields::evaluate_fields;
 pub use frame::Frame;
 pub use gather::{Reading, read};
 pub use ground::Ground;

@@ -1,0 +1,147 @@
+//! Fields behind binds, at all places of a frame.
+
+ghost use Rattle.std.specs.Prelude.{◌≡◌, ℕ, ◌+◌, ◌≤◌, ℤ, pos, List, [], ◌∷◌, ◌++◌, length, map, replicate, sum_by, OnOk, IfOk};
+ghost use Rattle.wcps_mean.specs.declared.cell.Outcome.TheVariants.{Value};
+ghost use Rattle.std.specs.List.{All};
+ghost use Rattle.wcps_mean.specs.Reports.{Reports};
+ghost use Rattle.plan_ir.specs.Plans.{signature_of, bind_view, field_view};
+ghost use Rattle.plan_ir.specs.Planned.{cells_of};
+ghost use Rattle.tile_columns.specs.Sources.{Leaves};
+ghost use Rattle.tile_columns.specs.Evaluating.{fetches};
+ghost use Rattle.tile_columns.specs.Fields.{FieldsHavePlace, HavePlaces, columns_behind, bodies_behind, settled_by};
+
+use crate::binds::{coordinates, settle};
+use crate::bodies::evaluate;
+use crate::frame::Frame;
+use crate::ground::Ground;
+use crate::scratch::Scratch;
+use crate::source::Tiles;
+use plan_ir::{Bind, Field, Interval};
+use std::alloc::AllocError;
+use tile_kernel::Column;
+use wcps_mean::{CellError, Outcome};
+
+/// A column for each field: its outcomes at the places of a frame, behind the binds. The position of a bind is one more
+/// variable for all that is behind it; where the position has a fault or lies outside of its interval, there is that
+/// fault in each column. A position is evaluated once for all fields, and what is behind an interval of no coordinate
+/// is not evaluated. What the source reports passes through; after that the frame may have further variables.
+pub fn evaluate_fields<S: Tiles>(
+    source: &mut S,
+    ground: &Ground<'_>,
+    binds: &[Bind],
+    fields: &[Field],
+    frame: &mut Frame,
+    scratch: &mut Scratch,
+) -> Result<Vec<Column>, CellError>
+    requires signatures { ground.now.signatures.now ≡ S.coverages source.old }
+    requires place { FieldsHavePlace (signature_of (S.coverages source.old) ground.now.coverages.now) (length ground.now.registers.now) (map bind_view binds.now) (map field_view fields.now) frame.old }
+    ensures value { IfOk result (λ v. S.intact source.old → v.items ≡ columns_behind (cells_of (S.cells source.old) ground.now.coverages.now) ground.now.registers.now (map bind_view binds.now) (map field_view fields.now) frame.old) }
+    ensures fields { IfOk result (λ v. length v.items ≡ length fields.now) }
+    ensures places { IfOk result (λ v. HavePlaces (length frame.old) v.items) }
+    ensures frame { OnOk result (frame.new ≡ frame.old) }
+    ensures rises { S.fetched source.old ≤ S.fetched source.new }
+    ensures same { Leaves (S.cells source.old) (S.cells source.new) (S.coverages source.old) (S.coverages source.new) (S.kept source.old) (S.kept source.new) }
+    ensures intact { S.intact source.old → S.intact source.new }
+    ensures reports { Reports result (S.intact source.old) (S.failures source.old) (S.failures source.new) }
+    ensures fetched { OnOk result ((n : ℕ) → All (λ (e : List ℤ). n ≤ length e) frame.old → S.fetched source.new ≤ S.fetched source.old + sum_by (fetches (signature_of (S.coverages source.old) ground.now.coverages.now) n frame.old) (bodies_behind (map bind_view binds.now) (map field_view fields.now))) }
+{
+    match binds {
+        [] => field_columns(source, ground, fields, frame, scratch),
+        [bind, rest @ ..] => {
+            let mut positions = scratch.take_column()?;
+            evaluate(
+                source,
+                ground,
+                &bind.position,
+                frame,
+                scratch,
+                &mut positions,
+            )?;
+            if bind.interval.hi < bind.interval.lo {
+                let columns = blank_columns(fields.len(), &positions, bind.interval, scratch)?;
+                scratch.give_back(positions);
+                return Ok(columns);
+            }
+            let depth = frame.depth();
+            let numbers = coordinates(scratch.alloc(), &positions, bind.interval)?;
+            frame.push_column(numbers)?;
+            let mut columns = evaluate_fields(source, ground, rest, fields, frame, scratch)?;
+            frame.truncate(depth);
+            settle_columns(&positions, bind.interval, scratch, &mut columns)?;
+            scratch.give_back(positions);
+            Ok(columns)
+        }
+    }
+}
+
+/// A column for each field: the outcomes of its body at the places of a frame.
+fn field_columns<S: Tiles>(
+    source: &mut S,
+    ground: &Ground<'_>,
+    fields: &[Field],
+    frame: &mut Frame,
+    scratch: &mut Scratch,
+) -> Result<Vec<Column>, CellError>
+    requires signatures { ground.now.signatures.now ≡ S.coverages source.old }
+    requires place { FieldsHavePlace (signature_of (S.coverages source.old) ground.now.coverages.now) (length ground.now.registers.now) [] (map field_view fields.now) frame.old }
+    ensures value { IfOk result (λ v. S.intact source.old → v.items ≡ columns_behind (cells_of (S.cells source.old) ground.now.coverages.now) ground.now.registers.now [] (map field_view fields.now) frame.old) }
+    ensures fields { IfOk result (λ v. length v.items ≡ length fields.now) }
+    ensures places { IfOk result (λ v. HavePlaces (length frame.old) v.items) }
+    ensures frame { OnOk result (frame.new ≡ frame.old) }
+    ensures rises { S.fetched source.old ≤ S.fetched source.new }
+    ensures same { Leaves (S.cells source.old) (S.cells source.new) (S.coverages source.old) (S.coverages source.new) (S.kept source.old) (S.kept source.new) }
+    ensures intact { S.intact source.old → S.intact source.new }
+    ensures reports { Reports result (S.intact source.old) (S.failures source.old) (S.failures source.new) }
+    ensures fetched { OnOk result ((n : ℕ) → All (λ (e : List ℤ). n ≤ length e) frame.old → S.fetched source.new ≤ S.fetched source.old + sum_by (fetches (signature_of (S.coverages source.old) ground.now.coverages.now) n frame.old) (bodies_behind [] (map field_view fields.now))) }
+{
+    let mut columns = Vec::new(scratch.alloc());
+    for field in fields {
+        let mut column = scratch.take_column()?;
+        evaluate(source, ground, &field.body, frame, scratch, &mut column)?;
+        push_column(&mut columns, column)?;
+    }
+    Ok(columns)
+}
+
+/// Puts a column at the end of a list.
+fn push_column(columns: &mut Vec<Column>, column: Column) -> Result<(), AllocError>
+    ensures { OnOk result (columns.new.items ≡ columns.old.items ++ column ∷ []) }
+{
+    columns.push(column)?;
+    Ok(())
+}
+
+/// Columns of zeros, but where the position does not lie in the interval there is the fault.
+fn blank_columns(
+    count: usize,
+    positions: &Column,
+    interval: Interval,
+    scratch: &mut Scratch,
+) -> Result<Vec<Column>, AllocError>
+    ensures { IfOk result (λ v. v.items ≡ replicate count (settled_by positions.now interval.lo interval.hi (replicate (length positions.now) (Value (pos 0))))) }
+{
+    let mut columns = Vec::new(scratch.alloc());
+    for _field in 0..count {
+        let mut column = scratch.take_column()?;
+        column.fill(positions.len(), Outcome::Value(0));
+        settle(positions, interval, &mut scratch.outcomes, &mut column)?;
+        push_column(&mut columns, column)?;
+    }
+    Ok(columns)
+}
+
+/// Leaves the outcomes of each column where the position lies in the interval, and puts the fault elsewhere.
+fn settle_columns(
+    positions: &Column,
+    interval: Interval,
+    scratch: &mut Scratch,
+    columns: &mut Vec<Column>,
+) -> Result<(), AllocError>
+    requires { HavePlaces (length positions.now) columns.old.items }
+    ensures { OnOk result (columns.new.items ≡ map (settled_by positions.now interval.lo interval.hi) columns.old.items) }
+{
+    for k in 0..columns.len() {
+        settle(positions, interval, &mut scratch.outcomes, &mut columns[k])?;
+    }
+    Ok(())
+}
