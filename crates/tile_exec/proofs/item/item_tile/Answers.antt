@@ -1,0 +1,72 @@
+-- A tile of an item, point by point.
+use Rattle.std.proofs.Common.{◌∙◌, ◌+◌, ◌*◌, ◌<◌, ◌≤◌, ◌^◌, ap, sym, subst, refl, length, map, []}
+use Rattle.std.specs.Prelude.{All, sum_by}
+use Rattle.std.specs.List.{flat_map}
+use Rattle.std.proofs.lemmas.List.{length-map}
+use Rattle.std.proofs.lemmas.Option.{get_or_from_slice_get}
+use Rattle.arr_core.specs.Domains.{points, count}
+use Rattle.arr_core.specs.Tiles.{tile_boxes}
+use Rattle.wcps_mean.specs.Answer.{line_of, field_count}
+use Rattle.plan_ir.specs.Plans.{signature_of, item_view, field_view}
+use Rattle.plan_ir.specs.Planned.{cells_of}
+use Rattle.plan_ir.specs.Units.{bound_of}
+use Rattle.tile_kernel.specs.Told.{IsFirst}
+use Rattle.tile_exec.specs.Items.{places_of, told_to_item}
+use Rattle.tile_exec.specs.Rows.{cells_told}
+use Rattle.tile_exec.specs.Tasks.{item, bodies_of}
+use Rattle.tile_exec.proofs.Boxes.{box-inside}
+use Rattle.tile_exec.proofs.Rows.{part_inside, ranks_small, written_places, written_cells, told_rows, places_below}
+use Rattle.tile_exec.proofs.item.item_tile.Goals as goal
+
+pub ranks-requires : goal.ranks-requires
+ranks-requires g c = λ p i. box-inside c.args.planned.now.domain c.in_ok-part.part p c.in_ok-part.ensures.inside i
+
+pub tell_points-requires-clause-ranks : goal.tell_points-requires-clause-ranks
+tell_points-requires-clause-ranks g c =
+    subst (All (λ r. r < 2 ^ 24)) (sym (c.deref.ensures.value ∙ c.in_ok-places.ensures))
+    (ranks_small c.args.planned.now.domain (points c.in_ok-part.part) c.requires.placed.0.few_points (part_inside c.args.planned.now.domain c.in_ok-part.part c.in_ok-part.ensures.inside c.axes-axes.ensures.domain.ordered))
+
+pub returns-clause-fits : goal.returns-clause-fits
+returns-clause-fits g c =
+    let i = item_view c.args.planned.now in
+    let qs = points c.in_ok-part.part in
+    let inside = part_inside i.domain c.in_ok-part.part c.in_ok-part.ensures.inside c.axes-axes.ensures.domain.ordered in
+    let width = length-map c.args.planned.now.fields.items field_view in
+    let ranks = c.deref.ensures.value ∙ c.in_ok-places.ensures in
+    let columns = ap length c.deref-3.ensures.value ∙ c.in_ok-columns.ensures.fields ∙ sym width in
+    let written = c.in_ok-first.ensures.cells ∙ ap (λ l. cells_told c.deref.result.now (map field_view l) c.deref-3.result.now (length c.deref.result.now)) c.deref-2.ensures.value in
+    record {
+      giving = refl;
+      below = places_below i qs c.tell_points.new.written.items inside (written_places i qs c.deref.result.now c.deref-3.result.now c.tell_points.new.written.items ranks columns written);
+      fresh = λ z. c.in_ok-fresh_cells.ensures z ∙ ap (λ n. count i.domain * n) (sym width);
+      line = c.run_length.ensures ∙ ap line_of c.axes.ensures.value;
+      fields = c.count_of.ensures ∙ ap field_count (ap length c.deref-4.ensures.value ∙ sym width);
+    }
+
+pub returns-clause-tells : goal.returns-clause-tells
+returns-clause-tells g c = λ intact.
+    let i = item_view c.args.planned.now in
+    let s = cells_of (g.S.Tiles.cells c.args.source.now) c.args.ground.now.coverages.now in
+    let regs = c.args.ground.now.registers.now in
+    let part = c.in_ok-part.part in
+    let qs = points part in
+    let is = get_or_from_slice_get (tile_boxes i.domain) c.args.tile part [] c.in_ok-part.ensures.value in
+    let inside = part_inside i.domain part c.in_ok-part.ensures.inside c.axes-axes.ensures.domain.ordered in
+    let width = length-map c.args.planned.now.fields.items field_view in
+    let ranks = c.deref.ensures.value ∙ c.in_ok-places.ensures in
+    let many = ap length c.deref-3.ensures.value ∙ c.in_ok-columns.ensures.fields ∙ sym width in
+    let columns = c.deref-3.ensures.value ∙ c.in_ok-columns.ensures.value intact in
+    let written = c.in_ok-first.ensures.cells ∙ ap (λ l. cells_told c.deref.result.now (map field_view l) c.deref-3.result.now (length c.deref.result.now)) c.deref-2.ensures.value in
+    let rows = told_rows s regs i qs c.deref.result.now c.deref-3.result.now (length c.deref-2.result.now) ranks columns (ap length c.deref-2.ensures.value ∙ sym width) in
+    record {
+      places = written_places i qs c.deref.result.now c.deref-3.result.now c.tell_points.new.written.items ranks many written ∙ ap (λ b. flat_map (places_of i) (points b)) (sym is);
+      cells = written_cells s regs i qs c.deref.result.now c.deref-3.result.now c.tell_points.new.written.items ranks columns written inside;
+      first = subst (IsFirst c.in_ok-first.first.fault c.in_ok-first.first.place) (rows ∙ ap (λ b. flat_map (told_to_item s regs i) (points b)) (sym is)) c.in_ok-first.ensures.first;
+    }
+
+pub returns-clause-fetched : goal.returns-clause-fetched
+returns-clause-fetched g c =
+    let i = item_view c.args.planned.now in
+    let is = get_or_from_slice_get (tile_boxes i.domain) c.args.tile c.in_ok-part.part [] c.in_ok-part.ensures.value in
+    let cs = signature_of (g.S.Tiles.coverages c.args.source.now) c.args.ground.now.coverages.now in
+    subst (λ b. g.S.Tiles.fetched c.columns_over.new.source ≤ g.S.Tiles.fetched c.args.source.now + sum_by (bound_of cs b) (bodies_of (item i))) (sym is) c.in_ok-columns.ensures.fetched

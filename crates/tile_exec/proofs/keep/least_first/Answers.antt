@@ -1,0 +1,13 @@
+use Rattle.std.proofs.Common.{sym, subst, ◌++◌, arith}
+use Rattle.tile_kernel.specs.Told.{IsFirst}
+use Rattle.tile_kernel.proofs.Faults.{right_alone, right_first}
+use Rattle.tile_exec.proofs.keep.least_first.Goals as goal
+
+pub returns-in-None : goal.returns-in-None
+returns-in-None c = λ told more h g. right_alone c.args.b.fault c.args.b.place told more (subst (λ f. IsFirst f c.args.a.place told) c.in-None.is h) g
+
+pub returns-in-Some-fault : goal.returns-in-Some-fault
+returns-in-Some-fault c = λ told more h g.
+    subst (λ f. IsFirst f c.args.b.place (told ++ more)) (sym c.in-Some-fault.is)
+    (right_first c.in-Some.field-0 c.in-Some-fault.field-0 c.args.a.place c.args.b.place told more (omega arith)
+    (subst (λ f. IsFirst f c.args.a.place told) c.in-Some.is h) (subst (λ f. IsFirst f c.args.b.place more) c.in-Some-fault.is g))

@@ -1,0 +1,38 @@
+-- The list of a plan's tasks while it is made.
+use Rattle.std.specs.Prelude.{◌≡◌, ℕ, ◌<◌, List, [], ◌∷◌, ◌++◌, length, slice_get, Some}
+use Rattle.std.specs.List.{flat_map}
+use Rattle.arr_core.specs.Domains.{IsDomain}
+use Rattle.plan_ir.specs.declared.plan.Plan.{Plan}
+use Rattle.plan_ir.specs.declared.plan.Steps.{Steps}
+use Rattle.plan_ir.specs.declared.plan.Combination.{Combination}
+use Rattle.plan_ir.specs.Plans.{Choice, choice_view}
+use Rattle.tile_exec.specs.declared.begin.Listing.{Listing}
+use Rattle.tile_exec.specs.Tasks.{PartTree, TaskTree, pass, condition, item, stages_of}
+use Rattle.tile_exec.specs.Standing.{AreTasks}
+
+-- its box is a domain, and an item has fields
+abbrev pub IsFit : PartTree → Type 0
+IsFit (pass p) = IsDomain p.domain
+IsFit (condition c) = Unit {0}
+IsFit (item i) = IsDomain i.domain × (0 < length i.fields)
+
+abbrev pub AreFit : List TaskTree → Type 0
+AreFit [] = Unit {0}
+AreFit (t ∷ trees) = IsFit t.part × AreFit trees
+
+-- the tasks by their places in the plan, and how many boxes they have
+pub record Lists (plan : Plan) (l : Listing) (trees : List TaskTree) : Type 0 where
+  pub tasks : AreTasks plan l.tasks.items trees
+  pub fit : AreFit trees
+  pub boxes : l.boxes ≡ length (flat_map stages_of trees)
+
+-- further tasks come behind those that are listed
+abbrev pub Adds : Plan → Listing → Listing → List TaskTree → Type 0
+Adds plan old new more = (trees : List TaskTree) → Lists plan old trees → Lists plan new (trees ++ more)
+
+-- the combination at a place, and its steps
+pub record IsChosen (plan : Plan) (n : ℕ) (s : Steps) (c : Choice) : Type 0 where
+  pub combination : Combination
+  pub there : slice_get plan.combinations.items n ≡ Some combination
+  pub view : choice_view combination ≡ c
+  pub steps : slice_get plan.steps.items combination.steps ≡ Some s

@@ -1,0 +1,48 @@
+-- The cells of an item that is done a tile at a time.
+use Rattle.std.specs.Prelude.{◌≡◌, ℕ, ◌*◌, ℤ, pos, List, map, length, slice_get, Option}
+use Rattle.std.specs.List.{All, flat_map, enumerate_from, range_with_len}
+use Rattle.arr_core.specs.declared.cell.Cell.{Cell}
+use Rattle.arr_core.specs.Domains.{points, rank_of}
+use Rattle.wcps_mean.specs.declared.cell.PointFault.{PointFault}
+use Rattle.wcps_mean.specs.declared.cell.Outcome.{Outcome}
+use Rattle.wcps_mean.specs.declared.cell.Outcome.TheVariants.{Value, Fault}
+use Rattle.wcps_mean.specs.Answer.{cell_of}
+use Rattle.plan_ir.specs.Plans.{FieldBody, ItemTree}
+use Rattle.plan_ir.specs.Run.{run}
+use Rattle.tile_kernel.specs.Told.{Told, IsFirst}
+use Rattle.tile_columns.specs.Fields.{behind}
+use Rattle.tile_exec.specs.TileOrder.{points_to}
+
+-- the outcomes of all fields at a point
+abbrev pub row : (ℕ → ℕ → List ℤ → ℤ) → List Outcome → ItemTree → List ℤ → List Outcome
+row s regs i q = map (λ (f : FieldBody). run s regs (behind i.binds f.body) q) i.fields
+
+-- the value, or 0 at a fault
+abbrev pub value_of : Outcome → ℤ
+value_of (Value z) = z
+value_of (Fault f) = pos 0
+
+-- the cells of all fields at a point; at a fault they mean nothing
+abbrev pub row_cells : (ℕ → ℕ → List ℤ → ℤ) → List Outcome → ItemTree → List ℤ → List Cell
+row_cells s regs i q = map (λ (f : FieldBody). cell_of f.boolean (value_of (run s regs (behind i.binds f.body) q))) i.fields
+
+-- the cells of all points in row-major order, the fields of a point in order
+abbrev pub all_cells : (ℕ → ℕ → List ℤ → ℤ) → List Outcome → ItemTree → List Cell
+all_cells s regs i = flat_map (row_cells s regs i) (points i.domain)
+
+-- what a point tells an item: the outcome of each field, with the place of its cell
+abbrev pub told_to_item : (ℕ → ℕ → List ℤ → ℤ) → List Outcome → ItemTree → List ℤ → List Told
+told_to_item s regs i q = enumerate_from (rank_of i.domain q * length i.fields) (row s regs i q)
+
+-- the places of a point's cells
+abbrev pub places_of : ItemTree → List ℤ → List ℕ
+places_of i q = range_with_len (rank_of i.domain q * length i.fields) (length i.fields)
+
+-- at each of these places the cells are as they shall be
+abbrev pub AreWritten : List Cell → List Cell → List ℕ → Type 0
+AreWritten all cells places = All (λ k. slice_get cells k ≡ slice_get all k) places
+
+-- the cells and the first fault of the first t tiles of an item's domain
+pub record Fills (s : ℕ → ℕ → List ℤ → ℤ) (regs : List Outcome) (i : ItemTree) (t : ℕ) (cells : List Cell) (fault : Option PointFault) (place : ℕ) : Type 0 where
+  pub written : AreWritten (all_cells s regs i) cells (flat_map (places_of i) (points_to i.domain t))
+  pub first : IsFirst fault place (flat_map (told_to_item s regs i) (points_to i.domain t))

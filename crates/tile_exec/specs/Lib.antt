@@ -1,0 +1,8 @@
+pub mod Tasks
+pub mod Progress
+pub mod TileOrder
+pub mod Items
+pub mod Standing
+pub mod Units
+pub mod Rows
+pub mod Begun

@@ -1,0 +1,116 @@
+-- What a unit finds, and what comes of it.
+use Rattle.std.specs.Prelude.{◌≡◌, ℕ, ◌+◌, ◌*◌, ◌<◌, ◌≤◌, ℤ, List, [], ◌∷◌, ◌++◌, map, length, slice_get, vec_capacity, Option, Some, None, Bool, true, false}
+use Rattle.std.specs.List.{All, flat_map}
+use Rattle.arr_core.specs.declared.cell.Cell.{Cell}
+use Rattle.arr_core.specs.Domains.{count, points}
+use Rattle.arr_core.specs.Tiles.{tile_boxes}
+use Rattle.wcps_mean.specs.declared.cell.PointFault.{PointFault}
+use Rattle.wcps_mean.specs.declared.cell.Outcome.{Outcome}
+use Rattle.wcps_mean.specs.Answer.{line_of, field_count}
+use Rattle.plan_ir.specs.Plans.{ItemTree, PlanTree}
+use Rattle.plan_ir.specs.Planned.{cells_of}
+use Rattle.plan_ir.specs.Run.{run}
+use Rattle.plan_ir.specs.Units.{Stage, bound}
+use Rattle.tile_kernel.specs.Standing.{Stands}
+use Rattle.tile_kernel.specs.Told.{IsFirst}
+use Rattle.tile_exec.specs.declared.task.Status.{Status}
+use Rattle.tile_exec.specs.declared.task.Status.TheVariants.{Giving, Skipping, Failed}
+use Rattle.tile_exec.specs.declared.found.ItemTile.{ItemTile}
+use Rattle.tile_exec.specs.declared.found.Found.{Found}
+use Rattle.tile_exec.specs.declared.found.Found.TheVariants as found
+use Rattle.tile_exec.specs.declared.exec.Exec.{Exec}
+use Rattle.tile_exec.specs.Tasks.{PartTree, TaskTree, pass, condition, item, area_of}
+use Rattle.tile_exec.specs.Progress.{read_by}
+use Rattle.tile_exec.specs.TileOrder.{tile_of, told_to_pass}
+use Rattle.tile_exec.specs.Items.{all_cells, told_to_item, places_of}
+use Rattle.tile_exec.specs.Standing.{StandsFor, IsSound, tasks_left, boxes_left}
+
+-- whether a tile is the last one
+abbrev pub IsLast : Bool → ℕ → ℕ → Type 0
+IsLast true tile n = tile + 1 ≡ n
+IsLast false tile n = tile + 1 < n
+
+-- the tile of an item: each place is a cell's, and a first tile brings the cells
+pub record FitsItem (i : ItemTree) (tile : ℕ) (status : Status) (x : ItemTile) : Type 0 where
+  pub giving : status ≡ Giving
+  pub below : All (λ (w : ℕ × Cell). w.0 < count i.domain * length i.fields) x.written.items
+  pub fresh : tile ≡ 0 → length x.fresh.items ≡ count i.domain * length i.fields
+  pub line : x.line ≡ line_of i.domain
+  pub fields : x.fields ≡ field_count (length i.fields)
+
+-- the condition was false, or there is a fault already
+abbrev pub IsNotGiven : Status → Type 0
+IsNotGiven Giving = ⊥
+IsNotGiven Skipping = Unit {0}
+IsNotGiven (Failed f) = Unit {0}
+
+-- after an item that is not given: a fault stands, else the next combination may give one
+abbrev pub AfterSkipped : Status → Status → Type 0
+AfterSkipped Giving after = ⊥
+AfterSkipped Skipping after = after ≡ Giving
+AfterSkipped (Failed f) after = after ≡ Failed f
+
+-- what is found is of the kind of the task
+abbrev pub FitsPart : ℕ → Status → PartTree → Found → Type 0
+FitsPart tile status (pass p) (found.Pass a) = (a.running.op ≡ p.op) × (a.running.count ≤ length (points (tile_of p.domain tile)))
+FitsPart tile status (condition c) (found.Condition o) = Unit {0}
+FitsPart tile status (item i) (found.Item x) = FitsItem i tile status x
+FitsPart tile status (item i) found.Skipped = IsNotGiven status
+FitsPart tile status _ _ = ⊥
+
+abbrev pub Fits : Exec → List TaskTree → Bool → Found → Type 0
+Fits e [] last found.Skipped = Unit {0}
+Fits e [] last _ = ⊥
+Fits e (t ∷ tasks) last x = IsLast last e.tile (length (tile_boxes (area_of t.part))) × FitsPart e.tile e.status t.part x
+
+-- the cells and the first fault of a tile of an item
+pub record TellsItem (s : ℕ → ℕ → List ℤ → ℤ) (regs : List Outcome) (i : ItemTree) (t : ℕ) (x : ItemTile) : Type 0 where
+  pub places : map (λ (w : ℕ × Cell). w.0) x.written.items ≡ flat_map (places_of i) (points (tile_of i.domain t))
+  pub cells : All (λ (w : ℕ × Cell). slice_get (all_cells s regs i) w.0 ≡ Some w.1) x.written.items
+  pub first : IsFirst x.first.fault x.first.place (flat_map (told_to_item s regs i) (points (tile_of i.domain t)))
+
+-- what is found is that of the tile at hand
+abbrev pub TellsPart : (ℕ → ℕ → List ℤ → ℤ) → List Outcome → ℕ → PartTree → Found → Type 0
+TellsPart s regs tile (pass p) (found.Pass a) = Stands a (flat_map (told_to_pass s regs p) (points (tile_of p.domain tile)))
+TellsPart s regs tile (condition c) (found.Condition o) = o ≡ run s regs c []
+TellsPart s regs tile (item i) (found.Item x) = TellsItem s regs i tile x
+TellsPart s regs tile _ _ = Unit {0}
+
+abbrev pub Tells : (ℕ → ℕ → List ℤ → ℤ) → Exec → List TaskTree → Found → Type 0
+Tells s e [] x = Unit {0}
+Tells s e (t ∷ tasks) x = TellsPart (cells_of s t.coverages) (read_by t e.registers.items) e.tile t.part x
+
+-- one box fewer is left
+abbrev pub LosesFirst : List Stage → List Stage → Type 0
+LosesFirst [] after = after ≡ []
+LosesFirst (b ∷ before) after = after ≡ before
+
+-- what was found is kept, and the unit is done
+pub record Keeps (old new : Exec) (x : Found) : Type 0 where
+  pub sound : IsSound new
+  pub plan : new.plan ≡ old.plan
+  pub left : new.left + 1 ≡ old.left
+  pub boxes : LosesFirst (boxes_left old) (boxes_left new)
+  pub stands : (s : ℕ → ℕ → List ℤ → ℤ) → StandsFor s old → Tells s old (tasks_left old) x → StandsFor s new
+
+-- how many tiles the next unit may fetch
+abbrev pub first_bound : PlanTree → List Stage → ℕ
+first_bound plan [] = 0
+first_bound plan (b ∷ boxes) = bound plan b
+
+-- what becomes of an item: its fault stands, or it is put behind the others
+abbrev pub GivesBy : Option PointFault → Exec → Exec → ℕ → ℕ → Type 0
+GivesBy (Some f) old new line fields = (new.status ≡ Failed f) × (new.items ≡ old.items)
+GivesBy None old new line fields =
+    (new.status ≡ old.status) × (new.items.items ≡ old.items.items ++ record { line = line; fields = fields; cells = old.cells.items } ∷ [])
+
+-- an item whose tiles are all told is given, or its first fault stands
+pub record Gives (old new : Exec) (line fields : ℕ) : Type 0 where
+  pub by : GivesBy old.first.fault old new line fields
+  pub plan : new.plan ≡ old.plan
+  pub tasks : new.tasks ≡ old.tasks
+  pub at : new.at ≡ old.at + 1
+  pub tile : new.tile ≡ 0
+  pub left : new.left ≡ old.left
+  pub registers : new.registers ≡ old.registers
+  pub capacity : vec_capacity old.items ≤ vec_capacity new.items

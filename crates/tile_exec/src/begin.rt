@@ -1,0 +1,197 @@
+//! A plan before its first unit: the list of its tasks, and how many boxes they have.
+
+ghost use Rattle.std.specs.Prelude.{◌≡◌, ◌<◌, List, [], ◌∷◌, length, slice_index_or, Some, option_map, IfOk, OnOk};
+ghost use Rattle.arr_core.specs.Tiles.{tile_boxes};
+ghost use Rattle.plan_ir.specs.declared.plan.Plan.{Plan};
+ghost use Rattle.plan_ir.specs.Bodies.{body_view};
+ghost use Rattle.plan_ir.specs.Plans.{Choice, plan_view, steps_view};
+ghost use Rattle.plan_ir.specs.Placed.{IsPlan};
+ghost use Rattle.tile_exec.specs.Tasks.{TaskTree, area_of, choice_passes, condition_tasks, choice_outs, all_passes, all_outs, tasks_of};
+ghost use Rattle.tile_exec.specs.Standing.{IsTask, IsBegun};
+ghost use Rattle.tile_exec.specs.Begun.{IsFit, Lists, Adds, IsChosen};
+
+use crate::exec::Exec;
+use crate::task::{First, Part, Status, Task};
+use plan_ir::{Plan, Steps};
+use std::alloc::{AllocError, Global};
+use tile_kernel::Accumulator;
+use wcps_mean::Aggregate;
+
+/// Tasks in their order, and how many boxes they have together.
+#[derive(Drop)]
+pub(crate) struct Listing {
+    pub tasks: Vec<Task>,
+    pub boxes: u64,
+}
+
+impl Listing {
+    /// Puts a task at the end.
+    fn push(&mut self, task: Task, boxes: u64) -> Result<(), AllocError>
+        ensures { OnOk result ((plan : Plan) (tree : TaskTree) → IsTask plan task tree → IsFit tree.part → boxes ≡ length (tile_boxes (area_of tree.part)) → Adds plan self.old self.new (tree ∷ [])) }
+    {
+        let Some(sum) = self.boxes.checked_add(boxes) else {
+            return Err(AllocError);
+        };
+        self.tasks.push(task)?;
+        self.boxes = sum;
+        Ok(())
+    }
+}
+
+/// The steps of the combination at a place.
+fn steps_at(plan: &Plan, k: usize) -> &Steps
+    requires plan { IsPlan (plan_view plan.now) }
+    requires k { k < length plan.now.combinations.items }
+    ensures { (c : Choice) → IsChosen plan.now k result.now (slice_index_or (plan_view plan.now).combinations k c) }
+{
+    let combination = &plan.combinations[k];
+    &plan.steps[combination.steps]
+}
+
+/// Puts the passes of a combination at the end.
+fn push_passes(
+    list: &mut Listing,
+    steps: &Steps,
+    combination: usize,
+    first: usize,
+) -> Result<(), AllocError>
+    ensures { OnOk result ((plan : Plan) (c : Choice) → IsChosen plan combination steps.now c → Adds plan list.old list.new (choice_passes c.coverages first (Some (steps_view steps.now)))) }
+{
+    for k in 0..steps.passes.len() {
+        let pass = &steps.passes[k];
+        let _axes = pass.domain.axes();
+        let task = Task {
+            combination,
+            part: Part::Pass,
+            first,
+            count: k,
+        };
+        list.push(task, pass.domain.tiles())?;
+    }
+    Ok(())
+}
+
+/// Puts a combination's condition, if there is one, at the end.
+fn push_condition(
+    list: &mut Listing,
+    steps: &Steps,
+    combination: usize,
+    first: usize,
+) -> Result<(), AllocError>
+    ensures { OnOk result ((plan : Plan) (c : Choice) → IsChosen plan combination steps.now c → Adds plan list.old list.new (condition_tasks c.coverages first (length steps.now.passes.items) (option_map body_view steps.now.condition))) }
+{
+    match &steps.condition {
+        None => Ok(()),
+        Some(_) => {
+            let task = Task {
+                combination,
+                part: Part::Condition,
+                first,
+                count: steps.passes.len(),
+            };
+            list.push(task, 1)?;
+            Ok(())
+        }
+    }
+}
+
+/// Puts a combination's condition, if there is one, and its item at the end. An item without fields has no box, and is
+/// refused.
+fn push_out(
+    list: &mut Listing,
+    steps: &Steps,
+    combination: usize,
+    first: usize,
+) -> Result<(), AllocError>
+    ensures { OnOk result ((plan : Plan) (c : Choice) → IsChosen plan combination steps.now c → Adds plan list.old list.new (choice_outs c.coverages first (Some (steps_view steps.now)))) }
+{
+    if steps.item.fields.is_empty() {
+        return Err(AllocError);
+    }
+    push_condition(list, steps, combination, first)?;
+    let _axes = steps.item.domain.axes();
+    let task = Task {
+        combination,
+        part: Part::Item,
+        first,
+        count: steps.passes.len(),
+    };
+    list.push(task, steps.item.domain.tiles())?;
+    Ok(())
+}
+
+/// Puts the passes of all combinations at the end.
+fn push_all_passes(list: &mut Listing, plan: &Plan) -> Result<(), AllocError>
+    requires { IsPlan (plan_view plan.now) }
+    ensures { OnOk result (Adds plan.now list.old list.new (all_passes (plan_view plan.now).steps 0 (plan_view plan.now).combinations)) }
+{
+    let mut first: usize = 0;
+    for k in 0..plan.combinations.len() {
+        let steps = steps_at(plan, k);
+        push_passes(list, steps, k, first)?;
+        let Some(next) = first.checked_add(steps.passes.len()) else {
+            return Err(AllocError);
+        };
+        first = next;
+    }
+    Ok(())
+}
+
+/// Puts the conditions and items of all combinations at the end.
+fn push_all_outs(list: &mut Listing, plan: &Plan) -> Result<(), AllocError>
+    requires { IsPlan (plan_view plan.now) }
+    ensures { OnOk result (Adds plan.now list.old list.new (all_outs (plan_view plan.now).steps 0 (plan_view plan.now).combinations)) }
+{
+    let mut first: usize = 0;
+    for k in 0..plan.combinations.len() {
+        let steps = steps_at(plan, k);
+        push_out(list, steps, k, first)?;
+        let Some(next) = first.checked_add(steps.passes.len()) else {
+            return Err(AllocError);
+        };
+        first = next;
+    }
+    Ok(())
+}
+
+/// All tasks of a plan.
+fn tasks_of_plan(alloc: Global, plan: &Plan) -> Result<Listing, AllocError>
+    requires { IsPlan (plan_view plan.now) }
+    ensures { IfOk result (λ l. Lists plan.now l (tasks_of (plan_view plan.now))) }
+{
+    let mut list = Listing {
+        tasks: Vec::new(alloc),
+        boxes: 0,
+    };
+    push_all_passes(&mut list, plan)?;
+    push_all_outs(&mut list, plan)?;
+    Ok(list)
+}
+
+/// A plan before its first unit. There is room for what all its tasks give.
+pub(crate) fn begun(alloc: Global, plan: Plan) -> Result<Exec, AllocError>
+    requires { IsPlan (plan_view plan) }
+    ensures { IfOk result (λ e. IsBegun (plan_view plan) e) }
+{
+    let list = tasks_of_plan(alloc, &plan)?;
+    let room = list.tasks.len();
+    let registers = Vec::with_capacity(alloc, room)?;
+    let items = Vec::with_capacity(alloc, room)?;
+    Ok(Exec {
+        alloc,
+        plan,
+        tasks: list.tasks,
+        at: 0,
+        tile: 0,
+        left: list.boxes.max(1),
+        registers,
+        items,
+        status: Status::Giving,
+        accumulator: Accumulator::empty(Aggregate::Count),
+        cells: Vec::new(alloc),
+        first: First {
+            fault: None,
+            place: 0,
+        },
+    })
+}

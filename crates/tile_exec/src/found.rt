@@ -1,0 +1,34 @@
+//! What a unit finds, before it is kept.
+
+use crate::task::First;
+use arr_core::Cell;
+use tile_kernel::Accumulator;
+use wcps_mean::Outcome;
+
+/// A tile of an item: the cells with their places, and the first fault. What a run along the last axis has, and how many
+/// fields, are those of the item. A first tile brings room for the item's cells.
+#[derive(Drop)]
+pub(crate) struct ItemTile {
+    pub written: Vec<(u64, Cell)>,
+    pub first: First,
+    pub fresh: Vec<Cell>,
+    pub line: u64,
+    pub fields: u32,
+}
+
+/// What a tile of a task gives.
+#[derive(Drop)]
+pub(crate) enum Found {
+    Pass(Accumulator),
+    Condition(Outcome),
+    Item(ItemTile),
+    /// Nothing: there is no item to give, or no task is left.
+    Skipped,
+}
+
+/// A unit, and whether it is the last one of its task.
+#[derive(Drop)]
+pub(crate) struct Unit {
+    pub last: bool,
+    pub found: Found,
+}

@@ -1,0 +1,280 @@
+//! What a unit found is kept. It takes no memory.
+
+ghost use Rattle.std.specs.Prelude.{◌≡◌, ℕ, Bool, ◌+◌, ◌<◌, ◌≤◌, ◌^◌, List, [], ◌∷◌, ◌++◌, map, length, vec_capacity, All, slice_set, slice_get, Some};
+ghost use Rattle.arr_core.specs.declared.cell.Cell.{Cell};
+ghost use Rattle.wcps_mean.specs.declared.aggregate.Aggregate.{Aggregate};
+ghost use Rattle.wcps_mean.specs.declared.cell.Outcome.{Outcome};
+ghost use Rattle.tile_kernel.specs.Told.{Told, IsFirst};
+ghost use Rattle.tile_kernel.specs.Joins.{HoldsOfBoth};
+ghost use Rattle.tile_kernel.specs.Standing.{Stands};
+ghost use Rattle.tile_exec.specs.declared.task.Status.{Status};
+ghost use Rattle.tile_exec.specs.declared.found.Found.{Found};
+ghost use Rattle.tile_exec.specs.Items.{AreWritten};
+ghost use Rattle.tile_exec.specs.Progress.{after_condition};
+ghost use Rattle.tile_exec.specs.Standing.{IsSound, tasks_left};
+ghost use Rattle.tile_exec.specs.Units.{Fits, IsNotGiven, AfterSkipped, Gives, Keeps};
+
+use crate::exec::Exec;
+use crate::found::{Found, ItemTile, Unit};
+use crate::task::{First, Status};
+use arr_core::Cell;
+use std::mem;
+use tile_kernel::Accumulator;
+use wcps_mean::{Aggregate, CellList, Item, Outcome, is_set};
+
+/// Puts an outcome at the end of a list that has room for it.
+fn put_register(registers: &mut Vec<Outcome>, o: Outcome)
+    requires { length registers.old.items < vec_capacity registers.old }
+    ensures items { registers.new.items ≡ registers.old.items ++ o ∷ [] }
+    ensures capacity { vec_capacity registers.old ≤ vec_capacity registers.new }
+{
+    match registers.push(o) {
+        Ok(()) => (),
+        Err(_) => (),
+    }
+}
+
+/// Puts an item at the end of a list that has room for it.
+fn put_item(items: &mut Vec<Item>, item: Item)
+    requires { length items.old.items < vec_capacity items.old }
+    ensures items { items.new.items ≡ items.old.items ++ item ∷ [] }
+    ensures capacity { vec_capacity items.old ≤ vec_capacity items.new }
+{
+    match items.push(item) {
+        Ok(()) => (),
+        Err(_) => (),
+    }
+}
+
+/// The accumulator as it is before a tile: that of the tiles before it, or of no point before the first tile.
+fn begin(accumulator: &mut Accumulator, tile: u64, op: Aggregate)
+    ensures stands { (told : ℕ → List Told) → told 0 ≡ [] → (0 < tile → Stands accumulator.old (told tile)) → Stands accumulator.new (told tile) }
+    ensures op { (0 < tile → accumulator.old.running.op ≡ op) → accumulator.new.running.op ≡ op }
+    ensures count { (n : ℕ) → (0 < tile → accumulator.old.running.count ≤ n) → accumulator.new.running.count ≤ n }
+{
+    if tile == 0 {
+        *accumulator = Accumulator::empty(op);
+        return;
+    }
+}
+
+/// The fault at the lower place of two.
+pub(crate) fn least_first(a: First, b: First) -> First
+    ensures { HoldsOfBoth (IsFirst a.fault a.place) (IsFirst b.fault b.place) (IsFirst result.fault result.place) }
+{
+    match a.fault {
+        None => return b,
+        Some(_) => match b.fault {
+            None => return a,
+            Some(_) => {
+                if a.place <= b.place {
+                    return a;
+                }
+                return b;
+            }
+        },
+    }
+}
+
+/// The first fault before a tile: that of the tiles before it, or none before the first tile.
+fn begin_first(first: First, tile: u64) -> First
+    ensures { (told : ℕ → List Told) → told 0 ≡ [] → (0 < tile → IsFirst first.fault first.place (told tile)) → IsFirst result.fault result.place (told tile) }
+{
+    if tile == 0 {
+        return First {
+            fault: None,
+            place: 0,
+        };
+    }
+    first
+}
+
+/// Writes a cell.
+fn write_cell(cells: &mut Vec<Cell>, place: u64, cell: Cell)
+    requires { place < length cells.old.items }
+    ensures { cells.new.items ≡ slice_set cells.old.items place cell }
+{
+    cells[place as usize] = cell;
+}
+
+/// Writes cells at their places.
+fn write_cells(cells: &mut Vec<Cell>, written: &[(u64, Cell)])
+    requires below { All (λ (w : ℕ × Cell). w.0 < length cells.old.items) written.now }
+    ensures length { length cells.new.items ≡ length cells.old.items }
+    ensures written { (all : List Cell) (places : List ℕ) → All (λ (w : ℕ × Cell). slice_get all w.0 ≡ Some w.1) written.now → AreWritten all cells.old.items places → AreWritten all cells.new.items (places ++ map (λ (w : ℕ × Cell). w.0) written.now) }
+{
+    for (place, cell) in written {
+        write_cell(cells, *place, *cell);
+    }
+}
+
+/// The cells before a tile: those of the tiles before it, or fresh ones before the first tile.
+fn begin_cells(cells: &mut Vec<Cell>, tile: u64, fresh: Vec<Cell>)
+    ensures kept { 0 < tile → cells.new.items ≡ cells.old.items }
+    ensures fresh { tile ≡ 0 → cells.new.items ≡ fresh.items }
+{
+    if tile == 0 {
+        *cells = fresh;
+        return;
+    }
+}
+
+/// How it stands after a condition.
+fn tested(status: Status, o: Outcome) -> Status
+    ensures { result ≡ after_condition status o }
+{
+    match status {
+        Status::Failed(f) => return Status::Failed(f),
+        Status::Giving => return tested_by(o),
+        Status::Skipping => return tested_by(o),
+    }
+}
+
+/// What a condition says.
+fn tested_by(o: Outcome) -> Status
+    ensures { result ≡ after_condition Status.Giving o }
+{
+    match o {
+        Outcome::Fault(f) => return Status::Failed(f),
+        Outcome::Value(x) => {
+            if is_set(x) {
+                return Status::Giving;
+            }
+            return Status::Skipping;
+        }
+    }
+}
+
+/// Whether there is no item: its condition was false.
+fn after_skipped(status: Status) -> Status
+    ensures { IsNotGiven status → AfterSkipped status result }
+{
+    match status {
+        Status::Failed(f) => return Status::Failed(f),
+        Status::Giving => return Status::Giving,
+        Status::Skipping => return Status::Giving,
+    }
+}
+
+impl Exec {
+    /// Keeps what a unit found.
+    pub(crate) fn keep(&mut self, unit: Unit)
+        requires sound { IsSound self.old }
+        requires fits { Fits self.old (tasks_left self.old) unit.last unit.found }
+        requires left { 0 < self.old.left }
+        ensures { Keeps self.old self.new unit.found }
+    {
+        let Unit { last, found } = unit;
+        match found {
+            Found::Pass(a) => self.keep_pass(last, a),
+            Found::Condition(o) => self.keep_condition(o),
+            Found::Item(tile) => self.keep_item(last, tile),
+            Found::Skipped => self.keep_skipped(last),
+        }
+    }
+
+    /// The pass at hand is told of its next tile. After its last one its outcome goes to its register.
+    fn keep_pass(&mut self, last: bool, found: Accumulator)
+        requires sound { IsSound self.old }
+        requires fits { Fits self.old (tasks_left self.old) last (Found.Pass found) }
+        ensures { Keeps self.old self.new (Found.Pass found) }
+    {
+        let op = found.running.op;
+        begin(&mut self.accumulator, self.tile, op);
+        self.accumulator.merge(found);
+        self.left -= 1;
+        if last {
+            let whole = mem::replace(&mut self.accumulator, Accumulator::empty(op));
+            put_register(&mut self.registers, whole.finish());
+            self.at += 1;
+            self.tile = 0;
+            return;
+        }
+        self.tile += 1;
+    }
+
+    /// The condition at hand is tested.
+    fn keep_condition(&mut self, o: Outcome)
+        requires sound { IsSound self.old }
+        requires fits { (last : Bool) × Fits self.old (tasks_left self.old) last (Found.Condition o) }
+        ensures { Keeps self.old self.new (Found.Condition o) }
+    {
+        self.status = tested(self.status, o);
+        self.left -= 1;
+        self.at += 1;
+        self.tile = 0;
+    }
+
+    /// The item at hand is told of its next tile. After its last one it is given, or its first fault stands.
+    fn keep_item(&mut self, last: bool, found: ItemTile)
+        requires sound { IsSound self.old }
+        requires fits { Fits self.old (tasks_left self.old) last (Found.Item found) }
+        ensures { Keeps self.old self.new (Found.Item found) }
+    {
+        let ItemTile {
+            written,
+            first,
+            fresh,
+            line,
+            fields,
+        } = found;
+        begin_cells(&mut self.cells, self.tile, fresh);
+        write_cells(&mut self.cells, &written);
+        self.first = least_first(begin_first(self.first, self.tile), first);
+        self.left -= 1;
+        if last {
+            self.give_item(line, fields);
+            return;
+        }
+        self.tile += 1;
+    }
+
+    /// The item at hand is given, or its first fault stands.
+    fn give_item(&mut self, line: u64, fields: u32)
+        requires small { self.old.at + 1 < 2 ^ 64 }
+        requires room { length self.old.items.items < vec_capacity self.old.items }
+        ensures { Gives self.old self.new line fields }
+    {
+        self.at += 1;
+        self.tile = 0;
+        match self.first.fault {
+            Some(f) => {
+                self.status = Status::Failed(f);
+                return;
+            }
+            None => {
+                let cells = mem::replace(&mut self.cells, Vec::new(self.alloc));
+                let cells = CellList::new(cells);
+                put_item(
+                    &mut self.items,
+                    Item {
+                        line,
+                        fields,
+                        cells,
+                    },
+                );
+                return;
+            }
+        }
+    }
+
+    /// A tile of an item that is not given; or there is no task.
+    fn keep_skipped(&mut self, last: bool)
+        requires sound { IsSound self.old }
+        requires fits { Fits self.old (tasks_left self.old) last Found.Skipped }
+        requires left { 0 < self.old.left }
+        ensures { Keeps self.old self.new Found.Skipped }
+    {
+        self.left -= 1;
+        if self.tasks.len() <= self.at {
+            return;
+        }
+        if last {
+            self.status = after_skipped(self.status);
+            self.at += 1;
+            self.tile = 0;
+            return;
+        }
+        self.tile += 1;
+    }
+}

@@ -1,0 +1,16 @@
+//! A plan done a tile at a time: each step evaluates the bodies of one box in columns, and then keeps what they gave.
+#![tactic(auto)]
+
+mod begin;
+mod column;
+mod exec;
+mod found;
+mod item;
+mod keep;
+mod pass;
+mod places;
+mod row;
+mod task;
+mod unit;
+
+pub use exec::{Exec, StepInfo};

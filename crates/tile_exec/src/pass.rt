@@ -1,0 +1,86 @@
+//! A tile of a pass, and a condition.
+
+ghost use Rattle.std.specs.Prelude.{◌≡◌, ◌+◌, ◌<◌, ◌≤◌, ℤ, List, [], ◌∷◌, length, map, IfOk, OnOk, IsSomeAnd};
+ghost use Rattle.std.specs.List.{flat_map};
+ghost use Rattle.arr_core.specs.Domains.{points, count};
+ghost use Rattle.arr_core.specs.Tiles.{tile_boxes};
+ghost use Rattle.wcps_mean.specs.Reports.{Reports};
+ghost use Rattle.plan_ir.specs.Bodies.{body_view, condition_view};
+ghost use Rattle.plan_ir.specs.Run.{run};
+ghost use Rattle.plan_ir.specs.Plans.{signature_of, pass_view};
+ghost use Rattle.plan_ir.specs.Planned.{cells_of};
+ghost use Rattle.plan_ir.specs.Placed.{IsPlaced, spans};
+ghost use Rattle.plan_ir.specs.Units.{bound_of};
+ghost use Rattle.tile_kernel.specs.Standing.{Stands};
+ghost use Rattle.tile_columns.specs.Sources.{Leaves};
+ghost use Rattle.tile_exec.specs.TileOrder.{tile_of, told_to_pass};
+
+use crate::column::column_over;
+use crate::places::ranks;
+use arr_core::Domain;
+use plan_ir::{Body, Fold};
+use std::alloc::Global;
+use tile_columns::{Ground, Tiles};
+use tile_kernel::{Accumulator, fold_column, fold_column_where};
+use wcps_mean::{CellError, Outcome};
+
+/// What a tile of a pass's box tells its condenser.
+pub(crate) fn pass_tile<S: Tiles>(
+    alloc: Global,
+    source: &mut S,
+    ground: &Ground<'_>,
+    pass: &Fold,
+    tile: u64,
+) -> Result<Accumulator, CellError>
+    requires signatures { ground.now.signatures.now ≡ S.coverages source.old }
+    requires condition { IsPlaced (signature_of (S.coverages source.old) ground.now.coverages.now) (length ground.now.registers.now) (spans pass.now.domain) (condition_view pass.now.condition) }
+    requires body { IsPlaced (signature_of (S.coverages source.old) ground.now.coverages.now) (length ground.now.registers.now) (spans pass.now.domain) (body_view pass.now.body) }
+    requires tile { tile < length (tile_boxes pass.now.domain) }
+    ensures op { IfOk result (λ a. a.running.op ≡ pass.now.op) }
+    ensures count { IfOk result (λ a. a.running.count ≤ length (points (tile_of pass.now.domain tile))) }
+    ensures stands { IfOk result (λ a. S.intact source.old → Stands a (flat_map (told_to_pass (cells_of (S.cells source.old) ground.now.coverages.now) ground.now.registers.now (pass_view pass.now)) (points (tile_of pass.now.domain tile)))) }
+    ensures same { Leaves (S.cells source.old) (S.cells source.new) (S.coverages source.old) (S.coverages source.new) (S.kept source.old) (S.kept source.new) }
+    ensures rises { S.fetched source.old ≤ S.fetched source.new }
+    ensures intact { S.intact source.old → S.intact source.new }
+    ensures reports { Reports result (S.intact source.old) (S.failures source.old) (S.failures source.new) }
+    ensures fetched { OnOk result (S.fetched source.new ≤ S.fetched source.old + (bound_of (signature_of (S.coverages source.old) ground.now.coverages.now) (tile_of pass.now.domain tile) (condition_view pass.now.condition) + bound_of (signature_of (S.coverages source.old) ground.now.coverages.now) (tile_of pass.now.domain tile) (body_view pass.now.body))) }
+{
+    let part = pass.domain.tile_box(alloc, tile)?;
+    let places = ranks(alloc, &pass.domain, &part)?;
+    match &pass.condition {
+        None => {
+            let column = column_over(alloc, source, ground, &pass.domain, &part, &pass.body)?;
+            Ok(fold_column(pass.op, &column, &places))
+        }
+        Some(condition) => {
+            let chosen = column_over(alloc, source, ground, &pass.domain, &part, condition)?;
+            let column = column_over(alloc, source, ground, &pass.domain, &part, &pass.body)?;
+            Ok(fold_column_where(pass.op, &chosen, &column, &places))
+        }
+    }
+}
+
+/// The outcome of a condition.
+pub(crate) fn condition_of<S: Tiles>(
+    alloc: Global,
+    source: &mut S,
+    ground: &Ground<'_>,
+    condition: &Body,
+) -> Result<Outcome, CellError>
+    requires signatures { ground.now.signatures.now ≡ S.coverages source.old }
+    requires placed { IsPlaced (signature_of (S.coverages source.old) ground.now.coverages.now) (length ground.now.registers.now) [] (body_view condition.now) }
+    ensures value { IfOk result (λ o. S.intact source.old → o ≡ run (cells_of (S.cells source.old) ground.now.coverages.now) ground.now.registers.now (body_view condition.now) []) }
+    ensures same { Leaves (S.cells source.old) (S.cells source.new) (S.coverages source.old) (S.coverages source.new) (S.kept source.old) (S.kept source.new) }
+    ensures rises { S.fetched source.old ≤ S.fetched source.new }
+    ensures intact { S.intact source.old → S.intact source.new }
+    ensures reports { Reports result (S.intact source.old) (S.failures source.old) (S.failures source.new) }
+    ensures fetched { OnOk result (S.fetched source.new ≤ S.fetched source.old + bound_of (signature_of (S.coverages source.old) ground.now.coverages.now) [] (body_view condition.now)) }
+{
+    match Domain::new(Vec::new(alloc)) {
+        Err(_) => Err(CellError::NoMemory),
+        Ok(point) => {
+            let column = column_over(alloc, source, ground, &point, &point, condition)?;
+            Ok(column.at(0))
+        }
+    }
+}

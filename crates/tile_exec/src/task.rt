@@ -1,0 +1,40 @@
+//! Tasks: the passes, conditions and items of a plan's combinations.
+
+use wcps_mean::PointFault;
+
+/// What a task does.
+#[derive(Clone, Copy, PartialEq, Eq, Debug)]
+pub(crate) enum Part {
+    /// The pass whose place is the task's count.
+    Pass,
+    Condition,
+    Item,
+}
+
+/// A task of a combination, by its place in the plan. It may read `count` registers, from that of the combination's first
+/// pass on.
+#[derive(Clone, Copy, PartialEq, Eq, Debug)]
+pub(crate) struct Task {
+    pub combination: usize,
+    pub part: Part,
+    pub first: usize,
+    pub count: usize,
+}
+
+/// How it stands with the item of the combination at hand.
+#[derive(Clone, Copy, PartialEq, Eq, Debug)]
+pub(crate) enum Status {
+    /// It is given, as far as is known.
+    Giving,
+    /// Its condition was false.
+    Skipping,
+    /// The answer is a fault.
+    Failed(PointFault),
+}
+
+/// The fault at the least place so far, if there is one.
+#[derive(Clone, Copy, PartialEq, Eq, Debug)]
+pub(crate) struct First {
+    pub fault: Option<PointFault>,
+    pub place: u64,
+}
