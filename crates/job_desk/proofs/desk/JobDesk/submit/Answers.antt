@@ -1,0 +1,24 @@
+use Rattle.std.proofs.Common.{◌<◌, ◌≤◌, length, refl, arith}
+use Rattle.tile_exec.specs.Standing.{left_of}
+use Rattle.job_desk.proofs.Desks.{desk_push}
+use Rattle.job_desk.proofs.desk.JobDesk.submit.Goals as goal
+
+pub invariant_of-self-2 : goal.invariant_of-self-2
+invariant_of-self-2 c =
+    let room : length c.self.inside.jobs.items < 64 = omega arith in
+    let ahead : left_of c.in_ok-exec.exec ≤ c.left-left.result = omega arith in
+    rw c.in_ok-push_job.ensures.pushed (desk_push c.self.inside.jobs.items c.self.inside.next c.number_after-self-inside.result c.in-Some.number _ c.in-Some.is c.number_after-self-inside.ensures refl room (record { sound = c.in_ok-exec.ensures.sound; ahead = ahead }) c.self.invariant)
+
+pub returns-clause-submitted : goal.returns-clause-submitted
+returns-clause-submitted c =
+    let room : length c.self.inside.jobs.items < 64 = omega arith in
+    rw (← c.self.view_is) (record {
+      job = record { number = c.in-Some.number; names = c.new-2.result; left = c.left-left.result; exec = c.in_ok-exec.exec };
+      room = room;
+      given = c.in-Some.is;
+      number = refl;
+      names = c.new-2.ensures;
+      left = (refl, omega arith);
+      begun = c.in_ok-exec.ensures;
+      desk = rw (c.in_ok-push_job.ensures.pushed, c.number_after-self-inside.ensures) refl;
+    })

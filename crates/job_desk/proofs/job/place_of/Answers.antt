@@ -1,0 +1,5 @@
+use Rattle.job_desk.proofs.Places.{found}
+use Rattle.job_desk.proofs.job.place_of.Goals as goal
+
+pub returns : goal.returns
+returns c = found c.args.number c.args.jobs.now c.position_of.result c.position_of.ensures

@@ -1,0 +1,90 @@
+-- The desk: the jobs that are held, in the order of their numbers, and the number that the next one gets.
+use Rattle.std.specs.Prelude.{◌≡◌, ℕ, ◌+◌, ◌-◌, ◌^◌, ◌<◌, ◌≤◌, nat_lt, nat_eq, ◌&&◌, cond, Bool, ◌⊎◌, ℤ, List, [], ◌∷◌, ◌++◌, length, Option, Some, None, Result, Ok, Err, string_bytes}
+use Rattle.std.specs.List.{find, list_any, All, AllPairs}
+use Rattle.std.specs.Str.{bytes_eq}
+use Rattle.wcps_mean.specs.declared.cell.PointFault.{PointFault}
+use Rattle.wcps_mean.specs.declared.item.Item.{Item}
+use Rattle.csv_out.specs.Csv.{csv}
+use Rattle.plan_ir.specs.Plans.{PlanTree}
+use Rattle.plan_ir.specs.Planned.{planned}
+use Rattle.tile_exec.specs.Standing.{StandsFor, IsSound, IsBegun, plan_of, left_of}
+use Rattle.job_desk.specs.declared.job.Job.{Job}
+use Rattle.job_desk.specs.declared.answer.Answer.{Answer}
+use Rattle.job_desk.specs.declared.answer.Answer.TheVariants.{Text, Refused}
+
+-- the jobs, and the number of the next one: none where the last `u64` has been given
+pub record DeskView : Type 0 where
+  pub jobs : List Job
+  pub next : Option ℕ
+
+-- the job with a number
+abbrev pub job_of : ℕ → List Job → Option Job
+job_of n jobs = find (λ (j : Job). nat_eq j.number n) jobs
+
+-- the jobs, where the one with a number is made another
+abbrev pub replaced : ℕ → Job → List Job → List Job
+replaced n job [] = []
+replaced n job (j ∷ jobs) = cond (nat_eq j.number n) (job ∷ jobs) (j ∷ replaced n job jobs)
+
+-- the jobs without the one with a number
+abbrev pub without : ℕ → List Job → List Job
+without n [] = []
+without n (j ∷ jobs) = cond (nat_eq j.number n) jobs (j ∷ without n jobs)
+
+-- the desk without the job with a number
+abbrev pub taken_out : ℕ → DeskView → DeskView
+taken_out n desk = record { jobs = without n desk.jobs; next = desk.next }
+
+-- the number after one
+abbrev pub number_after : ℕ → Option ℕ
+number_after n = cond (nat_lt n (2 ^ 64 - 1)) (Some (n + 1)) None
+
+-- no job is taken: 64 are held, or no number is left
+abbrev pub IsFull : DeskView → Type 0
+IsFull desk = (64 ≤ length desk.jobs) ⊎ (desk.next ≡ None)
+
+-- a job names the coverage
+abbrev pub is_named : List ℕ → List (List ℕ) → Bool
+is_named name names = list_any (λ (n : List ℕ). bytes_eq n name) names
+
+-- a job with units left names the coverage
+abbrev pub is_read : List ℕ → List Job → Bool
+is_read name jobs = list_any (λ (j : Job). nat_lt 0 j.left && is_named name j.names) jobs
+
+-- A job that is held: its executor has no more units left than it shows.
+pub record IsJob (j : Job) : Type 0 where
+  pub sound : IsSound j.exec
+  pub ahead : left_of j.exec ≤ j.left
+
+-- at most 64 jobs, whose numbers rise and are below the next one
+pub record IsDesk (desk : DeskView) : Type 0 where
+  pub each : All IsJob desk.jobs
+  pub few : length desk.jobs ≤ 64
+  pub rising : AllPairs (λ (a b : Job). a.number < b.number) desk.jobs
+  pub below : (n : ℕ) → desk.next ≡ Some n → All (λ (j : Job). j.number < n) desk.jobs
+
+-- a plan was taken as a job: it stands last, has the next number, those names, and an executor that has done nothing
+pub record IsSubmitted (tree : PlanTree) (coverages : List (List ℕ)) (n units : ℕ) (old new : DeskView) : Type 0 where
+  pub job : Job
+  pub room : length old.jobs < 64
+  pub given : old.next ≡ Some n
+  pub number : job.number ≡ n
+  pub names : job.names ≡ coverages
+  pub left : (job.left ≡ units) × (left_of job.exec ≡ units)
+  pub begun : IsBegun tree job.exec
+  pub desk : new ≡ record { jobs = old.jobs ++ job ∷ []; next = number_after n }
+
+-- the text of the items, or the fault
+abbrev pub IsAnswer : Result (List Item) PointFault → Answer → Type 0
+IsAnswer (Ok items) (Text text) = string_bytes text ≡ csv items
+IsAnswer (Err fault) (Refused refused) = refused ≡ fault
+IsAnswer (Ok items) (Refused refused) = ⊥
+IsAnswer (Err fault) (Text text) = ⊥
+
+-- a job without units left was taken out, and its answer is what its plan gives over what its executor stands for
+pub record IsFetched (n : ℕ) (given : Answer) (old new : DeskView) : Type 0 where
+  pub job : Job
+  pub held : job_of n old.jobs ≡ Some job
+  pub done : job.left ≡ 0
+  pub answer : (s : ℕ → ℕ → List ℤ → ℤ) → StandsFor s job.exec → IsAnswer (planned s (plan_of job.exec)) given
+  pub desk : new ≡ taken_out n old

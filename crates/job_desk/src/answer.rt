@@ -1,0 +1,31 @@
+//! What a finished job answers.
+
+ghost use Rattle.std.specs.Prelude.{◌≡◌, ℕ, ℤ, List, IfOk};
+ghost use Rattle.plan_ir.specs.Planned.{planned};
+ghost use Rattle.tile_exec.specs.Standing.{StandsFor, IsSound, plan_of, left_of};
+ghost use Rattle.job_desk.specs.Desks.{IsAnswer};
+
+use csv_out::csv_text;
+use std::alloc::{AllocError, Global};
+use tile_exec::Exec;
+use wcps_mean::PointFault;
+
+/// An answer: CSV text, or the fault of the first point that has one.
+#[derive(Debug, Drop)]
+pub enum Answer {
+    Text(String),
+    Refused(PointFault),
+}
+
+/// The answer of an executor that has no unit left.
+pub fn answer_of(alloc: Global, exec: &Exec) -> Result<Answer, AllocError>
+    requires sound { IsSound exec.now }
+    requires done { left_of exec.now ≡ 0 }
+    ensures { IfOk result (λ a. (s : ℕ → ℕ → List ℤ → ℤ) → StandsFor s exec.now → IsAnswer (planned s (plan_of exec.now)) a) }
+{
+    match exec.result() {
+        Some(Ok(items)) => Ok(Answer::Text(csv_text(alloc, items)?)),
+        Some(Err(fault)) => Ok(Answer::Refused(fault)),
+        None => unreachable!(),
+    }
+}

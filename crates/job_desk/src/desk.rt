@@ -1,0 +1,195 @@
+//! The desk.
+
+ghost use Rattle.std.specs.Prelude.{◌≡◌, ◌<◌, length, [], ◌∷◌, ◌++◌, Some, None, IfOk, IfErr, OnOk, OnErr, IsSome, option_map, option_copied};
+ghost use Rattle.std.specs.List.{remove};
+ghost use Rattle.plan_ir.specs.Plans.{plan_view};
+ghost use Rattle.plan_ir.specs.Placed.{IsPlan};
+ghost use Rattle.tile_columns.specs.Sources.{Leaves};
+ghost use Rattle.tile_exec.specs.Standing.{plan_of};
+ghost use Rattle.job_desk.specs.declared.job.Job.{Job};
+ghost use Rattle.job_desk.specs.Desks.{job_of, taken_out, is_read, number_after, IsSubmitted, IsFetched, IsDesk};
+ghost use Rattle.job_desk.specs.Steps.{HasCoverages, IsLowered, IsChanged, IsRefusedStep, StepReports, IsRefusedFetch, IsRefusedSubmit};
+
+use crate::answer::{Answer, answer_of};
+use crate::error::{FetchError, NoSuchJob, StepError, SubmitError};
+use crate::job::{Job, NameList, place_of};
+use crate::run::step_job;
+use arr_core::{Name, Signature};
+use plan_ir::Plan;
+use std::alloc::{AllocError, Global};
+use std::marker::Model;
+use tile_columns::Tiles;
+use tile_exec::Exec;
+
+/// How many jobs may be held.
+pub const MAX_JOBS: usize = 64;
+
+/// The jobs that are held, those without units left included, in the order of their numbers. A number is given once.
+#[derive(Drop)]
+pub struct JobDesk {
+    jobs: Vec<Job>,
+    next: Option<u64>,
+}
+
+impl Model for JobDesk {
+    ghost use Rattle.std.specs.Coded.{codes};
+    ghost use Rattle.job_desk.specs.contracts.job.Job as job;
+    ghost use Rattle.job_desk.specs.Desks.{DeskView, IsDesk};
+
+    ghost Value = { DeskView };
+
+    ghost coded = { Prim.hlevel (codes, job.the_row.coded) };
+
+    ghost view = { λ d. record { jobs = d.jobs.items; next = d.next } };
+
+    ghost invariant = { λ d. IsDesk (record { jobs = d.jobs.items; next = d.next }) };
+}
+
+impl JobDesk {
+    /// A desk without jobs, whose first job gets the number 1.
+    pub fn new(alloc: Global) -> JobDesk
+        ensures { result ≡ record { jobs = []; next = Some 1 } }
+    {
+        JobDesk::starting(alloc, 1)
+    }
+
+    /// A desk without jobs, whose first job gets that number.
+    pub fn starting(alloc: Global, first: u64) -> JobDesk
+        ensures { result ≡ record { jobs = []; next = Some first } }
+    {
+        JobDesk {
+            jobs: Vec::new(alloc),
+            next: Some(first),
+        }
+    }
+
+    /// Takes a plan as a job, with the names of the coverages that it reads, and gives its number and how many units it has
+    /// left. Nothing is read and no other job goes on. Refused with `TooManyJobs` where 64 jobs are held or the last number
+    /// has been given, else with `NoMemory` where none was left; a refusal changes nothing.
+    pub fn submit(&mut self, plan: Plan, names: Vec<Name>) -> Result<(u64, u64), SubmitError>
+        requires { IsPlan (plan_view plan) }
+        ensures submitted { IfOk result (λ r. IsSubmitted (plan_view plan) names.items r.0 r.1 self.old self.new) }
+        ensures refused { IfErr result (λ e. IsRefusedSubmit self.old e) }
+        ensures unchanged { OnErr result (self.new ≡ self.old) }
+    {
+        let Some(number) = self.next else {
+            return Err(SubmitError::TooManyJobs);
+        };
+        if self.jobs.len() >= MAX_JOBS {
+            return Err(SubmitError::TooManyJobs);
+        }
+        let exec = Exec::new(*self.jobs.allocator(), plan)?;
+        let left = exec.left();
+        let job = Job {
+            number,
+            names: NameList::new(names),
+            left,
+            exec,
+        };
+        push_job(&mut self.jobs, job)?;
+        self.next = number_after(number);
+        Ok((number, left))
+    }
+
+    /// The coverages of a job's plan, in the plan's order; `None` where there is no such job. The desk's numbers rise, and
+    /// there are at most 64 jobs.
+    pub fn coverages(&self, job: u64) -> Option<&[Signature]>
+        ensures coverages { option_copied result ≡ option_map (λ (j : Job). (plan_of j.exec).coverages) (job_of job self.now.jobs) }
+        ensures desk { IsDesk self.now }
+    {
+        let place = place_of(&self.jobs, job)?;
+        Some(self.jobs[place].exec.coverages())
+    }
+
+    /// How many units a job shows as left; `None` where there is no such job.
+    pub fn left(&self, job: u64) -> Option<u64>
+        ensures { result ≡ option_map (λ (j : Job). j.left) (job_of job self.now.jobs) }
+    {
+        let place = place_of(&self.jobs, job)?;
+        Some(self.jobs[place].left)
+    }
+
+    /// Lowers what a job shows as left by so many units, not below 0, does the units that this asks of its executor, and
+    /// gives what is left. Where a unit fails, what is shown stays; the units before it are not done again.
+    pub fn step<S: Tiles>(&mut self, job: u64, units: u64, source: &mut S) -> Result<u64, StepError>
+        requires { HasCoverages job self.old.jobs (S.coverages source.old) }
+        ensures stepped { IfOk result (λ left. IsChanged (IsLowered (S.intact source.old) (S.cells source.old) units left) job self.old self.new) }
+        ensures refused { IfErr result (λ e. IsRefusedStep (S.intact source.old) (S.cells source.old) job units self.old self.new e) }
+        ensures same { Leaves (S.cells source.old) (S.cells source.new) (S.coverages source.old) (S.coverages source.new) (S.kept source.old) (S.kept source.new) }
+        ensures intact { S.intact source.old → S.intact source.new }
+        ensures reports { StepReports result (S.intact source.old) (S.failures source.old) (S.failures source.new) }
+    {
+        let Some(place) = place_of(&self.jobs, job) else {
+            return Err(StepError::NoSuchJob);
+        };
+        let left = step_job(&mut self.jobs[place], units, source)?;
+        Ok(left)
+    }
+
+    /// Gives the answer of a job that has no units left, and takes the job out. Refused with `NoSuchJob` where there is none,
+    /// else with `NotReady` where it has units left, else with `NoMemory` where none was left for the text; a refusal
+    /// changes nothing.
+    pub fn fetch(&mut self, job: u64) -> Result<Answer, FetchError>
+        ensures fetched { IfOk result (λ answer. IsFetched job answer self.old self.new) }
+        ensures refused { IfErr result (λ e. IsRefusedFetch job self.old.jobs e) }
+        ensures unchanged { OnErr result (self.new ≡ self.old) }
+    {
+        let Some(place) = place_of(&self.jobs, job) else {
+            return Err(FetchError::NoSuchJob);
+        };
+        let held = &self.jobs[place];
+        if held.left > 0 {
+            return Err(FetchError::NotReady);
+        }
+        let answer = answer_of(*self.jobs.allocator(), &held.exec)?;
+        take_out(&mut self.jobs, place);
+        Ok(answer)
+    }
+
+    /// Takes a job out. Takes no memory. Refused where there is none.
+    pub fn cancel(&mut self, job: u64) -> Result<(), NoSuchJob>
+        ensures held { OnOk result (IsSome (job_of job self.old.jobs)) }
+        ensures taken_out { OnOk result (self.new ≡ taken_out job self.old) }
+        ensures absent { OnErr result (job_of job self.old.jobs ≡ None) }
+        ensures unchanged { OnErr result (self.new ≡ self.old) }
+    {
+        let Some(place) = place_of(&self.jobs, job) else {
+            return Err(NoSuchJob);
+        };
+        take_out(&mut self.jobs, place);
+        Ok(())
+    }
+
+    /// Whether a job that has units left was submitted with a name. Takes no memory.
+    pub fn reads(&self, name: &Name) -> bool
+        ensures { result ≡ is_read name.now self.now.jobs }
+    {
+        self.jobs
+            .iter()
+            .any(|job| job.left > 0 && job.names.contains(name))
+    }
+}
+
+/// Puts a job at the end. Without memory nothing changes.
+fn push_job(jobs: &mut Vec<Job>, job: Job) -> Result<(), AllocError>
+    ensures pushed { OnOk result (jobs.new.items ≡ jobs.old.items ++ job ∷ []) }
+    ensures unchanged { OnErr result (jobs.new.items ≡ jobs.old.items) }
+{
+    jobs.push(job)?;
+    Ok(())
+}
+
+/// Takes the job at a place out.
+fn take_out(jobs: &mut Vec<Job>, place: usize)
+    requires { place < length jobs.old.items }
+    ensures { jobs.new.items ≡ remove jobs.old.items place }
+{
+    let _ = jobs.remove(place);
+}
+
+/// The number after one, if there is one.
+fn number_after(number: u64) -> Option<u64>
+    ensures { result ≡ number_after number }
+{
+    number.checked_add(1)
+}
