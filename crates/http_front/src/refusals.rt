@@ -43,6 +43,9 @@ pub const VALUE_RANGE: u16 = 26;
 /// 1,024 coverages are held.
 pub const TOO_MANY_COVERAGES: u16 = 27;
 
+/// A job that has units left reads the coverage.
+pub const BUSY: u16 = 28;
+
 /// Bytes of a query that are no token.
 pub const BAD_TOKEN: u16 = 30;
 
@@ -57,6 +60,15 @@ pub const TOO_DEEP: u16 = 33;
 
 /// No field of that name.
 pub const NO_SUCH_FIELD: u16 = 42;
+
+/// There is no job with the number.
+pub const NO_SUCH_JOB: u16 = 70;
+
+/// The job has units left.
+pub const NOT_READY: u16 = 71;
+
+/// As many jobs are held as may be, or the last number was given.
+pub const TOO_MANY_JOBS: u16 = 72;
 
 /// Want of memory.
 pub const NO_MEMORY: u16 = 90;

@@ -28,7 +28,8 @@ differs kind name other = by_test (bytes_eq kind name) refl
 
 pub kind_unknown : (pairs : List (List ℕ × List ℕ)) (kind : List ℕ) → kind ≢ codes "InsertCoverage" → kind ≢ codes "UpdateCoverage"
     → kind ≢ codes "DeleteCoverage" → kind ≢ codes "ListCoverages" → kind ≢ codes "DescribeCoverage" → kind ≢ codes "ProcessCoverages"
+    → kind ≢ codes "SubmitQuery" → kind ≢ codes "StepJob" → kind ≢ codes "FetchJob" → kind ≢ codes "CancelJob"
     → kind ≢ codes "ExpandTemplate" → kind ≢ codes "ProcessTemplate" → kind_of pairs kind ≡ Err UnknownRequest
-kind_unknown pairs kind a b c d e f g h =
-    rw (differs kind (codes "InsertCoverage") a, differs kind (codes "UpdateCoverage") b, differs kind (codes "DeleteCoverage") c, differs kind (codes "ListCoverages") d, differs kind (codes "DescribeCoverage") e, differs kind (codes "ProcessCoverages") f, differs kind (codes "ExpandTemplate") g, differs kind (codes "ProcessTemplate") h)
+kind_unknown pairs kind a b c d e f i j k l g h =
+    rw (differs kind (codes "InsertCoverage") a, differs kind (codes "UpdateCoverage") b, differs kind (codes "DeleteCoverage") c, differs kind (codes "ListCoverages") d, differs kind (codes "DescribeCoverage") e, differs kind (codes "ProcessCoverages") f, differs kind (codes "SubmitQuery") i, differs kind (codes "StepJob") j, differs kind (codes "FetchJob") k, differs kind (codes "CancelJob") l, differs kind (codes "ExpandTemplate") g, differs kind (codes "ProcessTemplate") h)
     refl

@@ -5,8 +5,8 @@ use Rattle.std.specs.Borrow.{Bor}
 use Rattle.std.specs.List.{position_or_len, before_first, after_first}
 use Rattle.std.specs.Result.{OkIff}
 use Rattle.std.specs.Str.{all_ascii_digits}
-use Rattle.std.specs.Str.Parse.{digits_value, ParsesSigned}
-use Rattle.std.proofs.lemmas.Str.Parse.{IsNumeralModel, numerals_by_value, tells_all_ascii_digits, parse_signed_minus, parse_signed_plus, parse_signed_plain}
+use Rattle.std.specs.Str.Parse.{digits_value, ParsesSigned, ParsesUnsigned}
+use Rattle.std.proofs.lemmas.Str.Parse.{IsNumeralModel, numerals_by_value, tells_all_ascii_digits, parse_signed_minus, parse_signed_plus, parse_signed_plain, parse_plain}
 use Rattle.std.proofs.lemmas.List.Splits.{slice_split_first}
 use Rattle.std.proofs.lemmas.Bool.Decides.{nat_tests}
 use borrow.Author.Tests.{ltb-true}
@@ -15,6 +15,7 @@ use mir.Val.{SFits}
 use Rattle.kvp_front.specs.declared.request.RequestError.{RequestError}
 use Rattle.kvp_front.specs.declared.request.RequestError.TheVariants.{BadValue, NoMemory}
 use Rattle.kvp_front.specs.Values.{and_then}
+use Rattle.kvp_front.specs.Jobs.{job_in}
 use Rattle.kvp_front.specs.Spelling.{digits_in, signed_in, is_byte, pieces_of, each_in}
 
 own : IsNumeralModel (λ ds. all_ascii_digits ds ≡ true) (digits_value 10)
@@ -78,6 +79,18 @@ pub fits_if_parsed : {E : Type 0} (text : List ℕ) (r : Result ℤ E) (n : ℤ)
 fits_if_parsed text (Ok m) n e x =
     let is : m ≡ n = cc in subst (SFits w64) (sym x.1 ∙ is) x.0.1
 fits_if_parsed text (Err f) n e x = absurd cc
+
+-- what `parse` answers of digits alone is the number of a job that is spelled
+abbrev pub Job : {E : Type 0} → List ℕ → Result ℕ E → Type 0
+Job text r = MatchResult r (λ n. job_in text ≡ Ok n) (λ e. job_in text ≡ Err BadValue)
+
+job_if_digits : {E : Type 0} (text : List ℕ) (r : Result ℕ E) → OkIff r ((all_ascii_digits text ≡ true) × (0 < length text) × (digits_value 10 text < 2 ^ 64)) (digits_value 10 text)
+    → Job text r
+job_if_digits text (Ok n) x = rw (digits_yes (2 ^ 64) text x.0, x.1) refl
+job_if_digits text (Err e) x = rw (digits_no (2 ^ 64) text x) refl
+
+pub job_parsed : {E : Type 0} (text : List ℕ) (r : Result ℕ E) → ParsesUnsigned 64 10 text r → get_or text 0 0 ≢ 43 → Job text r
+job_parsed text r h plain = job_if_digits text r (parse_plain own 64 text r h plain)
 
 -- a text with a comma is cut there, and one without is one piece
 pub pieces_cut : (text : List ℕ) → position_or_len (is_byte 44) text < length text

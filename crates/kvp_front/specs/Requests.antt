@@ -4,6 +4,7 @@ use Rattle.arr_core.specs.declared.field.Field.{Field}
 use Rattle.kvp_front.specs.Values.{pairs_of, values_of, and_then, read_under}
 use Rattle.kvp_front.specs.Spelling.{name_in, interval_in, field_in, list_in, query_in}
 use Rattle.kvp_front.specs.Contents.{Cells, content_view, content_of}
+use Rattle.kvp_front.specs.Jobs.{job_in, units_in}
 use Rattle.kvp_front.specs.Templates.{Template, template_view, template_of}
 use Rattle.kvp_front.specs.declared.request.Interval.{Interval}
 use Rattle.kvp_front.specs.declared.request.Request.{Request}
@@ -26,6 +27,14 @@ pub data Asks : Type 0 where
   describe_coverage : List ℕ → Asks
   -- the answer to the query of this text
   process_coverages : List ℕ → Asks
+  -- the query of this text becomes a job
+  submit_query : List ℕ → Asks
+  -- of the job with this number so many units are done
+  step_job : ℕ → ℕ → Asks
+  -- the answer of the job with this number, which is then dropped
+  fetch_job : ℕ → Asks
+  -- the job with this number is dropped
+  cancel_job : ℕ → Asks
   -- the text of the query that a template stands for
   expand_template : Template → Asks
   -- the answer to that query
@@ -38,6 +47,10 @@ asks (Asked.DeleteCoverage coverage) = delete_coverage coverage
 asks Asked.ListCoverages = list_coverages
 asks (Asked.DescribeCoverage coverage) = describe_coverage coverage
 asks (Asked.ProcessCoverages query) = process_coverages (string_bytes query)
+asks (Asked.SubmitQuery query) = submit_query (string_bytes query)
+asks (Asked.StepJob r) = step_job r.job r.units
+asks (Asked.FetchJob job) = fetch_job job
+asks (Asked.CancelJob job) = cancel_job job
 asks (Asked.ExpandTemplate template) = expand_template (template_view template)
 asks (Asked.ProcessTemplate template) = process_template (template_view template)
 
@@ -70,6 +83,19 @@ description_of pairs = and_then (λ coverage. Ok (describe_coverage coverage)) (
 abbrev pub query_of : List (List ℕ × List ℕ) → Result Asks RequestError
 query_of pairs = and_then (λ query. Ok (process_coverages query)) (read_under query_in (codes "query") pairs)
 
+abbrev pub submission_of : List (List ℕ × List ℕ) → Result Asks RequestError
+submission_of pairs = and_then (λ query. Ok (submit_query query)) (read_under query_in (codes "query") pairs)
+
+abbrev pub stepping_of : List (List ℕ × List ℕ) → Result Asks RequestError
+stepping_of pairs =
+    and_then (λ job. and_then (λ units. Ok (step_job job units)) (read_under units_in (codes "units") pairs)) (read_under job_in (codes "job") pairs)
+
+abbrev pub fetching_of : List (List ℕ × List ℕ) → Result Asks RequestError
+fetching_of pairs = and_then (λ job. Ok (fetch_job job)) (read_under job_in (codes "job") pairs)
+
+abbrev pub cancelling_of : List (List ℕ × List ℕ) → Result Asks RequestError
+cancelling_of pairs = and_then (λ job. Ok (cancel_job job)) (read_under job_in (codes "job") pairs)
+
 abbrev pub expansion_of : List (List ℕ × List ℕ) → Result Asks RequestError
 expansion_of pairs = and_then (λ template. Ok (expand_template template)) (template_of pairs)
 
@@ -85,8 +111,12 @@ kind_of pairs kind =
     else (if bytes_eq kind (codes "ListCoverages") then Ok list_coverages
     else (if bytes_eq kind (codes "DescribeCoverage") then description_of pairs
     else (if bytes_eq kind (codes "ProcessCoverages") then query_of pairs
+    else (if bytes_eq kind (codes "SubmitQuery") then submission_of pairs
+    else (if bytes_eq kind (codes "StepJob") then stepping_of pairs
+    else (if bytes_eq kind (codes "FetchJob") then fetching_of pairs
+    else (if bytes_eq kind (codes "CancelJob") then cancelling_of pairs
     else (if bytes_eq kind (codes "ExpandTemplate") then expansion_of pairs
-    else (if bytes_eq kind (codes "ProcessTemplate") then processing_of pairs else Err UnknownRequest)))))))
+    else (if bytes_eq kind (codes "ProcessTemplate") then processing_of pairs else Err UnknownRequest)))))))))))
 
 abbrev pub spelled_by : List (List ℕ × List ℕ) → List (List ℕ) → Result Asks RequestError
 spelled_by pairs [] = Err NoRequest

@@ -2,6 +2,7 @@
 #![tactic(auto)]
 
 mod content;
+mod jobs;
 mod lists;
 mod pairs;
 mod reading;
@@ -12,5 +13,5 @@ mod templates;
 pub use content::Content;
 pub use reading::read_request;
 pub use request::{
-    Insertion, Interval, Request, RequestError, RequestedLayer, TemplateRequest, Update,
+    Insertion, Interval, JobUnits, Request, RequestError, RequestedLayer, TemplateRequest, Update,
 };

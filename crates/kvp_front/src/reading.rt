@@ -1,12 +1,13 @@
 //! Requests, read from the pairs of a message.
 ghost use Rattle.std.specs.Prelude.{map};
 ghost use Rattle.kvp_front.specs.Values.{pair_view};
-ghost use Rattle.kvp_front.specs.Requests.{asks, Gives, spelled, spelled_of, insertion_of, update_of, deletion_of, description_of, query_of, expansion_of, processing_of};
+ghost use Rattle.kvp_front.specs.Requests.{asks, Gives, spelled, spelled_of, insertion_of, update_of, deletion_of, description_of, query_of, submission_of, stepping_of, fetching_of, cancelling_of, expansion_of, processing_of};
 
 use crate::content::content_under;
+use crate::jobs::{job_under, units_under};
 use crate::lists::list_under;
 use crate::pairs::{Pair, pairs_of, value_under};
-use crate::request::{Insertion, Request, RequestError, Update};
+use crate::request::{Insertion, JobUnits, Request, RequestError, Update};
 use crate::spelling::{name_under, query_under};
 use crate::templates::template_under;
 use std::alloc::Global;
@@ -37,6 +38,10 @@ fn request_of(alloc: Global, pairs: &[Pair<'_>]) -> Result<Request, RequestError
         "ListCoverages" => Ok(Request::ListCoverages),
         "DescribeCoverage" => read_description(alloc, pairs),
         "ProcessCoverages" => read_query(alloc, pairs),
+        "SubmitQuery" => read_submission(alloc, pairs),
+        "StepJob" => read_stepping(alloc, pairs),
+        "FetchJob" => read_fetching(alloc, pairs),
+        "CancelJob" => read_cancelling(alloc, pairs),
         "ExpandTemplate" => read_expansion(alloc, pairs),
         "ProcessTemplate" => read_processing(alloc, pairs),
         _ => Err(RequestError::UnknownRequest),
@@ -90,6 +95,35 @@ fn read_query(alloc: Global, pairs: &[Pair<'_>]) -> Result<Request, RequestError
 {
     let query = query_under(alloc, pairs)?;
     Ok(Request::ProcessCoverages(query))
+}
+
+fn read_submission(alloc: Global, pairs: &[Pair<'_>]) -> Result<Request, RequestError>
+    ensures { Gives asks (submission_of (map pair_view pairs.now)) result }
+{
+    let query = query_under(alloc, pairs)?;
+    Ok(Request::SubmitQuery(query))
+}
+
+fn read_stepping(alloc: Global, pairs: &[Pair<'_>]) -> Result<Request, RequestError>
+    ensures { Gives asks (stepping_of (map pair_view pairs.now)) result }
+{
+    let job = job_under(alloc, pairs)?;
+    let units = units_under(alloc, pairs)?;
+    Ok(Request::StepJob(JobUnits { job, units }))
+}
+
+fn read_fetching(alloc: Global, pairs: &[Pair<'_>]) -> Result<Request, RequestError>
+    ensures { Gives asks (fetching_of (map pair_view pairs.now)) result }
+{
+    let job = job_under(alloc, pairs)?;
+    Ok(Request::FetchJob(job))
+}
+
+fn read_cancelling(alloc: Global, pairs: &[Pair<'_>]) -> Result<Request, RequestError>
+    ensures { Gives asks (cancelling_of (map pair_view pairs.now)) result }
+{
+    let job = job_under(alloc, pairs)?;
+    Ok(Request::CancelJob(job))
 }
 
 fn read_expansion(alloc: Global, pairs: &[Pair<'_>]) -> Result<Request, RequestError>

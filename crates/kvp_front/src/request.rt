@@ -48,6 +48,15 @@ pub struct TemplateRequest {
     pub radius: Option<i64>,
 }
 
+/// Some units of a job.
+#[derive(Debug, Drop)]
+pub struct JobUnits {
+    /// The number of the job.
+    pub job: u64,
+    /// How many units of it are to be done, from 1 to 1000.
+    pub units: u64,
+}
+
 /// What a message asks of the store.
 #[derive(Debug, Drop)]
 pub enum Request {
@@ -58,6 +67,13 @@ pub enum Request {
     DescribeCoverage(Name),
     /// The text of the query.
     ProcessCoverages(String),
+    /// The text of the query that becomes a job.
+    SubmitQuery(String),
+    StepJob(JobUnits),
+    /// The number of the job whose answer is asked for.
+    FetchJob(u64),
+    /// The number of the job that is dropped.
+    CancelJob(u64),
     /// The text of a template's query is asked for.
     ExpandTemplate(TemplateRequest),
     /// The answer to a template's query is asked for.

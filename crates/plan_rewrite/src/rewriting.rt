@@ -25,6 +25,7 @@ pub fn rewrite(alloc: Global, plan: Plan) -> Result<Plan, AllocError>
     ensures reduced { IfOk result (λ r. StepsAreReduced (map steps_view r.steps.items)) }
     ensures open { IfOk result (λ r. StepsAreOpen (map steps_view r.steps.items)) }
     ensures units { IfOk result (λ r. units (plan_view r) + fold_points (plan_view r) ≤ units (plan_view plan) + fold_points (plan_view plan)) }
+    ensures coverages { IfOk result (λ r. r.coverages.items ≡ plan.coverages.items) }
 {
     let r = rewritten(alloc, plan)?;
     Ok(r)

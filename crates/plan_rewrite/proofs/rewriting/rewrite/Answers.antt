@@ -39,3 +39,6 @@ pub returns-clause-units : goal.returns-clause-units
 returns-clause-units c =
     let p = plan_view c.args.plan in
     subst (λ r. units r + fold_points r ≤ units p + fold_points p) (sym c.in_ok-r.ensures) (rewritten-few p)
+
+pub returns-clause-coverages : goal.returns-clause-coverages
+returns-clause-coverages c = ap (λ (p : PlanTree). p.coverages) c.in_ok-r.ensures
