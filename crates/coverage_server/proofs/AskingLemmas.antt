@@ -1,12 +1,9 @@
 -- The answer of a query, from what the steps give.
-use Rattle.std.proofs.Common.{◌≡◌, ℕ, ◌<◌, ◌≤◌, Bool, true, false, ℤ, List, [], ◌∷◌, length, map, Option, None, Some, Result, Ok, Err, refl, sym, ap, ◌∙◌, subst, arith, inl, inr, nat_lt}
-use Rattle.std.specs.Prelude.{◌⊎◌, String, string_bytes, nat_le, option_map, option_and_then, slice_get}
+use Rattle.std.proofs.Common.{◌≡◌, ℕ, ◌<◌, ◌≤◌, Bool, true, false, List, [], ◌∷◌, length, map, Result, Ok, Err, refl, sym, ap, ◌∙◌, subst, arith, inl, inr, nat_lt}
+use Rattle.std.specs.Prelude.{◌⊎◌, String, string_bytes, nat_le}
 use Rattle.std.specs.declared.alloc.Global.{Global}
-use Rattle.std.proofs.lemmas.Option.{slice_get-map}
 use borrow.Author.Tests.{ltb-true, ltb-false, le-leb, lt-leb}
-use mathlib.Core.Path.{fun_ext}
-use Rattle.arr_core.specs.declared.signature.Signature.{Signature}
-use Rattle.arr_core.specs.Stores.{Coverage, Store, found}
+use Rattle.arr_core.specs.Stores.{Store}
 use Rattle.wcps_text.specs.declared.token.Token.{Token}
 use Rattle.wcps_text.specs.declared.tree.Query.{Query}
 use Rattle.wcps_text.specs.Token.{Tok, tok}
@@ -18,41 +15,16 @@ use Rattle.wcps_parse.specs.Outcome.{IsWithinLimits, IsTooDeep}
 use Rattle.wcps_types.specs.Queries.{typ_query}
 use Rattle.wcps_types.specs.declared.shared.SharedQuery.{SharedQuery}
 use Rattle.wcps_types.specs.SharedQueries.{shared_query_view as typed_view}
-use Rattle.wcps_mean.specs.declared.item.Item.{Item}
-use Rattle.wcps_mean.specs.Answer.{answer}
-use Rattle.wcps_mean.specs.Errors.{TellsFault, TellsStore}
-use Rattle.wcps_mean.specs.declared.cell.PointFault.{PointFault}
-use Rattle.wcps_mean.specs.declared.answer.EvalError.{EvalError}
-use Rattle.wcps_mean.specs.declared.answer.EvalError.TheVariants as evaluation
-use Rattle.wcps_mean.specs.declared.cells.CellError.TheVariants as cell
-use Rattle.csv_out.specs.Csv.{csv}
 use Rattle.raster_store.specs.Calls.{signature_of}
 use Rattle.coverage_server.specs.Views.{ServerView, IsSound}
-use Rattle.coverage_server.specs.Asking.{TypedAnswer, cells_of, number_in, items_answer, numbered, tree_typed, TokensTyped, too_deep, query, TextTyped, no_tokens, lexed, evaluated, TextAnswer}
-use Rattle.coverage_server.specs.Stages.{GivesTokens, GivesQuery, GivesTyped, GivesText, GivesItems, GivesValues, FailsReading, error_refusal, cell_at}
+use Rattle.coverage_server.proofs.TypedLemmas.{typed-held, typed-some}
+use Rattle.coverage_server.specs.Asking.{TypedAnswer, numbered, tree_typed, TokensTyped, too_deep, query, TextTyped, no_tokens, lexed, evaluated, TextAnswer}
+use Rattle.coverage_server.specs.Stages.{GivesTokens, GivesQuery, GivesTyped, GivesText, GivesValues, FailsReading}
 use Rattle.coverage_server.specs.Answered.{Answered}
 use Rattle.coverage_server.specs.Machine.{Answers}
 use Rattle.coverage_server.specs.declared.arguments.Refusal.{Refusal}
 use Rattle.coverage_server.specs.declared.arguments.Refusal.TheVariants.{Numbered, NoMemory, DiskFault, NoRoom, Damaged}
 use Rattle.http_front.specs.declared.reply.Reply.TheVariants.{Csv}
-
--- the coverage that has the name of a signature, if there is one
-named_alike : (store : Store) (o : Option Signature)
-    → option_and_then (λ (name : List ℕ). found name store) (option_map (λ (c : Signature). c.name) o) ≡ option_and_then (λ (c : Signature). found c.name store) o
-named_alike store None = refl
-named_alike store (Some c) = refl
-
--- cells by names are cells by signatures
-cell_alike : (store : Store) (coverages : List Signature) (n field : ℕ) (point : List ℤ)
-    → cell_at store (map (λ (c : Signature). c.name) coverages) n field point ≡ cells_of store coverages n field point
-cell_alike store coverages n field point =
-    ap (λ (o : Option (List ℕ)). number_in (option_and_then (λ (name : List ℕ). found name store) o) field point) (slice_get-map (λ (c : Signature). c.name) coverages n)
-    ∙ ap (λ (c : Option Coverage). number_in c field point) (named_alike store (slice_get coverages n))
-
-pub cells_alike : (store : Store) (coverages : List Signature) (names : List (List ℕ)) → names ≡ map (λ (c : Signature). c.name) coverages
-    → cell_at store names ≡ cells_of store coverages
-cells_alike store coverages names is =
-    ap (cell_at store) is ∙ fun_ext (λ n. fun_ext (λ field. fun_ext (λ point. cell_alike store coverages n field point)))
 
 -- tokens are taken out of their pieces
 tokens_shown : (ts : List Token) → tokens_of (map piece ts) ≡ map tok ts
@@ -97,7 +69,11 @@ by_query store text ts q r short cut x is =
 
 pub text_types : (store : Store) (text : List ℕ) (ts : List Token) (q : Query) (r : Result SharedQuery Refusal) → length text ≤ 65536 → Lexed 0 text (map piece ts)
     → GivesQuery (map tok ts) (Ok q) → GivesTyped (typ_query (map signature_of store) (query_view q)) r → GivesText store text r
-text_types store text ts q (Ok typed) short cut x g = by_query store text ts q (Ok (typed_view typed)) short cut x (ap numbered g)
+text_types store text ts q (Ok typed) short cut x g = record {
+  typed = by_query store text ts q (Ok (typed_view typed)) short cut x (ap numbered g);
+  held = typed-held store (query_view q) (typed_view typed) g;
+  some = typed-some store (query_view q) (typed_view typed) g;
+}
 text_types store text ts q (Err (Numbered code)) short cut x g = by_query store text ts q (Err code) short cut x (ap numbered g.1 ∙ ap Err (sym g.2))
 text_types store text ts q (Err NoMemory) short cut x g = tt
 text_types store text ts q (Err DiskFault) short cut x g = absurd g
@@ -145,34 +121,8 @@ too_high store ts q spelled high = by_depth (nat_lt 512 (deepest 0 ts)) (nat_lt 
     by_depth false true x y = too_deep (deep (inr (ltb-true 256 (forms ts) y)))
     by_depth false false x y = subst (TokensTyped store ts) (tree_too_high store q high) (query q (within x y) spelled)
 
--- the values of a typed query, from what its evaluation gives
-pub values_faulty : (store : Store) (q : SharedQuery) (e : Refusal) → GivesItems (answer (cells_of store q.coverages.items) (typed_view q)) (Err e)
-    → GivesValues (evaluated store (Ok (typed_view q))) (Err e)
-values_faulty store q (Numbered code) x = ap items_answer x.1 ∙ ap Err (sym x.2)
-values_faulty store q NoMemory x = tt
-values_faulty store q DiskFault x = tt
-values_faulty store q NoRoom x = tt
-values_faulty store q Damaged x = tt
-
-pub values_given : (store : Store) (q : SharedQuery) (items : List Item) (text : String Global) → answer (cells_of store q.coverages.items) (typed_view q) ≡ Ok items
-    → string_bytes text ≡ csv items → evaluated store (Ok (typed_view q)) ≡ Ok (string_bytes text)
-values_given store q items text x written = ap items_answer x ∙ ap Ok (sym written)
-
 -- tokens that are too deep, or whose query is too high
 pub refused_depth : (store : Store) (ts : List Tok) → IsTooDeep ts → TokensTyped store ts (Err 33)
 refused_depth store ts (inl x) = too_deep (λ within. absurd (omega (arith, x, within.brackets)))
 refused_depth store ts (inr (inl x)) = too_deep (λ within. absurd (omega (arith, x, within.words)))
 refused_depth store ts (inr (inr x)) = too_high store ts x.tree x.spelled x.high
-
--- a query whose items are not known
-pub items_refused : (r : Result (List Item) PointFault) (e : EvalError) → TellsFault e r → GivesItems r (Err (error_refusal e))
-items_refused r (evaluation.Fault f) x = (f, x, refl)
-items_refused r (evaluation.Cells cell.NoMemory) x = tt
-items_refused r (evaluation.Cells cell.DiskFault) x = tt
-items_refused r (evaluation.Cells cell.Damaged) x = tt
-
-pub items_fail : (v w : ServerView) (intact : Type 0) (e : EvalError) → (IsSound v → intact) → TellsStore e intact v.failures w.failures → FailsReading v w (error_refusal e)
-items_fail v w intact (evaluation.Fault f) i x = tt
-items_fail v w intact (evaluation.Cells cell.NoMemory) i x = tt
-items_fail v w intact (evaluation.Cells cell.DiskFault) i x = x.1
-items_fail v w intact (evaluation.Cells cell.Damaged) i x = λ sound. x.0 (i sound)

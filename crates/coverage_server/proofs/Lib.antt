@@ -7,6 +7,7 @@ pub mod InsertLemmas
 pub mod UpdateLemmas
 pub mod WriteLemmas
 pub mod TileLemmas
+pub mod TypedLemmas
 pub mod AskingLemmas
 pub mod OneAnswerLemmas
 pub mod TomlinLemmas
@@ -14,3 +15,7 @@ pub mod ClosingLemmas
 pub mod LayoutLemmas
 pub mod OpeningLemmas
 pub mod SessionLemmas
+pub mod StandingLemmas
+pub mod JobLemmas
+pub mod ValueLemmas
+pub mod ReplyLemmas

@@ -3,7 +3,6 @@ use Rattle.std.proofs.Common.{◌≡◌, ◌≢◌, ℕ, ◌+◌, ◌<◌, ◌�
 use Rattle.std.proofs.lemmas.List.{length-append}
 use Rattle.std.specs.Io.KnownBytes.{Appends, Consumes, IsAtEnd}
 use Rattle.std.proofs.KnownBytes.{Appends-trans, Consumes-trans}
-use Rattle.arr_core.specs.Stores.{Store}
 use Rattle.stream_face.specs.Faults.{AppendsPrefix}
 use Rattle.http_front.specs.declared.conn.Next.{Next}
 use Rattle.http_front.specs.declared.conn.Next.TheVariants as next
@@ -16,11 +15,11 @@ use Rattle.coverage_server.specs.declared.server.ConnEnd.TheVariants.{Finished, 
 use Rattle.disk_face.specs.Disk.{Rose}
 use Rattle.kvp_front.specs.Requests.{Asks, spelled}
 use Rattle.kvp_front.specs.declared.request.RequestError.{RequestError}
-use Rattle.coverage_server.specs.Machine.{SpelledStep, MessageStep, Run}
+use Rattle.coverage_server.specs.Machine.{State, SpelledStep, MessageStep, Run}
 use Rattle.coverage_server.specs.Serves.{Ends, ServesConnection}
 
 -- what the machine may tell where the disk may have failed holds where that is told of a longer time too
-spelled-later : {P Q : Type 0} → (P → Q) → (r : Result Asks RequestError) (old : Store) (reply : Reply) (new : Store) → SpelledStep P r old reply new
+spelled-later : {P Q : Type 0} → (P → Q) → (r : Result Asks RequestError) (old : State) (reply : Reply) (new : State) → SpelledStep P r old reply new
     → SpelledStep Q r old reply new
 spelled-later f (Ok asks) old reply new (inl x) = inl x
 spelled-later f (Ok asks) old reply new (inr (inl x)) = inr (inl x)
@@ -28,17 +27,17 @@ spelled-later f (Ok asks) old reply new (inr (inr (inl x))) = inr (inr (inl (f x
 spelled-later f (Ok asks) old reply new (inr (inr (inr x))) = inr (inr (inr x))
 spelled-later f (Err e) old reply new x = x
 
-pub step-later : {P Q : Type 0} → (P → Q) → (old : Store) (asked : Result (List ℕ) ℕ) (reply : Reply) (new : Store) → MessageStep P old asked reply new
+pub step-later : {P Q : Type 0} → (P → Q) → (old : State) (asked : Result (List ℕ) ℕ) (reply : Reply) (new : State) → MessageStep P old asked reply new
     → MessageStep Q old asked reply new
 step-later f old (Ok pairs) reply new x = spelled-later f (spelled pairs) old reply new x
 step-later f old (Err code) reply new x = x
 
-run-later : {P Q : Type 0} → (P → Q) → (old : Store) (items : List Item) (text : List ℕ) (new : Store) → Run P old items text new → Run Q old items text new
+run-later : {P Q : Type 0} → (P → Q) → (old : State) (items : List Item) (text : List ℕ) (new : State) → Run P old items text new → Run Q old items text new
 run-later f old [] text new x = x
 run-later f old (item ∷ items) text new x =
     (x.0, x.1, x.2, step-later f old item.asked x.1 x.0 x.3, x.4, run-later f x.0 items x.2 new x.5)
 
-pub connection-later : {P Q : Type 0} → (P → Q) → (e : Ends) (old new : Store) (end : ConnEnd) → ServesConnection P e old new end
+pub connection-later : {P Q : Type 0} → (P → Q) → (e : Ends) (old new : State) (end : ConnEnd) → ServesConnection P e old new end
     → ServesConnection Q e old new end
 connection-later f e old new Finished x = (x.0, x.1, x.2, x.3, x.4, run-later f old x.2 x.4 new x.5, x.6)
 connection-later f e old new ReadFault x = (x.0, x.1, x.2, x.3, x.4, run-later f old x.2 x.4 new x.5, x.6)
@@ -85,7 +84,7 @@ rose-by old mid new later rose = omega (arith, rose)
 pub rose-since : (old mid new : ℕ) → old ≤ mid → Rose mid new → Rose old new
 rose-since old mid new later rose = omega (arith, rose)
 
-pub Run-push : (P : Type 0) (items : List Item) (old mid new : Store) (text : List ℕ) (item : Item) (reply : Reply) → Run P old items text mid
+pub Run-push : (P : Type 0) (items : List Item) (old mid new : State) (text : List ℕ) (item : Item) (reply : Reply) → Run P old items text mid
     → MessageStep P mid item.asked reply new → Run P old (items ++ item ∷ []) (text ++ reply_bytes item.last item.bare reply) new
 Run-push P [] old mid new text item reply x s = (
   new,
@@ -105,7 +104,7 @@ Run-push P (first ∷ items) old mid new text item reply x s = (
 )
 
 -- What has come, the messages in it, and their replies, which went out.
-pub record Serving (failed : Type 0) (before now held holds : Option (List ℕ)) (old new : Store) (buffer : List ℕ) (count : ℕ) : Type 0 where
+pub record Serving (failed : Type 0) (before now held holds : Option (List ℕ)) (old new : State) (buffer : List ℕ) (count : ℕ) : Type 0 where
   pub came : List ℕ
   pub took : Consumes before now came
   pub items : List Item
@@ -115,7 +114,7 @@ pub record Serving (failed : Type 0) (before now held holds : Option (List ℕ))
   pub sent : Appends held holds replies
   pub counted : count ≡ length items
 
-module _ {failed : Type 0} {before now held holds : Option (List ℕ)} {old new : Store} {buffer : List ℕ} {count : ℕ}
+module _ {failed : Type 0} {before now held holds : Option (List ℕ)} {old new : State} {buffer : List ℕ} {count : ℕ}
     (s : Serving failed before now held holds old new buffer count) (later : Option (List ℕ)) (more : List ℕ) (took : Consumes now later more) where
   taken_all : Taken 0 ((s.came ++ more) ++ rest_of later) s.items ((buffer ++ more) ++ rest_of later)
   taken_all =
@@ -153,7 +152,7 @@ module _ {failed : Type 0} {before now held holds : Option (List ℕ)} {old new 
         s.sent,
       )
 
-  module _ (left : List ℕ) (item : Item) (x : Fronts count (buffer ++ more) left later item) (newer : Store) (reply : Reply)
+  module _ (left : List ℕ) (item : Item) (x : Fronts count (buffer ++ more) left later item) (newer : State) (reply : Reply)
       (fails : Type 0) (since : failed → fails) (step : MessageStep fails new item.asked reply newer) (last bare : Bool) (is : last ≡ item.last) (shown : bare ≡ item.bare) (gone : Option (List ℕ)) where
     ran : Run fails old s.items s.replies new
     ran = run-later since old s.items s.replies new s.run

@@ -1,7 +1,6 @@
 -- One connection more, and sessions one after the other.
-use Rattle.std.proofs.Common.{◌≡◌, ℕ, zero, suc, ◌+◌, ◌/◌, ◌<◌, ◌≤◌, Bool, List, [], ◌∷◌, ◌++◌, length, take, drop, slice_set, get_or, Option, refl, sym, ap, ◌∙◌, subst, subst₂, arith}
+use Rattle.std.proofs.Common.{◌≡◌, ℕ, zero, suc, ◌+◌, ◌/◌, ◌<◌, ◌≤◌, Bool, List, [], ◌∷◌, ◌++◌, length, take, drop, slice_set, get_or, Option, Some, refl, sym, ap, ◌∙◌, subst, arith}
 use Rattle.std.specs.Prelude.{IsTrue}
-use Rattle.std.specs.List.{flat_map}
 use Rattle.std.proofs.lemmas.List.{take_more, take_more_set, get_or-drop, drop-set-lt, drop-drop}
 use Rattle.arr_core.specs.Stores.{Store}
 use Rattle.block_file.specs.Format.{IsHeader, KeepsHeader}
@@ -10,20 +9,23 @@ use Rattle.disk_face.specs.Disk.{Rose}
 use Rattle.coverage_server.specs.declared.server.ConnEnd.{ConnEnd}
 use Rattle.coverage_server.specs.declared.closing.CloseFault.{CloseFault}
 use Rattle.coverage_server.specs.Disk.{HoldsStore}
+use Rattle.coverage_server.specs.Machine.{State, begun}
+use Rattle.coverage_server.specs.Represents.{Represents}
 use Rattle.coverage_server.specs.Serves.{Ends, ServesConnection, TellsEnd, ends_of}
-use Rattle.coverage_server.specs.Sessions.{DiskView, IsNotClosed, ServesAll, ServesSession, ServesUnclosed, Sessions, ends_all}
-use Rattle.coverage_server.specs.Views.{ServerView, IsSound}
+use Rattle.coverage_server.specs.Sessions.{DiskView, IsNotClosed, ServesAll, ServesUnclosed, Sessions, ServesSessions, ends_all}
+use Rattle.coverage_server.specs.Views.{SessionView, IsSound}
 use Rattle.coverage_server.proofs.ServingLemmas.{connection-later}
+use Rattle.coverage_server.proofs.StandingLemmas.{represents-same}
 
 -- what is told of a time is told of a longer one
-pub all-later : {P Q : Type 0} → (P → Q) → (ends : List Ends) (old new : Store) → ServesAll P ends old new → ServesAll Q ends old new
+pub all-later : {P Q : Type 0} → (P → Q) → (ends : List Ends) (old new : State) → ServesAll P ends old new → ServesAll Q ends old new
 all-later f [] old new x = x
 all-later f (e ∷ ends) old new x = (x.0, x.1, x.2, connection-later f e old x.0 x.1 x.3, all-later f ends x.0 new x.4)
 
 -- connections and then others
-pub all-append : (P : Type 0) (first second : List Ends) (old mid new : Store) → ServesAll P first old mid → ServesAll P second mid new
+pub all-append : (P : Type 0) (first second : List Ends) (old mid new : State) → ServesAll P first old mid → ServesAll P second mid new
     → ServesAll P (first ++ second) old new
-all-append P [] second old mid new x y = subst (λ (s : Store). ServesAll P second s new) x y
+all-append P [] second old mid new x y = subst (λ (s : State). ServesAll P second s new) x y
 all-append P (e ∷ first) second old mid new x y = (x.0, x.1, x.2, x.3, all-append P first second x.0 mid new x.4 y)
 
 -- the count of failures rose in a longer time
@@ -34,41 +36,64 @@ sessions_rise : (sessions : List (List Ends)) (old new : DiskView) → Sessions 
 sessions_rise [] old new x = let e = ap (λ (v : DiskView). v.failures) x in omega (arith, e)
 sessions_rise (ends ∷ sessions) old new x = let e = sessions_rise sessions x.0 new x.4 in let m = x.3 in omega (arith, e, m)
 
--- all sessions of a list are as one over all their connections
-pub composed : (sessions : List (List Ends)) (old new : DiskView) → Sessions sessions old new → ServesSession (flat_map (λ (ends : List Ends). ends) sessions) old new
+sessions-later : {P Q : Type 0} → (P → Q) → (sessions : List (List Ends)) (old new : Store) → ServesSessions P sessions old new → ServesSessions Q sessions old new
+sessions-later f [] old new x = x
+sessions-later f (ends ∷ sessions) old new x = (x.0, all-later f ends (begun old) x.0 x.1, sessions-later f sessions x.0.store new x.2)
+
+-- all sessions of a list are what one machine does
+pub composed : (sessions : List (List Ends)) (old new : DiskView) → Sessions sessions old new → IsTrue old.honest → (store : Store) → HoldsStore old.content store
+    → (next : Store) × HoldsStore new.content next × ServesSessions (Rose old.failures new.failures) sessions store next
 composed [] old new x honest store holds = (store, subst (λ (v : DiskView). HoldsStore v.content store) (sym x) holds, refl)
 composed (ends ∷ sessions) old new x honest store holds =
     let mid : DiskView = x.0 in
     let first = x.1 honest store holds in
-    let later = composed sessions mid new x.4 (subst IsTrue (sym x.2) honest) first.0 first.1 in
+    let later = composed sessions mid new x.4 (subst IsTrue (sym x.2) honest) first.0.store first.1 in
     let more = sessions_rise sessions mid new x.4 in (
       later.0,
       later.1,
-      all-append (Rose old.failures new.failures) ends (flat_map (λ (e : List Ends). e) sessions) store first.0 later.0
-          (all-later (rose-within old.failures old.failures mid.failures new.failures (omega arith) more) ends store first.0 first.2)
-          (all-later (rose-within old.failures mid.failures new.failures new.failures x.3 (omega arith)) (flat_map (λ (e : List Ends). e) sessions) first.0 later.0 later.2),
+      (
+        first.0,
+        all-later (rose-within old.failures old.failures mid.failures new.failures (omega arith) more) ends (begun store) first.0 first.2,
+        sessions-later (rose-within old.failures mid.failures new.failures new.failures x.3 (omega arith)) sessions first.0.store later.0 later.2,
+      ),
     )
 
+-- a server without jobs represents the state in which a session begins
+pub begins : (v : SessionView) → v.desk ≡ record { jobs = []; next = Some 1 } → (store : Store) → v.coverages.store ≡ store → Represents v (begun store)
+begins v none store is = record {
+  store = sym is;
+  jobs = rw none tt;
+  next = rw none refl;
+}
+
 -- a session whose server was not closed
-pub unclosed : (fault : CloseFault) (ends : List Ends) (disk : DiskView) (opened served left : ServerView)
-    → (IsTrue disk.honest → (store : Store) → HoldsStore disk.content store → (opened.store ≡ store) × IsSound opened)
-    → (IsTrue disk.honest → IsHeader opened.content Open (length opened.content / 4096) 0 0) → opened.honest ≡ disk.honest → opened.failures ≡ disk.failures
-    → (IsSound opened → ServesAll (Rose opened.failures served.failures) ends opened.store served.store × IsSound served)
-    → KeepsHeader opened.content served.content → served.honest ≡ opened.honest → opened.failures ≤ served.failures
-    → IsNotClosed fault served left → ServesUnclosed fault ends disk left
-unclosed fault ends disk opened served left opens header honest count serves keeps still more refused = record {
+pub unclosed : (fault : CloseFault) (ends : List Ends) (disk : DiskView) (opened served left : SessionView)
+    → (IsTrue disk.honest → (store : Store) → HoldsStore disk.content store → (opened.coverages.store ≡ store) × IsSound opened.coverages)
+    → opened.desk ≡ record { jobs = []; next = Some 1 }
+    → (IsTrue disk.honest → IsHeader opened.coverages.content Open (length opened.coverages.content / 4096) 0 0) → opened.coverages.honest ≡ disk.honest
+    → opened.coverages.failures ≡ disk.failures
+    → (IsSound opened.coverages → ((s : State) → Represents opened s → (t : State) × Represents served t × ServesAll (Rose opened.coverages.failures served.coverages.failures) ends s t) × IsSound served.coverages)
+    → KeepsHeader opened.coverages.content served.coverages.content → served.coverages.honest ≡ opened.coverages.honest
+    → opened.coverages.failures ≤ served.coverages.failures
+    → IsNotClosed fault served.coverages left.coverages → left.desk ≡ served.desk → ServesUnclosed fault ends disk left
+unclosed fault ends disk opened served left opens desk header honest count serves keeps still more refused same_desk = record {
   served = λ truly store holds.
       let found = opens truly store holds in
       let all = serves found.1 in
-      let same : left.store ≡ served.store = refused.unchanged.store all.1.honest in
-      let rises : Rose opened.failures served.failures → Rose disk.failures left.failures = rose-within disk.failures opened.failures served.failures left.failures (omega (arith, count)) refused.no_fewer in (
+      let run = all.0 (begun store) (begins opened desk store found.0) in
+      let same : left.coverages.store ≡ served.coverages.store = refused.unchanged.store all.1.honest in
+      let rises : Rose opened.coverages.failures served.coverages.failures → Rose disk.failures left.coverages.failures =
+      rose-within disk.failures opened.coverages.failures served.coverages.failures left.coverages.failures (omega (arith, count)) refused.no_fewer in (
         refused.sound all.1,
-        subst₂ (λ (from to : Store). ServesAll (Rose disk.failures left.failures) ends from to) found.0 (sym same) (all-later rises ends opened.store served.store all.0),
+        run.0,
+        represents-same served left same same_desk run.0 run.1,
+        all-later rises ends (begun store) run.0 run.2,
       );
-  disk_fault = λ e. let rose : Rose served.failures left.failures = refused.disk_fault e in omega (arith, rose, count, more);
-  no_memory = λ e truly. (length opened.content / 4096, (refused.no_memory e).0 Open (length opened.content / 4096) 0 0 (keeps Open (length opened.content / 4096) 0 0 (header truly)));
+  disk_fault = λ e. let rose : Rose served.coverages.failures left.coverages.failures = refused.disk_fault e in omega (arith, rose, count, more);
+  no_memory = λ e truly.
+      (length opened.coverages.content / 4096, (refused.no_memory e).0 Open (length opened.coverages.content / 4096) 0 0 (keeps Open (length opened.coverages.content / 4096) 0 0 (header truly)));
   honest = refused.honest ∙ still ∙ honest;
-  no_fewer = let fewer : served.failures ≤ left.failures = refused.no_fewer in omega (arith, count, more, fewer);
+  no_fewer = let fewer : served.coverages.failures ≤ left.coverages.failures = refused.no_fewer in omega (arith, count, more, fewer);
 }
 
 module _ {R W : Type 0} where
@@ -110,7 +135,7 @@ module _ {R W : Type 0} where
         take_long (suc i) (a ∷ first) (b ∷ second) e = ap suc (take_long i first second (omega (arith, e)))
 
     -- one connection more is served
-    pub served-more : (xs ys : List (R × W)) (i : ℕ) (d y : R × W) (begin now end : ℕ) (old mid new : Store) (conn : ConnEnd)
+    pub served-more : (xs ys : List (R × W)) (i : ℕ) (d y : R × W) (begin now end : ℕ) (old mid new : State) (conn : ConnEnd)
         → length ys ≡ length xs → i < length xs → drop i ys ≡ drop i xs → begin ≤ now → now ≤ end
         → ServesAll (Rose begin now) (ends_all remaining read_failed contents write_failed (take i xs) (take i ys)) old mid
         → TellsEnd (ends_of remaining read_failed contents write_failed (get_or ys i d).0 y.0 (get_or ys i d).1 y.1) conn

@@ -3,9 +3,10 @@ use Rattle.std.specs.Prelude.{◌⊎◌, Result, Ok, Err, ⊤}
 use Rattle.disk_face.specs.Disk.{Rose}
 use Rattle.arr_core.specs.Stores.{Store}
 use Rattle.kvp_front.specs.Requests.{Asks}
-use Rattle.coverage_server.specs.Machine.{Serves, Fails}
+use Rattle.coverage_server.specs.Machine.{State, Serves, Fails}
+use Rattle.coverage_server.specs.Represents.{Represents}
 use Rattle.coverage_server.specs.Room.{LacksRoom}
-use Rattle.coverage_server.specs.Views.{ServerView, IsSound}
+use Rattle.coverage_server.specs.Views.{ServerView, SessionView, IsSound}
 use Rattle.http_front.specs.declared.reply.Reply.{Reply}
 use Rattle.http_front.specs.declared.reply.Reply.TheVariants.{Text, Csv, Refused}
 use Rattle.coverage_server.specs.declared.arguments.Refusal.{Refusal}
@@ -27,8 +28,25 @@ IsAnswer (Text text) = ⊤
 IsAnswer (Csv text) = ⊤
 IsAnswer (Refused code) = ⊥
 
+-- Each state that the server represented leads by a step to one that it represents.
+abbrev pub Moves : (State → Reply → State → Type 0) → SessionView → Reply → SessionView → Type 0
+Moves step old reply new = IsSound old.coverages → (s : State) → Represents old s → (t : State) × Represents new t × step s reply t
+
+-- Each state that the server represented it represents still.
+abbrev pub Stays : SessionView → SessionView → Type 0
+Stays old new = IsSound old.coverages → (s : State) → Represents old s → Represents new s
+
+-- A reply or a numbered refusal as a step of the machine allows it. A failure, which is told as above, leaves the state as it was.
+abbrev pub AnsweredIn : (State → Reply → State → Type 0) → Type 0 → SessionView → SessionView → Result Reply Refusal → Type 0
+AnsweredIn step lacks_room old new (Ok reply) = Moves step old reply new
+AnsweredIn step lacks_room old new (Err (Numbered code)) = Moves step old (Refused code) new
+AnsweredIn step lacks_room old new (Err NoMemory) = Stays old new
+AnsweredIn step lacks_room old new (Err DiskFault) = Rose old.coverages.failures new.coverages.failures × Stays old new
+AnsweredIn step lacks_room old new (Err NoRoom) = (IsSound old.coverages → lacks_room) × Stays old new
+AnsweredIn step lacks_room old new (Err Damaged) = IsSound old.coverages → (s : State) → Represents old s → ⊥
+
 -- A reply of the machine, or a failure: want of memory (90) at any time, a disk fault (91) where the disk's count of failures rose
 -- or stands at its last value, and want of room (92) where the request asks for more blocks than are free.
-abbrev pub Steps : Asks → ServerView → Reply → ServerView → Type 0
-Steps asks old reply new =
-    Serves asks old.store reply new.store ⊎ Fails (Rose old.failures new.failures) (LacksRoom asks old) old.store reply new.store
+abbrev pub Steps : Asks → SessionView → SessionView → State → Reply → State → Type 0
+Steps asks old new s reply t =
+    Serves asks s reply t ⊎ Fails (Rose old.coverages.failures new.coverages.failures) (LacksRoom asks old.coverages) s reply t

@@ -14,3 +14,4 @@ pub mod Tiles
 pub mod Closing
 pub mod Disk
 pub mod Opening
+pub mod Represents

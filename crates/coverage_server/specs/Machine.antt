@@ -1,20 +1,25 @@
--- The machine: its state is a store of coverages. A request leads to a reply and a next state; the refusals come in the order in
--- which they stand here, and leave the state as it was.
-use Rattle.std.specs.Prelude.{◌≡◌, ℕ, ◌<◌, ◌⊎◌, ℤ, List, [], ◌∷◌, ◌++◌, length, map, replicate, slice_get, All, Result, Ok, Err, MatchOption, codes, string_bytes, FitsSigned, Some, ⊤}
+-- The machine: its state is a store of coverages, and jobs, each with the answer that its query had when it was submitted. A request
+-- leads to a reply and a next state; the refusals come in the order in which they stand here, and leave the state as it was.
+use Rattle.std.specs.Prelude.{◌≡◌, ℕ, ◌+◌, ◌-◌, ◌*◌, ◌^◌, ◌<◌, ◌≤◌, ◌⊎◌, ◌&&◌, nat_lt, nat_eq, cond, Bool, false, ℤ, List, [], ◌∷◌, ◌++◌, length, map, replicate, slice_get, All, Option, Some, None, Result, Ok, Err, MatchOption, codes, string_bytes, FitsSigned, ⊤}
+use Rattle.std.specs.Fmt.{decimal}
 use Rattle.std.specs.Int.{w32}
-use Rattle.std.specs.List.{flat_map}
+use Rattle.std.specs.List.{find, list_any, flat_map}
+use Rattle.std.specs.Str.{bytes_eq}
 use Rattle.arr_core.specs.declared.cell.FieldType.{FieldType}
 use Rattle.arr_core.specs.declared.domain.Axis.{Axis}
 use Rattle.arr_core.specs.declared.field.Field.{Field}
+use Rattle.arr_core.specs.declared.signature.Signature.{Signature}
 use Rattle.arr_core.specs.Cells.{stored, Holds}
 use Rattle.arr_core.specs.Domains.{count, IsDomain, IsBoxOf}
 use Rattle.arr_core.specs.Fields.{AreFields, place_of as field_place}
 use Rattle.arr_core.specs.Stores.{Coverage, Store, found, inserted, deleted, updated}
 use Rattle.kvp_front.specs.Contents.{Cells, fill, values}
-use Rattle.kvp_front.specs.Requests.{Asks, insert_coverage, update_coverage, delete_coverage, list_coverages, describe_coverage, process_coverages, expand_template, process_template, spelled, number_of}
+use Rattle.kvp_front.specs.Requests.{Asks, insert_coverage, update_coverage, delete_coverage, list_coverages, describe_coverage, process_coverages, submit_query, step_job, fetch_job, cancel_job, expand_template, process_template, spelled, number_of}
 use Rattle.kvp_front.specs.Templates.{Template}
 use Rattle.map_templates.specs.Refusals.{Answer, number_of as template_number}
-use Rattle.coverage_server.specs.Asking.{QueryAnswer, TextAnswer}
+use Rattle.wcps_types.specs.Typed.{TypedTree}
+use Rattle.wcps_types.specs.Work.{query_work}
+use Rattle.coverage_server.specs.Asking.{QueryAnswer, TypedAnswer, TextTyped, TextAnswer, evaluated}
 use Rattle.coverage_server.specs.Describing.{description}
 use Rattle.coverage_server.specs.Templates.{expansion}
 use Rattle.http_front.specs.Replies.{reply_bytes}
@@ -24,6 +29,23 @@ use Rattle.kvp_front.specs.declared.request.RequestError.{RequestError}
 use Rattle.http_front.specs.declared.reply.Reply.{Reply}
 use Rattle.http_front.specs.declared.reply.Reply.TheVariants.{Text, Csv, Refused}
 
+-- a job: its number, the names of the coverages that its query lists, how many units it has left, and its answer
+pub record Job : Type 0 where
+  pub number : ℕ
+  pub names : List (List ℕ)
+  pub left : ℕ
+  pub answer : QueryAnswer
+
+-- the coverages, the jobs in the order of their numbers, and the number of the next one: none where the last `u64` was given
+pub record State : Type 0 where
+  pub store : Store
+  pub jobs : List Job
+  pub next : Option ℕ
+
+-- a session begins with a store, and without jobs
+abbrev pub begun : Store → State
+begun store = record { store = store; jobs = []; next = Some 1 }
+
 -- a reply with this text
 abbrev pub IsText : Reply → List ℕ → Type 0
 IsText (Text text) expected = string_bytes text ≡ expected
@@ -31,15 +53,15 @@ IsText (Csv text) expected = ⊥
 IsText (Refused code) expected = ⊥
 
 -- a refusal, which changes nothing
-abbrev pub Refuses : ℕ → Store → Reply → Store → Type 0
+abbrev pub Refuses : {S : Type 0} → ℕ → S → Reply → S → Type 0
 Refuses code old reply new = (reply ≡ Refused code) × (new ≡ old)
 
 -- `ok` on a line, and this is the next state
-abbrev pub Does : Store → Reply → Store → Type 0
+abbrev pub Does : {S : Type 0} → S → Reply → S → Type 0
 Does next reply new = IsText reply (codes "ok\n") × (new ≡ next)
 
 -- one refusal where a condition fails, and what comes next where it holds
-abbrev pub Unless : Type 0 → ℕ → (Store → Reply → Store → Type 0) → Store → Reply → Store → Type 0
+abbrev pub Unless : {S : Type 0} → Type 0 → ℕ → (S → Reply → S → Type 0) → S → Reply → S → Type 0
 Unless condition code next old reply new = ((¬ condition) × Refuses code old reply new) ⊎ (condition × next old reply new)
 
 -- the axes that intervals spell
@@ -81,26 +103,29 @@ UpdatesCells name field box kind (fill cell) =
 UpdatesCells name field box kind (values cells) =
     Unless (length cells ≡ count box) 25 (Unless (All (Holds kind) cells) 26 (Writes name field box (map stored cells)))
 
--- 24 for what is no box of the coverage's domain
-abbrev pub UpdatesBox : List ℕ → Coverage → ℕ → Field → List Interval → Cells → Store → Reply → Store → Type 0
-UpdatesBox name c field f intervals cells =
-    Unless (SpellDomain intervals × IsBoxOf c.domain (axes_of intervals)) 24 (UpdatesCells name field (axes_of intervals) f.kind cells)
+-- 28 while the coverage is busy, and then 24 for what is no box of its domain
+abbrev pub UpdatesBox : Bool → List ℕ → Coverage → ℕ → Field → List Interval → Cells → Store → Reply → Store → Type 0
+UpdatesBox busy name c field f intervals cells =
+    Unless (busy ≡ false) 28
+    (Unless (SpellDomain intervals × IsBoxOf c.domain (axes_of intervals)) 24 (UpdatesCells name field (axes_of intervals) f.kind cells))
 
 -- 42 for a field that the coverage lacks
-abbrev pub UpdatesField : List ℕ → Coverage → List ℕ → List Interval → Cells → Store → Reply → Store → Type 0
-UpdatesField name c field intervals cells old reply new =
+abbrev pub UpdatesField : Bool → List ℕ → Coverage → List ℕ → List Interval → Cells → Store → Reply → Store → Type 0
+UpdatesField busy name c field intervals cells old reply new =
     MatchOption (field_place field c.fields) (Refuses 42 old reply new)
-    (λ k. (f : Field) × (slice_get c.fields k ≡ Some f) × UpdatesBox name c k f intervals cells old reply new)
+    (λ k. (f : Field) × (slice_get c.fields k ≡ Some f) × UpdatesBox busy name c k f intervals cells old reply new)
 
 -- UpdateCoverage: 20 for a name that is not there
-abbrev pub Updates : List ℕ → List ℕ → List Interval → Cells → Store → Reply → Store → Type 0
-Updates name field intervals cells old reply new =
+abbrev pub Updates : Bool → List ℕ → List ℕ → List Interval → Cells → Store → Reply → Store → Type 0
+Updates busy name field intervals cells old reply new =
     MatchOption (found name old) (Refuses 20 old reply new)
-    (λ c. UpdatesField name c field intervals cells old reply new)
+    (λ c. UpdatesField busy name c field intervals cells old reply new)
 
--- DeleteCoverage: 20 for a name that is not there; else the coverage with it is taken out
-abbrev pub Deletes : List ℕ → Store → Reply → Store → Type 0
-Deletes name old reply new = MatchOption (found name old) (Refuses 20 old reply new) (λ c. Does (deleted name old) reply new)
+-- DeleteCoverage: 20 for a name that is not there, 28 while its coverage is busy; else the coverage with it is taken out
+abbrev pub Deletes : Bool → List ℕ → Store → Reply → Store → Type 0
+Deletes busy name old reply new =
+    MatchOption (found name old) (Refuses 20 old reply new)
+    (λ c. Unless (busy ≡ false) 28 (λ before. Does (deleted name before)) old reply new)
 
 -- ListCoverages: each name on a line, in order of insertion
 abbrev pub line_of : Coverage → List ℕ
@@ -143,16 +168,92 @@ AnswersText (Err refusal) old reply new = Refuses (template_number refusal) old 
 abbrev pub AnswersTemplate : Template → Store → Reply → Store → Type 0
 AnswersTemplate template old reply new = AnswersText (expansion template old) old reply new
 
+-- ---- jobs
+
+-- a coverage is busy while a job that has units left names it
+abbrev pub is_busy : List ℕ → List Job → Bool
+is_busy name jobs = list_any (λ (j : Job). nat_lt 0 j.left && list_any (λ (n : List ℕ). bytes_eq n name) j.names) jobs
+
+-- the job with a number
+abbrev pub job_of : ℕ → List Job → Option Job
+job_of number jobs = find (λ (j : Job). nat_eq j.number number) jobs
+
+-- the jobs where the one with a number has so many units left
+abbrev pub with_left : ℕ → ℕ → List Job → List Job
+with_left number left [] = []
+with_left number left (j ∷ jobs) = cond (nat_eq j.number number) (record j { left = left } ∷ jobs) (j ∷ with_left number left jobs)
+
+-- the jobs without the one with a number
+abbrev pub without : ℕ → List Job → List Job
+without number [] = []
+without number (j ∷ jobs) = cond (nat_eq j.number number) jobs (j ∷ without number jobs)
+
+-- the number after one, within 64 bits
+abbrev pub number_after : ℕ → Option ℕ
+number_after n = cond (nat_lt n (2 ^ 64 - 1)) (Some (n + 1)) None
+
+-- the state with other jobs
+abbrev pub with_jobs : State → List Job → State
+with_jobs old jobs = record { store = old.store; jobs = jobs; next = old.next }
+
+-- A typed query becomes the last job, with the next number and any number of units from 1 to its combinations times two more than
+-- its work. Its answer is the one over the store as it is.
+abbrev pub Adds : TypedTree → ℕ → State → Reply → State → Type 0
+Adds q number old reply new =
+    (left : ℕ) × (1 ≤ left) × (left ≤ length q.combinations * (2 + query_work q.combinations))
+    × IsText reply (codes "job " ++ decimal number ++ codes " left " ++ decimal left ++ codes "\n")
+    × (new ≡ record {
+      store = old.store;
+      jobs = old.jobs ++ record { number = number; names = map (λ (c : Signature). c.name) q.coverages; left = left; answer = evaluated old.store (Ok q) } ∷ [];
+      next = number_after number;
+    })
+
+-- SubmitQuery: the refusals of the query's text, and then 72 where 64 jobs are held or no number is left
+abbrev pub SubmitsTyped : TypedAnswer → State → Reply → State → Type 0
+SubmitsTyped (Err code) old reply new = Refuses code old reply new
+SubmitsTyped (Ok q) old reply new =
+    MatchOption old.next (Refuses 72 old reply new) (λ number. Unless (length old.jobs < 64) 72 (Adds q number) old reply new)
+
+abbrev pub Submits : List ℕ → State → Reply → State → Type 0
+Submits query old reply new = (r : TypedAnswer) × TextTyped old.store query r × SubmitsTyped r old reply new
+
+-- StepJob: 70 for a number of no job; else the job has so many units less left, but not below 0
+abbrev pub StepsJob : ℕ → ℕ → State → Reply → State → Type 0
+StepsJob number units old reply new =
+    MatchOption (job_of number old.jobs) (Refuses 70 old reply new)
+    (λ j. IsText reply (codes "left " ++ decimal (j.left - units) ++ codes "\n") × (new ≡ with_jobs old (with_left number (j.left - units) old.jobs)))
+
+-- FetchJob: 70 for a number of no job, 71 for a job that has units left; else its answer, a fault included, and the job is dropped
+abbrev pub Fetches : ℕ → State → Reply → State → Type 0
+Fetches number old reply new =
+    MatchOption (job_of number old.jobs) (Refuses 70 old reply new)
+    (λ j. Unless (j.left ≡ 0) 71 (λ before told after. Tells j.answer told × (after ≡ with_jobs before (without number before.jobs))) old reply new)
+
+-- CancelJob: 70 for a number of no job; else the job is dropped
+abbrev pub Cancels : ℕ → State → Reply → State → Type 0
+Cancels number old reply new =
+    MatchOption (job_of number old.jobs) (Refuses 70 old reply new) (λ j. Does (with_jobs old (without number old.jobs)) reply new)
+
+-- ---- steps and runs
+
+-- a request on the coverages leaves the jobs and their numbers as they are
+abbrev pub OnStore : (Store → Reply → Store → Type 0) → State → Reply → State → Type 0
+OnStore step old reply new = step old.store reply new.store × (new.jobs ≡ old.jobs) × (new.next ≡ old.next)
+
 -- what the machine does where it has memory and room, and the disk does not fail
-abbrev pub Serves : Asks → Store → Reply → Store → Type 0
-Serves (insert_coverage name intervals fields) = Inserts name intervals fields
-Serves (update_coverage name field intervals cells) = Updates name field intervals cells
-Serves (delete_coverage name) = Deletes name
-Serves list_coverages = Lists
-Serves (describe_coverage name) = Describes name
-Serves (process_coverages query) = Answers query
-Serves (expand_template template) = Expands template
-Serves (process_template template) = AnswersTemplate template
+abbrev pub Serves : Asks → State → Reply → State → Type 0
+Serves (insert_coverage name intervals fields) old = OnStore (Inserts name intervals fields) old
+Serves (update_coverage name field intervals cells) old = OnStore (Updates (is_busy name old.jobs) name field intervals cells) old
+Serves (delete_coverage name) old = OnStore (Deletes (is_busy name old.jobs) name) old
+Serves list_coverages old = OnStore Lists old
+Serves (describe_coverage name) old = OnStore (Describes name) old
+Serves (process_coverages query) old = OnStore (Answers query) old
+Serves (submit_query query) old = Submits query old
+Serves (step_job number units) old = StepsJob number units old
+Serves (fetch_job number) old = Fetches number old
+Serves (cancel_job number) old = Cancels number old
+Serves (expand_template template) old = OnStore (Expands template) old
+Serves (process_template template) old = OnStore (AnswersTemplate template) old
 
 -- insertions and updates alone may want room
 abbrev pub MayWantRoom : Asks → Type 0
@@ -162,33 +263,37 @@ MayWantRoom (delete_coverage name) = ⊥
 MayWantRoom list_coverages = ⊥
 MayWantRoom (describe_coverage name) = ⊥
 MayWantRoom (process_coverages query) = ⊥
+MayWantRoom (submit_query query) = ⊥
+MayWantRoom (step_job number units) = ⊥
+MayWantRoom (fetch_job number) = ⊥
+MayWantRoom (cancel_job number) = ⊥
 MayWantRoom (expand_template template) = ⊥
 MayWantRoom (process_template template) = ⊥
 
 -- Want of memory, a disk fault or want of room, which change nothing. A disk fault is told only where the disk may have failed,
 -- and want of room only where it may be wanting.
-abbrev pub Fails : Type 0 → Type 0 → Store → Reply → Store → Type 0
+abbrev pub Fails : Type 0 → Type 0 → State → Reply → State → Type 0
 Fails failed wanting old reply new =
     Refuses 90 old reply new ⊎ (failed × Refuses 91 old reply new) ⊎ (wanting × Refuses 92 old reply new)
 
 -- a step: in place of any reply a failure may be told, with the state unchanged
-abbrev pub Step : Type 0 → Asks → Store → Reply → Store → Type 0
+abbrev pub Step : Type 0 → Asks → State → Reply → State → Type 0
 Step failed asks old reply new = Serves asks old reply new ⊎ Fails failed (MayWantRoom asks) old reply new
 
 -- the step of what the pairs of a message spell, or of their refusal
-abbrev pub SpelledStep : Type 0 → Result Asks RequestError → Store → Reply → Store → Type 0
+abbrev pub SpelledStep : Type 0 → Result Asks RequestError → State → Reply → State → Type 0
 SpelledStep failed (Ok asks) old reply new = Step failed asks old reply new
 SpelledStep failed (Err e) old reply new = Refuses (number_of e) old reply new ⊎ Refuses 90 old reply new
 
 -- the step of a message: its pairs are read, or it is refused
-abbrev pub MessageStep : Type 0 → Store → Result (List ℕ) ℕ → Reply → Store → Type 0
+abbrev pub MessageStep : Type 0 → State → Result (List ℕ) ℕ → Reply → State → Type 0
 MessageStep failed old (Ok pairs) reply new = SpelledStep failed (spelled pairs) old reply new
 MessageStep failed old (Err code) reply new = Refuses code old reply new ⊎ Refuses 90 old reply new
 
 -- The messages lead from one state to the other, and these bytes are their replies. Disk faults are among them only where the
 -- disk may have failed.
-abbrev pub Run : Type 0 → Store → List Item → List ℕ → Store → Type 0
+abbrev pub Run : Type 0 → State → List Item → List ℕ → State → Type 0
 Run failed old [] bytes new = (bytes ≡ []) × (new ≡ old)
 Run failed old (item ∷ items) bytes new =
-    (mid : Store) × (reply : Reply) × (later : List ℕ) × MessageStep failed old item.asked reply mid
+    (mid : State) × (reply : Reply) × (later : List ℕ) × MessageStep failed old item.asked reply mid
     × (bytes ≡ reply_bytes item.last item.bare reply ++ later) × Run failed mid items later new

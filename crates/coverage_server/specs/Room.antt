@@ -11,7 +11,7 @@ use Rattle.catalogue.specs.Bytes.{catalogue_bytes}
 use Rattle.raster_store.specs.Views.{reserve}
 use Rattle.raster_store.specs.Calls.{LacksRoomFor}
 use Rattle.kvp_front.specs.Contents.{Cells, fill, values}
-use Rattle.kvp_front.specs.Requests.{Asks, insert_coverage, update_coverage, delete_coverage, list_coverages, describe_coverage, process_coverages, expand_template, process_template}
+use Rattle.kvp_front.specs.Requests.{Asks, insert_coverage, update_coverage, delete_coverage, list_coverages, describe_coverage, process_coverages, submit_query, step_job, fetch_job, cancel_job, expand_template, process_template}
 use Rattle.coverage_server.specs.Machine.{axes_of}
 use Rattle.coverage_server.specs.Views.{ServerView, signatures_of}
 use Rattle.kvp_front.specs.declared.request.Interval.{Interval}
@@ -43,5 +43,9 @@ LacksRoom (delete_coverage name) v = ⊥
 LacksRoom list_coverages v = ⊥
 LacksRoom (describe_coverage name) v = ⊥
 LacksRoom (process_coverages query) v = ⊥
+LacksRoom (submit_query query) v = ⊥
+LacksRoom (step_job number units) v = ⊥
+LacksRoom (fetch_job number) v = ⊥
+LacksRoom (cancel_job number) v = ⊥
 LacksRoom (expand_template template) v = ⊥
 LacksRoom (process_template template) v = ⊥

@@ -1,6 +1,5 @@
 -- Sessions: a disk is opened, connections are served one after the other, and the disk is closed.
-use Rattle.std.specs.Prelude.{◌≡◌, ◌≢◌, ℕ, ◌≤◌, Bool, IsTrue, List, [], ◌∷◌, ◌++◌, Option, IfSome}
-use Rattle.std.specs.List.{flat_map}
+use Rattle.std.specs.Prelude.{◌≡◌, ◌≢◌, ℕ, ◌≤◌, Bool, IsTrue, List, [], ◌∷◌, Option}
 use Rattle.arr_core.specs.Stores.{Store}
 use Rattle.block_file.specs.Format.{IsHeader, HeaderTorn, KeepsHeader}
 use Rattle.block_file.specs.declared.header.State.TheVariants.{Open}
@@ -11,8 +10,10 @@ use Rattle.coverage_server.specs.declared.closing.CloseFault.{CloseFault}
 use Rattle.coverage_server.specs.declared.closing.CloseFault.TheVariants as closing
 use Rattle.coverage_server.specs.declared.server.ConnEnd.{ConnEnd}
 use Rattle.coverage_server.specs.Disk.{HoldsStore, IsWant, IsNoStore}
+use Rattle.coverage_server.specs.Machine.{State, begun}
+use Rattle.coverage_server.specs.Represents.{Represents}
 use Rattle.coverage_server.specs.Serves.{Ends, ServesConnection, TellsEnd, ends_of}
-use Rattle.coverage_server.specs.Views.{ServerView, IsSound, IsUnchanged}
+use Rattle.coverage_server.specs.Views.{ServerView, SessionView, IsSound, IsUnchanged}
 
 -- what a disk tells: the bytes that it holds, whether it is honest, and how many of its calls have failed
 pub record DiskView : Type 0 where
@@ -51,27 +52,28 @@ ends_all remaining read_failed contents write_failed (old ∷ olds) [] = []
 ends_all remaining read_failed contents write_failed (old ∷ olds) (new ∷ news) =
     ends_of remaining read_failed contents write_failed old.0 new.0 old.1 new.1 ∷ ends_all remaining read_failed contents write_failed olds news
 
--- Connections one after the other: each is served from the store that the one before left, so that the replies of all are those of
+-- Connections one after the other: each is served from the state that the one before left, so that the replies of all are those of
 -- one run of the machine. Each has its end, by a fault exactly where one came.
-abbrev pub ServesAll : Type 0 → List Ends → Store → Store → Type 0
+abbrev pub ServesAll : Type 0 → List Ends → State → State → Type 0
 ServesAll failed [] old new = new ≡ old
 ServesAll failed (e ∷ ends) old new =
-    (mid : Store) × (end : ConnEnd) × TellsEnd e end × ServesConnection failed e old mid end × ServesAll failed ends mid new
+    (mid : State) × (end : ConnEnd) × TellsEnd e end × ServesConnection failed e old mid end × ServesAll failed ends mid new
 
--- A session that ended by a close: a disk that held a store holds the next one.
+-- A session that ended by a close: it began with the store that the disk held, and the disk holds the store that it left.
 abbrev pub ServesSession : List Ends → DiskView → DiskView → Type 0
 ServesSession ends old new =
     IsTrue old.honest → (store : Store) → HoldsStore old.content store
-    → (next : Store) × HoldsStore new.content next × ServesAll (Rose old.failures new.failures) ends store next
+    → (next : State) × HoldsStore new.content next.store × ServesAll (Rose old.failures new.failures) ends (begun store) next
 
--- A session that did not end by a close: the server has the next store. A disk fault is told where the count of failures has risen
+-- A session that did not end by a close: the server represents the next state. A disk fault is told where the count of failures has risen
 -- since the opening, and where memory was wanting the header still is that of an open file.
-pub record ServesUnclosed (fault : CloseFault) (ends : List Ends) (old : DiskView) (server : ServerView) : Type 0 where
-  pub served : IsTrue old.honest → (store : Store) → HoldsStore old.content store → IsSound server × ServesAll (Rose old.failures server.failures) ends store server.store
-  pub disk_fault : fault ≡ closing.DiskFault → Rose old.failures server.failures
-  pub no_memory : fault ≡ closing.NoMemory → IsTrue old.honest → (blocks : ℕ) × IsHeader server.content Open blocks 0 0
-  pub honest : server.honest ≡ old.honest
-  pub no_fewer : old.failures ≤ server.failures
+pub record ServesUnclosed (fault : CloseFault) (ends : List Ends) (old : DiskView) (server : SessionView) : Type 0 where
+  pub served : IsTrue old.honest → (store : Store) → HoldsStore old.content store
+      → IsSound server.coverages × (next : State) × Represents server next × ServesAll (Rose old.failures server.coverages.failures) ends (begun store) next
+  pub disk_fault : fault ≡ closing.DiskFault → Rose old.failures server.coverages.failures
+  pub no_memory : fault ≡ closing.NoMemory → IsTrue old.honest → (blocks : ℕ) × IsHeader server.coverages.content Open blocks 0 0
+  pub honest : server.coverages.honest ≡ old.honest
+  pub no_fewer : old.failures ≤ server.coverages.failures
 
 -- sessions that were closed, one after the other on one disk: each is opened as the one before left it
 abbrev pub Sessions : List (List Ends) → DiskView → DiskView → Type 0
@@ -79,8 +81,15 @@ Sessions [] old new = new ≡ old
 Sessions (ends ∷ sessions) old new =
     (mid : DiskView) × ServesSession ends old mid × (mid.honest ≡ old.honest) × (old.failures ≤ mid.failures) × Sessions sessions mid new
 
--- Sessions compose: all of them together serve all connections in order, from a disk that held a store to one that holds the next,
--- by one run of the machine. A disk without a byte holds the store without coverages.
+-- What one machine does in sessions one after the other: each begins with the store that the one before left, and without jobs.
+abbrev pub ServesSessions : Type 0 → List (List Ends) → Store → Store → Type 0
+ServesSessions failed [] old new = new ≡ old
+ServesSessions failed (ends ∷ sessions) old new =
+    (next : State) × ServesAll failed ends (begun old) next × ServesSessions failed sessions next.store new
+
+-- Sessions compose: all of them together are what one machine does, from a disk that held a store to one that holds the next. A disk
+-- without a byte holds the store without coverages.
 pub record Composes : Type 0 where
-  pub all : (sessions : List (List Ends)) (old new : DiskView) → Sessions sessions old new → ServesSession (flat_map (λ (ends : List Ends). ends) sessions) old new
+  pub all : (sessions : List (List Ends)) (old new : DiskView) → Sessions sessions old new → IsTrue old.honest → (store : Store) → HoldsStore old.content store
+      → (next : Store) × HoldsStore new.content next × ServesSessions (Rose old.failures new.failures) sessions store next
   pub begin : HoldsStore [] []

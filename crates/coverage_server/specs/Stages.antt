@@ -1,7 +1,7 @@
 -- What the steps from the text of a query to its answer give. Want of memory and faults of the disk say nothing of it.
-use Rattle.std.specs.Prelude.{◌≡◌, ℕ, ◌≤◌, ℤ, List, map, Option, Result, Ok, Err, Vec, String, string_bytes, slice_get, option_and_then, ⊤}
+use Rattle.std.specs.Prelude.{◌≡◌, ℕ, ◌+◌, ◌*◌, ◌≤◌, ℤ, List, map, length, All, Result, Ok, Err, Vec, String, string_bytes, ⊤}
 use Rattle.std.specs.declared.alloc.Global.{Global}
-use Rattle.arr_core.specs.Stores.{Coverage, Store, found}
+use Rattle.arr_core.specs.Stores.{Store}
 use Rattle.wcps_text.specs.declared.token.Token.{Token}
 use Rattle.wcps_text.specs.declared.tree.Query.{Query}
 use Rattle.wcps_text.specs.declared.error.LexError.{LexError}
@@ -16,13 +16,22 @@ use Rattle.wcps_types.specs.declared.shared.SharedQuery.{SharedQuery}
 use Rattle.wcps_types.specs.Refusals.{number_of as type_number}
 use Rattle.wcps_types.specs.Typed.{TypedTree}
 use Rattle.wcps_types.specs.SharedQueries.{shared_query_view as typed_view}
-use Rattle.wcps_mean.specs.declared.cell.PointFault.{PointFault}
-use Rattle.wcps_mean.specs.declared.item.Item.{Item}
-use Rattle.wcps_mean.specs.declared.answer.EvalError.{EvalError}
-use Rattle.wcps_mean.specs.declared.answer.EvalError.TheVariants as evaluation
+use Rattle.wcps_types.specs.Work.{query_work}
+use Rattle.wcps_mean.specs.declared.cells.CellError.{CellError}
 use Rattle.wcps_mean.specs.declared.cells.CellError.TheVariants as cell
-use Rattle.wcps_mean.specs.Faults.{number_of as fault_number}
-use Rattle.coverage_server.specs.Asking.{QueryAnswer, token_number, TokensTyped, TextTyped, number_in}
+use Rattle.wcps_mean.specs.Answer.{answer}
+use Rattle.job_desk.specs.declared.error.FetchError.{FetchError}
+use Rattle.job_desk.specs.declared.error.FetchError.TheVariants as fetching
+use Rattle.job_desk.specs.declared.error.StepError.{StepError}
+use Rattle.job_desk.specs.declared.error.StepError.TheVariants as stepping
+use Rattle.job_desk.specs.declared.error.SubmitError.{SubmitError}
+use Rattle.job_desk.specs.declared.error.SubmitError.TheVariants as submitting
+use Rattle.plan_ir.specs.Plans.{PlanTree}
+use Rattle.plan_ir.specs.Placed.{IsPlan}
+use Rattle.plan_ir.specs.Planned.{planned}
+use Rattle.plan_ir.specs.Units.{units}
+use Rattle.coverage_server.specs.Asking.{QueryAnswer, token_number, TokensTyped, TextTyped}
+use Rattle.coverage_server.specs.Tiles.{IsHeld}
 use Rattle.coverage_server.specs.declared.arguments.Refusal.{Refusal}
 use Rattle.coverage_server.specs.declared.arguments.Refusal.TheVariants.{Numbered, NoMemory, DiskFault, NoRoom, Damaged}
 use Rattle.disk_face.specs.Disk.{Rose}
@@ -55,23 +64,20 @@ GivesTyped checked (Err DiskFault) = ⊥
 GivesTyped checked (Err NoRoom) = ⊥
 GivesTyped checked (Err Damaged) = ⊥
 
+-- a typed query of a text over a store, which has the query's coverages; there is some combination of them
+pub record IsTypedText (store : Store) (text : List ℕ) (q : TypedTree) : Type 0 where
+  pub typed : TextTyped store text (Ok q)
+  pub held : All (IsHeld store) q.coverages
+  pub some : 1 ≤ length q.combinations
+
 -- the typed query of a text over a store, or its refusal
 abbrev pub GivesText : Store → List ℕ → Result SharedQuery Refusal → Type 0
-GivesText store text (Ok q) = TextTyped store text (Ok (typed_view q))
+GivesText store text (Ok q) = IsTypedText store text (typed_view q)
 GivesText store text (Err (Numbered code)) = TextTyped store text (Err code)
 GivesText store text (Err NoMemory) = ⊤
 GivesText store text (Err DiskFault) = ⊥
 GivesText store text (Err NoRoom) = ⊥
 GivesText store text (Err Damaged) = ⊥
-
--- the items of an answer, or its fault
-abbrev pub GivesItems : Result (List Item) PointFault → Result (Vec Item Global) Refusal → Type 0
-GivesItems answered (Ok items) = answered ≡ Ok items.items
-GivesItems answered (Err (Numbered code)) = (fault : PointFault) × (answered ≡ Err fault) × (code ≡ fault_number fault)
-GivesItems answered (Err NoMemory) = ⊤
-GivesItems answered (Err DiskFault) = ⊤
-GivesItems answered (Err NoRoom) = ⊤
-GivesItems answered (Err Damaged) = ⊤
 
 -- the text of an answer, or its number
 abbrev pub GivesValues : QueryAnswer → Result (String Global) Refusal → Type 0
@@ -82,13 +88,13 @@ GivesValues answered (Err DiskFault) = ⊤
 GivesValues answered (Err NoRoom) = ⊤
 GivesValues answered (Err Damaged) = ⊤
 
--- the coverage of the store that has the name at a place
-abbrev pub named_in : Store → List (List ℕ) → ℕ → Option Coverage
-named_in store names n = option_and_then (λ (name : List ℕ). found name store) (slice_get names n)
-
--- the cells of coverages whose names are listed
-abbrev pub cell_at : Store → List (List ℕ) → ℕ → ℕ → List ℤ → ℤ
-cell_at store names n field point = number_in (named_in store names n) field point
+-- the plan of a typed query reads the query's coverages, gives its answer over any cells, and has few units
+pub record IsPlanOf (q : TypedTree) (plan : PlanTree) : Type 0 where
+  pub placed : IsPlan plan
+  pub coverages : plan.coverages ≡ q.coverages
+  pub planned : (s : ℕ → ℕ → List ℤ → ℤ) → planned s plan ≡ answer s q
+  pub units : units plan ≤ length q.combinations * (2 + query_work q.combinations)
+  pub some : 1 ≤ length q.combinations
 
 -- A failure while a query is answered: a disk fault is told only where the disk's count of failures rose, damage never on a
 -- sound disk, and want of room never.
@@ -99,9 +105,22 @@ FailsReading old new DiskFault = Rose old.failures new.failures
 FailsReading old new NoRoom = ⊥
 FailsReading old new Damaged = IsSound old → ⊥
 
--- how it is told that the items of an answer are not known
-abbrev pub error_refusal : EvalError → Refusal
-error_refusal (evaluation.Fault fault) = Numbered (fault_number fault)
-error_refusal (evaluation.Cells cell.NoMemory) = NoMemory
-error_refusal (evaluation.Cells cell.DiskFault) = DiskFault
-error_refusal (evaluation.Cells cell.Damaged) = Damaged
+-- how it is told that cells are not known
+abbrev pub cell_refusal : CellError → Refusal
+cell_refusal cell.NoMemory = NoMemory
+cell_refusal cell.DiskFault = DiskFault
+cell_refusal cell.Damaged = Damaged
+
+-- how it is told why a call of the desk was refused
+abbrev pub submit_refusal : SubmitError → Refusal
+submit_refusal submitting.TooManyJobs = Numbered 72
+submit_refusal submitting.NoMemory = NoMemory
+
+abbrev pub step_refusal : StepError → Refusal
+step_refusal stepping.NoSuchJob = Numbered 70
+step_refusal (stepping.Cells e) = cell_refusal e
+
+abbrev pub fetch_refusal : FetchError → Refusal
+fetch_refusal fetching.NoSuchJob = Numbered 70
+fetch_refusal fetching.NotReady = Numbered 71
+fetch_refusal fetching.NoMemory = NoMemory

@@ -1,8 +1,9 @@
--- A server as callers see it: its store, and the disk below.
+-- A server as callers see it: its store, the disk below, and its jobs.
 use Rattle.std.specs.Prelude.{◌≡◌, ℕ, ◌≤◌, Bool, IsTrue, List, map, length}
 use Rattle.arr_core.specs.declared.signature.Signature.{Signature}
 use Rattle.arr_core.specs.Stores.{Store}
 use Rattle.catalogue.specs.Bytes.{catalogue_bytes}
+use Rattle.job_desk.specs.Desks.{DeskView}
 use Rattle.raster_store.specs.Views.{Index, AreIntact, reserve}
 use Rattle.raster_store.specs.Calls.{signature_of, AreSameSignatures}
 
@@ -16,6 +17,14 @@ pub record ServerView : Type 0 where
   pub honest : Bool
   pub failures : ℕ
   pub fetched : ℕ
+
+-- A server in a session: its coverages, and its jobs.
+pub record SessionView : Type 0 where
+  pub coverages : ServerView
+  pub desk : DeskView
+
+abbrev pub session : ServerView → DeskView → SessionView
+session coverages desk = record { coverages = coverages; desk = desk }
 
 -- the signatures of a store
 abbrev pub signatures_of : Store → List Signature

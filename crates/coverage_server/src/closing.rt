@@ -113,25 +113,25 @@ impl<D: Disk> Server<D> {
     /// Writes the metadata into free blocks, and then the header of a closed file, so that the disk holds the store,
     /// and gives the disk. Refused for memory, or where the disk has counted a failure, with the server.
     pub fn close(self) -> Result<D, NotClosed<D>>
-        ensures held { IfOk result (λ disk. IsSound self → HoldsStore (D.content disk) self.store) }
-        ensures honest { IfOk result (λ disk. D.honest disk ≡ self.honest) }
-        ensures closed_no_fewer { IfOk result (λ disk. self.failures ≤ D.failures disk) }
-        ensures refused { IfErr result (λ refused. IsNotClosed refused.fault self refused.server) }
+        ensures held { IfOk result (λ disk. IsSound self.coverages → HoldsStore (D.content disk) self.coverages.store) }
+        ensures honest { IfOk result (λ disk. D.honest disk ≡ self.coverages.honest) }
+        ensures closed_no_fewer { IfOk result (λ disk. self.coverages.failures ≤ D.failures disk) }
+        ensures refused { IfErr result (λ refused. IsNotClosed refused.fault self.coverages refused.server.coverages) }
+        ensures desk { IfErr result (λ refused. refused.server.desk ≡ self.desk) }
     {
-        let Server { mut cells } = self;
+        let Server { mut cells, desk } = self;
         let alloc = cells.alloc;
         match write_closed(alloc, &mut cells.coverages) {
             Ok(()) => {
                 let AskedCells {
                     alloc: _,
                     coverages,
-                    names: _,
-                    tiles: _,
+                    asked: _,
                 } = cells;
                 Ok(coverages.into_disk())
             }
             Err(fault) => Err(NotClosed {
-                server: Server { cells },
+                server: Server { cells, desk },
                 fault,
             }),
         }

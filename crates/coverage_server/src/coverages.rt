@@ -1,7 +1,7 @@
 //! The coverages of a disk: their catalogue, and their cells in tiles.
-ghost use Rattle.std.specs.Prelude.{◌≡◌, ◌/◌, ◌<◌, ◌≤◌, map, length, IsSomeAnd, IfOk, IfErr, OnOk, OnErr, IsErrOf, IsTrue};
+ghost use Rattle.std.specs.Prelude.{◌≡◌, ◌/◌, ◌<◌, ◌≤◌, map, length, true, false, IsSomeAnd, IfOk, IfErr, OnOk, OnErr, IsErrOf, IsTrue};
 ghost use Rattle.arr_core.specs.Domains.{points};
-ghost use Rattle.arr_core.specs.Stores.{found, inserted, deleted, updated, value_at};
+ghost use Rattle.arr_core.specs.Stores.{found, inserted, deleted, updated};
 ghost use Rattle.arr_core.specs.Tiles.{tile_boxes};
 ghost use Rattle.block_file.specs.Format.{IsHeader, HeaderTorn, KeepsHeader, Closes};
 ghost use Rattle.catalogue.specs.Bytes.{catalogue_bytes};
@@ -11,6 +11,8 @@ ghost use Rattle.catalogue.specs.Signatures.{IsCatalogue, MayInsert};
 ghost use Rattle.tile_store.specs.Faults.{FaultCounts};
 ghost use Rattle.tile_store.specs.Stored.{tile_box};
 ghost use Rattle.raster_store.specs.Calls.{HasField, index_of};
+ghost use Rattle.raster_store.specs.Views.{Fetched};
+ghost use Rattle.coverage_server.specs.Tiles.{AreNumbers, IsHeld};
 ghost use Rattle.disk_face.specs.Disk.{Counts, Rose};
 ghost use Rattle.kvp_front.specs.Contents.{content_view};
 ghost use Rattle.coverage_server.specs.Closing.{bytes_written, IsWritten, close_fault};
@@ -269,21 +271,46 @@ impl<D: Disk> Coverages<D> {
         }
     }
 
-    /// The numbers of a field, by its place, in a tile of the coverage with a name, by its number.
-    pub fn fetch_tile(&mut self, name: &Name, field: usize, tile: u64) -> Result<Vec<i64>, Fault>
-        requires field { HasField name.now field self.old.store }
-        requires tile { IsSomeAnd (found name.now self.old.store) (λ c. tile < length (tile_boxes c.domain)) }
-        ensures value { IfOk result (λ cells. IsTrue self.old.honest → IsSomeAnd (found name.now self.old.store) (λ c. cells.items ≡ map (value_at c field) (points (tile_box c.domain tile)))) }
-        ensures counted { IfOk result (λ cells. IsSomeAnd (found name.now self.old.store) (λ c. length cells.items ≡ length (points (tile_box c.domain tile)))) }
-        ensures damaged { IsErrOf result Fault.Damaged → IsSound self.old → ⊥ }
+    /// Whether the coverage with a signature's name has its domain, and a field at a place.
+    fn is_held(&self, asked: &Signature, field: usize) -> bool
+        ensures yes { result ≡ true → IsSomeAnd (found asked.now.name self.now.store) (λ c. (c.domain ≡ asked.now.domain) × (field < length c.fields)) }
+        ensures no { result ≡ false → field < length asked.now.fields → IsHeld self.now.store asked.now → ⊥ }
+    {
+        match self.signature(&asked.name) {
+            None => false,
+            Some(signature) => {
+                signature.domain.is_same(&asked.domain) && field < signature.fields.len()
+            }
+        }
+    }
+
+    /// Makes `numbers` those of a field, by its place, in a tile, by its number, of the coverage with a signature. Refused
+    /// as damaged also where there is no such coverage.
+    pub fn fetch_tile(
+        &mut self,
+        asked: &Signature,
+        field: usize,
+        tile: u64,
+        numbers: &mut Vec<i64>,
+    ) -> Result<(), Fault>
+        requires field { field < length asked.now.fields }
+        requires tile { tile < length (tile_boxes asked.now.domain) }
+        ensures value { OnOk result (IsTrue self.old.honest → AreNumbers asked.now field tile self.old.store numbers.new.items) }
+        ensures counted { OnOk result (length numbers.new.items ≡ length (points (tile_box asked.now.domain tile))) }
+        ensures damaged { IsErrOf result Fault.Damaged → IsSound self.old → IsHeld self.old.store asked.now → ⊥ }
         ensures no_room { IsErrOf result Fault.NoRoom → ⊥ }
         ensures still { still_of self.new ≡ still_of self.old }
+        ensures fetched { OnOk result (Fetched 1 self.old.fetched self.new.fetched) }
+        ensures rises { self.old.fetched ≤ self.new.fetched }
         ensures counts { FaultCounts result self.old.failures self.new.failures }
     {
-        match self.cells.fetch_tile(name, field, tile) {
-            Ok(numbers) => Ok(numbers),
-            Err(fault) => Err(fault),
+        let _fetched = self.cells.fetched();
+        if !self.is_held(asked, field) {
+            return Err(Fault::Damaged);
         }
+        let cells = self.cells.fetch_tile(&asked.name, field, tile)?;
+        *numbers = cells;
+        Ok(())
     }
 
     /// The first part of the metadata: the catalogue behind its length.
@@ -371,7 +398,7 @@ impl<D: Disk> Coverages<D> {
 }
 
 /// The same signature again.
-fn copy(alloc: Global, signature: &Signature) -> Result<Signature, AllocError>
+pub fn copy(alloc: Global, signature: &Signature) -> Result<Signature, AllocError>
     ensures { IfOk result (λ s. s ≡ signature.now) }
 {
     let name = signature.name.copy(alloc)?;

@@ -7,6 +7,7 @@ mod cells;
 mod closing;
 mod coverages;
 mod describing;
+mod jobs;
 mod laws;
 mod opening;
 mod query;

@@ -23,6 +23,7 @@ use arr_core::Signature;
 use block_file::{BlockFile, Blocks, CHAIN_BYTES, Opened, Refused, State};
 use catalogue::Catalogue;
 use disk_face::Disk;
+use job_desk::JobDesk;
 use metadata::{Metadata, ReadError, read_metadata};
 use page_pool::PagePool;
 use raster_store::{Fault, RasterStore};
@@ -267,12 +268,13 @@ impl<D: Disk> Server<D> {
     /// twice, is the header or one of the metadata's, or lies past the end. Want of memory and a fault of the disk may
     /// come at any time. Nothing is written before the metadata is accepted, and then the header alone.
     pub fn open(alloc: Global, disk: D) -> Result<Server<D>, NotOpened<D>>
-        ensures listed { IfOk result (λ server. IsTrue (D.honest disk) → ListsStore (D.content disk) server.store server.indexes) }
-        ensures store { IfOk result (λ server. IsTrue (D.honest disk) → (store : Store) → HoldsStore (D.content disk) store → server.store ≡ store) }
-        ensures sound { IfOk result (λ server. IsTrue (D.honest disk) → (store : Store) → HoldsStore (D.content disk) store → IsSound server) }
-        ensures header { IfOk result (λ server. IsTrue (D.honest disk) → IsHeader server.content State.Open (length server.content / 4096) 0 0) }
-        ensures honest { IfOk result (λ server. server.honest ≡ D.honest disk) }
-        ensures failures { IfOk result (λ server. server.failures ≡ D.failures disk) }
+        ensures listed { IfOk result (λ server. IsTrue (D.honest disk) → ListsStore (D.content disk) server.coverages.store server.coverages.indexes) }
+        ensures store { IfOk result (λ server. IsTrue (D.honest disk) → (store : Store) → HoldsStore (D.content disk) store → server.coverages.store ≡ store) }
+        ensures sound { IfOk result (λ server. IsTrue (D.honest disk) → (store : Store) → HoldsStore (D.content disk) store → IsSound server.coverages) }
+        ensures desk { IfOk result (λ server. server.desk ≡ record { jobs = []; next = Some 1 }) }
+        ensures header { IfOk result (λ server. IsTrue (D.honest disk) → IsHeader server.coverages.content State.Open (length server.coverages.content / 4096) 0 0) }
+        ensures honest { IfOk result (λ server. server.coverages.honest ≡ D.honest disk) }
+        ensures failures { IfOk result (λ server. server.coverages.failures ≡ D.failures disk) }
         ensures refused { IfErr result (λ refused. IsNotOpened refused.fault (disk_view D.content D.honest D.failures disk) (disk_view D.content D.honest D.failures refused.disk)) }
     {
         let opened = match BlockFile::open(alloc, disk) {
@@ -290,12 +292,8 @@ impl<D: Disk> Server<D> {
         };
         match coverages.write_open() {
             Ok(()) => Ok(Server {
-                cells: AskedCells {
-                    alloc,
-                    coverages,
-                    names: Vec::new(alloc),
-                    tiles: Vec::new(alloc),
-                },
+                cells: AskedCells::new(alloc, coverages),
+                desk: JobDesk::new(alloc),
             }),
             Err(_) => Err(NotOpened {
                 disk: coverages.into_disk(),

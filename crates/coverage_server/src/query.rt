@@ -1,15 +1,14 @@
 //! The answers of queries over the coverages.
-ghost use Rattle.std.specs.Prelude.{◌≡◌, ◌≤◌, ℕ, ℤ, List, Ok, IfOk, IfErr, map};
+ghost use Rattle.std.specs.Prelude.{◌≡◌, ◌≤◌, All, Ok, IfOk, IfErr, length, map};
 ghost use Rattle.arr_core.specs.declared.signature.Signature.{Signature};
 ghost use Rattle.wcps_text.specs.Token.{tok};
 ghost use Rattle.wcps_text.specs.Tree.{query_view};
 ghost use Rattle.wcps_types.specs.Queries.{typ_query};
 ghost use Rattle.wcps_types.specs.SharedQueries.{shared_query_view as typed_view};
-ghost use Rattle.wcps_mean.specs.Answer.{answer};
 ghost use Rattle.plan_ir.specs.Plans.{plan_view};
-ghost use Rattle.plan_ir.specs.Planned.{planned};
-ghost use Rattle.coverage_server.specs.Asking.{cells_of, evaluated};
-ghost use Rattle.coverage_server.specs.Stages.{GivesTokens, GivesQuery, GivesTyped, GivesText, GivesItems, GivesValues, FailsReading, error_refusal};
+ghost use Rattle.coverage_server.specs.Asking.{evaluated};
+ghost use Rattle.coverage_server.specs.Stages.{GivesTokens, GivesQuery, GivesTyped, GivesText, GivesValues, FailsReading, IsPlanOf};
+ghost use Rattle.coverage_server.specs.Tiles.{IsHeld};
 ghost use Rattle.coverage_server.specs.Machine.{Answers};
 ghost use Rattle.coverage_server.specs.Answered.{Answered, IsAnswer};
 ghost use Rattle.coverage_server.specs.Views.{IsSound, still_of};
@@ -18,13 +17,14 @@ use crate::arguments::Refusal;
 use crate::cells::AskedCells;
 use crate::coverages::Coverages;
 use arr_core::{Name, Signature};
-use csv_out::csv_text;
 use disk_face::Disk;
 use http_front::{Reply, refusals};
-use plan_ir::{Plan, run};
+use job_desk::{Answer, answer_of, run_down};
+use plan_ir::Plan;
 use plan_rewrite::{lower, rewrite};
 use std::alloc::{AllocError, Global};
-use wcps_mean::{CellError, EvalError, Item};
+use tile_exec::Exec;
+use wcps_mean::CellError;
 use wcps_parse::{ParseError, parse};
 use wcps_text::{LexError, Query, Token, lex};
 use wcps_types::{CheckError, SharedQuery, check_shared};
@@ -68,7 +68,7 @@ fn typed_of(alloc: Global, signatures: &[Signature], query: &Query) -> Result<Sh
 }
 
 /// The names of a query's coverages.
-fn names_of(alloc: Global, coverages: &[Signature]) -> Result<Vec<Name>, AllocError>
+pub fn names_of(alloc: Global, coverages: &[Signature]) -> Result<Vec<Name>, AllocError>
     ensures { IfOk result (λ names. names.items ≡ map (λ (c : Signature). c.name) coverages.now) }
 {
     let mut names = Vec::new(alloc);
@@ -79,43 +79,28 @@ fn names_of(alloc: Global, coverages: &[Signature]) -> Result<Vec<Name>, AllocEr
     Ok(names)
 }
 
-/// Why the items of an answer are not known.
-fn error_refusal(error: EvalError) -> Refusal
-    ensures { result ≡ error_refusal error }
-{
-    match error {
-        EvalError::Fault(fault) => Refusal::Numbered(fault.number()),
-        EvalError::Cells(CellError::NoMemory) => Refusal::NoMemory,
-        EvalError::Cells(CellError::DiskFault) => Refusal::DiskFault,
-        EvalError::Cells(CellError::Damaged) => Refusal::Damaged,
+impl From<CellError> for Refusal {
+    ghost use Rattle.coverage_server.specs.Stages.{cell_refusal};
+
+    ghost from_gives = { λ e r. r ≡ cell_refusal e };
+
+    fn from(error: CellError) -> Refusal {
+        match error {
+            CellError::NoMemory => Refusal::NoMemory,
+            CellError::DiskFault => Refusal::DiskFault,
+            CellError::Damaged => Refusal::Damaged,
+        }
     }
 }
 
 /// The plan of a typed query, as it is run.
-fn plan_of(alloc: Global, typed: &SharedQuery) -> Result<Plan, AllocError>
-    ensures { IfOk result (λ p. (s : ℕ → ℕ → List ℤ → ℤ) → planned s (plan_view p) ≡ answer s (typed_view typed.now)) }
+pub fn plan_of(alloc: Global, typed: &SharedQuery) -> Result<Plan, AllocError>
+    requires { 1 ≤ length (typed_view typed.now).combinations }
+    ensures { IfOk result (λ p. IsPlanOf (typed_view typed.now) (plan_view p)) }
 {
     let lowered = lower(alloc, typed)?;
     let plan = rewrite(alloc, lowered)?;
     Ok(plan)
-}
-
-/// The items of the answer, by a run of the query's plan.
-fn items_of<D: Disk>(cells: &mut AskedCells<D>, typed: &SharedQuery) -> Result<Vec<Item>, Refusal>
-    ensures items { IsSound cells.old.coverages → GivesItems (answer (cells_of cells.old.coverages.store typed.now.coverages.items) (typed_view typed.now)) result }
-    ensures faults { IfErr result (FailsReading cells.old.coverages cells.new.coverages) }
-    ensures still { still_of cells.new.coverages ≡ still_of cells.old.coverages }
-    ensures no_fewer { cells.old.coverages.failures ≤ cells.new.coverages.failures }
-{
-    let alloc = cells.alloc;
-    let names = names_of(alloc, typed.coverages())?;
-    cells.names = names;
-    cells.tiles.clear();
-    let plan = plan_of(alloc, typed)?;
-    match run(alloc, cells, &plan) {
-        Ok(items) => Ok(items),
-        Err(error) => Err(error_refusal(error)),
-    }
 }
 
 /// The typed query of a text over the coverages, or its refusal. Its refusals come in this order: those of its length, of
@@ -137,17 +122,25 @@ pub fn typed_text<D: Disk>(
     Ok(typed)
 }
 
-/// The comma-separated values of a typed query, or the refusal by its evaluation.
+/// The comma-separated values of a typed query, or the refusal by its evaluation: its plan is done a unit after the other.
 fn values_of<D: Disk>(cells: &mut AskedCells<D>, typed: &SharedQuery) -> Result<String, Refusal>
+    requires held { All (IsHeld cells.old.coverages.store) typed.now.coverages.items }
+    requires some { 1 ≤ length (typed_view typed.now).combinations }
     ensures values { IsSound cells.old.coverages → GivesValues (evaluated cells.old.coverages.store (Ok (typed_view typed.now))) result }
     ensures faults { IfErr result (FailsReading cells.old.coverages cells.new.coverages) }
     ensures still { still_of cells.new.coverages ≡ still_of cells.old.coverages }
     ensures no_fewer { cells.old.coverages.failures ≤ cells.new.coverages.failures }
 {
     let alloc = cells.alloc;
-    let items = items_of(cells, typed)?;
-    let text = csv_text(alloc, &items)?;
-    Ok(text)
+    let plan = plan_of(alloc, typed)?;
+    let mut exec = Exec::new(alloc, plan)?;
+    cells.ask(exec.coverages())?;
+    run_down(&mut exec, cells, 0)?;
+    let answer = answer_of(alloc, &exec)?;
+    match answer {
+        Answer::Text(text) => Ok(text),
+        Answer::Refused(fault) => Err(Refusal::Numbered(fault.number())),
+    }
 }
 
 /// The answer to a query, as comma-separated values: the query is typed, then evaluated.

@@ -5,8 +5,9 @@ ghost use Rattle.disk_face.specs.Disk.{Rose};
 ghost use Rattle.kvp_front.specs.Contents.{content_view};
 ghost use Rattle.kvp_front.specs.Requests.{asks};
 ghost use Rattle.http_front.specs.Stream.{Shows};
-ghost use Rattle.coverage_server.specs.Machine.{Inserts, Updates, Deletes, Lists, Describes, Serves, MessageStep, axes_of};
-ghost use Rattle.coverage_server.specs.Answered.{Answered, IsAnswer, Steps};
+ghost use Rattle.coverage_server.specs.Machine.{Inserts, Updates, Deletes, Lists, Describes, Serves, MessageStep, State, axes_of};
+ghost use Rattle.coverage_server.specs.Answered.{Answered, AnsweredIn, IsAnswer, Steps};
+ghost use Rattle.coverage_server.specs.Represents.{Represents};
 ghost use Rattle.coverage_server.specs.Room.{LacksRoom, LacksRoomToInsert, LacksRoomToUpdate};
 ghost use Rattle.coverage_server.specs.Serves.{ServesConnection, TellsEnd, ends_of};
 ghost use Rattle.catalogue.specs.Signatures.{IsCatalogue};
@@ -16,11 +17,13 @@ use crate::arguments::{Refusal, copied_fields, domain_of};
 use crate::cells::AskedCells;
 use crate::coverages::Coverages;
 use crate::describing::description;
+use crate::jobs::{cancel_job, fetch_job, step_job, submit_query};
 use crate::query::process;
 use crate::templates::{expand_template, process_template};
 use arr_core::{Name, Signature};
 use disk_face::Disk;
 use http_front::{Conn, Next, Reply, WriteFault, refusals};
+use job_desk::JobDesk;
 use kvp_front::{Insertion, Request, Update, read_request};
 use std::alloc::Global;
 use std::marker::Model;
@@ -34,18 +37,23 @@ pub enum ConnEnd {
     WriteFault,
 }
 
-/// A server of the coverages of a disk.
+/// A server of the coverages of a disk, and its jobs.
 #[derive(Drop)]
 pub struct Server<D: Disk> {
     pub(crate) cells: AskedCells<D>,
+    pub(crate) desk: JobDesk,
 }
 
 impl<D: Disk> Model for Server<D> {
-    ghost use Rattle.coverage_server.specs.Views.{ServerView};
+    ghost use Rattle.std.specs.Coded.{codes};
+    ghost use Rattle.coverage_server.specs.Views.{SessionView, session};
+    ghost use Rattle.job_desk.specs.contracts.job.Job as job;
 
-    ghost Value = { ServerView };
+    ghost Value = { SessionView };
 
-    ghost view = { λ s. s.cells.coverages };
+    ghost coded = { Prim.hlevel (codes, job.the_row.coded) };
+
+    ghost view = { λ s. session s.cells.coverages s.desk };
 }
 
 /// Adds a coverage.
@@ -78,13 +86,14 @@ fn insert<D: Disk>(
     Ok(Reply::Text(reply))
 }
 
-/// Writes new cells into a box of a field.
+/// Writes new cells into a box of a field, unless the coverage is busy.
 fn update<D: Disk>(
     alloc: Global,
     coverages: &mut Coverages<D>,
     update: &Update,
+    busy: bool,
 ) -> Result<Reply, Refusal>
-    ensures answered { Answered (Updates update.now.coverage update.now.field update.now.intervals.items (content_view update.now.content)) (LacksRoomToUpdate update.now.coverage update.now.field update.now.intervals.items (content_view update.now.content) coverages.old) coverages.old coverages.new result }
+    ensures answered { Answered (Updates busy update.now.coverage update.now.field update.now.intervals.items (content_view update.now.content)) (LacksRoomToUpdate update.now.coverage update.now.field update.now.intervals.items (content_view update.now.content) coverages.old) coverages.old coverages.new result }
     ensures answer { IfOk result IsAnswer }
     ensures unchanged { OnErr result (IsUnchanged coverages.old coverages.new) }
     ensures sound { IsSound coverages.old → IsSound coverages.new }
@@ -98,19 +107,23 @@ fn update<D: Disk>(
     let Some(field) = signature.fields.place_of(update.field.as_str()) else {
         return Err(Refusal::Numbered(refusals::NO_SUCH_FIELD));
     };
+    if busy {
+        return Err(Refusal::Numbered(refusals::BUSY));
+    }
     let area = domain_of(alloc, &update.intervals, refusals::OUTSIDE_DOMAIN)?;
     let reply = String::from_str(alloc, "ok\n")?;
     coverages.write(&update.coverage, field, &area, &update.content)?;
     Ok(Reply::Text(reply))
 }
 
-/// Takes a coverage out.
+/// Takes a coverage out, unless it is busy.
 fn delete<D: Disk>(
     alloc: Global,
     coverages: &mut Coverages<D>,
     name: &Name,
+    busy: bool,
 ) -> Result<Reply, Refusal>
-    ensures answered { Answered (Deletes name.now) ⊥ coverages.old coverages.new result }
+    ensures answered { Answered (Deletes busy name.now) ⊥ coverages.old coverages.new result }
     ensures answer { IfOk result IsAnswer }
     ensures unchanged { OnErr result (IsUnchanged coverages.old coverages.new) }
     ensures sound { IsSound coverages.old → IsSound coverages.new }
@@ -121,6 +134,9 @@ fn delete<D: Disk>(
     let Some(_) = coverages.signature(name) else {
         return Err(Refusal::Numbered(refusals::NO_SUCH_COVERAGE));
     };
+    if busy {
+        return Err(Refusal::Numbered(refusals::BUSY));
+    }
     let reply = String::from_str(alloc, "ok\n")?;
     coverages.remove(name);
     Ok(Reply::Text(reply))
@@ -156,24 +172,38 @@ fn list<D: Disk>(alloc: Global, coverages: &Coverages<D>) -> Result<Reply, Refus
 impl<D: Disk> Server<D> {
     /// What a request is answered, or why it is refused.
     fn answered(&mut self, request: &Request) -> Result<Reply, Refusal>
-        ensures answered { Answered (Serves (asks request.now)) (LacksRoom (asks request.now) self.old) self.old self.new result }
+        ensures answered { AnsweredIn (Serves (asks request.now)) (LacksRoom (asks request.now) self.old.coverages) self.old self.new result }
         ensures answer { IfOk result IsAnswer }
-        ensures unchanged { OnErr result (IsUnchanged self.old self.new) }
-        ensures sound { IsSound self.old → IsSound self.new }
-        ensures header { KeepsHeader self.old.content self.new.content }
-        ensures honest { self.new.honest ≡ self.old.honest }
-        ensures no_fewer { self.old.failures ≤ self.new.failures }
+        ensures unchanged { OnErr result (IsUnchanged self.old.coverages self.new.coverages) }
+        ensures sound { IsSound self.old.coverages → IsSound self.new.coverages }
+        ensures header { KeepsHeader self.old.coverages.content self.new.coverages.content }
+        ensures honest { self.new.coverages.honest ≡ self.old.coverages.honest }
+        ensures no_fewer { self.old.coverages.failures ≤ self.new.coverages.failures }
     {
         let alloc = self.cells.alloc;
         match request {
             Request::InsertCoverage(insertion) => {
                 insert(alloc, &mut self.cells.coverages, insertion)
             }
-            Request::UpdateCoverage(change) => update(alloc, &mut self.cells.coverages, change),
-            Request::DeleteCoverage(name) => delete(alloc, &mut self.cells.coverages, name),
+            Request::UpdateCoverage(change) => {
+                let busy = self.desk.reads(&change.coverage);
+                update(alloc, &mut self.cells.coverages, change, busy)
+            }
+            Request::DeleteCoverage(name) => {
+                let busy = self.desk.reads(name);
+                delete(alloc, &mut self.cells.coverages, name, busy)
+            }
             Request::ListCoverages => list(alloc, &self.cells.coverages),
             Request::DescribeCoverage(name) => describe(alloc, &self.cells.coverages, name),
             Request::ProcessCoverages(query) => process(&mut self.cells, query.as_str()),
+            Request::SubmitQuery(query) => {
+                submit_query(&self.cells, &mut self.desk, query.as_str())
+            }
+            Request::StepJob(asked) => {
+                step_job(&mut self.cells, &mut self.desk, asked.job, asked.units)
+            }
+            Request::FetchJob(job) => fetch_job(&mut self.desk, *job),
+            Request::CancelJob(job) => cancel_job(alloc, &mut self.desk, *job),
             Request::ExpandTemplate(template) => {
                 expand_template(alloc, &self.cells.coverages, template)
             }
@@ -181,17 +211,17 @@ impl<D: Disk> Server<D> {
         }
     }
 
-    /// Answers a request: one step of the machine, on an honest disk whose tiles are intact, which stay so. In place
-    /// of any reply want of memory (90), a disk fault (91) or want of room (92) may be told. A refusal leaves the
+    /// Answers a request: from each state of the machine that the server represents one step of it to a state that it then
+    /// represents, on an honest disk whose tiles are intact, which stay so. In place of any reply want of memory (90), a disk fault (91) or want of room (92) may be told. A refusal leaves the
     /// signatures and the indexes as they were on any disk. The coverages are those of a catalogue.
     pub fn answer(&mut self, request: &Request) -> Reply
-        ensures step { IsSound self.old → Steps (asks request.now) self.old result self.new }
-        ensures catalogue { IsCatalogue (signatures_of self.old.store) }
-        ensures refused { (IsAnswer result → ⊥) → IsUnchanged self.old self.new }
-        ensures sound { IsSound self.old → IsSound self.new }
-        ensures header { KeepsHeader self.old.content self.new.content }
-        ensures honest { self.new.honest ≡ self.old.honest }
-        ensures no_fewer { self.old.failures ≤ self.new.failures }
+        ensures step { IsSound self.old.coverages → (s : State) → Represents self.old s → (t : State) × Represents self.new t × Steps (asks request.now) self.old self.new s result t }
+        ensures catalogue { IsCatalogue (signatures_of self.old.coverages.store) }
+        ensures refused { (IsAnswer result → ⊥) → IsUnchanged self.old.coverages self.new.coverages }
+        ensures sound { IsSound self.old.coverages → IsSound self.new.coverages }
+        ensures header { KeepsHeader self.old.coverages.content self.new.coverages.content }
+        ensures honest { self.new.coverages.honest ≡ self.old.coverages.honest }
+        ensures no_fewer { self.old.coverages.failures ≤ self.new.coverages.failures }
     {
         let _count = self.cells.coverages.len();
         match self.answered(request) {
@@ -206,11 +236,11 @@ impl<D: Disk> Server<D> {
 
     /// The reply to what a connection asks.
     fn reply_to(&mut self, next: Next) -> Reply
-        ensures step { IsSound self.old → (asked : Result (List ℕ) ℕ) → Shows asked next → MessageStep (Rose self.old.failures self.new.failures) self.old.store asked result self.new.store }
-        ensures sound { IsSound self.old → IsSound self.new }
-        ensures header { KeepsHeader self.old.content self.new.content }
-        ensures honest { self.new.honest ≡ self.old.honest }
-        ensures no_fewer { self.old.failures ≤ self.new.failures }
+        ensures step { IsSound self.old.coverages → (s : State) → Represents self.old s → (asked : Result (List ℕ) ℕ) → Shows asked next → (t : State) × Represents self.new t × MessageStep (Rose self.old.coverages.failures self.new.coverages.failures) s asked result t }
+        ensures sound { IsSound self.old.coverages → IsSound self.new.coverages }
+        ensures header { KeepsHeader self.old.coverages.content self.new.coverages.content }
+        ensures honest { self.new.coverages.honest ≡ self.old.coverages.honest }
+        ensures no_fewer { self.old.coverages.failures ≤ self.new.coverages.failures }
     {
         let alloc = self.cells.alloc;
         match next {
@@ -225,7 +255,7 @@ impl<D: Disk> Server<D> {
 
     /// How many tiles were fetched. The count stays at the last value of a `u64`.
     pub fn fetched(&self) -> u64
-        ensures { result ≡ self.now.fetched }
+        ensures { result ≡ self.now.coverages.fetched }
     {
         self.cells.coverages.fetched()
     }
@@ -237,12 +267,12 @@ impl<D: Disk> Server<D> {
         reader: &mut R,
         writer: &mut W,
     ) -> ConnEnd
-        ensures served { IsSound self.old → ServesConnection (Rose self.old.failures self.new.failures) (ends_of R.remaining R.failed W.contents W.failed reader.old reader.new writer.old writer.new) self.old.store self.new.store result }
+        ensures served { IsSound self.old.coverages → (s : State) → Represents self.old s → (t : State) × Represents self.new t × ServesConnection (Rose self.old.coverages.failures self.new.coverages.failures) (ends_of R.remaining R.failed W.contents W.failed reader.old reader.new writer.old writer.new) s t result }
         ensures told { TellsEnd (ends_of R.remaining R.failed W.contents W.failed reader.old reader.new writer.old writer.new) result }
-        ensures sound { IsSound self.old → IsSound self.new }
-        ensures header { KeepsHeader self.old.content self.new.content }
-        ensures honest { self.new.honest ≡ self.old.honest }
-        ensures no_fewer { self.old.failures ≤ self.new.failures }
+        ensures sound { IsSound self.old.coverages → IsSound self.new.coverages }
+        ensures header { KeepsHeader self.old.coverages.content self.new.coverages.content }
+        ensures honest { self.new.coverages.honest ≡ self.old.coverages.honest }
+        ensures no_fewer { self.old.coverages.failures ≤ self.new.coverages.failures }
     {
         let alloc = self.cells.alloc;
         let mut conn = Conn::new();

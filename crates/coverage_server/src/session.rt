@@ -5,6 +5,8 @@ ghost use Rattle.block_file.specs.Format.{KeepsHeader};
 ghost use Rattle.disk_face.specs.Disk.{Rose};
 ghost use Rattle.raster_store.specs.Views.{Index};
 ghost use Rattle.coverage_server.specs.Disk.{ListsStore};
+ghost use Rattle.coverage_server.specs.Machine.{State};
+ghost use Rattle.coverage_server.specs.Represents.{Represents};
 ghost use Rattle.coverage_server.specs.Sessions.{IsNotOpened, ServesAll, ServesSession, ServesUnclosed, Composes, disk_view, ends_all};
 ghost use Rattle.coverage_server.specs.Views.{IsSound};
 
@@ -25,11 +27,11 @@ pub enum SessionFault<D: Disk> {
 
 /// Serves each connection to its end, one after the other.
 fn serve_all<D: Disk, R: Source, W: Sink>(server: &mut Server<D>, connections: &mut [(R, W)])
-    ensures served { IsSound server.old → ServesAll (Rose server.old.failures server.new.failures) (ends_all R.remaining R.failed W.contents W.failed connections.old connections.new) server.old.store server.new.store }
-    ensures sound { IsSound server.old → IsSound server.new }
-    ensures header { KeepsHeader server.old.content server.new.content }
-    ensures honest { server.new.honest ≡ server.old.honest }
-    ensures no_fewer { server.old.failures ≤ server.new.failures }
+    ensures served { IsSound server.old.coverages → (s : State) → Represents server.old s → (t : State) × Represents server.new t × ServesAll (Rose server.old.coverages.failures server.new.coverages.failures) (ends_all R.remaining R.failed W.contents W.failed connections.old connections.new) s t }
+    ensures sound { IsSound server.old.coverages → IsSound server.new.coverages }
+    ensures header { KeepsHeader server.old.coverages.content server.new.coverages.content }
+    ensures honest { server.new.coverages.honest ≡ server.old.coverages.honest }
+    ensures no_fewer { server.old.coverages.failures ≤ server.new.coverages.failures }
     ensures count { length connections.new ≡ length connections.old }
 {
     for connection in connections.iter_mut() {

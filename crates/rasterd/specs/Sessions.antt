@@ -5,7 +5,7 @@ use Rattle.coverage_server.specs.declared.opening.OpenFault.{OpenFault}
 use Rattle.coverage_server.specs.declared.closing.CloseFault.{CloseFault}
 use Rattle.coverage_server.specs.Serves.{Ends}
 use Rattle.coverage_server.specs.Sessions.{DiskView, IsNotOpened, ServesSession, ServesUnclosed}
-use Rattle.coverage_server.specs.Views.{ServerView}
+use Rattle.coverage_server.specs.Views.{SessionView}
 
 -- what a line on standard error says, by the two words that it begins with and the number of a fault
 module _ (says : List ℕ → ℕ → Type 0) where
@@ -15,4 +15,4 @@ module _ (says : List ℕ → ℕ → Type 0) where
 
   -- not closed: there is a server with the connections' store, the fault, and its line
   abbrev pub EndsUnclosed : List ℕ → List Ends → DiskView → Type 0
-  EndsUnclosed what ends old = (fault : CloseFault) × (server : ServerView) × ServesUnclosed fault ends old server × says what (close_number fault)
+  EndsUnclosed what ends old = (fault : CloseFault) × (server : SessionView) × ServesUnclosed fault ends old server × says what (close_number fault)

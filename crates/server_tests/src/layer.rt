@@ -1,7 +1,7 @@
 //! The calls of the rows.
 
 use crate::disks::Site;
-use crate::messages::{body_of, queried, repeated, replied, reply_to};
+use crate::messages::{body_of, fetching, queried, repeated, replied, reply_to, stepping};
 use crate::streams::{broken, failing, narrow, pieces, whole};
 use anyhow::{Context, Result, bail};
 use coverage_server::Server;
@@ -54,6 +54,11 @@ fn asked(
             repeated(alloc, server, count.parse::<u64>()?, pairs)
         }
         "query" => queried(alloc, server, text(alloc, written)?),
+        "fetching" => {
+            let (most, pairs) = written.split_once(' ').context("no pairs")?;
+            fetching(alloc, server, most.parse::<u64>()?, pairs)
+        }
+        "stepping" => stepping(alloc, server, written),
         "fetched" => Ok(format!(in alloc; "{}", server.fetched())?),
         _ => streamed(alloc, server, verb, written),
     }

@@ -1,7 +1,7 @@
 //! Requests as messages and by themselves, and their replies as text.
 
 use crate::streams::whole;
-use anyhow::Result;
+use anyhow::{Context, Result, bail};
 use coverage_server::Server;
 use disk_face::FailDisk;
 use http_front::Reply;
@@ -84,4 +84,69 @@ pub fn repeated(
         }
     }
     Ok(first)
+}
+
+/// The body of the reply to a request, for which at most so many tiles may be fetched.
+pub fn fetching(
+    alloc: Global,
+    server: &mut Server<FailDisk>,
+    most: u64,
+    pairs: &str,
+) -> Result<String> {
+    let before = server.fetched();
+    let reply = reply_to(alloc, server, pairs.as_bytes());
+    let fetched = server.fetched().saturating_sub(before);
+    if fetched > most {
+        bail!("{fetched} tiles are fetched");
+    }
+    body_of(alloc, &reply)
+}
+
+/// How many tiles may be fetched in a step, and in all steps of a job; and in how many steps at least some are.
+#[derive(Clone, Copy)]
+struct TileCounts {
+    most: u64,
+    all: u64,
+    steps: u64,
+}
+
+/// Reads the three numbers and the job behind them.
+fn read_counts(written: &str) -> Result<(TileCounts, &str)> {
+    let (most, rest) = written.split_once(' ').context("no numbers")?;
+    let (all, rest) = rest.split_once(' ').context("one number")?;
+    let (steps, job) = rest.split_once(' ').context("two numbers")?;
+    let counts = TileCounts {
+        most: most.parse::<u64>()?,
+        all: all.parse::<u64>()?,
+        steps: steps.parse::<u64>()?,
+    };
+    Ok((counts, job))
+}
+
+/// Steps a job by one unit, up to a thousand times, until it has none left; the number of tiles that are fetched is held to
+/// what is written before the job.
+pub fn stepping(alloc: Global, server: &mut Server<FailDisk>, written: &str) -> Result<String> {
+    let (wanted, job) = read_counts(written)?;
+    let pairs = format!(in alloc; "request=StepJob&job={job}&units=1")?;
+    let mut all = 0_u64;
+    let mut steps = 0_u64;
+    for _step in 0..1000 {
+        let before = server.fetched();
+        let body = body_of(alloc, &reply_to(alloc, server, pairs.as_bytes()))?;
+        let fetched = server.fetched().saturating_sub(before);
+        if fetched > wanted.most {
+            bail!("{fetched} tiles are fetched in a step");
+        }
+        all = all.saturating_add(fetched);
+        if fetched > 0 {
+            steps = steps.saturating_add(1);
+        }
+        if body.as_str() == "left 0\n" {
+            if all > wanted.all || steps < wanted.steps {
+                bail!("{all} tiles are fetched, in {steps} steps");
+            }
+            return Ok(body);
+        }
+    }
+    bail!("the job has units left")
 }

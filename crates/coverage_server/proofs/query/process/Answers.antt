@@ -14,10 +14,10 @@ pub returns-in_err-values-clause-answered : goal.returns-in_err-values-clause-an
 returns-in_err-values-clause-answered g c =
     let p = err_from_is_err_and c.from_residual-in_err-values.result c.from_residual-in_err-values.ensures.1 in
     rw (p.1, p.2)
-    (refused_values c.args.cells.now.coverages c.values_of.new.cells.coverages (ap (λ (v : ServerView). v.store) c.in_err-values.ensures.still) c.args.text.now c.in_ok-typed.typed c.in_ok-typed.ensures
+    (refused_values c.args.cells.now.coverages c.values_of.new.cells.coverages (ap (λ (v : ServerView). v.store) c.in_err-values.ensures.still) c.args.text.now c.in_ok-typed.typed c.in_ok-typed.ensures.typed
     c.in_err-values.field-0.0 c.in_err-values.ensures.values c.in_err-values.ensures.faults)
 
 pub returns-clause-answered : goal.returns-clause-answered
 returns-clause-answered g c =
-    answered_values c.args.cells.now.coverages c.values_of.new.cells.coverages (ap (λ (v : ServerView). v.store) c.in_ok-values.ensures.still) c.args.text.now c.in_ok-typed.typed c.in_ok-typed.ensures
+    answered_values c.args.cells.now.coverages c.values_of.new.cells.coverages (ap (λ (v : ServerView). v.store) c.in_ok-values.ensures.still) c.args.text.now c.in_ok-typed.typed c.in_ok-typed.ensures.typed
     c.in_ok-values.values c.in_ok-values.ensures.values

@@ -12,10 +12,15 @@ loop-connection-preserved g c =
     let first : i < length c.args.connections.now = omega (arith, inside, v.2) in
     let fewer = c.serve_connection-end.ensures.no_fewer in
     let so_far = v.6 in (
-      λ sound.
-          served-more g.R.Source.remaining g.R.Source.failed g.W.Sink.contents g.W.Sink.failed c.args.connections.now c.loop-connection.connections i
-          c.connection-item.result (c.serve_connection-end.new.reader, c.serve_connection-end.new.writer) _ _ _ _ _ _ _ v.2 first v.1 so_far fewer (v.0 sound)
-          c.serve_connection-end.ensures.told (c.serve_connection-end.ensures.served (v.3 sound)),
+      λ sound s r.
+          let before = v.0 sound s r in
+          let after = c.serve_connection-end.ensures.served (v.3 sound) before.0 before.1 in (
+            after.0,
+            after.1,
+            served-more g.R.Source.remaining g.R.Source.failed g.W.Sink.contents g.W.Sink.failed c.args.connections.now c.loop-connection.connections i
+                c.connection-item.result (c.serve_connection-end.new.reader, c.serve_connection-end.new.writer) _ _ _ s before.0 after.0 _ v.2 first v.1 so_far fewer before.2
+                c.serve_connection-end.ensures.told after.2,
+          ),
       rest_kept c.args.connections.now c.loop-connection.connections i (c.serve_connection-end.new.reader, c.serve_connection-end.new.writer) v.1,
       length-set c.loop-connection.connections i _ ∙ v.2,
       λ sound. c.serve_connection-end.ensures.sound (v.3 sound),

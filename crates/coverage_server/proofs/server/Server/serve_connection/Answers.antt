@@ -9,16 +9,20 @@ pub serving-init : goal.serving-init
 serving-init g c = record {
   going = c.new-conn.ensures.open;
   few = omega (arith, c.new-conn.ensures.count);
-  served = λ sound. record {
-    came = [];
-    took = Consumes-nil _;
-    items = [];
-    taken = sym c.new-conn.ensures.held;
-    replies = [];
-    run = (refl, refl);
-    sent = Appends-nil _;
-    counted = c.new-conn.ensures.count;
-  };
+  served = λ sound s r. (
+    s,
+    r,
+    record {
+      came = [];
+      took = Consumes-nil _;
+      items = [];
+      taken = sym c.new-conn.ensures.held;
+      replies = [];
+      run = (refl, refl);
+      sent = Appends-nil _;
+      counted = c.new-conn.ensures.count;
+    },
+  );
   read = refl;
   written = refl;
   sound = λ sound. sound;
@@ -29,14 +33,16 @@ serving-init g c = record {
 
 pub returns-in-Ended-clause-served : goal.returns-in-Ended-clause-served
 returns-in-Ended-clause-served g c =
-    let f = c.in-Ended.ensures.found in λ sound. ended (c.serving.invariant.served sound) (g.R.Source.remaining c.next.new.source) f.0 f.1 f.2.0 f.2.1
+    let f = c.in-Ended.ensures.found in
+    λ sound s r. let x = c.serving.invariant.served sound s r in (x.0, x.1, ended x.2 (g.R.Source.remaining c.next.new.source) f.0 f.1 f.2.0 f.2.1)
 
 pub returns-in-Ended-clause-told : goal.returns-in-Ended-clause-told
 returns-in-Ended-clause-told g c = (c.in-Ended.ensures.told ∙ c.serving.invariant.read, c.serving.invariant.written)
 
 pub returns-in-ReadFault-clause-served : goal.returns-in-ReadFault-clause-served
 returns-in-ReadFault-clause-served g c =
-    let f = c.in-ReadFault.ensures.found in λ sound. faulted (c.serving.invariant.served sound) (g.R.Source.remaining c.next.new.source) f.0 f.1 f.2.0
+    let f = c.in-ReadFault.ensures.found in
+    λ sound s r. let x = c.serving.invariant.served sound s r in (x.0, x.1, faulted x.2 (g.R.Source.remaining c.next.new.source) f.0 f.1 f.2.0)
 
 pub returns-in-ReadFault-clause-told : goal.returns-in-ReadFault-clause-told
 returns-in-ReadFault-clause-told g c =
@@ -47,8 +53,14 @@ returns-in-Err-clause-served g c =
     let f = c.next.ensures.found in
     let x = found_item _ _ _ _ c.next.result _ _ f.2 c.in_default.not-Ended c.in_default.not-ReadFault in
     let inv = c.serving.invariant in
-    λ sound. unwritten (inv.served sound) (g.R.Source.remaining c.next.new.source) f.0 f.1 _ x.0 x.1 _ _ _
-    (rose-by _ _ _ c.reply_to-reply.ensures.no_fewer) (step-later (rose-since _ _ _ inv.no_fewer) _ _ _ _ (c.reply_to-reply.ensures.step (inv.sound sound) x.0.asked x.2)) _ _ x.3 x.4 _ c.in-Err.ensures.0
+    λ sound s r.
+    let y = inv.served sound s r in
+    let z = c.reply_to-reply.ensures.step (inv.sound sound) y.0 y.1 x.0.asked x.2 in (
+      z.0,
+      z.1,
+      unwritten y.2 (g.R.Source.remaining c.next.new.source) f.0 f.1 _ x.0 x.1 z.0 _ _
+          (rose-by _ _ _ c.reply_to-reply.ensures.no_fewer) (step-later (rose-since _ _ _ inv.no_fewer) _ _ _ _ z.2) _ _ x.3 x.4 _ c.in-Err.ensures.0,
+    )
 
 pub returns-in-Err-clause-told : goal.returns-in-Err-clause-told
 returns-in-Err-clause-told g c =
@@ -62,8 +74,14 @@ returns-then-conn-clause-served g c =
     let f = c.next.ensures.found in
     let x = found_item _ _ _ _ c.next.result _ _ f.2 c.in_default.not-Ended c.in_default.not-ReadFault in
     let inv = c.serving.invariant in
-    λ sound. answered (inv.served sound) (g.R.Source.remaining c.next.new.source) f.0 f.1 _ x.0 x.1 _ _ _
-    (rose-by _ _ _ c.reply_to-reply.ensures.no_fewer) (step-later (rose-since _ _ _ inv.no_fewer) _ _ _ _ (c.reply_to-reply.ensures.step (inv.sound sound) x.0.asked x.2)) _ _ x.3 x.4 _ c.if-conn.true c.in-Ok.ensures.0
+    λ sound s r.
+    let y = inv.served sound s r in
+    let z = c.reply_to-reply.ensures.step (inv.sound sound) y.0 y.1 x.0.asked x.2 in (
+      z.0,
+      z.1,
+      answered y.2 (g.R.Source.remaining c.next.new.source) f.0 f.1 _ x.0 x.1 z.0 _ _
+          (rose-by _ _ _ c.reply_to-reply.ensures.no_fewer) (step-later (rose-since _ _ _ inv.no_fewer) _ _ _ _ z.2) _ _ x.3 x.4 _ c.if-conn.true c.in-Ok.ensures.0,
+    )
 
 pub returns-then-conn-clause-told : goal.returns-then-conn-clause-told
 returns-then-conn-clause-told g c =
@@ -82,8 +100,14 @@ serving-preserved-else-conn g c =
     record {
       going = c.if-conn.false;
       few = roomy c.serving.conn.count c.serving.conn.buffer f.0 _ later x.0 x.1 _ x.3 _ counted c.if-conn.false inv.few;
-      served = λ sound. continued (inv.served sound) later f.0 f.1 _ x.0 x.1 _ _ _
-          (rose-by _ _ _ c.reply_to-reply.ensures.no_fewer) (step-later (rose-since _ _ _ inv.no_fewer) _ _ _ _ (c.reply_to-reply.ensures.step (inv.sound sound) x.0.asked x.2)) _ _ x.3 x.4 _ _ counted c.if-conn.false c.in-Ok.ensures.0;
+      served = λ sound s r.
+          let y = inv.served sound s r in
+          let z = c.reply_to-reply.ensures.step (inv.sound sound) y.0 y.1 x.0.asked x.2 in (
+            z.0,
+            z.1,
+            continued y.2 later f.0 f.1 _ x.0 x.1 z.0 _ _
+                (rose-by _ _ _ c.reply_to-reply.ensures.no_fewer) (step-later (rose-since _ _ _ inv.no_fewer) _ _ _ _ z.2) _ _ x.3 x.4 _ _ counted c.if-conn.false c.in-Ok.ensures.0,
+          );
       read = quiet_item _ _ c.next.result c.next.ensures.told c.in_default.not-Ended c.in_default.not-ReadFault ∙ inv.read;
       written = c.in-Ok.ensures.1 ∙ inv.written;
       sound = λ sound. c.reply_to-reply.ensures.sound (inv.sound sound);
@@ -102,8 +126,14 @@ serving-preserved-else-conn-2 g c =
     record {
       going = c.if-conn.false;
       few = roomy c.serving.conn.count c.serving.conn.buffer f.0 _ later x.0 x.1 _ x.3 _ counted c.if-conn.false inv.few;
-      served = λ sound. continued (inv.served sound) later f.0 f.1 _ x.0 x.1 _ _ _
-          (rose-by _ _ _ c.reply_to-reply.ensures.no_fewer) (step-later (rose-since _ _ _ inv.no_fewer) _ _ _ _ (c.reply_to-reply.ensures.step (inv.sound sound) x.0.asked x.2)) _ _ x.3 x.4 _ _ counted c.if-conn.false c.in-Ok.ensures.0;
+      served = λ sound s r.
+          let y = inv.served sound s r in
+          let z = c.reply_to-reply.ensures.step (inv.sound sound) y.0 y.1 x.0.asked x.2 in (
+            z.0,
+            z.1,
+            continued y.2 later f.0 f.1 _ x.0 x.1 z.0 _ _
+                (rose-by _ _ _ c.reply_to-reply.ensures.no_fewer) (step-later (rose-since _ _ _ inv.no_fewer) _ _ _ _ z.2) _ _ x.3 x.4 _ _ counted c.if-conn.false c.in-Ok.ensures.0,
+          );
       read = quiet_item _ _ c.next.result c.next.ensures.told c.in_default.not-Ended c.in_default.not-ReadFault ∙ inv.read;
       written = c.in-Ok.ensures.1 ∙ inv.written;
       sound = λ sound. c.reply_to-reply.ensures.sound (inv.sound sound);
@@ -122,8 +152,14 @@ serving-preserved g c =
     record {
       going = c.if-conn.false;
       few = roomy c.serving.conn.count c.serving.conn.buffer f.0 _ later x.0 x.1 _ x.3 _ counted c.if-conn.false inv.few;
-      served = λ sound. continued (inv.served sound) later f.0 f.1 _ x.0 x.1 _ _ _
-          (rose-by _ _ _ c.reply_to-reply.ensures.no_fewer) (step-later (rose-since _ _ _ inv.no_fewer) _ _ _ _ (c.reply_to-reply.ensures.step (inv.sound sound) x.0.asked x.2)) _ _ x.3 x.4 _ _ counted c.if-conn.false c.in-Ok.ensures.0;
+      served = λ sound s r.
+          let y = inv.served sound s r in
+          let z = c.reply_to-reply.ensures.step (inv.sound sound) y.0 y.1 x.0.asked x.2 in (
+            z.0,
+            z.1,
+            continued y.2 later f.0 f.1 _ x.0 x.1 z.0 _ _
+                (rose-by _ _ _ c.reply_to-reply.ensures.no_fewer) (step-later (rose-since _ _ _ inv.no_fewer) _ _ _ _ z.2) _ _ x.3 x.4 _ _ counted c.if-conn.false c.in-Ok.ensures.0,
+          );
       read = quiet_item _ _ c.next.result c.next.ensures.told c.in_default.not-Ended c.in_default.not-ReadFault ∙ inv.read;
       written = c.in-Ok.ensures.1 ∙ inv.written;
       sound = λ sound. c.reply_to-reply.ensures.sound (inv.sound sound);

@@ -1,0 +1,18 @@
+use Rattle.std.proofs.Common.{subst}
+use Rattle.job_desk.specs.Desks.{IsFetched}
+use Rattle.coverage_server.proofs.JobLemmas.{fetched_text, fetched_fault, fetch_refused_as}
+use Rattle.coverage_server.proofs.jobs.fetch_job.Goals as goal
+
+pub returns-in-Text-clause-answered : goal.returns-in-Text-clause-answered
+returns-in-Text-clause-answered c =
+    λ v. fetched_text v c.args.desk.now c.fetch.new.self c.args.number c.in-Text.text (subst (λ a. IsFetched c.args.number a c.args.desk.now c.fetch.new.self) c.in-Text.is c.in-Ok.ensures.fetched)
+
+pub returns-in-Refused-clause-answered : goal.returns-in-Refused-clause-answered
+returns-in-Refused-clause-answered c =
+    λ v.
+    rw c.number.ensures
+    (fetched_fault v c.args.desk.now c.fetch.new.self c.args.number c.in-Refused.fault (subst (λ a. IsFetched c.args.number a c.args.desk.now c.fetch.new.self) c.in-Refused.is c.in-Ok.ensures.fetched))
+
+pub returns-in-Err-clause-answered : goal.returns-in-Err-clause-answered
+returns-in-Err-clause-answered c =
+    λ v. fetch_refused_as v c.args.desk.now c.fetch.new.self c.args.number c.in-Err.error c.fetch_refusal.result c.fetch_refusal.ensures c.in-Err.ensures.unchanged c.in-Err.ensures.refused

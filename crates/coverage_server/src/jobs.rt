@@ -1,0 +1,150 @@
+//! Jobs: queries that are submitted, done a few units at a time, and fetched.
+ghost use Rattle.std.specs.Prelude.{◌≡◌, ◌+◌, ◌≤◌, ℕ, [], ◌++◌, codes, decimal, length, string_bytes, string_len, string_capacity, IfOk, OnErr};
+ghost use Rattle.coverage_server.specs.Answered.{AnsweredIn, IsAnswer};
+ghost use Rattle.coverage_server.specs.Machine.{Submits, StepsJob, Fetches, Cancels};
+ghost use Rattle.coverage_server.specs.Stages.{submit_refusal, step_refusal, fetch_refusal};
+ghost use Rattle.coverage_server.specs.Views.{ServerView, session, still_of};
+
+use crate::arguments::Refusal;
+use crate::cells::AskedCells;
+use crate::query::{names_of, plan_of, typed_text};
+use disk_face::Disk;
+use http_front::{Reply, refusals};
+use itoa::Buffer;
+use job_desk::{Answer, FetchError, JobDesk, NoSuchJob, StepError, SubmitError};
+use std::alloc::Global;
+
+/// More bytes than `job 1 left 5` has for any numbers.
+const JOB_ROOM: usize = 96;
+
+/// Adds to a text that has room for it. Takes no memory.
+fn add(text: &mut String, more: &str)
+    requires { string_len text.old + length more.now ≤ string_capacity text.old }
+    ensures bytes { string_bytes text.new ≡ string_bytes text.old ++ more.now }
+    ensures len { string_len text.new ≡ string_len text.old + length more.now }
+    ensures capacity { string_capacity text.old ≤ string_capacity text.new }
+{
+    let _ = text.push_str(more);
+}
+
+/// Writes `job 1 left 5` into a text without bytes that has room for it. Takes no memory.
+fn write_job(text: &mut String, number: u64, left: u64)
+    requires empty { string_bytes text.old ≡ [] }
+    requires len { string_len text.old ≡ 0 }
+    requires room { 96 ≤ string_capacity text.old }
+    ensures { string_bytes text.new ≡ codes "job " ++ decimal number ++ codes " left " ++ decimal left ++ codes "\n" }
+{
+    let mut digits = Buffer::new();
+    add(text, "job ");
+    add(text, digits.format(number));
+    add(text, " left ");
+    add(text, digits.format(left));
+    add(text, "\n");
+}
+
+/// Why a query does not become a job.
+fn submit_refusal(error: SubmitError) -> Refusal
+    ensures { result ≡ submit_refusal error }
+{
+    match error {
+        SubmitError::TooManyJobs => Refusal::Numbered(refusals::TOO_MANY_JOBS),
+        SubmitError::NoMemory => Refusal::NoMemory,
+    }
+}
+
+/// Why no units were done.
+fn step_refusal(error: StepError) -> Refusal
+    ensures { result ≡ step_refusal error }
+{
+    match error {
+        StepError::NoSuchJob => Refusal::Numbered(refusals::NO_SUCH_JOB),
+        StepError::Cells(error) => Refusal::from(error),
+    }
+}
+
+/// Why no answer is fetched.
+fn fetch_refusal(error: FetchError) -> Refusal
+    ensures { result ≡ fetch_refusal error }
+{
+    match error {
+        FetchError::NoSuchJob => Refusal::Numbered(refusals::NO_SUCH_JOB),
+        FetchError::NotReady => Refusal::Numbered(refusals::NOT_READY),
+        FetchError::NoMemory => Refusal::NoMemory,
+    }
+}
+
+/// A query becomes a job. The reply gives its number and how many units it has left; nothing is evaluated.
+pub fn submit_query<D: Disk>(
+    cells: &AskedCells<D>,
+    desk: &mut JobDesk,
+    text: &str,
+) -> Result<Reply, Refusal>
+    ensures answered { AnsweredIn (Submits text.now) ⊥ (session cells.now.coverages desk.old) (session cells.now.coverages desk.new) result }
+    ensures answer { IfOk result IsAnswer }
+{
+    let alloc = cells.alloc;
+    let typed = typed_text(alloc, &cells.coverages, text)?;
+    let names = names_of(alloc, typed.coverages())?;
+    let plan = plan_of(alloc, &typed)?;
+    let mut reply = String::with_capacity(alloc, JOB_ROOM)?;
+    match desk.submit(plan, names) {
+        Ok((number, left)) => {
+            write_job(&mut reply, number, left);
+            Ok(Reply::Text(reply))
+        }
+        Err(error) => Err(submit_refusal(error)),
+    }
+}
+
+/// Units of a job are done. The reply, which is written first, gives how many are left.
+pub fn step_job<D: Disk>(
+    cells: &mut AskedCells<D>,
+    desk: &mut JobDesk,
+    number: u64,
+    units: u64,
+) -> Result<Reply, Refusal>
+    ensures answered { AnsweredIn (StepsJob number units) ⊥ (session cells.old.coverages desk.old) (session cells.new.coverages desk.new) result }
+    ensures answer { IfOk result IsAnswer }
+    ensures still { still_of cells.new.coverages ≡ still_of cells.old.coverages }
+    ensures no_fewer { cells.old.coverages.failures ≤ cells.new.coverages.failures }
+{
+    let Some(left) = desk.left(number) else {
+        return Err(Refusal::Numbered(refusals::NO_SUCH_JOB));
+    };
+    let Some(coverages) = desk.coverages(number) else {
+        return Err(Refusal::Numbered(refusals::NO_SUCH_JOB));
+    };
+    let reply = format!(in cells.alloc; "left {}\n", left.saturating_sub(units))?;
+    cells.ask(coverages)?;
+    match desk.step(number, units, cells) {
+        Ok(_) => Ok(Reply::Text(reply)),
+        Err(error) => Err(step_refusal(error)),
+    }
+}
+
+/// The answer of a job that has no units left, which is dropped.
+pub fn fetch_job(desk: &mut JobDesk, number: u64) -> Result<Reply, Refusal>
+    ensures answered { (v : ServerView) → AnsweredIn (Fetches number) ⊥ (session v desk.old) (session v desk.new) result }
+    ensures answer { IfOk result IsAnswer }
+{
+    let answer = match desk.fetch(number) {
+        Ok(answer) => answer,
+        Err(error) => return Err(fetch_refusal(error)),
+    };
+    match answer {
+        Answer::Text(text) => Ok(Reply::Csv(text)),
+        Answer::Refused(fault) => Err(Refusal::Numbered(fault.number())),
+    }
+}
+
+/// A job is dropped.
+pub fn cancel_job(alloc: Global, desk: &mut JobDesk, number: u64) -> Result<Reply, Refusal>
+    ensures answered { (v : ServerView) → AnsweredIn (Cancels number) ⊥ (session v desk.old) (session v desk.new) result }
+    ensures answer { IfOk result IsAnswer }
+{
+    let reply = String::from_str(alloc, "ok\n")?;
+    match desk.cancel(number) {
+        Ok(()) => Ok(Reply::Text(reply)),
+        Err(NoSuchJob) => Err(Refusal::Numbered(refusals::NO_SUCH_JOB)),
+    }
+}
