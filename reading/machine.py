@@ -1,22 +1,23 @@
-"""The machine, read from its description: named coverages, requests, templates, and messages over HTTP/1.1."""
+"""The machine, read from its description: named coverages, requests, templates, jobs, and messages over HTTP/1.1."""
 
 import re
 import urllib.parse
+from dataclasses import dataclass
 
 from language import KEYWORDS, Refused
-from meaning import Coverage, Fault, answer, count, fits, points, rank
+from meaning import Coverage, Fault, answer, count, fits, points, rank, submitted
 
 RANGES = {"bool": None, "u8": (0, 255), "i16": (-(2**15), 2**15 - 1), "i32": (-(2**31), 2**31 - 1), "i64": (-(2**63), 2**63 - 1)}
 NAMES = (
     "1 BadHead 2 BodyTooLong 3 NoSuchPath 4 NotServed 10 NoRequest 11 UnknownRequest 12 MissingKey 13 RepeatedKey 14 BadValue"
     " 20 NoSuchCoverage 21 CoverageExists 22 BadDomain 23 BadField 24 OutsideDomain 25 ValueCount 26 ValueRange"
-    " 27 TooManyCoverages 30 BadToken 31 NumberTooLarge 32 BadSyntax 33 TooDeep 40 UnknownName 41 NameTaken 42 NoSuchField"
+    " 27 TooManyCoverages 28 Busy 30 BadToken 31 NumberTooLarge 32 BadSyntax 33 TooDeep 40 UnknownName 41 NameTaken 42 NoSuchField"
     " 43 NoSuchAxis 44 AxisTwice 45 DomainMismatch 46 TrimOutside 47 NeedsScalar 48 NeedsBoolean 49 NeedsInteger"
     " 50 NeedsOneField 51 ListLength 52 MustEncode 53 BadInterval 54 TooMuchWork 55 ResultTooLarge 56 TooManyCombinations"
-    " 60 Overflow 61 DivideByZero 62 OutOfDomain 63 EmptyCondense 64 BadBit 80 NoSuchTemplate 81 BadParameter"
+    " 60 Overflow 61 DivideByZero 62 OutOfDomain 63 EmptyCondense 64 BadBit 70 NoSuchJob 71 NotReady 72 TooManyJobs 80 NoSuchTemplate 81 BadParameter"
 ).split()
 REFUSALS = dict(zip(map(int, NAMES[::2]), NAMES[1::2]))
-STATUSES = {3: 404, 20: 404, 21: 409, 2: 413, 4: 501, 27: 503}
+STATUSES = {3: 404, 20: 404, 70: 404, 21: 409, 28: 409, 71: 409, 2: 413, 4: 501, 27: 503, 72: 503}
 PHRASES = {200: "OK", 400: "Bad Request", 404: "Not Found", 409: "Conflict", 413: "Payload Too Large", 501: "Not Implemented", 503: "Service Unavailable"}
 
 
@@ -36,6 +37,15 @@ def signed_in(text):
     if not re.fullmatch(r"[+-]?[0-9]+", text):
         return None
     return int(text) if -(2**63) <= int(text) < 2**63 else None
+
+
+def number_in(text):
+    return int(text) if re.fullmatch(r"[0-9]+", text) and int(text) < 2**64 else None
+
+
+def units_in(text):
+    units = signed_in(text)
+    return units if units is not None and 1 <= units <= 1000 else None
 
 
 def interval_in(text):
@@ -72,9 +82,21 @@ def layer_in(text):
     return coverage, field if dot else None
 
 
+@dataclass
+class Job:
+    """The coverages that a job reads, its units left, and its CSV or the number of its fault."""
+
+    names: set
+    left: int
+    answer: str | int
+
+
 class Machine:
-    def __init__(self):
-        self.store = {}
+    """Coverages by name, and jobs by number. Which units a job has is the server's choice: `units` has that of each number,
+    and where it has none, or more than there may be, it is one."""
+
+    def __init__(self, units=None):
+        self.store, self.jobs, self.next, self.units = {}, {}, 1, units or {}
 
     def reply(self, pairs):
         """The reply to some pairs, bytes: (200, the kind of text, the text), or the number of a refusal."""
@@ -112,6 +134,15 @@ class Machine:
             raise Refused(20)
         return self.store[name]
 
+    def is_read(self, name):
+        """Whether a job with units left reads the coverage."""
+        return any(job.left > 0 and name in job.names for job in self.jobs.values())
+
+    def job(self, number):
+        if number not in self.jobs:
+            raise Refused(70)
+        return self.jobs[number]
+
     def InsertCoverage(self):
         name, axes, fields = self.key("coverage", name_in), self.key("domain", listed_in(interval_in)), self.key("fields", listed_in(field_in))
         if name in self.store:
@@ -140,6 +171,8 @@ class Machine:
         if field not in names:
             raise Refused(42)
         k = names.index(field)
+        if self.is_read(name):
+            raise Refused(28)
         if not is_domain(box) or [it[0] for it in box] != [it[0] for it in c.axes] or any(lo < low or high < hi for (_, lo, hi), (_, low, high) in zip(box, c.axes)):
             raise Refused(24)
         if values and len(cells) != count(box):
@@ -153,6 +186,8 @@ class Machine:
     def DeleteCoverage(self):
         name = self.key("coverage", name_in)
         self.coverage(name)
+        if self.is_read(name):
+            raise Refused(28)
         del self.store[name]
         return "plain", "ok\n"
 
@@ -166,6 +201,37 @@ class Machine:
 
     def ProcessCoverages(self):
         return "csv", answer(self.key("query", query_in).encode(), self.store)
+
+    def SubmitQuery(self):
+        names, most, found = submitted(self.key("query", query_in).encode(), self.store)
+        if len(self.jobs) == 64 or self.next == 2**64:
+            raise Refused(72)
+        number, left = self.next, self.units.get(self.next, 1)
+        self.next += 1
+        self.jobs[number] = Job(names, left if 1 <= left <= most else 1, found)
+        return "plain", f"job {number} left {self.jobs[number].left}\n"
+
+    def StepJob(self):
+        number, units = self.key("job", number_in), self.key("units", units_in)
+        job = self.job(number)
+        job.left = max(0, job.left - units)
+        return "plain", f"left {job.left}\n"
+
+    def FetchJob(self):
+        number = self.key("job", number_in)
+        job = self.job(number)
+        if job.left > 0:
+            raise Refused(71)
+        del self.jobs[number]
+        if isinstance(job.answer, int):
+            raise Fault(job.answer)
+        return "csv", job.answer
+
+    def CancelJob(self):
+        number = self.key("job", number_in)
+        self.job(number)
+        del self.jobs[number]
+        return "plain", "ok\n"
 
     def ExpandTemplate(self):
         return "plain", self.expanded() + "\n"

@@ -314,9 +314,13 @@ def combinations(query, store):
         needs(encoded or not value.axes, 52)
         found.append((condition, value))
     needs(sum(count(value.axes) * len(value.fields) for _, value in found) <= MOST_CELLS, 55)
-    work = sum((condition.work[0] if condition else 0) + count(value.axes) * sum(value.work) for condition, value in found)
-    needs(work <= MOST_WORK, 54)
+    needs(work_of(found) <= MOST_WORK, 54)
     return found
+
+
+def work_of(found):
+    """The work of a query, by its combinations."""
+    return sum((condition.work[0] if condition else 0) + count(value.axes) * sum(value.work) for condition, value in found)
 
 
 def cell_text(cell):
@@ -330,10 +334,28 @@ def item_text(value):
     return "".join(",".join(texts[k : k + line]) + "\n" for k in range(0, len(texts), line))
 
 
-def answer(text, store):
-    """The CSV of a query, some bytes, over a store of coverages by name; or a refusal, or a fault."""
+def answer_of(found):
+    """The CSV of a query, by its combinations; or a fault."""
     chosen = []
-    for condition, value in combinations(parsed(text), store):
+    for condition, value in found:
         if condition is None or condition.at(0, (), ()):
             chosen.append(item_text(value))
     return "\n".join(chosen)
+
+
+def answer(text, store):
+    """The CSV of a query, some bytes, over a store of coverages by name; or a refusal, or a fault."""
+    return answer_of(combinations(parsed(text), store))
+
+
+def submitted(text, store):
+    """Of a query that is to be a job: the names in its `for` list, the most units that it may have, and its CSV or the
+    number of its fault; or a refusal."""
+    query = parsed(text)
+    found = combinations(query, store)
+    names = {name for _, listed in query[0] for name in listed}
+    most = len(found) * (2 + work_of(found))
+    try:
+        return names, most, answer_of(found)
+    except Fault as fault:
+        return names, most, fault.number

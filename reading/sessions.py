@@ -4,11 +4,13 @@
     reading/sessions.py PROGRAM [SESSIONS] [SEED]
 
 A session is one stream of messages over an empty store: coverages are made and written, described and deleted, queries of
-all forms and templates are asked, some keys and texts are spoilt, bodies and pieces cut. The first difference is shown.
+all forms and templates are asked, jobs submitted, stepped by turns, fetched and cancelled, some keys and texts are spoilt,
+bodies and pieces cut. The units of a job are the program's choice within their bounds. The first difference is shown.
 """
 
 import os
 import random
+import re
 import subprocess
 import sys
 import urllib.parse
@@ -214,7 +216,8 @@ class Session:
     def pairs(self):
         if not self.machine.store or self.one_in(5):
             return self.insertion()
-        makes = [self.update, self.update, self.asked, self.asked, self.asked, self.asked, self.template, self.template, self.other]
+        makes = [self.update, self.update, self.asked, self.asked, self.asked, self.asked, self.template, self.template, self.other, self.submitted, self.submitted]
+        makes += [self.of_job] * (6 if self.machine.jobs else self.one_in(4))
         return self.chance.choice(makes)()
 
     def insertion(self):
@@ -254,6 +257,16 @@ class Session:
     def asked(self):
         return self.spoilt({"request": "ProcessCoverages", "query": self.texts.query()})
 
+    def submitted(self):
+        return self.spoilt({"request": "SubmitQuery", "query": self.texts.query()})
+
+    def of_job(self):
+        known = list(self.machine.jobs)
+        number = self.chance.choice(known) if known and not self.one_in(12) else self.chance.choice([1, 2, 3, 99, "007", "+1", "", 2**64])
+        request = self.chance.choice(["StepJob", "StepJob", "FetchJob", "FetchJob", "CancelJob"])
+        units = {"units": self.chance.choice([1, 1, 2, 7, "+1000", 1000, 1000]) if not self.one_in(20) else self.chance.choice([0, 1001, "-1", "x"])}
+        return self.spoilt({"request": request, "job": number} | (units if request == "StepJob" else {}))
+
     def template(self):
         operation = self.chance.choice(["LocalSum", "LocalDifference", "LocalProduct", "LocalMaximum", "LocalMinimum", "FocalSum", "FocalMaximum", "FocalMinimum", "ZonalSum", "ZonalMaximum", "ZonalMinimum", "Slope"])
         pairs = {"request": self.chance.choice(["ExpandTemplate", "ProcessTemplate", "ProcessTemplate"]), "template": operation, "layer": self.layer()}
@@ -280,7 +293,7 @@ class Session:
         if self.one_in(20):
             k = self.chance.randrange(len(found))
             key, value = found[k]
-            found[k : k + 1] = self.chance.choice([[], [(key, value)] * 2, [(key, "")], [(key.upper(), value)], [(key, value + ",")], [("other", "1"), (key, value)], [(key, value.replace(":", ""))]])
+            found[k : k + 1] = self.chance.choice([[], [(key, value)] * 2, [(key, "")], [(key.upper(), value)], [(key, f"{value},")], [("other", "1"), (key, value)], [(key, str(value).replace(":", ""))]])
         return found
 
     def message(self, pairs):
@@ -298,7 +311,7 @@ class Session:
 
 
 def session_of(seed):
-    """The stream of a session, and what is to come. The machine serves message by message while the stream is made."""
+    """The stream of a session. A machine serves message by message while the stream is made."""
     made = Session(random.Random(seed))
     stream = b""
     for _ in range(made.chance.randrange(1, 14)):
@@ -307,15 +320,21 @@ def session_of(seed):
         stream += message
     if made.one_in(12):
         stream = stream[: made.chance.randrange(len(stream) + 1)]
-    return stream, served(Machine(), stream)
+    return stream
+
+
+def units_in(replies):
+    """The units that the program chose for each job."""
+    return {int(number): int(left) for number, left in re.findall(rb"\njob (\d+) left (\d+)\n", replies)}
 
 
 def main(program, sessions="1000", seed="1"):
     program, numbers = os.path.abspath(program), {}
     for k in range(int(sessions)):
         name = f"{seed}.{k}"
-        stream, expected = session_of(name)
+        stream = session_of(name)
         came = subprocess.run([program, "-", "run"], input=stream, capture_output=True, check=False, timeout=600)
+        expected = served(Machine(units_in(came.stdout)), stream)
         if came.returncode or came.stdout != expected:
             print(f"session {name}, status {came.returncode}", stream.decode(errors="replace"), "wanted:", expected.decode(), "came:", came.stdout.decode(errors="replace"), sep="\n")
             return 1

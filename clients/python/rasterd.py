@@ -5,12 +5,15 @@
         session.write("hill", "v", [[1, 2, 3, 4], [5, 6, 7, 8], [9, 10, 11, 12]])
         session.query("for c in (hill) return add(c)")        # '78\n'
         session.array("for c in (hill) return encode(c[y(0:1)], csv)")
+        session.run("for c in (hill) return max(c)")          # as a job, with a line that shows its progress
 
 A refusal is raised as `Refused`, with its number and its name. The server serves one connection at a time: end a session
 as soon as it has done its work, and others are served.
 """
 
+import contextlib
 import http.client
+import sys
 import urllib.parse
 
 PATH = "/ows"
@@ -65,6 +68,11 @@ def items_of(csv):
     if not csv:
         return []
     return [[[tuple(map(parsed_cell, cell.split(" "))) for cell in line.split(",")] for line in item.splitlines()] for item in csv.split("\n\n")]
+
+
+def print_progress(done, whole):
+    """A line on standard error that is written over until all is done."""
+    print(f"\r{done:,} of {whole:,} units", end="\n" if done == whole else "", file=sys.stderr, flush=True)
 
 
 class Session:
@@ -151,6 +159,45 @@ class Session:
         """The one item of the answer as an array, or, of several fields, as a list of one for each. Lines and cells are its
         two axes unless a shape is given."""
         return arrays_of(self.query(query), shape)
+
+    # Jobs
+
+    def submit(self, query):
+        """Makes a job of a query: its number, and the units that it has left. Until its units are done the server refuses
+        updates and deletes of the coverages that it names, as 28 Busy."""
+        words = self.request("SubmitQuery", query=query).split()
+        return int(words[1]), int(words[3])
+
+    def step(self, job, units=1):
+        """Does so many units of a job, 1 to 1,000, and gives those that are left."""
+        return int(self.request("StepJob", job=job, units=units).split()[1])
+
+    def fetch(self, job):
+        """The answer of a job without units left, as the server's CSV. The job is gone then, also where its answer is a fault,
+        which is raised as `Refused`."""
+        return self.request("FetchJob", job=job)
+
+    def cancel(self, job):
+        """Ends a job, with units left or without."""
+        self.request("CancelJob", job=job)
+
+    def run(self, query, units=100, progress=print_progress):
+        """The answer to a query as a job, so many units a request; others are served between these, as the connection is
+        ended after each. `progress` is called with the units done and all that there are; None is for silence. A job that
+        is not brought to its end is cancelled."""
+        job, whole = self.submit(query)
+        try:
+            left = whole
+            while left:
+                self.close()
+                left = self.step(job, units)
+                if progress:
+                    progress(whole - left, whole)
+        except BaseException:
+            with contextlib.suppress(Exception):
+                self.cancel(job)
+            raise
+        return self.fetch(job)
 
     # Templates
 

@@ -43,6 +43,13 @@ class OverLoopback(unittest.TestCase):
     def session(self):
         return rasterd.Session(port=self.port)
 
+    def assert_refused(self, number, asked):
+        """The name of the refusal."""
+        with self.assertRaises(rasterd.Refused) as raised:
+            asked()
+        self.assertEqual(raised.exception.number, number)
+        return raised.exception.name
+
     def tool(self, name, *words):
         """Runs one of the two programs; what it prints on both of its outputs, and its status."""
         ended = subprocess.run([sys.executable, f"{HERE}/{name}", *words, "--port", str(self.port)], capture_output=True, text=True, check=False)
@@ -70,9 +77,7 @@ class Sessions(OverLoopback):
                 (53, "BadInterval", lambda: session.query("for c in (lai) return encode(c[x(5:3)], csv)")),
                 (80, "NoSuchTemplate", lambda: session.template("Slope", "lai")),
             ]:
-                with self.assertRaises(rasterd.Refused) as raised:
-                    asked()
-                self.assertEqual((raised.exception.number, raised.exception.name), (number, name))
+                self.assertEqual(self.assert_refused(number, asked), name)
 
     def test_booleans_and_fields(self):
         with self.session() as session:
@@ -83,6 +88,36 @@ class Sessions(OverLoopback):
             values, ok = session.array("for c in (w) return encode(c, csv)")
             numpy.testing.assert_array_equal(values, [[1, -2], [3, 4]])
             numpy.testing.assert_array_equal(ok, [[True, False], [False, True]])
+
+    def test_jobs(self):
+        told, query = [], "for c in (w) return encode(c * 2, csv)"
+        with self.session() as session:
+            session.insert("w", {"y": (0, 199), "x": (0, 99)}, {"v": "i16"})
+            session.fill("w", "v", 21)
+            number, whole = session.submit(query)
+            self.assertEqual(number, 1)
+            self.assertGreater(whole, 1)
+            self.assert_refused(28, lambda: session.fill("w", "v", 1))
+            self.assertEqual(session.step(number), whole - 1)
+            self.assert_refused(71, lambda: session.fetch(number))
+            self.assertEqual(session.step(number, 1000), 0)
+            session.fill("w", "v", 1)
+            numpy.testing.assert_array_equal(rasterd.arrays_of(session.fetch(number)), numpy.full((200, 100), 42))
+            self.assert_refused(70, lambda: session.fetch(number))
+            answer = session.run(query, units=1, progress=lambda done, whole: told.append((done, whole)))
+            numpy.testing.assert_array_equal(rasterd.arrays_of(answer), numpy.full((200, 100), 2))
+            self.assertEqual(told, [(done, whole) for done in range(1, whole + 1)])
+            self.assert_refused(61, lambda: session.run("for c in (w) return max(c / 0)", progress=None))
+
+    def test_a_job_that_is_stopped(self):
+        def stop(done, whole):
+            raise KeyboardInterrupt
+
+        with self.session() as session:
+            session.insert("w", {"x": (0, 9999)}, {"v": "i16"})
+            with self.assertRaises(KeyboardInterrupt):
+                session.run("for c in (w) return encode(c, csv)", units=1, progress=stop)
+            session.delete("w")
 
     def test_templates(self):
         with self.session() as session:
