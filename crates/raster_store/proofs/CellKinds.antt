@@ -1,8 +1,8 @@
 -- Cells that a field may have are stored as numbers in the range of its type.
-use Rattle.std.proofs.Common.{◌≡◌, ℕ, ◌+◌, ◌<◌, ◌≤◌, List, length, map, get_or, replicate, Bool, true, false, Option, refl, sym, ap, ◌∙◌, subst, arith, All}
-use Rattle.std.specs.Prelude.{ℤ, pos, IsSomeAnd}
+use Rattle.std.proofs.Common.{◌≡◌, ◌<◌, List, length, map, replicate, true, false, Option, sym, ap, ◌∙◌, subst, arith, All}
+use Rattle.std.specs.Prelude.{ℤ, IsSomeAnd}
 use Rattle.std.proofs.lemmas.Int.{ints}
-use Rattle.std.proofs.lemmas.List.{length-map, length-replicate, get_or-replicate, get_or_default}
+use Rattle.std.proofs.lemmas.List.{length-map, length-replicate, get_or-replicate}
 use Rattle.std.proofs.lemmas.List.Elements.{All-map, All-weaker}
 use Rattle.arr_core.specs.declared.cell.Cell.{Cell}
 use Rattle.arr_core.specs.declared.cell.Cell.TheVariants as cell

@@ -1,21 +1,18 @@
 -- What coverages say where blocks hold what they held, and where one field has another index.
-use Rattle.std.proofs.Common.{◌≡◌, ℕ, zero, suc, ◌+◌, ◌<◌, ◌≤◌, List, [], ◌∷◌, ◌++◌, length, get_or, set, map, take, drop, Bool, true, false, Option, Some, None, refl, sym, ap, ◌∙◌, subst, arith, All}
-use Rattle.std.specs.Prelude.{ℤ, pos, slice_get, IsSomeAnd, replicate}
+use Rattle.std.proofs.Common.{◌≡◌, ℕ, zero, suc, ◌<◌, List, [], ◌∷◌, ◌++◌, length, get_or, set, map, Some, refl, ap, subst, arith}
+use Rattle.std.specs.Prelude.{ℤ, pos, slice_get, replicate}
 use Rattle.std.specs.List.{remove}
-use Rattle.std.proofs.lemmas.List.{map-append}
 use Rattle.arr_core.specs.declared.domain.Axis.{Axis}
 use Rattle.arr_core.specs.declared.field.Field.{Field}
-use Rattle.arr_core.specs.declared.cell.FieldType.{FieldType}
-use Rattle.arr_core.specs.Domains.{points, rank_of, IsInside}
-use Rattle.arr_core.specs.Stores.{Coverage, new_coverage, updated_values, updated_coverage, value_at}
+use Rattle.arr_core.specs.Domains.{points}
+use Rattle.arr_core.specs.Stores.{Coverage, updated_values, updated_coverage}
 use Rattle.arr_core.specs.Tiles.{tile_boxes}
 use Rattle.block_file.specs.Blocks.{block_at}
-use Rattle.tile_store.specs.Listing.{times_in}
-use Rattle.tile_store.specs.Stored.{field_values, number_at, IsSpelled, IsBelow, KeepsListed}
+use Rattle.tile_store.specs.Stored.{field_values, IsSpelled, IsBelow, KeepsListed}
 use Rattle.tile_store.proofs.Kept.{values_kept, spelled_kept, values_of_none, spelled_of_none}
 use Rattle.raster_store.specs.declared.held.Held.{Held}
-use Rattle.raster_store.specs.Views.{Index, values_in, coverage_in, coverages_in, FieldsIntact, AreIntact, AreBelow, times_fields, times_all}
-use Rattle.raster_store.specs.Holding.{coverages_of, coverage_of, indexes_of, signatures_of}
+use Rattle.raster_store.specs.Views.{Index, values_in, FieldsIntact, AreIntact, AreBelow, times_fields, times_all}
+use Rattle.raster_store.specs.Holding.{coverages_of, coverage_of, indexes_of}
 use Rattle.raster_store.proofs.Totals.{times_fields-cons, times_all-cons}
 
 -- the listed blocks of fields hold what they held

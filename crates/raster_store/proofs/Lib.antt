@@ -6,3 +6,4 @@ pub mod Writes
 pub mod Named
 pub mod CellKinds
 pub mod Placed
+mod KeptTiles

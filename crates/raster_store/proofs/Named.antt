@@ -1,11 +1,10 @@
 -- What is known of the coverage with a name.
-use Rattle.std.proofs.Common.{◌≡◌, ℕ, zero, suc, ◌+◌, ◌<◌, ◌≤◌, List, [], ◌∷◌, length, get_or, Bool, IsTrue, Option, Some, None, refl, sym, ap, ◌∙◌, subst, arith, All}
+use Rattle.std.proofs.Common.{◌≡◌, ℕ, ◌<◌, List, length, get_or, Bool, Option, Some, sym, ap, ◌∙◌, subst, arith}
 use Rattle.std.specs.Prelude.{IsSomeAnd}
 use Rattle.std.proofs.lemmas.List.Elements.{All-get_or}
-use Rattle.arr_core.specs.Stores.{Store, Coverage, found}
+use Rattle.arr_core.specs.Stores.{Coverage, found}
 use Rattle.raster_store.specs.declared.held.Held.{Held}
-use Rattle.raster_store.specs.Views.{Index, RasterView, AreIntact, FieldsIntact, times_fields}
-use Rattle.raster_store.specs.Calls.{HasField}
+use Rattle.raster_store.specs.Views.{AreIntact, FieldsIntact, times_fields}
 use Rattle.raster_store.specs.Holding.{coverages_of, coverage_of, indexes_of, NoneNamed, IsNamedAt, IsWhole, IsHeld}
 use Rattle.raster_store.proofs.Places.{found_none, found_named, named_within}
 use Rattle.raster_store.proofs.Totals.{times_all-at}

@@ -1,7 +1,7 @@
 -- Where the coverage with a name stands.
-use Rattle.std.proofs.Common.{◌≡◌, ℕ, zero, suc, ◌+◌, ◌<◌, ◌≤◌, List, [], ◌∷◌, ◌++◌, length, get_or, set, map, take, drop, position, Bool, true, false, Option, Some, None, refl, sym, ap, ◌∙◌, subst, arith, Decides}
-use Rattle.std.specs.Prelude.{ℤ, find, slice_get, nat_lt}
-use Rattle.std.specs.List.{AllByRecursion as Each, remove, position_or_len}
+use Rattle.std.proofs.Common.{◌≡◌, ℕ, zero, suc, ◌+◌, ◌<◌, ◌≤◌, List, [], ◌∷◌, length, get_or, set, position, Bool, true, false, Some, None, refl, sym, ap, ◌∙◌, subst, arith}
+use Rattle.std.specs.Prelude.{ℤ, slice_get, nat_lt}
+use Rattle.std.specs.List.{remove, position_or_len}
 use Rattle.std.specs.Str.{bytes_eq}
 use Rattle.std.proofs.lemmas.List.Quantifiers.{position-Some}
 use Rattle.std.proofs.lemmas.Bool.Decides.{nat_tests}

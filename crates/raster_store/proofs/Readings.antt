@@ -1,9 +1,8 @@
 -- The value of a coverage at a point is the number that its field's tiles have there.
-use Rattle.std.proofs.Common.{◌≡◌, ℕ, zero, suc, ◌+◌, ◌<◌, ◌≤◌, List, [], ◌∷◌, ◌++◌, length, get_or, set, map, Option, Some, None, refl, sym, ap, ◌∙◌, subst, arith, All}
+use Rattle.std.proofs.Common.{◌≡◌, ℕ, suc, ◌<◌, List, [], ◌∷◌, length, get_or, map, Some, refl, sym, ap, ◌∙◌, subst, arith, All}
 use Rattle.std.specs.Prelude.{ℤ, pos, slice_get, ◌≤ℤ◌}
 use Rattle.std.proofs.lemmas.Int.{ints}
-use Rattle.std.proofs.lemmas.List.{get_or-map, length-map, get_or_default}
-use Rattle.std.proofs.lemmas.Grind.{common_steps}
+use Rattle.std.proofs.lemmas.List.{get_or-map, length-map}
 use Rattle.std.proofs.lemmas.Bool.Decides.{nat_tests}
 use Rattle.arr_core.specs.declared.domain.Axis.{Axis}
 use Rattle.arr_core.specs.declared.field.Field.{Field}
@@ -16,7 +15,7 @@ use Rattle.arr_core.proofs.Boxes.{IsDomain-box, IsBoxOf-box}
 use Rattle.arr_core.proofs.Grids.{ordered-grid}
 use Rattle.tile_store.specs.Stored.{field_values, number_at, tile_box}
 use Rattle.raster_store.specs.declared.held.Held.{Held}
-use Rattle.raster_store.specs.Views.{Index, values_in}
+use Rattle.raster_store.specs.Views.{Index}
 use Rattle.raster_store.specs.Holding.{coverage_of}
 use Rattle.raster_store.proofs.Contents.{values-at}
 

@@ -1,6 +1,6 @@
 -- What a write of one field does to a store.
-use Rattle.std.proofs.Common.{◌≡◌, ℕ, zero, suc, ◌+◌, ◌-◌, ◌<◌, ◌≤◌, ◌^◌, min, List, [], ◌∷◌, ◌++◌, length, get_or, set, map, Bool, true, false, IsTrue, Option, Some, None, Result, Ok, Err, refl, sym, ap, ◌∙◌, subst, arith, All, ◌⊎◌, inl, inr}
-use Rattle.std.specs.Prelude.{ℤ, pos, slice_get, IsSomeAnd, OnOk, OnErr, sum_by, replicate}
+use Rattle.std.proofs.Common.{◌≡◌, ℕ, zero, suc, ◌+◌, ◌-◌, ◌<◌, ◌≤◌, ◌^◌, min, List, [], ◌∷◌, ◌++◌, length, get_or, set, map, Bool, false, IsTrue, Option, Some, None, Result, Ok, Err, refl, sym, ap, ◌∙◌, subst, arith, All, ◌⊎◌, inl, inr}
+use Rattle.std.specs.Prelude.{ℤ, slice_get, IsSomeAnd, OnOk, OnErr, sum_by, replicate}
 use Rattle.std.specs.List.{AllByRecursion as Each, remove}
 use Rattle.std.proofs.lemmas.Bool.{cases_eq, cases_lt}
 use Rattle.std.proofs.lemmas.List.{length-set, set-get_or}
@@ -19,7 +19,7 @@ use Rattle.tile_index.specs.Index.{IsIndex}
 use Rattle.tile_store.specs.Listing.{times_in, AreUsed, KeepsUsed}
 use Rattle.tile_store.specs.Room.{LacksRoom}
 use Rattle.tile_store.specs.Stored.{field_values, IsSpelled, IsBelow, AreWhole, KeepsListed, block_count}
-use Rattle.tile_store.proofs.Kept.{values_kept, spelled_kept}
+use Rattle.tile_store.proofs.Kept.{values_kept}
 use Rattle.raster_store.specs.declared.held.Held.{Held}
 use Rattle.raster_store.specs.Views.{Index, AreBelow, coverage_in, coverages_in, AreIntact, FieldsIntact, times_fields, times_all, listed_blocks, fields_size, metadata_size, reserve}
 use Rattle.raster_store.specs.Calls.{LacksRoomFor, MayAttach, AreListed, AreSameSignatures, signature_of, AreWhole as AreAllWhole}

@@ -1,5 +1,5 @@
 -- What the calls of a store ask and answer.
-use Rattle.std.specs.Prelude.{◌≡◌, ℕ, ◌+◌, ◌<◌, ◌≤◌, Bool, IsTrue, ℤ, List, [], ◌∷◌, map, length, All, Option, Some, None, slice_get, slice_index_or, IsSomeAnd, Result, IsErrOf, if◌then◌else◌}
+use Rattle.std.specs.Prelude.{◌≡◌, ℕ, ◌+◌, ◌<◌, ◌≤◌, Bool, IsTrue, ℤ, List, [], ◌∷◌, map, length, All, Option, None, slice_get, IsSomeAnd, Result, IsErrOf, if◌then◌else◌}
 use Rattle.std.specs.Str.{bytes_eq}
 use Rattle.arr_core.specs.declared.cell.Cell.{Cell}
 use Rattle.arr_core.specs.declared.domain.Axis.{Axis}
@@ -12,7 +12,6 @@ use Rattle.block_file.specs.Blocks.{block_at}
 use Rattle.disk_face.specs.Disk.{Rose}
 use Rattle.tile_index.specs.Bytes.{index_bytes}
 use Rattle.tile_index.specs.Index.{IsIndex}
-use Rattle.tile_store.specs.declared.fault.Fault.{Fault}
 use Rattle.tile_store.specs.declared.fault.Fault.TheVariants as device
 use Rattle.tile_store.specs.Room.{LacksRoom}
 use Rattle.raster_store.specs.declared.fault.WriteFault.{WriteFault}

@@ -2,6 +2,7 @@
 //! its domain; a field is kept in tiles.
 #![tactic(auto)]
 
+mod decoded;
 mod fault;
 mod held;
 mod reading;

@@ -92,7 +92,7 @@ pub(crate) fn cells_in<B: Blocks>(
 
 /// Which tile: of which coverage of a store, by its place, of which of its fields, by its place, and which one of its
 /// domain's tiles, by its number.
-#[derive(Clone, Copy, Debug, PartialEq, Eq)]
+#[derive(Clone, Copy, Debug, PartialEq, Eq, Hash)]
 pub struct TileAt {
     pub coverage: usize,
     pub field: usize,

@@ -13,9 +13,11 @@ ghost use Rattle.tile_store.specs.Room.{AreMeeting};
 ghost use Rattle.tile_store.specs.Stored.{tile_box};
 ghost use Rattle.disk_face.specs.Disk.{Counts};
 ghost use Rattle.raster_store.specs.Views.{coverage_in, AreIntact, times_all, listed_blocks, reserve, AreBelow, Fetched};
+ghost use Rattle.raster_store.specs.Decoded.{IsDecoded};
 ghost use Rattle.raster_store.specs.Fetches.{IsPlaceOf, HasTile, AreTileCells, HasTileCount, IsSpelledAt, OnlyFetches};
 ghost use Rattle.raster_store.specs.Calls.{signature_of, AreSameSignatures, AreWhole, AreListed, HasField, HasNumbers, Refuses, WriteCounts, LacksRoomFor, MayAttach, index_of, indexes_without};
 
+use crate::decoded::DecodedTiles;
 use crate::fault::WriteFault;
 use crate::held::{Held, give_back_fields, place_held, place_of};
 use crate::reading::{TileAt, cell_at, cells_in, tile_into};
@@ -29,13 +31,15 @@ use std::marker::Model;
 use tile_index::TileIndex;
 use tile_store::{Fault, Numbers};
 
-/// The coverages in the order of their insertion, over blocks; and the buffer that the bytes of a tile are read into.
+/// The coverages in the order of their insertion, over blocks; the tiles that are kept decoded, as they are now; and the
+/// buffer that the bytes of a tile are read into.
 #[derive(Drop)]
 pub struct RasterStore<B: Blocks> {
     alloc: Global,
     blocks: B,
     coverages: Vec<Held>,
     fetched: u64,
+    decoded: DecodedTiles,
     bytes: Vec<u8>,
 }
 
@@ -44,6 +48,8 @@ impl<B: Blocks> Model for RasterStore<B> {
 
     ghost Value = { RasterView B };
 
+    ghost use Rattle.std.specs.Prelude.{◌≡◌};
+    ghost use Rattle.raster_store.specs.Decoded.{AreDecoded};
     ghost use Rattle.raster_store.specs.Holding.{coverages_of, indexes_of, IsHeld};
 
     ghost view = { λ s. record {
@@ -53,7 +59,7 @@ impl<B: Blocks> Model for RasterStore<B> {
       blocks = s.blocks;
     } };
 
-    ghost invariant = { λ s. IsHeld (B.content s.blocks) (B.uses s.blocks) (B.honest s.blocks) s.coverages.items };
+    ghost invariant = { λ s. IsHeld (B.content s.blocks) (B.uses s.blocks) (B.honest s.blocks) s.coverages.items × AreDecoded (B.content s.blocks) (B.honest s.blocks) (coverages_of (B.content s.blocks) s.coverages.items) (indexes_of s.coverages.items) s.decoded };
 }
 
 impl<B: Blocks> RasterStore<B> {
@@ -64,11 +70,13 @@ impl<B: Blocks> RasterStore<B> {
         ensures fetched { result.fetched ≡ 0 }
         ensures blocks { result.blocks ≡ blocks }
     {
+        let decoded = DecodedTiles::new(alloc);
         RasterStore {
             alloc,
             blocks,
             coverages: Vec::new(alloc),
             fetched: 0,
+            decoded,
             bytes: Vec::new(alloc),
         }
     }
@@ -91,6 +99,7 @@ impl<B: Blocks> RasterStore<B> {
         ensures blocks { self.new.blocks ≡ self.old.blocks }
     {
         let held = Held::listed(self.alloc, signature, indexes)?;
+        self.decoded.clear();
         self.coverages.push(held)?;
         Ok(())
     }
@@ -115,6 +124,7 @@ impl<B: Blocks> RasterStore<B> {
         if !has_room(size, self.blocks.free()) {
             return Err(Fault::NoRoom);
         }
+        self.decoded.clear();
         self.coverages.push(held)?;
         Ok(())
     }
@@ -185,6 +195,36 @@ impl<B: Blocks> RasterStore<B> {
         }
     }
 
+    /// Copies the cells of a tile into `cells` where it is kept decoded, which it tells.
+    fn copy_kept(&mut self, at: TileAt, cells: &mut Vec<i64>) -> Result<bool, AllocError>
+        ensures kept { IfOk result (λ kept. IsTrue kept → IsDecoded (B.content self.old.blocks) (B.honest self.old.blocks) self.old.coverages self.old.indexes at cells.new.items) }
+        ensures same { self.new ≡ self.old }
+    {
+        self.decoded.get(at, cells)
+    }
+
+    /// Reads a tile from its blocks, and keeps it decoded.
+    fn read_tile(&mut self, at: TileAt, cells: &mut Vec<i64>) -> Result<(), Fault>
+        requires tile { HasTile at self.old.coverages }
+        ensures decoded { OnOk result (IsDecoded (B.content self.old.blocks) (B.honest self.old.blocks) self.old.coverages self.old.indexes at cells.new.items) }
+        ensures damaged { IsErrOf result Fault.Damaged → IsTrue (B.honest self.old.blocks) → IsSpelledAt at (B.content self.old.blocks) self.old.coverages self.old.indexes → ⊥ }
+        ensures no_room { IsErrOf result Fault.NoRoom → ⊥ }
+        ensures fetches { OnlyFetches B.content B.uses B.free_blocks B.honest self.old self.new }
+        ensures fetched { self.new.fetched ≡ self.old.fetched }
+        ensures counts { FaultCounts result (B.failures self.old.blocks) (B.failures self.new.blocks) }
+    {
+        tile_into(
+            self.alloc,
+            &mut self.blocks,
+            &self.coverages[at.coverage],
+            at,
+            &mut self.bytes,
+            cells,
+        )?;
+        self.decoded.keep(self.alloc, at, cells);
+        Ok(())
+    }
+
     /// Reads the stored numbers of a tile into `cells`, whatever it held before, in row-major order. `Damaged` comes
     /// where the tile was read and its bytes do not spell as many cells as it has points, and for no other tile's sake.
     /// After a refusal `cells` holds anything, and the tile is not counted as fetched.
@@ -199,25 +239,28 @@ impl<B: Blocks> RasterStore<B> {
         ensures fetched { MatchResult result (λ _. Fetched 1 self.old.fetched self.new.fetched) (λ _. self.new.fetched ≡ self.old.fetched) }
         ensures counts { FaultCounts result (B.failures self.old.blocks) (B.failures self.new.blocks) }
     {
-        tile_into(
-            self.alloc,
-            &mut self.blocks,
-            &self.coverages[at.coverage],
-            at,
-            &mut self.bytes,
-            cells,
-        )?;
+        if self.copy_kept(at, cells)? {
+            self.fetched = self.fetched.saturating_add(1);
+            return Ok(());
+        }
+        self.read_tile(at, cells)?;
         self.fetched = self.fetched.saturating_add(1);
         Ok(())
     }
 
-    /// The stored numbers of a field, by its place, in a tile of the coverage with a name, by its number, in row-major
-    /// order.
-    pub fn fetch_tile(&mut self, name: &Name, field: usize, tile: u64) -> Result<Vec<i64>, Fault>
+    /// Reads the stored numbers of a field, by its place, in a tile of the coverage with a name, by its number, into
+    /// `cells`, whatever it held before, in row-major order. After a refusal `cells` holds anything.
+    pub fn fetch_tile(
+        &mut self,
+        name: &Name,
+        field: usize,
+        tile: u64,
+        cells: &mut Vec<i64>,
+    ) -> Result<(), Fault>
         requires field { HasField name.now field self.old.coverages }
         requires tile { IsSomeAnd (found name.now self.old.coverages) (λ c. tile < length (tile_boxes c.domain)) }
-        ensures value { IfOk result (λ cells. IsTrue (B.honest self.old.blocks) → IsSomeAnd (found name.now self.old.coverages) (λ c. cells.items ≡ map (value_at c field) (points (tile_box c.domain tile)))) }
-        ensures counted { IfOk result (λ cells. IsSomeAnd (found name.now self.old.coverages) (λ c. length cells.items ≡ length (points (tile_box c.domain tile)))) }
+        ensures value { OnOk result (IsTrue (B.honest self.old.blocks) → IsSomeAnd (found name.now self.old.coverages) (λ c. cells.new.items ≡ map (value_at c field) (points (tile_box c.domain tile)))) }
+        ensures counted { OnOk result (IsSomeAnd (found name.now self.old.coverages) (λ c. length cells.new.items ≡ length (points (tile_box c.domain tile)))) }
         ensures damaged { IsErrOf result Fault.Damaged → IsTrue (B.honest self.old.blocks) → AreIntact (B.content self.old.blocks) self.old.coverages self.old.indexes → ⊥ }
         ensures no_room { IsErrOf result Fault.NoRoom → ⊥ }
         ensures coverages { self.new.coverages ≡ self.old.coverages }
@@ -235,9 +278,8 @@ impl<B: Blocks> RasterStore<B> {
             field,
             tile,
         };
-        let mut cells = Vec::new(self.alloc);
-        self.fetch_tile_into(at, &mut cells)?;
-        Ok(cells)
+        self.fetch_tile_into(at, cells)?;
+        Ok(())
     }
 
     /// Writes cells into a box of a field, by its place, of the coverage with a name, in row-major order of the box's
@@ -272,6 +314,7 @@ impl<B: Blocks> RasterStore<B> {
             Ok(list) => Numbers::Each(list),
             Err(_) => return Err(WriteFault::Device(Fault::NoMemory)),
         };
+        self.decoded.clear();
         let held: &mut [Held] = &mut self.coverages;
         match write_at(
             self.alloc,
@@ -316,6 +359,7 @@ impl<B: Blocks> RasterStore<B> {
         let place = place_held(&self.coverages, name);
         check_cell(&self.coverages[place].signature, field, area, cell)?;
         let numbers = Numbers::Same(cell.stored());
+        self.decoded.clear();
         let held: &mut [Held] = &mut self.coverages;
         match write_at(
             self.alloc,
@@ -346,6 +390,7 @@ impl<B: Blocks> RasterStore<B> {
     {
         match place_of(&self.coverages, name) {
             Some(place) => {
+                self.decoded.clear();
                 let held = self.coverages.remove(place);
                 give_back_fields(&mut self.blocks, &held.fields);
             }
@@ -373,6 +418,7 @@ impl<B: Blocks> RasterStore<B> {
         ensures honest { B.honest self.new.blocks ≡ B.honest self.old.blocks }
         ensures counts { FaultCounts result (B.failures self.old.blocks) (B.failures self.new.blocks) }
     {
+        self.decoded.clear();
         match write_chain(&mut self.blocks, metadata) {
             Ok(first) => Ok(first),
             Err(ChainFault::NoMemory) => Err(Fault::NoMemory),
@@ -394,6 +440,7 @@ impl<B: Blocks> RasterStore<B> {
         ensures honest { B.honest self.new.blocks ≡ B.honest self.old.blocks }
         ensures counts { Counts result (B.failures self.old.blocks) (B.failures self.new.blocks) }
     {
+        self.decoded.clear();
         self.blocks.write_header(state, first, length)
     }
 
@@ -407,6 +454,7 @@ impl<B: Blocks> RasterStore<B> {
             blocks,
             coverages: _,
             fetched: _,
+            decoded: _,
             bytes: _,
         } = self;
         blocks

@@ -163,7 +163,11 @@ fn tile(alloc: Global, store: &mut Store, words: &str) -> Result<String> {
     if !has_field(store, &name, field) || !has_tile(store, &name, tile) {
         bail!("no field or no tile");
     }
-    numbers(alloc, store.fetch_tile(&name, field, tile))
+    let mut cells = Vec::new(alloc);
+    match store.fetch_tile(&name, field, tile, &mut cells) {
+        Ok(()) => joined(alloc, &cells),
+        Err(fault) => refusal(alloc, refused(fault)),
+    }
 }
 
 /// Which tile it is, of which field of the coverage with a name, where there is one.

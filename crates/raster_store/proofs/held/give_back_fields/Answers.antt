@@ -1,6 +1,4 @@
-use Rattle.std.proofs.Common.{◌≡◌, ℕ, ◌+◌, ◌<◌, ◌≤◌, take, refl, arith, ap, List, ◌∙◌}
-use Rattle.tile_store.specs.Listing.{times_in, AreUsed}
-use Rattle.raster_store.specs.Views.{times_fields}
+use Rattle.std.proofs.Common.{◌+◌, refl, arith, ◌∙◌}
 use Rattle.raster_store.proofs.Totals.{times_fields-nil, times_fields-more, times_fields-part, blocks-more}
 use Rattle.raster_store.proofs.held.give_back_fields.Goals as goal
 

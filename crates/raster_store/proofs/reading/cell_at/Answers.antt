@@ -1,11 +1,10 @@
-use Rattle.std.proofs.Common.{◌≡◌, ℕ, ◌<◌, ◌≤◌, List, [], length, get_or, Some, refl, sym, ap, ◌∙◌, subst, arith}
+use Rattle.std.proofs.Common.{◌≡◌, ◌<◌, [], length, get_or, Some, refl, subst, arith}
 use Rattle.std.specs.Prelude.{slice_get, ℤ, IfOk, IsTrue}
 use Rattle.std.proofs.lemmas.List.{get_or_read}
 use Rattle.std.proofs.lemmas.Option.{slice_get_read}
-use Rattle.tile_store.specs.Stored.{tile_box, IsSpelled}
 use Rattle.raster_store.proofs.Contents.{spelled-at}
 use Rattle.raster_store.proofs.Totals.{times_fields-at}
-use Rattle.raster_store.proofs.Readings.{value_number, box_values, tile_is_box}
+use Rattle.raster_store.proofs.Readings.{value_number}
 use Rattle.raster_store.proofs.reading.cell_at.Goals as goal
 
 pub read_point-requires-clause-used : goal.read_point-requires-clause-used

@@ -1,4 +1,4 @@
-use Rattle.std.proofs.Common.{arith, ap, ◌≡◌, ◌+◌, ◌-◌, ◌^◌, min, sum_by}
+use Rattle.std.proofs.Common.{arith, ap}
 use Rattle.raster_store.specs.Views.{fields_size}
 use Rattle.raster_store.specs.Holding.{indexes_of}
 use Rattle.raster_store.proofs.Totals.{metadata_size-push}

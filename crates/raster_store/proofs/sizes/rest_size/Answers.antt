@@ -1,4 +1,4 @@
-use Rattle.std.proofs.Common.{arith, ap, ◌≡◌, ℕ, ◌+◌, ◌-◌, ◌<◌, ◌^◌, min, List, [], length, get_or, take, drop, sum_by}
+use Rattle.std.proofs.Common.{arith, ap, ◌≡◌, ◌+◌, ◌-◌, ◌^◌, min, length, get_or, take, drop, sum_by}
 use Rattle.std.proofs.lemmas.List.{take_rest, get_or_default}
 use Rattle.tile_index.specs.Bytes.{index_bytes}
 use Rattle.raster_store.specs.declared.held.Held.{Held}

@@ -1,4 +1,4 @@
-use Rattle.std.proofs.Common.{◌≡◌, [], get_or, arith}
+use Rattle.std.proofs.Common.{◌≡◌, [], get_or}
 use Rattle.std.proofs.lemmas.List.{get_or_default}
 use Rattle.raster_store.proofs.Contents.{below-at}
 use Rattle.raster_store.proofs.writing.write_field.Goals as goal

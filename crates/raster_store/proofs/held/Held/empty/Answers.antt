@@ -1,4 +1,4 @@
-use Rattle.std.proofs.Common.{[], ◌∙◌, sym}
+use Rattle.std.proofs.Common.{[], ◌∙◌}
 use Rattle.std.proofs.lemmas.List.{length-replicate}
 use Rattle.raster_store.proofs.Writes.{whole_empty}
 use Rattle.raster_store.proofs.held.Held.empty.Goals as goal

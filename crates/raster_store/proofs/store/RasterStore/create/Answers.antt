@@ -1,14 +1,14 @@
-use Rattle.std.proofs.Common.{◌≡◌, ℕ, ◌+◌, ◌<◌, ◌≤◌, List, [], ◌∷◌, ◌++◌, length, map, get_or, replicate, Some, None, refl, sym, ap, ◌∙◌, subst, arith, All}
-use Rattle.std.specs.Prelude.{IsTrue}
+use Rattle.std.proofs.Common.{◌≡◌, List, [], ◌∷◌, ◌++◌, length, None, sym, ap, ◌∙◌, subst}
 use Rattle.arr_core.specs.declared.signature.Signature.{Signature}
-use Rattle.arr_core.specs.Stores.{Coverage, Store, found}
+use Rattle.arr_core.specs.Stores.{Coverage, found}
 use Rattle.raster_store.specs.declared.held.Held.{Held}
 use Rattle.raster_store.specs.Views.{Index, AreIntact}
 use Rattle.raster_store.specs.Calls.{MayAttach}
-use Rattle.raster_store.specs.Holding.{IsHeld, NoneNamed, coverages_of, coverage_of, indexes_of}
+use Rattle.raster_store.specs.Holding.{IsHeld, NoneNamed, coverages_of, indexes_of}
 use Rattle.raster_store.proofs.Places.{none_found}
-use Rattle.raster_store.proofs.Contents.{KeepsAll, coverages-push, indexes-push, coverages_kept, intact_kept}
-use Rattle.raster_store.proofs.Writes.{held_none, held_push, listed_held, may_empty, coverage_new, coverage_listed, intact_created, keeps_all, keeps_others, told, same_signatures}
+use Rattle.raster_store.proofs.Contents.{coverages-push}
+use Rattle.raster_store.proofs.Writes.{held_push, may_empty, coverage_new, intact_created}
+use Rattle.raster_store.proofs.KeptTiles.{decoded_empty}
 use Rattle.raster_store.proofs.store.RasterStore.create.Goals as goal
 
 pub invariant_of-self-2 : goal.invariant_of-self-2
@@ -21,7 +21,10 @@ invariant_of-self-2 g c =
     let unknown : found c.args.signature.now.name (coverages_of content held) ≡ None = rw (← c.self.view_is) at c.requires.name in
     let none : NoneNamed new.signature.name held = subst (λ (s : Signature). NoneNamed s.name held) (sym c.in_ok-held.ensures.signature) (none_found content c.args.signature.now.name held unknown) in
     let may = subst (λ (i : List Index). MayAttach content uses honest (indexes_of held) i) (sym c.in_ok-held.ensures.fields) (may_empty content uses honest (indexes_of held) (length c.args.signature.now.fields)) in
-    subst (λ (l : List Held). IsHeld content uses honest l) (sym c.in_ok-push.ensures.items) (held_push content uses honest held new c.self.invariant c.in_ok-held.ensures.whole none may)
+    let after = c.push.new.self.items in (
+      subst (λ (l : List Held). IsHeld content uses honest l) (sym c.in_ok-push.ensures.items) (held_push content uses honest held new c.self.invariant.0 c.in_ok-held.ensures.whole none may),
+      decoded_empty content honest (coverages_of content after) (indexes_of after) c.clear.new.self c.clear.ensures,
+    )
 
 pub returns-clause-created : goal.returns-clause-created
 returns-clause-created g c =

@@ -44,7 +44,7 @@ returns-in_err-fetch_tile_into-clause-damaged g c =
     let within : IsSomeAnd (found name (coverages_of content held)) (λ (x : Coverage). c.args.tile < length (tile_boxes x.domain)) = rw (← c.self.view_is) at c.requires.tile in
     let there = tile_named (coverages_of content held) name place c.args.field c.args.tile (placed_name content held name place at) has within in
     let p = err_from_is_err_and c.from_residual.result c.from_residual.ensures.1 in
-    rw (← c.self.view_is) (λ err sure intact. (rw (← c.self.view_is) at c.in_err-fetch_tile_into.ensures.damaged) (let q = rw (p.1, p.2) at err in cc) sure (intact_spelled content held _ c.self.invariant.each there intact))
+    rw (← c.self.view_is) (λ err sure intact. (rw (← c.self.view_is) at c.in_err-fetch_tile_into.ensures.damaged) (let q = rw (p.1, p.2) at err in cc) sure (intact_spelled content held _ c.self.invariant.0.each there intact))
 
 pub returns-clause-value : goal.returns-clause-value
 returns-clause-value g c =

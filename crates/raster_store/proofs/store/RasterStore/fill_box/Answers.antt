@@ -1,29 +1,19 @@
-use Rattle.std.proofs.Common.{◌≡◌, ℕ, ◌+◌, ◌<◌, ◌≤◌, List, [], ◌∷◌, ◌++◌, length, map, get_or, Some, None, refl, sym, ap, ◌∙◌, subst, arith, rules, w64, SFits, All}
-use Rattle.std.specs.Prelude.{IsSomeAnd, IsTrue, ℤ, min, ◌-◌, ◌^◌, OnOk}
+use Rattle.std.proofs.Common.{◌≡◌, ◌<◌, List, ◌++◌, length, get_or, sym, ap, ◌∙◌, subst, arith, rules, w64, SFits}
+use Rattle.std.specs.Prelude.{IsSomeAnd}
 use Rattle.std.proofs.lemmas.Int.{to_z-of_z}
 use Rattle.std.proofs.lemmas.Result.{err_from_is_err_and}
-use Rattle.arr_core.specs.declared.domain.Axis.{Axis}
-use Rattle.arr_core.specs.Domains.{points, IsInside, IsBoxOf}
-use Rattle.arr_core.specs.Stores.{Coverage, found, value_at}
-use Rattle.arr_core.specs.Tiles.{tile_boxes}
-use Rattle.tile_store.specs.Room.{AreMeeting}
-use Rattle.tile_store.specs.Stored.{tile_box}
-use Rattle.raster_store.specs.Views.{Fetched}
-use Rattle.raster_store.specs.Holding.{IsNamedAt, NoneNamed, coverages_of, coverage_of, indexes_of}
-use Rattle.raster_store.proofs.Named.{Named, named_facts, named_has, named_gives, some_named}
+use Rattle.arr_core.specs.Stores.{Coverage, found}
+use Rattle.raster_store.specs.Holding.{IsNamedAt, NoneNamed, coverages_of}
+use Rattle.raster_store.proofs.Named.{named_facts, named_has, named_gives, some_named}
 use Rattle.std.proofs.lemmas.List.{get_or_default, length-map, take_at}
 use Rattle.std.proofs.Common.{take, drop}
 use Rattle.arr_core.specs.declared.signature.Signature.{Signature}
-use Rattle.arr_core.specs.declared.field.Field.{Field}
-use Rattle.arr_core.specs.declared.cell.Cell.{Cell}
-use Rattle.arr_core.specs.Cells.{stored, Fits}
-use Rattle.arr_core.specs.Domains.{count}
-use Rattle.std.specs.Prelude.{slice_get, replicate}
+use Rattle.std.specs.Prelude.{slice_get}
 use Rattle.raster_store.specs.declared.held.Held.{Held}
-use Rattle.raster_store.specs.Calls.{AreCells, AreSameSignatures}
+use Rattle.raster_store.specs.Calls.{AreSameSignatures}
 use Rattle.raster_store.proofs.Places.{named_within}
 use Rattle.raster_store.proofs.Writes.{same_signatures}
-use Rattle.raster_store.proofs.CellKinds.{numbers_each, numbers_same}
+use Rattle.raster_store.proofs.CellKinds.{numbers_same}
 use Rattle.raster_store.proofs.store.RasterStore.fill_box.Goals as goal
 
 pub place_held-place-requires-clause-some : goal.place_held-place-requires-clause-some
@@ -60,7 +50,7 @@ check_cell-requires g c =
     let place = c.place_held-place.result in
     let h = c.index.result.now in
     let at : IsNamedAt name held place = subst (λ (l : List Held). IsNamedAt name l place) c.deref.ensures.value c.place_held-place.ensures in
-    let facts = named_facts content uses honest held name place h c.self.invariant at c.index.ensures in
+    let facts = named_facts content uses honest held name place h c.self.invariant.0 at c.index.ensures in
     let has : IsSomeAnd (found name (coverages_of content held)) (λ (x : Coverage). field < length x.fields) = rw (← c.self.view_is) at c.requires.field in
     named_has content uses held name place h (λ (x : Coverage). field < length x.fields) facts has
 
@@ -75,7 +65,7 @@ returns-in_err-check_cell-clause-refuses g c =
     let place = c.place_held-place.result in
     let h = c.index.result.now in
     let at : IsNamedAt name held place = subst (λ (l : List Held). IsNamedAt name l place) c.deref.ensures.value c.place_held-place.ensures in
-    let facts = named_facts content uses honest held name place h c.self.invariant at c.index.ensures in
+    let facts = named_facts content uses honest held name place h c.self.invariant.0 at c.index.ensures in
     let p = err_from_is_err_and c.from_residual.result c.from_residual.ensures.1 in
     rw (← c.self.view_is, p.1, p.2) (named_gives content uses held name place h _ facts (c.in_err-check_cell.ensures.refused content h.fields.items))
 
@@ -90,7 +80,7 @@ write_at-requires-clause-place g c =
     let place = c.place_held-place.result in
     let h = c.index.result.now in
     let at : IsNamedAt name held place = subst (λ (l : List Held). IsNamedAt name l place) c.deref.ensures.value c.place_held-place.ensures in
-    let facts = named_facts content uses honest held name place h c.self.invariant at c.index.ensures in
+    let facts = named_facts content uses honest held name place h c.self.invariant.0 at c.index.ensures in
     rw c.deref_mut-held.ensures.value facts.within
 
 pub write_at-requires-clause-field : goal.write_at-requires-clause-field
@@ -104,7 +94,7 @@ write_at-requires-clause-field g c =
     let place = c.place_held-place.result in
     let h = c.index.result.now in
     let at : IsNamedAt name held place = subst (λ (l : List Held). IsNamedAt name l place) c.deref.ensures.value c.place_held-place.ensures in
-    let facts = named_facts content uses honest held name place h c.self.invariant at c.index.ensures in
+    let facts = named_facts content uses honest held name place h c.self.invariant.0 at c.index.ensures in
     let done = c.in_ok-check_cell.ensures.done in
     λ d.
     let same : h ≡ get_or c.deref_mut-held.result.now place d = rw c.deref_mut-held.ensures.value (c.index.ensures ∙ get_or_default held place h d facts.within) in
@@ -122,7 +112,7 @@ write_at-requires-clause-area g c =
     let place = c.place_held-place.result in
     let h = c.index.result.now in
     let at : IsNamedAt name held place = subst (λ (l : List Held). IsNamedAt name l place) c.deref.ensures.value c.place_held-place.ensures in
-    let facts = named_facts content uses honest held name place h c.self.invariant at c.index.ensures in
+    let facts = named_facts content uses honest held name place h c.self.invariant.0 at c.index.ensures in
     let done = c.in_ok-check_cell.ensures.done in
     λ d.
     let same : h ≡ get_or c.deref_mut-held.result.now place d = rw c.deref_mut-held.ensures.value (c.index.ensures ∙ get_or_default held place h d facts.within) in
@@ -139,7 +129,7 @@ returns-in-Ok-clause-numbers g c =
     let place = c.place_held-place.result in
     let h = c.index.result.now in
     let at : IsNamedAt name held place = subst (λ (l : List Held). IsNamedAt name l place) c.deref.ensures.value c.place_held-place.ensures in
-    let facts = named_facts content uses honest held name place h c.self.invariant at c.index.ensures in
+    let facts = named_facts content uses honest held name place h c.self.invariant.0 at c.index.ensures in
     rw (← c.self.view_is) (named_gives content uses held name place h _ facts c.in_ok-check_cell.ensures.done)
 
 pub returns-in-Ok-clause-signatures : goal.returns-in-Ok-clause-signatures
@@ -191,5 +181,5 @@ returns-clause-refuses g c =
     let place = c.place_held-place.result in
     let h = c.index.result.now in
     let at : IsNamedAt name held place = subst (λ (l : List Held). IsNamedAt name l place) c.deref.ensures.value c.place_held-place.ensures in
-    let facts = named_facts content uses honest held name place h c.self.invariant at c.index.ensures in
+    let facts = named_facts content uses honest held name place h c.self.invariant.0 at c.index.ensures in
     rw (← c.self.view_is) (named_gives content uses held name place h _ facts c.in_ok-check_cell.ensures.done)

@@ -1,16 +1,8 @@
-use Rattle.std.proofs.Common.{◌≡◌, ℕ, ◌+◌, ◌<◌, ◌≤◌, List, [], ◌∷◌, ◌++◌, length, map, get_or, Some, None, refl, sym, ap, ◌∙◌, subst, arith, rules, w64, SFits, All}
-use Rattle.std.specs.Prelude.{IsSomeAnd, IsTrue, ℤ, min, ◌-◌, ◌^◌, OnOk}
-use Rattle.std.proofs.lemmas.Int.{to_z-of_z}
-use Rattle.std.proofs.lemmas.Result.{err_from_is_err_and}
-use Rattle.arr_core.specs.declared.domain.Axis.{Axis}
-use Rattle.arr_core.specs.Domains.{points, IsInside, IsBoxOf}
-use Rattle.arr_core.specs.Stores.{Coverage, found, value_at}
-use Rattle.arr_core.specs.Tiles.{tile_boxes}
-use Rattle.tile_store.specs.Room.{AreMeeting}
-use Rattle.tile_store.specs.Stored.{tile_box}
-use Rattle.raster_store.specs.Views.{Fetched}
-use Rattle.raster_store.specs.Holding.{IsNamedAt, NoneNamed, coverages_of, coverage_of, indexes_of}
-use Rattle.raster_store.proofs.Named.{Named, named_facts, named_has, named_gives, some_named}
+use Rattle.std.proofs.Common.{◌≡◌, ◌<◌, List, length, get_or, Some, refl, ap, ◌∙◌, subst, arith}
+use Rattle.std.specs.Prelude.{IsSomeAnd}
+use Rattle.arr_core.specs.Stores.{Coverage, found}
+use Rattle.raster_store.specs.Holding.{IsNamedAt, NoneNamed, coverages_of, indexes_of}
+use Rattle.raster_store.proofs.Named.{named_facts, named_has, some_named}
 use Rattle.std.specs.Prelude.{slice_get}
 use Rattle.std.proofs.lemmas.Option.{slice_get_read}
 use Rattle.raster_store.specs.declared.held.Held.{Held}
@@ -52,7 +44,7 @@ index-index-requires g c =
     let place = c.place_held-place.result in
     let h = c.index.result.now in
     let at : IsNamedAt name held place = subst (λ (l : List Held). IsNamedAt name l place) c.deref.ensures.value c.place_held-place.ensures in
-    let facts = named_facts content uses honest held name place h c.self.invariant at c.index.ensures in
+    let facts = named_facts content uses honest held name place h c.self.invariant.0 at c.index.ensures in
     let has : IsSomeAnd (found name (coverages_of content held)) (λ (x : Coverage). field < length x.fields) = rw (← c.self.view_is) at c.requires.field in
     let within = named_has content uses held name place h (λ (x : Coverage). field < length x.fields) facts has in
     omega (arith, within, facts.whole.0, h.fields.ok)
@@ -68,7 +60,7 @@ returns g c =
     let place = c.place_held-place.result in
     let h = c.index.result.now in
     let at : IsNamedAt name held place = subst (λ (l : List Held). IsNamedAt name l place) c.deref.ensures.value c.place_held-place.ensures in
-    let facts = named_facts content uses honest held name place h c.self.invariant at c.index.ensures in
+    let facts = named_facts content uses honest held name place h c.self.invariant.0 at c.index.ensures in
     let has : IsSomeAnd (found name (coverages_of content held)) (λ (x : Coverage). field < length x.fields) = rw (← c.self.view_is) at c.requires.field in
     let within = named_has content uses held name place h (λ (x : Coverage). field < length x.fields) facts has in
     let inside : field < length h.fields.items = omega (arith, within, facts.whole.0) in

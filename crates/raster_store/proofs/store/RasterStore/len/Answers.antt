@@ -10,7 +10,7 @@ returns-clause-whole g c =
     let content = g.B.Blocks.content c.self.inside.blocks in
     let uses = g.B.Blocks.uses c.self.inside.blocks in
     let honest = g.B.Blocks.honest c.self.inside.blocks in
-    rw (← c.self.view_is) (listed_held content uses honest held c.self.invariant).each
+    rw (← c.self.view_is) (listed_held content uses honest held c.self.invariant.0).each
 
 length_coverages : (content : List ℕ) (held : List Held) → length (coverages_of content held) ≡ length held
 length_coverages content [] = refl

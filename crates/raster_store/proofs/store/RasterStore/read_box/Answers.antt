@@ -1,16 +1,12 @@
-use Rattle.std.proofs.Common.{◌≡◌, ℕ, ◌+◌, ◌<◌, ◌≤◌, List, [], ◌∷◌, ◌++◌, length, map, get_or, Some, None, refl, sym, ap, ◌∙◌, subst, arith, rules, w64, SFits, All}
-use Rattle.std.specs.Prelude.{IsSomeAnd, IsTrue, ℤ, min, ◌-◌, ◌^◌, OnOk}
-use Rattle.std.proofs.lemmas.Int.{to_z-of_z}
+use Rattle.std.proofs.Common.{◌≡◌, ℕ, ◌<◌, List, length, map, ap, subst, arith}
+use Rattle.std.specs.Prelude.{IsSomeAnd}
 use Rattle.std.proofs.lemmas.Result.{err_from_is_err_and}
-use Rattle.arr_core.specs.declared.domain.Axis.{Axis}
-use Rattle.arr_core.specs.Domains.{points, IsInside, IsBoxOf}
+use Rattle.arr_core.specs.Domains.{points, IsBoxOf}
 use Rattle.arr_core.specs.Stores.{Coverage, found, value_at}
-use Rattle.arr_core.specs.Tiles.{tile_boxes}
 use Rattle.tile_store.specs.Room.{AreMeeting}
-use Rattle.tile_store.specs.Stored.{tile_box}
 use Rattle.raster_store.specs.Views.{Fetched}
-use Rattle.raster_store.specs.Holding.{IsNamedAt, NoneNamed, coverages_of, coverage_of, indexes_of}
-use Rattle.raster_store.proofs.Named.{Named, named_facts, named_has, named_gives, some_named}
+use Rattle.raster_store.specs.Holding.{IsNamedAt, NoneNamed, coverages_of}
+use Rattle.raster_store.proofs.Named.{named_facts, named_has, named_gives, some_named}
 use Rattle.raster_store.specs.declared.held.Held.{Held}
 use Rattle.raster_store.proofs.Places.{named_within}
 use Rattle.raster_store.proofs.store.RasterStore.read_box.Goals as goal
@@ -49,7 +45,7 @@ cells_in-requires-clause-field g c =
     let place = c.place_held-place.result in
     let h = c.index-coverage.result.now in
     let at : IsNamedAt name held place = subst (λ (l : List Held). IsNamedAt name l place) c.deref.ensures.value c.place_held-place.ensures in
-    let facts = named_facts content uses honest held name place h c.self.invariant at c.index-coverage.ensures in
+    let facts = named_facts content uses honest held name place h c.self.invariant.0 at c.index-coverage.ensures in
     let has : IsSomeAnd (found name (coverages_of content held)) (λ (x : Coverage). field < length x.fields) = rw (← c.self.view_is) at c.requires.field in
     named_has content uses held name place h (λ (x : Coverage). field < length x.fields) facts has
 
@@ -64,7 +60,7 @@ cells_in-requires-clause-whole g c =
     let place = c.place_held-place.result in
     let h = c.index-coverage.result.now in
     let at : IsNamedAt name held place = subst (λ (l : List Held). IsNamedAt name l place) c.deref.ensures.value c.place_held-place.ensures in
-    let facts = named_facts content uses honest held name place h c.self.invariant at c.index-coverage.ensures in
+    let facts = named_facts content uses honest held name place h c.self.invariant.0 at c.index-coverage.ensures in
     facts.whole
 
 pub cells_in-requires-clause-used : goal.cells_in-requires-clause-used
@@ -78,7 +74,7 @@ cells_in-requires-clause-used g c =
     let place = c.place_held-place.result in
     let h = c.index-coverage.result.now in
     let at : IsNamedAt name held place = subst (λ (l : List Held). IsNamedAt name l place) c.deref.ensures.value c.place_held-place.ensures in
-    let facts = named_facts content uses honest held name place h c.self.invariant at c.index-coverage.ensures in
+    let facts = named_facts content uses honest held name place h c.self.invariant.0 at c.index-coverage.ensures in
     facts.used
 
 pub cells_in-requires-clause-inside : goal.cells_in-requires-clause-inside
@@ -92,7 +88,7 @@ cells_in-requires-clause-inside g c =
     let place = c.place_held-place.result in
     let h = c.index-coverage.result.now in
     let at : IsNamedAt name held place = subst (λ (l : List Held). IsNamedAt name l place) c.deref.ensures.value c.place_held-place.ensures in
-    let facts = named_facts content uses honest held name place h c.self.invariant at c.index-coverage.ensures in
+    let facts = named_facts content uses honest held name place h c.self.invariant.0 at c.index-coverage.ensures in
     let has : IsSomeAnd (found name (coverages_of content held)) (λ (x : Coverage). IsBoxOf x.domain c.args.area.now) = rw (← c.self.view_is) at c.requires.inside in
     named_has content uses held name place h (λ (x : Coverage). IsBoxOf x.domain c.args.area.now) facts has
 
@@ -107,7 +103,7 @@ cells_in-requires-clause-tiles g c =
     let place = c.place_held-place.result in
     let h = c.index-coverage.result.now in
     let at : IsNamedAt name held place = subst (λ (l : List Held). IsNamedAt name l place) c.deref.ensures.value c.place_held-place.ensures in
-    let facts = named_facts content uses honest held name place h c.self.invariant at c.index-coverage.ensures in
+    let facts = named_facts content uses honest held name place h c.self.invariant.0 at c.index-coverage.ensures in
     rw c.deref-2.ensures.value (record { rising = c.in_ok-tiles.ensures.rising; exact = c.in_ok-tiles.ensures.exact })
 
 pub returns-in_err-cells-clause-damaged : goal.returns-in_err-cells-clause-damaged
@@ -121,7 +117,7 @@ returns-in_err-cells-clause-damaged g c =
     let place = c.place_held-place.result in
     let h = c.index-coverage.result.now in
     let at : IsNamedAt name held place = subst (λ (l : List Held). IsNamedAt name l place) c.deref.ensures.value c.place_held-place.ensures in
-    let facts = named_facts content uses honest held name place h c.self.invariant at c.index-coverage.ensures in
+    let facts = named_facts content uses honest held name place h c.self.invariant.0 at c.index-coverage.ensures in
     let p = err_from_is_err_and c.from_residual-in_err-cells.result c.from_residual-in_err-cells.ensures.1 in
     rw (← c.self.view_is) (λ err sure intact. c.in_err-cells.ensures.damaged (rw (p.1, p.2) at err) sure (facts.intact intact))
 
@@ -136,7 +132,7 @@ returns-clause-value g c =
     let place = c.place_held-place.result in
     let h = c.index-coverage.result.now in
     let at : IsNamedAt name held place = subst (λ (l : List Held). IsNamedAt name l place) c.deref.ensures.value c.place_held-place.ensures in
-    let facts = named_facts content uses honest held name place h c.self.invariant at c.index-coverage.ensures in
+    let facts = named_facts content uses honest held name place h c.self.invariant.0 at c.index-coverage.ensures in
     rw (← c.self.view_is) (λ sure. named_gives content uses held name place h (λ (x : Coverage). c.in_ok-cells.cells.items ≡ map (value_at x field) (points c.args.area.now)) facts (c.in_ok-cells.ensures.value sure))
 
 pub returns-clause-fetched : goal.returns-clause-fetched
@@ -150,9 +146,15 @@ returns-clause-fetched g c =
     let place = c.place_held-place.result in
     let h = c.index-coverage.result.now in
     let at : IsNamedAt name held place = subst (λ (l : List Held). IsNamedAt name l place) c.deref.ensures.value c.place_held-place.ensures in
-    let facts = named_facts content uses honest held name place h c.self.invariant at c.index-coverage.ensures in
+    let facts = named_facts content uses honest held name place h c.self.invariant.0 at c.index-coverage.ensures in
     let tiles = c.in_ok-tiles.tiles.items in
     let meeting : AreMeeting h.signature.domain c.args.area.now tiles = record { rising = c.in_ok-tiles.ensures.rising; exact = c.in_ok-tiles.ensures.exact } in
     rw (← c.self.view_is)
     (named_gives content uses held name place h (λ (x : Coverage). (tiles : List ℕ) × AreMeeting x.domain c.args.area.now tiles × Fetched (length tiles) c.self.inside.fetched c.saturating_add-self-inside.result) facts
     (tiles, meeting, omega (arith, c.saturating_add-self-inside.ensures, c.len.ensures, c.in_ok-tiles.tiles.ok)))
+
+pub invariant_of-self : goal.invariant_of-self
+invariant_of-self g c = rw (c.cells_in.ensures.content, c.cells_in.ensures.uses, c.cells_in.ensures.honest) c.self.invariant
+
+pub invariant_of-self-2 : goal.invariant_of-self-2
+invariant_of-self-2 g c = rw (c.cells_in.ensures.content, c.cells_in.ensures.uses, c.cells_in.ensures.honest) c.self.invariant

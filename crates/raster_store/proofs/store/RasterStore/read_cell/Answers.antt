@@ -1,16 +1,11 @@
-use Rattle.std.proofs.Common.{◌≡◌, ℕ, ◌+◌, ◌<◌, ◌≤◌, List, [], ◌∷◌, ◌++◌, length, map, get_or, Some, None, refl, sym, ap, ◌∙◌, subst, arith, rules, w64, SFits, All}
-use Rattle.std.specs.Prelude.{IsSomeAnd, IsTrue, ℤ, min, ◌-◌, ◌^◌, OnOk}
+use Rattle.std.proofs.Common.{◌≡◌, ◌<◌, List, length, ap, subst, arith, rules, w64, SFits}
+use Rattle.std.specs.Prelude.{IsSomeAnd}
 use Rattle.std.proofs.lemmas.Int.{to_z-of_z}
 use Rattle.std.proofs.lemmas.Result.{err_from_is_err_and}
-use Rattle.arr_core.specs.declared.domain.Axis.{Axis}
-use Rattle.arr_core.specs.Domains.{points, IsInside, IsBoxOf}
+use Rattle.arr_core.specs.Domains.{IsInside}
 use Rattle.arr_core.specs.Stores.{Coverage, found, value_at}
-use Rattle.arr_core.specs.Tiles.{tile_boxes}
-use Rattle.tile_store.specs.Room.{AreMeeting}
-use Rattle.tile_store.specs.Stored.{tile_box}
-use Rattle.raster_store.specs.Views.{Fetched}
-use Rattle.raster_store.specs.Holding.{IsNamedAt, NoneNamed, coverages_of, coverage_of, indexes_of}
-use Rattle.raster_store.proofs.Named.{Named, named_facts, named_has, named_gives, some_named}
+use Rattle.raster_store.specs.Holding.{IsNamedAt, NoneNamed, coverages_of}
+use Rattle.raster_store.proofs.Named.{named_facts, named_has, named_gives, some_named}
 use Rattle.raster_store.specs.declared.held.Held.{Held}
 use Rattle.raster_store.proofs.Places.{named_within}
 use Rattle.raster_store.proofs.store.RasterStore.read_cell.Goals as goal
@@ -49,7 +44,7 @@ cell_at-requires-clause-field g c =
     let place = c.place_held-place.result in
     let h = c.index.result.now in
     let at : IsNamedAt name held place = subst (λ (l : List Held). IsNamedAt name l place) c.deref.ensures.value c.place_held-place.ensures in
-    let facts = named_facts content uses honest held name place h c.self.invariant at c.index.ensures in
+    let facts = named_facts content uses honest held name place h c.self.invariant.0 at c.index.ensures in
     let has : IsSomeAnd (found name (coverages_of content held)) (λ (x : Coverage). field < length x.fields) = rw (← c.self.view_is) at c.requires.field in
     named_has content uses held name place h (λ (x : Coverage). field < length x.fields) facts has
 
@@ -64,7 +59,7 @@ cell_at-requires-clause-whole g c =
     let place = c.place_held-place.result in
     let h = c.index.result.now in
     let at : IsNamedAt name held place = subst (λ (l : List Held). IsNamedAt name l place) c.deref.ensures.value c.place_held-place.ensures in
-    let facts = named_facts content uses honest held name place h c.self.invariant at c.index.ensures in
+    let facts = named_facts content uses honest held name place h c.self.invariant.0 at c.index.ensures in
     facts.whole
 
 pub cell_at-requires-clause-used : goal.cell_at-requires-clause-used
@@ -78,7 +73,7 @@ cell_at-requires-clause-used g c =
     let place = c.place_held-place.result in
     let h = c.index.result.now in
     let at : IsNamedAt name held place = subst (λ (l : List Held). IsNamedAt name l place) c.deref.ensures.value c.place_held-place.ensures in
-    let facts = named_facts content uses honest held name place h c.self.invariant at c.index.ensures in
+    let facts = named_facts content uses honest held name place h c.self.invariant.0 at c.index.ensures in
     facts.used
 
 pub cell_at-requires-clause-inside : goal.cell_at-requires-clause-inside
@@ -92,7 +87,7 @@ cell_at-requires-clause-inside g c =
     let place = c.place_held-place.result in
     let h = c.index.result.now in
     let at : IsNamedAt name held place = subst (λ (l : List Held). IsNamedAt name l place) c.deref.ensures.value c.place_held-place.ensures in
-    let facts = named_facts content uses honest held name place h c.self.invariant at c.index.ensures in
+    let facts = named_facts content uses honest held name place h c.self.invariant.0 at c.index.ensures in
     let has : IsSomeAnd (found name (coverages_of content held)) (λ (x : Coverage). IsInside x.domain c.args.point.now) = rw (← c.self.view_is) at c.requires.inside in
     named_has content uses held name place h (λ (x : Coverage). IsInside x.domain c.args.point.now) facts has
 
@@ -107,7 +102,7 @@ returns-in_err-number-clause-damaged g c =
     let place = c.place_held-place.result in
     let h = c.index.result.now in
     let at : IsNamedAt name held place = subst (λ (l : List Held). IsNamedAt name l place) c.deref.ensures.value c.place_held-place.ensures in
-    let facts = named_facts content uses honest held name place h c.self.invariant at c.index.ensures in
+    let facts = named_facts content uses honest held name place h c.self.invariant.0 at c.index.ensures in
     let p = err_from_is_err_and c.from_residual.result c.from_residual.ensures.1 in
     rw (← c.self.view_is) (λ err sure intact. c.in_err-number.ensures.damaged (rw (p.1, p.2) at err) sure (facts.intact intact))
 
@@ -122,6 +117,12 @@ returns-clause-value g c =
     let place = c.place_held-place.result in
     let h = c.index.result.now in
     let at : IsNamedAt name held place = subst (λ (l : List Held). IsNamedAt name l place) c.deref.ensures.value c.place_held-place.ensures in
-    let facts = named_facts content uses honest held name place h c.self.invariant at c.index.ensures in
+    let facts = named_facts content uses honest held name place h c.self.invariant.0 at c.index.ensures in
     let fits : SFits w64 c.in_ok-number.number = search rules in
     rw (← c.self.view_is, to_z-of_z w64 c.in_ok-number.number fits) (λ sure. named_gives content uses held name place h (λ (x : Coverage). c.in_ok-number.number ≡ value_at x field c.args.point.now) facts (c.in_ok-number.ensures.value sure))
+
+pub invariant_of-self : goal.invariant_of-self
+invariant_of-self g c = rw (c.cell_at.ensures.content, c.cell_at.ensures.uses, c.cell_at.ensures.honest) c.self.invariant
+
+pub invariant_of-self-2 : goal.invariant_of-self-2
+invariant_of-self-2 g c = rw (c.cell_at.ensures.content, c.cell_at.ensures.uses, c.cell_at.ensures.honest) c.self.invariant

@@ -1,16 +1,5 @@
-use Rattle.std.proofs.Common.{◌≡◌, ℕ, ◌+◌, ◌<◌, ◌≤◌, List, [], ◌∷◌, ◌++◌, length, map, get_or, Some, None, refl, sym, ap, ◌∙◌, subst, arith, rules, w64, SFits, All}
-use Rattle.std.specs.Prelude.{IsSomeAnd, IsTrue, ℤ, min, ◌-◌, ◌^◌, OnOk}
-use Rattle.std.proofs.lemmas.Int.{to_z-of_z}
-use Rattle.std.proofs.lemmas.Result.{err_from_is_err_and}
-use Rattle.arr_core.specs.declared.domain.Axis.{Axis}
-use Rattle.arr_core.specs.Domains.{points, IsInside, IsBoxOf}
-use Rattle.arr_core.specs.Stores.{Coverage, found, value_at}
-use Rattle.arr_core.specs.Tiles.{tile_boxes}
-use Rattle.tile_store.specs.Room.{AreMeeting}
-use Rattle.tile_store.specs.Stored.{tile_box}
-use Rattle.raster_store.specs.Views.{Fetched}
-use Rattle.raster_store.specs.Holding.{IsNamedAt, NoneNamed, coverages_of, coverage_of, indexes_of}
-use Rattle.raster_store.proofs.Named.{Named, named_facts, named_has, named_gives, some_named}
+use Rattle.std.proofs.Common.{◌≡◌, ℕ, ◌+◌, List, length, get_or, sym, ap, ◌∙◌, subst, arith}
+use Rattle.raster_store.specs.Holding.{IsNamedAt, NoneNamed, coverages_of, indexes_of}
 use Rattle.std.specs.Prelude.{sum_by}
 use Rattle.tile_store.specs.Stored.{block_count}
 use Rattle.raster_store.specs.declared.held.Held.{Held}
@@ -20,6 +9,7 @@ use Rattle.raster_store.proofs.Places.{named_within, deleted_named, deleted_none
 use Rattle.raster_store.proofs.Totals.{listed_blocks-remove}
 use Rattle.raster_store.proofs.Contents.{intact-remove}
 use Rattle.raster_store.proofs.Writes.{used_fields, held_remove}
+use Rattle.raster_store.proofs.KeptTiles.{decoded_empty}
 use Rattle.raster_store.proofs.store.RasterStore.remove.Goals as goal
 
 pub remove-held-requires : goal.remove-held-requires
@@ -46,7 +36,7 @@ give_back_fields-requires g c =
     let within = named_within name held place at in
     let d = c.remove-held.result in
     let same : (k : ℕ) → times_fields k c.deref-in-Some.result.now ≡ times_fields k (get_or held place d).fields.items = λ k. ap (times_fields k) c.deref-in-Some.ensures.value ∙ ap (λ (h : Held). times_fields k h.fields.items) c.remove-held.ensures.value in
-    let used = used_fields content uses honest held place d c.self.invariant within in
+    let used = used_fields content uses honest held place d c.self.invariant.0 within in
     λ k some. (let u = used k (omega (arith, some, same k)) in (omega (arith, u.0, same k), u.1, u.2))
 
 pub invariant_of-self : goal.invariant_of-self
@@ -62,8 +52,12 @@ invariant_of-self g c =
     let d = c.remove-held.result in
     let same : (k : ℕ) → times_fields k c.deref-in-Some.result.now ≡ times_fields k (get_or held place d).fields.items = λ k. ap (times_fields k) c.deref-in-Some.ensures.value ∙ ap (λ (h : Held). times_fields k h.fields.items) c.remove-held.ensures.value in
     let given : (k : ℕ) → g.B.Blocks.uses c.give_back_fields.new.blocks k + times_fields k (get_or held place d).fields.items ≡ uses k = λ k. omega (arith, c.give_back_fields.ensures.uses k, same k) in
-    subst (λ (l : List Held). IsHeld (g.B.Blocks.content c.give_back_fields.new.blocks) (g.B.Blocks.uses c.give_back_fields.new.blocks) (g.B.Blocks.honest c.give_back_fields.new.blocks) l) (sym c.remove-held.ensures.items)
-    (held_remove content (g.B.Blocks.content c.give_back_fields.new.blocks) uses (g.B.Blocks.uses c.give_back_fields.new.blocks) honest (g.B.Blocks.honest c.give_back_fields.new.blocks) held place d c.self.invariant within c.give_back_fields.ensures.content c.give_back_fields.ensures.honest given)
+    let after = c.remove-held.new.self.items in
+    let content_after = g.B.Blocks.content c.give_back_fields.new.blocks in (
+      subst (λ (l : List Held). IsHeld (g.B.Blocks.content c.give_back_fields.new.blocks) (g.B.Blocks.uses c.give_back_fields.new.blocks) (g.B.Blocks.honest c.give_back_fields.new.blocks) l) (sym c.remove-held.ensures.items)
+          (held_remove content (g.B.Blocks.content c.give_back_fields.new.blocks) uses (g.B.Blocks.uses c.give_back_fields.new.blocks) honest (g.B.Blocks.honest c.give_back_fields.new.blocks) held place d c.self.invariant.0 within c.give_back_fields.ensures.content c.give_back_fields.ensures.honest given),
+      decoded_empty content_after (g.B.Blocks.honest c.give_back_fields.new.blocks) (coverages_of content_after after) (indexes_of after) c.clear.new.self c.clear.ensures,
+    )
 
 pub returns-in-Some-clause-removed : goal.returns-in-Some-clause-removed
 returns-in-Some-clause-removed g c =
