@@ -136,3 +136,9 @@ filled o envs n e = ap (λ n. replicate n o) e ∙ same_everywhere o envs
     same_everywhere : (o : Outcome) (envs : List (List ℤ)) → replicate (length envs) o ≡ map (λ e. o) envs
     same_everywhere o [] = refl
     same_everywhere o (e ∷ envs) = ap (λ l. o ∷ l) (same_everywhere o envs)
+
+-- where all positions lie in the interval there is no fault
+pub all_settled : (positions out : List Outcome) (lo hi : ℤ) → length out ≡ length positions → ((k : ℕ) → k < length positions → (o : Outcome) → at_position (outcome_at positions k) lo hi (λ z. o) ≡ o) → out ≡ at_positions positions lo hi (λ k z. outcome_at out k)
+all_settled positions out lo hi e h =
+    sym (map-id out) ∙ by_places (λ (o : Outcome). o) out (Value (pos 0)) ∙ ap (λ n. map (outcome_at out) (range_with_len 0 n)) e
+    ∙ same_over (outcome_at out) (λ k. at_position (outcome_at positions k) lo hi (λ z. outcome_at out k)) (length positions) (λ k lt. sym (h k lt (outcome_at out k)))

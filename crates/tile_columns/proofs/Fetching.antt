@@ -68,7 +68,7 @@ times_few cs n envs (fold op box c e) = omega arith
 
 -- ---- more places
 
-times_both : (a b : ℕ) (e : Tree) → bound_times (a + b) e ≡ bound_times a e + bound_times b e
+pub times_both : (a b : ℕ) (e : Tree) → bound_times (a + b) e ≡ bound_times a e + bound_times b e
 times_both a b (lit z) = refl
 times_both a b (var k) = refl
 times_both a b (reg k) = refl

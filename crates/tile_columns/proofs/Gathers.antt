@@ -1,6 +1,6 @@
 -- Cells that are gathered tile by tile.
-use Rattle.std.proofs.Common.{◌≡◌, ℕ, zero, suc, ◌+◌, ◌<◌, inl, inr, List, [], ◌∷◌, ◌++◌, length, get_or, set, take, map, refl, sym, ap, ◌∙◌, subst, arith, ℤ, pos, cond, Bool, true, false, get_or-set_same}
-use Rattle.std.specs.Prelude.{nat_eq, ◌||◌, slice_get, Option, Some, None}
+use Rattle.std.proofs.Common.{◌≡◌, ℕ, zero, suc, ◌+◌, ◌<◌, ◌≤◌, inl, inr, List, [], ◌∷◌, ◌++◌, length, length-append, get_or, take, map, refl, sym, ap, ◌∙◌, subst, arith, ℤ, pos, cond, Bool, true, false}
+use Rattle.std.specs.Prelude.{nat_eq, ◌||◌, slice_get, Some}
 use Rattle.std.specs.List.{list_any}
 use Rattle.std.proofs.lemmas.Bool.{false≢true}
 use Rattle.std.proofs.lemmas.Bool.Decides.{eqb_tells}
@@ -8,14 +8,14 @@ use Rattle.std.proofs.lemmas.Option.{slice_get-get_or, slice_get_within}
 use Rattle.std.proofs.lemmas.List.{take_more, length-map, same_lists, get_or-map}
 use Rattle.std.proofs.lemmas.List.Folds.{list_any-append}
 use Rattle.arr_core.specs.declared.domain.Axis.{Axis}
-use Rattle.arr_core.specs.declared.signature.Signature.{Signature}
-use Rattle.arr_core.specs.Domains.{points, IsInside}
-use Rattle.arr_core.specs.Tiles.{tile_boxes, IsInTile}
-use Rattle.arr_core.proofs.Grids.{in-own-tile, in-no-other}
-use Rattle.plan_ir.specs.Units.{added, distinct_after, distinct, tile_number}
+use Rattle.arr_core.specs.Domains.{points, count}
+use Rattle.arr_core.proofs.Points.{length-points}
+use Rattle.wcps_mean.specs.declared.cell.Outcome.TheVariants.{Value}
+use Rattle.plan_ir.specs.declared.body.Index.{Index}
+use Rattle.plan_ir.specs.Run.{numbers_at}
+use Rattle.plan_ir.specs.Units.{added, distinct_after, distinct}
 use Rattle.tile_columns.specs.Gathering.{IsSeen, Gathered, IsCopied, LeavesOthers}
-use Rattle.tile_columns.proofs.Ranges.{at_same}
-use Rattle.tile_columns.specs.Sources.{IsRead, HasTile, box_of}
+use Rattle.tile_columns.proofs.Ranges.{at_same, map_map}
 
 equal_self : (n : ℕ) → nat_eq n n ≡ true
 equal_self n = elim (eqb_tells n n) [ inl h ↦ h.0 | inr h ↦ absurd (h.1 refl) ]
@@ -93,36 +93,40 @@ all_gathered seen numbers xs d f cells e n m h =
     ∙ h k (omega arith) (subst (λ s. IsSeen s (get_or numbers k 0)) (sym e) (all_seen numbers k (omega arith)))
     ∙ sym (get_or-map f xs k d z l))
 
--- the number of the tile that a point is in
-pub number_there : (source : List Axis) (n : ℕ) (at : List ℤ) → IsInTile source n at → n ≡ tile_number source at
-number_there source n at i = in-no-other source at n i
-
--- the box of a tile has the points of its number
-pub inside_there : (source area : List Axis) (n : ℕ) (at : List ℤ) → slice_get (tile_boxes source) n ≡ Some area → n ≡ tile_number source at → IsInside source at → IsInside area at
-inside_there source area n at h e i =
-    let t = in-own-tile source at n e i in
-    let lt = slice_get_within (tile_boxes source) n area h in
-    let g = slice_get-get_or (tile_boxes source) n [] lt in
-    let q : get_or (tile_boxes source) n [] ≡ area = cc in
-    subst (λ b. IsInside b at) q t.1
-
-pub box_is : (o : Option Signature) (field n : ℕ) (domain area : List Axis) → IsRead o field domain → slice_get (tile_boxes domain) n ≡ Some area → HasTile o field n × (box_of o n ≡ area)
-box_is None field n domain area h g = absurd h
-box_is (Some c) field n domain area h g =
-    let lt = slice_get_within (tile_boxes domain) n area g in
-    let q = slice_get-get_or (tile_boxes domain) n [] lt in
-    let e : get_or (tile_boxes domain) n [] ≡ area = cc in
-    ((h.0, subst (λ d. n < length (tile_boxes d)) (sym h.1) lt), ap (λ d. get_or (tile_boxes d) n []) h.1 ∙ e)
-
--- the cell of a place, from its tile's
-pub copied_here : (before new : List ℤ) (place : ℕ) (z : ℤ) (cells : List ℤ) (area : List Axis) (r : ℕ) (p at : List ℤ) (s : List ℤ → ℤ) → place < length before → new ≡ set before place z → z ≡ get_or cells r (pos 0) → cells ≡ map s (points area) → slice_get (points area) r ≡ Some p → p ≡ at → get_or new place (pos 0) ≡ s at
-copied_here before new place z cells area r p at s lt e v m h q =
-    let l = slice_get_within (points area) r p h in
-    let g = slice_get-get_or (points area) r [] l in
-    let o : get_or (points area) r [] ≡ p = cc in
-    ap (λ l. get_or l place (pos 0)) e ∙ get_or-set_same before place z (pos 0) lt ∙ v ∙ ap (λ l. get_or l r (pos 0)) m
-    ∙ get_or-map s (points area) r [] (pos 0) l ∙ ap s (o ∙ q)
-
 -- the number of a place
 pub number_of_place : {X : Type 0} (f : X → ℕ) (xs : List X) (d : X) (numbers : List ℕ) (n place : ℕ) → numbers ≡ map f xs → n ≡ get_or numbers place n → place < length xs → n ≡ f (get_or xs place d)
 number_of_place f xs d numbers n place e h lt = h ∙ ap (λ l. get_or l place n) e ∙ get_or-map f xs place d n lt
+
+-- ---- a column that is one tile
+
+added_grows : (seen : List ℕ) (n : ℕ) (b : Bool) → length seen ≤ length (cond b seen (seen ++ n ∷ []))
+added_grows seen n true = omega arith
+added_grows seen n false = omega (arith, length-append seen (n ∷ []))
+
+grows : (seen ns : List ℕ) → length seen ≤ length (distinct_after seen ns)
+grows seen [] = omega arith
+grows seen (n ∷ ns) = omega (arith, grows (added seen n) ns, added_grows seen n (list_any (λ m. nat_eq m n) seen))
+
+-- a list that is not empty has a number
+pub distinct_some : (ns : List ℕ) → 0 < length ns → 1 ≤ length (distinct ns)
+distinct_some [] h = absurd (omega arith)
+distinct_some (n ∷ ns) h = grows (n ∷ []) ns
+
+-- the points of indexes that go over the box of a tile
+pub whole_box : (envs : List (List ℤ)) (is : List Index) (boxes : List (List Axis)) (n : ℕ) (area : List Axis) → map (λ e. numbers_at e is) envs ≡ points area → slice_get boxes n ≡ Some area → map (λ e. numbers_at e is) envs ≡ points (get_or boxes n [])
+whole_box envs is boxes n area e h =
+    let q = slice_get-get_or boxes n [] (slice_get_within boxes n area h) in
+    let o : get_or boxes n [] ≡ area = cc in
+    e ∙ ap points (sym o)
+
+-- the cells of a tile are those that the indexes give
+pub whole_cells : (envs : List (List ℤ)) (is : List Index) (box : List Axis) (s : List ℤ → ℤ) (cells : List ℤ) → cells ≡ map s (points box) → map (λ e. numbers_at e is) envs ≡ points box → map Value cells ≡ map (λ e. Value (s (numbers_at e is))) envs
+whole_cells envs is box s cells c w =
+    ap (map Value) (c ∙ ap (map s) (sym w) ∙ map_map s (λ e. numbers_at e is) envs) ∙ map_map Value (λ e. s (numbers_at e is)) envs
+
+pub whole_places : (envs : List (List ℤ)) (is : List Index) (box : List Axis) (n : ℕ) → map (λ e. numbers_at e is) envs ≡ points box → n ≡ count box → n ≡ length envs
+whole_places envs is box n w e = e ∙ sym (length-points box) ∙ ap length (sym w) ∙ length-map envs (λ e. numbers_at e is)
+
+-- the last of a list is in it
+pub last_seen : (seen rest : List ℕ) (m n : ℕ) → seen ≡ rest ++ m ∷ [] → m ≡ n → list_any (λ k. nat_eq k n) seen ≡ true
+last_seen seen rest m n e h = ap (list_any (λ k. nat_eq k n)) e ∙ ap (λ x. list_any (λ k. nat_eq k n) (rest ++ x ∷ [])) h ∙ seen_now rest n

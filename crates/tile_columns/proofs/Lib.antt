@@ -1,8 +1,15 @@
 pub mod Ranges
 pub mod Turns
+pub mod Turning
+pub mod Locating
 pub mod Gathers
 pub mod Placing
 pub mod Bindings
+pub mod Reorders
+pub mod TileOrders
+pub mod Boxes
+pub mod ByRows
 pub mod Condensings
+pub mod TileFolds
 pub mod Fetching
 pub mod Behind

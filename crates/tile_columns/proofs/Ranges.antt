@@ -1,8 +1,9 @@
 -- Lists made from a function of the place.
-use Rattle.std.proofs.Common.{◌≡◌, ℕ, zero, suc, ◌+◌, ◌<◌, ◌≤◌, List, [], ◌∷◌, ◌++◌, length, get_or, take, map, refl, sym, ap, ◌∙◌, arith}
+use Rattle.std.proofs.Common.{◌≡◌, ◌≢◌, ℕ, ℤ, pos, zero, suc, ◌+◌, ◌<◌, ◌≤◌, List, [], ◌∷◌, ◌++◌, length, get_or, set, take, map, refl, sym, ap, ◌∙◌, arith, below_more, get_or-set_same, get_or-set_other}
 use Rattle.std.specs.List.{range_with_len}
 use Rattle.std.proofs.lemmas.Option.{slice_get-get_or}
-use Rattle.std.proofs.lemmas.List.{same_lists, length-map, get_or-map, map_more}
+use Rattle.std.specs.Prelude.{replicate}
+use Rattle.std.proofs.lemmas.List.{same_lists, length-map, get_or-map, map_more, length-replicate, get_or-replicate}
 use Rattle.std.proofs.lemmas.List.FromFn.{get_or-map-range_with_len, length-map-range_with_len, fill_by_all, map-range_with_len_more}
 
 pub map_map : {X Y Z : Type 0} (f : Y → Z) (g : X → Y) (xs : List X) → map f (map g xs) ≡ map (λ x. f (g x)) xs
@@ -44,3 +45,20 @@ map_pushed f xs i d o column new lt e n h = n ∙ ap (λ l. l ++ o ∷ []) h ∙
 -- one more element, which was written as a number of its own
 pub value_pushed : {X Y : Type 0} (f : X → Y) (xs : List X) (i : ℕ) (d : X) (o z : Y) (column new : List Y) → i < length xs → new ≡ column ++ o ∷ [] → o ≡ z → z ≡ f (get_or xs i d) → column ≡ map f (take i xs) → new ≡ map f (take (i + 1) xs)
 value_pushed f xs i d o z column new lt n e v h = map_pushed f xs i d o column new lt (e ∙ v) n h
+
+-- the same numbers at the same places
+pub same_items : (xs ys : List ℤ) → length xs ≡ length ys → ((k : ℕ) → k < length xs → get_or xs k (pos 0) ≡ get_or ys k (pos 0)) → xs ≡ ys
+same_items xs ys e h = same_lists xs ys e (λ k d lt. at_same xs k d (pos 0) lt ∙ h k lt ∙ at_same ys k (pos 0) d (omega (arith, e, lt)))
+
+-- one more number written
+pub written_more : {X : Type 0} (f : ℕ → X) (all : List X) (place : ℕ) (x d : X) → place < length all → x ≡ f place → ((k : ℕ) → k < place → get_or all k d ≡ f k) → (k : ℕ) → k < place + 1 → get_or (set all place x) k d ≡ f k
+written_more f all place x d lt e h = below_more (λ k. get_or (set all place x) k d ≡ f k) place
+    (λ k l. let ne : k ≢ place = omega arith in get_or-set_other all place k x d ne ∙ h k l)
+    (get_or-set_same all place x d lt ∙ e)
+
+-- the same number at each place
+pub map_same : {X Y : Type 0} (f : X → Y) (n : ℕ) (x : X) → map f (replicate n x) ≡ replicate n (f x)
+map_same f n x =
+    let l = length-replicate n x in
+    fill_by_all (λ k. f x) (map f (replicate n x)) n (f x) (length-map (replicate n x) f ∙ l) (λ k lt. get_or-map f (replicate n x) k x (f x) (omega (arith, lt, l)) ∙ ap f (get_or-replicate n k x x lt))
+    ∙ sym (fill_by_all (λ k. f x) (replicate n (f x)) n (f x) (length-replicate n (f x)) (λ k lt. get_or-replicate n k (f x) (f x) lt))

@@ -1,10 +1,10 @@
 -- The variables of a frame.
 use Rattle.std.proofs.Common.{◌≡◌, ℕ, ◌+◌, ◌*◌, ◌/◌, ◌%◌, ◌<◌, ◌≤◌, List, [], ◌∷◌, ◌++◌, length, get_or, take, map, refl, sym, ap, ◌∙◌, subst, arith, ℤ, pos, ◌+ℤ◌, append_assoc}
 use Rattle.std.specs.List.{range_with_len, All}
-use Rattle.std.proofs.lemmas.List.{length-map, map-append, take-map}
+use Rattle.std.proofs.lemmas.List.{length-map, map-append, take-map, get_or-map, length-replicate, get_or-replicate}
 use Rattle.std.proofs.lemmas.List.FromFn.{get_or-map-range_with_len, length-map-range_with_len, fill_by_all}
 use Rattle.std.proofs.lemmas.Nat.{div-mul-add, mod-mul-add}
-use Rattle.std.specs.Prelude.{◌≤ℤ◌}
+use Rattle.std.specs.Prelude.{◌≤ℤ◌, replicate, Option, Some, None, IfSome}
 use Rattle.std.proofs.lemmas.List.{take_more}
 use Rattle.std.proofs.lemmas.List.Elements.{All-push}
 use Rattle.wcps_mean.proofs.Stacks.{take-whole}
@@ -13,10 +13,12 @@ use Rattle.std.proofs.Math.Nat.{mod-lt, mod-eq_of_lt}
 use Rattle.arr_core.specs.declared.domain.Axis.{Axis}
 use Rattle.arr_core.specs.Domains.{gap, size_of, points, count, point_at}
 use Rattle.arr_core.proofs.Points.{count-pos, at_place, length-points}
+use Rattle.plan_ir.specs.declared.body.Index.{Index}
+use Rattle.plan_ir.specs.Run.{number_at, numbers_at}
 use Rattle.tile_columns.specs.declared.frame.Variable.{Variable}
 use Rattle.tile_columns.specs.declared.frame.Variable.TheVariants as variable
 use Rattle.tile_columns.specs.Frames.{number_of, environment, environments, turn, turns, under, extended, HasPlaces, TellsAt}
-use Rattle.tile_columns.proofs.Ranges.{map_map, same_over}
+use Rattle.tile_columns.proofs.Ranges.{map_map, same_over, by_places, at_beyond}
 
 -- the coordinates at a place are those of a point
 pub turns_at : (axes : List Axis) (k : ℕ) → turns axes k ≡ point_at axes (k % count axes)
@@ -36,12 +38,12 @@ turns_at (a ∷ axes) k =
 turns_point : (axes : List Axis) (k : ℕ) → k < count axes → turns axes k ≡ get_or (points axes) k []
 turns_point axes k lt = turns_at axes k ∙ ap (point_at axes) (mod-eq_of_lt lt) ∙ sym (at_place axes k [] lt)
 
--- the variables of a box go over its points
-pub over_box : (axes : List Axis) (n : ℕ) (variables : List Variable) → n ≡ count axes → ((k : ℕ) → environment variables k ≡ environment [] k ++ turns axes k) → environments n variables ≡ points axes
-over_box axes n variables e h =
+-- the variables of a box go over its points, behind numbers that stay
+pub box_under : (axes : List Axis) (numbers : List ℤ) (n : ℕ) (variables : List Variable) → n ≡ count axes → ((k : ℕ) → environment variables k ≡ numbers ++ turns axes k) → environments n variables ≡ map (λ p. numbers ++ p) (points axes)
+box_under axes numbers n variables e h =
     ap (λ m. environments m variables) e
-    ∙ same_over (environment variables) (λ k. get_or (points axes) k []) (count axes) (λ k lt. h k ∙ turns_point axes k lt)
-    ∙ sym (fill_by_all (λ k. get_or (points axes) k []) (points axes) (count axes) [] (length-points axes) (λ k lt. refl))
+    ∙ same_over (environment variables) (λ k. numbers ++ get_or (points axes) k []) (count axes) (λ k lt. h k ∙ ap (λ p. numbers ++ p) (turns_point axes k lt))
+    ∙ sym (by_places (λ p. numbers ++ p) (points axes) [] ∙ ap (λ m. map (λ k. numbers ++ get_or (points axes) k []) (range_with_len 0 m)) (length-points axes))
 
 -- one more axis
 pub axes_more : (old one new : List Variable) (a : Axis) (axes : List Axis) (every : ℕ) (v : Variable) (k : ℕ) → one ≡ old ++ v ∷ [] → number_of k v ≡ turn a.lo a.hi (count axes) k → environment new k ≡ environment one k ++ turns axes k → environment new k ≡ environment old k ++ turns (a ∷ axes) k
@@ -116,3 +118,48 @@ none_whole n none e = subst (All (HasPlaces n)) (sym e) (λ k d lt. absurd (omeg
 
 pub gap_of : (r : ℕ) (a b lo hi : ℤ) → r ≡ gap a b → a ≡ lo → b ≡ hi → r ≡ gap lo hi
 gap_of r a b lo hi e p q = e ∙ ap (λ z. gap z b) p ∙ ap (gap lo) q
+
+-- ---- what indexes stand for
+
+-- a variable by its level
+pub variable_there : (variables : List Variable) (k : ℕ) (v : Variable) (place : ℕ) → k < length variables → v ≡ get_or variables k v → get_or (environment variables place) k (pos 0) ≡ number_of place v
+variable_there variables k v place lt e = get_or-map (number_of place) variables k v (pos 0) lt ∙ ap (number_of place) (sym e)
+
+pub no_variable : (variables : List Variable) (k place : ℕ) → length variables ≤ k → get_or (environment variables place) k (pos 0) ≡ pos 0
+no_variable variables k place le = at_beyond (environment variables place) k (pos 0) (omega (arith, le, length-map variables (number_of place)))
+
+-- one number, as often as there are places
+pub same_numbers : (n : ℕ) (z : ℤ) (f : ℕ → ℤ) → ((k : ℕ) → f k ≡ z) → replicate n z ≡ map f (range_with_len 0 n)
+same_numbers n z f h = fill_by_all f (replicate n z) n z (length-replicate n z) (λ k lt. get_or-replicate n k z z lt ∙ sym (h k))
+
+pub listed : (n : ℕ) (variables : List Variable) (i : Index) (numbers : List ℤ) → numbers ≡ map (λ place. number_at (environment variables place) i) (range_with_len 0 n) → numbers ≡ map (λ e. number_at e i) (environments n variables)
+listed n variables i numbers h = h ∙ sym (map_map (λ e. number_at e i) (environment variables) (range_with_len 0 n))
+
+pub constants : (n : ℕ) (variables : List Variable) (k : ℕ) (z : ℤ) → ((place : ℕ) → get_or (environment variables place) k (pos 0) ≡ z) → map (λ (e : List ℤ). get_or e k (pos 0)) (environments n variables) ≡ replicate (length (environments n variables)) z
+constants n variables k z h =
+    map_map (λ (e : List ℤ). get_or e k (pos 0)) (environment variables) (range_with_len 0 n)
+    ∙ sym (same_numbers n z (λ place. get_or (environment variables place) k (pos 0)) h)
+    ∙ ap (λ m. replicate m z) (sym (length-map-range_with_len (environment variables) 0 n))
+
+-- the index of the first axis, then those of the others
+pub turns_first : (variables : List Variable) (is further : List Index) (i : Index) (axes rest : List Axis) (a : Axis) (lo hi : ℤ) (every place : ℕ) → is ≡ i ∷ further → axes ≡ a ∷ rest → lo ≡ a.lo → hi ≡ a.hi → every ≡ count rest → number_at (environment variables place) i ≡ turn lo hi every place → numbers_at (environment variables place) further ≡ turns rest place → numbers_at (environment variables place) is ≡ turns axes place
+turns_first variables is further i axes rest a lo hi every place e w l h n t r =
+    ap (numbers_at (environment variables place)) e
+    ∙ ap (λ z. z ∷ numbers_at (environment variables place) further) (t ∙ ap (λ z. turn z hi every place) l ∙ ap (λ z. turn a.lo z every place) h ∙ ap (λ m. turn a.lo a.hi m place) n)
+    ∙ ap (λ zs. turn a.lo a.hi (count rest) place ∷ zs) r
+    ∙ ap (λ x. turns x place) (sym w)
+
+pub over_points : (axes : List Axis) (is : List Index) (n : ℕ) (variables : List Variable) → n ≡ count axes → ((k : ℕ) → numbers_at (environment variables k) is ≡ turns axes k) → map (λ e. numbers_at e is) (environments n variables) ≡ points axes
+over_points axes is n variables e h =
+    map_map (λ e. numbers_at e is) (environment variables) (range_with_len 0 n)
+    ∙ ap (λ m. map (λ k. numbers_at (environment variables k) is) (range_with_len 0 m)) e
+    ∙ same_over (λ k. numbers_at (environment variables k) is) (λ k. get_or (points axes) k []) (count axes) (λ k lt. h k ∙ turns_point axes k lt)
+    ∙ sym (fill_by_all (λ k. get_or (points axes) k []) (points axes) (count axes) [] (length-points axes) (λ k lt. refl))
+
+pub column_list : (n : ℕ) (v : Variable) (zs : List ℤ) → ((k : ℕ) → number_of k v ≡ get_or zs k (pos 0)) → length zs ≡ n → zs ≡ map (λ place. number_of place v) (range_with_len 0 n)
+column_list n v zs h l = fill_by_all (λ k. number_of k v) zs n (pos 0) l (λ k lt. sym (h k))
+
+-- what holds of each number holds of the one that there is
+pub if_some : {X : Type 0} (o : Option X) (P Q : X → Type 0) → ((x : X) → P x → Q x) → IfSome o P → IfSome o Q
+if_some None P Q f h = h
+if_some (Some x) P Q f h = f x h

@@ -1,7 +1,14 @@
 -- What a fold lists at a place.
-use Rattle.std.specs.Prelude.{ℕ, suc, ℤ, List, [], ◌∷◌, ◌++◌}
+use Rattle.std.specs.Prelude.{◌≡◌, ◌≢◌, ℕ, suc, ◌+◌, ℤ, List, [], ◌∷◌, ◌++◌, slice_index_or, Bool, true}
+use Rattle.arr_core.specs.declared.domain.Axis.{Axis}
+use Rattle.arr_core.specs.Domains.{rank_of}
+use Rattle.wcps_mean.specs.declared.aggregate.Aggregate.{Aggregate}
 use Rattle.wcps_mean.specs.declared.cell.Outcome.{Outcome}
+use Rattle.wcps_mean.specs.declared.cell.Outcome.TheVariants.{Value, Fault}
+use Rattle.wcps_mean.specs.Cells.{is_true}
+use Rattle.tile_kernel.specs.declared.accumulator.Accumulator.{Accumulator}
 use Rattle.tile_kernel.specs.Told.{Told, demanded_of}
+use Rattle.tile_kernel.specs.Standing.{Stands, TakesIn, AreOf}
 
 -- what points of a fold's box add, the first of them the n-th of the box; c is the condition and e the body
 abbrev pub told_of : (List ℤ → Outcome) → (List ℤ → Outcome) → ℕ → List (List ℤ) → List Told
@@ -11,3 +18,19 @@ told_of c e n (x ∷ xs) = demanded_of n (c x) (e x) ++ told_of c e (suc n) xs
 -- a body at the points of a fold's box, under these variables
 abbrev pub under_vars : (List ℤ → Outcome) → List ℤ → List ℤ → Outcome
 under_vars e vars x = e (vars ++ x)
+
+-- what a point of a fold's box adds under these variables, at the point's place in the box
+abbrev pub told_ranked : List Axis → (List ℤ → Outcome) → (List ℤ → Outcome) → List ℤ → List ℤ → List Told
+told_ranked box c e vars x = demanded_of (rank_of box x) (under_vars c vars x) (under_vars e vars x)
+
+-- whether a point adds something under a condition with this outcome: its fault, or what the body gives
+abbrev pub demands : Outcome → Bool
+demands (Fault f) = true
+demands (Value z) = is_true z
+
+-- the accumulator at a place takes in what another one was told, and the others stay as they are
+pub record MergesAt (place : ℕ) (found : Accumulator) (before after : List Accumulator) : Type 0 where
+  pub told : (more : List Told) (d : Accumulator) → Stands found more → TakesIn (slice_index_or before place d) (slice_index_or after place d) more
+  pub count : (d : Accumulator) → (slice_index_or after place d).running.count ≡ (slice_index_or before place d).running.count + found.running.count
+  pub kinds : (op : Aggregate) → AreOf op before → AreOf op after
+  pub others : (k : ℕ) (d : Accumulator) → k ≢ place → slice_index_or after k d ≡ slice_index_or before k d

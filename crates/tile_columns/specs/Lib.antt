@@ -4,4 +4,5 @@ pub mod Gathering
 pub mod Evaluating
 pub mod Binding
 pub mod Condensing
+pub mod TileOrder
 pub mod Fields

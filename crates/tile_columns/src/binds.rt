@@ -1,6 +1,7 @@
 //! The positions of a bind at all places of a column.
 
-ghost use Rattle.std.specs.Prelude.{◌≡◌, ◌≤◌, int_le, ◌&&◌, length, map, OnOk, IfOk};
+ghost use Rattle.std.specs.Prelude.{◌≡◌, ℕ, ◌<◌, ◌≤◌, int_le, ◌&&◌, length, map, IsTrue, OnOk, IfOk};
+ghost use Rattle.wcps_mean.specs.declared.cell.Outcome.{Outcome};
 ghost use Rattle.wcps_mean.specs.Cells.{at_position};
 ghost use Rattle.tile_kernel.specs.Columns.{outcome_at};
 ghost use Rattle.tile_columns.specs.Binding.{coordinate_or_lo, at_positions};
@@ -42,10 +43,20 @@ pub(crate) fn coordinates(
     ensures { IfOk result (λ v. v.items ≡ map (coordinate_or_lo interval.lo interval.hi) positions.now) }
 {
     let mut list = Vec::new(alloc);
-    for place in 0..positions.len() {
-        list.push(coordinate(positions.at(place), interval))?;
-    }
+    list.resize(positions.len(), interval.lo)?;
+    write_coordinates(positions, interval, &mut list);
     Ok(list)
+}
+
+/// Writes the coordinates of the positions.
+fn write_coordinates(positions: &Column, interval: Interval, list: &mut Vec<i32>)
+    requires { length list.old.items ≡ length positions.now }
+    ensures { list.new.items ≡ map (coordinate_or_lo interval.lo interval.hi) positions.now }
+{
+    let all = list.as_mut_slice();
+    for place in 0..positions.len() {
+        all[place] = coordinate(positions.at(place), interval);
+    }
 }
 
 /// The position's fault, else `OutOfDomain` where it does not lie in the interval, else the outcome.
@@ -64,6 +75,28 @@ fn settled(position: Outcome, interval: Interval, o: Outcome) -> Outcome
     }
 }
 
+/// Whether a position is a number that lies in the interval.
+fn is_settled(position: Outcome, interval: Interval) -> bool
+    ensures { IsTrue result → (o : Outcome) → at_position position interval.lo interval.hi (λ _. o) ≡ o }
+{
+    match position {
+        Outcome::Fault(_) => false,
+        Outcome::Value(z) => lies_in(z, interval),
+    }
+}
+
+/// Whether all positions are numbers that lie in the interval.
+fn all_lie_in(positions: &Column, interval: Interval) -> bool
+    ensures { IsTrue result → (k : ℕ) → k < length positions.now → (o : Outcome) → at_position (outcome_at positions.now k) interval.lo interval.hi (λ _. o) ≡ o }
+{
+    for place in 0..positions.len() {
+        if !is_settled(positions.at(place), interval) {
+            return false;
+        }
+    }
+    true
+}
+
 /// Leaves the outcomes of `out` where the position lies in the interval, and puts the fault elsewhere.
 pub(crate) fn settle(
     positions: &Column,
@@ -74,6 +107,9 @@ pub(crate) fn settle(
     requires { length out.old ≡ length positions.now }
     ensures { OnOk result (out.new ≡ at_positions positions.now interval.lo interval.hi (λ k z. outcome_at out.old k)) }
 {
+    if all_lie_in(positions, interval) {
+        return Ok(());
+    }
     settle_each(positions, interval, out, outcomes)?;
     out.write_outcomes(outcomes);
     Ok(())

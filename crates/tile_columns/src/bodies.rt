@@ -1,7 +1,7 @@
 //! Bodies at all places of a frame.
 
-ghost use Rattle.std.specs.Prelude.{◌≡◌, ℕ, ◌+◌, ◌*◌, ◌<◌, ◌≤◌, ◌^◌, ◌≤ℤ◌, ℤ, List, [], ◌∷◌, ◌++◌, map, length, slice_index_or, OnOk, IfOk};
-ghost use Rattle.std.specs.List.{All};
+ghost use Rattle.std.specs.Prelude.{◌≡◌, ℕ, ◌+◌, ◌-◌, ◌*◌, ◌<◌, ◌≤◌, ◌^◌, ◌≤ℤ◌, ℤ, List, [], ◌∷◌, ◌++◌, map, length, slice_index_or, OnOk, IfOk};
+ghost use Rattle.std.specs.List.{All, flat_map};
 ghost use Rattle.arr_core.specs.Domains.{points, count};
 ghost use Rattle.wcps_mean.specs.declared.aggregate.Aggregate.{Aggregate};
 ghost use Rattle.wcps_mean.specs.Reports.{Reports};
@@ -10,24 +10,29 @@ ghost use Rattle.plan_ir.specs.Run.{run};
 ghost use Rattle.plan_ir.specs.Plans.{signature_of};
 ghost use Rattle.plan_ir.specs.Planned.{cells_of};
 ghost use Rattle.plan_ir.specs.Units.{bound_times};
-ghost use Rattle.tile_kernel.specs.Told.{demanded_of};
-ghost use Rattle.tile_kernel.specs.Standing.{AreOf, HaveAtMost, EachTakesIn};
+ghost use Rattle.tile_kernel.specs.Told.{demanded_of, demanded_at};
+ghost use Rattle.tile_kernel.specs.Standing.{Stands, AreOf, HaveAtMost, EachTakesIn};
 ghost use Rattle.tile_columns.specs.Sources.{Leaves};
 ghost use Rattle.tile_columns.specs.Frames.{extended};
 ghost use Rattle.tile_columns.specs.Evaluating.{HasPlace, HasPlaceUnder, fetches};
 ghost use Rattle.tile_columns.specs.Binding.{coordinate_or_lo, at_positions, with_coordinate};
-ghost use Rattle.tile_columns.specs.Condensing.{told_of, under_vars};
+ghost use Rattle.tile_columns.specs.Condensing.{told_of, under_vars, told_ranked};
+ghost use Rattle.tile_columns.specs.TileOrder.{IsPart};
 
 use crate::binds::{coordinates, settle};
-use crate::folds::{empty_folds, finish_folds, push_place};
+use crate::folds::{
+    empty_folds, finish_folds, goes_by_tiles, is_never, merge_at, part_frame, push_place,
+};
 use crate::frame::Frame;
 use crate::ground::{Ground, read_cells, register};
 use crate::lookup::{fill_variable, look_up};
+use crate::part::{Part, part_at};
 use crate::scratch::Scratch;
 use crate::source::Tiles;
 use plan_ir::{Body, Fold, Interval};
 use tile_kernel::{
-    Accumulator, Column, add_column, add_column_where, operate_column, operate_columns,
+    Accumulator, Column, add_column, add_column_where, fold_column, fold_column_where,
+    operate_column, operate_columns,
 };
 use wcps_mean::{CellError, Outcome};
 
@@ -208,7 +213,7 @@ fn at_coordinates<S: Tiles>(
     Ok(())
 }
 
-/// Makes `out` what a fold gives at the places of a frame: for each point of its box a column of its body.
+/// Makes `out` what a fold gives at the places of a frame.
 #[cycle(evaluate)]
 fn condense<S: Tiles>(
     source: &mut S,
@@ -230,13 +235,45 @@ fn condense<S: Tiles>(
     ensures fetched { OnOk result ((n : ℕ) → All (λ (e : List ℤ). n ≤ length e) frame.old → S.fetched source.new ≤ S.fetched source.old + fetches (signature_of (S.coverages source.old) ground.now.coverages.now) n frame.old (fold_view fold.now)) }
 {
     let mut folds = empty_folds(scratch.alloc(), fold.op, frame.places())?;
-    tell_points(source, ground, fold, frame, scratch, &mut folds)?;
+    tell_all(source, ground, fold, frame, scratch, &mut folds)?;
     finish_folds(folds, &mut scratch.outcomes)?;
     out.write_outcomes(&scratch.outcomes);
     Ok(())
 }
 
-/// Tells accumulators, one for each place of a frame, of all points of a fold's box, in row-major order.
+/// Tells accumulators, one for each place of a frame, of all points of a fold's box: a tile box at a time where that takes
+/// fewer column operations, else a point at a time.
+#[cycle(evaluate)]
+fn tell_all<S: Tiles>(
+    source: &mut S,
+    ground: &Ground<'_>,
+    fold: &Fold,
+    frame: &mut Frame,
+    scratch: &mut Scratch,
+    folds: &mut [Accumulator],
+) -> Result<(), CellError>
+    requires signatures { ground.now.signatures.now ≡ S.coverages source.old }
+    requires place { HasPlace (signature_of (S.coverages source.old) ground.now.coverages.now) (length ground.now.registers.now) (fold_view fold.now) frame.old }
+    requires folds { length folds.old ≡ length frame.old }
+    requires room { HaveAtMost 0 folds.old }
+    requires op { AreOf fold.now.op folds.old }
+    ensures told { OnOk result (S.intact source.old → EachTakesIn folds.old folds.new (λ k. told_of (under_vars (run (cells_of (S.cells source.old) ground.now.coverages.now) ground.now.registers.now (condition_view fold.now.condition)) (slice_index_or frame.old k [])) (under_vars (run (cells_of (S.cells source.old) ground.now.coverages.now) ground.now.registers.now (body_view fold.now.body)) (slice_index_or frame.old k [])) 0 (points fold.now.domain))) }
+    ensures op { OnOk result (AreOf fold.now.op folds.new) }
+    ensures frame { OnOk result (frame.new ≡ frame.old) }
+    ensures rises { S.fetched source.old ≤ S.fetched source.new }
+    ensures same { Leaves (S.cells source.old) (S.cells source.new) (S.coverages source.old) (S.coverages source.new) (S.kept source.old) (S.kept source.new) }
+    ensures intact { S.intact source.old → S.intact source.new }
+    ensures reports { Reports result (S.intact source.old) (S.failures source.old) (S.failures source.new) }
+    ensures fetched { OnOk result (S.fetched source.new ≤ S.fetched source.old + (bound_times (length frame.old * count fold.now.domain) (condition_view fold.now.condition) + bound_times (length frame.old * count fold.now.domain) (body_view fold.now.body))) }
+{
+    if goes_by_tiles(frame.places(), &fold.domain) {
+        return tell_tiles(source, ground, fold, frame, scratch, folds);
+    }
+    tell_points(source, ground, fold, frame, scratch, folds)
+}
+
+/// Tells accumulators, one for each place of a frame, of all points of a fold's box, in row-major order: for each point a
+/// column of its body.
 #[cycle(evaluate)]
 fn tell_points<S: Tiles>(
     source: &mut S,
@@ -340,6 +377,117 @@ fn tell<S: Tiles>(
             scratch.give_back(chosen);
             scratch.give_back(column);
             Ok(())
+        }
+    }
+}
+
+/// Tells accumulators, one for each place of a frame, of all points of a fold's box, a tile box at a time.
+#[cycle(evaluate)]
+fn tell_tiles<S: Tiles>(
+    source: &mut S,
+    ground: &Ground<'_>,
+    fold: &Fold,
+    frame: &Frame,
+    scratch: &mut Scratch,
+    folds: &mut [Accumulator],
+) -> Result<(), CellError>
+    requires signatures { ground.now.signatures.now ≡ S.coverages source.old }
+    requires place { HasPlace (signature_of (S.coverages source.old) ground.now.coverages.now) (length ground.now.registers.now) (fold_view fold.now) frame.now }
+    requires folds { length folds.old ≡ length frame.now }
+    requires room { HaveAtMost 0 folds.old }
+    requires op { AreOf fold.now.op folds.old }
+    ensures told { OnOk result (S.intact source.old → EachTakesIn folds.old folds.new (λ k. told_of (under_vars (run (cells_of (S.cells source.old) ground.now.coverages.now) ground.now.registers.now (condition_view fold.now.condition)) (slice_index_or frame.now k [])) (under_vars (run (cells_of (S.cells source.old) ground.now.coverages.now) ground.now.registers.now (body_view fold.now.body)) (slice_index_or frame.now k [])) 0 (points fold.now.domain))) }
+    ensures op { OnOk result (AreOf fold.now.op folds.new) }
+    ensures rises { S.fetched source.old ≤ S.fetched source.new }
+    ensures same { Leaves (S.cells source.old) (S.cells source.new) (S.coverages source.old) (S.coverages source.new) (S.kept source.old) (S.kept source.new) }
+    ensures intact { S.intact source.old → S.intact source.new }
+    ensures reports { Reports result (S.intact source.old) (S.failures source.old) (S.failures source.new) }
+    ensures fetched { OnOk result (S.fetched source.new ≤ S.fetched source.old + (bound_times (length frame.now * count fold.now.domain) (condition_view fold.now.condition) + bound_times (length frame.now * count fold.now.domain) (body_view fold.now.body))) }
+{
+    let _axes = fold.domain.axes();
+    for tile in 0..fold.domain.tiles() {
+        let part = part_at(scratch.alloc(), &fold.domain, tile)?;
+        tell_part(source, ground, fold, &part, frame, scratch, folds)?;
+    }
+    Ok(())
+}
+
+/// Tells accumulators, one for each place of a frame, of the points of a part of a fold's box.
+#[cycle(evaluate)]
+fn tell_part<S: Tiles>(
+    source: &mut S,
+    ground: &Ground<'_>,
+    fold: &Fold,
+    part: &Part,
+    frame: &Frame,
+    scratch: &mut Scratch,
+    folds: &mut [Accumulator],
+) -> Result<(), CellError>
+    requires signatures { ground.now.signatures.now ≡ S.coverages source.old }
+    requires place { HasPlace (signature_of (S.coverages source.old) ground.now.coverages.now) (length ground.now.registers.now) (fold_view fold.now) frame.now }
+    requires part { IsPart fold.now.domain part.now }
+    requires folds { length folds.old ≡ length frame.now }
+    requires room { HaveAtMost (2 ^ 24 - length (points part.now.area)) folds.old }
+    requires op { AreOf fold.now.op folds.old }
+    ensures told { OnOk result (S.intact source.old → EachTakesIn folds.old folds.new (λ k. flat_map (told_ranked fold.now.domain (run (cells_of (S.cells source.old) ground.now.coverages.now) ground.now.registers.now (condition_view fold.now.condition)) (run (cells_of (S.cells source.old) ground.now.coverages.now) ground.now.registers.now (body_view fold.now.body)) (slice_index_or frame.now k [])) (points part.now.area))) }
+    ensures room { OnOk result ((n : ℕ) → HaveAtMost n folds.old → HaveAtMost (n + length (points part.now.area)) folds.new) }
+    ensures op { OnOk result (AreOf fold.now.op folds.new) }
+    ensures rises { S.fetched source.old ≤ S.fetched source.new }
+    ensures same { Leaves (S.cells source.old) (S.cells source.new) (S.coverages source.old) (S.coverages source.new) (S.kept source.old) (S.kept source.new) }
+    ensures intact { S.intact source.old → S.intact source.new }
+    ensures reports { Reports result (S.intact source.old) (S.failures source.old) (S.failures source.new) }
+    ensures fetched { OnOk result (S.fetched source.new ≤ S.fetched source.old + (bound_times (length frame.now * count part.now.area) (condition_view fold.now.condition) + bound_times (length frame.now * count part.now.area) (body_view fold.now.body))) }
+{
+    for place in 0..frame.places() {
+        let mut own = part_frame(scratch.alloc(), frame, place, &part.area)?;
+        let found = fold_frame(source, ground, fold, &part.ranks, &mut own, scratch)?;
+        merge_at(folds, place, found);
+    }
+    Ok(())
+}
+
+/// What the places of a frame tell a fold's condenser, each as a point of its box with this rank. A body is not
+/// evaluated where its condition is false at each place.
+#[cycle(evaluate)]
+fn fold_frame<S: Tiles>(
+    source: &mut S,
+    ground: &Ground<'_>,
+    fold: &Fold,
+    ranks: &[u64],
+    frame: &mut Frame,
+    scratch: &mut Scratch,
+) -> Result<Accumulator, CellError>
+    requires signatures { ground.now.signatures.now ≡ S.coverages source.old }
+    requires condition { HasPlace (signature_of (S.coverages source.old) ground.now.coverages.now) (length ground.now.registers.now) (condition_view fold.now.condition) frame.old }
+    requires body { HasPlace (signature_of (S.coverages source.old) ground.now.coverages.now) (length ground.now.registers.now) (body_view fold.now.body) frame.old }
+    requires ranks { length ranks.now ≡ length frame.old }
+    ensures stands { IfOk result (λ a. S.intact source.old → Stands a (demanded_at ranks.now (map (run (cells_of (S.cells source.old) ground.now.coverages.now) ground.now.registers.now (condition_view fold.now.condition)) frame.old) (map (run (cells_of (S.cells source.old) ground.now.coverages.now) ground.now.registers.now (body_view fold.now.body)) frame.old))) }
+    ensures op { IfOk result (λ a. a.running.op ≡ fold.now.op) }
+    ensures count { IfOk result (λ a. a.running.count ≤ length frame.old) }
+    ensures rises { S.fetched source.old ≤ S.fetched source.new }
+    ensures same { Leaves (S.cells source.old) (S.cells source.new) (S.coverages source.old) (S.coverages source.new) (S.kept source.old) (S.kept source.new) }
+    ensures intact { S.intact source.old → S.intact source.new }
+    ensures reports { Reports result (S.intact source.old) (S.failures source.old) (S.failures source.new) }
+    ensures fetched { OnOk result (S.fetched source.new ≤ S.fetched source.old + (bound_times (length frame.old) (condition_view fold.now.condition) + bound_times (length frame.old) (body_view fold.now.body))) }
+{
+    match &fold.condition {
+        None => {
+            let column = column_of(source, ground, &fold.body, frame, scratch)?;
+            let found = fold_column(fold.op, &column, ranks);
+            scratch.give_back(column);
+            Ok(found)
+        }
+        Some(condition) => {
+            let chosen = column_of(source, ground, condition, frame, scratch)?;
+            if is_never(&chosen) {
+                scratch.give_back(chosen);
+                return Ok(Accumulator::empty(fold.op));
+            }
+            let column = column_of(source, ground, &fold.body, frame, scratch)?;
+            let found = fold_column_where(fold.op, &chosen, &column, ranks);
+            scratch.give_back(chosen);
+            scratch.give_back(column);
+            Ok(found)
         }
     }
 }

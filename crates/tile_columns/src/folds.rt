@@ -1,19 +1,22 @@
 //! The accumulators of a fold, one for each place of a column.
 
-ghost use Rattle.std.specs.Prelude.{◌≡◌, ℕ, ◌<◌, ◌≤◌, List, [], length, map, slice_index_or, IfOk, OnOk};
+ghost use Rattle.std.specs.Prelude.{◌≡◌, ℕ, ◌+◌, ◌*◌, ◌++◌, ◌<◌, ◌≤◌, ◌^◌, Bool, false, true, List, [], length, map, slice_index_or, IfOk, OnOk, IsTrue, nat_lt};
 ghost use Rattle.std.specs.List.{range_with_len};
-ghost use Rattle.arr_core.specs.Domains.{points, IsInside};
+ghost use Rattle.arr_core.specs.Domains.{points, count, IsInside};
+ghost use Rattle.arr_core.specs.Tiles.{tile_boxes};
 ghost use Rattle.wcps_mean.specs.declared.aggregate.Aggregate.{Aggregate};
 ghost use Rattle.wcps_mean.specs.Condensers.{condensed};
 ghost use Rattle.tile_kernel.specs.Told.{Told, outcomes, AreRising};
+ghost use Rattle.tile_kernel.specs.Selected.{Chooses};
 ghost use Rattle.tile_kernel.specs.Standing.{EachStands, AreOf, HaveAtMost};
 ghost use Rattle.tile_columns.specs.Frames.{under};
+ghost use Rattle.tile_columns.specs.Condensing.{demands, MergesAt};
 
 use crate::frame::Frame;
 use arr_core::Domain;
 use std::alloc::{AllocError, Global};
-use tile_kernel::Accumulator;
-use wcps_mean::{Aggregate, Outcome, push_point};
+use tile_kernel::{Accumulator, Column};
+use wcps_mean::{Aggregate, Outcome, is_set, push_point};
 
 /// Accumulators of no point, one for each place.
 pub(crate) fn empty_folds(
@@ -64,4 +67,72 @@ pub(crate) fn push_place(
     push_point(point, domain, place)?;
     frame.push_numbers(point)?;
     Ok(())
+}
+
+/// The numbers of all variables at a place.
+fn place_numbers(alloc: Global, frame: &Frame, place: usize) -> Result<Vec<i32>, AllocError>
+    requires { place < length frame.now }
+    ensures { IfOk result (λ v. v.items ≡ slice_index_or frame.now place []) }
+{
+    let mut numbers = Vec::new(alloc);
+    for k in 0..frame.depth() {
+        numbers.push(frame.number(k, place))?;
+    }
+    Ok(numbers)
+}
+
+/// The variables of a place, and behind them the coordinates of a box of at most 4,096 points, in row-major order.
+pub(crate) fn part_frame(
+    alloc: Global,
+    frame: &Frame,
+    place: usize,
+    area: &Domain,
+) -> Result<Frame, AllocError>
+    requires place { place < length frame.now }
+    requires few { count area.now ≤ 4096 }
+    ensures { IfOk result (λ f. f ≡ map (λ p. slice_index_or frame.now place [] ++ p) (points area.now)) }
+{
+    let numbers = place_numbers(alloc, frame, place)?;
+    Frame::of_box_under(alloc, &numbers, area)
+}
+
+/// Tells the accumulator at a place what another one was told.
+pub(crate) fn merge_at(folds: &mut [Accumulator], place: usize, found: Accumulator)
+    requires place { place < length folds.old }
+    requires op { AreOf found.running.op folds.old }
+    requires room { (d : Accumulator) → (slice_index_or folds.old place d).running.count + found.running.count ≤ 2 ^ 24 }
+    ensures { MergesAt place found folds.old folds.new }
+{
+    folds[place].merge(found);
+}
+
+/// Whether a point adds something under a condition with this outcome.
+fn demands(condition: Outcome) -> bool
+    ensures { result ≡ demands condition }
+{
+    match condition {
+        Outcome::Fault(_) => true,
+        Outcome::Value(x) => is_set(x),
+    }
+}
+
+/// Whether a condition is false at each place.
+pub(crate) fn is_never(condition: &Column) -> bool
+    ensures { IsTrue result → Chooses (λ _. false) condition.now }
+{
+    for k in 0..condition.len() {
+        if demands(condition.at(k)) {
+            return false;
+        }
+    }
+    true
+}
+
+/// Whether a fold takes fewer column operations a tile box at a time, one for each tile box and place of the frame, than
+/// a point at a time, one for each point of its box. Over all places and points both have as many cells.
+pub(crate) fn goes_by_tiles(places: usize, area: &Domain) -> bool
+    requires { places ≤ 4096 }
+    ensures { result ≡ nat_lt (places * length (tile_boxes area.now)) (count area.now) }
+{
+    places as u64 * area.tiles() < area.points()
 }

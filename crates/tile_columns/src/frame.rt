@@ -1,11 +1,14 @@
 //! Frames: the numbers of a body's variables at each place of a column.
 
-ghost use Rattle.std.specs.Prelude.{◌≡◌, ℕ, ◌+◌, ◌*◌, ◌<◌, ◌≤◌, ◌^◌, ◌≤ℤ◌, ◌+ℤ◌, ℤ, pos, List, [], ◌∷◌, ◌++◌, length, take, map, slice_index_or, OnOk, IfOk};
-ghost use Rattle.std.specs.List.{All};
+ghost use Rattle.std.specs.Prelude.{◌≡◌, ℕ, ◌+◌, ◌*◌, ◌<◌, ◌≤◌, ◌^◌, ◌≤ℤ◌, ◌+ℤ◌, ℤ, pos, List, [], ◌∷◌, ◌++◌, length, take, map, slice_index_or, replicate, IsTrue, IfSome, OnOk, IfOk};
+ghost use Rattle.std.specs.List.{All, range_with_len};
 ghost use Rattle.arr_core.specs.Domains.{gap, size_of, points, count, AreOrdered};
+ghost use Rattle.plan_ir.specs.Run.{number_at, numbers_at};
 ghost use Rattle.tile_columns.specs.Frames.{turn, number_of, environment, HasPlaces, under, extended, turns, TellsAt};
 
+use crate::numbers::fill_list;
 use arr_core::{Axis, Domain};
+use plan_ir::Index;
 use std::alloc::{AllocError, Global};
 use std::marker::Model;
 
@@ -41,7 +44,7 @@ impl Model for Frame {
 }
 
 /// How far two coordinates are apart.
-fn distance(lo: i32, hi: i32) -> u64
+pub(crate) fn distance(lo: i32, hi: i32) -> u64
     ensures gap { result ≡ gap lo hi }
     ensures small { result < 2 ^ 32 }
 {
@@ -68,6 +71,16 @@ impl Variable {
             Variable::Const(z) => *z,
             Variable::Axis(lo, hi, every) => turn(*lo, *hi, *every, place),
             Variable::Column(zs) => zs[place],
+        }
+    }
+
+    /// Whether the numbers are the coordinates of an axis in turn.
+    fn turns_as(&self, lo: i32, hi: i32, every: u64) -> bool
+        ensures { IsTrue result → (place : ℕ) → number_of place self.now ≡ turn lo hi every place }
+    {
+        match self {
+            Variable::Axis(from, to, times) => *from == lo && *to == hi && *times == every,
+            _ => false,
         }
     }
 }
@@ -121,14 +134,95 @@ fn number_at(variables: &[Variable], k: usize, place: usize) -> i32
     }
 }
 
+/// Makes a list what an index stands for at each of so many places.
+fn list_index(
+    variables: &[Variable],
+    places: usize,
+    index: Index,
+    numbers: &mut Vec<i64>,
+) -> Result<(), AllocError>
+    requires { All (HasPlaces places) variables.now }
+    ensures { OnOk result (numbers.new.items ≡ map (λ place. number_at (environment variables.now place) index) (range_with_len 0 places)) }
+{
+    match index {
+        Index::Const(z) => {
+            fill_list(places, z as i64, numbers)?;
+            Ok(())
+        }
+        Index::Var(k) => match variables.get(k) {
+            Some(variable) => {
+                variable.list(places, numbers)?;
+                Ok(())
+            }
+            None => {
+                fill_list(places, 0, numbers)?;
+                Ok(())
+            }
+        },
+    }
+}
+
+/// The number that a variable has at every place, if it is kept once.
+fn constant_at(variables: &[Variable], k: usize) -> Option<i32>
+    ensures { IfSome result (λ z. (place : ℕ) → slice_index_or (environment variables.now place) k (pos 0) ≡ z) }
+{
+    match variables.get(k) {
+        Some(Variable::Const(z)) => Some(*z),
+        _ => None,
+    }
+}
+
+/// Whether an index stands for a variable that turns as the coordinates of an axis.
+fn turns_as(variables: &[Variable], index: Index, lo: i32, hi: i32, every: u64) -> bool
+    ensures { IsTrue result → (place : ℕ) → number_at (environment variables.now place) index ≡ turn lo hi every place }
+{
+    match index {
+        Index::Const(_) => false,
+        Index::Var(k) => match variables.get(k) {
+            Some(variable) => variable.turns_as(lo, hi, every),
+            None => false,
+        },
+    }
+}
+
+/// Whether the indexes turn as the coordinates of axes, which have `total` points.
+fn turn_as(variables: &[Variable], indexes: &[Index], axes: &[Axis], total: u64) -> bool
+    requires ordered { AreOrdered axes.now }
+    requires counted { total ≡ count axes.now }
+    ensures { IsTrue result → (place : ℕ) → numbers_at (environment variables.now place) indexes.now ≡ turns axes.now place }
+{
+    match axes {
+        [] => indexes.is_empty(),
+        [axis, rest @ ..] => match indexes {
+            [] => false,
+            [index, further @ ..] => {
+                let each = total / (distance(axis.lo, axis.hi) + 1);
+                if !turns_as(variables, *index, axis.lo, axis.hi, each) {
+                    return false;
+                }
+                turn_as(variables, further, rest, each)
+            }
+        },
+    }
+}
+
 impl Frame {
     /// The coordinates of a box of at most 4,096 points, in row-major order.
     pub fn of_box(alloc: Global, area: &Domain) -> Result<Frame, AllocError>
         requires { count area.now ≤ 4096 }
         ensures { IfOk result (λ f. f ≡ points area.now) }
     {
+        Frame::of_box_under(alloc, &[], area)
+    }
+
+    /// The same numbers at every place, then the coordinates of a box of at most 4,096 points, in row-major order.
+    pub fn of_box_under(alloc: Global, numbers: &[i32], area: &Domain) -> Result<Frame, AllocError>
+        requires { count area.now ≤ 4096 }
+        ensures { IfOk result (λ f. f ≡ map (λ p. numbers.now ++ p) (points area.now)) }
+    {
         let places = area.points();
         let mut variables = Vec::new(alloc);
+        push_numbers(&mut variables, numbers)?;
         push_axes(&mut variables, area.axes(), places)?;
         Ok(Frame {
             places: places as usize,
@@ -157,6 +251,32 @@ impl Frame {
         ensures { result ≡ slice_index_or (slice_index_or self.now place []) k (pos 0) }
     {
         number_at(&self.variables, k, place)
+    }
+
+    /// Makes a list what an index stands for at each place.
+    pub(crate) fn list(&self, index: Index, numbers: &mut Vec<i64>) -> Result<(), AllocError>
+        ensures { OnOk result (numbers.new.items ≡ map (λ e. number_at e index) self.now) }
+    {
+        list_index(&self.variables, self.places, index, numbers)?;
+        Ok(())
+    }
+
+    /// The number that a variable has at every place, if it is kept once.
+    pub(crate) fn constant(&self, k: usize) -> Option<i32>
+        ensures { IfSome result (λ z. map (λ e. slice_index_or e k (pos 0)) self.now ≡ replicate (length self.now) z) }
+    {
+        constant_at(&self.variables, k)
+    }
+
+    /// Whether the indexes go over the points of a box, in row-major order.
+    pub(crate) fn goes_over(&self, indexes: &[Index], area: &Domain) -> bool
+        ensures { IsTrue result → map (λ e. numbers_at e indexes.now) self.now ≡ points area.now }
+    {
+        let total = area.points();
+        if self.places as u64 != total {
+            return false;
+        }
+        turn_as(&self.variables, indexes, area.axes(), total)
     }
 
     /// Adds variables that have these numbers at every place.

@@ -1,18 +1,20 @@
 //! Reads at all places of a column: each tile that holds a cell of it is fetched once.
 
-ghost use Rattle.std.specs.Prelude.{◌≡◌, ◌≢◌, ℕ, ◌+◌, ◌<◌, ◌≤◌, ℤ, pos, List, [], ◌∷◌, ◌++◌, length, map, slice_get, slice_index_or, slice_set, OnOk, nat_eq};
+ghost use Rattle.std.specs.Prelude.{◌≡◌, ◌≢◌, ℕ, ◌+◌, ◌<◌, ◌≤◌, ℤ, pos, List, [], ◌∷◌, ◌++◌, length, map, slice_get, slice_index_or, true, IsTrue, IfSome, IfOk, OnOk, nat_eq};
 ghost use Rattle.std.specs.List.{All, list_any};
-ghost use Rattle.arr_core.specs.declared.domain.Axis.{Axis};
-ghost use Rattle.arr_core.specs.Domains.{points, count, IsInside};
+ghost use Rattle.arr_core.specs.Domains.{points, IsInside};
+ghost use Rattle.arr_core.specs.Tiles.{tile_boxes};
 ghost use Rattle.wcps_mean.specs.declared.cell.Outcome.TheVariants.{Value};
 ghost use Rattle.wcps_mean.specs.Reports.{Reports};
 ghost use Rattle.plan_ir.specs.Run.{numbers_at};
 ghost use Rattle.plan_ir.specs.Units.{tile_number, added, distinct};
 ghost use Rattle.tile_columns.specs.Sources.{IsRead, Leaves};
-ghost use Rattle.tile_columns.specs.Gathering.{Gathered, IsCopied, LeavesOthers};
+ghost use Rattle.tile_columns.specs.Gathering.{Gathered, IsCopied, LeavesOthers, rank_in_tile};
 
 use crate::frame::Frame;
+use crate::locate::locate;
 use crate::lookup::point_at;
+use crate::numbers::fill_list;
 use crate::scratch::Scratch;
 use crate::source::Tiles;
 use arr_core::Domain;
@@ -30,37 +32,24 @@ pub struct Reading<'a> {
     pub indexes: &'a [Index],
 }
 
-/// A tile that was fetched: its number, its box, and its cells in row-major order.
-#[derive(Clone, Copy)]
-struct Fetched<'a> {
-    number: u64,
-    area: &'a Domain,
-    cells: &'a [i64],
-}
-
-/// Makes `numbers` the numbers of the tiles that are read at each place.
-fn tiles_of(
-    reading: &Reading<'_>,
-    frame: &Frame,
-    point: &mut Vec<i32>,
-    numbers: &mut Vec<u64>,
-) -> Result<(), AllocError>
-    requires { All (λ e. IsInside reading.now.domain.now (numbers_at e reading.now.indexes.now)) frame.now }
-    ensures { OnOk result (numbers.new.items ≡ map (λ e. tile_number reading.now.domain.now (numbers_at e reading.now.indexes.now)) frame.now) }
-{
-    numbers.clear();
-    for place in 0..frame.places() {
-        point_at(frame, place, reading.indexes, point)?;
-        numbers.push(reading.domain.tile_of(point))?;
-    }
-    Ok(())
-}
-
-/// Whether a number is in the list.
+/// Whether a number is in the list; the last one is looked at first.
 fn is_seen(seen: &[u64], number: u64) -> bool
     ensures { result ≡ list_any (λ m. nat_eq m number) seen.now }
 {
+    if ends_with(seen, number) {
+        return true;
+    }
     seen.iter().any(|m| *m == number)
+}
+
+/// Whether a list ends with a number.
+fn ends_with(seen: &[u64], number: u64) -> bool
+    ensures { IsTrue result → list_any (λ m. nat_eq m number) seen.now ≡ true }
+{
+    match seen {
+        [] => false,
+        [.., last] => *last == number,
+    }
 }
 
 /// Puts a number at the end of a list.
@@ -71,70 +60,40 @@ fn push_number(numbers: &mut Vec<u64>, number: u64) -> Result<(), AllocError>
     Ok(())
 }
 
-/// Writes a cell.
-fn set_cell(cells: &mut Vec<i64>, place: usize, z: i64)
-    requires { place < length cells.old.items }
-    ensures { cells.new.items ≡ slice_set cells.old.items place z }
-{
-    cells[place] = z;
-}
-
-/// The places of a column: the numbers of their variables, the indexes that give a point at each, and the number of the
-/// tile that the point is in.
+/// The places of a column: the numbers of the tiles that are read there, and the ranks in these.
 #[derive(Clone, Copy)]
 struct Places<'a> {
-    frame: &'a Frame,
-    indexes: &'a [Index],
     numbers: &'a [u64],
+    ranks: &'a [u64],
 }
 
-/// Writes the cell of a place, if its tile is this one.
-fn copy_cell(
-    places: &Places<'_>,
-    tile: &Fetched<'_>,
-    place: usize,
-    point: &mut Vec<i32>,
-    cells: &mut Vec<i64>,
-) -> Result<(), AllocError>
-    requires place { place < length places.now.frame.now }
-    requires numbers { length places.now.numbers.now ≡ length places.now.frame.now }
-    requires cells { length cells.old.items ≡ length places.now.frame.now }
-    requires whole { length tile.now.cells.now ≡ count tile.now.area.now }
-    requires inside { slice_index_or places.now.numbers.now place 0 ≡ tile.now.number → IsInside tile.now.area.now (numbers_at (slice_index_or places.now.frame.now place []) places.now.indexes.now) }
-    ensures places { OnOk result (length cells.new.items ≡ length cells.old.items) }
-    ensures others { OnOk result ((j : ℕ) → j ≢ place → slice_index_or cells.new.items j (pos 0) ≡ slice_index_or cells.old.items j (pos 0)) }
-    ensures kept { OnOk result (slice_index_or places.now.numbers.now place 0 ≢ tile.now.number → slice_index_or cells.new.items place (pos 0) ≡ slice_index_or cells.old.items place (pos 0)) }
-    ensures here { OnOk result ((s : List ℤ → ℤ) → tile.now.cells.now ≡ map s (points tile.now.area.now) → slice_index_or places.now.numbers.now place 0 ≡ tile.now.number → slice_index_or cells.new.items place (pos 0) ≡ s (numbers_at (slice_index_or places.now.frame.now place []) places.now.indexes.now)) }
+/// The cell of a place if its tile is this one, else the cell that was there.
+fn copied(places: &Places<'_>, number: u64, tile: &[i64], place: usize, before: i64) -> i64
+    requires place { place < length places.now.numbers.now }
+    requires ranks { length places.now.ranks.now ≡ length places.now.numbers.now }
+    requires inside { slice_index_or places.now.numbers.now place 0 ≡ number → slice_index_or places.now.ranks.now place 0 < length tile.now }
+    ensures copied { slice_index_or places.now.numbers.now place 0 ≡ number → result ≡ slice_index_or tile.now (slice_index_or places.now.ranks.now place 0) (pos 0) }
+    ensures kept { slice_index_or places.now.numbers.now place 0 ≢ number → result ≡ before }
 {
-    if places.numbers[place] != tile.number {
-        return Ok(());
+    if places.numbers[place] != number {
+        return before;
     }
-    point_at(places.frame, place, places.indexes, point)?;
-    let _few = tile.area.points();
-    let rank = tile.area.rank(point);
-    set_cell(cells, place, tile.cells[rank as usize]);
-    Ok(())
+    tile[places.ranks[place] as usize]
 }
 
 /// Writes the cells of all places whose tile is this one.
-fn copy_tile(
-    places: &Places<'_>,
-    tile: &Fetched<'_>,
-    point: &mut Vec<i32>,
-    cells: &mut Vec<i64>,
-) -> Result<(), AllocError>
-    requires numbers { length places.now.numbers.now ≡ length places.now.frame.now }
-    requires cells { length cells.old.items ≡ length places.now.frame.now }
-    requires whole { length tile.now.cells.now ≡ count tile.now.area.now }
-    requires inside { (j : ℕ) → j < length places.now.frame.now → slice_index_or places.now.numbers.now j 0 ≡ tile.now.number → IsInside tile.now.area.now (numbers_at (slice_index_or places.now.frame.now j []) places.now.indexes.now) }
-    ensures places { OnOk result (length cells.new.items ≡ length cells.old.items) }
-    ensures copied { OnOk result ((s : List ℤ → ℤ) → tile.now.cells.now ≡ map s (points tile.now.area.now) → IsCopied tile.now.number (length places.now.frame.now) places.now.numbers.now (λ j. s (numbers_at (slice_index_or places.now.frame.now j []) places.now.indexes.now)) cells.new.items) }
-    ensures kept { OnOk result (LeavesOthers tile.now.number (length places.now.frame.now) places.now.numbers.now cells.old.items cells.new.items) }
+fn copy_tile(places: &Places<'_>, number: u64, tile: &[i64], cells: &mut Vec<i64>)
+    requires ranks { length places.now.ranks.now ≡ length places.now.numbers.now }
+    requires cells { length cells.old.items ≡ length places.now.numbers.now }
+    requires inside { (j : ℕ) → j < length places.now.numbers.now → slice_index_or places.now.numbers.now j 0 ≡ number → slice_index_or places.now.ranks.now j 0 < length tile.now }
+    ensures places { length cells.new.items ≡ length cells.old.items }
+    ensures copied { IsCopied number (length places.now.numbers.now) places.now.numbers.now (λ j. slice_index_or tile.now (slice_index_or places.now.ranks.now j 0) (pos 0)) cells.new.items }
+    ensures kept { LeavesOthers number (length places.now.numbers.now) places.now.numbers.now cells.old.items cells.new.items }
 {
-    for place in 0..places.frame.places() {
-        copy_cell(places, tile, place, point, cells)?;
+    let all = cells.as_mut_slice();
+    for place in 0..places.numbers.len() {
+        all[place] = copied(places, number, tile, place, all[place]);
     }
-    Ok(())
 }
 
 /// Fetches the tile of a place, if it has not been, and writes the cells of all places whose tile it is.
@@ -149,8 +108,9 @@ fn fetch_at<S: Tiles>(
     requires inside { All (λ e. IsInside reading.now.domain.now (numbers_at e reading.now.indexes.now)) frame.now }
     requires place { place < length frame.now }
     requires lists { (scratch.old.numbers.items ≡ map (λ e. tile_number reading.now.domain.now (numbers_at e reading.now.indexes.now)) frame.now) × (length scratch.old.cells.items ≡ length frame.now) }
+    requires ranks { scratch.old.ranks.items ≡ map (λ e. rank_in_tile reading.now.domain.now (numbers_at e reading.now.indexes.now)) frame.now }
     ensures value { OnOk result (S.intact source.old → let want : ℕ → ℤ = λ j. S.cells source.old reading.now.coverage reading.now.field (numbers_at (slice_index_or frame.now j []) reading.now.indexes.now) in Gathered scratch.old.seen.items scratch.old.numbers.items want scratch.old.cells.items → Gathered scratch.new.seen.items scratch.old.numbers.items want scratch.new.cells.items) }
-    ensures lists { OnOk result ((scratch.new.numbers.items ≡ scratch.old.numbers.items) × (length scratch.new.cells.items ≡ length scratch.old.cells.items)) }
+    ensures lists { OnOk result ((scratch.new.numbers.items ≡ scratch.old.numbers.items) × (scratch.new.ranks.items ≡ scratch.old.ranks.items) × (length scratch.new.cells.items ≡ length scratch.old.cells.items)) }
     ensures seen { OnOk result (scratch.new.seen.items ≡ added scratch.old.seen.items (slice_index_or scratch.old.numbers.items place 0)) }
     ensures fetched { OnOk result (S.fetched source.new + length scratch.old.seen.items ≤ S.fetched source.old + length scratch.new.seen.items) }
     ensures same { Leaves (S.cells source.old) (S.cells source.new) (S.coverages source.old) (S.coverages source.new) (S.kept source.old) (S.kept source.new) }
@@ -162,42 +122,27 @@ fn fetch_at<S: Tiles>(
     if is_seen(&scratch.seen, number) {
         return Ok(());
     }
-    let area = reading.domain.tile_box(scratch.alloc(), number)?;
     source.tile(reading.coverage, reading.field, number, &mut scratch.tile)?;
-    copy_fetched(reading, frame, number, &area, scratch)?;
+    copy_fetched(number, scratch);
     push_number(&mut scratch.seen, number)?;
     Ok(())
 }
 
 /// Writes the cells of all places whose tile was fetched last.
-fn copy_fetched(
-    reading: &Reading<'_>,
-    frame: &Frame,
-    number: u64,
-    area: &Domain,
-    scratch: &mut Scratch,
-) -> Result<(), AllocError>
-    requires numbers { length scratch.old.numbers.items ≡ length frame.now }
-    requires cells { length scratch.old.cells.items ≡ length frame.now }
-    requires whole { length scratch.old.tile.items ≡ count area.now }
-    requires inside { (j : ℕ) → j < length frame.now → slice_index_or scratch.old.numbers.items j 0 ≡ number → IsInside area.now (numbers_at (slice_index_or frame.now j []) reading.now.indexes.now) }
-    ensures places { OnOk result (length scratch.new.cells.items ≡ length scratch.old.cells.items) }
-    ensures copied { OnOk result ((s : List ℤ → ℤ) → scratch.old.tile.items ≡ map s (points area.now) → IsCopied number (length frame.now) scratch.old.numbers.items (λ j. s (numbers_at (slice_index_or frame.now j []) reading.now.indexes.now)) scratch.new.cells.items) }
-    ensures kept { OnOk result (LeavesOthers number (length frame.now) scratch.old.numbers.items scratch.old.cells.items scratch.new.cells.items) }
-    ensures lists { OnOk result ((scratch.new.numbers.items ≡ scratch.old.numbers.items) × (scratch.new.seen.items ≡ scratch.old.seen.items)) }
+fn copy_fetched(number: u64, scratch: &mut Scratch)
+    requires ranks { length scratch.old.ranks.items ≡ length scratch.old.numbers.items }
+    requires cells { length scratch.old.cells.items ≡ length scratch.old.numbers.items }
+    requires inside { (j : ℕ) → j < length scratch.old.numbers.items → slice_index_or scratch.old.numbers.items j 0 ≡ number → slice_index_or scratch.old.ranks.items j 0 < length scratch.old.tile.items }
+    ensures places { length scratch.new.cells.items ≡ length scratch.old.cells.items }
+    ensures copied { IsCopied number (length scratch.old.numbers.items) scratch.old.numbers.items (λ j. slice_index_or scratch.old.tile.items (slice_index_or scratch.old.ranks.items j 0) (pos 0)) scratch.new.cells.items }
+    ensures kept { LeavesOthers number (length scratch.old.numbers.items) scratch.old.numbers.items scratch.old.cells.items scratch.new.cells.items }
+    ensures lists { (scratch.new.numbers.items ≡ scratch.old.numbers.items) × (scratch.new.ranks.items ≡ scratch.old.ranks.items) × (scratch.new.seen.items ≡ scratch.old.seen.items) }
 {
     let places = Places {
-        frame,
-        indexes: reading.indexes,
         numbers: &scratch.numbers,
+        ranks: &scratch.ranks,
     };
-    let tile = Fetched {
-        number,
-        area,
-        cells: &scratch.tile,
-    };
-    copy_tile(&places, &tile, &mut scratch.point, &mut scratch.cells)?;
-    Ok(())
+    copy_tile(&places, number, &scratch.tile, &mut scratch.cells);
 }
 
 /// Makes scratch cells those that are read at each place.
@@ -217,8 +162,8 @@ fn gather<S: Tiles>(
     ensures reports { Reports result (S.intact source.old) (S.failures source.old) (S.failures source.new) }
     ensures fetched { OnOk result (S.fetched source.new ≤ S.fetched source.old + length (distinct (map (λ e. tile_number reading.now.domain.now (numbers_at e reading.now.indexes.now)) frame.now))) }
 {
-    tiles_of(reading, frame, &mut scratch.point, &mut scratch.numbers)?;
-    clear_cells(frame.places(), &mut scratch.cells)?;
+    locate(reading.domain, reading.indexes, frame, scratch)?;
+    fill_list(frame.places(), 0, &mut scratch.cells)?;
     scratch.seen.clear();
     for place in 0..frame.places() {
         fetch_at(source, reading, frame, place, scratch)?;
@@ -226,17 +171,30 @@ fn gather<S: Tiles>(
     Ok(())
 }
 
-/// Makes a list so many zeros.
-fn clear_cells(len: usize, cells: &mut Vec<i64>) -> Result<(), AllocError>
-    ensures { OnOk result (length cells.new.items ≡ len) }
+/// The number of the tile whose box the indexes go over, point for point, if there is such a tile.
+fn whole_tile(
+    reading: &Reading<'_>,
+    frame: &Frame,
+    scratch: &mut Scratch,
+) -> Result<Option<u64>, AllocError>
+    requires { All (λ e. IsInside reading.now.domain.now (numbers_at e reading.now.indexes.now)) frame.now }
+    ensures { IfOk result (λ o. IfSome o (λ n. (0 < length frame.now) × (n < length (tile_boxes reading.now.domain.now)) × (map (λ e. numbers_at e reading.now.indexes.now) frame.now ≡ points (slice_index_or (tile_boxes reading.now.domain.now) n [])))) }
 {
-    cells.clear();
-    cells.resize(len, 0)?;
-    Ok(())
+    if frame.places() == 0 {
+        return Ok(None);
+    }
+    point_at(frame, 0, reading.indexes, &mut scratch.point)?;
+    let number = reading.domain.tile_of(&scratch.point);
+    let area = reading.domain.tile_box(scratch.alloc(), number)?;
+    if frame.goes_over(reading.indexes, &area) {
+        return Ok(Some(number));
+    }
+    Ok(None)
 }
 
 /// Makes `out` the cells that are read at each place. Each tile that holds one of them is fetched once, in the order of
-/// the places, and one tile is held at a time. What the source reports passes through.
+/// the places, and one tile is held at a time; where the indexes go over the box of a tile, its cells are the column. What
+/// the source reports passes through.
 pub fn read<S: Tiles>(
     source: &mut S,
     reading: &Reading<'_>,
@@ -255,6 +213,15 @@ pub fn read<S: Tiles>(
     ensures fetched { OnOk result (S.fetched source.new ≤ S.fetched source.old + length (distinct (map (λ e. tile_number reading.now.domain.now (numbers_at e reading.now.indexes.now)) frame.now))) }
 {
     let _few = frame.places();
+    let found = whole_tile(reading, frame, scratch)?;
+    match found {
+        Some(number) => {
+            source.tile(reading.coverage, reading.field, number, &mut scratch.cells)?;
+            out.write(&scratch.cells);
+            return Ok(());
+        }
+        None => (),
+    }
     gather(source, reading, frame, scratch)?;
     out.write(&scratch.cells);
     Ok(())

@@ -9,7 +9,10 @@ mod folds;
 mod frame;
 mod gather;
 mod ground;
+mod locate;
 mod lookup;
+mod numbers;
+mod part;
 mod scratch;
 mod source;
 
@@ -19,5 +22,6 @@ pub use frame::Frame;
 pub use gather::{Reading, read};
 pub use ground::Ground;
 pub use lookup::{fill_variable, look_up};
+pub use part::ranks;
 pub use scratch::Scratch;
 pub use source::Tiles;

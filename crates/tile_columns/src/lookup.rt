@@ -12,6 +12,7 @@ use arr_core::Domain;
 use plan_ir::Index;
 use std::alloc::AllocError;
 use tile_kernel::Column;
+use wcps_mean::Outcome;
 
 /// The coordinate that an index stands for at a place.
 fn coordinate(frame: &Frame, place: usize, index: Index) -> i32
@@ -50,20 +51,16 @@ pub fn fill_variable(
 ) -> Result<(), AllocError>
     ensures { OnOk result (out.new ≡ map (λ (e : List _). Value (slice_index_or e k (pos 0))) frame.now) }
 {
-    let _few = frame.places();
-    numbers_of(frame, k, &mut scratch.cells)?;
-    out.write(&scratch.cells);
-    Ok(())
-}
-
-/// Makes a list the numbers of a variable.
-fn numbers_of(frame: &Frame, k: usize, cells: &mut Vec<i64>) -> Result<(), AllocError>
-    ensures { OnOk result (cells.new.items ≡ map (λ (e : List _). slice_index_or e k (pos 0)) frame.now) }
-{
-    cells.clear();
-    for place in 0..frame.places() {
-        cells.push(frame.number(k, place) as i64)?;
+    let places = frame.places();
+    match frame.constant(k) {
+        Some(z) => {
+            out.fill(places, Outcome::Value(z as i64));
+            return Ok(());
+        }
+        None => (),
     }
+    frame.list(Index::Var(k), &mut scratch.cells)?;
+    out.write(&scratch.cells);
     Ok(())
 }
 

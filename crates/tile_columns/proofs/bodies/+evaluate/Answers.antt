@@ -1,12 +1,11 @@
-use Rattle.std.proofs.Common.{◌≡◌, ◌∙◌, ◌+◌, ◌*◌, ◌<◌, ◌≤◌, ℕ, ℤ, List, [], ◌++◌, ap, sym, subst, length, map, get_or, take, drop, arith, pos, rules}
+use Rattle.std.proofs.Common.{◌≡◌, ◌∙◌, ◌+◌, ◌*◌, ◌<◌, ◌≤◌, ℕ, ℤ, List, [], ◌∷◌, ◌++◌, refl, ap, sym, subst, length, map, get_or, take, drop, arith, pos, rules}
 use Rattle.std.specs.Prelude.{replicate, OnOk, Option}
 use Rattle.wcps_mean.specs.declared.cell.Outcome.TheVariants.{Value}
 use Rattle.plan_ir.specs.Bodies.{read}
 use Rattle.plan_ir.proofs.Folds.{folded}
 use Rattle.tile_kernel.specs.Told.{demanded_of}
-use Rattle.tile_kernel.specs.Standing.{EachTakesIn}
 use Rattle.tile_columns.proofs.Ranges.{map_map}
-use Rattle.arr_core.specs.Domains.{points, IsInside}
+use Rattle.arr_core.specs.Domains.{points, rank_of, IsInside}
 use Rattle.wcps_mean.specs.Cells.{operate1}
 use Rattle.plan_ir.specs.Bodies.{body_view, condition_view, fold_view}
 use Rattle.plan_ir.specs.Run.{run, numbers_at}
@@ -27,6 +26,17 @@ use Rattle.plan_ir.specs.Units.{bound_times}
 use Rattle.arr_core.specs.Domains.{count}
 use Rattle.tile_columns.specs.Evaluating.{fetches}
 use Rattle.tile_columns.proofs.Fetching.{read_few, times_few, times_more, fetches_extended, long_extended, on_ok}
+use Rattle.std.specs.List.{flat_map}
+use Rattle.std.proofs.Math.Nat.{mul_comm}
+use Rattle.arr_core.specs.Tiles.{tile_boxes}
+use Rattle.arr_core.proofs.Points.{length-points}
+use Rattle.tile_kernel.specs.declared.accumulator.Accumulator.{Accumulator}
+use Rattle.tile_kernel.specs.Told.{Told, told_at, demanded_at}
+use Rattle.tile_kernel.specs.Standing.{Stands, AreOf, HaveAtMost, EachTakesIn}
+use Rattle.tile_columns.specs.Condensing.{told_ranked}
+use Rattle.tile_columns.specs.TileOrder.{points_to}
+use Rattle.tile_columns.proofs.TileOrders.{points_whole}
+use Rattle.tile_columns.proofs.TileFolds.{no_tile, tile_more, all_tiles, points_next, room_more, place_more, count_more, rest_more, stands_ranked, always_told, never_told, one_place, place_in_part, times_tile}
 use Rattle.tile_columns.proofs.bodies.+evaluate.Goals as goal
 
 pub at_coordinates-evaluate-requires : goal.at_coordinates-evaluate-requires
@@ -58,29 +68,29 @@ bind-returns-clause-places g t c = ap length c.in_ok-settle-2.ensures ∙ length
 
 pub condense-write_outcomes-requires : goal.condense-write_outcomes-requires
 condense-write_outcomes-requires g t c =
-    let same : length c.tell_points.new.folds ≡ length c.in_ok-folds.folds.items = c.tell_points.auto.folds ∙ ap length c.deref_mut.ensures.value in
-    let back : take c.in_ok-folds.folds.len (c.tell_points.new.folds ++ drop (length c.tell_points.new.folds) c.in_ok-folds.folds.items) ≡ c.tell_points.new.folds =
-    whole_back c.in_ok-folds.folds.len c.tell_points.new.folds c.in_ok-folds.folds.items (omega (arith, c.in_ok-folds.folds.ok.0)) same in
-    let long : length c.tell_points.new.folds ≡ length c.args.frame.now = same ∙ c.in_ok-folds.ensures.length ∙ c.places.ensures.value in
+    let same : length c.tell_all.new.folds ≡ length c.in_ok-folds.folds.items = c.tell_all.auto.folds ∙ ap length c.deref_mut.ensures.value in
+    let back : take c.in_ok-folds.folds.len (c.tell_all.new.folds ++ drop (length c.tell_all.new.folds) c.in_ok-folds.folds.items) ≡ c.tell_all.new.folds =
+    whole_back c.in_ok-folds.folds.len c.tell_all.new.folds c.in_ok-folds.folds.items (omega (arith, c.in_ok-folds.folds.ok.0)) same in
+    let long : length c.tell_all.new.folds ≡ length c.args.frame.now = same ∙ c.in_ok-folds.ensures.length ∙ c.places.ensures.value in
     let m = ap length c.deref.ensures.value ∙ c.in_ok-finish_folds.ensures.places ∙ ap length back ∙ same ∙ c.in_ok-folds.ensures.length in
     omega (arith, m, c.places.ensures.few)
 
 pub condense-returns-clause-value : goal.condense-returns-clause-value
 condense-returns-clause-value g t c = λ i.
-    let same : length c.tell_points.new.folds ≡ length c.in_ok-folds.folds.items = c.tell_points.auto.folds ∙ ap length c.deref_mut.ensures.value in
-    let back : take c.in_ok-folds.folds.len (c.tell_points.new.folds ++ drop (length c.tell_points.new.folds) c.in_ok-folds.folds.items) ≡ c.tell_points.new.folds =
-    whole_back c.in_ok-folds.folds.len c.tell_points.new.folds c.in_ok-folds.folds.items (omega (arith, c.in_ok-folds.folds.ok.0)) same in
-    let long : length c.tell_points.new.folds ≡ length c.args.frame.now = same ∙ c.in_ok-folds.ensures.length ∙ c.places.ensures.value in
+    let same : length c.tell_all.new.folds ≡ length c.in_ok-folds.folds.items = c.tell_all.auto.folds ∙ ap length c.deref_mut.ensures.value in
+    let back : take c.in_ok-folds.folds.len (c.tell_all.new.folds ++ drop (length c.tell_all.new.folds) c.in_ok-folds.folds.items) ≡ c.tell_all.new.folds =
+    whole_back c.in_ok-folds.folds.len c.tell_all.new.folds c.in_ok-folds.folds.items (omega (arith, c.in_ok-folds.folds.ok.0)) same in
+    let long : length c.tell_all.new.folds ≡ length c.args.frame.now = same ∙ c.in_ok-folds.ensures.length ∙ c.places.ensures.value in
     c.write_outcomes.ensures ∙ c.deref.ensures.value
-    ∙ all_told c.args.fold.now.op (run (cells_of (g.S.Tiles.cells c.args.source.now) c.args.ground.now.coverages.now) c.args.ground.now.registers.now (condition_view c.args.fold.now.condition)) (run (cells_of (g.S.Tiles.cells c.args.source.now) c.args.ground.now.coverages.now) c.args.ground.now.registers.now (body_view c.args.fold.now.body)) c.args.frame.now (points c.args.fold.now.domain) c.in_ok-folds.folds.items c.deref_mut.result.now c.tell_points.new.folds _ c.finish_folds.new.list.items
-    back c.deref_mut.ensures.value long c.in_ok-folds.ensures.op c.in_ok-folds.ensures.stands (c.in_ok-tell_points.ensures.op c.args.fold.now.op) (c.in_ok-tell_points.ensures.told i) c.in_ok-finish_folds.ensures.value
+    ∙ all_told c.args.fold.now.op (run (cells_of (g.S.Tiles.cells c.args.source.now) c.args.ground.now.coverages.now) c.args.ground.now.registers.now (condition_view c.args.fold.now.condition)) (run (cells_of (g.S.Tiles.cells c.args.source.now) c.args.ground.now.coverages.now) c.args.ground.now.registers.now (body_view c.args.fold.now.body)) c.args.frame.now (points c.args.fold.now.domain) c.in_ok-folds.folds.items c.deref_mut.result.now c.tell_all.new.folds _ c.finish_folds.new.list.items
+    back c.deref_mut.ensures.value long c.in_ok-folds.ensures.op c.in_ok-folds.ensures.stands (λ a. c.in_ok-tell_all.ensures.op) (c.in_ok-tell_all.ensures.told i) c.in_ok-finish_folds.ensures.value
 
 pub condense-returns-clause-places : goal.condense-returns-clause-places
 condense-returns-clause-places g t c =
-    let same : length c.tell_points.new.folds ≡ length c.in_ok-folds.folds.items = c.tell_points.auto.folds ∙ ap length c.deref_mut.ensures.value in
-    let back : take c.in_ok-folds.folds.len (c.tell_points.new.folds ++ drop (length c.tell_points.new.folds) c.in_ok-folds.folds.items) ≡ c.tell_points.new.folds =
-    whole_back c.in_ok-folds.folds.len c.tell_points.new.folds c.in_ok-folds.folds.items (omega (arith, c.in_ok-folds.folds.ok.0)) same in
-    let long : length c.tell_points.new.folds ≡ length c.args.frame.now = same ∙ c.in_ok-folds.ensures.length ∙ c.places.ensures.value in
+    let same : length c.tell_all.new.folds ≡ length c.in_ok-folds.folds.items = c.tell_all.auto.folds ∙ ap length c.deref_mut.ensures.value in
+    let back : take c.in_ok-folds.folds.len (c.tell_all.new.folds ++ drop (length c.tell_all.new.folds) c.in_ok-folds.folds.items) ≡ c.tell_all.new.folds =
+    whole_back c.in_ok-folds.folds.len c.tell_all.new.folds c.in_ok-folds.folds.items (omega (arith, c.in_ok-folds.folds.ok.0)) same in
+    let long : length c.tell_all.new.folds ≡ length c.args.frame.now = same ∙ c.in_ok-folds.ensures.length ∙ c.places.ensures.value in
     ap length (c.write_outcomes.ensures ∙ c.deref.ensures.value) ∙ c.in_ok-finish_folds.ensures.places ∙ ap length back ∙ long
 
 pub evaluate-look_up-requires-clause-inside : goal.evaluate-look_up-requires-clause-inside
@@ -251,7 +261,7 @@ at_coordinates-returns-clause-fetched g t c = λ n h.
     omega (arith, a, e)
 
 pub condense-returns-clause-fetched : goal.condense-returns-clause-fetched
-condense-returns-clause-fetched g t c = λ n h. c.in_ok-tell_points.ensures.fetched
+condense-returns-clause-fetched g t c = λ n h. c.in_ok-tell_all.ensures.fetched
 
 pub tell_points-returns-clause-fetched : goal.tell_points-returns-clause-fetched
 tell_points-returns-clause-fetched g t c =
@@ -279,3 +289,221 @@ tell-returns-in_ok-column-in-Some-clause-fetched g t c =
     ap (λ all. fetches (signature_of all c.args.ground.now.coverages.now) 0 c.column_of-in-Some.new.frame (body_view c.args.fold.now.body)) c.column_of-in-Some.ensures.same.coverages ∙ ap (λ f. fetches (signature_of (g.S.Tiles.coverages c.args.source.now) c.args.ground.now.coverages.now) 0 f (body_view c.args.fold.now.body)) c.in_ok-chosen-in-Some.ensures.frame in
     let i : bound_times (length c.args.frame.now) (condition_view c.args.fold.now.condition) ≡ bound_times (length c.args.frame.now) (body_view c.in-Some.condition) = ap (λ (o : Option _). bound_times (length c.args.frame.now) (condition_view o)) c.in-Some.is in
     omega (arith, a, b, x, y, e, i)
+
+pub tell_all-returns-clause-op : goal.tell_all-returns-clause-op
+tell_all-returns-clause-op g t c = on_ok c.tell_points.result (λ h. h c.args.fold.now.op c.requires.op) c.tell_points.ensures.op
+
+-- ---- a tile box at a time
+
+pub tell_tiles-loop-tile-init : goal.tell_tiles-loop-tile-init
+tell_tiles-loop-tile-init g t c =
+    let dom = c.args.fold.now.domain in
+    record {
+      told = λ i. no_tile dom (run (cells_of (g.S.Tiles.cells c.args.source.now) c.args.ground.now.coverages.now) c.args.ground.now.registers.now (condition_view c.args.fold.now.condition)) (run (cells_of (g.S.Tiles.cells c.args.source.now) c.args.ground.now.coverages.now) c.args.ground.now.registers.now (body_view c.args.fold.now.body)) c.args.frame.now c.args.folds.now;
+      room = λ k d lt. let few = c.requires.room k d lt in omega (arith, few);
+      op = c.requires.op;
+      rises = omega arith;
+      fetched = omega arith;
+      same = record { cells = refl; coverages = refl; kept = refl };
+      intact = λ i. i;
+      failures = refl;
+    }
+
+pub tell_tiles-tell_part-requires : goal.tell_tiles-tell_part-requires
+tell_tiles-tell_part-requires g t c =
+    let inv = c.loop-tile.invariant in
+    let lt : c.loop-tile.tile < length (tile_boxes c.args.fold.now.domain) = omega (arith, c.loop-tile-test.true, c.tiles-tile-end.ensures.value) in
+    let signatures : c.args.ground.now.signatures.now ≡ g.S.Tiles.coverages c.loop-tile.source = c.requires.signatures ∙ sym inv.same.coverages in
+    let place : HasPlace (signature_of (g.S.Tiles.coverages c.loop-tile.source) c.args.ground.now.coverages.now) (length c.args.ground.now.registers.now) (fold_view c.args.fold.now) c.args.frame.now =
+    subst (λ all. HasPlace (signature_of all c.args.ground.now.coverages.now) (length c.args.ground.now.registers.now) (fold_view c.args.fold.now) c.args.frame.now) (sym inv.same.coverages) c.requires.place in
+    let part = c.in_ok-part.ensures.part in
+    let long : length c.loop-tile.folds ≡ length c.args.frame.now = c.loop-tile.auto.folds ∙ c.requires.folds in
+    let room = room_more c.args.fold.now.domain c.in_ok-part.part.area c.loop-tile.tile c.loop-tile.folds c.axes-axes.ensures.domain lt c.in_ok-part.ensures.tile inv.room in
+    let op : AreOf c.args.fold.now.op c.loop-tile.folds = inv.op in
+    search (rules, signatures, place, part, long, room, op)
+
+pub tell_tiles-loop-tile-preserved : goal.tell_tiles-loop-tile-preserved
+tell_tiles-loop-tile-preserved g t c =
+    let inv = c.loop-tile.invariant in
+    let dom = c.args.fold.now.domain in
+    let part = c.in_ok-part.part.area in
+    let lt : c.loop-tile.tile < length (tile_boxes dom) = omega (arith, c.loop-tile-test.true, c.tiles-tile-end.ensures.value) in
+    let is = c.in_ok-part.ensures.tile in
+    record {
+      told = λ i.
+          tile_more dom (run (cells_of (g.S.Tiles.cells c.args.source.now) c.args.ground.now.coverages.now) c.args.ground.now.registers.now (condition_view c.args.fold.now.condition)) (run (cells_of (g.S.Tiles.cells c.args.source.now) c.args.ground.now.coverages.now) c.args.ground.now.registers.now (body_view c.args.fold.now.body)) c.args.frame.now part c.loop-tile.tile c.args.folds.now c.loop-tile.folds c.tell_part.new.folds lt is (inv.told i)
+          (subst (λ s. EachTakesIn c.loop-tile.folds c.tell_part.new.folds (λ k. flat_map (told_ranked dom (run (cells_of s c.args.ground.now.coverages.now) c.args.ground.now.registers.now (condition_view c.args.fold.now.condition)) (run (cells_of s c.args.ground.now.coverages.now) c.args.ground.now.registers.now (body_view c.args.fold.now.body)) (get_or c.args.frame.now k [])) (points part))) inv.same.cells (c.in_ok-tell_part.ensures.told (inv.intact i)));
+      room = subst (λ n. HaveAtMost n c.tell_part.new.folds) (sym (points_next dom part c.loop-tile.tile lt is)) (c.in_ok-tell_part.ensures.room (length (points_to dom c.loop-tile.tile)) inv.room);
+      op = c.in_ok-tell_part.ensures.op;
+      rises = omega (arith, c.tell_part.ensures.rises, inv.rises);
+      fetched =
+          let x = times_tile (length c.args.frame.now) dom part c.loop-tile.tile (condition_view c.args.fold.now.condition) lt is in
+          let y = times_tile (length c.args.frame.now) dom part c.loop-tile.tile (body_view c.args.fold.now.body) lt is in
+          omega (arith, c.in_ok-tell_part.ensures.fetched, inv.fetched, x, y);
+      same = record { cells = c.tell_part.ensures.same.cells ∙ inv.same.cells; coverages = c.tell_part.ensures.same.coverages ∙ inv.same.coverages; kept = c.tell_part.ensures.same.kept ∙ inv.same.kept };
+      intact = λ i. c.tell_part.ensures.intact (inv.intact i);
+      failures = c.in_ok-tell_part.ensures.reports ∙ inv.failures;
+    }
+
+pub tell_tiles-returns-clause-told : goal.tell_tiles-returns-clause-told
+tell_tiles-returns-clause-told g t c = λ i.
+    let whole : c.loop-tile.tile ≡ length (tile_boxes c.args.fold.now.domain) = omega (arith, c.loop-tile-test.false, c.loop-tile.auto.tile-end, c.tiles-tile-end.ensures.value) in
+    all_tiles c.args.fold.now.domain (run (cells_of (g.S.Tiles.cells c.args.source.now) c.args.ground.now.coverages.now) c.args.ground.now.registers.now (condition_view c.args.fold.now.condition)) (run (cells_of (g.S.Tiles.cells c.args.source.now) c.args.ground.now.coverages.now) c.args.ground.now.registers.now (body_view c.args.fold.now.body)) c.args.frame.now c.args.folds.now c.loop-tile.folds c.loop-tile.tile c.axes-axes.ensures.domain.ordered whole (c.loop-tile.invariant.told i)
+
+pub tell_tiles-returns-clause-fetched : goal.tell_tiles-returns-clause-fetched
+tell_tiles-returns-clause-fetched g t c =
+    let whole : c.loop-tile.tile ≡ length (tile_boxes c.args.fold.now.domain) = omega (arith, c.loop-tile-test.false, c.loop-tile.auto.tile-end, c.tiles-tile-end.ensures.value) in
+    let n : length (points_to c.args.fold.now.domain c.loop-tile.tile) ≡ count c.args.fold.now.domain = ap (λ n. length (points_to c.args.fold.now.domain n)) whole ∙ points_whole c.args.fold.now.domain c.axes-axes.ensures.domain.ordered in
+    subst (λ k. g.S.Tiles.fetched c.loop-tile.source ≤ g.S.Tiles.fetched c.args.source.now + (bound_times (length c.args.frame.now * k) (condition_view c.args.fold.now.condition) + bound_times (length c.args.frame.now * k) (body_view c.args.fold.now.body))) n c.loop-tile.invariant.fetched
+
+pub tell_part-loop-place-init : goal.tell_part-loop-place-init
+tell_part-loop-place-init g t c = record {
+  told = λ i k d lt. absurd (omega (arith, lt));
+  counted = λ k d lt. absurd (omega (arith, lt));
+  rest = λ k d le. refl;
+  op = c.requires.op;
+  rises = omega arith;
+  fetched = omega arith;
+  same = record { cells = refl; coverages = refl; kept = refl };
+  intact = λ i. i;
+  failures = refl;
+}
+
+pub tell_part-fold_frame-requires : goal.tell_part-fold_frame-requires
+tell_part-fold_frame-requires g t c =
+    let inv = c.loop-place.invariant in
+    let lt : c.loop-place.place < length c.args.frame.now = omega (arith, c.loop-place-test.true, c.places-place-end.ensures.value) in
+    let signatures : c.args.ground.now.signatures.now ≡ g.S.Tiles.coverages c.loop-place.source = c.requires.signatures ∙ sym inv.same.coverages in
+    let one = one_place (fold_view c.args.fold.now) c.args.frame.now c.loop-place.place lt c.requires.place in
+    let chosen : HasPlace (signature_of (g.S.Tiles.coverages c.loop-place.source) c.args.ground.now.coverages.now) (length c.args.ground.now.registers.now) (condition_view c.args.fold.now.condition) c.in_ok-own.own =
+    subst (λ all. HasPlace (signature_of all c.args.ground.now.coverages.now) (length c.args.ground.now.registers.now) (condition_view c.args.fold.now.condition) c.in_ok-own.own) (sym inv.same.coverages)
+    (subst (HasPlace (signature_of (g.S.Tiles.coverages c.args.source.now) c.args.ground.now.coverages.now) (length c.args.ground.now.registers.now) (condition_view c.args.fold.now.condition)) (sym c.in_ok-own.ensures)
+    (place_in_part c.args.fold.now.domain c.args.part.now.area (condition_view c.args.fold.now.condition) (get_or c.args.frame.now c.loop-place.place []) (folded_place c.args.fold.now.op c.args.fold.now.domain (condition_view c.args.fold.now.condition) (body_view c.args.fold.now.body) ((get_or c.args.frame.now c.loop-place.place []) ∷ []) one).0 c.requires.part.inside c.requires.part.ordered)) in
+    let told : HasPlace (signature_of (g.S.Tiles.coverages c.loop-place.source) c.args.ground.now.coverages.now) (length c.args.ground.now.registers.now) (body_view c.args.fold.now.body) c.in_ok-own.own =
+    subst (λ all. HasPlace (signature_of all c.args.ground.now.coverages.now) (length c.args.ground.now.registers.now) (body_view c.args.fold.now.body) c.in_ok-own.own) (sym inv.same.coverages)
+    (subst (HasPlace (signature_of (g.S.Tiles.coverages c.args.source.now) c.args.ground.now.coverages.now) (length c.args.ground.now.registers.now) (body_view c.args.fold.now.body)) (sym c.in_ok-own.ensures)
+    (place_in_part c.args.fold.now.domain c.args.part.now.area (body_view c.args.fold.now.body) (get_or c.args.frame.now c.loop-place.place []) (folded_place c.args.fold.now.op c.args.fold.now.domain (condition_view c.args.fold.now.condition) (body_view c.args.fold.now.body) ((get_or c.args.frame.now c.loop-place.place []) ∷ []) one).1 c.requires.part.inside c.requires.part.ordered)) in
+    let long : length c.deref.result.now ≡ length c.in_ok-own.own =
+    ap length (c.deref.ensures.value ∙ c.requires.part.ranks) ∙ length-map (points c.args.part.now.area) (rank_of c.args.fold.now.domain)
+    ∙ sym (ap length c.in_ok-own.ensures ∙ length-map (points c.args.part.now.area) (λ p. (get_or c.args.frame.now c.loop-place.place []) ++ p)) in
+    search (rules, signatures, chosen, told, long)
+
+pub tell_part-merge_at-requires : goal.tell_part-merge_at-requires
+tell_part-merge_at-requires g t c =
+    let inv = c.loop-place.invariant in
+    let lt : c.loop-place.place < length c.args.folds.now = omega (arith, c.loop-place-test.true, c.places-place-end.ensures.value, c.requires.folds) in
+    let there : c.loop-place.place < length c.loop-place.folds = omega (arith, lt, c.loop-place.auto.folds) in
+    let kind : AreOf c.in_ok-found.found.running.op c.loop-place.folds = subst (λ op. AreOf op c.loop-place.folds) (sym c.in_ok-found.ensures.op) inv.op in
+    let few = length-points c.args.part.now.area in
+    record {
+      place = there;
+      op = kind;
+      room = λ d.
+          let n = c.requires.room c.loop-place.place d lt in
+          let same = ap (λ (a : Accumulator). a.running.count) (inv.rest c.loop-place.place d (omega arith)) in
+          let m = ap length c.in_ok-own.ensures ∙ length-map (points c.args.part.now.area) (λ p. (get_or c.args.frame.now c.loop-place.place []) ++ p) in
+          omega (arith, n, same, few, m, c.requires.part.few, c.in_ok-found.ensures.count);
+    }
+
+pub tell_part-loop-place-preserved : goal.tell_part-loop-place-preserved
+tell_part-loop-place-preserved g t c =
+    let inv = c.loop-place.invariant in
+    let part = c.args.part.now.area in
+    let dom = c.args.fold.now.domain in
+    let cov = c.args.ground.now.coverages.now in
+    let regs = c.args.ground.now.registers.now in
+    let told : (ℕ → ℕ → List ℤ → ℤ) → List ℤ → List Told = λ s vars. flat_map (told_ranked dom (run (cells_of s cov) regs (condition_view c.args.fold.now.condition)) (run (cells_of s cov) regs (body_view c.args.fold.now.body)) vars) (points part) in
+    let long = ap length c.in_ok-own.ensures ∙ length-map (points part) (λ p. (get_or c.args.frame.now c.loop-place.place []) ++ p) in
+    record {
+      told = λ i.
+          place_more c.args.folds.now c.loop-place.folds c.merge_at.new.folds c.loop-place.place c.in_ok-found.found (λ k. told (g.S.Tiles.cells c.args.source.now) (get_or c.args.frame.now k [])) c.merge_at.ensures
+          (subst (λ s. Stands c.in_ok-found.found (told s (get_or c.args.frame.now c.loop-place.place []))) inv.same.cells
+          (stands_ranked dom (run (cells_of (g.S.Tiles.cells c.loop-place.source) c.args.ground.now.coverages.now) c.args.ground.now.registers.now (condition_view c.args.fold.now.condition)) (run (cells_of (g.S.Tiles.cells c.loop-place.source) c.args.ground.now.coverages.now) c.args.ground.now.registers.now (body_view c.args.fold.now.body)) (get_or c.args.frame.now c.loop-place.place []) (points part) c.in_ok-own.own c.deref.result.now c.in_ok-found.found c.in_ok-own.ensures (c.deref.ensures.value ∙ c.requires.part.ranks) (c.in_ok-found.ensures.stands (inv.intact i))))
+          inv.rest (inv.told i);
+      counted = count_more c.args.folds.now c.loop-place.folds c.merge_at.new.folds c.loop-place.place (length (points part)) c.in_ok-found.found c.merge_at.ensures (omega (arith, c.in_ok-found.ensures.count, long)) inv.rest inv.counted;
+      rest = rest_more c.args.folds.now c.loop-place.folds c.merge_at.new.folds c.loop-place.place c.in_ok-found.found c.merge_at.ensures inv.rest;
+      op = c.merge_at.ensures.kinds c.args.fold.now.op inv.op;
+      rises = omega (arith, c.fold_frame.ensures.rises, inv.rises);
+      fetched =
+          let x = times_more (count part) c.loop-place.place (condition_view c.args.fold.now.condition) in
+          let y = times_more (count part) c.loop-place.place (body_view c.args.fold.now.body) in
+          let u = ap (λ m. bound_times m (condition_view c.args.fold.now.condition)) (long ∙ length-points part) in
+          let v = ap (λ m. bound_times m (body_view c.args.fold.now.body)) (long ∙ length-points part) in
+          omega (arith, c.in_ok-found.ensures.fetched, inv.fetched, x, y, u, v);
+      same = record { cells = c.fold_frame.ensures.same.cells ∙ inv.same.cells; coverages = c.fold_frame.ensures.same.coverages ∙ inv.same.coverages; kept = c.fold_frame.ensures.same.kept ∙ inv.same.kept };
+      intact = λ i. c.fold_frame.ensures.intact (inv.intact i);
+      failures = c.in_ok-found.ensures.reports ∙ inv.failures;
+    }
+
+pub tell_part-returns-clause-told : goal.tell_part-returns-clause-told
+tell_part-returns-clause-told g t c = λ i told s k d lt.
+    let same = c.loop-place.auto.folds in
+    let end : k < c.loop-place.place = omega (arith, lt, same, c.loop-place-test.false, c.places-place-end.ensures.value, c.requires.folds) in
+    c.loop-place.invariant.told i k d end (told k) (s k d (omega (arith, lt, same)))
+
+pub tell_part-returns-clause-room : goal.tell_part-returns-clause-room
+tell_part-returns-clause-room g t c = λ n h k d lt.
+    let same = c.loop-place.auto.folds in
+    let end : k < c.loop-place.place = omega (arith, lt, same, c.loop-place-test.false, c.places-place-end.ensures.value, c.requires.folds) in
+    let a = c.loop-place.invariant.counted k d end in
+    let b = h k d (omega (arith, lt, same)) in
+    omega (arith, a, b)
+
+pub tell_part-returns-clause-fetched : goal.tell_part-returns-clause-fetched
+tell_part-returns-clause-fetched g t c =
+    let e : c.loop-place.place ≡ length c.args.frame.now = omega (arith, c.loop-place-test.false, c.loop-place.auto.place-end, c.places-place-end.ensures.value) in
+    let n : count c.args.part.now.area * c.loop-place.place ≡ length c.args.frame.now * count c.args.part.now.area = ap (λ k. count c.args.part.now.area * k) e ∙ mul_comm (count c.args.part.now.area) (length c.args.frame.now) in
+    subst (λ k. g.S.Tiles.fetched c.loop-place.source ≤ g.S.Tiles.fetched c.args.source.now + (bound_times k (condition_view c.args.fold.now.condition) + bound_times k (body_view c.args.fold.now.body))) n c.loop-place.invariant.fetched
+
+pub fold_frame-returns-in_ok-column-in-None-clause-stands : goal.fold_frame-returns-in_ok-column-in-None-clause-stands
+fold_frame-returns-in_ok-column-in-None-clause-stands g t c = λ i.
+    subst (λ (o : Option _). Stands c.fold_column-found.result (demanded_at c.args.ranks.now (map (run (cells_of (g.S.Tiles.cells c.args.source.now) c.args.ground.now.coverages.now) c.args.ground.now.registers.now (condition_view o)) c.args.frame.now) (map (run (cells_of (g.S.Tiles.cells c.args.source.now) c.args.ground.now.coverages.now) c.args.ground.now.registers.now (body_view c.args.fold.now.body)) c.args.frame.now)))
+    (sym c.in-None.is)
+    (subst (Stands c.fold_column-found.result) (ap (told_at c.args.ranks.now) (c.in_ok-column-in-None.ensures.value i) ∙ always_told c.args.ranks.now (run (cells_of (g.S.Tiles.cells c.args.source.now) c.args.ground.now.coverages.now) c.args.ground.now.registers.now (body_view c.args.fold.now.body)) c.args.frame.now) c.fold_column-found.ensures.stands)
+
+pub fold_frame-returns-in_ok-column-in-None-clause-fetched : goal.fold_frame-returns-in_ok-column-in-None-clause-fetched
+fold_frame-returns-in_ok-column-in-None-clause-fetched g t c =
+    let a = c.in_ok-column-in-None.ensures.fetched 0 (λ k d lt. omega arith) in
+    let b = times_few (signature_of (g.S.Tiles.coverages c.args.source.now) c.args.ground.now.coverages.now) 0 c.args.frame.now (body_view c.args.fold.now.body) in
+    omega (arith, a, b)
+
+pub fold_frame-returns-then-is_never-clause-stands : goal.fold_frame-returns-then-is_never-clause-stands
+fold_frame-returns-then-is_never-clause-stands g t c = λ i.
+    subst (λ (o : Option _). Stands c.empty.result (demanded_at c.args.ranks.now (map (run (cells_of (g.S.Tiles.cells c.args.source.now) c.args.ground.now.coverages.now) c.args.ground.now.registers.now (condition_view o)) c.args.frame.now) (map (run (cells_of (g.S.Tiles.cells c.args.source.now) c.args.ground.now.coverages.now) c.args.ground.now.registers.now (body_view c.args.fold.now.body)) c.args.frame.now)))
+    (sym c.in-Some.is)
+    (subst (Stands c.empty.result)
+    (sym (never_told c.args.ranks.now c.in_ok-chosen-in-Some.chosen (map (run (cells_of (g.S.Tiles.cells c.args.source.now) c.args.ground.now.coverages.now) c.args.ground.now.registers.now (body_view c.args.fold.now.body)) c.args.frame.now) (c.is_never.ensures c.if-is_never.true))
+    ∙ ap (λ l. demanded_at c.args.ranks.now l (map (run (cells_of (g.S.Tiles.cells c.args.source.now) c.args.ground.now.coverages.now) c.args.ground.now.registers.now (body_view c.args.fold.now.body)) c.args.frame.now)) (c.in_ok-chosen-in-Some.ensures.value i)) c.empty.ensures.stands)
+
+pub fold_frame-returns-then-is_never-clause-fetched : goal.fold_frame-returns-then-is_never-clause-fetched
+fold_frame-returns-then-is_never-clause-fetched g t c =
+    let a = c.in_ok-chosen-in-Some.ensures.fetched 0 (λ k d lt. omega arith) in
+    let x = times_few (signature_of (g.S.Tiles.coverages c.args.source.now) c.args.ground.now.coverages.now) 0 c.args.frame.now (body_view c.in-Some.condition) in
+    let i : bound_times (length c.args.frame.now) (condition_view c.args.fold.now.condition) ≡ bound_times (length c.args.frame.now) (body_view c.in-Some.condition) = ap (λ (o : Option _). bound_times (length c.args.frame.now) (condition_view o)) c.in-Some.is in
+    omega (arith, a, x, i)
+
+pub fold_frame-returns-in_ok-column-in-Some-clause-stands : goal.fold_frame-returns-in_ok-column-in-Some-clause-stands
+fold_frame-returns-in_ok-column-in-Some-clause-stands g t c = λ i.
+    let y = c.in_ok-column-in-Some.ensures.value (c.column_of-in-Some.ensures.intact i) ∙ ap (λ s. map (run (cells_of s c.args.ground.now.coverages.now) c.args.ground.now.registers.now (body_view c.args.fold.now.body)) c.column_of-in-Some.new.frame) c.column_of-in-Some.ensures.same.cells ∙ ap (λ f. map (run (cells_of (g.S.Tiles.cells c.args.source.now) c.args.ground.now.coverages.now) c.args.ground.now.registers.now (body_view c.args.fold.now.body)) f) c.in_ok-chosen-in-Some.ensures.frame in
+    subst (λ (o : Option _). Stands c.fold_column_where-found.result (demanded_at c.args.ranks.now (map (run (cells_of (g.S.Tiles.cells c.args.source.now) c.args.ground.now.coverages.now) c.args.ground.now.registers.now (condition_view o)) c.args.frame.now) (map (run (cells_of (g.S.Tiles.cells c.args.source.now) c.args.ground.now.coverages.now) c.args.ground.now.registers.now (body_view c.args.fold.now.body)) c.args.frame.now)))
+    (sym c.in-Some.is)
+    (subst (Stands c.fold_column_where-found.result)
+    (ap (λ l. demanded_at c.args.ranks.now l c.in_ok-column-in-Some.column) (c.in_ok-chosen-in-Some.ensures.value i) ∙ ap (demanded_at c.args.ranks.now (map (run (cells_of (g.S.Tiles.cells c.args.source.now) c.args.ground.now.coverages.now) c.args.ground.now.registers.now (body_view c.in-Some.condition)) c.args.frame.now)) y) c.fold_column_where-found.ensures.stands)
+
+pub fold_frame-returns-in_ok-column-in-Some-clause-fetched : goal.fold_frame-returns-in_ok-column-in-Some-clause-fetched
+fold_frame-returns-in_ok-column-in-Some-clause-fetched g t c =
+    let a = c.in_ok-chosen-in-Some.ensures.fetched 0 (λ k d lt. omega arith) in
+    let b = c.in_ok-column-in-Some.ensures.fetched 0 (λ k d lt. omega arith) in
+    let x = times_few (signature_of (g.S.Tiles.coverages c.args.source.now) c.args.ground.now.coverages.now) 0 c.args.frame.now (body_view c.in-Some.condition) in
+    let y = times_few (signature_of (g.S.Tiles.coverages c.args.source.now) c.args.ground.now.coverages.now) 0 c.args.frame.now (body_view c.args.fold.now.body) in
+    let e : fetches (signature_of (g.S.Tiles.coverages c.column_of-in-Some.new.source) c.args.ground.now.coverages.now) 0 c.column_of-in-Some.new.frame (body_view c.args.fold.now.body) ≡ fetches (signature_of (g.S.Tiles.coverages c.args.source.now) c.args.ground.now.coverages.now) 0 c.args.frame.now (body_view c.args.fold.now.body) =
+    ap (λ all. fetches (signature_of all c.args.ground.now.coverages.now) 0 c.column_of-in-Some.new.frame (body_view c.args.fold.now.body)) c.column_of-in-Some.ensures.same.coverages ∙ ap (λ f. fetches (signature_of (g.S.Tiles.coverages c.args.source.now) c.args.ground.now.coverages.now) 0 f (body_view c.args.fold.now.body)) c.in_ok-chosen-in-Some.ensures.frame in
+    let i : bound_times (length c.args.frame.now) (condition_view c.args.fold.now.condition) ≡ bound_times (length c.args.frame.now) (body_view c.in-Some.condition) = ap (λ (o : Option _). bound_times (length c.args.frame.now) (condition_view o)) c.in-Some.is in
+    omega (arith, a, b, x, y, e, i)
+
+pub tell_part-returns-in_err-found-clause-reports : goal.tell_part-returns-in_err-found-clause-reports
+tell_part-returns-in_err-found-clause-reports g t c =
+    let inv = c.loop-place.invariant in
+    let e = c.in_err-found.ensures.reports in
+    let i = inv.intact in
+    search (rules, inv.failures, e, i)

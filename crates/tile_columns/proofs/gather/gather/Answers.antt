@@ -27,7 +27,8 @@ loop-place-preserved g c =
     let next = c.in_ok-fetch_at.ensures in
     record {
       numbers = c.in_ok-fetch_at.ensures.lists.0 ∙ inv.numbers;
-      cells = c.in_ok-fetch_at.ensures.lists.1 ∙ inv.cells;
+      ranks = c.in_ok-fetch_at.ensures.lists.1 ∙ inv.ranks;
+      cells = c.in_ok-fetch_at.ensures.lists.2 ∙ inv.cells;
       seen = distinct_step (map (λ (e : List ℤ). tile_number c.args.reading.now.domain.now (numbers_at e c.args.reading.now.indexes.now)) c.args.frame.now) c.loop-place.scratch.seen.items _ c.loop-place.place (omega (arith, n))
           (c.in_ok-fetch_at.ensures.seen ∙ ap (λ l. added c.loop-place.scratch.seen.items (get_or l c.loop-place.place 0)) inv.numbers) inv.seen;
       value = λ i.

@@ -1,13 +1,9 @@
--- The variables of a box go over its points.
-use Rattle.std.proofs.Common.{◌++◌, ◌∙◌, ap, arith, []}
-use Rattle.tile_columns.specs.Frames.{environment, turns}
-use Rattle.tile_columns.proofs.Turns.{over_box, none_whole}
+-- Under no number.
+use Rattle.std.proofs.Common.{◌≡◌, subst}
+use Rattle.std.specs.Prelude.{IfOk}
+use Rattle.std.proofs.lemmas.List.{map-id}
+use Rattle.arr_core.specs.Domains.{points}
 use Rattle.tile_columns.proofs.frame.Frame.of_box.Goals as goal
 
-pub invariant_of-result : goal.invariant_of-result
-invariant_of-result c = record { few = omega (arith, c.points-places.ensures.count, c.requires); whole = c.push_axes.ensures.whole c.points-places.result (none_whole c.points-places.result _ c.new-variables.ensures.items) }
-
 pub returns : goal.returns
-returns c =
-    over_box c.args.area.now c.points-places.result _ c.points-places.ensures.count
-    (λ k. c.in_ok-push_axes.ensures.numbers k ∙ ap (λ v. environment v k ++ turns c.axes.result.now k) c.new-variables.ensures.items ∙ ap (λ a. environment [] k ++ turns a k) c.axes.ensures.value)
+returns c = subst (λ l. IfOk c.of_box_under.result (λ f. f ≡ l)) (map-id (points c.args.area.now)) c.of_box_under.ensures

@@ -1,0 +1,107 @@
+//! The numbers of a variable at all places.
+
+ghost use Rattle.std.specs.Prelude.{◌≡◌, ℕ, ◌+◌, ◌/◌, ◌%◌, ◌<◌, ◌≤◌, ◌^◌, ◌≤ℤ◌, ◌+ℤ◌, pos, length, map, replicate, OnOk};
+ghost use Rattle.std.specs.List.{range_with_len};
+ghost use Rattle.tile_columns.specs.Frames.{turn, number_of, HasPlaces};
+
+use crate::frame::{Variable, distance};
+use std::alloc::AllocError;
+
+impl Variable {
+    /// Makes a list the numbers at so many places.
+    pub(crate) fn list(&self, places: usize, numbers: &mut Vec<i64>) -> Result<(), AllocError>
+        requires { HasPlaces places self.now }
+        ensures { OnOk result (numbers.new.items ≡ map (λ place. number_of place self.now) (range_with_len 0 places)) }
+    {
+        match self {
+            Variable::Const(z) => {
+                fill_list(places, *z as i64, numbers)?;
+                Ok(())
+            }
+            Variable::Axis(lo, hi, every) => {
+                fill_list(places, 0, numbers)?;
+                write_turns(*lo, *hi, *every, numbers);
+                Ok(())
+            }
+            Variable::Column(zs) => {
+                fill_list(places, 0, numbers)?;
+                copy_numbers(zs, numbers);
+                Ok(())
+            }
+        }
+    }
+}
+
+/// Makes a list one number, so many times.
+pub(crate) fn fill_list(len: usize, z: i64, numbers: &mut Vec<i64>) -> Result<(), AllocError>
+    ensures { OnOk result (numbers.new.items ≡ replicate len z) }
+{
+    numbers.clear();
+    numbers.resize(len, z)?;
+    Ok(())
+}
+
+/// Copies numbers into a list of as many.
+fn copy_numbers(zs: &[i32], numbers: &mut Vec<i64>)
+    requires { length numbers.old.items ≡ length zs.now }
+    ensures { numbers.new.items ≡ zs.now }
+{
+    let all = numbers.as_mut_slice();
+    for place in 0..zs.len() {
+        all[place] = zs[place] as i64;
+    }
+}
+
+/// Where the coordinates of an axis stand: how far above the first one, and how many times this one has come.
+#[derive(Clone, Copy)]
+struct Turn {
+    step: u64,
+    times: u64,
+}
+
+/// Where they stand at the next place.
+fn turned(now: Turn, last: u64, every: u64) -> Turn
+    requires step { now.step ≤ last }
+    requires times { now.times < every }
+    ensures step { result.step ≤ last }
+    ensures times { result.times < every }
+    ensures next { (place : ℕ) → now.step ≡ (place / every) % (last + 1) → now.times ≡ place % every → (result.step ≡ ((place + 1) / every) % (last + 1)) × (result.times ≡ (place + 1) % every) }
+{
+    let times = now.times + 1;
+    if times < every {
+        return Turn {
+            step: now.step,
+            times,
+        };
+    }
+    if now.step < last {
+        return Turn {
+            step: now.step + 1,
+            times: 0,
+        };
+    }
+    Turn { step: 0, times: 0 }
+}
+
+/// The coordinate that is so far above another.
+fn above(lo: i32, step: u64) -> i64
+    requires { step < 2 ^ 32 }
+    ensures { result ≡ lo +ℤ pos step }
+{
+    lo as i64 + step as i64
+}
+
+/// Writes the coordinates of an axis, each so many times, over and over.
+fn write_turns(lo: i32, hi: i32, every: u64, numbers: &mut Vec<i64>)
+    requires ordered { lo ≤ℤ hi }
+    requires some { 0 < every }
+    ensures { numbers.new.items ≡ map (turn lo hi every) (range_with_len 0 (length numbers.old.items)) }
+{
+    let last = distance(lo, hi);
+    let all = numbers.as_mut_slice();
+    let mut now = Turn { step: 0, times: 0 };
+    for place in 0..all.len() {
+        all[place] = above(lo, now.step);
+        now = turned(now, last, every);
+    }
+}
