@@ -23,7 +23,7 @@ use Rattle.tile_exec.specs.Tasks.{TaskTree, pass, item, bodies_of, stages_of, pa
 use Rattle.tile_exec.specs.Progress.{start, after_all, answer_of}
 use Rattle.tile_exec.specs.Standing.{plan_of, tasks_left, progress_of, AreTasks, IsLeft, IsBegun}
 use Rattle.tile_exec.specs.Begun.{AreFit, Lists}
-use Rattle.tile_exec.proofs.TileOrders.{tiles-few}
+use Rattle.tile_columns.proofs.TileOrders.{tiles-few}
 use Rattle.tile_exec.proofs.Moves.{at_start, stands_start}
 use Rattle.tile_exec.proofs.Answers.{tasks_answer}
 use Rattle.tile_exec.proofs.Begun.{total}

@@ -15,7 +15,7 @@ use Rattle.tile_exec.specs.declared.begin.Listing.{Listing}
 use Rattle.tile_exec.specs.Tasks.{TaskTree, pass, area_of, stages_of, pass_tasks, choice_passes, choice_outs, register_count, all_passes, all_outs}
 use Rattle.tile_exec.specs.Standing.{IsPartOf, IsStepsOf, IsTask, AreTasks}
 use Rattle.tile_exec.specs.Begun.{IsFit, AreFit, Lists, Adds, IsChosen}
-use Rattle.tile_exec.proofs.TileOrders.{take_more}
+use Rattle.tile_columns.proofs.TileOrders.{take_more}
 use Rattle.tile_exec.proofs.Moves.{stages_more}
 
 tasks_push : (plan : Plan) (xs : List Task) (ts : List TaskTree) (x : Task) (t : TaskTree) → AreTasks plan xs ts → IsTask plan x t → AreTasks plan (xs ++ x ∷ []) (ts ++ t ∷ [])

@@ -20,7 +20,8 @@ use Rattle.tile_exec.specs.declared.task.Task.{Task}
 use Rattle.tile_exec.specs.declared.task.Part.TheVariants as part
 use Rattle.tile_exec.specs.declared.exec.Exec.{Exec}
 use Rattle.tile_exec.specs.Tasks.{PartTree, TaskTree, pass, condition, item, area_of, bodies_of, stages_of}
-use Rattle.tile_exec.specs.TileOrder.{tile_of, told_to_pass}
+use Rattle.tile_columns.specs.TileOrder.{tile_of}
+use Rattle.tile_exec.specs.Passes.{told_to_pass}
 use Rattle.tile_exec.specs.Standing.{plan_of, tasks_left, boxes_left, IsPartOf, IsTask, AreTasks, MovesOver}
 use Rattle.tile_exec.specs.Units.{first_bound, LosesFirst}
 

@@ -25,11 +25,11 @@ use Rattle.plan_ir.specs.Run.{run}
 use Rattle.plan_ir.specs.Planned.{coordinate, bound, field_cell, cells_at, item_planned}
 use Rattle.tile_kernel.specs.Told.{Told, outcomes, AreRising}
 use Rattle.tile_kernel.proofs.Faults.{fault_in_order}
-use Rattle.tile_exec.specs.TileOrder.{points_to}
+use Rattle.tile_columns.specs.TileOrder.{points_to}
 use Rattle.tile_columns.specs.Fields.{behind}
 use Rattle.tile_exec.specs.Items.{row, value_of, row_cells, all_cells, told_to_item, places_of, Fills}
-use Rattle.tile_exec.proofs.TileOrders.{told_all}
-use Rattle.tile_exec.proofs.Passes.{points_by_place, outcomes-append}
+use Rattle.tile_columns.proofs.TileOrders.{told_all, points_by_place}
+use Rattle.tile_exec.proofs.Passes.{outcomes-append}
 use Rattle.tile_exec.proofs.Written.{all_written}
 
 -- cells, unless there is a fault

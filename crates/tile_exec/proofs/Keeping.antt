@@ -24,10 +24,11 @@ use Rattle.tile_exec.specs.declared.found.Found.TheVariants as found
 use Rattle.tile_exec.specs.declared.exec.Exec.{Exec}
 use Rattle.tile_exec.specs.Tasks.{PartTree, TaskTree, pass, condition, item, area_of, stages_of, AreReady, IsPartPlaced, registers_made}
 use Rattle.tile_exec.specs.Progress.{read_by, after_part, after_condition, after_item}
-use Rattle.tile_exec.specs.TileOrder.{points_to, tile_of, told_to_pass}
+use Rattle.tile_columns.specs.TileOrder.{points_to, tile_of}
+use Rattle.tile_exec.specs.Passes.{told_to_pass}
 use Rattle.tile_exec.specs.Standing.{plan_of, tasks_left, progress_of, HasRoom, IsSound, IsUnder, IsAt, HasCells, AtItem, AtPart, AtTask, AreTasks}
 use Rattle.tile_exec.specs.Units.{Fits, FitsPart, Tells, TellsPart, IsLast, IsNotGiven, AfterSkipped, LosesFirst, Keeps}
-use Rattle.tile_exec.proofs.TileOrders.{told_more, points_more, points_few, tiles-few}
+use Rattle.tile_columns.proofs.TileOrders.{told_more, points_more, points_few, tiles-few}
 use Rattle.tile_exec.proofs.Moves.{drop_none, stages_more, GoesOn, GoesFurther, sound_next, stands_next, boxes_next, sound_further, stands_further, boxes_further, at_hand, stands_at}
 use Rattle.tile_exec.proofs.Passes.{passed}
 

@@ -21,11 +21,11 @@ use Rattle.tile_exec.specs.declared.found.Found.TheVariants as found
 use Rattle.tile_exec.specs.declared.exec.Exec.{Exec}
 use Rattle.tile_exec.specs.Tasks.{PartTree, TaskTree, pass, condition, item, area_of, IsPartPlaced, registers_made}
 use Rattle.tile_exec.specs.Progress.{read_by, after_part, after_item}
-use Rattle.tile_exec.specs.TileOrder.{points_to, tile_of}
+use Rattle.tile_columns.specs.TileOrder.{points_to, tile_of}
 use Rattle.tile_exec.specs.Items.{Fills, all_cells, told_to_item, places_of, AreWritten}
 use Rattle.tile_exec.specs.Standing.{plan_of, tasks_left, progress_of, HasRoom, IsSound, IsUnder, HasCells, AtItem, AtPart}
 use Rattle.tile_exec.specs.Units.{Fits, FitsPart, FitsItem, Tells, TellsPart, TellsItem, IsLast, GivesBy, Gives, Keeps}
-use Rattle.tile_exec.proofs.TileOrders.{told_more}
+use Rattle.tile_columns.proofs.TileOrders.{told_more}
 use Rattle.tile_exec.proofs.Moves.{GoesOn, GoesFurther, sound_next, stands_next, boxes_next, sound_further, stands_further, boxes_further, at_hand, stands_at}
 use Rattle.tile_exec.proofs.Keeping.{placed_at}
 use Rattle.tile_exec.proofs.Items.{item_or, item_told}

@@ -1,10 +1,7 @@
-pub mod Reorders
-pub mod TileOrders
 pub mod Answers
 pub mod Moves
 pub mod Passes
 pub mod Keeping
-pub mod Boxes
 pub mod Finding
 pub mod Rows
 pub mod Written

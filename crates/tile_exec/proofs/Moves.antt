@@ -18,7 +18,7 @@ use Rattle.tile_exec.specs.Tasks.{PartTree, TaskTree, pass, condition, item, are
 use Rattle.tile_exec.specs.Progress.{read_by, after, after_all, answer_of}
 use Rattle.tile_exec.specs.Standing.{plan_of, tasks_left, boxes_left, progress_of, AtItem, AtPart, AtTask, StandsFor, HasCells, IsUnder, IsAt, AreTasks, IsLeft, HasRoom, IsSound}
 use Rattle.tile_exec.specs.Units.{LosesFirst}
-use Rattle.tile_exec.proofs.TileOrders.{tiles-pos}
+use Rattle.tile_columns.proofs.TileOrders.{tiles-pos}
 
 drop_next : {X : Type 0} (n : ℕ) (xs : List X) (y : X) (ys : List X) → drop n xs ≡ y ∷ ys → drop (n + 1) xs ≡ ys
 drop_next zero [] y ys h = cc

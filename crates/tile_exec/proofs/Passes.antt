@@ -5,7 +5,7 @@ use Rattle.std.proofs.lemmas.List.Elements.{All-cons, All-nil}
 use Rattle.arr_core.specs.declared.domain.Axis.{Axis}
 use Rattle.arr_core.specs.Domains.{points, count, IsDomain, rank_of, point_at}
 use Rattle.arr_core.specs.Tiles.{tile_boxes}
-use Rattle.arr_core.proofs.Points.{length-points, at_place, rank-point}
+use Rattle.arr_core.proofs.Points.{rank-point}
 use Rattle.wcps_mean.specs.declared.cell.Outcome.{Outcome}
 use Rattle.wcps_mean.specs.declared.cell.Outcome.TheVariants.{Value, Fault}
 use Rattle.wcps_mean.specs.Cells.{is_true}
@@ -13,14 +13,10 @@ use Rattle.wcps_mean.specs.Condensers.{demanded, condensed}
 use Rattle.plan_ir.specs.Plans.{PassTree}
 use Rattle.plan_ir.specs.Run.{run}
 use Rattle.plan_ir.specs.Planned.{pass_outcome}
-use Rattle.tile_columns.proofs.Ranges.{by_places, same_over}
 use Rattle.tile_kernel.specs.Told.{Told, outcomes, demanded_of, AreRising, ComesTo}
-use Rattle.tile_exec.specs.TileOrder.{points_to, told_to_pass}
-use Rattle.tile_exec.proofs.TileOrders.{told_all}
-
-map_same : {X : Type 0} (xs : List X) → map (λ x. x) xs ≡ xs
-map_same [] = refl
-map_same (x ∷ xs) = ap (λ l. x ∷ l) (map_same xs)
+use Rattle.tile_columns.specs.TileOrder.{points_to}
+use Rattle.tile_exec.specs.Passes.{told_to_pass}
+use Rattle.tile_columns.proofs.TileOrders.{told_all, points_by_place}
 
 pub outcomes-append : (a b : List Told) → outcomes (a ++ b) ≡ outcomes a ++ outcomes b
 outcomes-append [] b = refl
@@ -58,12 +54,6 @@ rising_from s regs p a (suc n) h =
     let told = flat_map (told_to_pass s regs p) (map (point_at p.domain) (range_with_len (a + 1) n)) in
     subst (λ k. AreRising (demanded_of k (run s regs p.condition q) (run s regs p.body q) ++ told) × All (λ (t : Told). a ≤ t.0) (demanded_of k (run s regs p.condition q) (run s regs p.body q) ++ told))
     (sym (rank-point p.domain a (omega (arith, h)))) (one_place a (run s regs p.condition q) (run s regs p.body q) told rest.1 rest.0)
-
--- the points of a domain by their places
-pub points_by_place : (area : List Axis) → points area ≡ map (point_at area) (range_with_len 0 (count area))
-points_by_place area =
-    let n = length-points area in
-    sym (map_same (points area)) ∙ by_places (λ p. p) (points area) [] ∙ ap (λ n. map (λ k. get_or (points area) k []) (range_with_len 0 n)) n ∙ same_over (λ k. get_or (points area) k []) (point_at area) (count area) (λ k lt. at_place area k [] lt)
 
 -- a pass that was told of all tiles has its outcome
 pub passed : (s : ℕ → ℕ → List ℤ → ℤ) (regs : List Outcome) (p : PassTree) (o : Outcome) → IsDomain p.domain → ComesTo p.op (flat_map (told_to_pass s regs p) (points_to p.domain (length (tile_boxes p.domain)))) o → o ≡ pass_outcome s regs p

@@ -1,14 +1,13 @@
 -- What columns tell of the points of a tile.
-use Rattle.std.proofs.Common.{◌≡◌, ℕ, zero, suc, ◌+◌, ◌*◌, ◌<◌, ◌≤◌, ◌^◌, List, [], ◌∷◌, ◌++◌, length, get_or, take, map, ℤ, pos, refl, sym, ap, ◌∙◌, subst, arith, Some, append_assoc, append-nil, length-append, map-id}
+use Rattle.std.proofs.Common.{◌≡◌, ℕ, zero, suc, ◌+◌, ◌*◌, ◌<◌, ◌≤◌, ◌^◌, List, [], ◌∷◌, ◌++◌, length, get_or, take, map, ℤ, pos, refl, sym, ap, ◌∙◌, subst, arith, Some, append_assoc, length-append}
 use Rattle.std.specs.Prelude.{slice_get, All}
 use Rattle.std.specs.List.{flat_map, enumerate_from, range_with_len}
 use Rattle.std.proofs.Math.Nat.{suc-mul}
 use Rattle.std.proofs.lemmas.Option.{slice_get-get_or}
 use Rattle.std.proofs.lemmas.List.{length-map, get_or-map, map_more, length-take-le, get_or-append-add, get_or_append_left}
 use Rattle.std.proofs.lemmas.List.Elements.{All-append, All-nil}
-use Rattle.std.proofs.lemmas.List.FromFn.{get_or-range_with_len, length-range_with_len, map-range_with_len_more, length-enumerate_from, get_or-enumerate_from}
+use Rattle.std.proofs.lemmas.List.FromFn.{get_or-range_with_len, length-range_with_len, length-enumerate_from, get_or-enumerate_from}
 use Rattle.std.proofs.lemmas.List.Folds.{flat_map-map}
-use Rattle.std.proofs.lemmas.Grind.{flat_map-append}
 use Rattle.arr_core.specs.declared.domain.Axis.{Axis}
 use Rattle.arr_core.specs.declared.cell.Cell.{Cell}
 use Rattle.arr_core.specs.Domains.{points, count, rank_of, IsInside, IsBoxOf, AreOrdered}
@@ -24,7 +23,8 @@ use Rattle.tile_kernel.specs.Told.{Told}
 use Rattle.tile_columns.specs.Fields.{behind, columns_behind}
 use Rattle.tile_columns.proofs.Ranges.{map_map, same_over, by_places}
 use Rattle.tile_exec.specs.Items.{row, value_of, row_cells, all_cells, told_to_item, places_of}
-use Rattle.tile_exec.proofs.Boxes.{box-inside, points_inside}
+use Rattle.tile_columns.proofs.Boxes.{box-inside, points_inside}
+use Rattle.tile_columns.proofs.ByRows.{map_same, map_flat}
 use Rattle.tile_exec.specs.Rows.{row_at, cells_from, first_place, cells_told, rows_told}
 
 -- ---- one more field
@@ -75,16 +75,6 @@ row_next place columns k j e told own o lt is at =
     ∙ ap (λ x. enumerate_from place (os ++ x ∷ [])) (sym at)
     ∙ ap (enumerate_from place) (sym (map_more (λ (c : List Outcome). outcome_at c k) columns j e lt)))
 
--- ---- one more point
-
-range_more : (n : ℕ) → range_with_len 0 (n + 1) ≡ range_with_len 0 n ++ n ∷ []
-range_more n =
-    let e : 0 + n ≡ n = omega arith in
-    sym (map-id (range_with_len 0 (n + 1))) ∙ map-range_with_len_more (λ k. k) 0 n n e ∙ ap (λ l. l ++ n ∷ []) (map-id (range_with_len 0 n))
-
-pub flat_more : {Y : Type 0} (f : ℕ → List Y) (n : ℕ) → flat_map f (range_with_len 0 (n + 1)) ≡ flat_map f (range_with_len 0 n) ++ f n
-flat_more f n = ap (flat_map f) (range_more n) ∙ flat_map-append f (range_with_len 0 n) (n ∷ []) ∙ ap (λ l. flat_map f (range_with_len 0 n) ++ l) (append-nil (f n))
-
 -- ---- all points
 
 flat_over : {X Y : Type 0} (f : ℕ → List Y) (g : X → List Y) (xs : List X) (d : X) (n : ℕ) → n ≡ length xs → ((k : ℕ) → k < n → f k ≡ g (get_or xs k d)) → flat_map f (range_with_len 0 n) ≡ flat_map g xs
@@ -92,18 +82,6 @@ flat_over f g xs d n e h =
     sym (flat_map-map (λ l. l) f (range_with_len 0 n))
     ∙ ap (flat_map (λ l. l)) (same_over f (λ k. g (get_or xs k d)) n h ∙ ap (λ m. map (λ k. g (get_or xs k d)) (range_with_len 0 m)) e ∙ sym (by_places g xs d))
     ∙ flat_map-map (λ l. l) g xs
-
-map_same : {X Y : Type 0} (f g : X → Y) (xs : List X) → ((x : X) → f x ≡ g x) → map f xs ≡ map g xs
-map_same f g [] h = refl
-map_same f g (x ∷ xs) h = ap (λ y. y ∷ map f xs) (h x) ∙ ap (λ l. g x ∷ l) (map_same f g xs h)
-
-map_flat : {X Y Z : Type 0} (h : Y → Z) (f : X → List Y) (xs : List X) → map h (flat_map f xs) ≡ flat_map (λ x. map h (f x)) xs
-map_flat h f [] = refl
-map_flat h f (x ∷ xs) = map_both h (f x) (flat_map f xs) ∙ ap (λ l. map h (f x) ++ l) (map_flat h f xs)
-  where
-    map_both : {Y Z : Type 0} (h : Y → Z) (ys zs : List Y) → map h (ys ++ zs) ≡ map h ys ++ map h zs
-    map_both h [] zs = refl
-    map_both h (y ∷ ys) zs = ap (λ l. h y ∷ l) (map_both h ys zs)
 
 -- the outcomes of the fields at a place of their columns
 row_there : (s : ℕ → ℕ → List ℤ → ℤ) (regs : List Outcome) (i : ItemTree) (qs : List (List ℤ)) (k : ℕ) → k < length qs → row_at (columns_behind s regs i.binds i.fields qs) k ≡ row s regs i (get_or qs k [])

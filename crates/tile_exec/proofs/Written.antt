@@ -6,7 +6,7 @@ use Rattle.std.proofs.lemmas.Bool.{cases_lt}
 use Rattle.std.proofs.lemmas.List.Elements.{All-append, All-cons, All-nil}
 use Rattle.arr_core.specs.declared.cell.Cell.{Cell}
 use Rattle.tile_exec.specs.Items.{AreWritten}
-use Rattle.tile_exec.proofs.TileOrders.{take_more}
+use Rattle.tile_columns.proofs.TileOrders.{take_more}
 
 same_or : (m n : ℕ) → (m ≡ n) ⊎ (m ≢ n)
 same_or m n = elim (cases_lt m n) [ inl h ↦ inr (λ e. absurd (omega (arith, e, h))) | inr h ↦ elim (cases_lt n m) [ inl k ↦ inr (λ e. absurd (omega (arith, e, k))) | inr k ↦ inl (omega arith) ] ]

@@ -11,7 +11,7 @@ use Rattle.plan_ir.specs.Plans.{FieldBody, ItemTree}
 use Rattle.plan_ir.specs.Run.{run}
 use Rattle.tile_kernel.specs.Told.{Told, IsFirst}
 use Rattle.tile_columns.specs.Fields.{behind}
-use Rattle.tile_exec.specs.TileOrder.{points_to}
+use Rattle.tile_columns.specs.TileOrder.{points_to}
 
 -- the outcomes of all fields at a point
 abbrev pub row : (ℕ → ℕ → List ℤ → ℤ) → List Outcome → ItemTree → List ℤ → List Outcome

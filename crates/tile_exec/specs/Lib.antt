@@ -1,6 +1,6 @@
 pub mod Tasks
 pub mod Progress
-pub mod TileOrder
+pub mod Passes
 pub mod Items
 pub mod Standing
 pub mod Units

@@ -20,7 +20,8 @@ use Rattle.tile_exec.specs.declared.task.Part.TheVariants as part
 use Rattle.tile_exec.specs.declared.exec.Exec.{Exec}
 use Rattle.tile_exec.specs.Tasks.{PartTree, TaskTree, pass, condition, item, area_of, stages_of, tasks_of, AreReady}
 use Rattle.tile_exec.specs.Progress.{Progress, read_by, after_all, answer_of}
-use Rattle.tile_exec.specs.TileOrder.{points_to, told_to_pass}
+use Rattle.tile_columns.specs.TileOrder.{points_to}
+use Rattle.tile_exec.specs.Passes.{told_to_pass}
 use Rattle.tile_exec.specs.Items.{Fills}
 
 -- the plan that is done

@@ -21,7 +21,8 @@ use Rattle.tile_exec.specs.declared.found.Found.TheVariants as found
 use Rattle.tile_exec.specs.declared.exec.Exec.{Exec}
 use Rattle.tile_exec.specs.Tasks.{PartTree, TaskTree, pass, condition, item, area_of}
 use Rattle.tile_exec.specs.Progress.{read_by}
-use Rattle.tile_exec.specs.TileOrder.{tile_of, told_to_pass}
+use Rattle.tile_columns.specs.TileOrder.{tile_of}
+use Rattle.tile_exec.specs.Passes.{told_to_pass}
 use Rattle.tile_exec.specs.Items.{all_cells, told_to_item, places_of}
 use Rattle.tile_exec.specs.Standing.{StandsFor, IsSound, tasks_left, boxes_left}
 

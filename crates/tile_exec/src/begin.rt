@@ -12,6 +12,7 @@ ghost use Rattle.tile_exec.specs.Begun.{IsFit, Lists, Adds, IsChosen};
 
 use crate::exec::Exec;
 use crate::task::{First, Part, Status, Task};
+use crate::workspace::Workspace;
 use plan_ir::{Plan, Steps};
 use std::alloc::{AllocError, Global};
 use tile_kernel::Accumulator;
@@ -177,6 +178,7 @@ pub(crate) fn begun(alloc: Global, plan: Plan) -> Result<Exec, AllocError>
     let room = list.tasks.len();
     let registers = Vec::with_capacity(alloc, room)?;
     let items = Vec::with_capacity(alloc, room)?;
+    let workspace = Workspace::new(alloc)?;
     Ok(Exec {
         alloc,
         plan,
@@ -193,5 +195,6 @@ pub(crate) fn begun(alloc: Global, plan: Plan) -> Result<Exec, AllocError>
             fault: None,
             place: 0,
         },
+        workspace,
     })
 }

@@ -13,28 +13,29 @@ ghost use Rattle.plan_ir.specs.Units.{bound_of};
 ghost use Rattle.tile_columns.specs.Sources.{Leaves};
 ghost use Rattle.tile_columns.specs.Fields.{HavePlaces, columns_behind, bodies_behind};
 
+use crate::workspace::Memory;
 use arr_core::Domain;
 use plan_ir::{Body, Item};
-use std::alloc::Global;
-use tile_columns::{Frame, Ground, Scratch, Tiles, evaluate, evaluate_fields};
+use tile_columns::{Frame, Ground, Tiles, evaluate, evaluate_fields};
 use tile_kernel::Column;
 use wcps_mean::CellError;
 
-/// The outcomes of a body at the points of a part of a box, in row-major order.
+/// Makes a column the outcomes of a body at the points of a part of a box, in row-major order.
 pub(crate) fn column_over<S: Tiles>(
-    alloc: Global,
+    memory: &mut Memory,
     source: &mut S,
     ground: &Ground<'_>,
     area: &Domain,
     part: &Domain,
     body: &Body,
-) -> Result<Column, CellError>
+    out: &mut Column,
+) -> Result<(), CellError>
     requires signatures { ground.now.signatures.now ≡ S.coverages source.old }
     requires placed { IsPlaced (signature_of (S.coverages source.old) ground.now.coverages.now) (length ground.now.registers.now) (spans area.now) (body_view body.now) }
     requires part { IsBoxOf area.now part.now }
     requires few { count part.now ≤ 4096 }
-    ensures value { IfOk result (λ c. S.intact source.old → c ≡ map (run (cells_of (S.cells source.old) ground.now.coverages.now) ground.now.registers.now (body_view body.now)) (points part.now)) }
-    ensures places { IfOk result (λ c. length c ≡ length (points part.now)) }
+    ensures value { OnOk result (S.intact source.old → out.new ≡ map (run (cells_of (S.cells source.old) ground.now.coverages.now) ground.now.registers.now (body_view body.now)) (points part.now)) }
+    ensures places { OnOk result (length out.new ≡ length (points part.now)) }
     ensures same { Leaves (S.cells source.old) (S.cells source.new) (S.coverages source.old) (S.coverages source.new) (S.kept source.old) (S.kept source.new) }
     ensures rises { S.fetched source.old ≤ S.fetched source.new }
     ensures intact { S.intact source.old → S.intact source.new }
@@ -42,17 +43,15 @@ pub(crate) fn column_over<S: Tiles>(
     ensures fetched { OnOk result (S.fetched source.new ≤ S.fetched source.old + bound_of (signature_of (S.coverages source.old) ground.now.coverages.now) part.now (body_view body.now)) }
 {
     let _axes = part.axes();
-    let mut frame = Frame::of_box(alloc, part)?;
-    let mut scratch = Scratch::new(alloc);
-    let mut column = Column::new(alloc)?;
-    evaluate(source, ground, body, &mut frame, &mut scratch, &mut column)?;
-    Ok(column)
+    let mut frame = Frame::of_box(memory.alloc, part)?;
+    evaluate(source, ground, body, &mut frame, &mut memory.scratch, out)?;
+    Ok(())
 }
 
 /// A column for each field of an item, behind its binds: the outcomes at the points of a part of its domain, in
 /// row-major order.
 pub(crate) fn columns_over<S: Tiles>(
-    alloc: Global,
+    memory: &mut Memory,
     source: &mut S,
     ground: &Ground<'_>,
     planned: &Item,
@@ -72,14 +71,13 @@ pub(crate) fn columns_over<S: Tiles>(
     ensures fetched { OnOk result (S.fetched source.new ≤ S.fetched source.old + sum_by (bound_of (signature_of (S.coverages source.old) ground.now.coverages.now) part.now) (bodies_behind (map bind_view planned.now.binds.items) (map field_view planned.now.fields.items))) }
 {
     let _axes = part.axes();
-    let mut frame = Frame::of_box(alloc, part)?;
-    let mut scratch = Scratch::new(alloc);
+    let mut frame = Frame::of_box(memory.alloc, part)?;
     evaluate_fields(
         source,
         ground,
         &planned.binds,
         &planned.fields,
         &mut frame,
-        &mut scratch,
+        &mut memory.scratch,
     )
 }

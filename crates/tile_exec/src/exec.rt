@@ -10,6 +10,7 @@ ghost use Rattle.tile_exec.specs.Standing.{IsSound, IsBegun, StandsFor, plan_of,
 
 use crate::begin::begun;
 use crate::task::{First, Status, Task};
+use crate::workspace::Workspace;
 use arr_core::{Cell, Signature};
 use plan_ir::Plan;
 use std::alloc::{AllocError, Global};
@@ -39,6 +40,7 @@ pub struct Exec {
     /// The cells of the item at hand, and its first fault.
     pub(crate) cells: Vec<Cell>,
     pub(crate) first: First,
+    pub(crate) workspace: Workspace,
 }
 
 /// What a step did: how many units are left, and how many tiles it fetched.

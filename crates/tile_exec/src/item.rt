@@ -10,18 +10,19 @@ ghost use Rattle.plan_ir.specs.Planned.{cells_of};
 ghost use Rattle.plan_ir.specs.Units.{bound_of};
 ghost use Rattle.tile_columns.specs.Sources.{Leaves};
 ghost use Rattle.tile_exec.specs.Tasks.{IsPartPlaced, item, bodies_of};
-ghost use Rattle.tile_exec.specs.TileOrder.{tile_of};
+ghost use Rattle.tile_columns.specs.TileOrder.{tile_of};
 ghost use Rattle.tile_exec.specs.Units.{FitsItem, TellsItem};
 ghost use Rattle.tile_exec.specs.declared.task.Status.TheVariants.{Giving};
 
 use crate::column::columns_over;
 use crate::found::ItemTile;
-use crate::places::ranks;
 use crate::row::tell_points;
+use crate::workspace::Workspace;
 use arr_core::Cell;
 use plan_ir::{Field, Item};
 use std::alloc::{AllocError, Global};
-use tile_columns::{Ground, Tiles};
+use std::mem;
+use tile_columns::{Ground, Tiles, ranks};
 use wcps_mean::{CellError, run_length};
 
 /// So many fields find no memory for their columns.
@@ -29,7 +30,7 @@ const FIELDS_END: usize = 4_294_967_296;
 
 /// What a tile of an item gives.
 pub(crate) fn item_tile<S: Tiles>(
-    alloc: Global,
+    workspace: &mut Workspace,
     source: &mut S,
     ground: &Ground<'_>,
     planned: &Item,
@@ -49,12 +50,14 @@ pub(crate) fn item_tile<S: Tiles>(
     if planned.fields.len() >= FIELDS_END {
         return Err(CellError::NoMemory);
     }
+    let alloc = workspace.memory.alloc;
     let part = planned.domain.tile_box(alloc, tile)?;
     let _axes = part.axes();
-    let places = ranks(alloc, &planned.domain, &part)?;
-    let columns = columns_over(alloc, source, ground, planned, &part)?;
-    let mut written = Vec::new(alloc);
-    let first = tell_points(&places, &planned.fields, &columns, &mut written)?;
+    ranks(&mut workspace.places, &planned.domain, &part)?;
+    let columns = columns_over(&mut workspace.memory, source, ground, planned, &part)?;
+    let mut written = mem::replace(&mut workspace.written, Vec::new(alloc));
+    written.clear();
+    let first = tell_points(&workspace.places, &planned.fields, &columns, &mut written)?;
     Ok(ItemTile {
         written,
         first,

@@ -220,6 +220,7 @@ impl Exec {
         } = found;
         begin_cells(&mut self.cells, self.tile, fresh);
         write_cells(&mut self.cells, &written);
+        self.workspace.take_back(written);
         self.first = least_first(begin_first(self.first, self.tile), first);
         self.left -= 1;
         if last {

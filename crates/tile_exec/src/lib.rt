@@ -8,9 +8,9 @@ mod found;
 mod item;
 mod keep;
 mod pass;
-mod places;
 mod row;
 mod task;
 mod unit;
+mod workspace;
 
 pub use exec::{Exec, StepInfo};

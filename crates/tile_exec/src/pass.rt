@@ -13,20 +13,20 @@ ghost use Rattle.plan_ir.specs.Placed.{IsPlaced, spans};
 ghost use Rattle.plan_ir.specs.Units.{bound_of};
 ghost use Rattle.tile_kernel.specs.Standing.{Stands};
 ghost use Rattle.tile_columns.specs.Sources.{Leaves};
-ghost use Rattle.tile_exec.specs.TileOrder.{tile_of, told_to_pass};
+ghost use Rattle.tile_columns.specs.TileOrder.{tile_of};
+ghost use Rattle.tile_exec.specs.Passes.{told_to_pass};
 
 use crate::column::column_over;
-use crate::places::ranks;
+use crate::workspace::Workspace;
 use arr_core::Domain;
 use plan_ir::{Body, Fold};
-use std::alloc::Global;
-use tile_columns::{Ground, Tiles};
+use tile_columns::{Ground, Tiles, ranks};
 use tile_kernel::{Accumulator, fold_column, fold_column_where};
 use wcps_mean::{CellError, Outcome};
 
 /// What a tile of a pass's box tells its condenser.
 pub(crate) fn pass_tile<S: Tiles>(
-    alloc: Global,
+    workspace: &mut Workspace,
     source: &mut S,
     ground: &Ground<'_>,
     pass: &Fold,
@@ -45,24 +45,54 @@ pub(crate) fn pass_tile<S: Tiles>(
     ensures reports { Reports result (S.intact source.old) (S.failures source.old) (S.failures source.new) }
     ensures fetched { OnOk result (S.fetched source.new ≤ S.fetched source.old + (bound_of (signature_of (S.coverages source.old) ground.now.coverages.now) (tile_of pass.now.domain tile) (condition_view pass.now.condition) + bound_of (signature_of (S.coverages source.old) ground.now.coverages.now) (tile_of pass.now.domain tile) (body_view pass.now.body))) }
 {
-    let part = pass.domain.tile_box(alloc, tile)?;
-    let places = ranks(alloc, &pass.domain, &part)?;
+    let area = &pass.domain;
+    let part = area.tile_box(workspace.memory.alloc, tile)?;
+    ranks(&mut workspace.places, area, &part)?;
     match &pass.condition {
         None => {
-            let column = column_over(alloc, source, ground, &pass.domain, &part, &pass.body)?;
-            Ok(fold_column(pass.op, &column, &places))
+            column_over(
+                &mut workspace.memory,
+                source,
+                ground,
+                area,
+                &part,
+                &pass.body,
+                &mut workspace.column,
+            )?;
+            Ok(fold_column(pass.op, &workspace.column, &workspace.places))
         }
         Some(condition) => {
-            let chosen = column_over(alloc, source, ground, &pass.domain, &part, condition)?;
-            let column = column_over(alloc, source, ground, &pass.domain, &part, &pass.body)?;
-            Ok(fold_column_where(pass.op, &chosen, &column, &places))
+            column_over(
+                &mut workspace.memory,
+                source,
+                ground,
+                area,
+                &part,
+                condition,
+                &mut workspace.chosen,
+            )?;
+            column_over(
+                &mut workspace.memory,
+                source,
+                ground,
+                area,
+                &part,
+                &pass.body,
+                &mut workspace.column,
+            )?;
+            Ok(fold_column_where(
+                pass.op,
+                &workspace.chosen,
+                &workspace.column,
+                &workspace.places,
+            ))
         }
     }
 }
 
 /// The outcome of a condition.
 pub(crate) fn condition_of<S: Tiles>(
-    alloc: Global,
+    workspace: &mut Workspace,
     source: &mut S,
     ground: &Ground<'_>,
     condition: &Body,
@@ -76,11 +106,19 @@ pub(crate) fn condition_of<S: Tiles>(
     ensures reports { Reports result (S.intact source.old) (S.failures source.old) (S.failures source.new) }
     ensures fetched { OnOk result (S.fetched source.new ≤ S.fetched source.old + bound_of (signature_of (S.coverages source.old) ground.now.coverages.now) [] (body_view condition.now)) }
 {
-    match Domain::new(Vec::new(alloc)) {
+    match Domain::new(Vec::new(workspace.memory.alloc)) {
         Err(_) => Err(CellError::NoMemory),
         Ok(point) => {
-            let column = column_over(alloc, source, ground, &point, &point, condition)?;
-            Ok(column.at(0))
+            column_over(
+                &mut workspace.memory,
+                source,
+                ground,
+                &point,
+                &point,
+                condition,
+                &mut workspace.column,
+            )?;
+            Ok(workspace.column.at(0))
         }
     }
 }

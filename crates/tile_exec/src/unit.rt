@@ -8,7 +8,7 @@ ghost use Rattle.plan_ir.specs.Planned.{cells_of};
 ghost use Rattle.plan_ir.specs.Units.{bound_of};
 ghost use Rattle.tile_columns.specs.Sources.{Leaves};
 ghost use Rattle.tile_exec.specs.Tasks.{PartTree, area_of, bodies_of, IsPartPlaced};
-ghost use Rattle.tile_exec.specs.TileOrder.{tile_of};
+ghost use Rattle.tile_columns.specs.TileOrder.{tile_of};
 ghost use Rattle.tile_exec.specs.Standing.{IsSound, IsPartOf, plan_of, tasks_left, boxes_left};
 ghost use Rattle.tile_exec.specs.Units.{Fits, Tells, FitsPart, TellsPart, IsLast, first_bound};
 
@@ -17,9 +17,9 @@ use crate::found::{Found, Unit};
 use crate::item::item_tile;
 use crate::pass::{condition_of, pass_tile};
 use crate::task::{Part, Status, Task};
+use crate::workspace::Workspace;
 use arr_core::Domain;
 use plan_ir::{Fold, Steps};
-use std::alloc::Global;
 use tile_columns::{Ground, Tiles};
 use wcps_mean::{CellError, Outcome};
 
@@ -57,7 +57,7 @@ fn task_at(tasks: &[Task], k: usize) -> Option<&Task>
 
 /// What a tile of a task gives.
 fn unit_of<S: Tiles>(
-    alloc: Global,
+    workspace: &mut Workspace,
     source: &mut S,
     ground: &Ground<'_>,
     steps: &Steps,
@@ -79,7 +79,7 @@ fn unit_of<S: Tiles>(
         Part::Pass => match pass_at(&steps.passes, task.count) {
             None => Err(CellError::NoMemory),
             Some(pass) => {
-                let a = pass_tile(alloc, source, ground, pass, tile)?;
+                let a = pass_tile(workspace, source, ground, pass, tile)?;
                 Ok(Unit {
                     last: is_last(&pass.domain, tile),
                     found: Found::Pass(a),
@@ -89,7 +89,7 @@ fn unit_of<S: Tiles>(
         Part::Condition => match &steps.condition {
             None => Err(CellError::NoMemory),
             Some(condition) => {
-                let o = condition_of(alloc, source, ground, condition)?;
+                let o = condition_of(workspace, source, ground, condition)?;
                 Ok(Unit {
                     last: true,
                     found: Found::Condition(o),
@@ -100,7 +100,7 @@ fn unit_of<S: Tiles>(
             let last = is_last(&steps.item.domain, tile);
             match status {
                 Status::Giving => {
-                    let x = item_tile(alloc, source, ground, &steps.item, tile)?;
+                    let x = item_tile(workspace, source, ground, &steps.item, tile)?;
                     Ok(Unit {
                         last,
                         found: Found::Item(x),
@@ -120,13 +120,14 @@ fn unit_of<S: Tiles>(
 }
 
 impl Exec {
-    /// What the next unit gives. It changes nothing.
-    pub(crate) fn unit<S: Tiles>(&self, source: &mut S) -> Result<Unit, CellError>
-        requires sound { IsSound self.now }
-        requires coverages { S.coverages source.old ≡ (plan_of self.now).coverages }
-        ensures fits { IfOk result (λ u. Fits self.now (tasks_left self.now) u.last u.found) }
-        ensures tells { IfOk result (λ u. S.intact source.old → Tells (S.cells source.old) self.now (tasks_left self.now) u.found) }
-        ensures fetched { OnOk result (S.fetched source.new ≤ S.fetched source.old + first_bound (plan_of self.now) (boxes_left self.now)) }
+    /// What the next unit gives. It changes nothing but what units work in.
+    pub(crate) fn unit<S: Tiles>(&mut self, source: &mut S) -> Result<Unit, CellError>
+        requires sound { IsSound self.old }
+        requires coverages { S.coverages source.old ≡ (plan_of self.old).coverages }
+        ensures unchanged { self.new ≡ self.old }
+        ensures fits { IfOk result (λ u. Fits self.old (tasks_left self.old) u.last u.found) }
+        ensures tells { IfOk result (λ u. S.intact source.old → Tells (S.cells source.old) self.old (tasks_left self.old) u.found) }
+        ensures fetched { OnOk result (S.fetched source.new ≤ S.fetched source.old + first_bound (plan_of self.old) (boxes_left self.old)) }
         ensures same { Leaves (S.cells source.old) (S.cells source.new) (S.coverages source.old) (S.coverages source.new) (S.kept source.old) (S.kept source.new) }
         ensures rises { S.fetched source.old ≤ S.fetched source.new }
         ensures intact { S.intact source.old → S.intact source.new }
@@ -146,7 +147,7 @@ impl Exec {
                     registers: registers_from(&self.registers, task.first, task.count),
                 };
                 unit_of(
-                    self.alloc,
+                    &mut self.workspace,
                     source,
                     &ground,
                     steps,

@@ -3,7 +3,7 @@ use Rattle.std.proofs.lemmas.List.{length-map}
 use Rattle.plan_ir.specs.Plans.{Choice, plan_view, choice_view}
 use Rattle.tile_exec.specs.Tasks.{all_outs}
 use Rattle.tile_exec.specs.Begun.{Adds, IsChosen}
-use Rattle.tile_exec.proofs.TileOrders.{take_whole}
+use Rattle.tile_columns.proofs.TileOrders.{take_whole}
 use Rattle.tile_exec.proofs.Begun.{total_more, outs_more}
 use Rattle.tile_exec.proofs.begin.push_all_outs.Goals as goal
 

@@ -7,7 +7,7 @@ use Rattle.tile_exec.specs.declared.task.Task.{Task}
 use Rattle.tile_exec.specs.declared.task.Part.TheVariants as part
 use Rattle.tile_exec.specs.Tasks.{TaskTree, pass, pass_tasks}
 use Rattle.tile_exec.specs.Begun.{Adds}
-use Rattle.tile_exec.proofs.TileOrders.{take_whole}
+use Rattle.tile_columns.proofs.TileOrders.{take_whole}
 use Rattle.tile_exec.proofs.Begun.{chosen_task, pass_more}
 use Rattle.tile_exec.proofs.begin.push_passes.Goals as goal
 

@@ -4,7 +4,7 @@ use Rattle.plan_ir.specs.Bodies.{body_view}
 use Rattle.plan_ir.specs.Placed.{spans}
 use Rattle.plan_ir.specs.Plans.{signature_of}
 use Rattle.tile_columns.specs.Evaluating.{HasPlace, fetches}
-use Rattle.tile_exec.proofs.Boxes.{points_within, points_deep, fetches_bound}
+use Rattle.tile_columns.proofs.Boxes.{points_within, points_deep, fetches_bound}
 use Rattle.tile_exec.proofs.column.column_over.Goals as goal
 
 pub evaluate-requires-clause-place : goal.evaluate-requires-clause-place

@@ -6,7 +6,7 @@ use Rattle.plan_ir.specs.Units.{bound_of}
 use Rattle.tile_columns.specs.Evaluating.{fetches}
 use Rattle.tile_columns.specs.Fields.{FieldsHavePlace, bodies_behind}
 use Rattle.tile_columns.proofs.Behind.{sum_same}
-use Rattle.tile_exec.proofs.Boxes.{points_within, points_deep, fetches_bound}
+use Rattle.tile_columns.proofs.Boxes.{points_within, points_deep, fetches_bound}
 use Rattle.tile_exec.proofs.Finding.{on_ok}
 use Rattle.tile_exec.proofs.column.columns_over.Goals as goal
 

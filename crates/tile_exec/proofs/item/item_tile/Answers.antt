@@ -14,16 +14,12 @@ use Rattle.tile_kernel.specs.Told.{IsFirst}
 use Rattle.tile_exec.specs.Items.{places_of, told_to_item}
 use Rattle.tile_exec.specs.Rows.{cells_told}
 use Rattle.tile_exec.specs.Tasks.{item, bodies_of}
-use Rattle.tile_exec.proofs.Boxes.{box-inside}
 use Rattle.tile_exec.proofs.Rows.{part_inside, ranks_small, written_places, written_cells, told_rows, places_below}
 use Rattle.tile_exec.proofs.item.item_tile.Goals as goal
 
-pub ranks-requires : goal.ranks-requires
-ranks-requires g c = λ p i. box-inside c.args.planned.now.domain c.in_ok-part.part p c.in_ok-part.ensures.inside i
-
 pub tell_points-requires-clause-ranks : goal.tell_points-requires-clause-ranks
 tell_points-requires-clause-ranks g c =
-    subst (All (λ r. r < 2 ^ 24)) (sym (c.deref.ensures.value ∙ c.in_ok-places.ensures))
+    subst (All (λ r. r < 2 ^ 24)) (sym (c.deref.ensures.value ∙ c.in_ok-ranks.ensures))
     (ranks_small c.args.planned.now.domain (points c.in_ok-part.part) c.requires.placed.0.few_points (part_inside c.args.planned.now.domain c.in_ok-part.part c.in_ok-part.ensures.inside c.axes-axes.ensures.domain.ordered))
 
 pub returns-clause-fits : goal.returns-clause-fits
@@ -32,7 +28,7 @@ returns-clause-fits g c =
     let qs = points c.in_ok-part.part in
     let inside = part_inside i.domain c.in_ok-part.part c.in_ok-part.ensures.inside c.axes-axes.ensures.domain.ordered in
     let width = length-map c.args.planned.now.fields.items field_view in
-    let ranks = c.deref.ensures.value ∙ c.in_ok-places.ensures in
+    let ranks = c.deref.ensures.value ∙ c.in_ok-ranks.ensures in
     let columns = ap length c.deref-3.ensures.value ∙ c.in_ok-columns.ensures.fields ∙ sym width in
     let written = c.in_ok-first.ensures.cells ∙ ap (λ l. cells_told c.deref.result.now (map field_view l) c.deref-3.result.now (length c.deref.result.now)) c.deref-2.ensures.value in
     record {
@@ -53,7 +49,7 @@ returns-clause-tells g c = λ intact.
     let is = get_or_from_slice_get (tile_boxes i.domain) c.args.tile part [] c.in_ok-part.ensures.value in
     let inside = part_inside i.domain part c.in_ok-part.ensures.inside c.axes-axes.ensures.domain.ordered in
     let width = length-map c.args.planned.now.fields.items field_view in
-    let ranks = c.deref.ensures.value ∙ c.in_ok-places.ensures in
+    let ranks = c.deref.ensures.value ∙ c.in_ok-ranks.ensures in
     let many = ap length c.deref-3.ensures.value ∙ c.in_ok-columns.ensures.fields ∙ sym width in
     let columns = c.deref-3.ensures.value ∙ c.in_ok-columns.ensures.value intact in
     let written = c.in_ok-first.ensures.cells ∙ ap (λ l. cells_told c.deref.result.now (map field_view l) c.deref-3.result.now (length c.deref.result.now)) c.deref-2.ensures.value in

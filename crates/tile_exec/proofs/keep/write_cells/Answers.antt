@@ -3,7 +3,7 @@ use Rattle.std.proofs.lemmas.List.{length-set}
 use Rattle.arr_core.specs.declared.cell.Cell.{Cell}
 use Rattle.arr_core.specs.declared.cell.Cell.TheVariants.{Int}
 use Rattle.tile_exec.specs.Items.{AreWritten}
-use Rattle.tile_exec.proofs.TileOrders.{take_whole}
+use Rattle.tile_columns.proofs.TileOrders.{take_whole}
 use Rattle.tile_exec.proofs.Written.{written_more, places_more}
 use Rattle.tile_exec.proofs.keep.write_cells.Goals as goal
 

@@ -10,18 +10,14 @@ use Rattle.plan_ir.specs.Planned.{cells_of}
 use Rattle.plan_ir.specs.Units.{bound_of}
 use Rattle.tile_kernel.specs.Told.{told_at, demanded_at}
 use Rattle.tile_kernel.specs.Standing.{Stands}
-use Rattle.tile_exec.specs.TileOrder.{told_to_pass}
-use Rattle.tile_exec.proofs.Boxes.{box-inside}
+use Rattle.tile_exec.specs.Passes.{told_to_pass}
 use Rattle.tile_exec.proofs.Finding.{told_always, told_where}
 use Rattle.tile_exec.proofs.pass.pass_tile.Goals as goal
-
-pub ranks-requires : goal.ranks-requires
-ranks-requires g c = λ p i. box-inside c.args.pass.now.domain c.in_ok-part.part p c.in_ok-part.ensures.inside i
 
 pub returns-in-None-clause-count : goal.returns-in-None-clause-count
 returns-in-None-clause-count g c =
     let is = get_or_from_slice_get (tile_boxes c.args.pass.now.domain) c.args.tile c.in_ok-part.part [] c.in_ok-part.ensures.value in
-    omega (arith, c.fold_column.ensures.count, c.in_ok-column-in-None.ensures.places, ap (λ b. length (points b)) is)
+    omega (arith, c.fold_column.ensures.count, c.in_ok-column_over-in-None.ensures.places, ap (λ b. length (points b)) is)
 
 pub returns-in-None-clause-stands : goal.returns-in-None-clause-stands
 returns-in-None-clause-stands g c = λ intact.
@@ -30,22 +26,22 @@ returns-in-None-clause-stands g c = λ intact.
     let regs = c.args.ground.now.registers.now in
     let part = c.in_ok-part.part in
     let is = get_or_from_slice_get (tile_boxes c.args.pass.now.domain) c.args.tile part [] c.in_ok-part.ensures.value in
-    let places = c.deref.ensures.value ∙ c.in_ok-places.ensures in
+    let places = c.deref.ensures.value ∙ c.in_ok-ranks.ensures in
     subst (Stands c.fold_column.result)
-    (ap (λ l. told_at l c.in_ok-column-in-None.column) places ∙ ap (told_at (map (rank_of p.domain) (points part))) (c.in_ok-column-in-None.ensures.value intact) ∙ told_always s regs p (points part) (ap condition_view c.in-None.is) ∙ ap (λ b. flat_map (told_to_pass s regs p) (points b)) (sym is))
+    (ap (λ l. told_at l c.column_over.new.out) places ∙ ap (told_at (map (rank_of p.domain) (points part))) (c.in_ok-column_over-in-None.ensures.value intact) ∙ told_always s regs p (points part) (ap condition_view c.in-None.is) ∙ ap (λ b. flat_map (told_to_pass s regs p) (points b)) (sym is))
     c.fold_column.ensures.stands
 
 pub returns-in-None-clause-fetched : goal.returns-in-None-clause-fetched
 returns-in-None-clause-fetched g c =
     let is = get_or_from_slice_get (tile_boxes c.args.pass.now.domain) c.args.tile c.in_ok-part.part [] c.in_ok-part.ensures.value in
     let cs = signature_of (g.S.Tiles.coverages c.args.source.now) c.args.ground.now.coverages.now in
-    let f = c.in_ok-column-in-None.ensures.fetched in
+    let f = c.in_ok-column_over-in-None.ensures.fetched in
     omega (arith, f, ap (λ b. bound_of cs b (body_view c.args.pass.now.body)) is)
 
 pub returns-clause-count : goal.returns-clause-count
 returns-clause-count g c =
     let is = get_or_from_slice_get (tile_boxes c.args.pass.now.domain) c.args.tile c.in_ok-part.part [] c.in_ok-part.ensures.value in
-    omega (arith, c.fold_column_where.ensures.count, c.in_ok-column-in-Some.ensures.places, ap (λ b. length (points b)) is)
+    omega (arith, c.fold_column_where.ensures.count, c.in_ok-column_over-in-Some-2.ensures.places, ap (λ b. length (points b)) is)
 
 pub returns-clause-stands : goal.returns-clause-stands
 returns-clause-stands g c = λ intact.
@@ -55,13 +51,13 @@ returns-clause-stands g c = λ intact.
     let regs = c.args.ground.now.registers.now in
     let part = c.in_ok-part.part in
     let is = get_or_from_slice_get (tile_boxes c.args.pass.now.domain) c.args.tile part [] c.in_ok-part.ensures.value in
-    let places = c.deref-in-Some.ensures.value ∙ c.in_ok-places.ensures in
-    let first = c.in_ok-chosen-in-Some.ensures in
+    let places = c.deref-in-Some.ensures.value ∙ c.in_ok-ranks.ensures in
+    let first = c.in_ok-column_over-in-Some.ensures in
     let tree : condition_view c.args.pass.now.condition ≡ body_view c.in-Some.condition = ap condition_view c.in-Some.is in
     let chosen = first.value intact ∙ ap (λ t. map (run s regs t) (points part)) (sym tree) in
-    let column = c.in_ok-column-in-Some.ensures.value (first.intact intact) ∙ ap (λ f. map (run (cells_of f cov) regs p.body) (points part)) first.same.cells in
+    let column = c.in_ok-column_over-in-Some-2.ensures.value (first.intact intact) ∙ ap (λ f. map (run (cells_of f cov) regs p.body) (points part)) first.same.cells in
     subst (Stands c.fold_column_where.result)
-    (ap (λ l. demanded_at l c.in_ok-chosen-in-Some.chosen c.in_ok-column-in-Some.column) places ∙ ap (λ l. demanded_at (map (rank_of p.domain) (points part)) l c.in_ok-column-in-Some.column) chosen ∙ ap (demanded_at (map (rank_of p.domain) (points part)) (map (run s regs p.condition) (points part))) column ∙ told_where s regs p (points part) ∙ ap (λ b. flat_map (told_to_pass s regs p) (points b)) (sym is))
+    (ap (λ l. demanded_at l c.column_over-in-Some.new.out c.column_over-in-Some-2.new.out) places ∙ ap (λ l. demanded_at (map (rank_of p.domain) (points part)) l c.column_over-in-Some-2.new.out) chosen ∙ ap (demanded_at (map (rank_of p.domain) (points part)) (map (run s regs p.condition) (points part))) column ∙ told_where s regs p (points part) ∙ ap (λ b. flat_map (told_to_pass s regs p) (points b)) (sym is))
     c.fold_column_where.ensures.stands
 
 pub returns-clause-fetched : goal.returns-clause-fetched
@@ -69,8 +65,8 @@ returns-clause-fetched g c =
     let is = get_or_from_slice_get (tile_boxes c.args.pass.now.domain) c.args.tile c.in_ok-part.part [] c.in_ok-part.ensures.value in
     let cov = c.args.ground.now.coverages.now in
     let cs = signature_of (g.S.Tiles.coverages c.args.source.now) cov in
-    let first = c.in_ok-chosen-in-Some.ensures in
+    let first = c.in_ok-column_over-in-Some.ensures in
     let f = first.fetched in
-    let h = c.in_ok-column-in-Some.ensures.fetched in
+    let h = c.in_ok-column_over-in-Some-2.ensures.fetched in
     let tree : condition_view c.args.pass.now.condition ≡ body_view c.in-Some.condition = ap condition_view c.in-Some.is in
     omega (arith, f, h, ap (λ b. bound_of cs b (body_view c.args.pass.now.body)) is, ap (λ b. bound_of cs b (condition_view c.args.pass.now.condition)) is, ap (bound_of cs c.in_ok-part.part) tree, ap (λ a. bound_of (signature_of a cov) c.in_ok-part.part (body_view c.args.pass.now.body)) first.same.coverages)

@@ -5,7 +5,7 @@ use Rattle.std.proofs.lemmas.List.{length-map}
 use Rattle.plan_ir.specs.Plans.{field_view}
 use Rattle.tile_kernel.specs.Told.{IsFirst}
 use Rattle.tile_exec.specs.Rows.{row_at, cells_from, first_place, cells_told, rows_told}
-use Rattle.tile_exec.proofs.Rows.{flat_more}
+use Rattle.tile_columns.proofs.ByRows.{flat_more}
 use Rattle.tile_exec.proofs.row.tell_points.Goals as goal
 
 pub loop-k-preserved : goal.loop-k-preserved

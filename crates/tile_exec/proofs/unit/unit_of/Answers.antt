@@ -6,7 +6,7 @@ use Rattle.plan_ir.specs.Planned.{cells_of}
 use Rattle.plan_ir.specs.Units.{bound_of}
 use Rattle.tile_exec.specs.declared.found.Found.TheVariants as found
 use Rattle.tile_exec.specs.Tasks.{area_of, bodies_of}
-use Rattle.tile_exec.specs.TileOrder.{tile_of}
+use Rattle.tile_columns.specs.TileOrder.{tile_of}
 use Rattle.tile_exec.specs.Standing.{IsPartOf}
 use Rattle.tile_exec.specs.Units.{IsLast, FitsPart, TellsPart}
 use Rattle.tile_exec.proofs.Finding.{is_pass, is_item}

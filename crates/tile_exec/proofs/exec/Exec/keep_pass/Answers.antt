@@ -3,7 +3,7 @@ use Rattle.tile_kernel.specs.declared.accumulator.Accumulator.{Accumulator}
 use Rattle.tile_kernel.specs.Told.{ComesTo}
 use Rattle.tile_kernel.specs.Standing.{Stands}
 use Rattle.tile_exec.specs.declared.found.Found.TheVariants as found
-use Rattle.tile_exec.specs.TileOrder.{points_to}
+use Rattle.tile_columns.specs.TileOrder.{points_to}
 use Rattle.tile_exec.specs.Standing.{tasks_left}
 use Rattle.tile_exec.specs.Units.{Fits}
 use Rattle.tile_exec.proofs.Keeping.{pass_at, pass_under, pass_few, pass_further, pass_next, some_left, tile_small, tasks_small}

@@ -7,7 +7,7 @@ use Rattle.plan_ir.specs.Planned.{cells_of}
 use Rattle.plan_ir.specs.Units.{bound_of}
 use Rattle.tile_exec.specs.declared.found.Found.TheVariants as found
 use Rattle.tile_exec.specs.Tasks.{PartTree, area_of, bodies_of, IsPartPlaced}
-use Rattle.tile_exec.specs.TileOrder.{tile_of}
+use Rattle.tile_columns.specs.TileOrder.{tile_of}
 use Rattle.tile_exec.specs.Standing.{IsPartOf, IsStepsOf, plan_of, tasks_left, boxes_left}
 use Rattle.tile_exec.specs.Units.{Fits, Tells, IsLast, FitsPart, TellsPart, first_bound}
 use Rattle.tile_exec.proofs.Finding.{found_task, some_within, read_length, none_past, ok_map, on_ok, next_bound}
