@@ -308,8 +308,7 @@ impl<D: Disk> Coverages<D> {
         if !self.is_held(asked, field) {
             return Err(Fault::Damaged);
         }
-        let cells = self.cells.fetch_tile(&asked.name, field, tile)?;
-        *numbers = cells;
+        self.cells.fetch_tile(&asked.name, field, tile, numbers)?;
         Ok(())
     }
 

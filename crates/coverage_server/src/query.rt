@@ -6,6 +6,7 @@ ghost use Rattle.wcps_text.specs.Tree.{query_view};
 ghost use Rattle.wcps_types.specs.Queries.{typ_query};
 ghost use Rattle.wcps_types.specs.SharedQueries.{shared_query_view as typed_view};
 ghost use Rattle.plan_ir.specs.Plans.{plan_view};
+ghost use Rattle.tile_exec.specs.Standing.{IsBegun, plan_of as plan_in};
 ghost use Rattle.coverage_server.specs.Asking.{evaluated};
 ghost use Rattle.coverage_server.specs.Stages.{GivesTokens, GivesQuery, GivesTyped, GivesText, GivesValues, FailsReading, IsPlanOf};
 ghost use Rattle.coverage_server.specs.Tiles.{IsHeld};
@@ -122,7 +123,30 @@ pub fn typed_text<D: Disk>(
     Ok(typed)
 }
 
-/// The comma-separated values of a typed query, or the refusal by its evaluation: its plan is done a unit after the other.
+/// The comma-separated values of a typed query whose plan an executor has begun, or the refusal by its evaluation: the plan
+/// is done a unit after the other.
+fn values_by<D: Disk>(
+    cells: &mut AskedCells<D>,
+    typed: &SharedQuery,
+    exec: &mut Exec,
+) -> Result<String, Refusal>
+    requires held { All (IsHeld cells.old.coverages.store) typed.now.coverages.items }
+    requires plan { IsPlanOf (typed_view typed.now) (plan_in exec.old) }
+    requires begun { IsBegun (plan_in exec.old) exec.old }
+    ensures values { IsSound cells.old.coverages → GivesValues (evaluated cells.old.coverages.store (Ok (typed_view typed.now))) result }
+    ensures faults { IfErr result (FailsReading cells.old.coverages cells.new.coverages) }
+    ensures still { still_of cells.new.coverages ≡ still_of cells.old.coverages }
+    ensures no_fewer { cells.old.coverages.failures ≤ cells.new.coverages.failures }
+{
+    cells.ask(exec.coverages())?;
+    run_down(exec, cells, 0)?;
+    match answer_of(cells.alloc, exec)? {
+        Answer::Text(text) => Ok(text),
+        Answer::Refused(fault) => Err(Refusal::Numbered(fault.number())),
+    }
+}
+
+/// The comma-separated values of a typed query, or the refusal by its evaluation.
 fn values_of<D: Disk>(cells: &mut AskedCells<D>, typed: &SharedQuery) -> Result<String, Refusal>
     requires held { All (IsHeld cells.old.coverages.store) typed.now.coverages.items }
     requires some { 1 ≤ length (typed_view typed.now).combinations }
@@ -131,16 +155,9 @@ fn values_of<D: Disk>(cells: &mut AskedCells<D>, typed: &SharedQuery) -> Result<
     ensures still { still_of cells.new.coverages ≡ still_of cells.old.coverages }
     ensures no_fewer { cells.old.coverages.failures ≤ cells.new.coverages.failures }
 {
-    let alloc = cells.alloc;
-    let plan = plan_of(alloc, typed)?;
-    let mut exec = Exec::new(alloc, plan)?;
-    cells.ask(exec.coverages())?;
-    run_down(&mut exec, cells, 0)?;
-    let answer = answer_of(alloc, &exec)?;
-    match answer {
-        Answer::Text(text) => Ok(text),
-        Answer::Refused(fault) => Err(Refusal::Numbered(fault.number())),
-    }
+    let plan = plan_of(cells.alloc, typed)?;
+    let mut exec = Exec::new(cells.alloc, plan)?;
+    values_by(cells, typed, &mut exec)
 }
 
 /// The answer to a query, as comma-separated values: the query is typed, then evaluated.

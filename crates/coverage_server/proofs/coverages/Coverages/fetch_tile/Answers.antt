@@ -23,9 +23,9 @@ returns-clause-value g c =
     let held = c.is_held.ensures.yes c.if-not-is_held.false in
     let asked = c.args.asked.now in
     let f = c.args.field in
-    let numbers = c.in_ok-cells.cells.items in
+    let numbers = c.fetch_tile.new.cells.items in
     let read : IsTrue c.args.self.now.honest → IsSomeAnd (found asked.name c.args.self.now.store) (λ (x : Coverage). numbers ≡ map (value_at x f) (points (tile_box x.domain c.args.tile))) =
-    rw (← c.self.view_is) c.in_ok-cells.ensures.value in
+    rw (← c.self.view_is) c.in_ok-fetch_tile.ensures.value in
     λ honest.
     some_both _ {P = λ (x : Coverage). (x.domain ≡ asked.domain) × (f < length x.fields)} {Q = λ (x : Coverage). numbers ≡ map (value_at x f) (points (tile_box x.domain c.args.tile))}
     {R = λ (x : Coverage). (x.domain ≡ asked.domain) × (f < length x.fields) × (numbers ≡ map (value_at x f) (points (tile_box asked.domain c.args.tile)))}
@@ -35,9 +35,9 @@ pub returns-clause-counted : goal.returns-clause-counted
 returns-clause-counted g c =
     let held = c.is_held.ensures.yes c.if-not-is_held.false in
     let asked = c.args.asked.now in
-    let numbers = c.in_ok-cells.cells.items in
+    let numbers = c.fetch_tile.new.cells.items in
     let read : IsSomeAnd (found asked.name c.args.self.now.store) (λ (x : Coverage). length numbers ≡ length (points (tile_box x.domain c.args.tile))) =
-    rw (← c.self.view_is) c.in_ok-cells.ensures.counted in
+    rw (← c.self.view_is) c.in_ok-fetch_tile.ensures.counted in
     some_out (found asked.name c.args.self.now.store) {P = λ (x : Coverage). length numbers ≡ length (points (tile_box asked.domain c.args.tile))} (λ x h. h)
     (some_both _ {P = λ (x : Coverage). (x.domain ≡ asked.domain) × (c.args.field < length x.fields)} {Q = λ (x : Coverage). length numbers ≡ length (points (tile_box x.domain c.args.tile))}
     {R = λ (x : Coverage). length numbers ≡ length (points (tile_box asked.domain c.args.tile))}
