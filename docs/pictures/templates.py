@@ -5,7 +5,7 @@
 
 What is drawn is what the server answers: `rasterd - run` is sent the two coverages as messages, and then is asked for their
 cells and for each template by ProcessTemplate. `rt run` in crates/rasterd builds the program. Where an answer is not that
-of the row in crates/template_tests/stdin, which is worked out by hand, nothing is drawn.
+of the row in crates/query_tests/stdin, which is worked out by hand, nothing is drawn.
 """
 
 import os
@@ -15,7 +15,7 @@ import urllib.parse
 
 TOP = os.path.dirname(os.path.dirname(os.path.dirname(os.path.abspath(__file__))))
 PROGRAM = f"{TOP}/crates/rasterd/out/rasterd"
-ROWS = f"{TOP}/crates/template_tests/stdin"
+ROWS = f"{TOP}/crates/query_tests/stdin"
 CELL, GAP, LINE = 26, 44, 40
 ZONES = ["#fbb4ae", "#b3cde3", "#ccebc5", "#decbe4", "#fed9a6"]
 

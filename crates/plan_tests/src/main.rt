@@ -1,18 +1,21 @@
-//! Worked plans, each a row of standard input: what a run of a plan gives, what queries become, and that a query's plans give
-//! what its plain evaluation gives. A plan is written in words that push bodies on a stack and take them off again.
+//! Worked plans, each a row of standard input: what a run of a plan gives, what queries become, that a query's plans give
+//! what its plain evaluation gives, and which numbers jobs get, and where one is refused. A plan is written in words that
+//! push bodies on a stack and take them off again.
 #![tactic(auto)]
 
 mod coverages;
+mod desk;
+mod layer;
 mod plans;
 mod queries;
 mod words;
 
 use anyhow::Result;
-use coverages::Coverages;
+use layer::Fixture;
 use std::process::ExitCode;
 use test_rows::judge;
 
 fn main(rt: HostRuntime) -> Result<ExitCode> {
-    let mut coverages = Coverages::new(rt.alloc());
-    judge(&rt, &mut coverages)
+    let mut fixture = Fixture::new(rt.alloc());
+    judge(&rt, &mut fixture)
 }

@@ -1,7 +1,10 @@
 //! What queries become.
 
+ghost use Rattle.std.specs.Prelude.{IfOk};
+ghost use Rattle.plan_ir.specs.Plans.{plan_view};
+ghost use Rattle.plan_ir.specs.Placed.{IsPlan};
+
 use crate::coverages::Coverages;
-use crate::plans::planned;
 use crate::words::words_of;
 use anyhow::{Context, Result, bail};
 use arr_core::Signature;
@@ -9,7 +12,7 @@ use csv_out::csv_text;
 use plan_ir::{Plan, run};
 use plan_rewrite::{lower, rewrite};
 use std::alloc::Global;
-use test_rows::{Layer, refusal, text};
+use test_rows::refusal;
 use wcps_mean::{EvalError, Item, eval_plain};
 use wcps_parse::parse;
 use wcps_text::{Query, lex};
@@ -74,7 +77,7 @@ impl Coverages {
     }
 
     /// What a query gives, evaluated plainly, lowered, and rewritten: the three are one.
-    fn queried(&mut self, alloc: Global, text: &str) -> Result<String> {
+    pub fn queried(&mut self, alloc: Global, text: &str) -> Result<String> {
         let plain = self.plain(alloc, text)?;
         let plan = self.lowered(alloc, text)?;
         let lowered = self.run_plan(alloc, &plan)?;
@@ -83,41 +86,30 @@ impl Coverages {
     }
 
     /// The plan of a query.
-    fn lowered(&self, alloc: Global, text: &str) -> Result<Plan> {
+    fn lowered(&self, alloc: Global, text: &str) -> Result<Plan>
+        ensures { IfOk result (λ p. IsPlan (plan_view p)) }
+    {
         let query = shared(alloc, &self.signatures, text)?;
         Ok(lower(alloc, &query)?)
     }
 
+    /// The plan of a query once it is rewritten.
+    pub fn rewritten(&self, alloc: Global, text: &str) -> Result<Plan>
+        ensures { IfOk result (λ p. IsPlan (plan_view p)) }
+    {
+        let plan = self.lowered(alloc, text)?;
+        Ok(rewrite(alloc, plan)?)
+    }
+
     /// The words of a query's plan.
-    fn lowered_words(&self, alloc: Global, text: &str) -> Result<String> {
+    pub fn lowered_words(&self, alloc: Global, text: &str) -> Result<String> {
         let plan = self.lowered(alloc, text)?;
         Ok(words_of(alloc, &plan)?)
     }
 
     /// The words of a query's plan once it is rewritten.
-    fn rewritten_words(&self, alloc: Global, text: &str) -> Result<String> {
-        let plan = self.lowered(alloc, text)?;
-        let plan = rewrite(alloc, plan)?;
+    pub fn rewritten_words(&self, alloc: Global, text: &str) -> Result<String> {
+        let plan = self.rewritten(alloc, text)?;
         Ok(words_of(alloc, &plan)?)
-    }
-}
-
-impl Layer for Coverages {
-    fn answer(&mut self, rt: &HostRuntime, call: &str) -> Result<String> {
-        let alloc = rt.alloc();
-        let (verb, written) = call.split_once(' ').unwrap_or((call, ""));
-        let text = text(alloc, written)?;
-        let rest = text.as_str();
-        match verb {
-            "run" => planned(alloc, rest),
-            "coverage" => {
-                self.add(alloc, rest)?;
-                Ok(String::from_str(alloc, "ok")?)
-            }
-            "query" => self.queried(alloc, rest),
-            "lowered" => self.lowered_words(alloc, rest),
-            "rewritten" => self.rewritten_words(alloc, rest),
-            _ => bail!("no call {verb}"),
-        }
     }
 }

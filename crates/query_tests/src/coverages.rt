@@ -37,6 +37,12 @@ impl Coverages {
         }
     }
 
+    /// Leaves no coverage.
+    pub fn clear(&mut self) {
+        self.signatures.clear();
+        self.numbers.clear();
+    }
+
     /// The place of the coverage with a name.
     fn place_of(&self, name: &str) -> usize {
         for (place, signature) in self.signatures.iter().enumerate() {

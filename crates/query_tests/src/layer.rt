@@ -2,6 +2,7 @@
 
 use crate::coverages::{Coverages, Device};
 use crate::outcomes::{condensed, csv, operated, part, shown};
+use crate::templates::{expanded, template};
 use crate::texts::{NO_MEMORY, alike, parsed, printed, tokens, tree, typed, worked};
 use anyhow::{Context, Result, bail};
 use arr_core::{Name, Signature};
@@ -57,6 +58,14 @@ impl Coverages {
         }
     }
 
+    /// The text of the items of a template's query, or the refusal of the template or of that query.
+    fn processed(&mut self, alloc: Global, words: &str) -> Result<String> {
+        match expanded(alloc, &self.signatures, words)? {
+            Ok(query) => self.queried(alloc, query.as_str()),
+            Err(number) => refusal(alloc, number),
+        }
+    }
+
     /// The outcome of a part of a query, as `0 field:0 - for c in (lai) return 1`: the combination, the part and the
     /// point; `none` where there is none.
     fn part_of(&mut self, alloc: Global, words: &str) -> Result<String> {
@@ -82,6 +91,7 @@ impl Coverages {
     fn stated(&mut self, alloc: Global, verb: &str, rest: &str) -> Result<String> {
         match verb {
             "coverage" => self.add(alloc, rest)?,
+            "clear" => self.clear(),
             "device" => {
                 self.device = match rest {
                     "sound" => Device::Sound,
@@ -112,6 +122,8 @@ impl Layer for Coverages {
             "work" => worked(alloc, &self.signatures, rest),
             "query" => self.queried(alloc, rest),
             "part" => self.part_of(alloc, rest),
+            "expand" => template(alloc, &self.signatures, rest),
+            "process" => self.processed(alloc, rest),
             "operate" => operated(alloc, rest),
             "condense" => {
                 let (word, list) = rest.split_once(' ').context("no list")?;

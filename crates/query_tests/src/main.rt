@@ -1,10 +1,11 @@
 //! Worked values of the crates of queries, by their public calls, each a row of standard input: from a text to its tokens
-//! and its tree and back, to its type, its answer and its CSV.
+//! and its tree and back, to its type, its answer and its CSV, and from a template of map algebra to its query.
 #![tactic(auto)]
 
 mod coverages;
 mod layer;
 mod outcomes;
+mod templates;
 mod texts;
 
 use anyhow::Result;
