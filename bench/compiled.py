@@ -23,9 +23,9 @@ def figures(source, *words):
 
 
 def seconds(program, words, rounds):
-    """The processor time of a program that is given these words and a number of rounds."""
+    """The processor time of a program, a path and its first words, that is given these words and a number of rounds."""
     begun = resource.getrusage(resource.RUSAGE_CHILDREN)
-    subprocess.run([program, *words, str(rounds)], capture_output=True, check=True)
+    subprocess.run([*program, *words, str(rounds)], capture_output=True, check=True)
     ended = resource.getrusage(resource.RUSAGE_CHILDREN)
     return ended.ru_utime - begun.ru_utime + ended.ru_stime - begun.ru_stime
 

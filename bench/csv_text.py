@@ -6,7 +6,7 @@ usage: bench/csv_text.py [WORD..]    only the lines that have one of these words
 The cells are one number, noise of 16 bits, noise of 62 bits, and truth values. One loop in C prints each cell by sprintf,
 the other writes the digits by itself; both write into memory that was taken before, and are compiled here by cc -O2. The
 figure is the processor time that one more text takes, the least of several, so that starting and making the cells do not
-count; the programs take turns. `rt run` in crates/csv_bench builds the program.
+count; the programs take turns. `rt run` in crates/bench builds the program.
 """
 import os
 import sys
@@ -14,7 +14,7 @@ import sys
 from compiled import compiled, one_more
 
 TOP = os.path.dirname(os.path.dirname(os.path.abspath(__file__)))
-PROGRAM = os.environ.get("PRINTING", f"{TOP}/crates/csv_bench/out/csv_bench")
+PROGRAM = [os.environ.get("PRINTING", f"{TOP}/crates/bench/out/bench"), "csv"]
 CELLS = 1 << 20
 PATTERNS = ["one", "noise", "wide", "bool"]
 
@@ -71,7 +71,7 @@ def main():
         for pattern in PATTERNS:
             if wanted and pattern not in wanted:
                 continue
-            ours, printed, loop = (time / CELLS * 1e9 for time in one_more([PROGRAM, library, plain], [pattern], 10))
+            ours, printed, loop = (time / CELLS * 1e9 for time in one_more([PROGRAM, [library], [plain]], [pattern], 10))
             print(f"{pattern:12} {ours:10.1f} {printed:11.1f} {loop:12.1f} {ours / printed:11.2f} {ours / loop:12.2f}", flush=True)
 
 

@@ -3,7 +3,7 @@
 
 usage: bench/kernels.py [WORD..]    only the lines that have all of these words
 
-The kernels are run by crates/kernel_bench, which `rt run` in its folder builds. Each line is an operation on two columns,
+The kernels are run by crates/bench, which `rt run` in its folder builds. Each line is an operation on two columns,
 on a column and the scalar 3 (scalar), or on one column (one); or a condenser of a column (fold), of a column under a
 condition (where), or of 4,096 condensers that are told of a cell each (each). The cells are one number, each kept by
 itself (constant), noise of 32 bits (noise) or of 62 bits (wide), or noise of 32 bits and a fault at the last place.
@@ -22,7 +22,7 @@ import sys
 from compiled import compiled
 
 TOP = os.path.dirname(os.path.dirname(os.path.abspath(__file__)))
-PROGRAM = f"{TOP}/crates/kernel_bench/out/kernel_bench"
+PROGRAM = [f"{TOP}/crates/bench/out/bench", "kernel"]
 PROCESSOR = "-march=x86-64-v2"
 REPEATS = 5
 BOTH = ["+", "-", "*", "/", "<", "<=", ">", ">=", "=", "!=", "and", "or", "xor", "bit"]
@@ -167,7 +167,7 @@ int main(int count, char **words) {
 
 def seconds(program, case, rounds):
     begun = resource.getrusage(resource.RUSAGE_CHILDREN)
-    subprocess.run([program, *case, str(rounds)], capture_output=True, check=True)
+    subprocess.run([*program, *case, str(rounds)], capture_output=True, check=True)
     ended = resource.getrusage(resource.RUSAGE_CHILDREN)
     return ended.ru_utime - begun.ru_utime + ended.ru_stime - begun.ru_stime
 
@@ -194,7 +194,7 @@ def main():
             for case in [(kernel, shape, data) for kernel in kernels for data in datas]:
                 if wanted and not set(wanted) <= set(case):
                     continue
-                ours, plain, best = one_more([PROGRAM, second, third], case)
+                ours, plain, best = one_more([PROGRAM, [second], [third]], case)
                 print(f"{' '.join(case):28} {ours * 1e6:8.2f} {plain * 1e6:9.2f} {best * 1e6:9.2f}"
                       f" {ours / plain:7.2f} {ours / best:7.2f}", flush=True)
 

@@ -2,10 +2,10 @@
 """Seconds and bytes a second for reading queries of 65,536 bytes, each beside a loop in C that sorts the same bytes into
 classes.
 
-usage: bench/parsing.py [the program, else crates/query_bench/out/query_bench]
+usage: bench/parsing.py [the program, else crates/bench/out/bench]
 
 The program cuts the text into tokens and reads them as a query, as often as it is told; the figure is the time that one
-more reading takes. `rt lib` or `rt run` in its folder builds it.
+more reading takes. `rt run` in its folder builds it.
 """
 import os
 import subprocess
@@ -15,7 +15,7 @@ import time
 from compiled import compiled
 
 TOP = os.path.dirname(os.path.dirname(os.path.abspath(__file__)))
-PROGRAM = sys.argv[1] if len(sys.argv) > 1 else f"{TOP}/crates/query_bench/out/query_bench"
+PROGRAM = sys.argv[1] if len(sys.argv) > 1 else f"{TOP}/crates/bench/out/bench"
 LENGTH = 65536
 
 LOOP = r"""
@@ -61,7 +61,7 @@ ROWS = [
 
 def seconds(text, rounds):
     begun = time.monotonic()
-    found = subprocess.run([PROGRAM, str(rounds)], input=text.encode(), capture_output=True, check=True).stdout
+    found = subprocess.run([PROGRAM, "query", str(rounds), "syntax", text], capture_output=True, check=True).stdout
     return time.monotonic() - begun, found.decode().strip()
 
 

@@ -6,7 +6,7 @@ usage: bench/tiles.py [WORD..]    only the lines that have all of these words
 The tiles are of one value, of runs of 64 cells, of runs of twenty and of three on the average, and of noise, each in
 every type of a field. The figure is the processor time that one more call takes, the least of several, so that starting
 and making the cells do not count; the two programs take turns. The loops in C write and read the same runs, and are
-compiled here by cc -O2. `rt run` in the program's folder builds it.
+compiled here by cc -O2. `rt run` in crates/bench builds the program.
 """
 import os
 import sys
@@ -14,7 +14,7 @@ import sys
 from compiled import compiled, one_more
 
 TOP = os.path.dirname(os.path.dirname(os.path.abspath(__file__)))
-PROGRAM = os.environ.get("TILES", f"{TOP}/crates/tile_bench/out/tile_bench")
+PROGRAM = [os.environ.get("TILES", f"{TOP}/crates/bench/out/bench"), "tile"]
 CELLS = 64 * 4096
 KINDS = ["bool", "u8", "i16", "i32", "i64"]
 PATTERNS = ["one", "runs", "twenty", "three", "noise"]
@@ -108,7 +108,7 @@ def main():
                     continue
                 line = f"{kind + ' ' + pattern:12}"
                 for action in ("encode", "decode"):
-                    ours, loop = one_more([PROGRAM, plain], [kind, pattern, action], ROUNDS)
+                    ours, loop = one_more([PROGRAM, [plain]], [kind, pattern, action], ROUNDS)
                     line += f" {CELLS / ours / 1e6:11.0f} {ours / loop:6.2f}"
                 print(line, flush=True)
 

@@ -2,10 +2,10 @@
 """Seconds and MiB for typing the worst queries that were found, each beside the length of its text and beside a plain
 chain of 65,536 bytes: first with a tree for each combination, then with trees that combinations share.
 
-usage: bench/typing.py [the program, else crates/query_bench/out/query_bench]
+usage: bench/typing.py [the program, else crates/bench/out/bench]
 
 The program cuts the text into tokens, reads them as a query and types it over its own coverages; the figures are those
-of the whole process, which the first row shows without any work. `rt lib` or `rt run` in its folder builds it.
+of the whole process, which the first row shows without any work. `rt run` in its folder builds it.
 """
 import os
 import subprocess
@@ -13,7 +13,7 @@ import sys
 import time
 
 TOP = os.path.dirname(os.path.dirname(os.path.abspath(__file__)))
-PROGRAM = sys.argv[1] if len(sys.argv) > 1 else f"{TOP}/crates/query_bench/out/query_bench"
+PROGRAM = sys.argv[1] if len(sys.argv) > 1 else f"{TOP}/crates/bench/out/bench"
 LENGTH = 65536
 
 
@@ -93,9 +93,7 @@ ROWS = [
 
 def measured(text, reading):
     begun = time.monotonic()
-    ran = subprocess.Popen([PROGRAM, "1", reading], stdin=subprocess.PIPE, stdout=subprocess.PIPE)
-    ran.stdin.write(text.encode())
-    ran.stdin.close()
+    ran = subprocess.Popen([PROGRAM, "query", "1", reading, text], stdout=subprocess.PIPE)
     found = ran.stdout.read().decode().strip()
     _, _, used = os.wait4(ran.pid, 0)
     return time.monotonic() - begun, used.ru_maxrss / 1024, found

@@ -3,7 +3,7 @@
 ghost use Rattle.std.specs.Prelude.{◌≡◌, ◌≤◌, ◌<◌, ◌^◌, length, All, IsTrue};
 ghost use Rattle.tile_kernel.specs.declared.accumulator.Accumulator.{Accumulator};
 
-use crate::cells::{Data, conditions, lefts, places, rights, scalar};
+use crate::kernel::cells::{Data, conditions, lefts, places, rights, scalar};
 use anyhow::Result;
 use std::alloc::Global;
 use tile_kernel::{

@@ -1,6 +1,6 @@
-//! What the words of the program stand for.
+//! What the words of a run stand for.
 
-use crate::cells::Data;
+use crate::kernel::cells::Data;
 use anyhow::{Result, bail};
 use wcps_mean::Aggregate;
 use wcps_types::{Operation1, Operation2};

@@ -1,6 +1,6 @@
 use Rattle.std.proofs.Common.{◌≡◌, ◌≤◌, length, All}
 use Rattle.tile_kernel.specs.declared.accumulator.Accumulator.{Accumulator}
-use Rattle.kernel_bench.proofs.rounds.told.Given as goal
+use Rattle.bench.proofs.kernel.rounds.told.Given as goal
 
 abbrev pub invariant-loop-round : goal.invariant-loop-round
 invariant-loop-round l = record {

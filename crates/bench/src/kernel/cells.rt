@@ -1,5 +1,6 @@
 //! The cells of the columns.
 
+use crate::noise::noise;
 use std::alloc::{AllocError, Global};
 use tile_kernel::{Column, MAX_PLACES};
 use wcps_mean::Outcome;
@@ -18,13 +19,6 @@ pub enum Data {
     Faults,
 }
 
-/// Noise for a place.
-fn mixed(place: u64) -> u64 {
-    let x = place.wrapping_add(1).wrapping_mul(0x9e37_79b9_7f4a_7c15);
-    let y = (x ^ (x >> 30)).wrapping_mul(0xbf58_476d_1ce4_e5b9);
-    y ^ (y >> 27)
-}
-
 /// The number in as many of the low bits as the data has, with a sign.
 fn signed(data: Data, number: u64) -> i64 {
     match data {
@@ -38,13 +32,13 @@ fn left(data: Data, place: u64) -> i64 {
     match data {
         Data::Constant => 7,
         Data::Faults if place == 4095 => i64::MAX,
-        _ => signed(data, mixed(place)),
+        _ => signed(data, noise(place)),
     }
 }
 
 /// The cell of a right operand: never 0 as a divisor, save for the fault, and of 0 to 63 as the number of a bit.
 fn right(op: Operation2, data: Data, place: u64) -> i64 {
-    let number = mixed(place | 4096);
+    let number = noise(place | 4096);
     match (op, data) {
         (Operation2::Bit, Data::Faults) if place == 4095 => 64,
         (Operation2::Divide, Data::Faults) if place == 4095 => 0,
@@ -88,7 +82,7 @@ pub fn conditions(alloc: Global, data: Data) -> Result<Column, AllocError> {
     for place in 0u64..4096 {
         cells.push(match data {
             Data::Constant => 1,
-            _ => (mixed(place) >> 63) as i64,
+            _ => (noise(place) >> 63) as i64,
         })?;
     }
     column(&cells, alloc)

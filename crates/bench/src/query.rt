@@ -1,14 +1,14 @@
-//! Reads the query on standard input as often as its argument says, to time how queries are read. With a further argument
-//! `typed` it is typed too, with `shared` as well, but so that combinations share trees.
-#![tactic(auto)]
+//! Reads a query, to time how queries are read.
+//!
+//! Its words are how often, `syntax`, `typed`, or `shared` for a query that is typed so that combinations share trees, and
+//! the query. The line says what was found.
 
 mod coverages;
 
-use crate::coverages::coverages;
+use anyhow::{Result, bail};
 use arr_core::Signature;
+use coverages::coverages;
 use std::alloc::Global;
-use std::env;
-use std::io::{self, Lock, Read};
 use wcps_parse::{ParseError, parse};
 use wcps_text::lex;
 use wcps_types::{CheckError, check, check_shared};
@@ -19,6 +19,15 @@ enum Reading {
     Syntax,
     Types,
     SharedTypes,
+}
+
+fn reading_of(word: &str) -> Result<Reading> {
+    Ok(match word {
+        "syntax" => Reading::Syntax,
+        "typed" => Reading::Types,
+        "shared" => Reading::SharedTypes,
+        _ => bail!("no reading {word}"),
+    })
 }
 
 /// What the types of a query were found to be.
@@ -51,22 +60,18 @@ fn read_once(
     }
 }
 
-fn main(rt: HostRuntime) -> io::Result<()> {
-    let mut rounds = 1;
-    let mut reading = Reading::Syntax;
-    for word in env::args(&rt)?.skip(1) {
-        match word.as_str() {
-            "typed" => reading = Reading::Types,
-            "shared" => reading = Reading::SharedTypes,
-            other => rounds = other.parse::<u32>().unwrap_or(1),
-        }
-    }
-    let mut text = String::new(rt.alloc());
-    rt.stdin().lock().read_to_string(&mut text)?;
-    let signatures = coverages(rt.alloc()).unwrap_or(Vec::new(rt.alloc()));
+/// What the words ask for.
+pub fn run(alloc: Global, words: &[String]) -> Result<String> {
+    let [rounds, how, text @ ..] = words else {
+        bail!("words: query ROUNDS syntax|typed|shared QUERY");
+    };
+    let rounds = rounds.parse::<u32>()?;
+    let how = reading_of(how.as_str())?;
+    let text = text.join(alloc, " ")?;
+    let signatures = coverages(alloc)?;
     let mut found = "nothing";
     for _ in 0..rounds {
-        found = read_once(rt.alloc(), &text, &signatures, reading);
+        found = read_once(alloc, text.as_str(), &signatures, how);
     }
-    println!(rt; "{found}")
+    Ok(String::from_str(alloc, found)?)
 }

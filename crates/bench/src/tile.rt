@@ -1,16 +1,16 @@
-//! Encodes or decodes 64 tiles of 4,096 cells as often as it is told, to time how tiles are written and read.
+//! Encodes or decodes 64 tiles of 4,096 cells, to time how tiles are written and read.
 //!
 //! Its words are a type of cells, a pattern of them, `encode` or `decode`, and how often. The tiles differ, so that no
-//! processor knows their runs by heart.
-#![tactic(auto)]
+//! processor knows their runs by heart. The line says how many bytes or cells it were.
 
 ghost use Rattle.std.specs.Prelude.{◌↔◌, All, IsTrue};
 ghost use Rattle.arr_core.specs.Cells.{Fits};
 
+use crate::noise::noise;
+use anyhow::{Result, bail};
 use arr_core::FieldType;
 use run_tile::{decode_into, encode};
 use std::alloc::{AllocError, Global};
-use std::{env, io};
 
 /// The type of a word.
 fn kind_of(word: &str) -> FieldType {
@@ -21,13 +21,6 @@ fn kind_of(word: &str) -> FieldType {
         "i32" => FieldType::I32,
         _ => FieldType::I64,
     }
-}
-
-/// Noise: a number that its place does not show.
-fn noise(place: u64) -> u64 {
-    let x = place.wrapping_add(1).wrapping_mul(0x9e37_79b9_7f4a_7c15);
-    let y = (x ^ (x >> 30)).wrapping_mul(0xbf58_476d_1ce4_e5b9);
-    y ^ (y >> 27)
 }
 
 /// Whether a run begins at a place of a tile: never, at each 64th place, by chance, so that runs have twenty or three
@@ -129,26 +122,21 @@ fn tile(
     Ok(cells)
 }
 
-fn main(rt: HostRuntime) -> io::Result<()> {
-    let mut words = Vec::new(rt.alloc());
-    for word in env::args(&rt)?.skip(1) {
-        words.push(word)?;
+/// What the words ask for.
+pub fn run(alloc: Global, words: &[String]) -> Result<String> {
+    let [kind, pattern, action, rounds] = words else {
+        bail!("words: tile TYPE one|runs|twenty|three|noise encode|decode ROUNDS");
+    };
+    let kind = kind_of(kind.as_str());
+    let mut tiles = Vec::new(alloc);
+    for number in 0..TILES {
+        tiles.push(tile(alloc, kind, pattern.as_str(), number)?)?;
     }
-    match words.as_slice() {
-        [kind, pattern, action, rounds] => {
-            let kind = kind_of(kind.as_str());
-            let mut tiles = Vec::new(rt.alloc());
-            for number in 0..TILES {
-                tiles.push(tile(rt.alloc(), kind, pattern.as_str(), number)?)?;
-            }
-            let rounds = rounds.parse::<u32>().unwrap_or(0);
-            let size = if action.as_str() == "encode" {
-                encode_all(rt.alloc(), kind, &tiles, rounds)?
-            } else {
-                decode_all(rt.alloc(), kind, &tiles, rounds)?
-            };
-            println!(rt; "{size}")
-        }
-        _ => println!(rt; "words: TYPE one|runs|twenty|three|noise encode|decode ROUNDS"),
-    }
+    let rounds = rounds.parse::<u32>()?;
+    let size = if action.as_str() == "encode" {
+        encode_all(alloc, kind, &tiles, rounds)?
+    } else {
+        decode_all(alloc, kind, &tiles, rounds)?
+    };
+    Ok(format!(in alloc; "{size}")?)
 }

@@ -1,0 +1,43 @@
+//! Runs one kernel or one condenser over columns of 4,096 cells, to time it.
+//!
+//! Its words are an operation or a condenser, how its operands are kept, what cells they have, and how often. The line is
+//! a number that depends on the results.
+
+mod cells;
+mod rounds;
+mod words;
+
+use anyhow::{Result, bail};
+use std::alloc::Global;
+
+/// The number of a kernel that is run so often.
+fn timed(alloc: Global, kernel: &str, shape: &str, data: &str, rounds: u32) -> Result<i64> {
+    let data = words::data(data)?;
+    Ok(match shape {
+        "columns" => rounds::both(alloc, words::operation(kernel)?, data, rounds)?,
+        "scalar" => rounds::with_scalar(alloc, words::operation(kernel)?, data, rounds)?,
+        "one" => rounds::one(alloc, words::operation_on_one(kernel)?, data, rounds)?,
+        "fold" => rounds::folded(alloc, words::aggregate(kernel)?, data, rounds)?,
+        "where" => rounds::folded_where(alloc, words::aggregate(kernel)?, data, rounds)?,
+        "each" => rounds::added(alloc, words::aggregate(kernel)?, data, rounds)?,
+        _ => bail!("no shape {shape}"),
+    })
+}
+
+/// What the words ask for.
+pub fn run(alloc: Global, words: &[String]) -> Result<String> {
+    let [kernel, shape, data, rounds] = words else {
+        bail!(
+            "words: kernel KERNEL columns|scalar|one|fold|where|each constant|noise|wide|faults ROUNDS"
+        );
+    };
+    let rounds = rounds.parse::<u32>()?;
+    let number = timed(
+        alloc,
+        kernel.as_str(),
+        shape.as_str(),
+        data.as_str(),
+        rounds,
+    )?;
+    Ok(format!(in alloc; "{number}")?)
+}

@@ -1,0 +1,54 @@
+//! The coverages over which queries are typed: `lai` with the field v, `wide` with the fields f0 to f63, and u0 to u63,
+//! of which no two have the same signature. Each has the axes x and y.
+
+use anyhow::Result;
+use arr_core::{Axis, Domain, Field, FieldType, Fields, Name, Signature};
+use std::alloc::Global;
+
+/// An axis from 0 on.
+fn axis(alloc: Global, name: &str, hi: i32) -> Result<Axis> {
+    let name = Name::new(alloc, name)?;
+    Ok(Axis { name, lo: 0, hi })
+}
+
+/// An integer field.
+fn field(alloc: Global, name: &str) -> Result<Field> {
+    let name = Name::new(alloc, name)?;
+    Ok(Field {
+        name,
+        kind: FieldType::I16,
+    })
+}
+
+/// A coverage with the axes x, which ends at a coordinate, and y.
+fn coverage(alloc: Global, name: &str, last: i32, fields: Vec<Field>) -> Result<Signature> {
+    let name = Name::new(alloc, name)?;
+    let mut axes = Vec::new(alloc);
+    axes.push(axis(alloc, "x", last)?)?;
+    axes.push(axis(alloc, "y", 9)?)?;
+    let domain = Domain::new(axes)?;
+    Ok(Signature {
+        name,
+        domain,
+        fields: Fields::new(fields),
+    })
+}
+
+/// All of them.
+pub fn coverages(alloc: Global) -> Result<Vec<Signature>> {
+    let mut list = Vec::new(alloc);
+    let mut wide = Vec::new(alloc);
+    for number in 0..64 {
+        let mut own = Vec::new(alloc);
+        own.push(field(alloc, "v")?)?;
+        let name = format!(in alloc; "u{number}")?;
+        list.push(coverage(alloc, name.as_str(), 100 + number, own)?)?;
+        let name = format!(in alloc; "f{number}")?;
+        wide.push(field(alloc, name.as_str())?)?;
+    }
+    list.push(coverage(alloc, "wide", 99, wide)?)?;
+    let mut one = Vec::new(alloc);
+    one.push(field(alloc, "v")?)?;
+    list.push(coverage(alloc, "lai", 99, one)?)?;
+    Ok(list)
+}
