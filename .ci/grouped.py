@@ -30,6 +30,8 @@ def toolchain():
 
 rt = toolchain()
 ONE_JOB = ["--jobs", "1"]
+# what an edit comes to where rt ci counts it as refused
+WELL = (rt.REFUSED, rt.AT_LIMIT)
 HARMLESS = "let _control = {}_usize + 1;"
 # What a proof file says where it names what an edit took away: that shows little of the meaning.
 MISSING_NAME = re.compile(r"has no field|is not in scope|has no `|was not admitted")
@@ -188,6 +190,14 @@ class Group:
         return [edit for edit, where in self.edits.items() if any(is_told(it, self.said) for it in where)]
 
 
+def tried_alone(crate, edit, kept):
+    """Whether an edit is refused in a check of its own, and what to say. What is not refused over kept work is tried again from nothing, as rt ci does."""
+    kind, text = rt.must_fail(crate, edit, ONE_JOB, kept)
+    if kind not in WELL:
+        kind, text = rt.must_fail(crate, edit, ONE_JOB)
+    return kind in WELL, text
+
+
 def try_edits(crate):
     """Tries the edits of a crate over the libraries built below it: pairs of whether one is refused, and what to say."""
     edits, misplaced = rt.edits_of(crate)
@@ -215,10 +225,7 @@ def try_edits(crate):
                 edits = [it for it in edits if it not in settled]
                 most = most if settled else 1
             edits = [it for it in edits if it not in refused]
-        for it in alone:
-            # what is not refused is tried again from nothing, as rt ci does
-            outcome = rt.must_fail(crate, it, ONE_JOB, kept)
-            told.append(outcome if outcome[0] else rt.must_fail(crate, it, ONE_JOB))
+        told += [tried_alone(crate, it, kept) for it in alone]
     return told
 
 
