@@ -198,12 +198,23 @@ def tried_alone(crate, edit, kept):
     return kind in WELL, text
 
 
-def try_edits(crate):
-    """Tries the edits of a crate over the libraries built below it: pairs of whether one is refused, and what to say."""
-    edits, misplaced = rt.edits_of(crate)
+def rounds_of(crate, functions, edits):
+    """The edits of a crate in rounds: those of one can be made together, but for the last round, of edits that each need a check of their own."""
+    rounds, left = [], edits
+    while left:
+        with tempfile.TemporaryDirectory(prefix="edits-") as room:
+            group = Group(crate, functions, room)
+            for it in left:
+                group.take(it)
+        rounds.append([*group.edits] or left)
+        left = [it for it in left if it not in rounds[-1]]
+    return rounds
+
+
+def try_edits(crate, functions, edits):
+    """Tries edits of a crate over the libraries built below it: pairs of whether one is refused, and what to say."""
     named = lambda it: f"must-fail {crate.name}/{os.path.basename(it)}"
-    told = [(False, f"{named(it)}: BAD EDIT: an edit stands right in must-fail/ and ends in .edit") for it in misplaced]
-    functions, alone, most, number = functions_of(crate), [], len(edits), 0
+    told, alone, most, number = [], [], len(edits), 0
     with tempfile.TemporaryDirectory(prefix="edits-kept-") as kept:
         while edits:
             number += 1
@@ -230,13 +241,20 @@ def try_edits(crate):
 
 
 def side_by_side(crates, tell=lambda told: None):
-    """What came of the edits of each crate, by its name, told as each crate ends. As many crates at a time as there are processors and memory."""
+    """What came of the edits of each crate, by its name, told as each round ends. As many rounds at a time as there are processors and memory."""
     rt.rtlib.guarded()
+    tasks, misplaced = {}, {}
 
-    def call(crate, given, jobs):
-        told = try_edits(crate)
+    def call(crate, functions, edits, given, jobs):
+        told = try_edits(crate, functions, edits)
         tell(told)
         return told
 
-    tasks = {(it.name, "edits"): ([], it.count(rb"\n"), rt.need(it), functools.partial(call, it)) for it in crates}
-    return {name: told for (name, _), told in rt.in_lanes(tasks).items()} if tasks else {}
+    for it in crates:
+        edits, strays = rt.edits_of(it)
+        misplaced[it.name] = [(False, f"must-fail {it.name}/{os.path.basename(stray)}: BAD EDIT: an edit stands right in must-fail/ and ends in .edit") for stray in strays]
+        functions = functions_of(it)
+        for number, edits in enumerate(rounds_of(it, functions, edits)):
+            tasks[it.name, "edits", number] = ([], it.count(rb"\n"), rt.need(it), functools.partial(call, it, functions, edits))
+    given = rt.in_lanes(tasks) if tasks else {}
+    return {it.name: misplaced[it.name] + [one for key, told in given.items() if key[0] == it.name for one in told] for it in crates}
