@@ -20,7 +20,7 @@ use Rattle.wcps_text.specs.Lexing.{keyword_text, IsWritten, is_name, plain as pl
 use Rattle.wcps_text.specs.Grammar.{Prefixes, negate, plus, not, binary_token, truth_word, Reduces, to_count, to_any, to_every, to_sum, to_average, to_least, to_greatest, Condenses, by_sum, by_product, by_greatest, by_least, by_every, by_any, rank_of, max_rank, Openness, closed, open_ended, SpellsInt, unsigned, positive, negative, SpellsItem, int_item, truth_item, SpellsItems, last_item, more_items, SpellsVariable, plain_name, dollar_name, Spells, post, coverage, condense, unary, tighter, binary, SpellsInParens, parens, SpellsPost, literal, truth, variable, grouped, abs, bit, reduce, parts, value_list, field, brackets, named, SpellsParts, last_part, more_parts, of_axis, SpellsSubs, last_sub, more_subs, SpellsPlace, trimmed, position, SpellsInterval, between, domain_of, iterator, SpellsIters, last_iter, more_iters, SpellsCondition, unconditional, conditional, SpellsNames, last_name, more_names, stands_for, SpellsBindings, last_binding, more_bindings, csv_word, SpellsReturn, encoded, unencoded, SpellsEnd, for_all, for_some, IsSpelled, query}
 use Rattle.wcps_text.proofs.Ranks.{rank_most, rank_suc, raised}
 use Rattle.wcps_print.specs.Printing.{name_token, int_tokens, unary_token, between_tokens, reduce_token, condense_token, items_tokens, expr_tokens, parts_tokens, subs_tokens, place_tokens, interval_tokens, iters_tokens, condition_tokens, names_tokens, bindings_tokens, item_tokens, query_tokens}
-use Rattle.wcps_print.proofs.Operators.{between}
+use Rattle.wcps_print.proofs.Operators.{between as between_same}
 use Rattle.wcps_print.proofs.Written.{Proper, Written, Each, name_as_name, dollar_as_dollar}
 
 -- what an expression is printed as spells it, before any rest
@@ -272,7 +272,7 @@ unary_again op prefix token a = record {
 binary_again : {a b : Tree} (op : BinaryOperator) → 0 < rank_of op → Again a → Again b → Again (tree.binary op a b)
 unfolding expr_tokens
 binary_again {a} {b} op ranked x y =
-    let same : (rest : List Tok) → between_tokens op (expr_tokens a) (expr_tokens b) rest ≡ expr_tokens (tree.binary op a b) rest = λ rest. between op (expr_tokens a) (expr_tokens b) rest ranked in
+    let same : (rest : List Tok) → between_tokens op (expr_tokens a) (expr_tokens b) rest ≡ expr_tokens (tree.binary op a b) rest = λ rest. between_same op (expr_tokens a) (expr_tokens b) rest ranked in
     record {
       openness = closed;
       spelled = λ rest. subst (λ (ts : List Tok). Spells closed max_rank ts (tree.binary op a b) rest) (same rest) (between_operands op ranked (operand x (binary_token op ∷ sign signs.LeftParen ∷ expr_tokens b (sign signs.RightParen ∷ rest))) (operand y rest));

@@ -1,5 +1,5 @@
 -- An operator stands between its operands, or it is `bit`.
-use Rattle.std.proofs.Common.{◌≡◌, ◌<◌, ◌⊎◌, inl, inr, ⊎_elim, List, refl, sym, ap, ◌∙◌, arith, true, false}
+use Rattle.std.proofs.Common.{◌≡◌, ◌<◌, ◌⊎◌, inl, inr, ⊎_elim, List, refl, arith, false}
 use denote.Enum.Bare.{sameb, true_same}
 use Rattle.wcps_text.specs.contracts.operator.BinaryOperator as binary_operator
 use Rattle.wcps_text.specs.declared.operator.BinaryOperator.{BinaryOperator}

@@ -26,8 +26,8 @@ use Rattle.wcps_text.specs.declared.tree.Part.{Part}
 use Rattle.wcps_text.specs.declared.tree.Sub.{Sub}
 use Rattle.wcps_text.specs.declared.tree.Iter.{Iter}
 use Rattle.wcps_text.specs.Token.{Tok, number, word, sign}
-use Rattle.wcps_text.specs.Tree.{Tree, unary, binary, parts, value_list, brackets, coverage, condense, Parts, Iters, view, view_place, view_interval, parts_of, subs_of, iters_of, condition_of, item_view, bindings_of, query_view}
-use Rattle.wcps_text.specs.Grammar.{rank_of, truth_word}
+use Rattle.wcps_text.specs.Tree.{Tree, unary, parts, value_list, brackets, coverage, condense, Parts, Iters, view, view_place, view_interval, parts_of, subs_of, iters_of, condition_of, item_view, bindings_of, query_view}
+use Rattle.wcps_text.specs.Grammar.{truth_word}
 use Rattle.wcps_text.proofs.Views.{view-Record, view-Brackets, view-ValueList, view-Coverage, view-Condense}
 use Rattle.wcps_print.specs.Printing.{name_token, int_tokens, unary_token, between_tokens, bit_tokens, reduce_token, condense_token, separator, items_tokens, head_tokens, expr_tokens, parts_tokens, subs_tokens, place_tokens, interval_tokens, iters_tokens, condition_tokens, names_tokens, bindings_tokens, item_tokens, query_tokens}
 use Rattle.wcps_print.proofs.Operators.{between, ranked_if_not_bit}
@@ -44,17 +44,15 @@ pub variable_of : (e : Expr) (x : List ℕ) → e ≡ exprs.Variable x → (rest
 unfolding expr_tokens
 variable_of e x is rest = rw is refl
 
-pub binary_of : (e x y : Expr) (op : BinaryOperator) (a b : Box Expr Global) → e ≡ exprs.Binary op a b → x ≡ a.value → y ≡ b.value → (rest : List Tok) → expr_tokens (binary op (view x) (view y)) rest ≡ expr_tokens (view e) rest
+pub binary_of : (e x y : Expr) (op : BinaryOperator) (a b : Box Expr Global) → e ≡ exprs.Binary op a b → x ≡ a.value → y ≡ b.value → false ≡ sameb binary_operator.the_type op binaries.Bit
+    → (rest : List Tok) → between_tokens op (expr_tokens (view x)) (expr_tokens (view y)) rest ≡ expr_tokens (view e) rest
 unfolding expr_tokens
-binary_of e x y op a b is left right rest = rw (is, left, right) refl
+binary_of e x y op a b is left right other rest = rw (is, left, right) (between op (expr_tokens (view a.value)) (expr_tokens (view b.value)) rest (ranked_if_not_bit op (sym other)))
 
-pub between_of : (op : BinaryOperator) (a b : Tree) → sameb binary_operator.the_type op binaries.Bit ≡ false → (rest : List Tok) → between_tokens op (expr_tokens a) (expr_tokens b) rest ≡ expr_tokens (binary op a b) rest
+pub bit_of : (e x y : Expr) (op : BinaryOperator) (a b : Box Expr Global) → e ≡ exprs.Binary op a b → x ≡ a.value → y ≡ b.value → true ≡ sameb binary_operator.the_type op binaries.Bit
+    → (rest : List Tok) → bit_tokens (expr_tokens (view x)) (expr_tokens (view y)) rest ≡ expr_tokens (view e) rest
 unfolding expr_tokens
-between_of op a b other rest = between op (expr_tokens a) (expr_tokens b) rest (ranked_if_not_bit op other)
-
-pub bit_of : (op : BinaryOperator) (a b : Tree) → sameb binary_operator.the_type op binaries.Bit ≡ true → (rest : List Tok) → bit_tokens (expr_tokens a) (expr_tokens b) rest ≡ expr_tokens (binary op a b) rest
-unfolding expr_tokens
-bit_of op a b same rest = rw (same_true binary_operator.the_type tt op binaries.Bit same) refl
+bit_of e x y op a b is left right same rest = rw (is, left, right) (rw (same_true binary_operator.the_type tt op binaries.Bit (sym same)) refl)
 
 pub reduce_of : (e x : Expr) (op : Aggregate) (a : Box Expr Global) → e ≡ exprs.Reduce op a → x ≡ a.value → (rest : List Tok) → reduce_token op ∷ sign signs.LeftParen ∷ expr_tokens (view x) (sign signs.RightParen ∷ rest) ≡ expr_tokens (view e) rest
 unfolding expr_tokens

@@ -5,10 +5,10 @@ ghost use Rattle.wcps_text.specs.Token.{sign};
 ghost use Rattle.wcps_text.specs.Tree.{view, view_interval, view_place, iters_of, parts_of, subs_of, condition_of};
 ghost use Rattle.wcps_text.specs.Tree as tree;
 ghost use Rattle.wcps_text.specs.declared.token.Symbol.TheVariants as signs;
-ghost use Rattle.wcps_print.specs.Printing.{bit_tokens, condition_tokens, expr_tokens, head_tokens, interval_tokens, items_tokens, iters_tokens, parts_tokens, place_tokens, subs_tokens, Puts};
+ghost use Rattle.wcps_print.specs.Printing.{condition_tokens, expr_tokens, head_tokens, interval_tokens, items_tokens, iters_tokens, parts_tokens, place_tokens, subs_tokens, Puts};
 
 use crate::words::{
-    put_any_name, put_binary_op, put_condense, put_int, put_name, put_number, put_reduce,
+    put_any_name, put_binary, put_condense, put_int, put_name, put_number, put_reduce,
     put_separator, put_symbol, put_truth, put_unary_op, put_word,
 };
 use std::alloc::AllocError;
@@ -27,7 +27,19 @@ pub fn put_expr(out: &mut String, expr: &Expr) -> Result<(), AllocError>
         Expr::Truth(truth) => put_truth(out, *truth),
         Expr::Variable(name) => put_name(out, name),
         Expr::Unary(op, operand) => put_unary(out, *op, operand),
-        Expr::Binary(op, left, right) => put_binary(out, *op, left, right),
+        Expr::Binary(op, left, right) => {
+            if *op == BinaryOperator::Bit {
+                put_word(out, Keyword::Bit)?;
+                put_symbol(out, Symbol::LeftParen)?;
+                put_expr(out, left)?;
+                put_symbol(out, Symbol::Comma)?;
+                put_expr(out, right)?;
+                return put_symbol(out, Symbol::RightParen);
+            }
+            put_grouped(out, left)?;
+            put_binary(out, *op)?;
+            put_grouped(out, right)
+        }
         Expr::Reduce(op, value) => {
             put_reduce(out, *op)?;
             put_grouped(out, value)
@@ -95,36 +107,6 @@ fn put_unary(out: &mut String, op: UnaryOperator, operand: &Expr) -> Result<(), 
 {
     put_unary_op(out, op)?;
     put_grouped(out, operand)
-}
-
-/// An operator between its operands, or `bit(l, r)`.
-#[cycle(printing)]
-fn put_binary(
-    out: &mut String,
-    op: BinaryOperator,
-    left: &Expr,
-    right: &Expr,
-) -> Result<(), AllocError>
-    ensures { OnOk result (Puts (string_bytes out.old) (expr_tokens (tree.binary op (view left.now) (view right.now))) (string_bytes out.new)) }
-{
-    if op == BinaryOperator::Bit {
-        return put_bit(out, left, right);
-    }
-    put_grouped(out, left)?;
-    put_binary_op(out, op)?;
-    put_grouped(out, right)
-}
-
-#[cycle(printing)]
-fn put_bit(out: &mut String, value: &Expr, place: &Expr) -> Result<(), AllocError>
-    ensures { OnOk result (Puts (string_bytes out.old) (bit_tokens (expr_tokens (view value.now)) (expr_tokens (view place.now))) (string_bytes out.new)) }
-{
-    put_word(out, Keyword::Bit)?;
-    put_symbol(out, Symbol::LeftParen)?;
-    put_expr(out, value)?;
-    put_symbol(out, Symbol::Comma)?;
-    put_expr(out, place)?;
-    put_symbol(out, Symbol::RightParen)
 }
 
 #[cycle(printing)]

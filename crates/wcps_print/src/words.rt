@@ -98,7 +98,7 @@ pub fn put_unary_op(out: &mut String, op: UnaryOperator) -> Result<(), AllocErro
 }
 
 /// The token of an operator on two operands.
-pub fn put_binary_op(out: &mut String, op: BinaryOperator) -> Result<(), AllocError>
+pub fn put_binary(out: &mut String, op: BinaryOperator) -> Result<(), AllocError>
     ensures { OnOk result (Puts (string_bytes out.old) (λ rest. binary_token op ∷ rest) (string_bytes out.new)) }
 {
     match op {

@@ -3,7 +3,7 @@ use Rattle.std.proofs.lemmas.Grind.{common_steps}
 use Rattle.std.proofs.lemmas.Int.{to_z-of_z}
 use Rattle.wcps_text.specs.Tree.{view, parts_of, iters_of}
 use Rattle.wcps_print.proofs.Puts.{last_puts, same_text}
-use Rattle.wcps_print.proofs.Views.{number_of, truth_of, variable_of, binary_of, between_of, bit_of, reduce_of, record_of, value_list_of, field_of, brackets_of, coverage_of, condense_of, unary_of, record_tokens, value_list_tokens, some_condition, no_condition, bounds_of, domain_of, position_of, trim_of, parts_end, parts_step, subs_end, subs_step, iters_end, iters_step}
+use Rattle.wcps_print.proofs.Views.{number_of, truth_of, variable_of, binary_of, bit_of, reduce_of, record_of, value_list_of, field_of, brackets_of, coverage_of, condense_of, unary_of, record_tokens, value_list_tokens, some_condition, no_condition, bounds_of, domain_of, position_of, trim_of, parts_end, parts_step, subs_end, subs_step, iters_end, iters_step}
 use Rattle.wcps_print.proofs.expression.+printing.Goals as goal
 
 pub put_condition-returns-in_ok-put_word-in-Some : goal.put_condition-returns-in_ok-put_word-in-Some
@@ -27,8 +27,11 @@ put_expr-returns-in-Record t c = last_puts c.put_record.result _ _ _ _ _ c.put_r
 pub put_expr-returns-in-ValueList : goal.put_expr-returns-in-ValueList
 put_expr-returns-in-ValueList t c = last_puts c.put_value_list.result _ _ _ _ _ c.put_value_list.ensures (λ rest. same_text _ (value_list_of c.args.expr.now _ _ c.in-ValueList.iterators c.in-ValueList.items c.in-ValueList.is c.deref-in-ValueList.ensures.value c.deref-in-ValueList-2.ensures.value rest))
 
-pub put_expr-returns-in-Binary : goal.put_expr-returns-in-Binary
-put_expr-returns-in-Binary t c = last_puts c.put_binary.result _ _ _ _ _ c.put_binary.ensures (λ rest. same_text _ (binary_of c.args.expr.now _ _ c.in-Binary.op c.in-Binary.left c.in-Binary.right c.in-Binary.is c.deref-in-Binary.ensures c.deref-in-Binary-2.ensures rest))
+pub put_expr-returns-then-eq : goal.put_expr-returns-then-eq
+put_expr-returns-then-eq t c = last_puts c.put_symbol-then-eq-2.result _ _ _ _ _ c.put_symbol-then-eq-2.ensures (λ rest. c.in_ok-put_expr-in-Binary-2.ensures _ ∙ (c.in_ok-put_symbol-in-Binary-2.ensures _ ∙ (c.in_ok-put_expr-in-Binary.ensures _ ∙ (c.in_ok-put_symbol-in-Binary.ensures _ ∙ (c.in_ok-put_word-in-Binary.ensures _ ∙ (same_text _ (bit_of c.args.expr.now _ _ c.in-Binary.op c.in-Binary.left c.in-Binary.right c.in-Binary.is c.deref-then-eq.ensures c.deref-then-eq-2.ensures c.if-eq.ensures rest)))))))
+
+pub put_expr-returns-in_ok-put_binary-in-Binary : goal.put_expr-returns-in_ok-put_binary-in-Binary
+put_expr-returns-in_ok-put_binary-in-Binary t c = last_puts c.put_grouped-in-Binary.result _ _ _ _ _ c.put_grouped-in-Binary.ensures (λ rest. c.in_ok-put_binary-in-Binary.ensures _ ∙ (c.in_ok-put_grouped-in-Binary.ensures _ ∙ (same_text _ (binary_of c.args.expr.now _ _ c.in-Binary.op c.in-Binary.left c.in-Binary.right c.in-Binary.is c.deref-in-Binary.ensures c.deref-in-Binary-2.ensures c.if-eq.ensures rest))))
 
 pub put_expr-returns-in_ok-put_grouped-in-Brackets : goal.put_expr-returns-in_ok-put_grouped-in-Brackets
 put_expr-returns-in_ok-put_grouped-in-Brackets t c = last_puts c.put_subs.result _ _ _ _ _ c.put_subs.ensures (λ rest. c.in_ok-put_grouped-in-Brackets.ensures _ ∙ (same_text _ (brackets_of c.args.expr.now _ c.in-Brackets.value _ c.in-Brackets.subs c.in-Brackets.is c.deref-in-Brackets.ensures c.deref-in-Brackets-2.ensures.value rest)))
@@ -62,15 +65,6 @@ put_place-returns-in-Trim t c = last_puts c.put_interval.result _ _ _ _ _ c.put_
 
 pub put_unary-returns : goal.put_unary-returns
 put_unary-returns t c = last_puts c.put_grouped.result _ _ _ _ _ c.put_grouped.ensures (λ rest. c.in_ok-put_unary_op.ensures _ ∙ (same_text _ (unary_of c.args.op (view c.args.operand.now) rest)))
-
-pub put_bit-returns : goal.put_bit-returns
-put_bit-returns t c = last_puts c.put_symbol-3.result _ _ _ _ _ c.put_symbol-3.ensures (λ rest. c.in_ok-put_expr-2.ensures _ ∙ (c.in_ok-put_symbol-2.ensures _ ∙ (c.in_ok-put_expr.ensures _ ∙ (c.in_ok-put_symbol.ensures _ ∙ c.in_ok-put_word.ensures _))))
-
-pub put_binary-returns-then-op : goal.put_binary-returns-then-op
-put_binary-returns-then-op t c = last_puts c.put_bit.result _ _ _ _ _ c.put_bit.ensures (λ rest. same_text _ (bit_of c.args.op (view c.args.left.now) (view c.args.right.now) c.if-op.true rest))
-
-pub put_binary-returns : goal.put_binary-returns
-put_binary-returns t c = last_puts c.put_grouped-2.result _ _ _ _ _ c.put_grouped-2.ensures (λ rest. c.in_ok-put_binary_op.ensures _ ∙ (c.in_ok-put_grouped.ensures _ ∙ same_text _ (between_of c.args.op (view c.args.left.now) (view c.args.right.now) c.if-op.false rest)))
 
 pub put_value_list-returns : goal.put_value_list-returns
 put_value_list-returns t c = last_puts c.put_symbol-2.result _ _ _ _ _ c.put_symbol-2.ensures (λ rest. c.in_ok-put_items.ensures _ ∙ (c.in_ok-put_symbol.ensures _ ∙ (c.in_ok-put_word-2.ensures _ ∙ (c.in_ok-put_word.ensures _ ∙ (c.in_ok-put_head.ensures _ ∙ (same_text _ (value_list_tokens (iters_of c.args.iterators.now) c.args.items.now rest)))))))
