@@ -122,7 +122,12 @@ fn filled(alloc: Global, len: usize, outcome: Outcome) -> Result<Column> {
 }
 
 /// An operation on two columns.
-pub fn operated(alloc: Global, op: BinaryOperator, left: &Column, right: &Column) -> Result<Column> {
+pub fn operated(
+    alloc: Global,
+    op: BinaryOperator,
+    left: &Column,
+    right: &Column,
+) -> Result<Column> {
     let mut out = Column::new(alloc)?;
     if left.len() != right.len() {
         bail!("columns of two lengths");

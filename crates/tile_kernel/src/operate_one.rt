@@ -60,7 +60,9 @@ fn try_one(op: UnaryOperator, len: usize, operand: &Each<'_>, out: &mut [i64]) -
         UnaryOperator::Negate => try_places::<Negative, Each<'_>, Same>(len, operand, &none, out),
         UnaryOperator::Plus => try_places::<Itself, Each<'_>, Same>(len, operand, &none, out),
         UnaryOperator::Not => try_places::<Opposite, Each<'_>, Same>(len, operand, &none, out),
-        UnaryOperator::Absolute => try_places::<Magnitude, Each<'_>, Same>(len, operand, &none, out),
+        UnaryOperator::Absolute => try_places::<Magnitude, Each<'_>, Same>(
+            len, operand, &none, out,
+        ),
     }
 }
 

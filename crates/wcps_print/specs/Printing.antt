@@ -72,7 +72,7 @@ reduce_token aggregates.Any = word words.Some
 reduce_token aggregates.Count = word words.Count
 reduce_token aggregates.Average = word words.Avg
 
--- what a condenser joins its values by; so it is for a count and an average
+-- what a condenser joins its values by; a count and an average have no token there, so any one serves
 abbrev pub condense_token : Aggregate → Tok
 condense_token aggregates.Sum = sign signs.Plus
 condense_token aggregates.Product = sign signs.Star

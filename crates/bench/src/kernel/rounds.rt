@@ -30,7 +30,13 @@ fn picked(column: &Column, round: u32) -> i64 {
     0
 }
 
-fn operated(op: BinaryOperator, left: &Column, right: &Column, out: &mut Column, rounds: u32) -> i64 {
+fn operated(
+    op: BinaryOperator,
+    left: &Column,
+    right: &Column,
+    out: &mut Column,
+    rounds: u32,
+) -> i64 {
     let mut sum: i64 = 0;
     for round in 0..rounds {
         if left.len() == right.len() {
