@@ -19,7 +19,6 @@ use Rattle.wcps_mean.specs.declared.cell.Outcome.{Outcome}
 use Rattle.wcps_mean.specs.declared.item.Item.{Item}
 use Rattle.wcps_mean.specs.Cells.{operate1, operate2, at_position, is_true}
 use Rattle.wcps_mean.specs.Condensers.{condensed, demanded}
-use Rattle.wcps_mean.specs.Aggregates.{of_condenser, of_reduction}
 use Rattle.wcps_mean.specs.Meaning.{val}
 use Rattle.wcps_mean.specs.Answer.{then_of, given, joined, cell_of, line_of, field_count, cells_at, item_cells, item_answer, chosen, combination_answer}
 use Rattle.plan_ir.specs.declared.body.Index.{Index}
@@ -61,12 +60,12 @@ val-over (slice e axis lo hi i) ks s env p =
     ∙ position-same (val s (renamed ks i) env []) lo hi _ _ (λ z above below. val-over e ks s env (insert p axis z))
 val-over (array e) ks s env p = val-over e ks s (env ++ p) []
 val-over (listed box items) ks s env p = refl
-val-over (condense op box e) ks s env p = ap (condensed (of_condenser op)) (map-each _ _ (points box) (λ x. val-over e ks s (env ++ x) []))
+val-over (condense op box e) ks s env p = ap (condensed op) (map-each _ _ (points box) (λ x. val-over e ks s (env ++ x) []))
 val-over (condense_where op box c e) ks s env p =
-    ap (condensed (of_condenser op)) (flat-each _ _ (points box) (λ x.
+    ap (condensed op) (flat-each _ _ (points box) (λ x.
     ap (λ o. demanded o (val (cells_of s ks) e (env ++ x) [])) (val-over c ks s (env ++ x) [])
     ∙ ap (demanded (val s (renamed ks c) (env ++ x) [])) (val-over e ks s (env ++ x) [])))
-val-over (reduce op box e) ks s env p = ap (condensed (of_reduction op)) (map-each _ _ (points box) (λ x. val-over e ks s env x))
+val-over (reduce op box e) ks s env p = ap (condensed op) (map-each _ _ (points box) (λ x. val-over e ks s env x))
 
 abbrev cell_in : (ℕ → ℕ → List ℤ → ℤ) → List ℤ → FieldTree → Result (List Cell) PointFault
 cell_in s p f = given (λ z. cell_of f.boolean z ∷ []) (val s f.tree [] p)

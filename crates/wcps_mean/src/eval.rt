@@ -9,13 +9,13 @@ ghost use Rattle.wcps_mean.specs.Meaning.{val};
 ghost use Rattle.wcps_mean.specs.Reports.{Reports};
 ghost use Rattle.wcps_types.specs.Typed.{field_tree, only_tree};
 
-use crate::aggregate::{Aggregate, of_condenser, of_reduction};
 use crate::cell::{Outcome, PointFault, operate, operate_both};
 use crate::cells::{CellError, Cells};
 use crate::points::{place_of, push_point};
 use crate::running::Running;
 use arr_core::Domain;
 use std::alloc::AllocError;
+use wcps_text::Aggregate;
 use wcps_types::Node;
 
 /// The outcome of one field of a node at the point that stands in `points` from `base` on, its iterators bound to `env`.
@@ -87,7 +87,7 @@ pub(crate) fn eval<C: Cells>(
             Ok(Outcome::Value(item_at(items, place)))
         }
         Node::Condense { op, domain, body } => {
-            let o = condense(cells, body, of_condenser(*op), domain, env, points)?;
+            let o = condense(cells, body, *op, domain, env, points)?;
             Ok(o)
         }
         Node::CondenseWhere {
@@ -96,7 +96,7 @@ pub(crate) fn eval<C: Cells>(
             condition,
             body,
         } => {
-            let mut running = Running::new(of_condenser(*op));
+            let mut running = Running::new(*op);
             let depth = env.len();
             let top = points.len();
             for place in 0..domain.points() {
@@ -111,7 +111,7 @@ pub(crate) fn eval<C: Cells>(
             Ok(running.finish())
         }
         Node::Reduce { op, domain, body } => {
-            let o = reduce(cells, body, of_reduction(*op), domain, env, points)?;
+            let o = reduce(cells, body, *op, domain, env, points)?;
             Ok(o)
         }
     }

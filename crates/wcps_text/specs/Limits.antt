@@ -39,7 +39,6 @@ abbrev mutual
   height (tree.variable x) = 1
   height (tree.unary op e) = height e + 1
   height (tree.binary op a b) = max (height a) (height b) + 1
-  height (tree.bit a b) = max (height a) (height b) + 1
   height (tree.reduce op e) = height e + 1
   height (tree.parts ps) = parts_height ps + 1
   height (tree.value_list is xs) = iters_height is + 1

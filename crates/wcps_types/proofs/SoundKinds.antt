@@ -15,7 +15,7 @@ use Rattle.wcps_types.specs.Typing.{some_condition, closed_on, array_of, conditi
 use Rattle.wcps_types.specs.Queries.{field_of_slot, item_of, plain_item, typ_item, combined, typ_combination, typ_each}
 use Rattle.wcps_types.specs.Kinds.{HasKind, FieldsHaveKinds, ConditionIsBoolean, CombinationHasKinds, HaveKinds}
 use Rattle.wcps_types.proofs.Gives.{Gives, gives-then, gives-cond, gives-any}
-use Rattle.wcps_types.proofs.KindForms.{SlotsHaveKinds, ShapeHasKinds, FieldHasKind, ScalarHasKind, variable-kinds, truth-kind, field-kind, scalar-kind, selected-kinds, unary-kinds, binary-kinds, bit-kinds, reduction-kinds, condensed-kinds, condition-kind, list-kinds, RecordHasKinds, part-kinds, finished-kinds, BracketHasKinds, cuts-last, trim-kinds, position-kind, closed-kinds}
+use Rattle.wcps_types.proofs.KindForms.{SlotsHaveKinds, ShapeHasKinds, FieldHasKind, ScalarHasKind, variable-kinds, truth-kind, field-kind, scalar-kind, selected-kinds, unary-kinds, binary-kinds, reduction-kinds, condensed-kinds, condition-kind, list-kinds, RecordHasKinds, part-kinds, finished-kinds, BracketHasKinds, cuts-last, trim-kinds, position-kind, closed-kinds}
 
 where-boolean : (cs : List Signature) (s : ShapeTree) → ShapeHasKinds cs s → Gives (ConditionIsBoolean cs) (condition_tree s)
 where-boolean cs s h =
@@ -35,9 +35,6 @@ mutual
   typ-kinds cs bound scope (tree.binary op l r) =
       gives-then (ShapeHasKinds cs) (ShapeHasKinds cs) (typ cs bound scope l) _ (typ-kinds cs bound scope l)
       (λ s h. gives-then (ShapeHasKinds cs) (ShapeHasKinds cs) (typ cs bound scope r) _ (typ-kinds cs bound scope r) (λ t k. binary-kinds cs op s t h k))
-  typ-kinds cs bound scope (tree.bit l r) =
-      gives-then (ShapeHasKinds cs) (ShapeHasKinds cs) (typ cs bound scope l) _ (typ-kinds cs bound scope l)
-      (λ s h. gives-then (ShapeHasKinds cs) (ShapeHasKinds cs) (typ cs bound scope r) _ (typ-kinds cs bound scope r) (λ t k. bit-kinds cs s t h k))
   typ-kinds cs bound scope (tree.reduce op e) =
       gives-then (ShapeHasKinds cs) (ShapeHasKinds cs) (typ cs bound scope e) _ (typ-kinds cs bound scope e) (λ s h. reduction-kinds cs op s h)
   typ-kinds cs bound scope (tree.parts ps) = parts-kinds cs bound scope no_pieces tt ps

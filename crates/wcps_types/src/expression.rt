@@ -21,7 +21,7 @@ use crate::brackets::{
     written_bounds,
 };
 use crate::names::{Bound, axis_place};
-use crate::operators::{binary, bit, reduction, selected, unary};
+use crate::operators::{binary, reduction, selected, unary};
 use crate::records::{Pieces, finished, is_part, with_part};
 use crate::refusal::{CheckError, TypeRefusal};
 use crate::shape::{Shape, only_field, only_scalar, unnamed_scalar};
@@ -54,11 +54,6 @@ pub fn expression(
             let l = expression(alloc, coverages, bound, scope, l)?;
             let r = expression(alloc, coverages, bound, scope, r)?;
             binary(alloc, *op, l, r)
-        }
-        Expr::Bit(value, place) => {
-            let value = expression(alloc, coverages, bound, scope, value)?;
-            let place = expression(alloc, coverages, bound, scope, place)?;
-            bit(alloc, value, place)
         }
         Expr::Reduce(op, a) => {
             let a = expression(alloc, coverages, bound, scope, a)?;

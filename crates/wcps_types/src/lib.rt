@@ -28,6 +28,4 @@ pub use query::check;
 pub use refusal::{CheckError, TypeRefusal};
 pub use shared::{SharedCombination, SharedQuery};
 pub use shared_query::check_shared;
-pub use typed::{
-    Combination, Condenser, Node, Operation1, Operation2, Reduction, TypedItem, TypedQuery,
-};
+pub use typed::{Combination, Node, TypedItem, TypedQuery};

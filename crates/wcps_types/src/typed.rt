@@ -12,57 +12,7 @@ ghost use Rattle.wcps_types.specs.Kinds.{HaveKinds};
 ghost use Rattle.wcps_types.specs.KindsOnce.{HaveKinds-prop};
 
 use arr_core::{Domain, Signature};
-
-/// An operation on one value.
-#[derive(Clone, Copy, PartialEq, Eq, Debug)]
-pub enum Operation1 {
-    Negate,
-    Plus,
-    Not,
-    Absolute,
-}
-
-/// An operation on two values. `Bit` is the bit of the left operand whose number is the right one.
-#[derive(Clone, Copy, PartialEq, Eq, Debug)]
-pub enum Operation2 {
-    Multiply,
-    Divide,
-    Add,
-    Subtract,
-    Less,
-    LessEqual,
-    Greater,
-    GreaterEqual,
-    Equal,
-    NotEqual,
-    And,
-    Or,
-    Xor,
-    Bit,
-}
-
-/// What a condenser makes of the values of its box.
-#[derive(Clone, Copy, PartialEq, Eq, Debug)]
-pub enum Condenser {
-    Add,
-    Multiply,
-    Max,
-    Min,
-    And,
-    Or,
-}
-
-/// What a reduction makes of the values of a coverage.
-#[derive(Clone, Copy, PartialEq, Eq, Debug)]
-pub enum Reduction {
-    Count,
-    Some,
-    All,
-    Add,
-    Avg,
-    Min,
-    Max,
-}
+use wcps_text::{Aggregate, BinaryOperator, UnaryOperator};
 
 /// What gives the fields of a value at each point of its domain, under the iterators in scope. Which field is meant is
 /// told where a node is asked for; all but `Coverage`, `Record`, `Bracket` and `Slice` have one, whose place is 0.
@@ -75,9 +25,9 @@ pub enum Node {
     /// The cell at the point, of each field of the coverage at that place.
     Coverage(usize),
     /// An operation on the operand at the point.
-    Unary(Operation1, Box<Node>),
+    Unary(UnaryOperator, Box<Node>),
     /// An operation on both operands at the point, the left one first.
-    Binary(Operation2, Box<Node>, Box<Node>),
+    Binary(BinaryOperator, Box<Node>, Box<Node>),
     /// A scalar beside a value with axes: taken at the empty point.
     Scalar(Box<Node>),
     /// `{a: e; ..}`: a field for each part, which is the only field of that part at the point.
@@ -106,20 +56,20 @@ pub enum Node {
     },
     /// `condense .. using body`: of a scalar over the points of a box, whose coordinates are further iterators in it.
     Condense {
-        op: Condenser,
+        op: Aggregate,
         domain: Domain,
         body: Box<Node>,
     },
     /// `condense .. where condition using body`: the same of the points where the condition is true, a scalar too.
     CondenseWhere {
-        op: Condenser,
+        op: Aggregate,
         domain: Domain,
         condition: Box<Node>,
         body: Box<Node>,
     },
     /// `add` and its kin: of the values of `body` at all points of its domain.
     Reduce {
-        op: Reduction,
+        op: Aggregate,
         domain: Domain,
         body: Box<Node>,
     },

@@ -9,7 +9,6 @@ use Rattle.wcps_types.specs.Typed.{number, field_tree, only_tree}
 use Rattle.wcps_types.proofs.Fields.{record_part, record_none}
 use Rattle.wcps_mean.specs.declared.running.Running.{Running}
 use Rattle.wcps_mean.specs.declared.cell.Outcome.{Outcome}
-use Rattle.wcps_mean.specs.Aggregates.{of_condenser, of_reduction}
 use Rattle.wcps_mean.specs.Condensers.{condensed, demanded}
 use Rattle.wcps_mean.specs.Feeding.{Fed}
 use Rattle.wcps_mean.specs.Meaning.{val}
@@ -112,8 +111,7 @@ eval-returns-in_ok-o-in-Condense-clause-value g t c h =
     let s = g.C.Cells.cells c.args.cells.now in
     let env = c.args.env.now.items in
     c.in_ok-o-in-Condense.ensures.value h
-    ∙ ap (λ op. condensed op (map (λ x. val s (only_tree c.deref-in-Condense.result.now) (env ++ x) []) (points c.in-Condense.domain))) c.of_condenser.ensures
-    ∙ ap (λ b. condensed (of_condenser c.in-Condense.op) (map (λ x. val s (only_tree b) (env ++ x) []) (points c.in-Condense.domain))) c.deref-in-Condense.ensures
+    ∙ ap (λ b. condensed c.in-Condense.op (map (λ x. val s (only_tree b) (env ++ x) []) (points c.in-Condense.domain))) c.deref-in-Condense.ensures
     ∙ ap (λ (b : Node). val s (field_tree b c.args.field) env (drop c.args.base c.args.points.now.items)) (sym c.in-Condense.is)
 
 pub eval-returns-in_ok-o-in-Reduce-clause-value : goal.eval-returns-in_ok-o-in-Reduce-clause-value
@@ -121,8 +119,7 @@ eval-returns-in_ok-o-in-Reduce-clause-value g t c h =
     let s = g.C.Cells.cells c.args.cells.now in
     let env = c.args.env.now.items in
     c.in_ok-o-in-Reduce.ensures.value h
-    ∙ ap (λ op. condensed op (map (λ x. val s (only_tree c.deref-in-Reduce.result.now) env x) (points c.in-Reduce.domain))) c.of_reduction.ensures
-    ∙ ap (λ b. condensed (of_reduction c.in-Reduce.op) (map (λ x. val s (only_tree b) env x) (points c.in-Reduce.domain))) c.deref-in-Reduce.ensures
+    ∙ ap (λ b. condensed c.in-Reduce.op (map (λ x. val s (only_tree b) env x) (points c.in-Reduce.domain))) c.deref-in-Reduce.ensures
     ∙ ap (λ (b : Node). val s (field_tree b c.args.field) env (drop c.args.base c.args.points.now.items)) (sym c.in-Reduce.is)
 
 pub eval-returns-after-loop-place-clause-value : goal.eval-returns-after-loop-place-clause-value
@@ -134,7 +131,7 @@ eval-returns-after-loop-place-clause-value g t c h =
     let f : List ℤ → List Outcome = λ x. demanded (val s (only_tree c.in-CondenseWhere.condition.value) (env ++ x) []) (val s (only_tree c.in-CondenseWhere.body.value) (env ++ x) []) in
     let all : take c.loop-place.place box ≡ box = take-whole _ box (omega (arith, c.points-place-end.ensures.value)) in
     c.finish.ensures (flat_map f box) (subst (λ ps. Fed c.loop-place.running (flat_map f ps)) all (inv.fed h))
-    ∙ ap (λ op. condensed op (flat_map f box)) (inv.op ∙ c.new-running.ensures.op ∙ c.of_condenser-in-CondenseWhere.ensures)
+    ∙ ap (λ op. condensed op (flat_map f box)) (inv.op ∙ c.new-running.ensures.op)
     ∙ ap (λ (b : Node). val s (field_tree b c.args.field) env (drop c.args.base c.args.points.now.items)) (sym c.in-CondenseWhere.is)
 
 pub eval-loop-place-preserved : goal.eval-loop-place-preserved
