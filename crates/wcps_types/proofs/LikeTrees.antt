@@ -50,10 +50,6 @@ has-inside cs q variables places (t ∷ trees) (suc k) h = omega (arith, has-ins
 pub made_inside : (cs : List Signature) (q : QueryTree) (variables : List Bound) (trees : List Tree) (c : Combination) → HasTree cs q variables c.coverages.items (slice_get trees c.tree) → c.tree < length trees
 made_inside cs q variables trees c h = has-inside cs q variables c.coverages.items trees c.tree h
 
-at-itself : (o : Option Signature) (s : Signature) → o ≡ Some s → AlikeAt o o
-at-itself None s e = absurd (cc)
-at-itself (Some t) s e = (refl, refl)
-
 there-at : (cs : List Signature) (k : ℕ) → k < length cs → AlikeAt (slice_get cs k) (slice_get cs k)
 there-at [] k h = absurd (omega (arith, h))
 there-at (s ∷ cs) zero h = (refl, refl)
@@ -140,9 +136,3 @@ pub says-made : (a : Answer CombinationTree) (r : Result Tree CheckError) → Sa
 says-made a (Ok t) e = e
 says-made a (Err (Refused f)) e = tt
 says-made a (Err NoMemory) e = tt
-
--- nothing is past the last one
-pub none-past : {X : Type 0} (cs : List X) (k : ℕ) → length cs ≤ k → slice_get cs k ≡ None
-none-past [] k h = refl
-none-past (s ∷ cs) zero h = absurd (omega (arith, h))
-none-past (s ∷ cs) (suc k) h = none-past cs k (omega (arith, h))
