@@ -1,9 +1,13 @@
 -- What the header of a content says of its opening.
 use Rattle.std.proofs.Common.{◌≡◌, ◌≢◌, ℕ, ◌*◌, ◌/◌, ◌<◌, ◌≤◌, List, length, get_or, arith, ap, sym, ◌∙◌, zero-add}
 use Rattle.disk_face.specs.Disk.{Holds}
+use Rattle.block_file.specs.declared.fault.OpenFault.{OpenFault}
+use Rattle.block_file.specs.declared.fault.OpenFault.TheVariants.{NoMemory, DiskFault, Damaged, NotAStore, NotClosed}
 use Rattle.block_file.specs.declared.header.State.TheVariants.{Closed}
-use Rattle.block_file.specs.Blocks.{block_at}
+use Rattle.block_file.specs.State.{block_at}
 use Rattle.block_file.specs.Format.{number_at, IsStoreFile, IsHeader, IsChain, IsClosed, IsDamaged}
+use Rattle.block_file.specs.View.{IsRefused}
+use Rattle.block_file.specs.Links.{IsNoHeader}
 use Rattle.block_file.proofs.Headers.{header_in, store_in}
 use Rattle.block_file.proofs.Numbers.{same_number}
 
@@ -70,3 +74,11 @@ closed_file content metadata blocks first size header whole few same chain =
       few = omega arith;
       chain = rw header.first chain;
     }
+
+-- why a header is refused, by the bytes that were read of it
+pub refused_header : (fault : OpenFault) (content bytes : List ℕ) → length bytes ≡ 4096 → Holds content 0 bytes → IsNoHeader fault bytes → IsRefused fault content
+refused_header NoMemory content bytes len holds why = absurd why
+refused_header DiskFault content bytes len holds why = absurd why
+refused_header NotAStore content bytes len holds why = (let long = long_enough content bytes len holds in omega arith, λ store. why (bytes_store content bytes len holds store))
+refused_header NotClosed content bytes len holds why = (content_store content bytes len holds why.0, content_state content bytes len holds ∙ why.1)
+refused_header Damaged content bytes len holds why = damaged_header content bytes len holds why.0 why.1 why.2

@@ -8,7 +8,8 @@ use Rattle.std.proofs.lemmas.Bool.{eqb-true, ne_eqb}
 use Rattle.std.proofs.lemmas.Bool.Decides.{eqb_tells}
 use Rattle.std.proofs.lemmas.Map.{lookup-remove_entry, lookup-set_value}
 use Rattle.lru.specs.LruCache.{LruCache, lru_cache, promoted, put_entries}
-use Rattle.block_file.specs.Blocks.{block_at, OthersKept}
+use Rattle.block_file.specs.State.{block_at}
+use Rattle.block_file.specs.Words.{OthersKept}
 use Rattle.page_pool.specs.Pages.{page_of, SamePages, NoneAdded, Forgets, Renews, ArePages}
 
 same_test : (k x y : ℕ) → nat_eq k x ≡ true → nat_eq k y ≡ nat_eq x y
