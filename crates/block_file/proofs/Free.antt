@@ -1,7 +1,7 @@
 -- How many blocks are free.
-use Rattle.std.proofs.Common.{◌≡◌, ◌≢◌, ℕ, ◌+◌, ◌-◌, ◌<◌, ◌≤◌, inl, inr, zero, suc, List, [], ◌∷◌, length, arith, refl, add-one}
+use Rattle.std.proofs.Common.{◌≡◌, ◌≢◌, ℕ, ◌+◌, ◌-◌, ◌<◌, ◌≤◌, inl, inr, zero, suc, List, [], ◌∷◌, length, arith, refl}
 use Rattle.std.proofs.lemmas.Bool.{cases_eq}
-use Rattle.block_file.specs.State.{BlocksState, IsFree, free_up_to, free_of, one, times, none}
+use Rattle.block_file.specs.State.{BlocksState, free_up_to, free_of, one, times, none}
 use Rattle.block_file.specs.Words.{Recounts, AreLowestFree}
 use Rattle.block_file.proofs.Times.{one_same, one_other, times_none, times-cons}
 
@@ -12,9 +12,6 @@ free_none uses = refl
 pub free-suc : (n : ℕ) (uses : ℕ → ℕ) → free_up_to (suc n) uses ≡ free_up_to n uses + (1 - uses (suc n))
 unfolding free_up_to
 free-suc n uses = refl
-
-pub free_more : (n : ℕ) (uses : ℕ → ℕ) → free_up_to (n + 1) uses ≡ free_up_to n uses + (1 - uses (n + 1))
-free_more n uses = rw add-one (free-suc n uses)
 
 pub free_le : (n : ℕ) (uses : ℕ → ℕ) → free_up_to n uses ≤ n
 free_le zero uses = omega (arith, free_none uses)

@@ -4,12 +4,11 @@ use Rattle.std.proofs.lemmas.Grind.{common_steps, elements, same_number_lists}
 use Rattle.std.proofs.lemmas.Bool.Decides.{nat_tests}
 use Rattle.std.proofs.lemmas.Bool.{cases_eq, cases_lt}
 use Rattle.std.proofs.lemmas.List.{get_or_past, get_or-set_same, get_or-set_other, length-replicate}
-use Rattle.block_file.specs.State.{BlocksState, free_up_to, one, times}
-use Rattle.block_file.specs.Words.{AreLowestFree}
+use Rattle.block_file.specs.State.{free_up_to, one, times}
 use Rattle.block_file.specs.Uses.{use_count, uses_of, IsFresh, AreMarks, TakesLowest, CanClaim, Claims}
 use Rattle.block_file.proofs.Free.{free_none, free_same, free_less, free_past, free_zero, free_listed, free-suc, free_le}
 use Rattle.block_file.proofs.Numbers.{get_or-zeros}
-use Rattle.block_file.proofs.Times.{one_same, one_other, one_is, times_none, times_push, times_more, times_before, times_at}
+use Rattle.block_file.proofs.Times.{one_same, one_other, times_none, times_push, times_more, times_before}
 
 reads_within : (xs : List ℕ) (k : ℕ) → 0 < get_or xs k 0 → k < length xs
 reads_within xs k h = grind (arith, get_or_past)
@@ -307,16 +306,6 @@ taken_marks n free lowest next ks old new is t above within used =
       used = used;
     }
 
--- one use is given up
-pub lowered-at : (marks : List ℕ) (k j : ℕ) → 0 < uses_of marks k → get_or (set marks k (get_or marks k 0 - 1)) j 0 + one k j ≡ get_or marks j 0
-lowered-at marks k j h =
-    let is = is_used marks k h in
-    let plain = is.plain in
-    elim (cases_eq k j) [
-      | inl e ↦ rw (← e) (omega (arith, get_or-set_same marks k (get_or marks k 0 - 1) 0 is.inside, one_same k))
-      | inr ne ↦ omega (arith, get_or-set_other marks k j (get_or marks k 0 - 1) 0 (omega arith), one_other k j ne)
-    ]
-
 lowered_other : (marks : List ℕ) (k m j : ℕ) → j ≢ k → uses_of (set marks k m) j ≡ uses_of marks j
 lowered_other marks k m j ne = uses_same marks (set marks k m) j (get_or-set_other marks k j m 0 ne)
 
@@ -405,13 +394,6 @@ given_uses old new ks covers given k = elim (cases_eq (times ks k) 0) [
       omega (arith, uses-at new k u.above_zero, plain, u.plain, given k)
 ]
 
--- a block that has no mark is claimed
-pub claimed-at : (marks : List ℕ) (k j : ℕ) → k < length marks → get_or marks k 0 ≡ 0 → get_or (set marks k 1) j 0 ≡ get_or marks j 0 + one k j
-claimed-at marks k j inside none = elim (cases_eq k j) [
-  | inl e ↦ rw (← e) (omega (arith, get_or-set_same marks k 1 0 inside, one_same k))
-  | inr ne ↦ omega (arith, get_or-set_other marks k j 1 0 (omega arith), one_other k j ne)
-]
-
 pub claimed_marks : (marks : List ℕ) (free lowest k : ℕ) → AreMarks marks free lowest → k < length marks → get_or marks k 0 ≡ 0 → (0 < free) × AreMarks (set marks k 1) (free - 1) lowest
 claimed_marks marks free lowest k is inside none =
     let above = above_zero marks free lowest k is none in
@@ -497,17 +479,3 @@ claimed_covers ks old now c k = omega (arith, claimed_uses ks old now c k)
 
 pub unclaimed : (ks old now new : List ℕ) → Claims ks old now → length new ≡ length now → ((k : ℕ) → get_or new k 0 + times ks k ≡ get_or now k 0) → new ≡ old
 unclaimed ks old now new c len given = same_number_lists new old (len ∙ c.blocks) (λ i lt. omega (arith, given i, c.marks i))
-
--- blocks that were taken are the lowest free ones of a file
-pub lowest_taken : (n : ℕ) (ks old marks new : List ℕ) (s : BlocksState) → s.uses ≡ uses_of old → s.size ≡ 1048576 → length marks ≤ 1048576 → ((k : ℕ) → uses_of marks k ≡ uses_of old k)
-    → TakesLowest n ks marks new → AreLowestFree n ks s
-lowest_taken n ks old marks new s uses size few same t = record {
-  count = t.count;
-  once = t.once;
-  free = λ k h. let at = t.inside k h in record {
-    above_zero = at.0;
-    within = let lt = at.1 in omega arith;
-    unused = rw uses (sym (same k) ∙ t.free k h);
-  };
-  lowest = λ k j h free none. t.lowest k j h free.above_zero (same j ∙ rw uses at free.unused) none;
-}
