@@ -1,14 +1,11 @@
 -- A chain of blocks that is followed.
-use Rattle.std.proofs.Common.{◌≡◌, ◌≢◌, ℕ, suc, ◌+◌, ◌-◌, ◌*◌, ◌/◌, ◌%◌, ◌<◌, ◌≤◌, ◌⊎◌, inl, inr, List, ◌++◌, length, length-append, get_or, set, arith, refl, ap, sym, ◌∙◌}
+use Rattle.std.proofs.Common.{◌≡◌, ◌≢◌, ℕ, suc, ◌+◌, ◌-◌, ◌*◌, ◌/◌, ◌%◌, ◌<◌, ◌≤◌, ◌⊎◌, inl, inr, List, length, get_or, set, arith, refl, ap, sym, ◌∙◌}
 use Rattle.std.proofs.lemmas.Bool.{cases_lt}
-use Rattle.std.proofs.lemmas.List.{get_or-set_same, get_or-set_other, get_or-append-add}
-use Rattle.std.proofs.Math.ListN.{get_or-append}
-use borrow.Rule.Slice.PartMut.{mid_of}
+use Rattle.std.proofs.lemmas.List.{get_or-set_same, get_or-set_other}
 use Rattle.block_file.specs.State.{block_at}
-use Rattle.block_file.specs.Format.{number_at, next_of, link, chain_blocks, IsChain}
+use Rattle.block_file.specs.Format.{next_of, link, chain_blocks, IsChain}
 use Rattle.block_file.specs.Links.{AddsLink}
 use Rattle.block_file.proofs.Places.{whole_inside}
-use Rattle.block_file.proofs.Numbers.{byte-mid, length-mid}
 
 link-next : (block : ℕ → List ℕ) (first n : ℕ) → link block first (n + 1) ≡ next_of block (link block first n)
 unfolding link
@@ -93,15 +90,3 @@ refuted content first n k marks metadata chained len refused more so_far chain =
     refused (omega arith) (so_far.others k (omega arith) (λ i lt e.
     let same = chain.distinct i n (omega arith) more (e ∙ at) in
     omega arith))
-
-mid_added : (m part j : ℕ) (bytes old : List ℕ) → m ≡ part → part ≤ 4092 → length bytes ≡ 4096 → j < part → get_or (old ++ mid_of 4 m bytes) (length old + j) 0 ≡ get_or bytes (4 + j) 0
-mid_added m part j bytes old e most len lt = get_or-append-add old (mid_of 4 m bytes) j 0 ∙ byte-mid 4 m j bytes (omega arith)
-
--- a part of a block was added
-pub link_added : (bytes old : List ℕ) (m part following : ℕ) → m ≡ part → part ≤ 4092 → length bytes ≡ 4096 → following ≡ number_at 0 4 bytes → AddsLink bytes following part old (old ++ mid_of 4 m bytes)
-link_added bytes old m part following e most len next = record {
-  next = next;
-  size = omega (arith, length-append old (mid_of 4 m bytes), length-mid 4 m bytes (omega arith));
-  kept = λ j lt. get_or-append old (mid_of 4 m bytes) 0 j lt;
-  added = λ j lt. mid_added m part j bytes old e most len lt;
-}

@@ -129,9 +129,3 @@ pub header_written : (state : State) (blocks first size : ℕ) (bytes old mid mi
     → IsHeader bytes state blocks first size → Written 0 bytes mid' after → new ≡ after → HeaderWritten state first size old new
 header_written state blocks first size bytes old mid mid' after new most extends filled same len header done is =
     rw is (header_done state blocks first size bytes old mid after most extends filled len header (rw same at done))
-
--- the file still has no bytes past its last block
-pub within_torn : (n : ℕ) (old mid mid' after marks : List ℕ) → n ≡ 4096 → 0 < length marks → length old ≤ 4096 * length marks → Extends old mid → mid' ≡ mid → Torn 0 n mid' after → length after ≤ 4096 * length marks
-within_torn n old mid mid' after marks e some most extends same torn =
-    let torn' : Torn 0 n mid after = rw (← same) torn in
-    omega (arith, extends.no_longer, torn'.no_longer)
