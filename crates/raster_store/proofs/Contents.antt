@@ -7,33 +7,34 @@ use Rattle.arr_core.specs.declared.field.Field.{Field}
 use Rattle.arr_core.specs.Domains.{points}
 use Rattle.arr_core.specs.Stores.{Coverage, updated_values, updated_coverage}
 use Rattle.arr_core.specs.Tiles.{tile_boxes}
-use Rattle.block_file.specs.Blocks.{block_at}
-use Rattle.tile_store.specs.Stored.{field_values, IsSpelled, IsBelow, KeepsListed}
+use Rattle.block_file.specs.State.{block_at}
+use Rattle.tile_store.specs.Listing.{IsBelow}
+use Rattle.tile_store.specs.Stored.{field_values, IsSpelled, KeepsListed}
 use Rattle.tile_store.proofs.Kept.{values_kept, spelled_kept, values_of_none, spelled_of_none}
 use Rattle.raster_store.specs.declared.held.Held.{Held}
-use Rattle.raster_store.specs.Views.{Index, values_in, FieldsIntact, AreIntact, AreBelow, times_fields, times_all}
+use Rattle.raster_store.specs.Views.{Index, values_in, FieldsIntact, AreIntact, AreBelow, listed_fields, listed_all}
 use Rattle.raster_store.specs.Holding.{coverages_of, coverage_of, indexes_of}
-use Rattle.raster_store.proofs.Totals.{times_fields-cons, times_all-cons}
+use Rattle.raster_store.proofs.Totals.{listed_fields-cons, listed_all-cons}
 
 -- the listed blocks of fields hold what they held
 abbrev pub KeepsFields : List Index → List ℕ → List ℕ → Type 0
-KeepsFields indexes old new = (k : ℕ) → 0 < times_fields k indexes → block_at new k ≡ block_at old k
+KeepsFields indexes old new = (k : ℕ) → 0 < listed_fields indexes k → block_at new k ≡ block_at old k
 
 -- the listed blocks of a store hold what they held
 abbrev pub KeepsAll : List (List Index) → List ℕ → List ℕ → Type 0
-KeepsAll indexes old new = (k : ℕ) → 0 < times_all k indexes → block_at new k ≡ block_at old k
+KeepsAll indexes old new = (k : ℕ) → 0 < listed_all indexes k → block_at new k ≡ block_at old k
 
 first_kept : (old new : List ℕ) (i : Index) (indexes : List Index) → KeepsFields (i ∷ indexes) old new → KeepsListed i old new
-first_kept old new i indexes kept k h = kept k (omega (arith, h, times_fields-cons k i indexes))
+first_kept old new i indexes kept k h = kept k (omega (arith, h, listed_fields-cons k i indexes))
 
 rest_kept : (old new : List ℕ) (i : Index) (indexes : List Index) → KeepsFields (i ∷ indexes) old new → KeepsFields indexes old new
-rest_kept old new i indexes kept k h = kept k (omega (arith, h, times_fields-cons k i indexes))
+rest_kept old new i indexes kept k h = kept k (omega (arith, h, listed_fields-cons k i indexes))
 
 first_all_kept : (old new : List ℕ) (i : List Index) (indexes : List (List Index)) → KeepsAll (i ∷ indexes) old new → KeepsFields i old new
-first_all_kept old new i indexes kept k h = kept k (omega (arith, h, times_all-cons k i indexes))
+first_all_kept old new i indexes kept k h = kept k (omega (arith, h, listed_all-cons k i indexes))
 
 rest_all_kept : (old new : List ℕ) (i : List Index) (indexes : List (List Index)) → KeepsAll (i ∷ indexes) old new → KeepsAll indexes old new
-rest_all_kept old new i indexes kept k h = kept k (omega (arith, h, times_all-cons k i indexes))
+rest_all_kept old new i indexes kept k h = kept k (omega (arith, h, listed_all-cons k i indexes))
 
 values_in_kept : (old new : List ℕ) (domain : List Axis) (fields : List Field) (indexes : List Index) → KeepsFields indexes old new → values_in new domain fields indexes ≡ values_in old domain fields indexes
 values_in_kept old new domain [] indexes kept = refl
