@@ -1,6 +1,11 @@
 pub mod Options
-pub mod Places
 pub mod Totals
 pub mod Contents
+pub mod Places
+pub mod Readings
+pub mod Known
+mod Fetched
+pub mod Writes
+mod Changed
 pub mod CellKinds
 mod KeptTiles

@@ -25,6 +25,10 @@ sum-set F (g ∷ held) zero new d h = omega (arith, sum_by-cons F new.fields.ite
 sum-set F (g ∷ held) (suc i) new d h =
     omega (arith, sum_by-cons F g.fields.items (indexes_of (set held i new)), sum_by-cons F g.fields.items (indexes_of held), sum-set F held i new d (omega (arith, h)))
 
+-- one of the coverages in a sum
+pub sum-at : (F : List Index → ℕ) (held : List Held) (i : ℕ) (d : Held) → i < length held → F (get_or held i d).fields.items ≤ sum_by F (indexes_of held)
+sum-at F held i d h = omega (arith, sum-remove F held i d h)
+
 -- how often the fields of a coverage list a block
 pub listed_none : (k : ℕ) → listed [] k ≡ 0
 unfolding listed
@@ -41,6 +45,11 @@ listed_fields-cons k i fields = sum_by-cons (λ (j : Index). listed j k) i field
 pub listed_fields-set : (k : ℕ) (fields : List Index) (j : ℕ) (new : Index) → j < length fields → listed_fields (set fields j new) k + listed (get_or fields j []) k ≡ listed_fields fields k + listed new k
 unfolding listed_fields
 listed_fields-set k fields j new h = sum_by-set (λ (i : Index). listed i k) fields j new [] h
+
+pub listed_fields-remove : (k : ℕ) (fields : List Index) (j : ℕ) → j < length fields → listed_fields (remove fields j) k + listed (get_or fields j []) k ≡ listed_fields fields k
+listed_fields-remove k [] j h = absurd (omega arith)
+listed_fields-remove k (i ∷ fields) zero h = omega (arith, listed_fields-cons k i fields)
+listed_fields-remove k (i ∷ fields) (suc j) h = omega (arith, listed_fields-cons k i fields, listed_fields-cons k i (remove fields j), listed_fields-remove k fields j (omega (arith, h)))
 
 pub listed_fields-at : (k : ℕ) (fields : List Index) (j : ℕ) → listed (get_or fields j []) k ≤ listed_fields fields k
 listed_fields-at k [] j = omega (arith, listed_none k)

@@ -1,6 +1,6 @@
 //! A coverage as it is held.
 
-ghost use Rattle.std.specs.Prelude.{◌≡◌, ◌↔◌, [], length, replicate, position, All, IfOk, IfSome, IfNone, IsTrue, IsErrOf};
+ghost use Rattle.std.specs.Prelude.{◌≡◌, ◌<◌, ◌↔◌, [], length, replicate, position, All, IfOk, IfSome, IfNone, IsTrue, IsErrOf};
 ghost use Rattle.arr_core.specs.Tiles.{tile_boxes};
 ghost use Rattle.block_file.specs.State.{none};
 ghost use Rattle.block_file.specs.Words.{Recounts, Covers};
@@ -36,6 +36,7 @@ fn position_of(held: &[Held], name: &Name) -> Option<usize>
 pub(crate) fn place_of(held: &[Held], name: &Name) -> Option<usize>
     requires { AreApart held.now }
     ensures some { IfSome result (λ place. IsNamedAt name.now held.now place) }
+    ensures within { IfSome result (λ place. place < length held.now) }
     ensures none { IfNone result (NoneNamed name.now held.now) }
 {
     match position_of(held, name) {
@@ -48,7 +49,8 @@ pub(crate) fn place_of(held: &[Held], name: &Name) -> Option<usize>
 pub(crate) fn place_held(held: &[Held], name: &Name) -> usize
     requires apart { AreApart held.now }
     requires some { NoneNamed name.now held.now → ⊥ }
-    ensures { IsNamedAt name.now held.now result }
+    ensures named { IsNamedAt name.now held.now result }
+    ensures within { result < length held.now }
 {
     match place_of(held, name) {
         Some(place) => place,

@@ -23,6 +23,7 @@ impl Held {
         requires field { field < length self.now.signature.fields }
         ensures { IsFieldOf self.now field result }
     {
+        let _axes = self.signature.domain.axes();
         let fields = self.signature.fields.as_slice();
         FieldTiles {
             kind: fields[field].kind,

@@ -283,7 +283,10 @@ impl<B: Blocks> RasterStore<B> {
             numbers,
         };
         let index = &mut coverage.fields[field];
-        write_area(self.alloc, &mut self.blocks, index, &patch, rest)
+        let written = write_area(self.alloc, &mut self.blocks, index, &patch, rest);
+        let _listed = index.index();
+        let _free = self.blocks.free();
+        written
     }
 
     /// Writes cells into a box of a field, by its place, of the coverage with a name, in row-major order of the box's

@@ -7,24 +7,24 @@ pub fill_last_block-requires : goal.fill_last_block-requires
 fill_last_block-requires g c = λ honest. omega (arith, c.self.invariant.bytes honest, c.self.invariant.few)
 
 pub returns-in_err-blocks-clause-frame : goal.returns-in_err-blocks-clause-frame
-returns-in_err-blocks-clause-frame g c = rw (← c.self.view_is) (only_extends _ _ _ refl refl refl c.fill_last_block.ensures.honest c.fill_last_block.ensures.extends)
+returns-in_err-blocks-clause-frame g c = rw (← c.self.view_is) (only_extends _ _ _ refl refl refl refl c.fill_last_block.ensures.honest c.fill_last_block.ensures.extends)
 
 pub returns-in_err-sync-clause-frame : goal.returns-in_err-sync-clause-frame
-returns-in_err-sync-clause-frame g c = rw (← c.self.view_is) (only_extends _ _ _ c.in_err-sync.ensures.same refl refl (c.in_err-sync.ensures.honest ∙ c.fill_last_block.ensures.honest) c.fill_last_block.ensures.extends)
+returns-in_err-sync-clause-frame g c = rw (← c.self.view_is) (only_extends _ _ _ refl c.in_err-sync.ensures.same refl refl (c.in_err-sync.ensures.honest ∙ c.fill_last_block.ensures.honest) c.fill_last_block.ensures.extends)
 
 pub returns-in_err-write_at-clause-frame : goal.returns-in_err-write_at-clause-frame
 returns-in_err-write_at-clause-frame g c =
-    rw (← c.self.view_is) (only_torn _ _ _ _ _ _ _ _ (omega arith) refl refl refl refl (c.in_err-write_at.ensures.honest ∙ c.in_ok-sync.ensures.honest ∙ c.fill_last_block.ensures.honest)
+    rw (← c.self.view_is) (only_torn _ _ _ _ _ _ _ _ (omega arith) refl refl refl refl refl (c.in_err-write_at.ensures.honest ∙ c.in_ok-sync.ensures.honest ∙ c.fill_last_block.ensures.honest)
     c.fill_last_block.ensures.extends c.in_ok-sync.ensures.same c.in_err-write_at.ensures.torn c.in_ok-sync.ensures.done c.in_err-write_at.ensures.torn_synced)
 
 pub returns-in_err-sync-2-clause-frame : goal.returns-in_err-sync-2-clause-frame
 returns-in_err-sync-2-clause-frame g c =
-    rw (← c.self.view_is) (only_torn _ _ _ _ _ _ _ _ (omega arith) c.in_err-sync-2.ensures.same c.in_err-sync-2.ensures.refused refl refl (c.in_err-sync-2.ensures.honest ∙ c.in_ok-write_at.ensures.honest ∙ c.in_ok-sync.ensures.honest ∙ c.fill_last_block.ensures.honest)
+    rw (← c.self.view_is) (only_torn _ _ _ _ _ _ _ _ (omega arith) refl c.in_err-sync-2.ensures.same c.in_err-sync-2.ensures.refused refl refl (c.in_err-sync-2.ensures.honest ∙ c.in_ok-write_at.ensures.honest ∙ c.in_ok-sync.ensures.honest ∙ c.fill_last_block.ensures.honest)
     c.fill_last_block.ensures.extends c.in_ok-sync.ensures.same c.in_ok-write_at.ensures.torn c.in_ok-sync.ensures.done c.in_ok-write_at.ensures.torn_synced)
 
 pub returns-clause-frame : goal.returns-clause-frame
 returns-clause-frame g c =
-    rw (← c.self.view_is) (only_torn _ _ _ _ _ _ _ _ (omega arith) c.in_ok-sync-2.ensures.same c.in_ok-sync-2.ensures.done refl refl (c.in_ok-sync-2.ensures.honest ∙ c.in_ok-write_at.ensures.honest ∙ c.in_ok-sync.ensures.honest ∙ c.fill_last_block.ensures.honest)
+    rw (← c.self.view_is) (only_torn _ _ _ _ _ _ _ _ (omega arith) refl c.in_ok-sync-2.ensures.same c.in_ok-sync-2.ensures.done refl refl (c.in_ok-sync-2.ensures.honest ∙ c.in_ok-write_at.ensures.honest ∙ c.in_ok-sync.ensures.honest ∙ c.fill_last_block.ensures.honest)
     c.fill_last_block.ensures.extends c.in_ok-sync.ensures.same c.in_ok-write_at.ensures.torn c.in_ok-sync.ensures.same c.in_ok-write_at.ensures.torn)
 
 pub returns-clause-written : goal.returns-clause-written

@@ -1,0 +1,39 @@
+-- The coverage with the name is the one at its place.
+use Rattle.std.proofs.lemmas.Result.{err_from_is_err_and}
+use Rattle.raster_store.specs.Holding.{coverages_of}
+use Rattle.raster_store.proofs.Fetched.{intact_spelled}
+use Rattle.raster_store.proofs.Known.{has_name_of, place_of_name, tile_named}
+use Rattle.raster_store.proofs.store.RasterStore.fetch_tile.Goals as goal
+
+pub place_held-place-requires-clause-some : goal.place_held-place-requires-clause-some
+place_held-place-requires-clause-some g c =
+    let s = g.B.Blocks.state c.self.inside.blocks in
+    λ none. has_name_of s.content c.self.inside.coverages.items c.args.name.now c.args.field (rw (← c.self.view_is) at c.requires.field) (rw c.deref.ensures.value at none)
+
+pub fetch_tile_into-requires : goal.fetch_tile_into-requires
+fetch_tile_into-requires g c =
+    let s = g.B.Blocks.state c.self.inside.blocks in
+    let held = c.self.inside.coverages.items in
+    let at = place_of_name s.content held c.args.name.now c.place_held-place.result (rw c.deref.ensures.value at c.place_held-place.ensures.named) in
+    rw (← c.self.view_is) (record { tile = tile_named (coverages_of s.content held) c.args.name.now c.place_held-place.result c.args.field c.args.tile at.1 (rw (← c.self.view_is) at c.requires.field) (rw (← c.self.view_is) at c.requires.tile) })
+
+pub returns-in_err-fetch_tile_into-clause-why : goal.returns-in_err-fetch_tile_into-clause-why
+returns-in_err-fetch_tile_into-clause-why g c =
+    let s = g.B.Blocks.state c.self.inside.blocks in
+    let held = c.self.inside.coverages.items in
+    let at = place_of_name s.content held c.args.name.now c.place_held-place.result (rw c.deref.ensures.value at c.place_held-place.ensures.named) in
+    let there = tile_named (coverages_of s.content held) c.args.name.now c.place_held-place.result c.args.field c.args.tile at.1 (rw (← c.self.view_is) at c.requires.field) (rw (← c.self.view_is) at c.requires.tile) in
+    let why = rw (← c.self.view_is) at c.in_err-fetch_tile_into.ensures.why in
+    let p = err_from_is_err_and c.from_residual.result c.from_residual.ensures.1 in
+    rw (← c.self.view_is, p.1, p.2) (record {
+      for_damage = λ err sure intact. why.for_damage err sure (intact_spelled s.content held _ c.self.invariant.is_held.each there intact);
+      for_room = why.for_room;
+    })
+
+pub returns-clause-read : goal.returns-clause-read
+returns-clause-read g c =
+    let s = g.B.Blocks.state c.self.inside.blocks in
+    let held = c.self.inside.coverages.items in
+    let at = place_of_name s.content held c.args.name.now c.place_held-place.result (rw c.deref.ensures.value at c.place_held-place.ensures.named) in
+    let read = rw (← c.self.view_is) at c.in_ok-fetch_tile_into.ensures.read in
+    rw (← c.self.view_is) (record { counted = rw at.1 read.counted; values = λ sure. rw at.1 (read.values sure) })
