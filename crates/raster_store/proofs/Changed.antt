@@ -25,16 +25,17 @@ use Rattle.raster_store.proofs.Places.{updated_named, found_named, index_named, 
 use Rattle.raster_store.proofs.Totals.{listed_fields-set, listed_fields-remove, listed_fields-at, listed_all-set, listed_all-remove, listed_all-at, size-set, sizes-set, sum-at, fields_size-cons}
 use Rattle.raster_store.proofs.Contents.{KeepsFields, KeepsAll, coverage_updated, intact-set, intact-at, spelled-at, fields_intact-set, below-set}
 
--- The coverage h at a place has become h': its field j has another index, and the blocks are in another state. What the others
--- list is kept.
-pub record IsChanged (s s' : BlocksState) (held : List Held) (i j : ℕ) (h h' : Held) : Type 0 where
+-- The coverage h at a place has become h': its field j has the index x' for x, and the blocks are in another state. What the
+-- others list is kept.
+pub record IsChanged (s s' : BlocksState) (held : List Held) (i j : ℕ) (h h' : Held) (x x' : Index) : Type 0 where
   pub is_held : IsHeld s held
   pub place : i < length held
   pub was : h ≡ get_or held i h
   pub field : j < length h.fields.items
+  pub read : index_at h j ≡ x
   pub signature : h'.signature ≡ h.signature
-  pub fields : h'.fields.items ≡ set h.fields.items j (index_at h' j)
-  pub moves : Moves (listed (index_at h j)) (listed (index_at h' j)) s s'
+  pub fields : h'.fields.items ≡ set h.fields.items j x'
+  pub moves : Moves (listed x) (listed x') s s'
 
 none_set : (name : List ℕ) (held : List Held) (i : ℕ) (new d : Held) → new.signature ≡ (get_or held i d).signature → NoneNamed name held → NoneNamed name (set held i new)
 none_set name [] i new d e none = tt
@@ -51,26 +52,39 @@ signatures_set [] i new d e = refl
 signatures_set (g ∷ held) zero new d e = rw e refl
 signatures_set (g ∷ held) (suc i) new d e = ap (λ rest. g.signature ∷ rest) (signatures_set held i new d e)
 
-module _ (s s' : BlocksState) (held : List Held) (i j : ℕ) (h h' : Held) (c : IsChanged s s' held i j h h') where
-  same_signature : h'.signature ≡ (get_or held i h).signature
+pub indexes_same : (held : List Held) (i : ℕ) (new d : Held) → new.fields.items ≡ (get_or held i d).fields.items → indexes_of (set held i new) ≡ indexes_of held
+indexes_same [] i new d e = refl
+indexes_same (g ∷ held) zero new d e = rw e refl
+indexes_same (g ∷ held) (suc i) new d e = ap (λ rest. g.fields.items ∷ rest) (indexes_same held i new d e)
+
+pub coverages_same : (content : List ℕ) (held : List Held) (i : ℕ) (new d : Held) → new.signature ≡ (get_or held i d).signature → new.fields.items ≡ (get_or held i d).fields.items → coverages_of content (set held i new) ≡ coverages_of content held
+coverages_same content [] i new d e f = refl
+coverages_same content (g ∷ held) zero new d e f = rw (e, f) refl
+coverages_same content (g ∷ held) (suc i) new d e f = ap (λ rest. coverage_of content g ∷ rest) (coverages_same content held i new d e f)
+
+module _ (s s' : BlocksState) (held : List Held) (i j : ℕ) (h h' : Held) (x x' : Index) (c : IsChanged s s' held i j h h' x x') where
+  pub same_signature : h'.signature ≡ (get_or held i h).signature
   same_signature = c.signature ∙ ap (λ (x : Held). x.signature) c.was
 
   -- how often blocks are listed
+  field_less : (k : ℕ) → listed x k ≤ listed_fields h.fields.items k
+  field_less k = subst (λ (y : Index). listed y k ≤ listed_fields h.fields.items k) c.read (listed_fields-at k h.fields.items j)
+
   less : (k : ℕ) → listed_fields h.fields.items k ≤ listed_all (indexes_of held) k
   less k = subst (λ (x : Held). listed_fields x.fields.items k ≤ listed_all (indexes_of held) k) (sym c.was) (listed_all-at k held i h c.place)
 
-  pub listed_after : (k : ℕ) → listed_all (indexes_of (set held i h')) k + listed (index_at h j) k ≡ listed_all (indexes_of held) k + listed (index_at h' j) k
+  pub listed_after : (k : ℕ) → listed_all (indexes_of (set held i h')) k + listed x k ≡ listed_all (indexes_of held) k + listed x' k
   listed_after k =
-      let inner = listed_fields-set k h.fields.items j (index_at h' j) c.field in
+      let inner : listed_fields (set h.fields.items j x') k + listed x k ≡ listed_fields h.fields.items k + listed x' k = rw c.read at (listed_fields-set k h.fields.items j x' c.field) in
       let outer = listed_all-set k held i h' h c.place in
       let was : listed_fields h.fields.items k ≡ listed_fields (get_or held i h).fields.items k = ap (λ (x : Held). listed_fields x.fields.items k) c.was in
-      let is : listed_fields h'.fields.items k ≡ listed_fields (set h.fields.items j (index_at h' j)) k = ap (λ (x : List Index). listed_fields x k) c.fields in
+      let is : listed_fields h'.fields.items k ≡ listed_fields (set h.fields.items j x') k = ap (λ (x : List Index). listed_fields x k) c.fields in
       omega (arith, inner, outer, was, is)
 
   pub moves_all : Moves (listed_all (indexes_of held)) (listed_all (indexes_of (set held i h'))) s s'
   moves_all = record {
     uses = λ k. omega (arith, listed_after k, c.moves.uses k);
-    kept = λ k more. c.moves.kept k (omega (arith, more, less k, listed_fields-at k h.fields.items j));
+    kept = λ k more. c.moves.kept k (omega (arith, more, less k, field_less k));
     header = c.moves.header;
     size = c.moves.size;
     honest = c.moves.honest;
@@ -81,26 +95,26 @@ module _ (s s' : BlocksState) (held : List Held) (i j : ℕ) (h h' : Held) (c : 
   others_kept sure k some =
       let rest = listed_all-remove k held i h c.place in
       let was : listed_fields h.fields.items k ≡ listed_fields (get_or held i h).fields.items k = ap (λ (x : Held). listed_fields x.fields.items k) c.was in
-      c.moves.kept k (omega (arith, some, rest, was, listed_fields-at k h.fields.items j, c.is_held.counted k)) (c.is_held.whole sure k (omega (arith, some, rest)))
+      c.moves.kept k (omega (arith, some, rest, was, field_less k, c.is_held.counted k)) (c.is_held.whole sure k (omega (arith, some, rest)))
 
   fields_kept : IsTrue s.honest → KeepsFields (remove h.fields.items j) s.content s'.content
   fields_kept sure k some =
-      let rest = listed_fields-remove k h.fields.items j c.field in
+      let rest : listed_fields (remove h.fields.items j) k + listed x k ≡ listed_fields h.fields.items k = rw c.read at (listed_fields-remove k h.fields.items j c.field) in
       c.moves.kept k (omega (arith, some, rest, less k, c.is_held.counted k)) (c.is_held.whole sure k (omega (arith, some, rest, less k)))
 
-  pub held_after : IsIndex (index_at h' j) → IsSound h.signature.domain s' (index_at h' j) → IsHeld s' (set held i h')
+  pub held_after : IsIndex x' → IsSound h.signature.domain s' x' → IsHeld s' (set held i h')
   held_after index sound = record {
     each =
         let old : IsWhole h = subst IsWhole (sym c.was) (All-get_or IsWhole held i h c.place c.is_held.each) in
         let new : IsWhole h' = rw (c.signature, c.fields) (
-          length-set h.fields.items j (index_at h' j) ∙ old.0,
-          All-set IsIndex h.fields.items j (index_at h' j) index old.1,
-          below-set h.signature.domain h.fields.items j (index_at h' j) sound.below old.2,
+          length-set h.fields.items j x' ∙ old.0,
+          All-set IsIndex h.fields.items j x' index old.1,
+          below-set h.signature.domain h.fields.items j x' sound.below old.2,
         ) in
         All-set IsWhole held i h' new c.is_held.each;
     apart = apart_set held i h' h same_signature c.is_held.apart;
     counted = λ k. omega (arith, listed_after k, c.moves.uses k, c.is_held.counted k);
-    whole = λ sure k some. elim (cases_eq (listed (index_at h' j) k) 0) [
+    whole = λ sure k some. elim (cases_eq (listed x' k) 0) [
       | inl none ↦
           let before : IsTrue s.honest = rw c.moves.honest at sure in
           let long = c.is_held.whole before k (omega (arith, some, none, listed_after k)) in
@@ -111,33 +125,33 @@ module _ (s s' : BlocksState) (held : List Held) (i j : ℕ) (h h' : Held) (c : 
 
   -- function update of the coverage with a name
   pub written_after : (f : Field) (name : List ℕ) (area : List Axis) (numbers : List ℤ) → IsTrue s.honest → slice_get h.signature.fields j ≡ Some f → IsNamedAt name held i
-      → field_values f.kind h.signature.domain (index_at h' j) s'.content ≡ updated_values h.signature.domain area numbers (field_values f.kind h.signature.domain (index_at h j) s.content)
+      → field_values f.kind h.signature.domain x' s'.content ≡ updated_values h.signature.domain area numbers (field_values f.kind h.signature.domain x s.content)
       → coverages_of s'.content (set held i h') ≡ updated name j area numbers (coverages_of s.content held)
   written_after f name area numbers sure kind at value =
-      let here = coverage_updated s.content s'.content h h' j f (index_at h' j) area numbers c.signature c.fields kind c.field (fields_kept sure) value in
+      let here = coverage_updated s.content s'.content h h' j f x' area numbers c.signature c.fields kind c.field (fields_kept sure) (rw c.read value) in
       updated_named s.content s'.content name j area numbers held i h' h at (others_kept sure) (rw (← c.was) here)
 
-  pub intact_after : (f : Field) → IsTrue s.honest → slice_get h.signature.fields j ≡ Some f → (IsSpelled f.kind h.signature.domain (index_at h j) s.content → IsSpelled f.kind h.signature.domain (index_at h' j) s'.content)
+  pub intact_after : (f : Field) → IsTrue s.honest → slice_get h.signature.fields j ≡ Some f → (IsSpelled f.kind h.signature.domain x s.content → IsSpelled f.kind h.signature.domain x' s'.content)
       → AreIntact s.content (coverages_of s.content held) (indexes_of held) → AreIntact s'.content (coverages_of s'.content (set held i h')) (indexes_of (set held i h'))
   intact_after f sure kind spelled intact =
       let here : FieldsIntact s.content h.signature.domain h.signature.fields h.fields.items = subst (λ (x : Held). FieldsIntact s.content x.signature.domain x.signature.fields x.fields.items) (sym c.was) (intact-at s.content held i h c.place intact) in
-      let now = fields_intact-set s.content s'.content h.signature.domain h.signature.fields h.fields.items j f (index_at h' j) kind (fields_kept sure) here (spelled (spelled-at s.content h.signature.domain h.signature.fields h.fields.items j f kind c.field here)) in
+      let now = fields_intact-set s.content s'.content h.signature.domain h.signature.fields h.fields.items j f x' kind (fields_kept sure) here (spelled (rw c.read at (spelled-at s.content h.signature.domain h.signature.fields h.fields.items j f kind c.field here))) in
       intact-set s.content s'.content held i h' (others_kept sure) intact (rw (c.signature, c.fields) now)
 
   -- how many bytes the metadata has
-  sizes_after : (catalogue : ℕ) → metadata_size catalogue (indexes_of (set held i h')) + length (index_bytes (index_at h j)) ≡ metadata_size catalogue (indexes_of held) + length (index_bytes (index_at h' j))
+  sizes_after : (catalogue : ℕ) → metadata_size catalogue (indexes_of (set held i h')) + length (index_bytes x) ≡ metadata_size catalogue (indexes_of held) + length (index_bytes x')
   unfolding metadata_size
   sizes_after catalogue =
-      let inner = size-set h.fields.items j (index_at h' j) c.field in
+      let inner : fields_size (set h.fields.items j x') + length (index_bytes x) ≡ fields_size h.fields.items + length (index_bytes x') = rw c.read at (size-set h.fields.items j x' c.field) in
       let outer = sizes-set held i h' h c.place in
       let was : fields_size h.fields.items ≡ fields_size (get_or held i h).fields.items = ap (λ (x : Held). fields_size x.fields.items) c.was in
-      let is : fields_size h'.fields.items ≡ fields_size (set h.fields.items j (index_at h' j)) = ap fields_size c.fields in
+      let is : fields_size h'.fields.items ≡ fields_size (set h.fields.items j x') = ap fields_size c.fields in
       omega (arith, inner, outer, was, is)
 
-  pub room_after : (catalogue rest all_rest : ℕ) → all_rest + length (index_bytes (index_at h j)) ≡ metadata_size catalogue (indexes_of held) → rest ≡ min (2 ^ 64 - 1) all_rest → free_of s' < 2 ^ 32
-      → chain_blocks (rest + length (index_bytes (index_at h' j))) ≤ free_of s' → reserve catalogue (indexes_of (set held i h')) ≤ free_of s'
+  pub room_after : (catalogue rest all_rest : ℕ) → all_rest + length (index_bytes x) ≡ metadata_size catalogue (indexes_of held) → rest ≡ min (2 ^ 64 - 1) all_rest → free_of s' < 2 ^ 32
+      → chain_blocks (rest + length (index_bytes x')) ≤ free_of s' → reserve catalogue (indexes_of (set held i h')) ≤ free_of s'
   room_after catalogue rest all_rest is least small fits =
-      let same : metadata_size catalogue (indexes_of (set held i h')) ≡ all_rest + length (index_bytes (index_at h' j)) = omega (arith, sizes_after catalogue, is) in
+      let same : metadata_size catalogue (indexes_of (set held i h')) ≡ all_rest + length (index_bytes x') = omega (arith, sizes_after catalogue, is) in
       rw same (elim (cases_lt all_rest (2 ^ 64)) [
         | inl below ↦ (let e : rest ≡ all_rest = omega (arith, least, below) in rw e at fits)
         | inr above ↦ absurd (let e : rest ≡ 2 ^ 64 - 1 = omega (arith, least, above) in omega (arith, e, small, fits))

@@ -7,5 +7,6 @@ pub mod Known
 mod Fetched
 pub mod Writes
 mod Changed
+mod Outcomes
 pub mod CellKinds
 mod KeptTiles

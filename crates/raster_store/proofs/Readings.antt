@@ -39,7 +39,7 @@ field_found h j f is = some_and (slice_get h.signature.fields j) (λ (x : Field)
 same_number : (k k' : FieldType) (d d' : List Axis) (i i' : Index) (content : List ℕ) (p : List ℤ) → k ≡ k' → d' ≡ d → i' ≡ i → number_at k' d' i' content p ≡ number_at k d i content p
 same_number k k' d d' i i' content p e f g = rw (sym e, f, g) refl
 
-same_spelled : (k k' : FieldType) (d d' : List Axis) (i i' : Index) (content : List ℕ) (tile : ℕ) → k' ≡ k → d' ≡ d → i' ≡ i → IsTileSpelled k d i content tile → IsTileSpelled k' d' i' content tile
+pub same_spelled : (k k' : FieldType) (d d' : List Axis) (i i' : Index) (content : List ℕ) (tile : ℕ) → k' ≡ k → d' ≡ d → i' ≡ i → IsTileSpelled k d i content tile → IsTileSpelled k' d' i' content tile
 same_spelled k k' d d' i i' content tile e f g spelled = rw (e, f, g) spelled
 
 -- The value of a coverage at a point is the number that its field's tiles have there.

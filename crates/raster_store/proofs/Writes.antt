@@ -11,7 +11,8 @@ use Rattle.block_file.specs.State.{BlocksState, block, none}
 use Rattle.block_file.specs.Words.{OnlyReads, Recounts, Moves, Covers, OnlyHeader}
 use Rattle.tile_index.specs.Index.{IsIndex}
 use Rattle.raster_store.specs.declared.held.Held.{Held}
-use Rattle.raster_store.specs.Views.{Index, RasterView, AreBelow, coverages_in, AreIntact, listed_fields, listed_all}
+use Rattle.block_file.specs.Format.{chain_blocks}
+use Rattle.raster_store.specs.Views.{Index, RasterView, AreBelow, coverages_in, AreIntact, listed_fields, listed_all, metadata_size, reserve}
 use Rattle.raster_store.specs.Words.{SameCoverages, Keeps}
 use Rattle.raster_store.specs.Calls.{MayAttach, AreListed, AreSameSignatures, signature_of, AreWhole as AreAllWhole}
 use Rattle.raster_store.specs.Holding.{coverages_of, coverage_of, indexes_of, signatures_of, has_name, NoneNamed, AreApart, IsWhole, IsHeld, IsStore}
@@ -192,3 +193,10 @@ store_read s s' held kept is reads = record {
 
 pub recounts_all : (s : BlocksState) (indexes : List (List Index)) → Recounts (listed_all indexes) (listed_all indexes) s s
 recounts_all s indexes = record { uses = λ k. refl; content = refl; synced = refl; size = refl; failures = refl; honest = refl }
+
+-- a size that stands for more than fits anywhere where it is the last value of a `u64`
+pub room_for_new : (catalogue size free : ℕ) (held : List Held) (h : Held) → size ≡ min (2 ^ 64 - 1) (metadata_size catalogue (indexes_of held ++ h.fields.items ∷ [])) → free < 2 ^ 32 → chain_blocks size ≤ free
+    → reserve catalogue (indexes_of (held ++ h ∷ [])) ≤ free
+room_for_new catalogue size free held h is small fits =
+    let same : metadata_size catalogue (indexes_of (held ++ h ∷ [])) ≡ metadata_size catalogue (indexes_of held ++ h.fields.items ∷ []) = ap (metadata_size catalogue) (indexes-push held h) in
+    omega (arith, same, is, small, fits)

@@ -1,10 +1,11 @@
-use Rattle.std.proofs.Common.{◌≡◌, [], ◌∷◌, ◌++◌, length, None, refl, ap, ◌∙◌, arith}
+use Rattle.std.proofs.Common.{◌≡◌, [], ◌∷◌, ◌++◌, length, None, refl, ap, ◌∙◌, ◌<◌, ◌≤◌, ◌^◌, arith, rules}
+use Rattle.block_file.specs.Format.{chain_blocks}
 use Rattle.arr_core.specs.Stores.{Coverage, found}
 use Rattle.raster_store.specs.Holding.{coverages_of, indexes_of}
 use Rattle.raster_store.proofs.Contents.{coverages-push, indexes-push}
 use Rattle.raster_store.proofs.KeptTiles.{decoded_empty}
 use Rattle.raster_store.proofs.Places.{none_found}
-use Rattle.raster_store.proofs.Writes.{held_push, may_empty, coverage_new, intact_created}
+use Rattle.raster_store.proofs.Writes.{held_push, may_empty, coverage_new, intact_created, room_for_new}
 use Rattle.raster_store.proofs.store.RasterStore.create.Goals as goal
 
 pub invariant_of-self-2 : goal.invariant_of-self-2
@@ -28,9 +29,12 @@ returns-clause-created g c =
     let new = c.in_ok-held.held in
     let sig = c.args.signature.now in
     let is = c.in_ok-held.ensures in
+    let size = rw c.deref.ensures.value at c.created_size-size.ensures in
+    let small : c.free.result < 2 ^ 32 = omega arith in
+    let fits : chain_blocks c.created_size-size.result ≤ c.free.result = search rules in
     rw (← c.self.view_is, c.in_ok-push.ensures.items) (record {
       coverages = coverages-push s.content held new ∙ ap (λ (x : Coverage). coverages_of s.content held ++ x ∷ []) (coverage_new s.content new sig is.signature is.fields);
       indexes = indexes-push held new ∙ rw is.fields refl;
-      room = ?;
+      room = rw (← c.free.ensures) (room_for_new c.args.catalogue c.created_size-size.result c.free.result held new size small fits);
       intact = λ intact. intact_created s.content held new (length sig.fields) is.fields intact;
     })

@@ -1,59 +1,55 @@
-use Rattle.std.proofs.Common.{rules, ◌≡◌, ◌<◌, ◌≤◌, [], length, None, IsSomeAnd, IsErr, IsErrOf, IfOk, IfErr, IfSome, IfNone, OnOk, OnErr, MatchResult, IsTrue, option_copied, option_map, ℕ, ◌+◌, ◌-◌, ◌*◌, ◌/◌, ◌%◌, Bool, true, false, nat_eq, nat_lt, List, ◌∷◌, ◌++◌, slice_index_or, slice_set, bit_and, bit_or, Fits, w8, w32, w64, Bor, MutBor}
-use Rattle.arr_core.specs.Domains.{IsInside, IsBoxOf}
-use Rattle.arr_core.specs.Stores.{found}
-use Rattle.block_file.specs.State.{free_of}
-use Rattle.block_file.specs.Words.{OnlyHeader, WritesHeader, HoldsChain}
-use Rattle.block_file.specs.Format.{chain_blocks}
-use Rattle.tile_index.specs.Bytes.{index_bytes}
-use Rattle.tile_store.specs.Faults.{Refuses}
-use Rattle.tile_store.specs.Numbers.{numbers_in}
-use Rattle.raster_store.specs.Views.{AreBelow, Fetched}
-use Rattle.raster_store.specs.Calls.{signature_of, AreWhole, AreListed, HasField, MayAttach, index_of, HasNumbers}
-use Rattle.raster_store.specs.Fetches.{IsPlaceOf, HasTile, HasTileNumber, IsFetched, IsDamagedAt, AreCellsOf}
-use Rattle.raster_store.specs.Fields.{HasPatch}
-use Rattle.raster_store.specs.Words.{OnBlocks, TellsFault, IsDamagedStore, OnlyFetches, SameCoverages, Stays, Keeps, Attaches, Creates, LacksRoomToCreate, IsCell, AreBoxCells, FetchesBox, Writes, WritesBox, FillsBox, LacksRoomToWrite, RefusesBox, RefusesFill, Removes}
+use Rattle.std.proofs.Common.{◌≡◌, ◌<◌, ◌^◌, [], length, get_or, arith, rules, refl, sym, ap, ◌∙◌}
+use Rattle.std.proofs.lemmas.List.{get_or_read}
+use Rattle.raster_store.specs.Holding.{coverages_of, indexes_of, index_at}
+use Rattle.raster_store.proofs.Changed.{IsChanged}
+use Rattle.raster_store.proofs.Known.{field_sound}
+use Rattle.raster_store.proofs.KeptTiles.{decoded_empty}
+use Rattle.raster_store.proofs.Outcomes.{Target, target, target_kind, target_named, target_indexed, Outcome, outcome, wrote_held, wrote_intact, wrote_same, wrote_done, wrote_why}
 use Rattle.raster_store.proofs.store.RasterStore.write_numbers.Goals as goal
 
--- src/store.rt:275:13
 pub place_held-place-requires-clause-some : goal.place_held-place-requires-clause-some
-place_held-place-requires-clause-some g c = ?
+place_held-place-requires-clause-some g c =
+    let s = g.B.Blocks.state c.self.inside.blocks in
+    λ none. target_named s.content c.self.inside.coverages.items c.args.name.now c.args.field c.args.area.now c.args.numbers.now (rw (← c.self.view_is) at c.requires.patch) (rw c.deref.ensures.value at none)
 
--- src/store.rt:276:13
 pub rest_size-rest-requires-clause-field : goal.rest_size-rest-requires-clause-field
-rest_size-rest-requires-clause-field g c = ?
+rest_size-rest-requires-clause-field g c =
+    let s = g.B.Blocks.state c.self.inside.blocks in
+    let held = c.self.inside.coverages.items in
+    let at = rw c.deref.ensures.value at c.place_held-place.ensures.named in
+    rw c.deref-2.ensures.value (λ d. target_indexed s held c.args.name.now c.place_held-place.result c.args.field d c.args.area.now c.args.numbers.now c.self.invariant.is_held at (rw (← c.self.view_is) at c.requires.patch))
 
--- src/store.rt:280:19
 pub kind_of-requires : goal.kind_of-requires
-kind_of-requires g c = ?
+kind_of-requires g c =
+    let s = g.B.Blocks.state c.self.inside.blocks in
+    let at = rw c.deref.ensures.value at c.place_held-place.ensures.named in
+    let t = target s c.self.inside.coverages.items c.args.name.now c.place_held-place.result c.args.field c.index_mut-coverage.result.now c.args.area.now c.args.numbers.now c.self.invariant.is_held at c.index_mut-coverage.ensures.value (rw (← c.self.view_is) at c.requires.patch) in
+    t.described
 
--- src/store.rt:285:26
 pub index_mut-index-requires : goal.index_mut-index-requires
-index_mut-index-requires g c = let h = c.index_mut-coverage in let k = c.place_held-place in ?
+index_mut-index-requires g c =
+    let s = g.B.Blocks.state c.self.inside.blocks in
+    let h = c.index_mut-coverage.result.now in
+    let at = rw c.deref.ensures.value at c.place_held-place.ensures.named in
+    let t = target s c.self.inside.coverages.items c.args.name.now c.place_held-place.result c.args.field h c.args.area.now c.args.numbers.now c.self.invariant.is_held at c.index_mut-coverage.ensures.value (rw (← c.self.view_is) at c.requires.patch) in
+    omega (arith, t.indexed, h.fields.ok)
 
--- src/store.rt:286:9
-pub write_area-requires-clause-patch : goal.write_area-requires-clause-patch
-write_area-requires-clause-patch g c = ?
+pub write_area-written-requires-clause-patch : goal.write_area-written-requires-clause-patch
+write_area-written-requires-clause-patch g c =
+    let s = g.B.Blocks.state c.self.inside.blocks in
+    let held = c.self.inside.coverages.items in
+    let h = c.index_mut-coverage.result.now in
+    let at = rw c.deref.ensures.value at c.place_held-place.ensures.named in
+    let t = target s held c.args.name.now c.place_held-place.result c.args.field h c.args.area.now c.args.numbers.now c.self.invariant.is_held at c.index_mut-coverage.ensures.value (rw (← c.self.view_is) at c.requires.patch) in
+    record { box = t.box; numbers = rw (← target_kind s held c.args.name.now c.place_held-place.result c.args.field h c.args.area.now c.args.numbers.now c.kind_of.result t c.kind_of.ensures) t.fit }
 
--- src/store.rt:286:9
-pub write_area-requires-clause-sound : goal.write_area-requires-clause-sound
-write_area-requires-clause-sound g c = let h = c.index_mut-index in let k = c.kind_of in ?
-
--- src/store.rt:259:5
-pub invariant_of-self : goal.invariant_of-self
-invariant_of-self g c = ?
-
--- src/store.rt:259:5
-pub returns-clause-done : goal.returns-clause-done
-returns-clause-done g c = ?
-
--- src/store.rt:259:5
-pub returns-clause-same : goal.returns-clause-same
-returns-clause-same g c = let h = c.write_area in let k = c.rest_size-rest in let f = c.free in let i = c.index in ?
-
--- src/store.rt:259:5
-pub returns-clause-why : goal.returns-clause-why
-returns-clause-why g c = ?
-
--- src/store.rt:259:5
-pub returns-clause-intact : goal.returns-clause-intact
-returns-clause-intact g c = ?
+pub write_area-written-requires-clause-sound : goal.write_area-written-requires-clause-sound
+write_area-written-requires-clause-sound g c =
+    let s = g.B.Blocks.state c.self.inside.blocks in
+    let held = c.self.inside.coverages.items in
+    let h = c.index_mut-coverage.result.now in
+    let x = c.index_mut-index.result.now in
+    let at = rw c.deref.ensures.value at c.place_held-place.ensures.named in
+    let t = target s held c.args.name.now c.place_held-place.result c.args.field h c.args.area.now c.args.numbers.now c.self.invariant.is_held at c.index_mut-coverage.ensures.value (rw (← c.self.view_is) at c.requires.patch) in
+    let read : x ≡ index_at h c.args.field = get_or_read h.fields.items c.args.field x t.indexed c.index_mut-index.ensures.value [] in
+    rw read (field_sound s held c.place_held-place.result h c.args.field t.facts t.indexed)
