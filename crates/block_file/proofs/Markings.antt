@@ -123,7 +123,7 @@ free_inside marks free lowest is =
     let some = reads_within marks 0 (let header = is.header in omega arith) in
     let few = is.few in
     let past = free_past (length marks - 1) 1048575 (uses_of marks) (omega arith)
-        (λ k a b. let none = get_or_past marks k 0 (omega arith) in uses-at marks k (omega arith) ∙ ap use_count none) in
+    (λ k a b. let none = get_or_past marks k 0 (omega arith) in uses-at marks k (omega arith) ∙ ap use_count none) in
     omega (arith, is.counted, past)
 
 -- how many marks are wanted for n more blocks
@@ -270,7 +270,7 @@ pub taken_marks : (n free lowest next : ℕ) (ks old new : List ℕ) → AreMark
     → AreMarks new (free - n) next
 taken_marks n free lowest next ks old new is t above within used =
     let listed = free_listed 1048575 ks (uses_of old) (uses_of new) (taken_uses n ks old new t) t.once
-        (λ k h. let at = t.inside k h in (at.0, (let lt = at.1 in omega (arith, is.few)), t.free k h)) in
+    (λ k h. let at = t.inside k h in (at.0, (let lt = at.1 in omega (arith, is.few)), t.free k h)) in
     let header : times ks 0 ≡ 0 = elim (cases_eq (times ks 0) 0) [ inl none ↦ none | inr some ↦ absurd (let at = (t.inside 0 (omega arith)).0 in omega arith) ] in
     record {
       header = t.others 0 header ∙ is.header;
@@ -375,7 +375,8 @@ claimed_marks marks free lowest k is inside none =
           | inl e ↦ rw e (omega (arith, now))
           | inr ne ↦ rw (lowered_other marks k 1 j ne) (is.used j a b)
         ];
-      })
+      },
+    )
 
 pub claims_none : (marks : List ℕ) → Claims [] marks marks
 claims_none marks = record {

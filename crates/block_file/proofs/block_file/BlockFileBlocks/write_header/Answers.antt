@@ -29,8 +29,8 @@ returns-clause-written g c =
     let only = rw (← c.self.view_is) at (returns-clause-frame g c) in
     rw (← c.self.view_is) (writes_header c.args.session c.args.first c.args.length _ _ (c.in_ok-sync-2.ensures.done ∙ sym c.in_ok-sync-2.ensures.same)
     (λ honest.
-        let filled = c.in_ok-blocks.ensures.filled honest in
-        header_written c.args.session _ c.args.first c.args.length c.header_bytes-header.result _ _ _ _ _ (omega (arith, c.self.invariant.bytes honest, c.self.invariant.few))
-        (c.fill_last_block.ensures.extends honest) filled c.in_ok-sync.ensures.same (omega arith) c.header_bytes-header.ensures
-        (c.in_ok-write_at.ensures.written (rw (c.in_ok-sync.ensures.honest, c.fill_last_block.ensures.honest) honest)) c.in_ok-sync-2.ensures.same)
+    let filled = c.in_ok-blocks.ensures.filled honest in
+    header_written c.args.session _ c.args.first c.args.length c.header_bytes-header.result _ _ _ _ _ (omega (arith, c.self.invariant.bytes honest, c.self.invariant.few))
+    (c.fill_last_block.ensures.extends honest) filled c.in_ok-sync.ensures.same (omega arith) c.header_bytes-header.ensures
+    (c.in_ok-write_at.ensures.written (rw (c.in_ok-sync.ensures.honest, c.fill_last_block.ensures.honest) honest)) c.in_ok-sync-2.ensures.same)
     only)
