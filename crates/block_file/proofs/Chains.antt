@@ -1,16 +1,11 @@
 -- A chain of blocks that is followed.
-use Rattle.std.proofs.Common.{◌≡◌, ◌≢◌, ℕ, zero, suc, ◌+◌, ◌-◌, ◌*◌, ◌/◌, ◌%◌, ◌<◌, ◌≤◌, ◌⊎◌, inl, inr, List, [], ◌∷◌, ◌++◌, take, length, length-append, get_or, set, replicate, arith, refl, ap, sym, ◌∙◌}
-use Rattle.std.proofs.lemmas.Grind.{common_steps}
-use Rattle.std.proofs.lemmas.Bool.{cases_lt, cases_eq}
-use Rattle.std.proofs.lemmas.List.{get_or-set_same, get_or-set_other, get_or-append-add}
-use Rattle.std.proofs.Math.ListN.{get_or-append}
-use borrow.Rule.Slice.PartMut.{mid_of}
-use Rattle.block_file.specs.Blocks.{block_at}
-use Rattle.block_file.specs.Format.{number_at, next_of, link, chain_blocks, IsChain}
-use Rattle.block_file.specs.View.{IsFresh, MarksChain, ReadsLink, used_in, kept_in, use_count, uses_of}
+use Rattle.std.proofs.Common.{◌≡◌, ◌≢◌, ℕ, suc, ◌+◌, ◌-◌, ◌*◌, ◌/◌, ◌%◌, ◌<◌, ◌≤◌, ◌⊎◌, inl, inr, List, length, get_or, set, arith, refl, ap, sym, ◌∙◌}
+use Rattle.std.proofs.lemmas.Bool.{cases_lt}
+use Rattle.std.proofs.lemmas.List.{get_or-set_same, get_or-set_other}
+use Rattle.block_file.specs.State.{block_at}
+use Rattle.block_file.specs.Format.{next_of, link, chain_blocks, IsChain}
+use Rattle.block_file.specs.Links.{AddsLink}
 use Rattle.block_file.proofs.Places.{whole_inside}
-use Rattle.block_file.proofs.Numbers.{byte-mid, length-mid, get_or-zeros}
-use Rattle.block_file.proofs.Marks.{used-set, used-nil, used-cons, kept-nil, kept-cons, uses_same}
 
 link-next : (block : ℕ → List ℕ) (first n : ℕ) → link block first (n + 1) ≡ next_of block (link block first n)
 unfolding link
@@ -44,7 +39,7 @@ followed_none block first marks metadata zeros none = record {
 below_or_last : (i n : ℕ) → i < n + 1 → (i < n) ⊎ (i ≡ n)
 below_or_last i n lt = elim (cases_lt i n) [ inl below ↦ inl below | inr le ↦ inr (omega arith) ]
 
-added_byte : (block : ℕ → List ℕ) (first n k following part j : ℕ) (old new : List ℕ) → k ≡ link block first n → length old ≡ 4092 * n → part ≤ 4092 → ReadsLink block k following part old new → length old ≤ j → j < length new → get_or new j 0 ≡ get_or (block (link block first (j / 4092))) (4 + j % 4092) 0
+added_byte : (block : ℕ → List ℕ) (first n k following part j : ℕ) (old new : List ℕ) → k ≡ link block first n → length old ≡ 4092 * n → part ≤ 4092 → AddsLink (block k) following part old new → length old ≤ j → j < length new → get_or new j 0 ≡ get_or (block (link block first (j / 4092))) (4 + j % 4092) 0
 added_byte block first n k following part j old new at full most read le lt =
     let size = read.size in
     let there : length old + (j - length old) ≡ j = omega arith in
@@ -55,18 +50,14 @@ added_byte block first n k following part j old new at full most read le lt =
     ∙ ap (λ m. get_or (block (link block first m)) (4 + (j - length old)) 0) (sym whole)
     ∙ ap (λ m. get_or (block (link block first (j / 4092))) (4 + m) 0) (sym rest)
 
-pub followed_more : (block : ℕ → List ℕ) (first n k following part : ℕ) (marks old new : List ℕ) → get_or marks 0 0 ≡ 1 → k < length marks → get_or marks k 0 ≡ 0 → length old ≡ 4092 * n → part ≤ 4092 → Followed block first n k marks old → ReadsLink block k following part old new → Followed block first (n + 1) following (set marks k 255) new
-followed_more block first n k following part marks old new header inside unmarked full most so_far read =
+pub followed_more : (block : ℕ → List ℕ) (first n k following part : ℕ) (marks old new : List ℕ) → 0 < k → k < length marks → get_or marks k 0 ≡ 0 → length old ≡ 4092 * n → part ≤ 4092 → Followed block first n k marks old → length (block k) ≡ 4096 → AddsLink (block k) following part old new → Followed block first (n + 1) following (set marks k 255) new
+followed_more block first n k following part marks old new above inside unmarked full most so_far whole read =
     let at = so_far.at in
-    let above : 0 < k = elim (cases_eq k 0) [
-      | inl e ↦ let same = ap (λ m. get_or marks m 0) e in absurd (omega arith)
-      | inr ne ↦ omega arith
-    ] in
     let out : (i : ℕ) → i < n → link block first i ≢ k = λ i lt e. let same = ap (λ m. get_or marks m 0) e in let marked = so_far.marked i lt in omega arith in
     record {
       at = read.next ∙ ap (next_of block) at ∙ sym (link-next block first n);
       above_zero = λ i lt. elim (below_or_last i n lt) [ inl below ↦ so_far.above_zero i below | inr e ↦ rw (e, ← at) above ];
-      whole = λ i lt. elim (below_or_last i n lt) [ inl below ↦ so_far.whole i below | inr e ↦ rw (e, ← at) read.whole ];
+      whole = λ i lt. elim (below_or_last i n lt) [ inl below ↦ so_far.whole i below | inr e ↦ rw (e, ← at) whole ];
       distinct = λ i j li lj same. elim (below_or_last i n li) [
         | inl bi ↦ elim (below_or_last j n lj) [
           | inl bj ↦ so_far.distinct i j bi bj same
@@ -90,23 +81,6 @@ followed_more block first n k following part marks old new header inside unmarke
       ];
     }
 
--- the whole chain was read, and it ends
-pub followed_all : (block : ℕ → List ℕ) (first n : ℕ) (marks metadata : List ℕ) → 0 < length metadata → n ≡ chain_blocks (length metadata) → Followed block first n 0 marks metadata → IsChain block first metadata
-followed_all block first n marks metadata some count done = record {
-  some = some;
-  above_zero = λ i lt. done.above_zero i (omega arith);
-  whole = λ i lt. done.whole i (omega arith);
-  distinct = λ i j li lj e. done.distinct i j (omega arith) (omega arith) e;
-  ends = ap (link block first) (sym count) ∙ sym done.at;
-  bytes = done.bytes;
-}
-
-pub followed_marks : (block : ℕ → List ℕ) (first n k size : ℕ) (marks metadata : List ℕ) → n ≡ chain_blocks size → Followed block first n k marks metadata → MarksChain block first size marks
-followed_marks block first n k size marks metadata count done = record {
-  chain = λ i lt. done.marked i (omega arith);
-  others = λ j pos out. done.others j pos (λ i lt. out i (omega arith));
-}
-
 -- a chain that comes to a block that is past the end, the header or one that it met is none
 pub refuted : (content : List ℕ) (first n k : ℕ) (marks metadata chained : List ℕ) → length content ≡ 4096 * length marks → (k < length marks → get_or marks k 0 ≡ 0 → ⊥) → n < chain_blocks (length chained) → Followed (block_at content) first n k marks metadata → IsChain (block_at content) first chained → ⊥
 refuted content first n k marks metadata chained len refused more so_far chain =
@@ -116,69 +90,3 @@ refuted content first n k marks metadata chained len refused more so_far chain =
     refused (omega arith) (so_far.others k (omega arith) (λ i lt e.
     let same = chain.distinct i n (omega arith) more (e ∙ at) in
     omega arith))
-
-pub refuted_end : (block : ℕ → List ℕ) (first n k : ℕ) (marks metadata chained : List ℕ) → k ≢ 0 → n ≡ chain_blocks (length chained) → Followed block first n k marks metadata → IsChain block first chained → ⊥
-refuted_end block first n k marks metadata chained ne count so_far chain =
-    ne (so_far.at ∙ ap (link block first) count ∙ chain.ends)
-
-mid_added : (m part j : ℕ) (bytes old : List ℕ) → m ≡ part → part ≤ 4092 → length bytes ≡ 4096 → j < part → get_or (old ++ mid_of 4 m bytes) (length old + j) 0 ≡ get_or bytes (4 + j) 0
-mid_added m part j bytes old e most len lt = get_or-append-add old (mid_of 4 m bytes) j 0 ∙ byte-mid 4 m j bytes (omega arith)
-
--- a block that was read, and the part of it that was added
-pub linked : (content bytes old : List ℕ) (k m part following : ℕ) → m ≡ part → part ≤ 4092 → length bytes ≡ 4096 → bytes ≡ block_at content k → following ≡ number_at 0 4 bytes → ReadsLink (block_at content) k following part old (old ++ mid_of 4 m bytes)
-linked content bytes old k m part following e most len same next = record {
-  whole = rw (← same) len;
-  next = next ∙ ap (number_at 0 4) same;
-  size = omega (arith, length-append old (mid_of 4 m bytes), length-mid 4 m bytes (omega arith));
-  kept = λ j lt. get_or-append old (mid_of 4 m bytes) 0 j lt;
-  added = λ j lt. mid_added m part j bytes old e most len lt ∙ ap (λ (b : List ℕ). get_or b (4 + j) 0) same;
-}
-
--- marks of which the header alone is in use stay so
-pub fresh_kept : (marks : List ℕ) (k : ℕ) → IsFresh marks → k < length marks → get_or marks k 0 ≡ 0 → IsFresh (set marks k 255)
-fresh_kept marks k fresh inside unmarked =
-    let none : uses_of marks k ≡ 0 = ap use_count unmarked in
-    let above : k ≢ 0 = λ e. let same = ap (λ m. get_or marks m 0) e in let header = fresh.header in omega arith in
-    record {
-      header = get_or-set_other marks k 0 255 0 (λ e. above (sym e)) ∙ fresh.header;
-      unused = λ j pos. elim (cases_eq j k) [
-        | inl e ↦ ap (λ m. uses_of (set marks k 255) m) e ∙ ap use_count (get_or-set_same marks k 255 0 inside)
-        | inr ne ↦ uses_same marks (set marks k 255) j (get_or-set_other marks k j 255 0 ne) ∙ fresh.unused j pos
-      ];
-      free = let free = fresh.free in omega (arith, used-set marks k 255 inside);
-    }
-
-pub blank_at : (n k : ℕ) → 0 < k → get_or {A = ℕ} (1 ∷ replicate n 0) k 0 ≡ 0
-blank_at n zero pos = absurd (omega arith)
-blank_at n (suc k) pos = get_or-zeros n k
-
-used_zeros : (n : ℕ) → used_in (replicate n 0) ≡ 0
-used_zeros zero = used-nil
-used_zeros (suc n) = omega (arith, used-cons 0 (replicate n 0), used_zeros n)
-
--- marks of a header and of blocks in no use
-pub fresh_made : (n : ℕ) (marks : List ℕ) → marks ≡ 1 ∷ replicate n 0 → IsFresh marks
-fresh_made n marks e = rw e (record {
-  header = refl;
-  unused = λ k pos. ap use_count (blank_at n k pos);
-  free = omega (arith, used-cons 1 (replicate n 0), used_zeros n);
-})
-
-kept_zeros : (n : ℕ) → kept_in (replicate n 0) ≡ 0
-kept_zeros zero = kept-nil
-kept_zeros (suc n) = omega (arith, kept-cons 0 (replicate n 0), kept_zeros n)
-
--- none of them is marked as metadata
-pub none_kept : (n : ℕ) (marks : List ℕ) → marks ≡ 1 ∷ replicate n 0 → kept_in marks ≡ 0
-none_kept n marks e = rw e (omega (arith, kept-cons 1 (replicate n 0), kept_zeros n))
-
-pub unmarked_made : (n : ℕ) (marks : List ℕ) → marks ≡ 1 ∷ replicate n 0 → (k : ℕ) → 0 < k → get_or marks k 0 ≡ 0
-unmarked_made n marks e k pos = ap (λ (xs : List ℕ). get_or xs k 0) e ∙ blank_at n k pos
-
-whole_one : (n : ℕ) (xs : List ℕ) → 0 < n → xs ≡ 1 ∷ [] → take n xs ≡ 1 ∷ []
-whole_one n xs some e = grind (arith, common_steps)
-
-pub marks_made : (n len : ℕ) (none one : List ℕ) → 0 < n → none ≡ [] → one ≡ none ++ 1 ∷ [] → len ≡ 1 → take n one ++ replicate (n - len) 0 ≡ 1 ∷ replicate (n - 1) 0
-marks_made n len none one some is_none is_one is_len =
-    let front : take n one ≡ 1 ∷ [] = whole_one n one some (is_one ∙ ap (λ (xs : List ℕ). xs ++ 1 ∷ []) is_none) in
-    rw (front, is_len) refl

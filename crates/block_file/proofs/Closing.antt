@@ -1,10 +1,17 @@
 -- A chain that lies in a file before and after its header is written.
-use Rattle.std.proofs.Common.{◌≡◌, ℕ, zero, suc, ◌+◌, ◌/◌, ◌%◌, ◌<◌, ◌≤◌, List, length, get_or, arith, refl, ap, sym, ◌∙◌}
+use Rattle.std.proofs.Common.{◌≡◌, ℕ, zero, suc, ◌+◌, ◌/◌, ◌%◌, ◌<◌, ◌≤◌, IsTrue, List, length, get_or, arith, refl, ap, sym, ◌∙◌}
 use Rattle.std.proofs.lemmas.Grind.{same_number_lists}
+use Rattle.block_file.specs.declared.chain.Layout.{Layout}
+use Rattle.block_file.specs.declared.header.Header.{Header}
+use Rattle.block_file.specs.declared.header.State.{State}
 use Rattle.block_file.specs.declared.header.State.TheVariants.{Closed}
-use Rattle.block_file.specs.Blocks.{block_at, OthersKept}
+use Rattle.block_file.specs.State.{BlocksState, block_at}
+use Rattle.block_file.specs.Words.{OthersKept, OnlyHeader, WritesHeader}
+use Rattle.block_file.specs.View.{IsOpened}
+use Rattle.block_file.specs.Links.{IsClosedHeader, ReadsChain}
 use Rattle.block_file.specs.Format.{number_at, link, chain_blocks, IsChain, IsClosed, HeaderWritten, Closes}
 use Rattle.block_file.proofs.Opening.{closed_file}
+use Rattle.block_file.proofs.Places.{inside_whole}
 
 -- a block that a chain has is kept, and the place of the next one with it
 same_block : (old new : ℕ → List ℕ) (j k : ℕ) → OthersKept 0 old new → j ≡ k → 0 < k → length (old k) ≡ 4096 → new j ≡ old k
@@ -56,3 +63,25 @@ pub one_metadata : (content one other : List ℕ) → IsClosed content one → I
 one_metadata content one other a b =
     let same : length one ≡ length other = sym a.header.size ∙ b.header.size in
     same_number_lists _ _ same (λ j lt. a.chain.bytes j lt ∙ sym (b.chain.bytes j (omega arith)))
+
+-- a closed file that was read
+pub opened_file : (content : List ℕ) (header : Header) (layout : Layout) → IsClosedHeader header content → 0 < header.blocks → header.blocks ≤ 1048576 → length layout.metadata.items ≡ header.length → length layout.marks ≡ header.blocks
+    → ReadsChain content header layout → IsOpened content layout.metadata.items layout.marks
+opened_file content header layout head some few size blocks reads =
+    let whole = head.whole in
+    let closed : IsClosed content layout.metadata.items = closed_file content layout.metadata.items header.blocks header.first header.length head.is whole few size reads.chain in
+    record {
+      new_file = λ e. absurd (let none : length content ≡ 0 = ap length e in omega arith);
+      closed = λ h. closed;
+      unique = λ other is. one_metadata content layout.metadata.items other closed is;
+      marked = λ h. rw (head.is.first, size) reads.marks;
+      blocks = omega arith;
+      whole = λ k above inside. inside_whole content k (omega arith);
+    }
+
+pub writes_header : (session : State) (first size : ℕ) (old new : BlocksState) → new.synced ≡ new.content → (IsTrue old.honest → HeaderWritten session first size old.content new.content) → OnlyHeader old new → WritesHeader session first size old new
+writes_header session first size old new synced written only = record {
+  synced = synced;
+  written = written;
+  closes = λ honest closed. closes first size old.content new.content (rw closed at (written honest)) (only.others honest);
+}

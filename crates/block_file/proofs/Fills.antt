@@ -1,12 +1,13 @@
 -- A last block that is filled, and the header that is written after.
-use Rattle.std.proofs.Common.{◌≡◌, ℕ, ◌+◌, ◌-◌, ◌*◌, ◌/◌, ◌%◌, ◌<◌, ◌≤◌, inl, inr, max, List, length, replicate, get_or, arith, ap, zero-add, sym, ◌∙◌}
+use Rattle.std.proofs.Common.{◌≡◌, ℕ, ◌+◌, ◌-◌, ◌*◌, ◌/◌, ◌%◌, ◌<◌, ◌≤◌, inl, inr, max, IsTrue, List, length, replicate, get_or, arith, ap, zero-add, sym, ◌∙◌}
 use Rattle.std.proofs.lemmas.Bool.{cases_lt}
 use Rattle.std.proofs.lemmas.List.{get_or_past, length-replicate}
 use borrow.Rule.Slice.PartMut.{mid_of}
 use Rattle.disk_face.specs.Disk.{Written, Torn}
 use Rattle.block_file.specs.declared.header.State.{State}
 use Rattle.block_file.specs.Format.{IsHeader, Filled, Extends, HeaderWritten, HeaderLast}
-use Rattle.block_file.specs.Blocks.{block_at, OthersKept}
+use Rattle.block_file.specs.State.{BlocksState, block_at}
+use Rattle.block_file.specs.Words.{OthersKept, OnlyHeader}
 use Rattle.block_file.proofs.Places.{same_blocks, whole_inside}
 use Rattle.block_file.proofs.Headers.{header_in}
 use Rattle.block_file.proofs.Numbers.{length-mid, zeros_mid}
@@ -92,3 +93,39 @@ torn_blocks n old mid mid' new e extends same torn =
     let torn' : Torn 0 n mid new = rw (← same) torn in
     let longer = extends.no_shorter in
     same_blocks old new (omega (arith, torn'.no_shorter)) (λ i a b. torn_behind n mid new e torn' i a ∙ extends.kept i b)
+
+-- the header was not reached
+pub only_extends : (old new : BlocksState) (mid : List ℕ) → new.content ≡ mid → new.uses ≡ old.uses → new.size ≡ old.size → new.honest ≡ old.honest → old.uses 0 ≡ 0 → (IsTrue old.honest → Extends old.content mid) → OnlyHeader old new
+only_extends old new mid is uses size honest unused extends = record {
+  others = λ h. rw is (extends_blocks old.content mid (extends h));
+  torn = λ h. let e = extends h in rw is (record { no_shorter = e.no_shorter; no_longer = omega (arith, e.no_longer); kept = λ i a b. e.kept i b });
+  last = λ h. rw is (last_kept old.content mid new.synced (λ i b. (extends h).kept i b));
+  unused = unused;
+  uses = uses;
+  size = size;
+  honest = honest;
+}
+
+-- the header was written, however that ended, after all the rest was synced
+pub only_torn : (n : ℕ) (old new : BlocksState) (mid mid' after synced last : List ℕ) → n ≡ 4096 → new.content ≡ after → new.synced ≡ last → new.uses ≡ old.uses → new.size ≡ old.size → new.honest ≡ old.honest → old.uses 0 ≡ 0
+    → (IsTrue old.honest → Extends old.content mid) → mid' ≡ mid → Torn 0 n mid' after → synced ≡ mid → Torn 0 n synced last → OnlyHeader old new
+only_torn n old new mid mid' after synced last e is is_last uses size honest unused extends same torn same_synced torn_synced =
+    let torn' : Torn 0 n mid after = rw (← same) torn in
+    record {
+      others = λ h. rw is (torn_blocks n old.content mid mid' after e (extends h) same torn);
+      torn = λ h. let x = extends h in rw is (record {
+        no_shorter = omega (arith, x.no_shorter, torn'.no_shorter);
+        no_longer = omega (arith, x.no_longer, torn'.no_longer);
+        kept = λ i a b. torn_behind n mid after e torn' i a ∙ x.kept i b;
+      });
+      last = λ h. rw (is, is_last) (last_torn n old.content mid after synced last e same_synced torn' torn_synced);
+      unused = unused;
+      uses = uses;
+      size = size;
+      honest = honest;
+    }
+
+pub header_written : (state : State) (blocks first size : ℕ) (bytes old mid mid' after new : List ℕ) → length old ≤ 4096 * 1048576 → Extends old mid → Filled old mid blocks → mid' ≡ mid → length bytes ≡ 4096
+    → IsHeader bytes state blocks first size → Written 0 bytes mid' after → new ≡ after → HeaderWritten state first size old new
+header_written state blocks first size bytes old mid mid' after new most extends filled same len header done is =
+    rw is (header_done state blocks first size bytes old mid after most extends filled len header (rw same at done))

@@ -1,10 +1,11 @@
 -- How a header is put together, and what a part of a content tells of it.
-use Rattle.std.proofs.Common.{◌≡◌, ℕ, ◌+◌, ◌*◌, ◌<◌, ◌≤◌, List, length, get_or, take, arith, ◌∙◌}
+use Rattle.std.proofs.Common.{◌≡◌, ℕ, ◌+◌, ◌*◌, ◌<◌, ◌≤◌, List, length, get_or, take, drop, arith, ap, sym, ◌∙◌}
 use Rattle.std.proofs.lemmas.Grind.{common_steps, elements, same_number_lists}
-use Rattle.disk_face.specs.Disk.{Torn}
 use Rattle.block_file.specs.declared.header.State.{State}
+use Rattle.block_file.specs.State.{block_at}
 use Rattle.block_file.specs.Format.{number_at, magic_bytes, state_number, IsStoreFile, IsHeader, KeepsHeader, Put}
 use Rattle.block_file.proofs.Numbers.{same_number}
+use Rattle.block_file.proofs.Places.{whole_inside, inside_whole}
 
 kept : (at n at' n' x : ℕ) (old new : List ℕ) → at + n ≤ at' → Put at' n' x old new → number_at at n new ≡ number_at at n old
 kept at n at' n' x old new le put = same_number at n new old (λ j a b. put.below j (omega arith))
@@ -50,9 +51,20 @@ header_in state blocks first size bytes content short long same h =
       zeros = λ i a b. same i b ∙ h.zeros i a b;
     }
 
--- a write to another block keeps the header
-pub header_torn : (k n : ℕ) (old new : List ℕ) → Torn (4096 * k) n old new → 0 < k → KeepsHeader old new
-header_torn k n old new torn above = λ state blocks first size h.
+first_byte : (content : List ℕ) (n i : ℕ) → i < n → get_or (take n (drop (n * 0) content)) i 0 ≡ get_or content i 0
+first_byte content n i lt = grind (arith, elements)
+
+-- a byte of the header
+header_byte : (content : List ℕ) (i : ℕ) → i < 4096 → get_or (block_at content 0) i 0 ≡ get_or content i 0
+unfolding block_at
+header_byte content i lt = first_byte content 4096 i lt
+
+-- what is kept of a whole header keeps what it tells
+pub keeps_header : (old new : List ℕ) → (length (block_at old 0) ≡ 4096 → block_at new 0 ≡ block_at old 0) → KeepsHeader old new
+keeps_header old new kept = λ state blocks first size h.
     let whole = h.store.whole in
-    let longer = torn.no_shorter in
-    header_in state blocks first size old new whole (omega arith) (λ i lt. torn.below i (omega arith) (omega arith)) h
+    let was : length (block_at old 0) ≡ 4096 = inside_whole old 0 (omega arith) in
+    let same : block_at new 0 ≡ block_at old 0 = kept was in
+    let long = whole_inside new 0 (ap length same ∙ was) in
+    header_in state blocks first size old new whole (omega arith)
+    (λ i lt. sym (header_byte new i lt) ∙ ap (λ (b : List ℕ). get_or b i 0) same ∙ header_byte old i lt) h

@@ -1,9 +1,13 @@
 -- What the header of a content says of its opening.
 use Rattle.std.proofs.Common.{◌≡◌, ◌≢◌, ℕ, ◌*◌, ◌/◌, ◌<◌, ◌≤◌, List, length, get_or, arith, ap, sym, ◌∙◌, zero-add}
 use Rattle.disk_face.specs.Disk.{Holds}
+use Rattle.block_file.specs.declared.fault.OpenFault.{OpenFault}
+use Rattle.block_file.specs.declared.fault.OpenFault.TheVariants.{NoMemory, DiskFault, Damaged, NotAStore, NotClosed}
 use Rattle.block_file.specs.declared.header.State.TheVariants.{Closed}
-use Rattle.block_file.specs.Blocks.{block_at}
+use Rattle.block_file.specs.State.{block_at}
 use Rattle.block_file.specs.Format.{number_at, IsStoreFile, IsHeader, IsChain, IsClosed, IsDamaged}
+use Rattle.block_file.specs.View.{IsRefused}
+use Rattle.block_file.specs.Links.{IsNoHeader}
 use Rattle.block_file.proofs.Headers.{header_in, store_in}
 use Rattle.block_file.proofs.Numbers.{same_number}
 
@@ -50,16 +54,6 @@ damaged_length content blocks first size header wrong = record {
       wrong (omega arith) (omega arith);
 }
 
--- a closed header without a chain that fits
-pub damaged_chain : (content : List ℕ) (blocks first size : ℕ) → IsHeader content Closed blocks first size → ((metadata : List ℕ) → length metadata ≡ size → IsChain (block_at content) first metadata → ⊥) → IsDamaged content
-damaged_chain content blocks first size header none = record {
-  store = header.store;
-  not_open = λ e. let closed = header.state in omega arith;
-  not_closed = λ metadata closed.
-      let chain = rw header.first at closed.chain in
-      none metadata (sym closed.header.size ∙ header.size) chain;
-}
-
 -- a closed header with a chain
 pub closed_file : (content metadata : List ℕ) (blocks first size : ℕ) → IsHeader content Closed blocks first size → length content ≡ 4096 * blocks → blocks ≤ 1048576 → length metadata ≡ size → IsChain (block_at content) first metadata → IsClosed content metadata
 closed_file content metadata blocks first size header whole few same chain =
@@ -70,3 +64,11 @@ closed_file content metadata blocks first size header whole few same chain =
       few = omega arith;
       chain = rw header.first chain;
     }
+
+-- why a header is refused, by the bytes that were read of it
+pub refused_header : (fault : OpenFault) (content bytes : List ℕ) → length bytes ≡ 4096 → Holds content 0 bytes → IsNoHeader fault bytes → IsRefused fault content
+refused_header NoMemory content bytes len holds why = absurd why
+refused_header DiskFault content bytes len holds why = absurd why
+refused_header NotAStore content bytes len holds why = (let long = long_enough content bytes len holds in omega arith, λ store. why (bytes_store content bytes len holds store))
+refused_header NotClosed content bytes len holds why = (content_store content bytes len holds why.0, content_state content bytes len holds ∙ why.1)
+refused_header Damaged content bytes len holds why = damaged_header content bytes len holds why.0 why.1 why.2

@@ -1,11 +1,13 @@
 -- Blocks of a content.
-use Rattle.std.proofs.Common.{◌≡◌, ◌≢◌, ℕ, ◌+◌, ◌*◌, ◌<◌, ◌≤◌, ◌⊎◌, inl, inr, suc, List, length, get_or, take, drop, arith}
+use Rattle.std.proofs.Common.{◌≡◌, ◌≢◌, ℕ, ◌+◌, ◌*◌, ◌<◌, ◌≤◌, ◌⊎◌, inl, inr, suc, List, length, get_or, take, drop, arith, refl}
 use Rattle.std.proofs.lemmas.Grind.{common_steps, elements, same_number_lists}
 use Rattle.std.proofs.lemmas.List.{same_lists}
-use Rattle.std.proofs.lemmas.Bool.{cases_lt}
+use Rattle.std.proofs.lemmas.Bool.{cases_lt, cases_eq}
 use Rattle.std.proofs.Math.Nat.{mul-le-mul_left, mul-suc}
 use Rattle.disk_face.specs.Disk.{Holds, Torn}
-use Rattle.block_file.specs.Blocks.{block_at, OthersKept}
+use Rattle.block_file.specs.State.{BlocksState, block_at, one}
+use Rattle.block_file.specs.Words.{OthersKept, Moves}
+use Rattle.block_file.proofs.Times.{one_same}
 
 held : (content bytes : List ℕ) (k n : ℕ) → length bytes ≡ n → Holds content (n * k) bytes → bytes ≡ take n (drop (n * k) content)
 held content bytes k n len holds =
@@ -62,3 +64,18 @@ same_blocks old new le same = λ j ne whole.
     let inside = whole_inside old j whole in
     let at : 4096 ≤ 4096 * j = omega (arith, mul-le-mul_left 4096 (let h : 1 ≤ j = omega arith in h)) in
     same_part old new (4096 * j) 4096 inside (omega arith) (λ i a b. same i (omega arith) b)
+
+-- a write to block k, in use once, as its callers see it
+pub write_moves : (old new : BlocksState) (k m : ℕ) → m ≡ 4096 → new.uses ≡ old.uses → new.size ≡ old.size → new.honest ≡ old.honest → old.uses k ≡ 1 → 0 < k → Torn (4096 * k) m old.content new.content → Moves (one k) (one k) old new
+write_moves old new k m e uses size honest once above torn =
+    let kept = kept_blocks old.content new.content k m e torn in
+    record {
+      uses = λ j. rw uses refl;
+      kept = λ j h whole. elim (cases_eq j k) [
+        | inl same ↦ absurd (let h' : one k k < old.uses k = rw same at h in omega (arith, one_same k))
+        | inr ne ↦ kept j ne whole
+      ];
+      header = λ whole. kept 0 (omega arith) whole;
+      size = size;
+      honest = honest;
+    }

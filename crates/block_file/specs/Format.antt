@@ -2,7 +2,7 @@
 -- is the header.
 use Rattle.std.specs.Prelude.{◌≡◌, ◌≢◌, ℕ, zero, suc, ◌+◌, ◌*◌, ◌/◌, ◌%◌, ◌<◌, ◌≤◌, max, List, length, take, slice_index, codes}
 use Rattle.byteorder.specs.Endian.{little_from}
-use Rattle.block_file.specs.Blocks.{block_at}
+use Rattle.block_file.specs.State.{block_at}
 use Rattle.block_file.specs.declared.header.State.{State}
 use Rattle.block_file.specs.declared.header.State.TheVariants.{Open, Closed}
 

@@ -1,6 +1,7 @@
 //! The header of a store file, and the numbers in its bytes.
-ghost use Rattle.std.specs.Prelude.{◌≡◌, ◌≢◌, ◌≤◌, ◌<◌, ◌+◌, ℕ, take, length, slice_index, IfOk, IsErrOf, IsTrue, ◌↔◌};
-ghost use Rattle.block_file.specs.Format.{number_at, magic_bytes, state_number, Put, IsStoreFile, IsHeader};
+ghost use Rattle.std.specs.Prelude.{◌≡◌, ◌≤◌, ◌<◌, ◌+◌, ℕ, take, length, slice_index, IfOk, IfErr, IsTrue, ◌↔◌};
+ghost use Rattle.block_file.specs.Format.{number_at, magic_bytes, state_number, Put, IsHeader};
+ghost use Rattle.block_file.specs.Links.{IsNoHeader};
 
 use crate::OpenFault;
 use byteorder::{ByteOrder, LittleEndian};
@@ -96,11 +97,7 @@ pub(crate) fn header_bytes(state: State, blocks: u32, first: u32, length: u64) -
 /// for the state of an open one, then as damaged for another state or bytes behind the fields that are not zero.
 pub(crate) fn parse_header(bytes: &[u8; 4096]) -> Result<Header, OpenFault>
     ensures ok { IfOk result (λ header. IsHeader bytes.now State.Closed header.blocks header.first header.length) }
-    ensures no_store { IsErrOf result OpenFault.NotAStore → IsStoreFile bytes.now → ⊥ }
-    ensures left_open { IsErrOf result OpenFault.NotClosed → IsStoreFile bytes.now × (number_at 12 4 bytes.now ≡ 1) }
-    ensures damaged { IsErrOf result OpenFault.Damaged → IsStoreFile bytes.now × (number_at 12 4 bytes.now ≢ 1) × ((blocks first size : ℕ) → IsHeader bytes.now State.Closed blocks first size → ⊥) }
-    ensures memory { IsErrOf result OpenFault.NoMemory → ⊥ }
-    ensures disk { IsErrOf result OpenFault.DiskFault → ⊥ }
+    ensures refused { IfErr result (λ fault. IsNoHeader fault bytes.now) }
 {
     if bytes[..8] != MAGIC[..] || u32_at(bytes, 8) != VERSION {
         return Err(OpenFault::NotAStore);
@@ -109,7 +106,10 @@ pub(crate) fn parse_header(bytes: &[u8; 4096]) -> Result<Header, OpenFault>
     if state == State::Open.number() {
         return Err(OpenFault::NotClosed);
     }
-    if state != State::Closed.number() || !all_zero(&bytes[32..]) {
+    if state != State::Closed.number() {
+        return Err(OpenFault::Damaged);
+    }
+    if !all_zero(&bytes[32..]) {
         return Err(OpenFault::Damaged);
     }
     Ok(Header {

@@ -1,5 +1,5 @@
 -- What the calls of a disk do to the bytes that it holds.
-use Rattle.std.specs.Prelude.{◌≡◌, ℕ, ◌+◌, ◌-◌, ◌^◌, ◌<◌, ◌≤◌, min, max, Bool, true, false, take, List, length, slice_index, Result, OnOk, OnErr}
+use Rattle.std.specs.Prelude.{◌≡◌, ℕ, ◌+◌, ◌-◌, ◌^◌, ◌<◌, ◌≤◌, min, max, Bool, true, false, take, List, length, slice_index}
 
 -- A disk in memory as callers see it: its bytes, and how many of its calls have failed.
 pub record Memory : Type 0 where
@@ -47,12 +47,18 @@ pub record Written (at : ℕ) (bytes old new : List ℕ) : Type 0 where
   pub gap : (i : ℕ) → length old ≤ i → i < at → slice_index new i ≡ 0
   pub others : Torn at (length bytes) old new
 
--- the count rose, or stands at the last value of a `u64`
+-- the count rose, or stands at the last value of a `u64`; it has not fallen
 abbrev pub Rose : ℕ → ℕ → Type 0
-Rose old new = min (old + 1) (2 ^ 64 - 1) ≤ new
+Rose old new = max old (min (old + 1) (2 ^ 64 - 1)) ≤ new
 
--- how a call changes the count of failures: a call that was done not at all, and a refused one is counted
-pub record Counts {T E : Type 0} (result : Result T E) (old new : ℕ) : Type 0 where
-  pub no_fewer : old ≤ new
-  pub done : OnOk result (new ≡ old)
-  pub refused : OnErr result (Rose old new)
+-- What an answer tells of the disk's failures: a fault only where the count rose in the call, or stands at its last value; an
+-- answer that tells no fault left the count as it was.
+pub record Tells (fault : Type 0) (old new : ℕ) : Type 0 where
+  pub told : fault → Rose old new
+  pub quiet : (fault → ⊥) → new ≡ old
+
+-- what a disk holds, what of it lasts, and whether it is honest, is as it was
+pub record Unwritten {D : Type 0} (content synced : D → List ℕ) (honest : D → Bool) (old new : D) : Type 0 where
+  pub same_content : content new ≡ content old
+  pub same_synced : synced new ≡ synced old
+  pub same_honest : honest new ≡ honest old

@@ -1,6 +1,6 @@
 //! A disk over a file: each call reads or writes all of its bytes, and the length is right after each.
 ghost use Rattle.std.specs.Prelude.{◌≡◌, ◌≤◌, ◌<◌, ◌+◌, ◌-◌, ◌^◌, min, length, true, false, IfOk, OnOk, OnErr, IsTrue};
-ghost use Rattle.disk_face.specs.Disk.{Holds, Torn, Written};
+ghost use Rattle.disk_face.specs.Disk.{Holds, Torn, Written, Unwritten};
 
 use crate::{Disk, DiskFault, RawFault, RawFile, StdFile};
 use std::fs::{File, OpenOptions};
@@ -38,7 +38,8 @@ impl FileDisk<StdFile> {
     /// The file at this path, which is made where there is none. Refused where the system will not open or make it;
     /// there is no count yet.
     pub fn open<R: Files<File = File>>(rt: &R, path: &str) -> Result<FileDisk<StdFile>, DiskFault>
-        ensures { IfOk result (λ disk. disk.failures ≡ 0) }
+        ensures failures { IfOk result (λ disk. disk.failures ≡ 0) }
+        ensures works { IfOk result (λ disk. disk.is_broken ≡ false) }
     {
         let mut options = OpenOptions::new();
         options.read(true).write(true).create(true);
@@ -109,9 +110,7 @@ impl<F: RawFile> FileDisk<F> {
 fn read_all<F: RawFile>(file: &mut F, at: u64, buf: &mut [u8]) -> Result<(), RawFault>
     requires { at + length buf.old < 2 ^ 64 }
     ensures read { OnOk result (IsTrue (F.honest file.old) → at + length buf.new ≤ length (F.content file.old) → Holds (F.content file.old) at buf.new) }
-    ensures same { F.content file.new ≡ F.content file.old }
-    ensures same_synced { F.synced file.new ≡ F.synced file.old }
-    ensures honest { F.honest file.new ≡ F.honest file.old }
+    ensures same { Unwritten F.content F.synced F.honest file.old file.new }
 {
     let mut filled = 0;
     'reading: while filled < buf.len() {

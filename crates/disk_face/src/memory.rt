@@ -1,6 +1,6 @@
 //! A disk in memory. It is honest, and what it holds needs no sync.
-ghost use Rattle.std.specs.Prelude.{◌≡◌, ◌≤◌, ◌+◌, ◌-◌, ◌^◌, length, min, true, IsTrue, IsOk, OnOk, OnErr};
-ghost use Rattle.disk_face.specs.Disk.{Holds, Torn, Written, Counts};
+ghost use Rattle.std.specs.Prelude.{◌≡◌, ◌≤◌, ◌+◌, ◌-◌, ◌^◌, length, min, true, IsTrue, IsOk, IsErr, OnOk, OnErr};
+ghost use Rattle.disk_face.specs.Disk.{Holds, Torn, Written, Tells};
 
 use crate::{Disk, DiskFault};
 use std::alloc::AllocError;
@@ -63,7 +63,7 @@ impl Disk for MemDisk {
         ensures read { OnOk result (Holds self.old.content at buf.new) }
         ensures inside { at + length buf.old ≤ length self.old.content → IsOk result }
         ensures same { self.new.content ≡ self.old.content }
-        ensures counts { Counts result self.old.failures self.new.failures }
+        ensures told { Tells (IsErr result) self.old.failures self.new.failures }
     {
         let at = at as usize;
         if at > self.bytes.len() || buf.len() > self.bytes.len() - at {
@@ -80,7 +80,7 @@ impl Disk for MemDisk {
         ensures inside { at + length bytes.now ≤ length self.old.content → IsOk result }
         ensures refused { OnErr result (self.new.content ≡ self.old.content) }
         ensures torn { Torn at (length bytes.now) self.old.content self.new.content }
-        ensures counts { Counts result self.old.failures self.new.failures }
+        ensures told { Tells (IsErr result) self.old.failures self.new.failures }
     {
         match overwrite(&mut self.bytes, at as usize, bytes) {
             Ok(()) => Ok(()),

@@ -1,9 +1,12 @@
-pub mod Places
+pub mod Options
 pub mod Totals
 pub mod Contents
+pub mod Places
 pub mod Readings
+pub mod Known
+mod Fetched
 pub mod Writes
-pub mod Named
+mod Changed
+mod Outcomes
 pub mod CellKinds
-pub mod Placed
 mod KeptTiles

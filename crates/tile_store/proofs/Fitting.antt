@@ -1,14 +1,18 @@
 -- The numbers of a tile are in the range of its field's type.
-use Rattle.std.proofs.Common.{◌≡◌, ℕ, zero, suc, ◌<◌, List, [], ◌∷◌, ◌++◌, length, get_or, map, replicate, arith, refl, sym, ◌∙◌, subst, All}
+use Rattle.std.proofs.Common.{◌≡◌, ℕ, zero, suc, ◌+◌, ◌<◌, ◌≤◌, List, [], ◌∷◌, ◌++◌, length, get_or, map, replicate, arith, refl, sym, ◌∙◌, subst, All}
 use Rattle.std.specs.Prelude.{ℤ, pos, if◌then◌else◌}
 use Rattle.std.proofs.Common.{inl, inr}
 use Rattle.arr_core.specs.declared.domain.Axis.{Axis}
 use Rattle.arr_core.specs.Domains.{count, AreOrdered, IsInside, is_inside, rank_of, point_at}
-use Rattle.tile_store.specs.Overlays.{Overlaid, cell_at}
-use Rattle.tile_store.proofs.Points.{rank-point, point-inside, rank_of-lt-count}
+use Rattle.tile_store.specs.Overlays.{Overlaid}
+use Rattle.tile_store.specs.declared.numbers.Numbers.{Numbers}
+use Rattle.tile_store.specs.declared.numbers.Numbers.TheVariants.{Same, Each as List_of}
+use Rattle.tile_store.specs.Numbers.{AreNumbers, numbers_in, number_of, HasNumbers}
+use Rattle.arr_core.proofs.Points.{rank-point, point-inside, rank_of-lt-count}
 use Rattle.tile_store.proofs.Rows.{inside_cases}
 use Rattle.std.specs.List.{range_with_len, flat_map, AllByRecursion as Each}
 use Rattle.std.proofs.lemmas.Int.{ints}
+use Rattle.std.proofs.lemmas.List.{get_or_default, get_or-replicate}
 use Rattle.std.proofs.lemmas.List.Elements.{All-from_recursion, recursion_from_All}
 use Rattle.std.proofs.lemmas.List.Concat.{flat_map-cons}
 use Rattle.std.proofs.lemmas.List.FromFn.{length-map-range_with_len, get_or-map-range_with_len}
@@ -58,12 +62,6 @@ fits_zero kind.I64 = (omega (arith, ints), omega (arith, ints))
 pub fits_zeros : (k : FieldType) (n : ℕ) (cells : List ℤ) → cells ≡ replicate n (pos 0) → All (Fits k) cells
 fits_zeros k n cells is = subst (λ (c : List ℤ). All (Fits k) c) (sym is) (All-from_recursion (Fits k) (replicate n (pos 0)) (each-replicate (Fits k) n (pos 0) (fits_zero k)))
 
--- inside a list the default does not matter
-same_default : {X : Type 0} (xs : List X) (i : ℕ) (d e : X) → i < length xs → get_or xs i d ≡ get_or xs i e
-same_default [] i d e h = absurd (omega arith)
-same_default (x ∷ xs) zero d e h = refl
-same_default (x ∷ xs) (suc i) d e h = same_default xs i d e (omega arith)
-
 -- what is true of the old numbers and of the new ones is true after they are written over one another
 pub all_overlaid : (P : ℤ → Type 0) (axes area : List Axis) (number : List ℤ → ℤ) (old new : List ℤ) → length old ≡ count axes → length new ≡ count axes → AreOrdered axes
     → Overlaid axes area number old new → All P old → ((p : List ℤ) → IsInside area p → P (number p)) → All P new
@@ -77,8 +75,22 @@ all_overlaid P axes area number old new old_size size ordered overlaid all each 
       | inl t ↦ (let is : get_or new i (pos 0) ≡ number p = there ∙ rw t.0 refl in subst P (sym is) (each p t.1))
       | inr e ↦ (let is : get_or new i (pos 0) ≡ get_or old i (pos 0) = there ∙ rw e refl in subst P (sym is) (all i (pos 0) (omega (arith, below, old_size))))
     ] in
-    subst P (same_default new i (pos 0) d h) here
+    subst P (get_or_default new i (pos 0) d h) here
 
--- a cell of a box
-pub all_cells : (P : ℤ → Type 0) (area : List Axis) (cells : List ℤ) → length cells ≡ count area → All P cells → (p : List ℤ) → IsInside area p → P (cell_at area cells p)
-all_cells P area cells size all p inside = all (rank_of area p) (pos 0) (omega (arith, size, rank_of-lt-count area p inside))
+-- the numbers of a box at its points
+pub number_fits : (k : FieldType) (area : List Axis) (numbers : Numbers) (p : List ℤ) → AreNumbers k area numbers → IsInside area p → Fits k (number_of numbers (0 + rank_of area p))
+number_fits k area (Same n) p are inside = are
+number_fits k area (List_of list) p are inside = are.1 (0 + rank_of area p) (pos 0) (omega (arith, are.0, rank_of-lt-count area p inside))
+
+pub number_listed : (k : FieldType) (area : List Axis) (numbers : Numbers) (p : List ℤ) → AreNumbers k area numbers → IsInside area p → number_of numbers (0 + rank_of area p) ≡ get_or (numbers_in area numbers) (rank_of area p) (pos 0)
+number_listed k area (Same n) p are inside = sym (get_or-replicate (count area) (rank_of area p) n (pos 0) (rank_of-lt-count area p inside))
+number_listed k area (List_of list) p are inside = rw (let e : 0 + rank_of area p ≡ rank_of area p = omega arith in e) refl
+
+-- there are numbers for each point of a box, and for fewer
+pub has_numbers : (k : FieldType) (area : List Axis) (numbers : Numbers) → AreNumbers k area numbers → HasNumbers numbers (0 + count area)
+has_numbers k area (Same n) are = tt
+has_numbers k area (List_of list) are = omega (arith, are.0)
+
+pub has_fewer : (numbers : Numbers) (n m : ℕ) → n ≤ m → HasNumbers numbers m → HasNumbers numbers n
+has_fewer (Same n) a b le has = tt
+has_fewer (List_of list) a b le has = omega (arith, le, has)

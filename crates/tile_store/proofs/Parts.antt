@@ -4,12 +4,13 @@ use Rattle.std.specs.List.{flat_map}
 use Rattle.std.proofs.lemmas.Bool.{cases_lt}
 use Rattle.std.proofs.lemmas.List.{length-append, length-drop, take-append-drop, drop-drop, drop_all, take_all, take_at, length-take-le, nil_from_length, append-nil}
 use Rattle.std.proofs.lemmas.List.Concat.{flat_map-cons}
-use Rattle.block_file.specs.Blocks.{block_at, IsDistinct, OthersKept}
+use Rattle.block_file.specs.State.{BlocksState, block, block_at, one, times}
+use Rattle.block_file.specs.Words.{Moves}
+use Rattle.block_file.proofs.Times.{one_other, one_le, times_at, one_place, times-cons, times_none}
 use Rattle.tile_index.specs.declared.entry.Entry.{Entry}
 use Rattle.tile_store.specs.Stored.{entry_data}
-use Rattle.tile_store.specs.Listing.{times}
-use Rattle.tile_store.specs.Written.{HoldsPart}
-use Rattle.tile_store.proofs.Times.{place_in}
+use Rattle.tile_store.specs.Written.{HoldsPart, AreFresh}
+use Rattle.std.proofs.lemmas.Bool.{cases_eq}
 
 -- the first bytes of joined lists
 pub take-append : (n m : ℕ) (xs ys : List ℕ) → length xs ≡ m → take n (xs ++ ys) ≡ take n xs ++ take (n - m) ys
@@ -44,21 +45,53 @@ parts_joined f (k ∷ ks) bytes parts enough =
     let later : take (length bytes - 4096) (flat_map f ks) ≡ drop 4096 bytes = rw length-drop at rest in
     ap (take (length bytes)) (flat_map-cons f k ks) ∙ both ∙ ap (λ (xs : List ℕ). xs ++ take (length bytes - 4096) (flat_map f ks)) here ∙ ap (λ (xs : List ℕ). take 4096 bytes ++ xs) later ∙ take-append-drop 4096 bytes
 
+-- blocks that stand once stand at one place each
+once_of : (ks : List ℕ) (s : BlocksState) → AreFresh ks s → (k : ℕ) → times ks k ≤ 1
+once_of ks s fresh k = elim (cases_eq (times ks k) 0) [ inl none ↦ omega (arith, none) | inr some ↦ (let here = fresh k (omega (arith, some)) in omega (arith, here.1)) ]
+
 -- one more block was written
-pub parts_more : (numbers : List ℕ) (place : ℕ) (bytes block : List ℕ) (now new : ℕ → List ℕ) → IsDistinct numbers → place < length numbers → ((i : ℕ) → i < place → HoldsPart (now (get_or numbers i 0)) i bytes)
-    → HoldsPart block place bytes → new (get_or numbers place 0) ≡ block → OthersKept (get_or numbers place 0) now new → (i : ℕ) → i < place + 1 → HoldsPart (new (get_or numbers i 0)) i bytes
-parts_more numbers place bytes block now new distinct inside parts here is others i h = elim (cases_lt i place) [
+pub parts_more : (numbers : List ℕ) (place : ℕ) (bytes written : List ℕ) (start now new : BlocksState) → AreFresh numbers start → place < length numbers → Moves (times numbers) (times numbers) start now
+    → Moves (one (get_or numbers place 0)) (one (get_or numbers place 0)) now new
+    → ((i : ℕ) → i < place → HoldsPart (block now (get_or numbers i 0)) i bytes) → HoldsPart written place bytes → block new (get_or numbers place 0) ≡ written
+    → (i : ℕ) → i < place + 1 → HoldsPart (block new (get_or numbers i 0)) i bytes
+parts_more numbers place bytes written start now new fresh inside done m parts here is i h = elim (cases_lt i place) [
   | inl lt ↦
+      let k : ℕ = get_or numbers i 0 in
+      let b : ℕ = get_or numbers place 0 in
       let old = parts i lt in
-      let other : get_or numbers i 0 ≢ get_or numbers place 0 = λ e. absurd (omega (arith, distinct i place (omega (arith, lt, inside)) inside e, lt)) in
-      let same : new (get_or numbers i 0) ≡ now (get_or numbers i 0) = others (get_or numbers i 0) other old.whole in
+      let other : b ≢ k = λ e. absurd (omega (arith, one_place numbers i place (once_of numbers start fresh) (omega (arith, lt, inside)) inside (sym e), lt)) in
+      let used = (fresh k (times_at numbers i (omega (arith, lt, inside)))).0 in
+      let same : block new k ≡ block now k = m.kept k (omega (arith, one_other b k other, used, done.uses k)) old.whole in
       rw same old
   | inr ge ↦ (let this : i ≡ place = omega (arith, ge, h) in rw (this, is) here)
 ]
 
+-- the blocks of a list are written one after another
+pub moves_on : (ks : List ℕ) (b : ℕ) (start now new : BlocksState) → 0 < times ks b → Moves (times ks) (times ks) start now → Moves (one b) (one b) now new → Moves (times ks) (times ks) start new
+moves_on ks b start now new there m n = record {
+  uses = λ k. omega (arith, m.uses k, n.uses k);
+  kept = λ k h whole.
+      let same : block now k ≡ block start k = m.kept k h whole in
+      let more : one b k < now.uses k = elim (cases_eq b k) [
+        | inl e ↦ (let at : 0 < times ks k = rw e at there in omega (arith, m.uses k, h, at, one_le b k))
+        | inr ne ↦ omega (arith, m.uses k, h, one_other b k ne)
+      ] in
+      n.kept k more (rw same whole) ∙ same;
+  header = λ whole. let same : block now 0 ≡ block start 0 = m.header whole in n.header (rw same whole) ∙ same;
+  size = n.size ∙ m.size;
+  honest = n.honest ∙ m.honest;
+}
+
+place_in : (ks : List ℕ) (k : ℕ) → 0 < times ks k → (i : ℕ) × (i < length ks) × (get_or ks i 0 ≡ k)
+place_in [] k h = absurd (omega (arith, h, times_none k))
+place_in (b ∷ ks) k h = elim (cases_eq b k) [
+  | inl e ↦ (0, omega arith, e)
+  | inr ne ↦ (let rest = place_in ks k (omega (arith, h, times-cons b ks k, one_other b k ne)) in (suc rest.0, omega (arith, rest.1), rest.2))
+]
+
 -- each of the blocks is whole
-pub parts_whole : (f : ℕ → List ℕ) (ks bytes : List ℕ) → ((i : ℕ) → i < length ks → HoldsPart (f (get_or ks i 0)) i bytes) → (k : ℕ) → 0 < times k ks → length (f k) ≡ 4096
-parts_whole f ks bytes parts k some = (let at = place_in k ks some in rw (← at.2) (parts at.0 at.1).whole)
+pub parts_whole : (f : ℕ → List ℕ) (ks bytes : List ℕ) → ((i : ℕ) → i < length ks → HoldsPart (f (get_or ks i 0)) i bytes) → (k : ℕ) → 0 < times ks k → length (f k) ≡ 4096
+parts_whole f ks bytes parts k some = (let at = place_in ks k some in rw (← at.2) (parts at.0 at.1).whole)
 
 -- bytes copied into a block of zeros
 pub holds_part : (bytes piece rest : List ℕ) (place from n : ℕ) → from ≡ min (length bytes) (place * 4096) → n ≡ min 4096 (length bytes - from) → piece ≡ take ((from + n) - from) (drop from bytes) → length (piece ++ rest) ≡ 4096 → HoldsPart (piece ++ rest) place bytes

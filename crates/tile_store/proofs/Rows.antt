@@ -12,9 +12,9 @@ use lib.Signed.{le_z_yes}
 use borrow.Rule.Slice.PartMut.{put_mid, mid_of}
 use Rattle.arr_core.specs.declared.domain.Axis.{Axis}
 use Rattle.arr_core.specs.Domains.{gap, size_of, count, IsInside, is_inside, rank_of}
-use Rattle.tile_store.specs.declared.copy.Common.{Common}
-use Rattle.tile_store.specs.Overlays.{IsCommon, Overlaid, cell_at}
-use Rattle.tile_store.proofs.Points.{rank_of-lt-count, count-pos}
+use Rattle.tile_store.specs.declared.overlay.Common.{Common}
+use Rattle.tile_store.specs.Overlays.{IsCommon, Overlaid}
+use Rattle.arr_core.proofs.Points.{count-rest, rank_of-lt-count, count-pos}
 
 -- what a test of two integers tells
 int_le_case : (x y : ℤ) (r : Bool) → int_le x y ≡ r → ((int_le x y ≡ true) × (x ≤ℤ y)) ⊎ ((int_le x y ≡ false) × (y <ℤ x))
@@ -81,13 +81,6 @@ rows_step rest area row first step number old now old_piece piece new is rows ta
       other_row rest row (first + step) now piece new is replaced r q h ne ∙ rows.others r q h out2;
 }
 
--- before the first row
-pub rows_none : (rest area : List Axis) (row first : ℕ) (number : ℕ → List ℤ → ℤ) (old : List ℤ) → RowsWritten rest area row first 0 number old old
-rows_none rest area row first number old = record {
-  written = λ r q h from below. absurd (omega (arith, from, below));
-  others = λ r q h out. refl;
-}
-
 -- after the last row
 pub rows_all : (a b : Axis) (rest area : List Axis) (c : Common) (number : ℕ → List ℤ → ℤ) (value : List ℤ → ℤ) (old new : List ℤ) → IsCommon a b c
     → RowsWritten rest area (count rest) c.to c.count number old new
@@ -134,13 +127,13 @@ pub cons_of : (axes : List Axis) (a : Axis) → 1 ≤ length axes → a ≡ get_
 cons_of [] a some is = absurd (omega arith)
 cons_of (b ∷ axes) a some is = grind (arith, elements, common_steps)
 
--- a box whose rows have all been copied
-pub copied_all : (to_axes from_axes rest area : List Axis) (a b : Axis) (c : Common) (row from_row : ℕ) (from old new : List ℤ) → to_axes ≡ a ∷ rest → from_axes ≡ b ∷ area → row ≡ count rest → from_row ≡ count area → IsCommon a b c
-    → RowsWritten rest area row c.to c.count (λ r q. get_or from ((r - c.to + c.from) * from_row + rank_of area q) (pos 0)) old new
-    → Overlaid to_axes from_axes (cell_at from_axes from) old new
-copied_all to_axes from_axes rest area a b c row from_row from old new to_is from_is row_is from_row_is common rows =
-    rw (to_is, from_is) (rows_all a b rest area c (λ r q. get_or from ((r - c.to + c.from) * from_row + rank_of area q) (pos 0)) (cell_at (b ∷ area) from) old new common (rw (← row_is) rows)
-    (λ x q low same. let place : gap b.lo x ≡ gap a.lo x - c.to + c.from = omega arith in rw (from_row_is, place) refl))
+-- a box whose rows have all been written
+pub written_all : (to_axes axes rest area : List Axis) (a b : Axis) (c : Common) (to_row row at : ℕ) (number : ℕ → ℤ) (old new : List ℤ) → to_axes ≡ a ∷ rest → axes ≡ b ∷ area → to_row ≡ count rest → row ≡ count area → IsCommon a b c
+    → RowsWritten rest area to_row c.to c.count (λ r q. number (at + ((r - c.to + c.from) * row + rank_of area q))) old new
+    → Overlaid to_axes axes (λ p. number (at + rank_of axes p)) old new
+written_all to_axes axes rest area a b c to_row row at number old new to_is is to_row_is row_is common rows =
+    rw (to_is, is) (rows_all a b rest area c (λ r q. number (at + ((r - c.to + c.from) * row + rank_of area q))) (λ p. number (at + rank_of (b ∷ area) p)) old new common (rw (← to_row_is) rows)
+    (λ x q low same. let place : gap b.lo x ≡ gap a.lo x - c.to + c.from = omega arith in rw (row_is, place) refl))
 
 line_written : (c : Common) (number : ℕ → ℤ) (old new : List ℤ) → ((i : ℕ) → c.to ≤ i → i < c.to + c.count → get_or new i (pos 0) ≡ number i)
     → (r : ℕ) (q : List ℤ) → IsInside [] q → c.to ≤ r → r < c.to + c.count → get_or new (r * 1 + rank_of [] q) (pos 0) ≡ (if is_inside [] q then number r else get_or old (r * 1 + rank_of [] q) (pos 0))
@@ -165,36 +158,19 @@ rows_of_line c number old new inside below above = record {
   others = line_others c old new below above;
 }
 
-line_place : (a b : Axis) (c : Common) (from : List ℤ) (x : ℤ) (q : List ℤ) → c.to ≤ gap a.lo x → gap b.lo x + c.to ≡ gap a.lo x + c.from → get_or from (gap a.lo x - c.to + c.from) (pos 0) ≡ cell_at (b ∷ []) from (x ∷ q)
-line_place a b c from x q low same = let place : gap b.lo x * 1 + 0 ≡ gap a.lo x - c.to + c.from = omega arith in rw place refl
+line_place : (a b : Axis) (c : Common) (at : ℕ) (number : ℕ → ℤ) (x : ℤ) (q : List ℤ) → c.to ≤ gap a.lo x → gap b.lo x + c.to ≡ gap a.lo x + c.from → number (at + (gap a.lo x - c.to + c.from)) ≡ number (at + rank_of (b ∷ []) (x ∷ q))
+line_place a b c at number x q low same = let place : gap b.lo x * 1 + 0 ≡ gap a.lo x - c.to + c.from = omega arith in rw place refl
 
--- a line whose run has been copied
-pub copied_line : (to_axes from_axes rest area : List Axis) (a b : Axis) (c : Common) (from old new : List ℤ) → to_axes ≡ a ∷ rest → from_axes ≡ b ∷ area → rest ≡ [] → area ≡ [] → IsCommon a b c
-    → ((i : ℕ) → c.to ≤ i → i < c.to + c.count → get_or new i (pos 0) ≡ get_or from (i - c.to + c.from) (pos 0))
+-- a line whose run has been written
+pub written_line : (to_axes axes rest area : List Axis) (a b : Axis) (c : Common) (at : ℕ) (number : ℕ → ℤ) (old new : List ℤ) → to_axes ≡ a ∷ rest → axes ≡ b ∷ area → rest ≡ [] → area ≡ [] → IsCommon a b c
+    → ((i : ℕ) → c.to ≤ i → i < c.to + c.count → get_or new i (pos 0) ≡ number (at + (i - c.to + c.from)))
     → ((i : ℕ) → i < c.to → get_or new i (pos 0) ≡ get_or old i (pos 0))
     → ((i : ℕ) → c.to + c.count ≤ i → get_or new i (pos 0) ≡ get_or old i (pos 0))
-    → Overlaid to_axes from_axes (cell_at from_axes from) old new
-copied_line to_axes from_axes rest area a b c from old new to_is from_is none none' common inside below above =
-    rw (to_is, from_is, none, none')
-    (rows_all a b [] [] c (λ r q. get_or from (r - c.to + c.from) (pos 0)) (cell_at (b ∷ []) from) old new common (rows_of_line c (λ r. get_or from (r - c.to + c.from) (pos 0)) old new inside below above)
-    (λ x q low same. line_place a b c from x q low same))
-
--- a box whose rows have all been filled
-pub filled_all : (to_axes area_axes rest area : List Axis) (a b : Axis) (c : Common) (row : ℕ) (number : ℤ) (old new : List ℤ) → to_axes ≡ a ∷ rest → area_axes ≡ b ∷ area → row ≡ count rest → IsCommon a b c
-    → RowsWritten rest area row c.to c.count (λ _ _. number) old new
-    → Overlaid to_axes area_axes (λ _. number) old new
-filled_all to_axes area_axes rest area a b c row number old new to_is area_is row_is common rows =
-    rw (to_is, area_is) (rows_all a b rest area c (λ _ _. number) (λ _. number) old new common (rw (← row_is) rows) (λ x q low same. refl))
-
--- a line whose run has been filled
-pub filled_line : (to_axes area_axes rest area : List Axis) (a b : Axis) (c : Common) (number : ℤ) (old new : List ℤ) → to_axes ≡ a ∷ rest → area_axes ≡ b ∷ area → rest ≡ [] → area ≡ [] → IsCommon a b c
-    → ((i : ℕ) → c.to ≤ i → i < c.to + c.count → get_or new i (pos 0) ≡ number)
-    → ((i : ℕ) → i < c.to → get_or new i (pos 0) ≡ get_or old i (pos 0))
-    → ((i : ℕ) → c.to + c.count ≤ i → get_or new i (pos 0) ≡ get_or old i (pos 0))
-    → Overlaid to_axes area_axes (λ _. number) old new
-filled_line to_axes area_axes rest area a b c number old new to_is area_is none none' common inside below above =
-    rw (to_is, area_is, none, none')
-    (rows_all a b [] [] c (λ _ _. number) (λ _. number) old new common (rows_of_line c (λ _. number) old new inside below above) (λ x q low same. refl))
+    → Overlaid to_axes axes (λ p. number (at + rank_of axes p)) old new
+written_line to_axes axes rest area a b c at number old new to_is is none none' common inside below above =
+    rw (to_is, is, none, none')
+    (rows_all a b [] [] c (λ r q. number (at + (r - c.to + c.from))) (λ p. number (at + rank_of (b ∷ []) p)) old new common (rows_of_line c (λ r. number (at + (r - c.to + c.from))) old new inside below above)
+    (λ x q low same. line_place a b c at number x q low same))
 
 -- a row in the middle of some cells was replaced
 pub row_spliced : (at row : ℕ) (old piece : List ℤ) → at + row ≤ length old → length piece ≡ row → RowReplaced at row old piece (take at old ++ (piece ++ drop row (drop at old)))
@@ -260,19 +236,19 @@ rows_lent rest area row first step len number given old now piece is rows within
     (row_spliced ((first + step) * row) row now piece within size)
     (overlaid_same rest area given (number (first + step)) _ piece overlaid same))
 
--- one more row copied
-pub row_copied : (rest area : List Axis) (row from_row first from_first step len from_len : ℕ) (from old now piece : List ℤ) → row ≡ count rest → from_row ≡ count area
-    → RowsWritten rest area row first step (λ r q. get_or from ((r - first + from_first) * from_row + rank_of area q) (pos 0)) old now
-    → (first + step) * row + row ≤ length now
-    → len ≡ row → from_len ≡ from_row → length piece ≡ row
-    → Overlaid rest area (cell_at area (mid_of ((from_first + step) * from_row) from_len from)) (mid_of ((first + step) * row) len now) piece
-    → RowsWritten rest area row first (step + 1) (λ r q. get_or from ((r - first + from_first) * from_row + rank_of area q) (pos 0)) old (put_mid ((first + step) * row) len now piece)
-row_copied rest area row from_row first from_first step len from_len from old now piece is from_is rows within len_is from_len_is size overlaid =
-    rows_lent rest area row first step len (λ r q. get_or from ((r - first + from_first) * from_row + rank_of area q) (pos 0)) _ old now piece is rows within len_is size overlaid
+-- one more row, whose numbers stand from a place on
+pub row_written : (rest area : List Axis) (to_row row first from step len at : ℕ) (number : ℕ → ℤ) (old now piece : List ℤ) → to_row ≡ count rest
+    → RowsWritten rest area to_row first step (λ r q. number (at + ((r - first + from) * row + rank_of area q))) old now
+    → (first + step) * to_row + to_row ≤ length now
+    → len ≡ to_row → length piece ≡ to_row
+    → Overlaid rest area (λ q. number (at + (from + step) * row + rank_of area q)) (mid_of ((first + step) * to_row) len now) piece
+    → RowsWritten rest area to_row first (step + 1) (λ r q. number (at + ((r - first + from) * row + rank_of area q))) old (put_mid ((first + step) * to_row) len now piece)
+row_written rest area to_row row first from step len at number old now piece is rows within len_is size overlaid =
+    rows_lent rest area to_row first step len (λ r q. number (at + ((r - first + from) * row + rank_of area q))) (λ q. number (at + (from + step) * row + rank_of area q)) old now piece is rows within len_is size overlaid
     (λ q h.
-    let below : rank_of area q < from_len = omega (arith, from_len_is, from_is, rank_of-lt-count area q h) in
-    let place : first + step - first + from_first ≡ from_first + step = omega arith in
-    get_or-mid ((from_first + step) * from_row) from_len from (rank_of area q) below ∙ rw place refl)
+    let place : first + step - first + from ≡ from + step = omega arith in
+    let sum : at + (from + step) * row + rank_of area q ≡ at + ((from + step) * row + rank_of area q) = omega arith in
+    rw (place, sum) refl)
 
 -- a part that was lent came back as long as it was
 pub length_lent : (at len row : ℕ) (xs piece : List ℤ) → length piece ≡ length (mid_of at len xs) → len ≡ row → at + row ≤ length xs → length piece ≡ row
@@ -293,19 +269,22 @@ point_at_all area value old new written (x ∷ p) h = absurd h
 pub point_overlaid : (axes area : List Axis) (value : List ℤ → ℤ) (first : ℤ) (wanted : Bool) (old new : List ℤ) → axes ≡ [] → wanted ≡ (length area == 0) → value [] ≡ first → get_or new 0 (pos 0) ≡ (if wanted then first else get_or old 0 (pos 0)) → Overlaid axes area value old new
 point_overlaid axes area value first wanted old new none is same written = rw none (point_at_all area value old new (point_written area value first wanted old new is same written))
 
-pub first_cell : (axes : List Axis) (from : List ℤ) → cell_at axes from [] ≡ get_or from 0 (pos 0)
-first_cell [] from = refl
-first_cell (b ∷ axes) from = refl
-
--- nothing is written where the other box has no axes
-pub none_overlaid : (axes area : List Axis) (value : List ℤ → ℤ) (cells : List ℤ) → 1 ≤ length axes → area ≡ [] → Overlaid axes area value cells cells
-none_overlaid [] area value cells some none p h = absurd (omega arith)
-none_overlaid (a ∷ axes) area value cells some none [] h = absurd h
-none_overlaid (a ∷ axes) area value cells some none (x ∷ p) h = rw none refl
-
 -- an axis of few points has few coordinates
 pub size_small : (a : Axis) (rest axes : List Axis) → axes ≡ a ∷ rest → count axes ≤ 2 ^ 24 → size_of a ≤ 2 ^ 24
 size_small a rest axes is few =
     let more : size_of a * 1 ≤ size_of a * count rest = mul-le-mul_left (size_of a) (count-pos rest) in
     let h : size_of a * count rest ≤ 2 ^ 24 = rw is at few in
     omega (arith, more, h)
+
+-- the cells of a line
+pub line_count : (a : Axis) (rest axes : List Axis) → axes ≡ a ∷ rest → rest ≡ [] → count axes ≡ size_of a
+line_count a rest axes is none = rw (is, none) (omega arith)
+
+-- the place of the empty point
+pub first_place : (axes : List Axis) (at : ℕ) → at + rank_of axes [] ≡ at
+first_place [] at = omega arith
+first_place (b ∷ axes) at = omega arith
+
+-- the rest of the axes have few points
+pub rest_few : (a : Axis) (rest axes : List Axis) → axes ≡ a ∷ rest → count axes ≤ 2 ^ 24 → count rest ≤ 2 ^ 24
+rest_few a rest axes is few = (let h : size_of a * count rest ≤ 2 ^ 24 = rw is at few in omega (arith, count-rest a rest, h))

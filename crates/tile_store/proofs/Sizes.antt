@@ -1,5 +1,5 @@
 -- How many bytes the entries of an index take.
-use Rattle.std.proofs.Common.{◌≡◌, ℕ, zero, suc, ◌+◌, ◌*◌, ◌<◌, ◌≤◌, List, [], ◌∷◌, ◌++◌, length, get_or, take, arith, refl, sym, ◌∙◌, ap, subst, Option, Some, length-append}
+use Rattle.std.proofs.Common.{◌≡◌, ℕ, zero, suc, ◌+◌, ◌*◌, ◌<◌, ◌≤◌, ◌^◌, All, List, [], ◌∷◌, ◌++◌, length, get_or, take, arith, refl, sym, ◌∙◌, ap, subst, Option, Some, length-append}
 use Rattle.std.specs.Prelude.{sum_by, ◌==◌, if◌then◌else◌, Bool, true, false}
 use Rattle.std.specs.List.{flat_map, AllByRecursion as Each}
 use Rattle.std.proofs.lemmas.List.Sums.{sum_by-cons, sum_by_more}
@@ -7,7 +7,7 @@ use Rattle.std.proofs.lemmas.List.Concat.{length-flat_map}
 use Rattle.std.proofs.lemmas.List.Elements.{recursion_from_All}
 use Rattle.tile_index.specs.declared.entry.Entry.{Entry}
 use Rattle.tile_index.specs.Bytes.{number_bytes, entry_bytes, index_bytes}
-use Rattle.tile_index.specs.Entries.{IsEntry}
+use Rattle.tile_index.specs.Entries.{IsEntry, blocks_filled}
 use Rattle.tile_index.specs.Index.{found_at, IsPair, IsIndex}
 use Rattle.tile_index.proofs.Codes.{length-numbers, index-parts}
 use Rattle.tile_store.specs.Room.{listed_bytes}
@@ -71,3 +71,14 @@ found_in (x ∷ xs) t e h some = found_pick t (t == x.0) x.1 e (found_at t xs) h
 
 pub found_entry : (index : List (ℕ × Entry)) (t : ℕ) (e : Entry) → IsIndex index → found_at t index ≡ Some e → IsEntry e
 found_entry index t e is some = found_in index t e (recursion_from_All IsPair index is.pairs.each) some
+
+-- an entry that was made of bytes and blocks
+pub made_entry : (x e : Entry) (size : ℕ) (ks : List ℕ) → Some x ≡ Some e → x.length ≡ size → x.blocks ≡ ks → 1 ≤ size → size ≤ 40960 → length ks ≡ blocks_filled size → All (λ b. b < 2 ^ 32) ks → IsEntry e
+made_entry x e size ks is len blocks some few filled numbers =
+    let same : x ≡ e = cc in
+    subst IsEntry same (record {
+      some = omega (arith, len, some);
+      few = omega (arith, len, few);
+      filled = ap length blocks ∙ filled ∙ ap blocks_filled (sym len);
+      numbers = subst (λ (l : List ℕ). All (λ b. b < 2 ^ 32) l) (sym blocks) numbers;
+    })

@@ -2,7 +2,7 @@
 use Rattle.std.specs.Prelude.{◌≡◌, ◌+◌, ◌<◌, ◌≤◌, ℤ, pos, ◌≤ℤ◌, List, slice_index_or, if◌then◌else◌}
 use Rattle.arr_core.specs.declared.domain.Axis.{Axis}
 use Rattle.arr_core.specs.Domains.{gap, size_of, IsInside, is_inside, rank_of}
-use Rattle.tile_store.specs.declared.copy.Common.{Common}
+use Rattle.tile_store.specs.declared.overlay.Common.{Common}
 
 -- The coordinates that two axes have in common are these: so many, from this place on along each of them.
 pub record IsCommon (to from : Axis) (c : Common) : Type 0 where
@@ -16,7 +16,3 @@ pub record IsCommon (to from : Axis) (c : Common) : Type 0 where
 abbrev pub Overlaid : List Axis → List Axis → (List ℤ → ℤ) → List ℤ → List ℤ → Type 0
 Overlaid axes area number old new =
     (p : List ℤ) → IsInside axes p → slice_index_or new (rank_of axes p) (pos 0) ≡ (if is_inside area p then number p else slice_index_or old (rank_of axes p) (pos 0))
-
--- the number that a list of cells has at a point of its box
-abbrev pub cell_at : List Axis → List ℤ → List ℤ → ℤ
-cell_at axes cells p = slice_index_or cells (rank_of axes p) (pos 0)

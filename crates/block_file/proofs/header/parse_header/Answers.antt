@@ -3,23 +3,18 @@ use Rattle.block_file.specs.Format.{IsStoreFile}
 use Rattle.block_file.proofs.Numbers.{byte-mid, length-mid}
 use borrow.Rule.Slice.PartMut.{mid_of}
 use Rattle.block_file.proofs.header.parse_header.Goals as goal
-use Rattle.block_file.proofs.header.parse_header.Goals.{then-state-number-2-via-then-state-number-2, then-state-number-2-via-else-state-number-2+then-not-all_zero}
 
-pub returns-then-state-number-2-clause-damaged : goal.returns-then-state-number-2-clause-damaged
-returns-then-state-number-2-clause-damaged c = λ _.
+pub returns-then-not-all_zero-clause-refused : goal.returns-then-not-all_zero-clause-refused
+returns-then-not-all_zero-clause-refused c =
     let store : IsStoreFile c.args.bytes.now = search rules in (
       store,
       omega arith,
       λ blocks first size h.
           let long : length c.args.bytes.now ≡ 4096 = omega arith in
           let below : (i : ℕ) → i < length (mid_of 32 4064 c.args.bytes.now) → i < 4064 = λ i lt. omega (arith, length-mid 32 4064 c.args.bytes.now (omega arith)) in
-          elim c.then-state-number-2.branch [
-            | then-state-number-2-via-then-state-number-2 w ↦ omega (arith, h.state)
-            | then-state-number-2-via-else-state-number-2+then-not-all_zero w ↦
-                let zeros = w.all_zero.ensures.1 (λ i lt. byte-mid 32 4064 i c.args.bytes.now (below i lt) ∙ h.zeros (32 + i) (omega arith) (let short = below i lt in omega arith)) in
-                let zero = w.if-not-all_zero.true in
-                cc
-          ],
+          let zeros = c.all_zero.ensures.1 (λ i lt. byte-mid 32 4064 i c.args.bytes.now (below i lt) ∙ h.zeros (32 + i) (omega arith) (let short = below i lt in omega arith)) in
+          let zero = c.if-not-all_zero.true in
+          cc,
     )
 
 pub returns-clause-ok : goal.returns-clause-ok

@@ -1,6 +1,6 @@
 use Rattle.std.proofs.Common.{arith}
 use Rattle.std.proofs.lemmas.Grind.{common_steps}
-use Rattle.tile_store.proofs.Points.{length-points, count-pos}
+use Rattle.arr_core.proofs.Points.{length-points, count-pos}
 use Rattle.tile_store.proofs.tile.cell_count.Goals as goal
 
 pub returns-clause-points : goal.returns-clause-points
