@@ -1,5 +1,5 @@
 -- Why a write of cells is refused, and what its cells are.
-use Rattle.std.proofs.Common.{◌≡◌, ℕ, ◌<◌, List, length, Result, Err, Option, arith}
+use Rattle.std.proofs.Common.{◌≡◌, ℕ, ◌<◌, List, length, Result, Err, Option, ap, arith}
 use Rattle.std.specs.Prelude.{ℤ, slice_get, IsSomeAnd, IsErrOf}
 use Rattle.arr_core.specs.declared.cell.Cell.{Cell}
 use Rattle.arr_core.specs.declared.domain.Axis.{Axis}
@@ -23,23 +23,28 @@ use Rattle.raster_store.proofs.Known.{named_gives}
 use Rattle.raster_store.proofs.Writes.{view_of}
 
 module _ {B : Type 0} (state : B → BlocksState) (blocks : B) (held : List Held) (fetched : ℕ) (name : List ℕ) (field : ℕ) (h : Held) (area : List Axis) (cells : List Cell) (numbers : List ℤ) (catalogue : ℕ) (is : IsNamed name held h) where
-  pub refuses_cells : (e : WriteFault) → RefusesCells h.signature field area cells e → ((fault : Fault) → e ≡ Device fault → ⊥) → RefusesWrite state name field area cells numbers catalogue (view_of state blocks held fetched) e
+  pub refuses_cells : {T : Type 0} (e : WriteFault) → RefusesCells h.signature field area cells e → ((fault : Fault) → IsErrOf {T = T} (Err e) (Device fault) → ⊥) → RefusesWrite state name field area cells numbers catalogue (view_of state blocks held fetched) e
   refuses_cells e refused none = record {
     for_cells = named_gives (state blocks) held name h (λ (c : Coverage). RefusesCells (signature_of c) field area cells e) is refused;
-    for_room = λ eq. absurd (none device.NoRoom eq);
-    for_damage = λ eq. absurd (none device.Damaged eq);
+    for_room = λ eq. absurd (none device.NoRoom (ap Err eq));
+    for_damage = λ eq. absurd (none device.Damaged (ap Err eq));
   }
 
-  pub refuses_device : (fault : Fault) → MayHold h.signature field area cells → (fault ≡ device.NoRoom → LacksRoomToWrite state name field area numbers catalogue (view_of state blocks held fetched)) → (fault ≡ device.Damaged → IsDamagedStore state (view_of state blocks held fetched))
+  pub refuses_device : {T : Type 0} (fault : Fault) → MayHold h.signature field area cells
+      → Refuses {T = T} (Err fault) (IsDamagedStore state (view_of state blocks held fetched)) (LacksRoomToWrite state name field area numbers catalogue (view_of state blocks held fetched))
       → RefusesWrite state name field area cells numbers catalogue (view_of state blocks held fetched) (Device fault)
-  refuses_device fault may room damage = record {
+  refuses_device fault may why = record {
     for_cells = named_gives (state blocks) held name h (λ (c : Coverage). RefusesCells (signature_of c) field area cells (Device fault)) is may;
-    for_room = λ eq. room (let e : fault ≡ device.NoRoom = cc in e);
-    for_damage = λ eq. damage (let e : fault ≡ device.Damaged = cc in e);
+    for_room = λ eq. why.for_room (let e : fault ≡ device.NoRoom = cc in ap Err e);
+    for_damage = λ eq. why.for_damage (let e : fault ≡ device.Damaged = cc in ap Err e);
   }
 
   pub refuses_memory : MayHold h.signature field area cells → RefusesWrite state name field area cells numbers catalogue (view_of state blocks held fetched) (Device device.NoMemory)
-  refuses_memory may = refuses_device device.NoMemory may (λ e. absurd (cc)) (λ e. absurd (cc))
+  refuses_memory may = record {
+    for_cells = named_gives (state blocks) held name h (λ (c : Coverage). RefusesCells (signature_of c) field area cells (Device device.NoMemory)) is may;
+    for_room = λ eq. absurd (cc);
+    for_damage = λ eq. absurd (cc);
+  }
 
   pub has_numbers : MayHold h.signature field area cells → HasNumbers name field area cells (coverages_of (state blocks).content held)
   has_numbers may = named_gives (state blocks) held name h (λ (c : Coverage). MayHold (signature_of c) field area cells) is may

@@ -3,6 +3,7 @@ use Rattle.std.proofs.lemmas.Int.{to_z-of_z}
 use Rattle.std.proofs.lemmas.Result.{err_from_is_err_and}
 use Rattle.std.specs.Prelude.{slice_get}
 use Rattle.arr_core.specs.Cells.{stored}
+use Rattle.tile_store.specs.declared.numbers.Numbers.TheVariants.{Same}
 use Rattle.arr_core.specs.Domains.{count}
 use Rattle.raster_store.specs.Calls.{filled}
 use Rattle.raster_store.proofs.CellKinds.{numbers_same}
@@ -34,7 +35,7 @@ write_numbers-requires g c =
     let area = c.args.area.now in
     let done = c.in_ok-check_cell.ensures.done in
     let fits : SFits w64 c.stored.result = search rules in
-    rw (← c.self.view_is, to_z-of_z w64 c.stored.result fits) (record { patch = has_patch g.B.Blocks.state c.self.inside.blocks c.self.inside.coverages.items c.self.inside.fetched c.args.name.now c.args.field h area (filled area c.args.cell) (replicate (count area) c.stored.result) c.args.catalogue is _ done
+    rw (← c.self.view_is, to_z-of_z w64 c.stored.result fits) (record { patch = has_patch g.B.Blocks.state c.self.inside.blocks c.self.inside.coverages.items c.self.inside.fetched c.args.name.now c.args.field h area (filled area c.args.cell) (replicate (count area) c.stored.result) c.args.catalogue is (Same c.stored.result) done
         (numbers_same (slice_get h.signature.fields c.args.field) area c.args.cell c.stored.result c.stored.ensures done.1) })
 
 pub returns-in_err-write_numbers-clause-why : goal.returns-in_err-write_numbers-clause-why
@@ -44,7 +45,7 @@ returns-in_err-write_numbers-clause-why g c =
     let why = rw (← c.self.view_is, to_z-of_z w64 c.stored.result fits, c.stored.ensures) at c.in_err-write_numbers.ensures.why in
     let p = err_from_is_err_and c.from_residual-in_err-write_numbers.result c.from_residual-in_err-write_numbers.ensures.1 in
     rw (← c.self.view_is, p.1, p.2) (refuses_device g.B.Blocks.state c.self.inside.blocks c.self.inside.coverages.items c.self.inside.fetched c.args.name.now c.args.field c.named-coverage.result.now c.args.area.now _ _ c.args.catalogue is
-        c.in_err-write_numbers.field-0.0 c.in_ok-check_cell.ensures.done why.for_room why.for_damage)
+        c.in_err-write_numbers.field-0.0 c.in_ok-check_cell.ensures.done why)
 
 pub returns-clause-done : goal.returns-clause-done
 returns-clause-done g c =

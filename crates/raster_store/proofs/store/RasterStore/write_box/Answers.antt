@@ -2,6 +2,7 @@ use Rattle.std.proofs.Common.{◌≡◌, map, refl}
 use Rattle.std.proofs.lemmas.Result.{err_from_is_err_and}
 use Rattle.std.specs.Prelude.{slice_get}
 use Rattle.arr_core.specs.Cells.{stored}
+use Rattle.tile_store.specs.declared.numbers.Numbers.TheVariants.{Each}
 use Rattle.raster_store.proofs.CellKinds.{numbers_each}
 use Rattle.raster_store.proofs.Known.{named_field, has_name_of}
 use Rattle.raster_store.proofs.Refusals.{refuses_cells, refuses_device, refuses_memory, has_numbers, has_patch}
@@ -37,7 +38,7 @@ write_numbers-requires g c =
     let h = c.named-coverage.result.now in
     let done = c.in_ok-check_cells.ensures.done in
     let list = c.in_ok-stored_cells.field-0.items in
-    rw (← c.self.view_is) (record { patch = has_patch g.B.Blocks.state c.self.inside.blocks c.self.inside.coverages.items c.self.inside.fetched c.args.name.now c.args.field h c.args.area.now c.args.cells.now list c.args.catalogue is _ done
+    rw (← c.self.view_is) (record { patch = has_patch g.B.Blocks.state c.self.inside.blocks c.self.inside.coverages.items c.self.inside.fetched c.args.name.now c.args.field h c.args.area.now c.args.cells.now list c.args.catalogue is (Each c.in_ok-stored_cells.field-0) done
         (numbers_each (slice_get h.signature.fields c.args.field) c.args.area.now c.args.cells.now list c.in_ok-stored_cells.ensures done.1) })
 
 pub returns-in_err-write_numbers-clause-why : goal.returns-in_err-write_numbers-clause-why
@@ -46,7 +47,7 @@ returns-in_err-write_numbers-clause-why g c =
     let why = rw (← c.self.view_is, c.in_ok-stored_cells.ensures) at c.in_err-write_numbers.ensures.why in
     let p = err_from_is_err_and c.from_residual-in_err-write_numbers.result c.from_residual-in_err-write_numbers.ensures.1 in
     rw (← c.self.view_is, p.1, p.2) (refuses_device g.B.Blocks.state c.self.inside.blocks c.self.inside.coverages.items c.self.inside.fetched c.args.name.now c.args.field c.named-coverage.result.now c.args.area.now c.args.cells.now _ c.args.catalogue is
-        c.in_err-write_numbers.field-0.0 c.in_ok-check_cells.ensures.done why.for_room why.for_damage)
+        c.in_err-write_numbers.field-0.0 c.in_ok-check_cells.ensures.done why)
 
 pub returns-clause-done : goal.returns-clause-done
 returns-clause-done g c =
