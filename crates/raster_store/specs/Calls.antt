@@ -83,6 +83,10 @@ index_of name field [] indexes = None
 index_of name field (c ∷ coverages) [] = None
 index_of name field (c ∷ coverages) (i ∷ indexes) = if bytes_eq c.name name then slice_get i field else index_of name field coverages indexes
 
+-- these are the bytes of the index of a field of the coverage with a name
+abbrev pub IsIndexOf : List ℕ → ℕ → Store → List (List Index) → List ℕ → Type 0
+IsIndexOf name field coverages indexes bytes = IsSomeAnd (index_of name field coverages indexes) (λ i. bytes ≡ index_bytes i)
+
 -- the indexes without those of the coverage with a name
 abbrev pub indexes_without : List ℕ → Store → List (List Index) → List (List Index)
 indexes_without name [] indexes = []
