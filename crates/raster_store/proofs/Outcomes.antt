@@ -1,13 +1,13 @@
 -- What a write of a patch leaves, done or refused.
-use Rattle.std.proofs.Common.{◌≡◌, ℕ, ◌+◌, ◌-◌, ◌<◌, ◌≤◌, ◌^◌, min, List, [], length, get_or, set, IsTrue, Option, Some, None, Result, Ok, Err, refl, sym, ap, ◌∙◌, subst, arith}
+use Rattle.std.proofs.Common.{◌≡◌, ℕ, ◌+◌, ◌-◌, ◌<◌, ◌^◌, min, List, [], length, get_or, set, IsTrue, Some, Result, Ok, Err, refl, sym, ap, ◌∙◌, subst, arith}
 use Rattle.std.specs.Prelude.{ℤ, slice_get, IsSomeAnd, OnOk, OnErr}
 use Rattle.std.proofs.lemmas.Option.{slice_get_within}
 use Rattle.arr_core.specs.declared.cell.FieldType.{FieldType}
 use Rattle.arr_core.specs.declared.domain.Axis.{Axis}
 use Rattle.arr_core.specs.declared.field.Field.{Field}
 use Rattle.arr_core.specs.Domains.{IsBoxOf}
-use Rattle.arr_core.specs.Stores.{Coverage, updated, updated_values}
-use Rattle.block_file.specs.State.{BlocksState, block, none, free_of}
+use Rattle.arr_core.specs.Stores.{Coverage}
+use Rattle.block_file.specs.State.{BlocksState, none, free_of}
 use Rattle.block_file.specs.Words.{Moves}
 use Rattle.tile_store.specs.declared.numbers.Numbers.{Numbers}
 use Rattle.tile_store.specs.declared.numbers.Patch.{Patch}
@@ -25,7 +25,7 @@ use Rattle.raster_store.specs.declared.held.Held.{Held}
 use Rattle.raster_store.specs.Views.{Index, metadata_size}
 use Rattle.raster_store.specs.Fields.{HasPatch}
 use Rattle.raster_store.specs.Words.{IsDamagedStore, Stays, Keeps, Writes, LacksRoomToWrite}
-use Rattle.raster_store.specs.Holding.{coverages_of, coverage_of, indexes_of, index_at, NoneNamed, IsNamedAt, IsHeld}
+use Rattle.raster_store.specs.Holding.{coverages_of, indexes_of, index_at, NoneNamed, IsNamedAt, IsHeld}
 use Rattle.raster_store.proofs.Changed.{IsChanged, signatures_set, indexes_same, coverages_same, moves_all, held_after, written_after, intact_after, room_after, rest_of, lacks_room}
 use Rattle.raster_store.proofs.Contents.{coverages_kept, spelled-at}
 use Rattle.raster_store.proofs.Writes.{view_of, keeps_all, same_signatures}
@@ -127,7 +127,7 @@ write state old new held name place field h h' x x' u r is at was has read domai
     }
 
 -- What a write of numbers to a store has done or left, as callers see it.
-module _ {B : Type 0} (state : B → BlocksState) (old new : B) (held : List Held) (name : List ℕ) (place field catalogue rest fetched : ℕ) (h h' : Held) (x x' : Index) (u : Patch) (w : Write state old new held name place field h h' x x' u) where
+module _ {B : Type 0} {state : B → BlocksState} {old new : B} {held : List Held} {name : List ℕ} {place field : ℕ} {h h' : Held} {x x' : Index} {u : Patch} (catalogue rest fetched : ℕ) (w : Write state old new held name place field h h' x x' u) where
   -- the other metadata has so many bytes, or more than a `u64` holds
   abbrev Least : Type 0
   Least = (d : Held) (all : ℕ) → all + length (index_bytes (index_at (get_or held place d) field)) ≡ metadata_size catalogue (indexes_of held) → rest ≡ min (2 ^ 64 - 1) all

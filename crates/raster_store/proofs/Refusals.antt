@@ -1,5 +1,5 @@
 -- Why a write of cells is refused, and what its cells are.
-use Rattle.std.proofs.Common.{◌≡◌, ℕ, ◌<◌, List, length, Result, Err, Option, ap, arith}
+use Rattle.std.proofs.Common.{◌≡◌, ℕ, List, Err, ap}
 use Rattle.std.specs.Prelude.{ℤ, slice_get, IsSomeAnd, IsErrOf}
 use Rattle.arr_core.specs.declared.cell.Cell.{Cell}
 use Rattle.arr_core.specs.declared.domain.Axis.{Axis}

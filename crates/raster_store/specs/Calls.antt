@@ -12,7 +12,6 @@ use Rattle.block_file.specs.State.{BlocksState, block, free_of}
 use Rattle.block_file.specs.Words.{Covers}
 use Rattle.tile_index.specs.Bytes.{index_bytes}
 use Rattle.tile_index.specs.Index.{IsIndex}
-use Rattle.tile_store.specs.declared.fault.Fault.{Fault}
 use Rattle.tile_store.specs.Room.{AreMeeting, cells_after, tile_blocks, room_for}
 use Rattle.raster_store.specs.declared.fault.WriteFault.{WriteFault}
 use Rattle.raster_store.specs.declared.fault.WriteFault.TheVariants.{OutsideDomain, ValueCount, ValueRange, Device}
