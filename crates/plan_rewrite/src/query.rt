@@ -16,7 +16,7 @@ use crate::choice::lowered_steps;
 use arr_core::Signature;
 use plan_ir::{Combination as Choice, Plan, Steps};
 use std::alloc::{AllocError, Global};
-use wcps_types::{Tree, Combination, TypedQuery};
+use wcps_types::{Combination, Tree, TypedQuery};
 
 /// The plan of a query, without passes. It gives the query's answer, its first fault too, and is well-formed. Steps stand
 /// once for each tree, and combinations that share a tree share them. `rewrite` makes it a plan of at most as many units as
@@ -75,11 +75,7 @@ fn each_lowered(alloc: Global, trees: &[Tree]) -> Result<Vec<Steps>, AllocError>
 }
 
 /// The combinations that have a tree, which in a checked query all do.
-fn choices(
-    alloc: Global,
-    trees: &[Tree],
-    all: &[Combination],
-) -> Result<Vec<Choice>, AllocError>
+fn choices(alloc: Global, trees: &[Tree], all: &[Combination]) -> Result<Vec<Choice>, AllocError>
     ensures { IfOk result (λ v. map choice_view v.items ≡ lowered_choices trees.now all.now) }
 {
     let mut list = Vec::new(alloc);

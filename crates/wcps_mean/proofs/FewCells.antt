@@ -24,6 +24,12 @@ few_in_tree places o t m is h =
     let few : result_cells (over places (Some t) ∷ []) ≤ m = subst (λ (p : Option Tree). result_cells (over places p ∷ []) ≤ m) (sym is) h in
     subst (λ n. n ≤ m) (cells_over places (tree_view t)) few
 
+-- of its item
+pub few_in_item : (t : Tree) (m : ℕ) → result_cells (tree_view t ∷ []) ≤ m → count t.item.domain * length t.item.booleans.items ≤ m
+few_in_item t m h =
+    let few : count t.item.domain * length (fields_view t.item.node 0 t.item.booleans.items) ≤ m = omega (arith, h) in
+    subst (λ n. count t.item.domain * n ≤ m) (field_places t.item.node 0 t.item.booleans.items) few
+
 -- an item has a field for each of its kinds, over coverages too
 pub fields_over : (places : List ℕ) (e : Node) (k : ℕ) (bs : List Bool) → length (map (renamed_field places) (fields_view e k bs)) ≡ length bs
 fields_over places e k bs = length-map (fields_view e k bs) (renamed_field places) ∙ field_places e k bs

@@ -173,7 +173,6 @@ fn is_chosen<C: Cells>(
 }
 
 /// An item of an answer.
-#[tactic(auto, using(crate::proofs::FewCells::fields_over))]
 fn item_of<C: Cells>(
     alloc: Global,
     cells: &mut C,

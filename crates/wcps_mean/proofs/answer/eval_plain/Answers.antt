@@ -61,11 +61,11 @@ returns-in_err-push_combination-clause-reports g c =
     let p = err_from_is_err_and c.from_residual.result c.from_residual.ensures.1 in
     rw (p.1, p.2) (passes-from _ _ _ _ inv.intact inv.failures c.in_err-push_combination.ensures.reports)
 
-pub push_combination-requires-clause-few_cells : goal.push_combination-requires-clause-few_cells
-push_combination-requires-clause-few_cells g c =
+pub push_combination-requires : goal.push_combination-requires
+push_combination-requires g c =
     let all = c.args.query.now.combinations.items in
     let view = combination_view c.trees-trees.result.now in
     let x = c.combination-item.result in
     let is = c.combination-item.is ∙ ap (λ l. get_or l c.loop-combination.combination-index x) c.combinations-combination-items.ensures.value in
     let lt : c.loop-combination.combination-index < length all = omega (arith, ap length c.combinations-combination-items.ensures.value) in
-    few_in_one view all c.loop-combination.combination-index x max_cells lt is (subst (λ trees. result_cells (map (combination_view trees) all) ≤ max_cells) (sym c.trees-trees.ensures) c.args.query.now.few_cells)
+    record { few_cells = few_in_one view all c.loop-combination.combination-index x max_cells lt is (subst (λ trees. result_cells (map (combination_view trees) all) ≤ max_cells) (sym c.trees-trees.ensures) c.args.query.now.few_cells) }

@@ -12,6 +12,7 @@ returns-in-None-clause-value g c h =
     let places = c.args.combination.now.coverages.items in
     subst (λ o. PushesCells (combination_answer (g.C.Cells.cells c.args.cells.now) (over places o)) c.args.items.now.items c.args.items.now.items) c.in-None.ensures (sym (append-nil c.args.items.now.items))
 
-pub push_tree-requires-in-Some-clause-few_cells : goal.push_tree-requires-in-Some-clause-few_cells
-push_tree-requires-in-Some-clause-few_cells g c =
-    few_in_tree c.args.combination.now.coverages.items _ c.in-Some.tree.now max_cells c.in-Some.ensures c.requires.few_cells
+pub push_tree-requires : goal.push_tree-requires
+push_tree-requires g c = record {
+  few_cells = few_in_tree c.args.combination.now.coverages.items _ c.in-Some.tree.now max_cells c.in-Some.ensures c.requires.few_cells;
+}

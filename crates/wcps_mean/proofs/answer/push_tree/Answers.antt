@@ -2,7 +2,9 @@ use Rattle.std.proofs.Common.{rules, true, false, ◌≡◌, ◌∙◌, ap, sym,
 use Rattle.std.proofs.lemmas.Result.{err_from_is_err_and}
 use Rattle.wcps_types.specs.Typed.{tree_view}
 use Rattle.wcps_types.specs.Renamed.{renamed_combination}
+use Rattle.wcps_types.specs.Cells.{max_cells}
 use Rattle.wcps_mean.specs.Answer.{item_answer}
+use Rattle.wcps_mean.proofs.FewCells.{few_in_item}
 use Rattle.wcps_mean.proofs.Joins.{tells-on, ok-pushed, chosen-err, chosen-false, chosen-item, chosen-item-err}
 use Rattle.wcps_mean.proofs.answer.push_tree.Goals as goal
 
@@ -36,3 +38,8 @@ returns-clause-value g c h =
     let same = ap (λ s. item_answer s v.item) c.in_ok-gives_item.ensures.same in
     let yes : c.in_ok-gives_item.gives_item ≡ true = search rules in
     ok-pushed _ (c.in_ok-item.item ∷ []) _ _ (chosen-item s v c.in_ok-item.item (c.in_ok-gives_item.ensures.value h ∙ ap Ok yes) (sym same ∙ c.in_ok-item.ensures.value (c.in_ok-gives_item.ensures.intact h))) c.in_ok-push.ensures.items
+
+pub item_of-requires : goal.item_of-requires
+item_of-requires g c = record {
+  few_cells = few_in_item c.args.tree.now max_cells c.requires.few_cells;
+}
