@@ -1,17 +1,16 @@
 -- A store of which one field has another index, after a write to it.
-use Rattle.std.proofs.Common.{◌≡◌, ℕ, zero, suc, ◌+◌, ◌-◌, ◌<◌, ◌≤◌, ◌^◌, min, List, [], ◌∷◌, length, get_or, set, Option, Some, refl, sym, ap, ◌∙◌, subst, arith, All, inl, inr}
-use Rattle.std.specs.Prelude.{ℤ, slice_get, IsTrue, IsSomeAnd, sum_by}
+use Rattle.std.proofs.Common.{◌≡◌, ℕ, zero, suc, ◌+◌, ◌-◌, ◌<◌, ◌≤◌, ◌^◌, min, List, [], ◌∷◌, length, get_or, set, Some, refl, sym, ap, ◌∙◌, subst, arith, inl, inr}
+use Rattle.std.specs.Prelude.{ℤ, slice_get, IsTrue, sum_by}
 use Rattle.std.specs.List.{remove}
 use Rattle.std.proofs.lemmas.Bool.{cases_eq, cases_lt}
-use Rattle.std.proofs.lemmas.List.{length-set, set-get_or}
+use Rattle.std.proofs.lemmas.List.{length-set}
 use Rattle.std.proofs.lemmas.List.Elements.{All-set, All-get_or}
 use Rattle.std.proofs.lemmas.Option.{slice_get-get_or}
-use Rattle.arr_core.specs.declared.cell.FieldType.{FieldType}
 use Rattle.arr_core.specs.declared.domain.Axis.{Axis}
 use Rattle.arr_core.specs.declared.field.Field.{Field}
 use Rattle.arr_core.specs.Stores.{updated, updated_values}
 use Rattle.block_file.specs.Format.{chain_blocks}
-use Rattle.block_file.specs.State.{BlocksState, block, free_of}
+use Rattle.block_file.specs.State.{BlocksState, free_of}
 use Rattle.block_file.specs.Words.{Moves}
 use Rattle.tile_index.specs.Bytes.{index_bytes}
 use Rattle.tile_index.specs.Index.{IsIndex}
@@ -21,7 +20,7 @@ use Rattle.raster_store.specs.declared.held.Held.{Held}
 use Rattle.raster_store.specs.Views.{Index, AreIntact, FieldsIntact, listed_fields, listed_all, fields_size, metadata_size, reserve}
 use Rattle.raster_store.specs.Calls.{LacksBlocks, LacksRoomFor}
 use Rattle.raster_store.specs.Holding.{coverages_of, coverage_of, indexes_of, signatures_of, index_at, NoneNamed, AreApart, IsNamedAt, IsWhole, IsHeld}
-use Rattle.raster_store.proofs.Places.{updated_named, found_named, index_named, named_within}
+use Rattle.raster_store.proofs.Places.{updated_named, found_named, index_named}
 use Rattle.raster_store.proofs.Totals.{listed_fields-set, listed_fields-remove, listed_fields-at, listed_all-set, listed_all-remove, listed_all-at, size-set, sizes-set, sum-at, fields_size-cons}
 use Rattle.raster_store.proofs.Contents.{KeepsFields, KeepsAll, coverage_updated, intact-set, intact-at, spelled-at, fields_intact-set, below-set}
 

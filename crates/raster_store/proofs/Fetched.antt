@@ -1,20 +1,19 @@
 -- What a tile that was read says of the store.
-use Rattle.std.proofs.Common.{◌≡◌, ℕ, zero, suc, ◌<◌, List, [], ◌∷◌, length, get_or, map, Option, Some, None, sym, ap, ◌∙◌, subst, arith, All}
-use Rattle.std.specs.Prelude.{ℤ, IsSomeAnd, IsTrue, slice_get}
+use Rattle.std.proofs.Common.{◌≡◌, ℕ, zero, suc, ◌<◌, List, [], ◌∷◌, length, get_or, map, Option, sym, ap, ◌∙◌, subst, arith, All}
+use Rattle.std.specs.Prelude.{ℤ, IsSomeAnd, slice_get}
 use Rattle.arr_core.specs.declared.domain.Axis.{Axis}
 use Rattle.arr_core.specs.declared.field.Field.{Field}
 use Rattle.arr_core.specs.Domains.{points}
-use Rattle.arr_core.specs.Stores.{Coverage, Store, found, value_at}
+use Rattle.arr_core.specs.Stores.{Coverage, value_at}
 use Rattle.arr_core.specs.Tiles.{tile_boxes}
 use Rattle.block_file.specs.State.{BlocksState}
 use Rattle.tile_store.specs.declared.field.FieldTiles.{FieldTiles}
 use Rattle.tile_store.specs.Reading.{number_in, IsSpelledIn, IsTileRead}
-use Rattle.tile_store.specs.Stored.{tile_box, IsSpelled, IsTileSpelled}
+use Rattle.tile_store.specs.Stored.{tile_box, IsTileSpelled}
 use Rattle.raster_store.specs.declared.held.Held.{Held}
 use Rattle.raster_store.specs.declared.reading.TileAt.{TileAt}
 use Rattle.raster_store.specs.Views.{Index, FieldsIntact, AreIntact}
-use Rattle.raster_store.specs.Calls.{HasField}
-use Rattle.raster_store.specs.Fetches.{HasTile, HasTileNumber, IsSpelledAt, IsDecoded}
+use Rattle.raster_store.specs.Fetches.{HasTile, IsSpelledAt, IsDecoded}
 use Rattle.raster_store.specs.Fields.{IsFieldOf}
 use Rattle.raster_store.specs.Holding.{coverages_of, coverage_of, indexes_of, IsWhole, IsHeld}
 use Rattle.raster_store.proofs.Known.{Known, known, place_within}

@@ -1,19 +1,16 @@
 -- What is known of the coverage with a name, and of the one at a place.
-use Rattle.std.proofs.Common.{◌≡◌, ℕ, zero, suc, ◌<◌, ◌≤◌, List, [], ◌∷◌, length, get_or, Option, Some, None, refl, sym, ap, ◌∙◌, subst, arith, All}
+use Rattle.std.proofs.Common.{◌≡◌, ℕ, zero, suc, ◌<◌, ◌≤◌, List, [], ◌∷◌, length, get_or, Option, Some, None, refl, sym, ap, ◌∙◌, subst, arith}
 use Rattle.std.specs.Prelude.{IsSomeAnd, IsTrue, slice_get}
 use Rattle.std.proofs.lemmas.List.Elements.{All-get_or}
-use Rattle.arr_core.specs.declared.field.Field.{Field}
 use Rattle.arr_core.specs.Stores.{Coverage, Store, found}
 use Rattle.arr_core.specs.Tiles.{tile_boxes}
 use Rattle.block_file.specs.State.{BlocksState, block}
 use Rattle.block_file.specs.Words.{Covers}
 use Rattle.tile_store.specs.Listing.{listed, IsSound}
-use Rattle.tile_store.specs.Stored.{IsTileSpelled}
 use Rattle.raster_store.specs.declared.held.Held.{Held}
-use Rattle.raster_store.specs.declared.reading.TileAt.{TileAt}
-use Rattle.raster_store.specs.Views.{Index, FieldsIntact, AreIntact, listed_fields, listed_all}
+use Rattle.raster_store.specs.Views.{FieldsIntact, AreIntact, listed_fields, listed_all}
 use Rattle.raster_store.specs.Calls.{HasField}
-use Rattle.raster_store.specs.Fetches.{HasTile, HasTileNumber, IsSpelledAt, IsPlaceOf}
+use Rattle.raster_store.specs.Fetches.{HasTile, HasTileNumber, IsPlaceOf}
 use Rattle.raster_store.specs.Holding.{coverages_of, coverage_of, indexes_of, index_at, NoneNamed, IsNamedAt, IsWhole, IsHeld}
 use Rattle.raster_store.specs.Fields.{IsNamed}
 use Rattle.raster_store.proofs.Places.{found_none, found_named, named_within}

@@ -8,5 +8,6 @@ mod Fetched
 pub mod Writes
 mod Changed
 mod Outcomes
+mod Refusals
 pub mod CellKinds
 mod KeptTiles

@@ -1,13 +1,13 @@
 -- What a write of a patch leaves, done or refused.
-use Rattle.std.proofs.Common.{◌≡◌, ℕ, ◌+◌, ◌-◌, ◌<◌, ◌≤◌, ◌^◌, min, List, [], length, get_or, set, IsTrue, Option, Some, None, Result, Ok, Err, refl, sym, ap, ◌∙◌, subst, arith}
+use Rattle.std.proofs.Common.{◌≡◌, ℕ, ◌+◌, ◌-◌, ◌<◌, ◌^◌, min, List, [], length, get_or, set, IsTrue, Some, Result, Ok, Err, refl, sym, ap, ◌∙◌, subst, arith}
 use Rattle.std.specs.Prelude.{ℤ, slice_get, IsSomeAnd, OnOk, OnErr}
 use Rattle.std.proofs.lemmas.Option.{slice_get_within}
 use Rattle.arr_core.specs.declared.cell.FieldType.{FieldType}
 use Rattle.arr_core.specs.declared.domain.Axis.{Axis}
 use Rattle.arr_core.specs.declared.field.Field.{Field}
 use Rattle.arr_core.specs.Domains.{IsBoxOf}
-use Rattle.arr_core.specs.Stores.{Coverage, updated, updated_values}
-use Rattle.block_file.specs.State.{BlocksState, block, none, free_of}
+use Rattle.arr_core.specs.Stores.{Coverage}
+use Rattle.block_file.specs.State.{BlocksState, none, free_of}
 use Rattle.block_file.specs.Words.{Moves}
 use Rattle.tile_store.specs.declared.numbers.Numbers.{Numbers}
 use Rattle.tile_store.specs.declared.numbers.Patch.{Patch}
@@ -25,15 +25,15 @@ use Rattle.raster_store.specs.declared.held.Held.{Held}
 use Rattle.raster_store.specs.Views.{Index, metadata_size}
 use Rattle.raster_store.specs.Fields.{HasPatch}
 use Rattle.raster_store.specs.Words.{IsDamagedStore, Stays, Keeps, Writes, LacksRoomToWrite}
-use Rattle.raster_store.specs.Holding.{coverages_of, coverage_of, indexes_of, index_at, NoneNamed, IsNamedAt, IsHeld}
+use Rattle.raster_store.specs.Holding.{coverages_of, indexes_of, index_at, NoneNamed, IsNamedAt, IsHeld}
 use Rattle.raster_store.proofs.Changed.{IsChanged, signatures_set, indexes_same, coverages_same, moves_all, held_after, written_after, intact_after, room_after, rest_of, lacks_room}
 use Rattle.raster_store.proofs.Contents.{coverages_kept, spelled-at}
 use Rattle.raster_store.proofs.Writes.{view_of, keeps_all, same_signatures}
 use Rattle.raster_store.proofs.Options.{some_and}
 use Rattle.raster_store.proofs.Readings.{same_spelled, spelled_tile}
 use Rattle.raster_store.specs.Calls.{AreSameSignatures}
-use Rattle.std.proofs.lemmas.List.{set-get_or, get_or_default}
-use Rattle.raster_store.proofs.Known.{Known, known, named_has, some_named}
+use Rattle.std.proofs.lemmas.List.{set-get_or, get_or_default, get_or_read}
+use Rattle.raster_store.proofs.Known.{Known, known, named_has, some_named, field_sound}
 use Rattle.raster_store.proofs.Places.{named_within}
 
 -- the field that numbers are written to: of the coverage h with a name, described by f
@@ -100,33 +100,57 @@ lacks_as : (k k' : FieldType) (d d' : List Axis) (i i' : Index) (s : BlocksState
     → (tiles : List ℕ) × AreMeeting d area tiles × (free_of s < room_for (λ tile. tile_blocks k (cells_after k d i s.content area numbers tile)) i tiles rest)
 lacks_as k k' d d' i i' s area numbers rest e f g lacks = rw (sym e, sym f, sym g) lacks
 
--- What a write of numbers to a store has done or left, as callers see it. The facts are those of the write of the field.
-module _ {B : Type 0} (state : B → BlocksState) (old new : B) (held : List Held) (name : List ℕ) (place field catalogue rest fetched : ℕ) (h h' : Held) (x x' : Index) (u : Patch)
-    (t : Target (state old) held name place field h u.area.now u.numbers.now) (c : IsChanged (state old) (state new) held place field h h' x x')
-    (domain : u.domain.now ≡ h.signature.domain) (kind : t.f.kind ≡ u.kind) (out : Outcome u (state old) (state new) x x') where
+-- The field x of the coverage h with a name has become x', as the write of a patch has done or left it.
+pub record Write {B : Type 0} (state : B → BlocksState) (old new : B) (held : List Held) (name : List ℕ) (place field : ℕ) (h h' : Held) (x x' : Index) (u : Patch) : Type 0 where
+  pub target : Target (state old) held name place field h u.area.now u.numbers.now
+  pub changed : IsChanged (state old) (state new) held place field h h' x x'
+  pub domain : u.domain.now ≡ h.signature.domain
+  pub kind : target.f.kind ≡ u.kind
+  pub out : Outcome u (state old) (state new) x x'
+
+pub write : {B T E : Type 0} (state : B → BlocksState) (old new : B) (held : List Held) (name : List ℕ) (place field : ℕ) (h h' : Held) (x x' : Index) (u : Patch) (r : Result T E) → IsHeld (state old) held → IsNamedAt name held place
+    → h ≡ get_or held place h → HasPatch name field u.area.now u.numbers.now (coverages_of (state old).content held) → x ≡ get_or h.fields.items field x → u.domain.now ≡ h.signature.domain
+    → IsSomeAnd (slice_get h.signature.fields field) (λ (f : Field). f.kind ≡ u.kind) → h'.signature ≡ h.signature → h'.fields.items ≡ set h.fields.items field x' → OnOk r (Patches u (state old) x (state new) x')
+    → OnOk r (IsSound u.domain.now (state new) x') → OnOk r (Moves (listed x) (listed x') (state old) (state new)) → OnErr r (x' ≡ x) → OnErr r (Moves none none (state old) (state new))
+    → Write state old new held name place field h h' x x' u
+write state old new held name place field h h' x x' u r is at was has read domain kind signature fields done sound moves same kept =
+    let t = target (state old) held name place field h u.area.now u.numbers.now is at was has in
+    let here : x ≡ index_at h field = get_or_read h.fields.items field x t.indexed read [] in
+    let before : IsSound u.domain.now (state old) x = rw (domain, here) (field_sound (state old) held place h field t.facts t.indexed) in
+    let out = outcome r u (state old) (state new) x x' before done sound moves same kept in
+    record {
+      target = t;
+      changed = record { is_held = is; place = t.facts.within; was = was; field = t.indexed; read = sym here; signature = signature; fields = fields; moves = out.moves };
+      domain = domain;
+      kind = target_kind (state old) held name place field h u.area.now u.numbers.now u.kind t kind;
+      out = out;
+    }
+
+-- What a write of numbers to a store has done or left, as callers see it.
+module _ {B : Type 0} {state : B → BlocksState} {old new : B} {held : List Held} {name : List ℕ} {place field : ℕ} {h h' : Held} {x x' : Index} {u : Patch} (catalogue rest fetched : ℕ) (w : Write state old new held name place field h h' x x' u) where
   -- the other metadata has so many bytes, or more than a `u64` holds
   abbrev Least : Type 0
   Least = (d : Held) (all : ℕ) → all + length (index_bytes (index_at (get_or held place d) field)) ≡ metadata_size catalogue (indexes_of held) → rest ≡ min (2 ^ 64 - 1) all
 
   same_fields : x' ≡ x → h'.fields.items ≡ (get_or held place h).fields.items
-  same_fields e = c.fields ∙ ap (set h.fields.items field) (e ∙ sym c.read) ∙ set-get_or h.fields.items field [] ∙ ap (λ (y : Held). y.fields.items) c.was
+  same_fields e = w.changed.fields ∙ ap (set h.fields.items field) (e ∙ sym w.changed.read) ∙ set-get_or h.fields.items field [] ∙ ap (λ (y : Held). y.fields.items) w.changed.was
 
   same_names : AreSameSignatures (coverages_of (state old).content held) (coverages_of (state new).content (set held place h'))
-  same_names = same_signatures (state old).content (state new).content held (set held place h') (signatures_set held place h' h (c.signature ∙ ap (λ (y : Held). y.signature) c.was))
+  same_names = same_signatures (state old).content (state new).content held (set held place h') (signatures_set held place h' h (w.changed.signature ∙ ap (λ (y : Held). y.signature) w.changed.was))
 
   pub wrote_held : IsIndex x' → IsHeld (state new) (set held place h')
-  wrote_held index = held_after (state old) (state new) held place field h h' x x' c index (rw domain at out.sound)
+  wrote_held index = held_after (state old) (state new) held place field h h' x x' w.changed index (rw w.domain at w.out.sound)
 
   pub wrote_intact : Keeps state (view_of state old held fetched) (view_of state new (set held place h') fetched)
-  wrote_intact sure intact = intact_after (state old) (state new) held place field h h' x x' c t.f sure t.kind (rw (domain, sym kind) at (out.spelled sure)) intact
+  wrote_intact sure intact = intact_after (state old) (state new) held place field h h' x x' w.changed w.target.f sure w.target.kind (rw (w.domain, sym w.kind) at (w.out.spelled sure)) intact
 
   pub wrote_same : {T E : Type 0} (r : Result T E) → OnErr r (x' ≡ x) → OnErr r (Moves none none (state old) (state new)) → OnErr r (Stays state (view_of state old held fetched) (view_of state new (set held place h') fetched))
   wrote_same (Ok v) same kept = tt
   wrote_same (Err e) same kept = record {
     same = record {
       signatures = same_names;
-      coverages = λ sure. coverages_same (state new).content held place h' h (c.signature ∙ ap (λ (y : Held). y.signature) c.was) (same_fields same)
-          ∙ coverages_kept (state old).content (state new).content held (keeps_all (state old) (state new) held c.is_held kept sure);
+      coverages = λ sure. coverages_same (state new).content held place h' h (w.changed.signature ∙ ap (λ (y : Held). y.signature) w.changed.was) (same_fields same)
+          ∙ coverages_kept (state old).content (state new).content held (keeps_all (state old) (state new) held w.changed.is_held kept sure);
       indexes = indexes_same held place h' h (same_fields same);
       fetched = refl;
     };
@@ -136,17 +160,17 @@ module _ {B : Type 0} (state : B → BlocksState) (old new : B) (held : List Hel
   -- how many bytes the other metadata has
   all_rest : (all : ℕ) × (all + length (index_bytes x) ≡ metadata_size catalogue (indexes_of held)) × (Least → rest ≡ min (2 ^ 64 - 1) all)
   all_rest =
-      let all = rest_of catalogue held place field h c.place c.was c.field in
-      (all.0, rw c.read at all.1, λ least. least h all.0 (subst (λ (y : Held). all.0 + length (index_bytes (index_at y field)) ≡ metadata_size catalogue (indexes_of held)) c.was all.1))
+      let all = rest_of catalogue held place field h w.changed.place w.changed.was w.changed.field in
+      (all.0, rw w.changed.read at all.1, λ least. least h all.0 (subst (λ (y : Held). all.0 + length (index_bytes (index_at y field)) ≡ metadata_size catalogue (indexes_of held)) w.changed.was all.1))
 
   pub wrote_done : {T E : Type 0} (r : Result T E) → Least → free_of (state new) < 2 ^ 32 → OnOk r (Patches u (state old) x (state new) x') → OnOk r (HasRoom rest x' (state new))
       → OnOk r (Writes state name field u.area.now (numbers_in u.area.now u.numbers.now) catalogue (view_of state old held fetched) (view_of state new (set held place h') fetched))
   wrote_done (Err e) least small done room = tt
   wrote_done (Ok v) least small done room = record {
-    coverages = λ sure. written_after (state old) (state new) held place field h h' x x' c t.f name u.area.now (numbers_in u.area.now u.numbers.now) sure t.kind t.at (rw (domain, sym kind) at (done sure).numbers);
+    coverages = λ sure. written_after (state old) (state new) held place field h h' x x' w.changed w.target.f name u.area.now (numbers_in u.area.now u.numbers.now) sure w.target.kind w.target.at (rw (w.domain, sym w.kind) at (done sure).numbers);
     signatures = same_names;
-    moves = moves_all (state old) (state new) held place field h h' x x' c;
-    room = room_after (state old) (state new) held place field h h' x x' c catalogue rest all_rest.0 all_rest.1 (all_rest.2 least) small room;
+    moves = moves_all (state old) (state new) held place field h h' x x' w.changed;
+    room = room_after (state old) (state new) held place field h h' x x' w.changed catalogue rest all_rest.0 all_rest.1 (all_rest.2 least) small room;
   }
 
   pub wrote_why : {T : Type 0} (r : Result T Fault) → Least → RefusesPatch r u rest (state old) x
@@ -154,11 +178,11 @@ module _ {B : Type 0} (state : B → BlocksState) (old new : B) (held : List Hel
   wrote_why r least why = record {
     for_damage = λ err sure intact.
         let d = why.for_damage err sure in
-        let spelled = spelled-at (state old).content h.signature.domain h.signature.fields h.fields.items field t.f t.kind t.indexed (t.facts.intact intact) in
-        d.3 (same_spelled t.f.kind u.kind h.signature.domain u.domain.now (index_at h field) x (state old).content d.0 (sym kind) domain (sym c.read)
-        (spelled_tile t.f.kind h.signature.domain (index_at h field) (state old).content d.0 spelled));
+        let spelled = spelled-at (state old).content h.signature.domain h.signature.fields h.fields.items field w.target.f w.target.kind w.target.indexed (w.target.facts.intact intact) in
+        d.3 (same_spelled w.target.f.kind u.kind h.signature.domain u.domain.now (index_at h field) x (state old).content d.0 (sym w.kind) w.domain (sym w.changed.read)
+        (spelled_tile w.target.f.kind h.signature.domain (index_at h field) (state old).content d.0 spelled));
     for_room = λ err sure.
-        let lacks = lacks_as t.f.kind u.kind h.signature.domain u.domain.now (index_at h field) x (state old) u.area.now (numbers_in u.area.now u.numbers.now) rest (sym kind) domain (sym c.read) (why.for_room err sure) in
+        let lacks = lacks_as w.target.f.kind u.kind h.signature.domain u.domain.now (index_at h field) x (state old) u.area.now (numbers_in u.area.now u.numbers.now) rest (sym w.kind) w.domain (sym w.changed.read) (why.for_room err sure) in
         let all = all_rest in
-        lacks_room (state old) held place field h t.f name u.area.now (numbers_in u.area.now u.numbers.now) catalogue rest all.0 c.was t.indexed t.kind t.at (rw c.read all.1) (omega (arith, all.2 least)) lacks;
+        lacks_room (state old) held place field h w.target.f name u.area.now (numbers_in u.area.now u.numbers.now) catalogue rest all.0 w.changed.was w.target.indexed w.target.kind w.target.at (rw w.changed.read all.1) (omega (arith, all.2 least)) lacks;
   }

@@ -88,8 +88,11 @@ updated_named old new name field area numbers [] i h d at kept e = absurd at
 updated_named old new name field area numbers (g ∷ held) zero h d at kept e =
     rw (at.0, updated_none old name field area numbers held at.1, e, coverages_kept old new held kept) refl
 updated_named old new name field area numbers (g ∷ held) (suc i) h d at kept e =
-    rw (at.0, coverage_kept old new g (first_all_kept old new g.fields.items (indexes_of (remove held i)) kept),
-    updated_named old new name field area numbers held i h d at.1 (rest_all_kept old new g.fields.items (indexes_of (remove held i)) kept) e) refl
+    rw (
+      at.0,
+      coverage_kept old new g (first_all_kept old new g.fields.items (indexes_of (remove held i)) kept),
+      updated_named old new name field area numbers held i h d at.1 (rest_all_kept old new g.fields.items (indexes_of (remove held i)) kept) e,
+    ) refl
 
 -- a removal of a name that none has
 pub deleted_none : (content name : List ℕ) (held : List Held) → NoneNamed name held → deleted name (coverages_of content held) ≡ coverages_of content held

@@ -1,6 +1,6 @@
 -- What reads of a field's tiles say of its coverage.
-use Rattle.std.proofs.Common.{◌≡◌, ℕ, zero, suc, ◌<◌, List, [], ◌∷◌, length, get_or, map, Option, Some, refl, sym, ap, ◌∙◌, subst, arith, All}
-use Rattle.std.specs.Prelude.{ℤ, pos, slice_get, ◌≤ℤ◌, IsTrue, IsSomeAnd}
+use Rattle.std.proofs.Common.{◌≡◌, ℕ, suc, ◌<◌, List, [], ◌∷◌, length, get_or, map, Some, refl, sym, ap, ◌∙◌, subst, arith, All}
+use Rattle.std.specs.Prelude.{ℤ, pos, slice_get, ◌≤ℤ◌, IsSomeAnd}
 use Rattle.std.proofs.lemmas.Int.{ints}
 use Rattle.std.proofs.lemmas.List.{get_or-map, length-map}
 use Rattle.std.proofs.lemmas.Bool.Decides.{nat_tests}
@@ -19,7 +19,7 @@ use Rattle.tile_store.specs.Reading.{number_in, IsSpelledIn}
 use Rattle.tile_store.specs.Stored.{field_values, number_at, tile_box, IsSpelled, IsTileSpelled}
 use Rattle.raster_store.specs.declared.held.Held.{Held}
 use Rattle.raster_store.specs.Views.{Index, FieldsIntact}
-use Rattle.raster_store.specs.Holding.{coverage_of, IsWhole, index_at}
+use Rattle.raster_store.specs.Holding.{coverage_of, index_at}
 use Rattle.raster_store.specs.Fields.{IsFieldOf}
 use Rattle.raster_store.proofs.Options.{some_and}
 use Rattle.raster_store.proofs.Contents.{values-at, spelled-at}
@@ -49,7 +49,7 @@ number_is s h j f p is within inside =
     let x = field_found h j f is in
     let at = values-at s.content h.signature.domain h.signature.fields h.fields.items j x.0 x.1 within in
     let value : number_at x.0.kind h.signature.domain (index_at h j) s.content p ≡ value_at (coverage_of s.content h) j p =
-        sym (values_number x.0.kind h.signature.domain (index_at h j) s.content p inside) ∙ ap (λ (v : List ℤ). get_or v (rank_of h.signature.domain p) (pos 0)) (sym at) in
+    sym (values_number x.0.kind h.signature.domain (index_at h j) s.content p inside) ∙ ap (λ (v : List ℤ). get_or v (rank_of h.signature.domain p) (pos 0)) (sym at) in
     same_number x.0.kind f.kind h.signature.domain f.domain.now (index_at h j) f.index.now s.content p x.2 is.domain is.index ∙ value
 
 -- a point of a box is one of the domain
@@ -126,4 +126,4 @@ pub intact_tile : (s : BlocksState) (h : Held) (j : ℕ) (f : FieldTiles) → Is
 intact_tile s h j f is within intact tile =
     let x = field_found h j f is in
     spelled_in s h j f tile is (rw x.1 (spelled_tile x.0.kind h.signature.domain (index_at h j) s.content tile
-        (spelled-at s.content h.signature.domain h.signature.fields h.fields.items j x.0 x.1 within intact)))
+    (spelled-at s.content h.signature.domain h.signature.fields h.fields.items j x.0 x.1 within intact)))

@@ -1,14 +1,14 @@
 -- A store that is held, and what changes of its coverages and blocks do to it.
-use Rattle.std.proofs.Common.{◌≡◌, ◌≢◌, ℕ, zero, suc, ◌+◌, ◌-◌, ◌<◌, ◌≤◌, ◌^◌, min, List, [], ◌∷◌, ◌++◌, length, get_or, set, map, Bool, false, IsTrue, Option, Some, None, Result, Ok, Err, refl, sym, ap, ◌∙◌, subst, arith, All, ◌⊎◌, inl, inr}
-use Rattle.std.specs.Prelude.{ℤ, slice_get, IsSomeAnd, OnOk, OnErr, sum_by, replicate}
+use Rattle.std.proofs.Common.{◌≡◌, ℕ, zero, suc, ◌+◌, ◌-◌, ◌<◌, ◌≤◌, ◌^◌, min, List, [], ◌∷◌, ◌++◌, length, get_or, map, false, IsTrue, refl, sym, ap, ◌∙◌, subst, arith, All, inl, inr}
+use Rattle.std.specs.Prelude.{ℤ, replicate}
 use Rattle.std.specs.List.{AllByRecursion as Each, remove}
 use Rattle.std.proofs.lemmas.Bool.{cases_eq}
 use Rattle.std.proofs.lemmas.List.Elements.{All-head, All-tail, All-push, All-replicate, All-from_recursion, recursion_from_All}
 use Rattle.arr_core.specs.declared.domain.Axis.{Axis}
 use Rattle.arr_core.specs.declared.signature.Signature.{Signature}
-use Rattle.arr_core.specs.Stores.{Store, new_coverage}
-use Rattle.block_file.specs.State.{BlocksState, block, none}
-use Rattle.block_file.specs.Words.{OnlyReads, Recounts, Moves, Covers, OnlyHeader}
+use Rattle.arr_core.specs.Stores.{new_coverage}
+use Rattle.block_file.specs.State.{BlocksState, none}
+use Rattle.block_file.specs.Words.{OnlyReads, Recounts, Moves, OnlyHeader}
 use Rattle.tile_index.specs.Index.{IsIndex}
 use Rattle.raster_store.specs.declared.held.Held.{Held}
 use Rattle.block_file.specs.Format.{chain_blocks}
@@ -20,7 +20,7 @@ use Rattle.raster_store.specs.Decoded.{Kept}
 use Rattle.raster_store.specs.Fetches.{IsDecoded}
 use Rattle.raster_store.specs.declared.reading.TileAt.{TileAt}
 use Rattle.raster_store.proofs.Places.{other_name}
-use Rattle.raster_store.proofs.Totals.{listed_fields-none, listed_all-nil, listed_all-push, listed_all-remove, listed_all-at}
+use Rattle.raster_store.proofs.Totals.{listed_fields-none, listed_all-nil, listed_all-push, listed_all-remove}
 use Rattle.raster_store.proofs.Contents.{KeepsAll, indexes-push, coverages_kept, intact_kept, intact-push, intact_new, values_new}
 
 -- what is told of coverages

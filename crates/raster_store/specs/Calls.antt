@@ -12,7 +12,6 @@ use Rattle.block_file.specs.State.{BlocksState, block, free_of}
 use Rattle.block_file.specs.Words.{Covers}
 use Rattle.tile_index.specs.Bytes.{index_bytes}
 use Rattle.tile_index.specs.Index.{IsIndex}
-use Rattle.tile_store.specs.declared.fault.Fault.{Fault}
 use Rattle.tile_store.specs.Room.{AreMeeting, cells_after, tile_blocks, room_for}
 use Rattle.raster_store.specs.declared.fault.WriteFault.{WriteFault}
 use Rattle.raster_store.specs.declared.fault.WriteFault.TheVariants.{OutsideDomain, ValueCount, ValueRange, Device}
@@ -82,6 +81,10 @@ abbrev pub index_of : List ℕ → ℕ → Store → List (List Index) → Optio
 index_of name field [] indexes = None
 index_of name field (c ∷ coverages) [] = None
 index_of name field (c ∷ coverages) (i ∷ indexes) = if bytes_eq c.name name then slice_get i field else index_of name field coverages indexes
+
+-- these are the bytes of the index of a field of the coverage with a name
+abbrev pub IsIndexOf : List ℕ → ℕ → Store → List (List Index) → List ℕ → Type 0
+IsIndexOf name field coverages indexes bytes = IsSomeAnd (index_of name field coverages indexes) (λ i. bytes ≡ index_bytes i)
 
 -- the indexes without those of the coverage with a name
 abbrev pub indexes_without : List ℕ → Store → List (List Index) → List (List Index)

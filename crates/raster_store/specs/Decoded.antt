@@ -1,5 +1,5 @@
 -- The tiles that a store keeps decoded: each by its places, with its cells in row-major order.
-use Rattle.std.specs.Prelude.{◌≡◌, ℕ, ℤ, IsTrue, List, [], Option, Some, None, Vec, Contains, ◌⊎◌}
+use Rattle.std.specs.Prelude.{◌≡◌, ℤ, List, [], Option, Some, None, Vec, Contains, ◌⊎◌}
 use Rattle.std.specs.declared.alloc.Global.{Global}
 use Rattle.lru.specs.LruCache.{LruCache}
 use Rattle.arr_core.specs.Stores.{Store}

@@ -1,17 +1,14 @@
 -- How a store is held: for each coverage its signature, and the index of each field.
-use Rattle.std.specs.Prelude.{◌≡◌, ℕ, zero, suc, ◌<◌, Bool, true, false, IsTrue, List, [], ◌∷◌, map, length, slice_get, slice_index_or, All, IsSomeAnd}
+use Rattle.std.specs.Prelude.{◌≡◌, ℕ, zero, suc, ◌<◌, Bool, true, false, IsTrue, List, [], ◌∷◌, map, length, slice_index_or, All}
 use Rattle.std.specs.List.{AllByRecursion as Each}
 use Rattle.std.specs.Str.{bytes_eq}
 use Rattle.arr_core.specs.declared.signature.Signature.{Signature}
-use Rattle.arr_core.specs.declared.field.Field.{Field}
 use Rattle.arr_core.specs.Stores.{Coverage, Store}
 use Rattle.block_file.specs.State.{BlocksState, block}
 use Rattle.block_file.specs.Words.{Covers}
 use Rattle.tile_index.specs.Index.{IsIndex}
-use Rattle.tile_store.specs.Stored.{IsTileSpelled}
 use Rattle.raster_store.specs.declared.held.Held.{Held}
-use Rattle.raster_store.specs.declared.reading.TileAt.{TileAt}
-use Rattle.raster_store.specs.Views.{Index, RasterView, coverage_in, coverages_in, listed_all, AreBelow}
+use Rattle.raster_store.specs.Views.{Index, coverage_in, coverages_in, listed_all, AreBelow}
 use Rattle.raster_store.specs.Decoded.{Kept, AreDecoded}
 
 abbrev pub signatures_of : List Held → List Signature

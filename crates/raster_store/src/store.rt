@@ -1,22 +1,20 @@
 //! Coverages by their names: functions on boxes.
 
 ghost use Rattle.std.specs.Prelude.{◌≡◌, ◌<◌, ◌≤◌, [], length, None, IsSomeAnd, IsErr, IsErrOf, IfOk, IfErr, IfSome};
-ghost use Rattle.std.specs.Prelude.{IfNone, OnOk, OnErr, MatchResult, IsTrue, option_copied, option_map};
+ghost use Rattle.std.specs.Prelude.{IfNone, OnOk, OnErr, IsTrue, option_copied, option_map};
 ghost use Rattle.arr_core.specs.Domains.{IsInside, IsBoxOf};
 ghost use Rattle.arr_core.specs.Stores.{found};
 ghost use Rattle.block_file.specs.State.{free_of};
 ghost use Rattle.block_file.specs.Words.{OnlyHeader, WritesHeader, HoldsChain};
 ghost use Rattle.block_file.specs.Format.{chain_blocks};
-ghost use Rattle.tile_index.specs.Bytes.{index_bytes};
 ghost use Rattle.tile_store.specs.Faults.{Refuses};
-ghost use Rattle.tile_store.specs.Numbers.{numbers_in};
 ghost use Rattle.raster_store.specs.Views.{AreBelow, Fetched};
-ghost use Rattle.raster_store.specs.Calls.{signature_of, AreWhole, AreListed, HasField, MayAttach, index_of, HasNumbers};
+ghost use Rattle.raster_store.specs.Calls.{signature_of, AreWhole, AreListed, HasField, MayAttach, IsIndexOf};
 ghost use Rattle.raster_store.specs.Fetches.{IsPlaceOf, HasTile, HasTileNumber, IsFetched, IsDamagedAt, AreCellsOf};
-ghost use Rattle.raster_store.specs.Fields.{HasPatch};
+ghost use Rattle.raster_store.specs.Fields.{HasPatch, Puts, RefusesPut};
 ghost use Rattle.raster_store.specs.Words.{OnBlocks, TellsFault, IsDamagedStore, OnlyFetches, SameCoverages, Stays};
-ghost use Rattle.raster_store.specs.Words.{Keeps, Attaches, Creates, LacksRoomToCreate, IsCell, AreBoxCells, FetchesBox};
-ghost use Rattle.raster_store.specs.Words.{Writes, WritesBox, FillsBox, LacksRoomToWrite, RefusesBox, RefusesFill, Removes};
+ghost use Rattle.raster_store.specs.Words.{Keeps, Attaches, Creates, LacksRoomToCreate, IsCell, AreBoxCells};
+ghost use Rattle.raster_store.specs.Words.{FetchesBox, WritesBox, FillsBox, RefusesBox, RefusesFill, Removes};
 
 use crate::decoded::DecodedTiles;
 use crate::fault::WriteFault;
@@ -265,9 +263,9 @@ impl<B: Blocks> RasterStore<B> {
         catalogue: u64,
     ) -> Result<(), Fault>
         requires patch { HasPatch name.now field area.now numbers.now self.old.coverages }
-        ensures done { OnOk result (Writes B.state name.now field area.now (numbers_in area.now numbers.now) catalogue self.old self.new) }
+        ensures done { OnOk result (Puts B.state name.now field area.now numbers.now catalogue self.old self.new) }
         ensures same { OnErr result (Stays B.state self.old self.new) }
-        ensures why { Refuses result (IsDamagedStore B.state self.old) (LacksRoomToWrite B.state name.now field area.now (numbers_in area.now numbers.now) catalogue self.old) }
+        ensures why { RefusesPut result B.state name.now field area.now numbers.now catalogue self.old }
         ensures intact { Keeps B.state self.old self.new }
         ensures fetched { self.new.fetched ≡ self.old.fetched }
         ensures told { TellsFault (IsErrOf result Fault.DiskFault) B.state self.old self.new }
@@ -434,7 +432,7 @@ impl<B: Blocks> RasterStore<B> {
         field: usize,
     ) -> Result<Vec<u8>, AllocError>
         requires field { HasField name.now field self.now.coverages }
-        ensures bytes { IfOk result (λ bytes. IsSomeAnd (index_of name.now field self.now.coverages self.now.indexes) (λ i. bytes.items ≡ index_bytes i)) }
+        ensures bytes { IfOk result (λ list. IsIndexOf name.now field self.now.coverages self.now.indexes list.items) }
     {
         let coverage = named(&self.coverages, name);
         let index = &coverage.fields[field];

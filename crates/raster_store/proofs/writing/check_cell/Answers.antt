@@ -16,8 +16,7 @@ pub returns-then-not-holds-clause-refused : goal.returns-then-not-holds-clause-r
 returns-then-not-holds-clause-refused c =
     let box : IsBoxOf c.args.signature.now.domain c.args.area.now = search rules in
     let unfit : Holds c.kind_of.result c.args.cell → ⊥ = search rules in
-    let n = count c.args.area.now in
-    (
+    let n = count c.args.area.now in (
       box,
       length-replicate n c.args.cell,
       some_weaker _ (λ (f : Field). f.kind ≡ c.kind_of.result) (λ (f : Field). All (Holds f.kind) (replicate n c.args.cell) → ⊥)

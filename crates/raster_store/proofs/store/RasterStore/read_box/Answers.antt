@@ -11,38 +11,22 @@ use Rattle.raster_store.proofs.store.RasterStore.read_box.Goals as goal
 
 pub named-coverage-requires-clause-some : goal.named-coverage-requires-clause-some
 named-coverage-requires-clause-some g c =
-    let s = g.B.Blocks.state c.self.inside.blocks in
-    λ none. has_name_of s.content c.self.inside.coverages.items c.args.name.now c.args.field (rw (← c.self.view_is) at c.requires.field) (rw c.deref.ensures.value at none)
+    λ none. has_name_of (g.B.Blocks.state c.self.inside.blocks).content _ c.args.name.now c.args.field (rw (← c.self.view_is) at c.requires.field) (rw c.deref.ensures.value at none)
 
-pub tiles-requires-clause-whole : goal.tiles-requires-clause-whole
-tiles-requires-clause-whole g c =
-    let s = g.B.Blocks.state c.self.inside.blocks in
-    let at = named_field s c.self.inside.coverages.items c.args.name.now c.args.field c.named-coverage.result.now c.self.invariant.is_held (rw c.deref.ensures.value at c.named-coverage.ensures) (rw (← c.self.view_is) at c.requires.field) in
-    at.facts.whole
+pub tiles-requires : goal.tiles-requires
+tiles-requires g c =
+    let at = named_field _ _ c.args.name.now c.args.field c.named-coverage.result.now c.self.invariant.is_held (rw c.deref.ensures.value at c.named-coverage.ensures) (rw (← c.self.view_is) at c.requires.field) in
+    record { whole = at.facts.whole; field = at.described }
 
-pub tiles-requires-clause-field : goal.tiles-requires-clause-field
-tiles-requires-clause-field g c =
-    let s = g.B.Blocks.state c.self.inside.blocks in
-    let at = named_field s c.self.inside.coverages.items c.args.name.now c.args.field c.named-coverage.result.now c.self.invariant.is_held (rw c.deref.ensures.value at c.named-coverage.ensures) (rw (← c.self.view_is) at c.requires.field) in
-    at.described
-
-pub read_area-requires-clause-area : goal.read_area-requires-clause-area
-read_area-requires-clause-area g c =
-    let s = g.B.Blocks.state c.self.inside.blocks in
-    let at = named_field s c.self.inside.coverages.items c.args.name.now c.args.field c.named-coverage.result.now c.self.invariant.is_held (rw c.deref.ensures.value at c.named-coverage.ensures) (rw (← c.self.view_is) at c.requires.field) in
-    rw c.tiles.ensures.domain (named_has s c.self.inside.coverages.items c.args.name.now c.named-coverage.result.now (λ (x : Coverage). IsBoxOf x.domain c.args.area.now) at.is (rw (← c.self.view_is) at c.requires.inside))
-
-pub read_area-requires-clause-tiles : goal.read_area-requires-clause-tiles
-read_area-requires-clause-tiles g c =
-    rw (c.deref-2.ensures.value, c.tiles.ensures.domain) (record { rising = c.in_ok-tiles.ensures.rising; exact = c.in_ok-tiles.ensures.exact })
-
-pub read_area-requires-clause-used : goal.read_area-requires-clause-used
-read_area-requires-clause-used g c =
-    let s = g.B.Blocks.state c.self.inside.blocks in
-    let held = c.self.inside.coverages.items in
+pub read_area-requires : goal.read_area-requires
+read_area-requires g c =
     let h = c.named-coverage.result.now in
-    let at = named_field s held c.args.name.now c.args.field h c.self.invariant.is_held (rw c.deref.ensures.value at c.named-coverage.ensures) (rw (← c.self.view_is) at c.requires.field) in
-    rw c.tiles.ensures.index (field_covers s held at.is.0 h c.args.field at.facts)
+    let at = named_field _ _ c.args.name.now c.args.field c.named-coverage.result.now c.self.invariant.is_held (rw c.deref.ensures.value at c.named-coverage.ensures) (rw (← c.self.view_is) at c.requires.field) in
+    record {
+      area = rw c.tiles.ensures.domain (named_has (g.B.Blocks.state c.self.inside.blocks) _ c.args.name.now h (λ (x : Coverage). IsBoxOf x.domain c.args.area.now) at.is (rw (← c.self.view_is) at c.requires.inside));
+      tiles = rw (c.deref-2.ensures.value, c.tiles.ensures.domain) (record { rising = c.in_ok-tiles.ensures.rising; exact = c.in_ok-tiles.ensures.exact });
+      used = rw c.tiles.ensures.index (field_covers _ _ at.is.0 h c.args.field at.facts);
+    }
 
 pub invariant_of-self : goal.invariant_of-self
 invariant_of-self g c = store_read _ _ _ _ c.self.invariant c.read_area.ensures.frame
@@ -52,12 +36,10 @@ invariant_of-self-2 g c = store_read _ _ _ _ c.self.invariant c.read_area.ensure
 
 pub returns-in_err-cells-clause-why : goal.returns-in_err-cells-clause-why
 returns-in_err-cells-clause-why g c =
-    let s = g.B.Blocks.state c.self.inside.blocks in
-    let h = c.named-coverage.result.now in
-    let at = named_field s c.self.inside.coverages.items c.args.name.now c.args.field h c.self.invariant.is_held (rw c.deref.ensures.value at c.named-coverage.ensures) (rw (← c.self.view_is) at c.requires.field) in
+    let at = named_field _ _ c.args.name.now c.args.field c.named-coverage.result.now c.self.invariant.is_held (rw c.deref.ensures.value at c.named-coverage.ensures) (rw (← c.self.view_is) at c.requires.field) in
     let p = err_from_is_err_and c.from_residual-in_err-cells.result c.from_residual-in_err-cells.ensures.1 in
     rw (← c.self.view_is, p.1, p.2) (record {
-      for_damage = λ err sure intact. (let d = c.in_err-cells.ensures.why.for_damage err sure in d.2 (intact_tile s h c.args.field c.tiles.result c.tiles.ensures at.indexed (at.facts.intact intact) d.0));
+      for_damage = λ err sure intact. (let d = c.in_err-cells.ensures.why.for_damage err sure in d.2 (intact_tile (g.B.Blocks.state c.self.inside.blocks) c.named-coverage.result.now c.args.field c.tiles.result c.tiles.ensures at.indexed (at.facts.intact intact) d.0));
       for_room = c.in_err-cells.ensures.why.for_room;
     })
 
