@@ -1,15 +1,11 @@
 -- A chain of blocks that is followed.
-use Rattle.std.proofs.Common.{◌≡◌, ◌≢◌, ℕ, zero, suc, ◌+◌, ◌-◌, ◌*◌, ◌/◌, ◌%◌, ◌<◌, ◌≤◌, ◌⊎◌, inl, inr, List, ◌++◌, length, length-append, get_or, set, arith, refl, ap, sym, ◌∙◌}
+use Rattle.std.proofs.Common.{◌≡◌, ◌≢◌, ℕ, suc, ◌+◌, ◌-◌, ◌*◌, ◌/◌, ◌%◌, ◌<◌, ◌≤◌, ◌⊎◌, inl, inr, List, length, get_or, set, arith, refl, ap, sym, ◌∙◌}
 use Rattle.std.proofs.lemmas.Bool.{cases_lt}
-use Rattle.std.proofs.lemmas.List.{get_or-set_same, get_or-set_other, get_or-append-add}
-use Rattle.std.proofs.Math.ListN.{get_or-append}
-use borrow.Rule.Slice.PartMut.{mid_of}
+use Rattle.std.proofs.lemmas.List.{get_or-set_same, get_or-set_other}
 use Rattle.block_file.specs.State.{block_at}
-use Rattle.block_file.specs.Format.{number_at, next_of, link, chain_blocks, IsChain}
-use Rattle.block_file.specs.Uses.{MarksChain}
+use Rattle.block_file.specs.Format.{next_of, link, chain_blocks, IsChain}
 use Rattle.block_file.specs.Links.{AddsLink}
 use Rattle.block_file.proofs.Places.{whole_inside}
-use Rattle.block_file.proofs.Numbers.{byte-mid, length-mid}
 
 link-next : (block : ℕ → List ℕ) (first n : ℕ) → link block first (n + 1) ≡ next_of block (link block first n)
 unfolding link
@@ -85,23 +81,6 @@ followed_more block first n k following part marks old new above inside unmarked
       ];
     }
 
--- the whole chain was read, and it ends
-pub followed_all : (block : ℕ → List ℕ) (first n : ℕ) (marks metadata : List ℕ) → 0 < length metadata → n ≡ chain_blocks (length metadata) → Followed block first n 0 marks metadata → IsChain block first metadata
-followed_all block first n marks metadata some count done = record {
-  some = some;
-  above_zero = λ i lt. done.above_zero i (omega arith);
-  whole = λ i lt. done.whole i (omega arith);
-  distinct = λ i j li lj e. done.distinct i j (omega arith) (omega arith) e;
-  ends = ap (link block first) (sym count) ∙ sym done.at;
-  bytes = done.bytes;
-}
-
-pub followed_marks : (block : ℕ → List ℕ) (first n k size : ℕ) (marks metadata : List ℕ) → n ≡ chain_blocks size → Followed block first n k marks metadata → MarksChain block first size marks
-followed_marks block first n k size marks metadata count done = record {
-  chain = λ i lt. done.marked i (omega arith);
-  others = λ j pos out. done.others j pos (λ i lt. out i (omega arith));
-}
-
 -- a chain that comes to a block that is past the end, the header or one that it met is none
 pub refuted : (content : List ℕ) (first n k : ℕ) (marks metadata chained : List ℕ) → length content ≡ 4096 * length marks → (k < length marks → get_or marks k 0 ≡ 0 → ⊥) → n < chain_blocks (length chained) → Followed (block_at content) first n k marks metadata → IsChain (block_at content) first chained → ⊥
 refuted content first n k marks metadata chained len refused more so_far chain =
@@ -111,19 +90,3 @@ refuted content first n k marks metadata chained len refused more so_far chain =
     refused (omega arith) (so_far.others k (omega arith) (λ i lt e.
     let same = chain.distinct i n (omega arith) more (e ∙ at) in
     omega arith))
-
-pub refuted_end : (block : ℕ → List ℕ) (first n k : ℕ) (marks metadata chained : List ℕ) → k ≢ 0 → n ≡ chain_blocks (length chained) → Followed block first n k marks metadata → IsChain block first chained → ⊥
-refuted_end block first n k marks metadata chained ne count so_far chain =
-    ne (so_far.at ∙ ap (link block first) count ∙ chain.ends)
-
-mid_added : (m part j : ℕ) (bytes old : List ℕ) → m ≡ part → part ≤ 4092 → length bytes ≡ 4096 → j < part → get_or (old ++ mid_of 4 m bytes) (length old + j) 0 ≡ get_or bytes (4 + j) 0
-mid_added m part j bytes old e most len lt = get_or-append-add old (mid_of 4 m bytes) j 0 ∙ byte-mid 4 m j bytes (omega arith)
-
--- a part of a block was added
-pub link_added : (bytes old : List ℕ) (m part following : ℕ) → m ≡ part → part ≤ 4092 → length bytes ≡ 4096 → following ≡ number_at 0 4 bytes → AddsLink bytes following part old (old ++ mid_of 4 m bytes)
-link_added bytes old m part following e most len next = record {
-  next = next;
-  size = omega (arith, length-append old (mid_of 4 m bytes), length-mid 4 m bytes (omega arith));
-  kept = λ j lt. get_or-append old (mid_of 4 m bytes) 0 j lt;
-  added = λ j lt. mid_added m part j bytes old e most len lt;
-}

@@ -95,20 +95,21 @@ torn_blocks n old mid mid' new e extends same torn =
     same_blocks old new (omega (arith, torn'.no_shorter)) (λ i a b. torn_behind n mid new e torn' i a ∙ extends.kept i b)
 
 -- the header was not reached
-pub only_extends : (old new : BlocksState) (mid : List ℕ) → new.content ≡ mid → new.uses ≡ old.uses → new.size ≡ old.size → new.honest ≡ old.honest → (IsTrue old.honest → Extends old.content mid) → OnlyHeader old new
-only_extends old new mid is uses size honest extends = record {
+pub only_extends : (old new : BlocksState) (mid : List ℕ) → new.content ≡ mid → new.uses ≡ old.uses → new.size ≡ old.size → new.honest ≡ old.honest → old.uses 0 ≡ 0 → (IsTrue old.honest → Extends old.content mid) → OnlyHeader old new
+only_extends old new mid is uses size honest unused extends = record {
   others = λ h. rw is (extends_blocks old.content mid (extends h));
   torn = λ h. let e = extends h in rw is (record { no_shorter = e.no_shorter; no_longer = omega (arith, e.no_longer); kept = λ i a b. e.kept i b });
   last = λ h. rw is (last_kept old.content mid new.synced (λ i b. (extends h).kept i b));
+  unused = unused;
   uses = uses;
   size = size;
   honest = honest;
 }
 
 -- the header was written, however that ended, after all the rest was synced
-pub only_torn : (n : ℕ) (old new : BlocksState) (mid mid' after synced last : List ℕ) → n ≡ 4096 → new.content ≡ after → new.synced ≡ last → new.uses ≡ old.uses → new.size ≡ old.size → new.honest ≡ old.honest
+pub only_torn : (n : ℕ) (old new : BlocksState) (mid mid' after synced last : List ℕ) → n ≡ 4096 → new.content ≡ after → new.synced ≡ last → new.uses ≡ old.uses → new.size ≡ old.size → new.honest ≡ old.honest → old.uses 0 ≡ 0
     → (IsTrue old.honest → Extends old.content mid) → mid' ≡ mid → Torn 0 n mid' after → synced ≡ mid → Torn 0 n synced last → OnlyHeader old new
-only_torn n old new mid mid' after synced last e is is_last uses size honest extends same torn same_synced torn_synced =
+only_torn n old new mid mid' after synced last e is is_last uses size honest unused extends same torn same_synced torn_synced =
     let torn' : Torn 0 n mid after = rw (← same) torn in
     record {
       others = λ h. rw is (torn_blocks n old.content mid mid' after e (extends h) same torn);
@@ -118,6 +119,7 @@ only_torn n old new mid mid' after synced last e is is_last uses size honest ext
         kept = λ i a b. torn_behind n mid after e torn' i a ∙ x.kept i b;
       });
       last = λ h. rw (is, is_last) (last_torn n old.content mid after synced last e same_synced torn' torn_synced);
+      unused = unused;
       uses = uses;
       size = size;
       honest = honest;
@@ -127,9 +129,3 @@ pub header_written : (state : State) (blocks first size : ℕ) (bytes old mid mi
     → IsHeader bytes state blocks first size → Written 0 bytes mid' after → new ≡ after → HeaderWritten state first size old new
 header_written state blocks first size bytes old mid mid' after new most extends filled same len header done is =
     rw is (header_done state blocks first size bytes old mid after most extends filled len header (rw same at done))
-
--- the file still has no bytes past its last block
-pub within_torn : (n : ℕ) (old mid mid' after marks : List ℕ) → n ≡ 4096 → 0 < length marks → length old ≤ 4096 * length marks → Extends old mid → mid' ≡ mid → Torn 0 n mid' after → length after ≤ 4096 * length marks
-within_torn n old mid mid' after marks e some most extends same torn =
-    let torn' : Torn 0 n mid after = rw (← same) torn in
-    omega (arith, extends.no_longer, torn'.no_longer)

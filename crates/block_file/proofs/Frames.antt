@@ -1,5 +1,5 @@
 -- How the words on calls follow one another.
-use Rattle.std.proofs.Common.{◌≡◌, ℕ, ◌+◌, ◌<◌, ◌≤◌, arith, refl, ap, ◌∙◌}
+use Rattle.std.proofs.Common.{◌≡◌, ℕ, ◌+◌, ◌<◌, ◌≤◌, arith, refl, ◌∙◌}
 use Rattle.block_file.specs.State.{BlocksState, none}
 use Rattle.block_file.specs.Words.{OnlyReads, Recounts, Moves}
 
@@ -42,9 +42,6 @@ moves_as a b c d old new same less m = record {
   size = m.size;
   honest = m.honest;
 }
-
-pub moves_none : (counts : ℕ → ℕ) (s : BlocksState) → Moves counts counts s s
-moves_none counts s = record { uses = λ k. refl; kept = λ k h whole. refl; header = λ whole. refl; size = refl; honest = refl }
 
 -- one call more that gives up and takes no others
 pub moves_more : (counts some : ℕ → ℕ) (s1 s2 s3 : BlocksState) → ((k : ℕ) → some k ≤ counts k) → Moves counts counts s1 s2 → Moves some some s2 s3 → Moves counts counts s1 s3

@@ -1,7 +1,7 @@
 -- How many blocks are free.
-use Rattle.std.proofs.Common.{◌≡◌, ◌≢◌, ℕ, ◌+◌, ◌-◌, ◌<◌, ◌≤◌, inl, inr, zero, suc, List, [], ◌∷◌, length, arith, refl, add-one}
+use Rattle.std.proofs.Common.{◌≡◌, ◌≢◌, ℕ, ◌+◌, ◌-◌, ◌<◌, ◌≤◌, inl, inr, zero, suc, List, [], ◌∷◌, length, arith, refl}
 use Rattle.std.proofs.lemmas.Bool.{cases_eq}
-use Rattle.block_file.specs.State.{BlocksState, IsFree, free_up_to, free_of, one, times, none}
+use Rattle.block_file.specs.State.{BlocksState, free_up_to, free_of, one, times, none}
 use Rattle.block_file.specs.Words.{Recounts, AreLowestFree}
 use Rattle.block_file.proofs.Times.{one_same, one_other, times_none, times-cons}
 
@@ -12,9 +12,6 @@ free_none uses = refl
 pub free-suc : (n : ℕ) (uses : ℕ → ℕ) → free_up_to (suc n) uses ≡ free_up_to n uses + (1 - uses (suc n))
 unfolding free_up_to
 free-suc n uses = refl
-
-pub free_more : (n : ℕ) (uses : ℕ → ℕ) → free_up_to (n + 1) uses ≡ free_up_to n uses + (1 - uses (n + 1))
-free_more n uses = rw add-one (free-suc n uses)
 
 pub free_le : (n : ℕ) (uses : ℕ → ℕ) → free_up_to n uses ≤ n
 free_le zero uses = omega (arith, free_none uses)
@@ -60,13 +57,13 @@ free_listed n (b ∷ ks) old new counts once free =
     let mid : ℕ → ℕ = λ k. old k + one b k in
     let here = free b (omega (arith, times-cons b ks b, one_same b)) in
     let rest : free_up_to n new + length ks ≡ free_up_to n mid = free_listed n ks mid new
-        (λ k. omega (arith, counts k, times-cons b ks k)) (λ k. omega (arith, once k, times-cons b ks k))
-        (λ k h.
-            let of = free k (omega (arith, times-cons b ks k)) in
-            let apart : b ≢ k = λ e. let once_more = once k in let same : one b k ≡ 1 = rw e (one_same k) in omega (arith, times-cons b ks k) in
-            (of.0, of.1, omega (arith, of.2, one_other b k apart))) in
+    (λ k. omega (arith, counts k, times-cons b ks k)) (λ k. omega (arith, once k, times-cons b ks k))
+    (λ k h.
+    let of = free k (omega (arith, times-cons b ks k)) in
+    let apart : b ≢ k = λ e. let once_more = once k in let same : one b k ≡ 1 = rw e (one_same k) in omega (arith, times-cons b ks k) in
+    (of.0, of.1, omega (arith, of.2, one_other b k apart))) in
     let first : free_up_to n mid + 1 ≡ free_up_to n old = free_less n b old mid here.0 here.1 here.2 (omega (arith, one_same b))
-        (λ j ne. omega (arith, one_other b j (λ e. omega (arith, ne)))) in
+    (λ j ne. omega (arith, one_other b j (λ e. omega (arith, ne)))) in
     omega arith
 
 -- so many blocks, none of them twice, are free
@@ -77,20 +74,20 @@ free_enough n (suc m) block uses free distinct =
     let mid : ℕ → ℕ = λ k. uses k + one (block m) k in
     let last = free m (omega arith) in
     let rest : m ≤ free_up_to n mid = free_enough n m block mid
-        (λ i lt.
-            let of = free i (omega arith) in
-            let apart : block m ≢ block i = λ e. let same = distinct m i (omega arith) (omega arith) e in omega arith in
-            (of.0, of.1, omega (arith, of.2, one_other (block m) (block i) apart)))
-        (λ i j hi hj. distinct i j (omega arith) (omega arith)) in
+    (λ i lt.
+    let of = free i (omega arith) in
+    let apart : block m ≢ block i = λ e. let same = distinct m i (omega arith) (omega arith) e in omega arith in
+    (of.0, of.1, omega (arith, of.2, one_other (block m) (block i) apart)))
+    (λ i j hi hj. distinct i j (omega arith) (omega arith)) in
     let first : free_up_to n mid + 1 ≡ free_up_to n uses = free_less n (block m) uses mid last.0 last.1 last.2 (omega (arith, one_same (block m)))
-        (λ j ne. omega (arith, one_other (block m) j (λ e. omega (arith, ne)))) in
+    (λ j ne. omega (arith, one_other (block m) j (λ e. omega (arith, ne)))) in
     omega arith
 
 -- blocks were taken
 pub free_taken : (n : ℕ) (ks : List ℕ) (old new : BlocksState) → Recounts none (times ks) old new → AreLowestFree n ks old → free_of new + n ≡ free_of old
 free_taken n ks old new taken lowest =
     let listed = free_listed (old.size - 1) ks old.uses new.uses (λ k. omega (arith, taken.uses k)) lowest.once
-        (λ k h. let free = lowest.free k h in let within = free.within in (free.above_zero, omega arith, free.unused)) in
+    (λ k h. let free = lowest.free k h in let within = free.within in (free.above_zero, omega arith, free.unused)) in
     rw taken.size (omega (arith, lowest.count, listed))
 
 -- blocks were given back that were in use once
@@ -98,7 +95,7 @@ pub free_given : (ks : List ℕ) (old new : BlocksState) → Recounts (times ks)
     → ((k : ℕ) → 0 < times ks k → (0 < k) × (k < old.size) × (old.uses k ≡ 1)) → free_of new ≡ free_of old + length ks
 free_given ks old new given once used =
     let listed = free_listed (old.size - 1) ks new.uses old.uses (λ k. omega (arith, given.uses k)) once
-        (λ k h. let at = used k h in let within = at.1 in (at.0, omega arith, omega (arith, given.uses k, once k, at.2))) in
+    (λ k h. let at = used k h in let within = at.1 in (at.0, omega arith, omega (arith, given.uses k, once k, at.2))) in
     rw given.size (omega (arith, listed))
 
 -- the uses are as they were

@@ -89,12 +89,3 @@ holds_chain s0 s1 s2 s3 n ks metadata some count free taken written links given 
           let at = link_at (block s2) ks metadata (links (rw given.honest at honest)) i (omega arith) in
           rw at (omega (arith, given.uses k, written.uses k, taken.uses k, (free.free k (times_at ks i (omega arith))).unused));
     })
-
-pub keeps_others : (s0 s1 s2 s3 : BlocksState) (counts : ℕ → ℕ) → Recounts none counts s0 s1 → Moves counts counts s1 s2 → Recounts counts none s2 s3 → Moves none none s0 s3
-keeps_others s0 s1 s2 s3 counts taken written given = record {
-  uses = λ k. omega (arith, taken.uses k, written.uses k, given.uses k);
-  kept = λ k h whole. rw given.content (written.kept k (omega (arith, taken.uses k)) (rw (← taken.content) at whole) ∙ rw taken.content refl);
-  header = λ whole. rw given.content (written.header (rw (← taken.content) at whole) ∙ rw taken.content refl);
-  size = given.size ∙ written.size ∙ taken.size;
-  honest = given.honest ∙ written.honest ∙ taken.honest;
-}

@@ -2,14 +2,13 @@
 use Rattle.std.proofs.Common.{◌≡◌, ◌≢◌, ℕ, zero, suc, ◌+◌, ◌-◌, ◌<◌, ◌≤◌, inl, inr, min, List, [], ◌∷◌, ◌++◌, length, get_or, set, take, drop, replicate, arith, refl, ap, sym, ◌∙◌, length-append, length-set}
 use Rattle.std.proofs.lemmas.Grind.{common_steps, elements, same_number_lists}
 use Rattle.std.proofs.lemmas.Bool.Decides.{nat_tests}
-use Rattle.std.proofs.lemmas.Bool.{cases_eq, cases_lt}
+use Rattle.std.proofs.lemmas.Bool.{cases_eq}
 use Rattle.std.proofs.lemmas.List.{get_or_past, get_or-set_same, get_or-set_other, length-replicate}
-use Rattle.block_file.specs.State.{BlocksState, free_up_to, one, times}
-use Rattle.block_file.specs.Words.{AreLowestFree}
+use Rattle.block_file.specs.State.{free_up_to, one, times}
 use Rattle.block_file.specs.Uses.{use_count, uses_of, IsFresh, AreMarks, TakesLowest, CanClaim, Claims}
 use Rattle.block_file.proofs.Free.{free_none, free_same, free_less, free_past, free_zero, free_listed, free-suc, free_le}
 use Rattle.block_file.proofs.Numbers.{get_or-zeros}
-use Rattle.block_file.proofs.Times.{one_same, one_other, one_is, times_none, times_push, times_more, times_before, times_at}
+use Rattle.block_file.proofs.Times.{one_same, one_other, times_none, times_push, times_more, times_before}
 
 reads_within : (xs : List ℕ) (k : ℕ) → 0 < get_or xs k 0 → k < length xs
 reads_within xs k h = grind (arith, get_or_past)
@@ -124,7 +123,7 @@ free_inside marks free lowest is =
     let some = reads_within marks 0 (let header = is.header in omega arith) in
     let few = is.few in
     let past = free_past (length marks - 1) 1048575 (uses_of marks) (omega arith)
-        (λ k a b. let none = get_or_past marks k 0 (omega arith) in uses-at marks k (omega arith) ∙ ap use_count none) in
+    (λ k a b. let none = get_or_past marks k 0 (omega arith) in uses-at marks k (omega arith) ∙ ap use_count none) in
     omega (arith, is.counted, past)
 
 -- how many marks are wanted for n more blocks
@@ -258,31 +257,6 @@ picked_passed k n ks old new p inside used =
       above_zero = omega arith;
     }
 
-pub picked_all : (k n : ℕ) (ks old new : List ℕ) → Picked k n ks old new → n ≤ length ks → TakesLowest n ks old new
-picked_all k n ks old new p enough = record {
-  count = omega (arith, p.most);
-  once = p.once;
-  inside = λ j h. let at = p.inside j h in (at.0, let lt = at.1 in omega (arith, p.within));
-  free = p.free;
-  lowest = λ a j h above free none. elim (cases_lt j k) [
-    | inl lt ↦ absurd (omega (arith, p.all j above lt free))
-    | inr le ↦ let lt = (p.inside a h).1 in omega arith
-  ];
-  are_used = p.are_used;
-  others = p.others;
-  blocks = p.blocks;
-}
-
--- below the last block that was taken none is free
-pub picked_used : (k n : ℕ) (ks old new : List ℕ) → Picked k n ks old new → (j : ℕ) → 0 < j → j < k → 0 < uses_of new j
-picked_used k n ks old new p j above lt = elim (cases_eq (times ks j) 0) [
-  | inl none ↦ elim (cases_eq (uses_of old j) 0) [
-    | inl free ↦ absurd (omega (arith, p.all j above lt free))
-    | inr used ↦ omega (arith, uses_same old new j (p.others j none))
-  ]
-  | inr some ↦ let is = uses-at new j above ∙ ap use_count (p.are_used j (omega arith)) in omega (arith, is)
-]
-
 pub taken_uses : (n : ℕ) (ks old new : List ℕ) → TakesLowest n ks old new → (k : ℕ) → uses_of new k ≡ uses_of old k + times ks k
 taken_uses n ks old new t k = elim (cases_eq (times ks k) 0) [
   | inl none ↦ omega (arith, uses_same old new k (t.others k none))
@@ -296,7 +270,7 @@ pub taken_marks : (n free lowest next : ℕ) (ks old new : List ℕ) → AreMark
     → AreMarks new (free - n) next
 taken_marks n free lowest next ks old new is t above within used =
     let listed = free_listed 1048575 ks (uses_of old) (uses_of new) (taken_uses n ks old new t) t.once
-        (λ k h. let at = t.inside k h in (at.0, (let lt = at.1 in omega (arith, is.few)), t.free k h)) in
+    (λ k h. let at = t.inside k h in (at.0, (let lt = at.1 in omega (arith, is.few)), t.free k h)) in
     let header : times ks 0 ≡ 0 = elim (cases_eq (times ks 0) 0) [ inl none ↦ none | inr some ↦ absurd (let at = (t.inside 0 (omega arith)).0 in omega arith) ] in
     record {
       header = t.others 0 header ∙ is.header;
@@ -306,16 +280,6 @@ taken_marks n free lowest next ks old new is t above within used =
       within = within;
       used = used;
     }
-
--- one use is given up
-pub lowered-at : (marks : List ℕ) (k j : ℕ) → 0 < uses_of marks k → get_or (set marks k (get_or marks k 0 - 1)) j 0 + one k j ≡ get_or marks j 0
-lowered-at marks k j h =
-    let is = is_used marks k h in
-    let plain = is.plain in
-    elim (cases_eq k j) [
-      | inl e ↦ rw (← e) (omega (arith, get_or-set_same marks k (get_or marks k 0 - 1) 0 is.inside, one_same k))
-      | inr ne ↦ omega (arith, get_or-set_other marks k j (get_or marks k 0 - 1) 0 (omega arith), one_other k j ne)
-    ]
 
 lowered_other : (marks : List ℕ) (k m j : ℕ) → j ≢ k → uses_of (set marks k m) j ≡ uses_of marks j
 lowered_other marks k m j ne = uses_same marks (set marks k m) j (get_or-set_other marks k j m 0 ne)
@@ -393,25 +357,6 @@ pub given_more : (old now new ks : List ℕ) (i : ℕ) → i < length ks → ((k
     → ((k : ℕ) → get_or new k 0 + one (get_or ks i 0) k ≡ get_or now k 0) → (k : ℕ) → get_or new k 0 + times (take (i + 1) ks) k ≡ get_or old k 0
 given_more old now new ks i h given one_less k = omega (arith, given k, one_less k, times_more ks i k h)
 
-pub all_given : (ks : List ℕ) (i : ℕ) (old now : List ℕ) → length ks ≤ i → ((k : ℕ) → get_or now k 0 + times (take i ks) k ≡ get_or old k 0) → (k : ℕ) → get_or now k 0 + times ks k ≡ get_or old k 0
-all_given ks i old now le given k = let all : take i ks ≡ ks = grind (arith, common_steps) in rw all at (given k)
-
-pub given_uses : (old new ks : List ℕ) → ((k : ℕ) → times ks k ≤ uses_of old k) → ((k : ℕ) → get_or new k 0 + times ks k ≡ get_or old k 0) → (k : ℕ) → uses_of new k + times ks k ≡ uses_of old k
-given_uses old new ks covers given k = elim (cases_eq (times ks k) 0) [
-  | inl none ↦ omega (arith, uses_same old new k (omega (arith, given k)))
-  | inr some ↦
-      let u = is_used old k (omega (arith, covers k)) in
-      let plain = count_small (get_or new k 0) (omega (arith, given k, u.small)) in
-      omega (arith, uses-at new k u.above_zero, plain, u.plain, given k)
-]
-
--- a block that has no mark is claimed
-pub claimed-at : (marks : List ℕ) (k j : ℕ) → k < length marks → get_or marks k 0 ≡ 0 → get_or (set marks k 1) j 0 ≡ get_or marks j 0 + one k j
-claimed-at marks k j inside none = elim (cases_eq k j) [
-  | inl e ↦ rw (← e) (omega (arith, get_or-set_same marks k 1 0 inside, one_same k))
-  | inr ne ↦ omega (arith, get_or-set_other marks k j 1 0 (omega arith), one_other k j ne)
-]
-
 pub claimed_marks : (marks : List ℕ) (free lowest k : ℕ) → AreMarks marks free lowest → k < length marks → get_or marks k 0 ≡ 0 → (0 < free) × AreMarks (set marks k 1) (free - 1) lowest
 claimed_marks marks free lowest k is inside none =
     let above = above_zero marks free lowest k is none in
@@ -430,7 +375,8 @@ claimed_marks marks free lowest k is inside none =
           | inl e ↦ rw e (omega (arith, now))
           | inr ne ↦ rw (lowered_other marks k 1 j ne) (is.used j a b)
         ];
-      })
+      },
+    )
 
 pub claims_none : (marks : List ℕ) → Claims [] marks marks
 claims_none marks = record {
@@ -472,18 +418,6 @@ claims_more ks old now new i h so_far above inside none len marks =
       marks = λ j. omega (arith, marks j, so_far.marks j, times_more ks i j h);
     }
 
--- blocks that were claimed are in use
-pub claimed_uses : (ks old new : List ℕ) → Claims ks old new → (k : ℕ) → uses_of new k ≡ uses_of old k + times ks k
-claimed_uses ks old new c k = elim (cases_eq (times ks k) 0) [
-  | inl none ↦ omega (arith, uses_same old new k (omega (arith, c.marks k)))
-  | inr some ↦
-      let was = c.could.unmarked k (omega arith) in
-      let above = c.could.above_zero k (omega arith) in
-      let once = c.could.once k in
-      let is : get_or new k 0 ≡ 1 = omega (arith, c.marks k) in
-      omega (arith, uses-at old k above ∙ ap use_count was, uses-at new k above ∙ ap use_count is)
-]
-
 -- blocks cannot be claimed one of which is past the end or marked
 pub cannot_claim : (ks old now : List ℕ) (i : ℕ) → i < length ks → Claims (take i ks) old now → (get_or ks i 0 < length now → get_or now (get_or ks i 0) 0 ≡ 0 → ⊥) → CanClaim ks old → ⊥
 cannot_claim ks old now i h so_far refused can =
@@ -491,23 +425,5 @@ cannot_claim ks old now i h so_far refused can =
     let before = times_before ks i h in
     refused (omega (arith, can.inside k (omega arith), so_far.blocks)) (omega (arith, so_far.marks k, can.unmarked k (omega arith), can.once k))
 
--- what was claimed is in use, and may be given back
-pub claimed_covers : (ks old now : List ℕ) → Claims ks old now → (k : ℕ) → times ks k ≤ uses_of now k
-claimed_covers ks old now c k = omega (arith, claimed_uses ks old now c k)
-
 pub unclaimed : (ks old now new : List ℕ) → Claims ks old now → length new ≡ length now → ((k : ℕ) → get_or new k 0 + times ks k ≡ get_or now k 0) → new ≡ old
 unclaimed ks old now new c len given = same_number_lists new old (len ∙ c.blocks) (λ i lt. omega (arith, given i, c.marks i))
-
--- blocks that were taken are the lowest free ones of a file
-pub lowest_taken : (n : ℕ) (ks old marks new : List ℕ) (s : BlocksState) → s.uses ≡ uses_of old → s.size ≡ 1048576 → length marks ≤ 1048576 → ((k : ℕ) → uses_of marks k ≡ uses_of old k)
-    → TakesLowest n ks marks new → AreLowestFree n ks s
-lowest_taken n ks old marks new s uses size few same t = record {
-  count = t.count;
-  once = t.once;
-  free = λ k h. let at = t.inside k h in record {
-    above_zero = at.0;
-    within = let lt = at.1 in omega arith;
-    unused = rw uses (sym (same k) ∙ t.free k h);
-  };
-  lowest = λ k j h free none. t.lowest k j h free.above_zero (same j ∙ rw uses at free.unused) none;
-}

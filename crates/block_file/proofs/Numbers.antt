@@ -11,18 +11,6 @@ use Rattle.block_file.specs.Format.{number_at, Put}
 byte-drop : (i k : ℕ) (xs : List ℕ) → get_or (drop k xs) i 0 ≡ get_or xs (k + i) 0
 byte-drop i k xs = grind (arith, common_steps)
 
-from-drop : (i n k : ℕ) (xs : List ℕ) → little_from i n (drop k xs) ≡ little_from (k + i) n xs
-from-drop i zero k xs = refl
-from-drop i (suc n) k xs =
-    let byte = byte-drop i k xs in
-    let rest : little_from (suc i) n (drop k xs) ≡ little_from (k + suc i) n xs = from-drop (suc i) n k xs in
-    rw (byte, rest, add-suc) refl
-
--- a number reads the same behind a cut
-pub number-drop : (at n : ℕ) (xs : List ℕ) → little_from 0 n (drop at xs) ≡ number_at at n xs
-unfolding number_at
-number-drop at n xs = from-drop 0 n at xs ∙ ap (λ i. little_from i n xs) (add-zero at)
-
 same_from : (i n : ℕ) (xs ys : List ℕ) → ((j : ℕ) → i ≤ j → j < i + n → get_or xs j 0 ≡ get_or ys j 0) → little_from i n xs ≡ little_from i n ys
 same_from i zero xs ys same = refl
 same_from i (suc n) xs ys same =

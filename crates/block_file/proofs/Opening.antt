@@ -54,16 +54,6 @@ damaged_length content blocks first size header wrong = record {
       wrong (omega arith) (omega arith);
 }
 
--- a closed header without a chain that fits
-pub damaged_chain : (content : List ℕ) (blocks first size : ℕ) → IsHeader content Closed blocks first size → ((metadata : List ℕ) → length metadata ≡ size → IsChain (block_at content) first metadata → ⊥) → IsDamaged content
-damaged_chain content blocks first size header none = record {
-  store = header.store;
-  not_open = λ e. let closed = header.state in omega arith;
-  not_closed = λ metadata closed.
-      let chain = rw header.first at closed.chain in
-      none metadata (sym closed.header.size ∙ header.size) chain;
-}
-
 -- a closed header with a chain
 pub closed_file : (content metadata : List ℕ) (blocks first size : ℕ) → IsHeader content Closed blocks first size → length content ≡ 4096 * blocks → blocks ≤ 1048576 → length metadata ≡ size → IsChain (block_at content) first metadata → IsClosed content metadata
 closed_file content metadata blocks first size header whole few same chain =

@@ -13,10 +13,6 @@ one_other b k ne = grind (arith, common_steps)
 pub one_le : (b k : ℕ) → one b k ≤ 1
 one_le b k = grind (arith, common_steps)
 
--- where a block has one use, it is that block
-pub one_is : (b k : ℕ) → 0 < one b k → b ≡ k
-one_is b k h = grind (arith, common_steps)
-
 pub times_none : (k : ℕ) → times [] k ≡ 0
 unfolding times
 times_none k = refl
@@ -32,9 +28,6 @@ times_push ks b k = sum_by_push (λ c. one c k) ks b
 pub times_append : (xs ys : List ℕ) (k : ℕ) → times (xs ++ ys) k ≡ times xs k + times ys k
 unfolding times
 times_append xs ys k = sum_by-append (λ c. one c k) xs ys
-
-pub times_one : (b k : ℕ) → times (b ∷ []) k ≡ one b k
-times_one b k = omega (arith, times-cons b [] k, times_none k)
 
 pub times_more : (ks : List ℕ) (i k : ℕ) → i < length ks → times (take (i + 1) ks) k ≡ times (take i ks) k + one (get_or ks i 0) k
 times_more ks i k h = grind (arith, common_steps, times_push (take i ks) (get_or ks i 0) k)

@@ -46,12 +46,13 @@ Covers s counts = (k : ℕ) → counts k ≤ s.uses k
 abbrev pub OthersKept : ℕ → (ℕ → List ℕ) → (ℕ → List ℕ) → Type 0
 OthersKept k old new = (j : ℕ) → j ≢ k → length (old j) ≡ 4096 → new j ≡ old j
 
--- The write of a header was tried. No use has changed; on an honest disk each other whole block holds what it held, no byte
--- behind the header has changed, and one of the header only after all the rest was synced.
+-- The write of a header, which is in no use, was tried. No use has changed; on an honest disk each other whole block holds
+-- what it held, no byte behind the header has changed, and one of the header only after all the rest was synced.
 pub record OnlyHeader (old new : BlocksState) : Type 0 where
   pub others : IsTrue old.honest → OthersKept 0 (block old) (block new)
   pub torn : IsTrue old.honest → HeaderTorn old.content new.content
   pub last : IsTrue old.honest → HeaderLast old.content new.content new.synced
+  pub unused : old.uses 0 ≡ 0
   pub uses : new.uses ≡ old.uses
   pub size : new.size ≡ old.size
   pub honest : new.honest ≡ old.honest

@@ -2,8 +2,8 @@
 //! of a closed store file. Block 0 is the header.
 #![tactic(auto)]
 
-ghost use Rattle.std.specs.Prelude.{◌≡◌, ◌<◌, ◌↔◌, IsTrue, IsErr, OnOk, OnErr, IfOk, IsErrOf};
-ghost use Rattle.disk_face.specs.Disk.{Tells};
+ghost use Rattle.std.specs.Prelude.{◌≡◌, ◌*◌, ◌<◌, ◌↔◌, IsTrue, IsErr, OnOk, OnErr, IfOk, IsErrOf};
+ghost use Rattle.disk_face.specs.Disk.{Torn, Tells};
 ghost use Rattle.block_file.specs.State.{BlocksState, block, free_of, one, times, none};
 ghost use Rattle.block_file.specs.Words.{OnlyReads, Recounts, Moves, AreLowestFree, Covers, OthersKept, OnlyHeader, WritesHeader};
 
@@ -40,12 +40,14 @@ pub trait Blocks {
         ensures frame { OnlyReads (state self.old) (state self.new) }
         ensures told { Tells (IsErr result) (state self.old).failures (state self.new).failures };
 
-    /// Writes block k, which is in use once. A write that fails leaves any bytes in it, and each other whole block, in
-    /// use or not, as it was. Refused only where the disk has counted a failure.
+    /// Writes block k, which is in use once, and nothing else but zeros in a gap before it. A write that fails leaves any
+    /// bytes in both, and each other whole block, in use or not, as it was. Refused only where the disk has counted a
+    /// failure.
     fn write(&mut self, k: u32, bytes: &[u8; 4096]) -> Result<(), DiskFault>
         requires { (state self.old).uses k ≡ 1 }
         ensures written { OnOk result (IsTrue (state self.old).honest → block (state self.new) k ≡ bytes.now) }
         ensures others { OthersKept k (block (state self.old)) (block (state self.new)) }
+        ensures torn { Torn (4096 * k) 4096 (state self.old).content (state self.new).content }
         ensures frame { Moves (one k) (one k) (state self.old) (state self.new) }
         ensures told { Tells (IsErr result) (state self.old).failures (state self.new).failures };
 

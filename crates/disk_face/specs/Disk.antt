@@ -47,9 +47,9 @@ pub record Written (at : ℕ) (bytes old new : List ℕ) : Type 0 where
   pub gap : (i : ℕ) → length old ≤ i → i < at → slice_index new i ≡ 0
   pub others : Torn at (length bytes) old new
 
--- the count rose, or stands at the last value of a `u64`
+-- the count rose, or stands at the last value of a `u64`; it has not fallen
 abbrev pub Rose : ℕ → ℕ → Type 0
-Rose old new = min (old + 1) (2 ^ 64 - 1) ≤ new
+Rose old new = max old (min (old + 1) (2 ^ 64 - 1)) ≤ new
 
 -- What an answer tells of the disk's failures: a fault only where the count rose in the call, or stands at its last value; an
 -- answer that tells no fault left the count as it was.

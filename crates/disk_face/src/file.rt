@@ -38,7 +38,8 @@ impl FileDisk<StdFile> {
     /// The file at this path, which is made where there is none. Refused where the system will not open or make it;
     /// there is no count yet.
     pub fn open<R: Files<File = File>>(rt: &R, path: &str) -> Result<FileDisk<StdFile>, DiskFault>
-        ensures { IfOk result (λ disk. disk.failures ≡ 0) }
+        ensures failures { IfOk result (λ disk. disk.failures ≡ 0) }
+        ensures works { IfOk result (λ disk. disk.is_broken ≡ false) }
     {
         let mut options = OpenOptions::new();
         options.read(true).write(true).create(true);

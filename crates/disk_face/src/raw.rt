@@ -23,11 +23,12 @@ pub trait RawFile {
     /// The calls do what they tell.
     ghost honest: { Self → Bool };
 
-    /// Reads once from a place on. Gives how many bytes came: none at the end, and at times fewer than there is room
+    /// Reads once from a place on. Gives how many bytes came: none only at the end, and at times fewer than there is room
     /// for.
     fn read_some(&mut self, at: u64, buf: &mut [u8]) -> Result<usize, RawFault>
         ensures bound { ReadsAtMost result buf.new }
         ensures read { IsTrue (honest self.old) → IfOk result (λ n. 0 < n → Holds (content self.old) at (take n buf.new)) }
+        ensures end { IsTrue (honest self.old) → IfOk result (λ n. at < length (content self.old) → 0 < length buf.old → 0 < n) }
         ensures same { Unwritten content synced honest self.old self.new };
 
     /// Writes once from a place on. Gives how many of the bytes were taken; where it is refused, any bytes may stand

@@ -14,7 +14,7 @@ use Rattle.arr_core.specs.Cells.{stored, Fits, Holds}
 use Rattle.arr_core.specs.Domains.{count}
 use Rattle.arr_core.proofs.Points.{count-pos}
 use Rattle.raster_store.specs.Calls.{AreCells}
-use Rattle.raster_store.proofs.Writes.{some_weaker}
+use Rattle.raster_store.proofs.Options.{some_weaker}
 
 -- a cell that a field may have
 pub fits_stored : (k : FieldType) (x : Cell) → Holds k x → Fits k (stored x)

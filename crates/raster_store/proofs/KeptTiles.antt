@@ -8,10 +8,12 @@ use Rattle.lru.specs.LruCache.{LruCache, lru_cache, promoted, put_entries}
 use Rattle.lru.proofs.Splits.{Contains-nil}
 use Rattle.lru.proofs.CallerLemmas.{Contains-lookup, Contains-promoted, Contains-put_entries}
 use Rattle.arr_core.specs.Stores.{Store}
+use Rattle.block_file.specs.State.{BlocksState}
 use Rattle.raster_store.specs.declared.reading.TileAt.{TileAt}
 use Rattle.raster_store.specs.contracts.reading.TileAtPartialEq.TheImpl as tile_eq
 use Rattle.raster_store.specs.Views.{Index}
-use Rattle.raster_store.specs.Decoded.{Kept, IsKept, NoneAdded, Adds, IsDecoded, AreDecoded}
+use Rattle.raster_store.specs.Decoded.{Kept, IsKept, NoneAdded, Adds, AreDecoded}
+use Rattle.raster_store.specs.Fetches.{IsDecoded}
 
 abbrev place : ℕ → ℕ → ℕ → TileAt
 place c f t = record { coverage = c; field = f; tile = t }
@@ -54,27 +56,27 @@ put_kept (Ok put) old new at tile cells done refused is = rw done (put_added old
 put_kept (Err left) old new at tile cells done refused is = rw refused (λ j others kept. inl kept)
 
 -- no tile
-decoded_none : (content : List ℕ) (honest : Bool) (coverages : Store) (indexes : List (List Index)) → AreDecoded content honest coverages indexes []
-decoded_none content honest coverages indexes at cells kept = absurd (Contains-nil (at, kept.0) kept.1)
+decoded_none : (s : BlocksState) (coverages : Store) (indexes : List (List Index)) → AreDecoded s coverages indexes []
+decoded_none s coverages indexes at cells kept = absurd (Contains-nil (at, kept.0) kept.1)
 
-pub decoded_empty : (content : List ℕ) (honest : Bool) (coverages : Store) (indexes : List (List Index)) (kept : Kept) → kept ≡ [] → AreDecoded content honest coverages indexes kept
-decoded_empty content honest coverages indexes kept is = rw is (decoded_none content honest coverages indexes)
+pub decoded_empty : (s : BlocksState) (coverages : Store) (indexes : List (List Index)) (kept : Kept) → kept ≡ [] → AreDecoded s coverages indexes kept
+decoded_empty s coverages indexes kept is = rw is (decoded_none s coverages indexes)
 
 -- a tile that was found
-pub found_decoded : {E : Type 0} (result : Result Bool E) (content : List ℕ) (honest : Bool) (coverages : Store) (indexes : List (List Index)) (kept : Kept) (at : TileAt) (cells : List ℤ)
-    → AreDecoded content honest coverages indexes kept → IfOk result (λ b. IsTrue b → IsKept at cells kept) → IfOk result (λ b. IsTrue b → IsDecoded content honest coverages indexes at cells)
-found_decoded (Ok b) content honest coverages indexes kept at cells are found = λ yes. are at cells (found yes)
-found_decoded (Err e) content honest coverages indexes kept at cells are found = tt
+pub found_decoded : {E : Type 0} (result : Result Bool E) (s : BlocksState) (coverages : Store) (indexes : List (List Index)) (kept : Kept) (at : TileAt) (cells : List ℤ)
+    → AreDecoded s coverages indexes kept → IfOk result (λ b. IsTrue b → IsKept at cells kept) → IfOk result (λ b. IsTrue b → IsDecoded s coverages indexes at cells)
+found_decoded (Ok b) s coverages indexes kept at cells are found = λ yes. are at cells (found yes)
+found_decoded (Err e) s coverages indexes kept at cells are found = tt
 
 -- no more tiles
-pub decoded_fewer : (content : List ℕ) (honest : Bool) (coverages : Store) (indexes : List (List Index)) (old new : Kept) → NoneAdded old new
-    → AreDecoded content honest coverages indexes old → AreDecoded content honest coverages indexes new
-decoded_fewer content honest coverages indexes old new added are at cells kept = are at cells (added at cells kept)
+pub decoded_fewer : (s : BlocksState) (coverages : Store) (indexes : List (List Index)) (old new : Kept) → NoneAdded old new
+    → AreDecoded s coverages indexes old → AreDecoded s coverages indexes new
+decoded_fewer s coverages indexes old new added are at cells kept = are at cells (added at cells kept)
 
 -- one more tile
-pub decoded_added : (content : List ℕ) (honest : Bool) (coverages : Store) (indexes : List (List Index)) (at : TileAt) (cells : List ℤ) (old new : Kept) → Adds at cells old new
-    → IsDecoded content honest coverages indexes at cells → AreDecoded content honest coverages indexes old → AreDecoded content honest coverages indexes new
-decoded_added content honest coverages indexes at cells old new adds this are j others kept = elim (adds j others kept) [
+pub decoded_added : (s : BlocksState) (coverages : Store) (indexes : List (List Index)) (at : TileAt) (cells : List ℤ) (old new : Kept) → Adds at cells old new
+    → IsDecoded s coverages indexes at cells → AreDecoded s coverages indexes old → AreDecoded s coverages indexes new
+decoded_added s coverages indexes at cells old new adds this are j others kept = elim (adds j others kept) [
   | inl was ↦ are j others was
   | inr is ↦ rw (is.0, is.1) this
 ]

@@ -1,9 +1,13 @@
-pub mod Places
+pub mod Options
 pub mod Totals
 pub mod Contents
+pub mod Places
 pub mod Readings
+pub mod Known
+mod Fetched
 pub mod Writes
-pub mod Named
+mod Changed
+mod Outcomes
+mod Refusals
 pub mod CellKinds
-pub mod Placed
 mod KeptTiles

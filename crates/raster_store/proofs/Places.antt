@@ -12,6 +12,7 @@ use Rattle.raster_store.specs.declared.held.Held.{Held}
 use Rattle.raster_store.specs.Views.{Index}
 use Rattle.raster_store.specs.Calls.{index_of, indexes_without}
 use Rattle.raster_store.specs.Holding.{coverages_of, coverage_of, indexes_of, has_name, NoneNamed, AreApart, IsNamedAt}
+use Rattle.raster_store.proofs.Contents.{KeepsAll, coverage_kept, coverages_kept, first_all_kept, rest_all_kept}
 
 same_name : (a b : List ℕ) → bytes_eq a b ≡ true → a ≡ b
 same_name a b h = (bytes_eq-Decides a b).0 h
@@ -81,14 +82,17 @@ updated_none content name field area numbers [] none = refl
 updated_none content name field area numbers (g ∷ held) none = rw none.0 (ap (λ rest. coverage_of content g ∷ rest) (updated_none content name field area numbers held none.1))
 
 -- an update changes the coverage with the name
-pub updated_named : (content name : List ℕ) (field : ℕ) (area : List Axis) (numbers : List ℤ) (held : List Held) (i : ℕ) (new d : Held) → IsNamedAt name held i
-    → coverage_of content new ≡ updated_coverage field area numbers (coverage_of content (get_or held i d))
-    → coverages_of content (set held i new) ≡ updated name field area numbers (coverages_of content held)
-updated_named content name field area numbers [] i new d at e = absurd at
-updated_named content name field area numbers (g ∷ held) zero new d at e =
-    rw (at.0, updated_none content name field area numbers held at.1, e) refl
-updated_named content name field area numbers (g ∷ held) (suc i) new d at e =
-    rw at.0 (ap (λ rest. coverage_of content g ∷ rest) (updated_named content name field area numbers held i new d at.1 e))
+pub updated_named : (old new name : List ℕ) (field : ℕ) (area : List Axis) (numbers : List ℤ) (held : List Held) (i : ℕ) (h d : Held) → IsNamedAt name held i → KeepsAll (indexes_of (remove held i)) old new
+    → coverage_of new h ≡ updated_coverage field area numbers (coverage_of old (get_or held i d)) → coverages_of new (set held i h) ≡ updated name field area numbers (coverages_of old held)
+updated_named old new name field area numbers [] i h d at kept e = absurd at
+updated_named old new name field area numbers (g ∷ held) zero h d at kept e =
+    rw (at.0, updated_none old name field area numbers held at.1, e, coverages_kept old new held kept) refl
+updated_named old new name field area numbers (g ∷ held) (suc i) h d at kept e =
+    rw (
+      at.0,
+      coverage_kept old new g (first_all_kept old new g.fields.items (indexes_of (remove held i)) kept),
+      updated_named old new name field area numbers held i h d at.1 (rest_all_kept old new g.fields.items (indexes_of (remove held i)) kept) e,
+    ) refl
 
 -- a removal of a name that none has
 pub deleted_none : (content name : List ℕ) (held : List Held) → NoneNamed name held → deleted name (coverages_of content held) ≡ coverages_of content held

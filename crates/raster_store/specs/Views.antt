@@ -8,8 +8,8 @@ use Rattle.arr_core.specs.Tiles.{tile_boxes}
 use Rattle.tile_index.specs.declared.entry.Entry.{Entry}
 use Rattle.tile_index.specs.Bytes.{index_bytes}
 use Rattle.block_file.specs.Format.{chain_blocks}
-use Rattle.tile_store.specs.Listing.{times_in}
-use Rattle.tile_store.specs.Stored.{field_values, IsSpelled, IsBelow, block_count}
+use Rattle.tile_store.specs.Listing.{listed, IsBelow}
+use Rattle.tile_store.specs.Stored.{field_values, IsSpelled}
 
 -- which entry has each tile of a field
 abbrev pub Index : Type 0
@@ -43,16 +43,13 @@ AreIntact content [] indexes = Unit {0}
 AreIntact content (c ∷ coverages) [] = Unit {0}
 AreIntact content (c ∷ coverages) (i ∷ indexes) = FieldsIntact content c.domain c.fields i × AreIntact content coverages indexes
 
--- how often indexes list a block
-unfoldable pub times_fields : ℕ → List Index → ℕ
-times_fields k indexes = sum_by (λ (i : Index). times_in k i) indexes
+-- how often the indexes of fields list a block
+unfoldable pub listed_fields : List Index → ℕ → ℕ
+listed_fields indexes k = sum_by (λ (i : Index). listed i k) indexes
 
-unfoldable pub times_all : ℕ → List (List Index) → ℕ
-times_all k indexes = sum_by (λ (fields : List Index). times_fields k fields) indexes
-
--- how many blocks indexes list
-unfoldable pub listed_blocks : List (List Index) → ℕ
-listed_blocks indexes = sum_by (λ (fields : List Index). sum_by block_count fields) indexes
+-- how often all indexes of a store list a block
+unfoldable pub listed_all : List (List Index) → ℕ → ℕ
+listed_all indexes k = sum_by (λ (fields : List Index). listed_fields fields k) indexes
 
 -- how many bytes the indexes of fields take in the metadata, each behind its length
 unfoldable pub fields_size : List Index → ℕ

@@ -23,14 +23,14 @@ pub struct Volume {
 }
 
 impl Model for Volume {
-    ghost use Rattle.block_file.specs.Blocks.{AreInUse};
-    ghost use Rattle.block_file.specs.View.{BlockFileView, uses_of};
+    ghost use Rattle.block_file.specs.View.{BlockFileView, state_of};
+    ghost use Rattle.tile_store.specs.Written.{AreFresh};
 
     ghost Value = { BlockFileView };
 
     ghost view = { λ v. v.file };
 
-    ghost invariant = { λ v. AreInUse v.taken.items (uses_of v.file.marks) };
+    ghost invariant = { λ v. AreFresh v.taken.items (state_of v.file) };
 }
 
 impl Volume {

@@ -83,6 +83,10 @@ impl Site {
                 self.disk = Some(AnyDisk::test(alloc, &self.files, rest)?);
                 blocks::open(alloc, &mut self.disk, &mut self.volume)
             }
+            "within" => {
+                self.disk = Some(AnyDisk::within(alloc, &self.files, rest)?);
+                blocks::open(alloc, &mut self.disk, &mut self.volume)
+            }
             "close" => {
                 self.disk = Some(blocks::unmount(&mut self.volume)?);
                 told(alloc, "ok")

@@ -3,9 +3,8 @@
 ghost use Rattle.std.specs.Prelude.{◌<◌, length, IfSome, IsSomeAnd, IsTrue};
 ghost use Rattle.arr_core.specs.Domains.{IsBoxOf, IsInside};
 ghost use Rattle.arr_core.specs.Stores.{found};
-ghost use Rattle.arr_core.specs.Tiles.{tile_boxes};
 ghost use Rattle.raster_store.specs.Calls.{HasField};
-ghost use Rattle.raster_store.specs.Fetches.{HasTile};
+ghost use Rattle.raster_store.specs.Fetches.{HasTile, HasTileNumber};
 
 use crate::blocks::Volume;
 use crate::disks::TestDisk;
@@ -54,7 +53,7 @@ fn has_box(store: &Store, name: &Name, area: &Domain) -> bool
 
 /// Whether a store has a coverage with a name, and that has a tile of the number.
 fn has_tile(store: &Store, name: &Name, tile: u64) -> bool
-    ensures { IsTrue result → IsSomeAnd (found name.now store.now.coverages) (λ c. tile < length (tile_boxes c.domain)) }
+    ensures { IsTrue result → HasTileNumber name.now tile store.now.coverages }
 {
     match store.signature(name) {
         Some(signature) => tile < signature.domain.tiles(),

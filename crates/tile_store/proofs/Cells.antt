@@ -50,17 +50,6 @@ has_spelled kind content entry e bytes cells some is s i =
     let there : tile_cells kind content entry ≡ cells = ap (tile_cells kind content) some ∙ ap (cells_read kind) (sym is) ∙ spelled_cells kind bytes cells s in
     ap (λ (l : List ℤ). get_or l i (pos 0)) there
 
--- cells that are all 0 are those of a tile that is not listed
-zero_at : (cells : List ℤ) (i : ℕ) → All (λ z. z ≡ pos 0) cells → get_or cells i (pos 0) ≡ pos 0
-zero_at cells i zeros = elim (cases_lt i (length cells)) [ inl lt ↦ zeros i (pos 0) lt | inr ge ↦ get_or_past cells i (pos 0) ge ]
-
-pub has_none : (kind : FieldType) (content : List ℕ) (entry : Option Entry) (cells : List ℤ) → entry ≡ None → All (λ z. z ≡ pos 0) cells → HasCells kind content entry cells
-has_none kind content entry cells none zeros i = ap (λ (o : Option Entry). get_or (tile_cells kind content o) i (pos 0)) none ∙ sym (zero_at cells i zeros)
-
--- a tile that was written
-pub written_none : (kind : FieldType) (content : List ℕ) (cells : List ℤ) → All (λ z. z ≡ pos 0) cells → tile_blocks kind cells ≡ 0 → IsWritten kind content None cells
-written_none kind content cells zeros none = record { has = has_none kind content None cells refl zeros; spelled = λ e same. absurd (cc); size = sym none }
-
 pub written_some : (kind : FieldType) (content : List ℕ) (e : Entry) (bytes : List ℕ) (cells : List ℤ) → bytes ≡ entry_data content e → IsSpelling kind bytes cells → length e.blocks ≡ tile_blocks kind cells → IsWritten kind content (Some e) cells
 written_some kind content e bytes cells is s size = record {
   has = has_spelled kind content (Some e) e bytes cells refl is s;

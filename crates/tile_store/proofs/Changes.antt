@@ -159,6 +159,14 @@ change_of t (x ∷ xs) listed = elim (cases_eq t x.0) [
   | inr ne ↦ (let rest = change_of t xs (later t x xs ne listed) in (rest.0, found_there t x xs ne ∙ rest.1))
 ]
 
+-- and a tile that is found among them is changed
+pub found_listed : (t : ℕ) (changes : List (ℕ × Option Entry)) (v : Option Entry) → found_at t changes ≡ Some v → Contains (tiles_of changes) t
+found_listed t [] v found = absurd (cc)
+found_listed t (x ∷ xs) v found = elim (cases_eq t x.0) [
+  | inl e ↦ (0, omega arith, sym e)
+  | inr ne ↦ (let rest = found_listed t xs v (sym (found_there t x xs ne) ∙ found) in (suc rest.0, omega (arith, rest.1), rest.2))
+]
+
 -- what a tile has after the changes
 pub after_change : (t : ℕ) (old new : List (ℕ × Entry)) (changes : List (ℕ × Option Entry)) (v : Option Entry) → found_at t new ≡ changed_at t changes old → found_at t changes ≡ Some v → found_at t new ≡ v
 after_change t old new changes v gives found = gives ∙ ap (λ (o : Option (Option Entry)). unwrap_or o (found_at t old)) found

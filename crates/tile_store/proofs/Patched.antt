@@ -30,7 +30,7 @@ use Rattle.tile_store.specs.Room.{AreMeeting, cells_after, entry_blocks, tile_bl
 use Rattle.tile_store.specs.Stored.{tile_cells, tile_box, tile_number, number_at, field_values, IsTileSpelled, KeepsListed}
 use Rattle.tile_store.specs.Written.{IsWritten, AreWritten, AreAfter, IsNewTile}
 use Rattle.tile_store.proofs.Cells.{cells_listed, cell_listed, number_in_tile, written_kept, after_kept}
-use Rattle.tile_store.proofs.Changes.{found_all, found_or, change_of, after_change, after_none, tiles_push}
+use Rattle.tile_store.proofs.Changes.{found_all, found_or, found_listed, change_of, after_change, after_none, tiles_push}
 use Rattle.tile_store.proofs.Kept.{cells_kept, tile_kept, keeps_listed}
 use Rattle.tile_store.proofs.Listed.{given_push, given_at}
 use Rattle.tile_store.proofs.Rows.{inside_cases}
@@ -120,6 +120,10 @@ patched_of u old new before after changes ordered w = record {
   numbers = values_after u old new before after changes ordered w;
   written = λ t meets. let change = change_of t changes ((w.meeting.exact t).1 meets) in changed_spelled u old new before after changes t change.0 w change.1;
   others = λ t spelled. kept_spelled u old new before after changes t w spelled;
+  same = λ t apart. elim (found_or t changes) [
+    | inl change ↦ absurd (apart ((w.meeting.exact t).0 (found_listed t changes change.0 change.1)))
+    | inr none ↦ after_none t old new changes (w.gives t) none
+  ];
   absent = λ t meets zeros. let change = change_of t changes ((w.meeting.exact t).1 meets) in absent_after u old new before after changes t change.0 w change.1 zeros;
   read = λ t meets. let change = change_of t changes ((w.meeting.exact t).1 meets) in found_all (λ (x : ℕ × Option Entry). CoversTile u x.0 ⊎ IsSpelledFor u before old x.0) changes t change.0 w.read change.1;
 }

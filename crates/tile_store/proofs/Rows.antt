@@ -81,13 +81,6 @@ rows_step rest area row first step number old now old_piece piece new is rows ta
       other_row rest row (first + step) now piece new is replaced r q h ne ∙ rows.others r q h out2;
 }
 
--- before the first row
-pub rows_none : (rest area : List Axis) (row first : ℕ) (number : ℕ → List ℤ → ℤ) (old : List ℤ) → RowsWritten rest area row first 0 number old old
-rows_none rest area row first number old = record {
-  written = λ r q h from below. absurd (omega (arith, from, below));
-  others = λ r q h out. refl;
-}
-
 -- after the last row
 pub rows_all : (a b : Axis) (rest area : List Axis) (c : Common) (number : ℕ → List ℤ → ℤ) (value : List ℤ → ℤ) (old new : List ℤ) → IsCommon a b c
     → RowsWritten rest area (count rest) c.to c.count number old new
@@ -275,12 +268,6 @@ point_at_all area value old new written (x ∷ p) h = absurd h
 
 pub point_overlaid : (axes area : List Axis) (value : List ℤ → ℤ) (first : ℤ) (wanted : Bool) (old new : List ℤ) → axes ≡ [] → wanted ≡ (length area == 0) → value [] ≡ first → get_or new 0 (pos 0) ≡ (if wanted then first else get_or old 0 (pos 0)) → Overlaid axes area value old new
 point_overlaid axes area value first wanted old new none is same written = rw none (point_at_all area value old new (point_written area value first wanted old new is same written))
-
--- nothing is written where the other box has no axes
-pub none_overlaid : (axes area : List Axis) (value : List ℤ → ℤ) (cells : List ℤ) → 1 ≤ length axes → area ≡ [] → Overlaid axes area value cells cells
-none_overlaid [] area value cells some none p h = absurd (omega arith)
-none_overlaid (a ∷ axes) area value cells some none [] h = absurd h
-none_overlaid (a ∷ axes) area value cells some none (x ∷ p) h = rw none refl
 
 -- an axis of few points has few coordinates
 pub size_small : (a : Axis) (rest axes : List Axis) → axes ≡ a ∷ rest → count axes ≤ 2 ^ 24 → size_of a ≤ 2 ^ 24

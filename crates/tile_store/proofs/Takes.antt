@@ -7,7 +7,7 @@ use Rattle.block_file.specs.Words.{OnlyReads, Recounts, Moves, Covers, AreLowest
 use Rattle.block_file.proofs.Times.{one_same, one_other, one_le, times_none, times-cons, times_append}
 use Rattle.block_file.proofs.Frames.{reads_moves, recounts_moves, moves_then, moves_as}
 use Rattle.block_file.proofs.Free.{free_none, free-suc}
-use Rattle.tile_store.specs.Listing.{Takes}
+use Rattle.tile_store.specs.Listing.{UsesOnce, Takes}
 use Rattle.tile_store.specs.Written.{AreFresh, AreUnused}
 
 -- nothing was taken
@@ -15,6 +15,7 @@ pub takes_none : (taken : List ℕ) (old new : BlocksState) → OnlyReads old ne
 takes_none taken old new reads = record {
   more = λ k. omega arith;
   moves = moves_as none none none (λ k. times taken k - times taken k) old new (λ k. omega arith) (λ k h. h) (reads_moves old new reads);
+  once = λ k. rw reads.uses (omega arith);
 }
 
 pub reads_same : (s : BlocksState) → OnlyReads s s
@@ -25,6 +26,7 @@ takes_then t0 t1 t2 s0 s1 s2 a b = record {
   more = λ k. omega (arith, a.more k, b.more k);
   moves = moves_as (λ k. none k + none k) (λ k. (times t1 k - times t0 k) + (times t2 k - times t1 k)) none (λ k. times t2 k - times t0 k) s0 s2
       (λ k. omega (arith, a.more k, b.more k)) (λ k h. omega (arith, h)) (moves_then none (λ k. times t1 k - times t0 k) none (λ k. times t2 k - times t1 k) s0 s1 s2 a.moves b.moves);
+  once = λ k. omega (arith, a.once k, b.once k);
 }
 
 -- after a read
@@ -32,12 +34,16 @@ pub takes_read : (t0 t1 t2 : List ℕ) (s0 s1 s2 s3 : BlocksState) → Takes t0 
 takes_read t0 t1 t2 s0 s1 s2 s3 a reads b = takes_then t0 t1 t2 s0 s1 s3 a (takes_then t1 t1 t2 s1 s2 s3 (takes_none t1 s1 s2 reads) b)
 
 -- fresh blocks come to those taken
-pub takes_fresh : (taken fresh taken' : List ℕ) (old new : BlocksState) → taken' ≡ taken ++ fresh → Recounts none (times fresh) old new → Takes taken taken' old new
-takes_fresh taken fresh taken' old new is recounts =
+pub takes_fresh : (n : ℕ) (taken fresh taken' : List ℕ) (old new : BlocksState) → taken' ≡ taken ++ fresh → AreLowestFree n fresh old → Recounts none (times fresh) old new → Takes taken taken' old new
+takes_fresh n taken fresh taken' old new is free recounts =
     let total : (k : ℕ) → times taken' k ≡ times taken k + times fresh k = λ k. ap (λ (ks : List ℕ). times ks k) is ∙ times_append taken fresh k in
     record {
       more = λ k. omega (arith, total k);
       moves = moves_as none (times fresh) none (λ k. times taken' k - times taken k) old new (λ k. omega (arith, total k)) (λ k h. h) (recounts_moves none (times fresh) old new recounts);
+      once = λ k. elim (cases_eq (times fresh k) 0) [
+        | inl e ↦ omega (arith, recounts.uses k)
+        | inr ne ↦ omega (arith, recounts.uses k, free.once k, (free.free k (omega arith)).unused)
+      ];
     }
 
 pub unused_of : (n : ℕ) (ks : List ℕ) (s : BlocksState) → AreLowestFree n ks s → AreUnused ks s
@@ -60,6 +66,7 @@ takes_written taken fresh taken' s0 s1 s2 unused t m = record {
     size = m.size ∙ t.moves.size;
     honest = m.honest ∙ t.moves.honest;
   };
+  once = λ k. omega (arith, t.once k, m.uses k);
 }
 
 pub covers_taken : (taken : List ℕ) (old new : BlocksState) → Takes [] taken old new → Covers new (times taken)
@@ -87,6 +94,10 @@ exchanged_moves taken replaced old new s0 s1 s2 t r sums = record {
   size = r.size ∙ t.moves.size;
   honest = r.honest ∙ t.moves.honest;
 }
+
+-- what was given back besides is in use no more often
+pub once_given : (taken : List ℕ) (given : ℕ → ℕ) (s0 s1 s2 : BlocksState) → Takes [] taken s0 s1 → Recounts given none s1 s2 → UsesOnce s0 s2
+once_given taken given s0 s1 s2 t r k = omega (arith, t.once k, r.uses k)
 
 -- how many uses counts have of the blocks from 1 to n
 abbrev pub uses_to : ℕ → (ℕ → ℕ) → ℕ

@@ -1,5 +1,5 @@
 -- Which blocks tiles, indexes and changes list: how often each block stands there.
-use Rattle.std.specs.Prelude.{◌≡◌, ℕ, ◌-◌, ◌<◌, ◌≤◌, ◌^◌, IsTrue, List, length, map, sum_by, All, Option, Some, None}
+use Rattle.std.specs.Prelude.{◌≡◌, ℕ, ◌-◌, ◌<◌, ◌≤◌, ◌^◌, max, IsTrue, List, length, map, sum_by, All, Option, Some, None}
 use Rattle.block_file.specs.State.{BlocksState, block, times, none}
 use Rattle.block_file.specs.Words.{Moves, Covers}
 use Rattle.arr_core.specs.declared.domain.Axis.{Axis}
@@ -46,7 +46,12 @@ pub record IsSound (domain : List Axis) (s : BlocksState) (index : List (ℕ × 
   pub counted : Covers s (listed index)
   pub whole : IsTrue s.honest → (k : ℕ) → 0 < listed index k → length (block s k) ≡ 4096
 
--- The blocks that came to those taken were taken, and nothing else in use has changed.
+-- A block that was in no use is in use at most once, and each other at most as often as it was.
+abbrev pub UsesOnce : BlocksState → BlocksState → Type 0
+UsesOnce old new = (k : ℕ) → new.uses k ≤ max 1 (old.uses k)
+
+-- The blocks that came to those taken were free and taken once, and nothing else in use has changed.
 pub record Takes (taken taken' : List ℕ) (old new : BlocksState) : Type 0 where
   pub more : (k : ℕ) → times taken k ≤ times taken' k
   pub moves : Moves none (λ k. times taken' k - times taken k) old new
+  pub once : UsesOnce old new

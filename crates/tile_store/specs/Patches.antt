@@ -31,11 +31,13 @@ abbrev pub patched : Patch → BlocksState → List (ℕ × Entry) → ℕ → L
 patched u s index tile = cells_after u.kind u.domain.now index s.content u.area.now (numbers_in u.area.now u.numbers.now) tile
 
 -- What a write of a patch leaves: the field's values, function update on the box; each tile that the box meets is spelled,
--- and not listed where all its cells are 0; the others stay spelled; and each tile that was read was spelled.
+-- and not listed where all its cells are 0; the others stay spelled, and listed as they were; and each tile that was read was
+-- spelled.
 pub record IsPatched (u : Patch) (old : BlocksState) (index : List (ℕ × Entry)) (new : BlocksState) (index' : List (ℕ × Entry)) : Type 0 where
   pub numbers : field_values u.kind u.domain.now index' new.content ≡ updated_values u.domain.now u.area.now (numbers_in u.area.now u.numbers.now) (field_values u.kind u.domain.now index old.content)
   pub written : (tile : ℕ) → Meets u.domain.now u.area.now tile → IsSpelledFor u new index' tile
   pub others : (tile : ℕ) → IsSpelledFor u old index tile → IsSpelledFor u new index' tile
+  pub same : (tile : ℕ) → (Meets u.domain.now u.area.now tile → ⊥) → found_at tile index' ≡ found_at tile index
   pub absent : (tile : ℕ) → Meets u.domain.now u.area.now tile → All (λ z. z ≡ pos 0) (patched u old index tile) → found_at tile index' ≡ None
   pub read : (tile : ℕ) → Meets u.domain.now u.area.now tile → CoversTile u tile ⊎ IsSpelledFor u old index tile
 

@@ -10,7 +10,7 @@ ghost use Rattle.block_file.specs.Words.{OnlyReads, Recounts, Moves, Covers};
 ghost use Rattle.tile_index.specs.Bytes.{index_bytes};
 ghost use Rattle.tile_index.specs.Index.{IsIndex};
 ghost use Rattle.tile_store.specs.Faults.{Refuses};
-ghost use Rattle.tile_store.specs.Listing.{listed, IsSound};
+ghost use Rattle.tile_store.specs.Listing.{listed, IsSound, UsesOnce};
 ghost use Rattle.tile_store.specs.Patches.{IsPatch, Patches, RefusesPatch};
 ghost use Rattle.tile_store.specs.Reading.{IsTileRead, IsTileDamaged, IsPointRead, IsPointDamaged, IsCopied, IsAreaRead, IsAreaDamaged};
 ghost use Rattle.tile_store.specs.Room.{AreMeeting, HasRoom};
@@ -219,6 +219,7 @@ pub fn write_area<B: Blocks>(
     ensures done { OnOk result (Patches patch.now (B.state blocks.old) field.old (B.state blocks.new) field.new) }
     ensures sound { OnOk result (IsSound patch.now.domain.now (B.state blocks.new) field.new) }
     ensures frame { OnOk result (Moves (listed field.old) (listed field.new) (B.state blocks.old) (B.state blocks.new)) }
+    ensures once { OnOk result (UsesOnce (B.state blocks.old) (B.state blocks.new)) }
     ensures room { OnOk result (HasRoom rest field.new (B.state blocks.new)) }
     ensures same { OnErr result (field.new ≡ field.old) }
     ensures kept { OnErr result (Moves none none (B.state blocks.old) (B.state blocks.new)) }

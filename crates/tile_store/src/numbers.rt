@@ -27,9 +27,9 @@ impl Numbers {
 
 /// What is written where: numbers, into a box of a field with this type and domain.
 #[derive(Clone, Copy)]
-pub struct Patch<'a> {
+pub struct Patch<'a, 'b> {
     pub kind: FieldType,
     pub domain: &'a Domain,
-    pub area: &'a Domain,
-    pub numbers: &'a Numbers,
+    pub area: &'b Domain,
+    pub numbers: &'b Numbers,
 }

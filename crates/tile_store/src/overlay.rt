@@ -103,13 +103,7 @@ fn common_of(to: &Axis, from: &Axis) -> Common
 
 /// Writes numbers at the points that the box with the axes `axes` has in common with the box of `to`. The numbers of its
 /// points stand from the place `at` on.
-pub(crate) fn overlay(
-    to: &mut [i64],
-    to_axes: &[Axis],
-    numbers: &Numbers,
-    at: usize,
-    axes: &[Axis],
-)
+pub(crate) fn overlay(to: &mut [i64], to_axes: &[Axis], numbers: &Numbers, at: usize, axes: &[Axis])
     requires to { length to.old ≡ count to_axes.now }
     requires from { HasNumbers numbers.now (at + count axes.now) }
     requires to_ordered { AreOrdered to_axes.now }
@@ -133,7 +127,13 @@ pub(crate) fn overlay(
                 for step in 0..common.count {
                     let to_at = (common.to + step) * to_row;
                     let from_at = at + (common.from + step) * row;
-                    overlay(&mut to[to_at..to_at + to_row], to_rest, numbers, from_at, rest);
+                    overlay(
+                        &mut to[to_at..to_at + to_row],
+                        to_rest,
+                        numbers,
+                        from_at,
+                        rest,
+                    );
                 }
             }
         },

@@ -156,11 +156,7 @@ pub(crate) fn listed_blocks(
 }
 
 /// How many bytes the index of a field has after changes of these tiles.
-pub(crate) fn new_size(
-    field: &FieldIndex,
-    changes: &[(u64, Option<Entry>)],
-    tiles: &[u64],
-) -> u64
+pub(crate) fn new_size(field: &FieldIndex, changes: &[(u64, Option<Entry>)], tiles: &[u64]) -> u64
     requires changes { AreChanges (2 ^ 24) changes.now }
     requires tiles { tiles_of changes.now ≡ tiles.now }
     requires rising { IsStrictlyIncreasing tiles.now }

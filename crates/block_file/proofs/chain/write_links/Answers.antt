@@ -1,5 +1,5 @@
 use Rattle.std.proofs.Common.{◌<◌, ◌-◌, ◌*◌, length, get_or, arith, refl, ◌∙◌}
-use Rattle.block_file.proofs.Frames.{moves_none, moves_more}
+use Rattle.block_file.proofs.Frames.{moves_more}
 use Rattle.block_file.proofs.Links.{link_made, linked_more}
 use Rattle.block_file.proofs.Times.{times_at, one_times}
 use Rattle.block_file.proofs.chain.write_links.Goals as goal

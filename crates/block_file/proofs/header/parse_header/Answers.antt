@@ -4,11 +4,6 @@ use Rattle.block_file.proofs.Numbers.{byte-mid, length-mid}
 use borrow.Rule.Slice.PartMut.{mid_of}
 use Rattle.block_file.proofs.header.parse_header.Goals as goal
 
-pub returns-then-state-number-2-clause-refused : goal.returns-then-state-number-2-clause-refused
-returns-then-state-number-2-clause-refused c =
-    let store : IsStoreFile c.args.bytes.now = search rules in
-    (store, omega arith, λ blocks first size h. omega (arith, h.state))
-
 pub returns-then-not-all_zero-clause-refused : goal.returns-then-not-all_zero-clause-refused
 returns-then-not-all_zero-clause-refused c =
     let store : IsStoreFile c.args.bytes.now = search rules in (

@@ -1,13 +1,10 @@
 use Rattle.std.proofs.Common.{arith}
-use Rattle.block_file.proofs.Markings.{picked_none, picked_inside, picked_one, picked_passed, picked_all, picked_used}
+use Rattle.block_file.proofs.Markings.{picked_none, picked_inside, picked_one, picked_passed}
 use Rattle.block_file.proofs.marks.pick.Goals as goal
 use Rattle.block_file.proofs.marks.pick.Goals.{then-is_free+in-Ok, else-is_free}
 
 pub picking-init : goal.picking-init
 picking-init c = record { picked = rw c.requires.empty (picked_none _ _ _ c.requires.above_zero c.requires.within c.requires.used); room = c.requires.room }
-
-pub bounds-marks-k : goal.bounds-marks-k
-bounds-marks-k c = picked_inside _ _ _ _ _ c.picking.invariant.picked (omega arith) c.requires.enough
 
 pub picking-preserved : goal.picking-preserved
 picking-preserved c =
@@ -23,9 +20,3 @@ picking-preserved c =
         room = c.picking.invariant.room;
       })
     ]
-
-pub returns-clause-taken : goal.returns-clause-taken
-returns-clause-taken c = picked_all _ _ _ _ _ c.picking.invariant.picked (omega arith)
-
-pub returns-clause-used : goal.returns-clause-used
-returns-clause-used c = picked_used _ _ _ _ _ c.picking.invariant.picked

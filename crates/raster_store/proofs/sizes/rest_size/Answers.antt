@@ -25,5 +25,5 @@ returns c =
     let same : length (index_bytes (index_at (get_or held i d) j)) ≡ length (index_bytes (index_at (get_or held i x) j)) = ap (λ (h : Held). length (index_bytes (index_at h j))) (get_or_default held i d x c.requires.place) in
     let one = fields_size-without fields j (c.requires.field x) in
     let all = sizes_without held i x c.requires.place in
-    let sum = metadata_size-is c.args.catalogue_bytes (indexes_of held) in
+    let sum = metadata_size-is c.args.catalogue (indexes_of held) in
     omega (arith, beside, others, is, same, one, all, sum, c.saturating_add.ensures, c.saturating_add-2.ensures, c.saturating_add-3.ensures)

@@ -6,7 +6,7 @@ use Rattle.arr_core.specs.declared.field.Field.{Field}
 use Rattle.arr_core.specs.Cells.{Holds}
 use Rattle.arr_core.specs.Domains.{count, IsBoxOf}
 use Rattle.arr_core.proofs.Points.{count-pos}
-use Rattle.raster_store.proofs.Writes.{some_weaker}
+use Rattle.raster_store.proofs.Options.{some_weaker}
 use Rattle.raster_store.proofs.writing.check_cell.Goals as goal
 
 refused_cell : (kind : FieldType) (n : ℕ) (cell : Cell) → 0 < n → (Holds kind cell → ⊥) → All (Holds kind) (replicate n cell) → ⊥
@@ -16,8 +16,7 @@ pub returns-then-not-holds-clause-refused : goal.returns-then-not-holds-clause-r
 returns-then-not-holds-clause-refused c =
     let box : IsBoxOf c.args.signature.now.domain c.args.area.now = search rules in
     let unfit : Holds c.kind_of.result c.args.cell → ⊥ = search rules in
-    let n = count c.args.area.now in
-    λ content indexes. (
+    let n = count c.args.area.now in (
       box,
       length-replicate n c.args.cell,
       some_weaker _ (λ (f : Field). f.kind ≡ c.kind_of.result) (λ (f : Field). All (Holds f.kind) (replicate n c.args.cell) → ⊥)

@@ -25,9 +25,11 @@ returns-in_err-copy_tile-clause-why g c = record {
   for_damage = λ is honest.
       let tiles = c.args.tiles.now in
       let i = c.loop-tile.tile-index in
-      let inv = c.loop-tile.invariant in
-      (get_or tiles i 0, (c.requires.tiles.exact (get_or tiles i 0)).0 (i, c.loop-tile-test.true, get_or_default tiles i (get_or tiles i 0) 0 c.loop-tile-test.true),
-      λ spelled. c.in_err-copy_tile.ensures.why.for_damage (first_of (search rules, grind (arith, common_steps))) (rw inv.frame.honest honest) (rw inv.frame.content spelled));
+      let inv = c.loop-tile.invariant in (
+        get_or tiles i 0,
+        (c.requires.tiles.exact (get_or tiles i 0)).0 (i, c.loop-tile-test.true, get_or_default tiles i (get_or tiles i 0) 0 c.loop-tile-test.true),
+        λ spelled. c.in_err-copy_tile.ensures.why.for_damage (first_of (search rules, grind (arith, common_steps))) (rw inv.frame.honest honest) (rw inv.frame.content spelled),
+      );
   for_room = λ is. c.in_err-copy_tile.ensures.why.for_room (first_of (search rules, grind (arith, common_steps)));
 }
 

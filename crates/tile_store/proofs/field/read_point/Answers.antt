@@ -33,10 +33,11 @@ returns-clause-read g c = λ honest.
     let own : tile ≡ tile_number f.domain.now point = in-no-other f.domain.now point tile c.tile_of-tile.ensures.inside in
     let box : tile_box f.domain.now tile ≡ c.in_ok-part.part = get_of (tile_boxes f.domain.now) tile c.in_ok-part.part [] c.in_ok-part.ensures.value in
     let cells = c.in_ok-cells.cells.items in
-    let below : c.rank.result < length cells = omega (arith, c.rank.ensures.below, ap (λ (b : List Axis). length (points b)) box, c.in_ok-cells.ensures.read.counted) in
-    (to_z-of_z w64 c.index.result.now (search rules)
-    ∙ get_or_read cells c.rank.result c.index.result.now below c.index.ensures (pos 0)
-    ∙ ap (λ (r : ℕ). get_or cells r (pos 0)) (c.rank.ensures.computed ∙ ap (λ (b : List Axis). rank_of b point) (sym box))
-    ∙ ap (λ (l : List ℤ). get_or l (rank_of (tile_box f.domain.now tile) point) (pos 0)) (c.in_ok-cells.ensures.read.numbers honest)
-    ∙ cell_listed (tile_box f.domain.now tile) (number_in f s) point c.tile_of-tile.ensures.inside.1,
-    subst (λ (t : ℕ). IsSpelledIn f s t) own (c.in_ok-cells.ensures.read.spelled honest))
+    let below : c.rank.result < length cells = omega (arith, c.rank.ensures.below, ap (λ (b : List Axis). length (points b)) box, c.in_ok-cells.ensures.read.counted) in (
+      to_z-of_z w64 c.index.result.now (search rules)
+          ∙ get_or_read cells c.rank.result c.index.result.now below c.index.ensures (pos 0)
+          ∙ ap (λ (r : ℕ). get_or cells r (pos 0)) (c.rank.ensures.computed ∙ ap (λ (b : List Axis). rank_of b point) (sym box))
+          ∙ ap (λ (l : List ℤ). get_or l (rank_of (tile_box f.domain.now tile) point) (pos 0)) (c.in_ok-cells.ensures.read.numbers honest)
+          ∙ cell_listed (tile_box f.domain.now tile) (number_in f s) point c.tile_of-tile.ensures.inside.1,
+      subst (λ (t : ℕ). IsSpelledIn f s t) own (c.in_ok-cells.ensures.read.spelled honest),
+    )

@@ -3,7 +3,7 @@ use Rattle.std.proofs.Common.{rules, arith, refl}
 use Rattle.std.proofs.lemmas.Grind.{common_steps}
 use Rattle.tile_store.proofs.Exchanged.{prepared, exchanged, few_changes, index_low, covers_replaced, moves_exchanged, sound_exchanged, patched_exchanged, room_lacks, room_left}
 use Rattle.tile_store.proofs.NewSize.{size_after}
-use Rattle.tile_store.proofs.Takes.{covers_taken, gave_back, on_err}
+use Rattle.tile_store.proofs.Takes.{covers_taken, gave_back, once_given, on_err}
 use Rattle.tile_store.proofs.field.write_area.Goals as goal
 
 pub write_tiles-requires-clause-tiles : goal.write_tiles-requires-clause-tiles
@@ -101,6 +101,9 @@ returns-clause-frame g c =
     (record { rising = c.in_ok-tiles.ensures.rising; exact = c.in_ok-tiles.ensures.exact }) c.index.ensures.value c.deref.ensures.value c.deref-2.ensures.value c.in_ok-replaced.ensures c.in_default.ensures.written c.in_default.ensures.takes in
     let x = exchanged _ _ _ (g.B.Blocks.state c.exchange.new.blocks) _ _ c.exchange.new.index _ _ _ _ p c.in_ok-exchange.ensures.index c.field.view_is c.in_ok-exchange.ensures.changed c.deref-6.ensures.value c.in_ok-exchange.ensures.given in
     moves_exchanged _ _ _ _ _ _ _ _ _ x
+
+pub returns-clause-once : goal.returns-clause-once
+returns-clause-once g c = once_given _ _ _ _ _ c.in_default.ensures.takes c.in_ok-exchange.ensures.given
 
 pub returns-clause-room : goal.returns-clause-room
 returns-clause-room g c =

@@ -42,13 +42,22 @@ overlay-requires t c =
     let to_within = row_within c.a-item.result _ _ c.count_of-to_row.result c.common_of-common.result.to c.common_of-common.result.count c.loop-step.step (length c.loop-step.to) a_is c.count_of-to_row.ensures.count c.common_of-common.ensures.to_within c.loop-step-test.true (omega arith) in
     let within = row_within c.b-item.result _ _ c.count_of-row.result c.common_of-common.result.from c.common_of-common.result.count c.loop-step.step (count c.args.axes.now) b_is c.count_of-row.ensures.count c.common_of-common.ensures.from_within c.loop-step-test.true refl in
     let row = c.count_of-to_row.result in
-    let at = (c.common_of-common.result.to + c.loop-step.step) * row in
-    (search rules,
-    (length_lent at (at + row - at) row c.loop-step.to _ refl (omega arith) to_within ∙ c.count_of-to_row.ensures.count,
-    (has_fewer c.args.numbers.now _ _ (omega (arith, within, c.count_of-row.ensures.count)) c.requires.from,
-    ((rw a_is at c.requires.to_ordered).1,
-    ((rw b_is at c.requires.ordered).1,
-    (rest_few c.a-item.result _ _ a_is c.requires.to_few, omega (arith, within, c.count_of-row.ensures.count, c.requires.few)))))))
+    let at = (c.common_of-common.result.to + c.loop-step.step) * row in (
+      search rules,
+      (
+        length_lent at (at + row - at) row c.loop-step.to _ refl (omega arith) to_within ∙ c.count_of-to_row.ensures.count,
+        (
+          has_fewer c.args.numbers.now _ _ (omega (arith, within, c.count_of-row.ensures.count)) c.requires.from,
+          (
+            (rw a_is at c.requires.to_ordered).1,
+            (
+              (rw b_is at c.requires.ordered).1,
+              (rest_few c.a-item.result _ _ a_is c.requires.to_few, omega (arith, within, c.count_of-row.ensures.count, c.requires.few)),
+            ),
+          ),
+        ),
+      ),
+    )
 
 pub loop-step-preserved : goal.loop-step-preserved
 loop-step-preserved t c =

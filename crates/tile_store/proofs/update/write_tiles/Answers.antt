@@ -67,9 +67,12 @@ returns-in_err-cells-clause-why g c = record {
       let tiles = c.args.tiles.now in
       let i = c.loop-tile.tile-index in
       let kept = keeps_taken u.domain.now c.args.field.now _ _ _ c.requires.sound honest inv.takes in
-      let cut = c.in_err-cells.ensures.why.for_damage (first_of (search rules, grind (arith, common_steps))) (rw inv.takes.moves.honest honest) in
-      (get_or tiles i 0, (c.requires.tiles.exact (get_or tiles i 0)).0 (i, c.loop-tile-test.true, get_or_default tiles i (get_or tiles i 0) 0 c.loop-tile-test.true), cut.0,
-      λ spelled. cut.1 (tile_kept u.kind u.domain.now c.args.field.now _ _ (get_or tiles i 0) kept spelled));
+      let cut = c.in_err-cells.ensures.why.for_damage (first_of (search rules, grind (arith, common_steps))) (rw inv.takes.moves.honest honest) in (
+        get_or tiles i 0,
+        (c.requires.tiles.exact (get_or tiles i 0)).0 (i, c.loop-tile-test.true, get_or_default tiles i (get_or tiles i 0) 0 c.loop-tile-test.true),
+        cut.0,
+        λ spelled. cut.1 (tile_kept u.kind u.domain.now c.args.field.now _ _ (get_or tiles i 0) kept spelled),
+      );
   for_room = λ is. absurd (c.in_err-cells.ensures.why.for_room (first_of (search rules, grind (arith, common_steps))));
 }
 

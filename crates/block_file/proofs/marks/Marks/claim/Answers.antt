@@ -1,12 +1,9 @@
 use Rattle.std.proofs.Common.{arith}
-use Rattle.block_file.proofs.Markings.{claims_none, claims_more, cannot_claim, claimed_covers, unclaimed}
+use Rattle.block_file.proofs.Markings.{claims_none, claims_more, cannot_claim, unclaimed}
 use Rattle.block_file.proofs.marks.Marks.claim.Goals as goal
 
 pub loop-i-init : goal.loop-i-init
 loop-i-init c = claims_none _
-
-pub give_back-requires : goal.give_back-requires
-give_back-requires c = rw c.if-not-claim_one.ensures.same (claimed_covers _ _ _ c.loop-i.invariant)
 
 pub returns-then-not-claim_one-clause-refused : goal.returns-then-not-claim_one-clause-refused
 returns-then-not-claim_one-clause-refused c = cannot_claim c.args.ks.now _ _ c.loop-i.i (omega arith) c.loop-i.invariant c.if-not-claim_one.ensures.refused

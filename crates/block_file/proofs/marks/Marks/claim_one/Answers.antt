@@ -1,5 +1,5 @@
 use Rattle.std.proofs.Common.{rules, ◌≡◌, get_or, arith}
-use Rattle.block_file.proofs.Markings.{claimed_marks, above_zero}
+use Rattle.block_file.proofs.Markings.{claimed_marks}
 use Rattle.block_file.proofs.marks.Marks.claim_one.Goals as goal
 
 pub overflow_sub-self : goal.overflow_sub-self
@@ -11,8 +11,3 @@ pub invariant_of-self : goal.invariant_of-self
 invariant_of-self c =
     let none : get_or c.self.inside.marks.items c.args.k 0 ≡ 0 = search rules in
     (claimed_marks c.self.inside.marks.items _ _ c.args.k c.self.invariant (omega arith) none).1
-
-pub returns-clause-above_zero : goal.returns-clause-above_zero
-returns-clause-above_zero c =
-    let none : get_or c.self.inside.marks.items c.args.k 0 ≡ 0 = search rules in
-    above_zero c.self.inside.marks.items _ _ c.args.k c.self.invariant none

@@ -1,5 +1,5 @@
 use Rattle.std.proofs.Common.{arith, refl, ◌∙◌}
-use Rattle.block_file.proofs.Markings.{still_used, given_more, given_uses, all_given}
+use Rattle.block_file.proofs.Markings.{still_used, given_more}
 use Rattle.block_file.proofs.Times.{times_none}
 use Rattle.block_file.proofs.marks.Marks.give_back.Goals as goal
 
@@ -14,6 +14,3 @@ loop-k-preserved c = record {
   given = given_more _ _ _ c.args.ks.now c.loop-k.k-index (omega arith) c.loop-k.invariant.given c.give_back_one.ensures.marks;
   len = c.give_back_one.ensures.len ∙ c.loop-k.invariant.len;
 }
-
-pub returns-clause-uses : goal.returns-clause-uses
-returns-clause-uses c = given_uses _ _ c.args.ks.now c.requires (all_given c.args.ks.now c.loop-k.k-index _ _ (omega arith) c.loop-k.invariant.given)

@@ -1,13 +1,8 @@
 use Rattle.std.proofs.Common.{rules, ◌≡◌, get_or, arith}
-use Rattle.block_file.proofs.Markings.{kept_marks, above_zero}
+use Rattle.block_file.proofs.Markings.{kept_marks}
 use Rattle.block_file.proofs.marks.Marks.keep.Goals as goal
 
 pub invariant_of-self : goal.invariant_of-self
 invariant_of-self c =
     let none : get_or c.self.inside.marks.items c.args.k 0 ≡ 0 = search rules in
     kept_marks c.self.inside.marks.items _ _ c.args.k c.self.invariant (omega arith) none
-
-pub returns-clause-above_zero : goal.returns-clause-above_zero
-returns-clause-above_zero c =
-    let none : get_or c.self.inside.marks.items c.args.k 0 ≡ 0 = search rules in
-    above_zero c.self.inside.marks.items _ _ c.args.k c.self.invariant none

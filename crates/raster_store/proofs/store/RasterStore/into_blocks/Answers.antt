@@ -3,8 +3,4 @@ use Rattle.raster_store.proofs.store.RasterStore.into_blocks.Goals as goal
 
 pub returns-clause-listed : goal.returns-clause-listed
 returns-clause-listed g c =
-    let held = c.self.inside.coverages.items in
-    let content = g.B.Blocks.content c.self.inside.blocks in
-    let uses = g.B.Blocks.uses c.self.inside.blocks in
-    let honest = g.B.Blocks.honest c.self.inside.blocks in
-    rw (← c.self.view_is) (listed_held content uses honest held c.self.invariant.0)
+    rw (← c.self.view_is) (listed_held (g.B.Blocks.state c.self.inside.blocks) c.self.inside.coverages.items c.self.invariant.is_held)
