@@ -8,8 +8,8 @@ use Rattle.job_desk.specs.Desks.{DeskView}
 use Rattle.raster_store.specs.Views.{Index, AreIntact, listed_all, reserve}
 use Rattle.raster_store.specs.Calls.{signature_of, AreSameSignatures}
 
--- The store; the index of each field of each coverage; what the disk holds, whether it is honest, and how many of its calls
--- have failed; and how many tiles were fetched.
+-- The store; the index of each field of each coverage; what the disk holds, whether it is honest, and how many of its
+-- calls have failed; and how many tiles were fetched.
 pub record ServerView : Type 0 where
   pub store : Store
   pub indexes : List (List Index)

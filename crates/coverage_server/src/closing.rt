@@ -63,7 +63,8 @@ fn push_indexes<D: Disk>(
     name: &Name,
     bytes: &mut Vec<u8>,
 ) -> Result<(), AllocError>
-    ensures { OnOk result (bytes.new.items ≡ bytes.old.items ++ bytes_named name.now coverages.now.store coverages.now.indexes) }
+    ensures { OnOk result
+        (bytes.new.items ≡ bytes.old.items ++ bytes_named name.now coverages.now.store coverages.now.indexes) }
 {
     let Some(signature) = coverages.signature(name) else {
         return Ok(());
@@ -90,7 +91,8 @@ fn metadata_of<D: Disk>(alloc: Global, coverages: &Coverages<D>) -> Result<Vec<u
 
 /// Writes the metadata, and then the header of a closed file.
 fn write_closed<D: Disk>(alloc: Global, coverages: &mut Coverages<D>) -> Result<(), CloseFault>
-    ensures written { OnOk result (IsSound coverages.old → IsWritten coverages.new.content (metadata_held coverages.old) coverages.new.indexes) }
+    ensures written { OnOk result (IsSound coverages.old
+        → IsWritten coverages.new.content (metadata_held coverages.old) coverages.new.indexes) }
     ensures unchanged { IsUnchanged coverages.old coverages.new }
     ensures sound { IsSound coverages.old → IsSound coverages.new }
     ensures honest { coverages.new.honest ≡ coverages.old.honest }

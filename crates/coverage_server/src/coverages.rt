@@ -1,17 +1,16 @@
 //! The coverages of a disk: their catalogue, and their cells in tiles.
-ghost use Rattle.std.specs.Prelude.{◌≡◌, ◌<◌, ◌≤◌, length, true, false, IsSomeAnd, IfOk, IfErr, OnOk, OnErr};
+ghost use Rattle.std.specs.Prelude.{◌≡◌, ◌<◌, ◌≤◌, length, true, false, IfOk, IfErr, OnOk, OnErr};
 ghost use Rattle.std.specs.Prelude.{IsErr, IsErrOf, IsTrue};
 ghost use Rattle.arr_core.specs.Domains.{points};
-ghost use Rattle.arr_core.specs.Stores.{found, deleted};
+ghost use Rattle.arr_core.specs.Stores.{deleted};
 ghost use Rattle.arr_core.specs.Tiles.{tile_boxes};
 ghost use Rattle.block_file.specs.Format.{HeaderTorn, KeepsHeader, Closes};
 ghost use Rattle.catalogue.specs.Bytes.{catalogue_bytes};
 ghost use Rattle.metadata.specs.Metadata.{part_bytes};
-ghost use Rattle.tile_index.specs.Bytes.{index_bytes};
 ghost use Rattle.catalogue.specs.Signatures.{IsCatalogue};
 ghost use Rattle.tile_store.specs.Faults.{Refuses};
 ghost use Rattle.tile_store.specs.Stored.{tile_box};
-ghost use Rattle.raster_store.specs.Calls.{HasField, index_of};
+ghost use Rattle.raster_store.specs.Calls.{HasField, IsIndexOf};
 ghost use Rattle.raster_store.specs.Views.{Fetched};
 ghost use Rattle.coverage_server.specs.Tiles.{AreNumbers, HasDomain, IsHeld, IsTileFault};
 ghost use Rattle.disk_face.specs.Disk.{Tells};
@@ -268,7 +267,8 @@ impl<D: Disk> Coverages<D> {
     /// Whether the coverage with a signature's name has its domain, and a field at a place.
     fn is_held(&self, asked: &Signature, field: usize) -> bool
         ensures yes { result ≡ true → HasDomain asked.now field self.now.store }
-        ensures no { result ≡ false → field < length asked.now.fields → IsHeld self.now.store asked.now → ⊥ }
+        ensures no { result ≡ false → field < length asked.now.fields
+            → IsHeld self.now.store asked.now → ⊥ }
     {
         match self.signature(&asked.name) {
             None => false,
@@ -289,7 +289,8 @@ impl<D: Disk> Coverages<D> {
     ) -> Result<(), Fault>
         requires field { field < length asked.now.fields }
         requires tile { tile < length (tile_boxes asked.now.domain) }
-        ensures value { OnOk result (IsTrue self.old.honest → AreNumbers asked.now field tile self.old.store numbers.new.items) }
+        ensures value { OnOk result (IsTrue self.old.honest
+            → AreNumbers asked.now field tile self.old.store numbers.new.items) }
         ensures counted { OnOk result (length numbers.new.items ≡ length (points (tile_box asked.now.domain tile))) }
         ensures why { Refuses result (IsTileFault asked.now self.old) ⊥ }
         ensures still { still_of self.new ≡ still_of self.old }
@@ -321,7 +322,7 @@ impl<D: Disk> Coverages<D> {
         field: usize,
     ) -> Result<Vec<u8>, AllocError>
         requires field { HasField name.now field self.now.store }
-        ensures { IfOk result (λ bytes. IsSomeAnd (index_of name.now field self.now.store self.now.indexes) (λ i. bytes.items ≡ index_bytes i)) }
+        ensures { IfOk result (λ bytes. IsIndexOf name.now field self.now.store self.now.indexes bytes.items) }
     {
         let bytes = self.cells.index_bytes(alloc, name, field)?;
         Ok(bytes)
@@ -331,7 +332,8 @@ impl<D: Disk> Coverages<D> {
     /// where the disk has counted a failure.
     pub fn write_metadata(&mut self, metadata: &[u8]) -> Result<(), CloseFault>
         requires { metadata.now ≡ bytes_written self.old.store self.old.indexes }
-        ensures written { OnOk result (IsSound self.old → IsWritten self.new.content (metadata_held self.old) self.new.indexes) }
+        ensures written { OnOk result (IsSound self.old
+            → IsWritten self.new.content (metadata_held self.old) self.new.indexes) }
         ensures unchanged { IsUnchanged self.old self.new }
         ensures sound { IsSound self.old → IsSound self.new }
         ensures honest { self.new.honest ≡ self.old.honest }
@@ -376,7 +378,8 @@ impl<D: Disk> Coverages<D> {
 
     /// The disk below. Once a closing has been written it holds the store.
     pub fn into_disk(self) -> D
-        ensures held { IsWritten (D.content result) (metadata_held self) self.indexes → IsSound self → HoldsStore (D.content result) self.store }
+        ensures held { IsWritten (D.content result) (metadata_held self) self.indexes → IsSound self
+            → HoldsStore (D.content result) self.store }
         ensures content { D.content result ≡ self.content }
         ensures honest { D.honest result ≡ self.honest }
         ensures failures { D.failures result ≡ self.failures }

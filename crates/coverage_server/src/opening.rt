@@ -149,7 +149,8 @@ fn claim_layout<D: Disk>(
 ) -> Result<Metadata, OpenFault>
     requires opened { IsTrue file.old.honest → IsOpened file.old.content metadata.now file.old.marks }
     requires fresh { IsFresh file.old.marks }
-    ensures claims { IfOk result (λ m. ClaimsLayout metadata.now m.catalogue (items_of m.indexes.items) file.old.marks file.new.marks) }
+    ensures claims { IfOk result (λ m.
+        ClaimsLayout metadata.now m.catalogue (items_of m.indexes.items) file.old.marks file.new.marks) }
     ensures refused { IfErr result (IsNoLayout file.old) }
     ensures content { file.new.content ≡ file.old.content }
     ensures failures { file.new.failures ≡ file.old.failures }
@@ -189,7 +190,8 @@ fn attach_all<B: Blocks>(
     requires counted { AreCounted catalogue.now (items_of indexes.items) }
     requires blocks { (before : List (List Index)) (new : List Index) (after : List (List Index))
         → items_of indexes.items ≡ before ++ new ∷ after → MayAttach (B.state cells.old.blocks) before new }
-    ensures coverages { OnOk result (cells.new.coverages ≡ coverages_in (B.state cells.old.blocks).content catalogue.now (items_of indexes.items)) }
+    ensures coverages { OnOk result
+        (cells.new.coverages ≡ coverages_in (B.state cells.old.blocks).content catalogue.now (items_of indexes.items)) }
     ensures indexes { OnOk result (cells.new.indexes ≡ items_of indexes.items) }
     ensures tiles { OnOk result (AreTiles catalogue.now (items_of indexes.items)) }
     ensures refused { IfErr result (Departs (AreTiles catalogue.now (items_of indexes.items) → ⊥)) }
@@ -224,7 +226,8 @@ fn chain_fault(fault: block_file::OpenFault) -> OpenFault
 fn coverages_of<D: Disk>(alloc: Global, opened: Opened<D>) -> Result<Coverages<D>, NotOpened<D>>
     requires opened { IsTrue opened.file.honest → IsOpened opened.file.content opened.metadata.items opened.file.marks }
     requires fresh { IsFresh opened.file.marks }
-    ensures lists { IfOk result (λ coverages. IsTrue opened.file.honest → Lists opened.file.content coverages.store coverages.indexes) }
+    ensures lists { IfOk result (λ coverages. IsTrue opened.file.honest
+        → Lists opened.file.content coverages.store coverages.indexes) }
     ensures content { IfOk result (λ coverages. coverages.content ≡ opened.file.content) }
     ensures honest { IfOk result (λ coverages. coverages.honest ≡ opened.file.honest) }
     ensures failures { IfOk result (λ coverages. coverages.failures ≡ opened.file.failures) }
@@ -263,14 +266,18 @@ impl<D: Disk> Server<D> {
     /// twice, is the header or one of the metadata's, or lies past the end. Want of memory and a fault of the disk may
     /// come at any time. Nothing is written before the metadata is accepted, and then the header alone.
     pub fn open(alloc: Global, disk: D) -> Result<Server<D>, NotOpened<D>>
-        ensures listed { IfOk result (λ server. IsTrue (D.honest disk) → ListsStore (D.content disk) server.coverages.store server.coverages.indexes) }
-        ensures store { IfOk result (λ server. IsTrue (D.honest disk) → (store : Store) → HoldsStore (D.content disk) store → server.coverages.store ≡ store) }
-        ensures sound { IfOk result (λ server. IsTrue (D.honest disk) → (store : Store) → HoldsStore (D.content disk) store → IsSound server.coverages) }
+        ensures listed { IfOk result (λ server. IsTrue (D.honest disk)
+            → ListsStore (D.content disk) server.coverages.store server.coverages.indexes) }
+        ensures store { IfOk result (λ server. IsTrue (D.honest disk)
+            → (store : Store) → HoldsStore (D.content disk) store → server.coverages.store ≡ store) }
+        ensures sound { IfOk result (λ server. IsTrue (D.honest disk)
+            → (store : Store) → HoldsStore (D.content disk) store → IsSound server.coverages) }
         ensures desk { IfOk result (λ server. server.desk ≡ record { jobs = []; next = Some 1 }) }
         ensures header { IfOk result (λ server. IsTrue (D.honest disk) → IsOpenFile server.coverages.content) }
         ensures honest { IfOk result (λ server. server.coverages.honest ≡ D.honest disk) }
         ensures failures { IfOk result (λ server. server.coverages.failures ≡ D.failures disk) }
-        ensures refused { IfErr result (λ refused. IsNotOpened refused.fault (disk_view D.content D.honest D.failures disk) (disk_view D.content D.honest D.failures refused.disk)) }
+        ensures refused { IfErr result (λ refused. IsNotOpened refused.fault
+            (disk_view D.content D.honest D.failures disk) (disk_view D.content D.honest D.failures refused.disk)) }
     {
         let opened = match BlockFile::open(alloc, disk) {
             Ok(opened) => opened,
