@@ -1,6 +1,6 @@
 #!/usr/bin/env python3
 """Seconds and MiB for typing the worst queries that were found, each beside the length of its text and beside a plain
-chain of 65,536 bytes: first with a tree for each combination, then with trees that combinations share.
+chain of 65,536 bytes.
 
 usage: bench/typing.py [the program, else crates/bench/out/bench]
 
@@ -91,21 +91,19 @@ ROWS = [
 ]
 
 
-def measured(text, reading):
+def measured(text):
     begun = time.monotonic()
-    ran = subprocess.Popen([PROGRAM, "query", "1", reading, text], stdout=subprocess.PIPE)
+    ran = subprocess.Popen([PROGRAM, "query", "1", "typed", text], stdout=subprocess.PIPE)
     found = ran.stdout.read().decode().strip()
     _, _, used = os.wait4(ran.pid, 0)
     return time.monotonic() - begun, used.ru_maxrss / 1024, found
 
 
 def main():
-    print(f"{'query':50} {'found':22} {'bytes':>7} {'seconds':>9} {'MiB':>8} {'shared':>9} {'MiB':>8}")
+    print(f"{'query':50} {'found':22} {'bytes':>7} {'seconds':>9} {'MiB':>8}")
     for name, text in ROWS:
-        taken, memory, found = measured(text, "typed")
-        shared_taken, shared_memory, shared_found = measured(text, "shared")
-        told = found if found == shared_found else f"{found}, {shared_found}"
-        print(f"{name:50} {told:22} {len(text):7} {taken:9.3f} {memory:8.1f} {shared_taken:9.3f} {shared_memory:8.1f}")
+        taken, memory, found = measured(text)
+        print(f"{name:50} {found:22} {len(text):7} {taken:9.3f} {memory:8.1f}")
 
 
 main()

@@ -1,5 +1,5 @@
 -- Typed trees as values alone, without where they lie in memory.
-use Rattle.std.specs.Prelude.{ℕ, zero, suc, ℤ, pos, List, [], ◌∷◌, map, Bool, Option, Some, None, option_map}
+use Rattle.std.specs.Prelude.{ℕ, zero, suc, ℤ, pos, List, [], ◌∷◌, Bool, Option, Some, None, option_map}
 use Rattle.arr_core.specs.declared.domain.Axis.{Axis}
 use Rattle.arr_core.specs.declared.signature.Signature.{Signature}
 use Rattle.wcps_text.specs.declared.operator.UnaryOperator.{UnaryOperator}
@@ -8,7 +8,7 @@ use Rattle.wcps_text.specs.declared.operator.Aggregate.{Aggregate}
 use Rattle.wcps_types.specs.declared.typed.Node.{Node, Row_of-Node, end_of-Node, more_of-Node}
 use Rattle.wcps_types.specs.declared.typed.Node.TheVariants as nodes
 use Rattle.wcps_types.specs.declared.typed.TypedItem.{TypedItem}
-use Rattle.wcps_types.specs.declared.typed.Combination.{Combination}
+use Rattle.wcps_types.specs.declared.typed.Tree.{Tree}
 
 -- What gives one field of a value at each point of its domain, under the iterators in scope; see `Node`.
 pub data Typed : Type 0 where
@@ -92,5 +92,5 @@ fields_view e k (boolean ∷ more) = record { boolean = boolean; tree = field_tr
 abbrev pub item_view : TypedItem → ItemTree
 item_view i = record { domain = i.domain; fields = fields_view i.node 0 i.booleans.items }
 
-abbrev pub combination_view : Combination → CombinationTree
-combination_view c = record { condition = option_map only_tree c.condition; item = item_view c.item }
+abbrev pub tree_view : Tree → CombinationTree
+tree_view c = record { condition = option_map only_tree c.condition; item = item_view c.item }

@@ -1,11 +1,11 @@
 use Rattle.std.proofs.Common.{◌≡◌, ◌∷◌, ◌++◌, [], length, rules, subst, ap, ◌∙◌, sym, arith}
 use Rattle.std.specs.Prelude.{Some, Ok, slice_get}
 use Rattle.wcps_text.specs.Tree.{query_view}
-use Rattle.wcps_types.specs.declared.shared.SharedCombination.{SharedCombination}
+use Rattle.wcps_types.specs.declared.typed_query.Combination.{Combination}
 use Rattle.wcps_types.specs.Renamed.{over}
 use Rattle.wcps_types.specs.Sharing.{own, coverages_in, HasTree, AreMade, Grows}
 use Rattle.wcps_types.proofs.LikeTrees.{last-tree, grows-last, made-grown, made-last}
-use Rattle.wcps_types.proofs.shared_query.place_of_tree.Goals as goal
+use Rattle.wcps_types.proofs.query.place_of_tree.Goals as goal
 
 pub returns-in-Some-clause-inside : goal.returns-in-Some-clause-inside
 returns-in-Some-clause-inside c =
@@ -29,7 +29,7 @@ returns-clause-made c =
     let put : new ≡ old ++ c.in_ok-made.made ∷ [] = search rules in
     let len : c.len-tree.result ≡ length old = omega (arith, c.args.trees.now.ok, c.len-tree.ensures) in
     let at : slice_get new c.len-tree.result ≡ Some c.in_ok-made.made = rw (put, len) (last-tree old c.in_ok-made.made) in
-    let x : SharedCombination = record { tree = c.len-tree.result; coverages = c.in_ok-coverages.coverages } in
+    let x : Combination = record { tree = c.len-tree.result; coverages = c.in_ok-coverages.coverages } in
     let put_maker : c.push-2.new.self.items ≡ c.args.makers.now.items ++ x ∷ [] = search rules in
     let places : c.in_ok-coverages.coverages.items ≡ coverages_in c.args.bound.now = search rules in
     let here : HasTree cs q own_ones (coverages_in c.args.bound.now) (slice_get new c.len-tree.result) = subst (HasTree cs q own_ones (coverages_in c.args.bound.now)) (sym at) c.in_ok-made.ensures.made in
