@@ -2,6 +2,7 @@
 use Rattle.std.proofs.Common.{◌≡◌, ℕ, map, ap, sym, ◌∙◌, get_or, Vec}
 use Rattle.std.specs.Prelude.{pos}
 use Rattle.std.specs.Global.{Global}
+use Rattle.wcps_types.specs.declared.typed.Node.{Node}
 use Rattle.wcps_types.specs.declared.typed.Node.TheVariants as nodes
 use Rattle.wcps_types.specs.Typed.{number, field_tree, only_tree}
 use Rattle.wcps_types.proofs.Fields.{record_field}
