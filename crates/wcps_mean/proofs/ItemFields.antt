@@ -1,6 +1,6 @@
 -- The fields of an item over coverages, one by one.
 use Rattle.std.proofs.Common.{◌≡◌, ℕ, zero, suc, ◌+◌, ◌<◌, ◌≤◌, ◌∙◌, Bool, List, [], ◌∷◌, length, map, get_or, refl, ap, arith}
-use Rattle.std.specs.Prelude.{slice_get, Option, Some, None, option_map}
+use Rattle.std.specs.Prelude.{slice_get, Some, None, option_map}
 use Rattle.wcps_types.specs.declared.typed.Node.{Node}
 use Rattle.wcps_types.specs.Typed.{Typed, field_tree, FieldTree, fields_view}
 use Rattle.wcps_types.specs.Renamed.{renamed, renamed_field}

@@ -18,14 +18,14 @@ use Rattle.wcps_text.specs.declared.tree.ListItem.TheVariants.{Int, Truth}
 use Rattle.wcps_types.specs.declared.names.Bound.{Bound}
 use Rattle.wcps_types.specs.Typed.{Typed, number, iterator, cell, unary, binary, scalar, select, bracket, slice, array, listed, condense, condense_where, reduce, condense_of}
 use Rattle.wcps_types.specs.Names.{name_place, bound_place, is_name_of, axis_place}
-use Rattle.wcps_types.specs.Shapes.{SlotTree, ShapeTree, FieldOf, ScalarOf, Answer, then_of, is_scalar, unnamed, only_field, without_domain, only_scalar}
+use Rattle.wcps_types.specs.Shapes.{SlotTree, ShapeTree, FieldOf, ScalarOf, Answer, then_of, is_scalar, only_field, without_domain, only_scalar}
 use Rattle.wcps_types.specs.Variables.{is_boolean, cells_from, coverage_at, bound_at, bound_of, iterator_or, variable}
 use Rattle.wcps_types.specs.Operators.{selected, made_of, negated, unary as unary_of, are_same, OperandTrees, joined, combined, numeric, logical, binary as binary_of, reduced_integer, integer_reduction, reduced_boolean, boolean_reduction, reduction}
-use Rattle.wcps_types.specs.Brackets.{BoundsOf, bounds_of, CutTree, BracketTree, trimmed_at, with_trim, integer_tree, position_of, with_position, sliced_slot, cut_between, cut_at, all_cut_out, bracketed_slot, closed}
+use Rattle.wcps_types.specs.Brackets.{BoundsOf, bounds_of, CutTree, BracketTree, trimmed_at, with_trim, integer_tree, position_of, sliced_slot, cut_between, cut_at, all_cut_out, bracketed_slot, closed}
 use Rattle.wcps_types.specs.Records.{PieceTree, PieceTrees, with_part, finished_part}
-use Rattle.wcps_types.specs.Boxes.{integers_condensed, booleans_condensed, condensed, condition_of, is_truth, item_number, listed_on, has_kind, other_kind, first_is_truth, value_list}
+use Rattle.wcps_types.specs.Boxes.{integers_condensed, booleans_condensed, condensed, condition_of, item_number, listed_on, has_kind, first_is_truth, value_list}
 use Rattle.wcps_types.specs.Kinds.{meets, is_bit, are_kept, kind_of, cell_kind, meets_some, takes1, gives1, takes2, gives2, takes_boolean, gives_boolean, HasKind, ConditionIsBoolean}
-use Rattle.wcps_types.proofs.Gives.{Gives, gives-then, gives-cond, gives-any}
+use Rattle.wcps_types.proofs.Gives.{Gives, gives-then, gives-cond}
 
 -- each field of a value has its kind
 abbrev pub SlotsHaveKinds : List Signature → List SlotTree → Type 0

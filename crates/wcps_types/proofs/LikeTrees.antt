@@ -1,6 +1,6 @@
 -- Combinations of like coverages have one tree.
 use Rattle.std.proofs.Common.{◌≡◌, ℕ, zero, suc, ◌+◌, ◌-◌, ◌<◌, ◌≤◌, get_or, take, drop, List, [], ◌∷◌, ◌++◌, map, length, refl, ap, sym, subst, arith, ◌∙◌, append_assoc, add-one}
-use Rattle.std.specs.Prelude.{Option, Some, None, Result, slice_get, IfOk, Ok, Err}
+use Rattle.std.specs.Prelude.{Option, Some, None, Result, option_map, slice_get, IfOk, Ok, Err}
 use Rattle.std.proofs.Math.Seq.{take-length, drop-cons}
 use Rattle.arr_core.specs.declared.signature.Signature.{Signature}
 use Rattle.wcps_text.specs.Tree.{QueryTree}
@@ -78,6 +78,20 @@ pub made-last : (cs : List Signature) (q : QueryTree) (variables : List Bound) (
     → HasTree cs q variables c.coverages.items (slice_get trees c.tree) → AreMade cs q variables trees (makers ++ c ∷ [])
 made-last cs q variables trees [] c h k = (k, tt)
 made-last cs q variables trees (d ∷ makers) c h k = (h.0, made-last cs q variables trees makers c h.1 k)
+
+-- a tree that is the same stands for another one
+pub over-same : (places : List ℕ) (o : Option Tree) (t : Tree) → option_map tree_view o ≡ Some (tree_view t) → over places o ≡ over places (Some t)
+over-same places None t e = absurd (cc)
+over-same places (Some u) t e =
+    let is : tree_view u ≡ tree_view t = cc in
+    ap (renamed_combination places) is
+
+pub has-same : (cs : List Signature) (q : QueryTree) (variables : List Bound) (places : List ℕ) (o : Option Tree) (t : Tree) → option_map tree_view o ≡ Some (tree_view t)
+    → HasTree cs q variables places (Some t) → HasTree cs q variables places o
+has-same cs q variables places None t e h = absurd (cc)
+has-same cs q variables places (Some u) t e h =
+    let is : tree_view u ≡ tree_view t = cc in
+    h ∙ ap Ok (sym is)
 
 -- combinations keep their trees
 pub views-grown : (old new : List Tree) (all : List Combination) → HaveTrees (length old) all → Grows old new → map (combination_view new) all ≡ map (combination_view old) all

@@ -1,16 +1,16 @@
 -- What is typed has its kinds.
-use Rattle.std.proofs.Common.{◌≡◌, ℕ, List, [], ◌∷◌, ◌++◌, map, Bool, true, false, not, refl, subst, Some}
-use Rattle.std.specs.Prelude.{is_some, Ok, pos}
+use Rattle.std.proofs.Common.{◌≡◌, ℕ, List, [], ◌∷◌, ◌++◌, map, true, false, not, refl, subst, Some}
+use Rattle.std.specs.Prelude.{Ok}
 use Rattle.arr_core.specs.declared.domain.Axis.{Axis}
 use Rattle.arr_core.specs.declared.signature.Signature.{Signature}
 use Rattle.wcps_text.specs.Tree as tree
 use Rattle.wcps_text.specs.Tree.{Tree, Parts, no_parts, part, Subs, no_subs, sub, PlaceTree, trim, at, Condition, always, only, QueryTree, encode, plain}
 use Rattle.wcps_types.specs.declared.names.Bound.{Bound}
-use Rattle.wcps_types.specs.Typed.{Typed, ItemTree, CombinationTree}
+use Rattle.wcps_types.specs.Typed.{ItemTree, CombinationTree}
 use Rattle.wcps_types.specs.Shapes.{SlotTree, ShapeTree, is_scalar, then_of, only_field, only_scalar}
-use Rattle.wcps_types.specs.Brackets.{BoundsOf, BracketTree, opened, place_to_cut, position_of, with_position}
+use Rattle.wcps_types.specs.Brackets.{BoundsOf, BracketTree, opened, place_to_cut, position_of}
 use Rattle.wcps_types.specs.Records.{PieceTrees, no_pieces, is_part, with_part}
-use Rattle.wcps_types.specs.Boxes.{IteratorTrees, no_iterators, box_of, array_on, condition_of, condensed, value_list}
+use Rattle.wcps_types.specs.Boxes.{IteratorTrees, no_iterators, box_of, array_on, condition_of}
 use Rattle.wcps_types.specs.Typing.{some_condition, closed_on, array_of, condition_tree, typ, typ_parts, typ_subs, typ_place, typ_interval, typ_iters, typ_condition}
 use Rattle.wcps_types.specs.Queries.{field_of_slot, item_of, plain_item, typ_item, combined, typ_combination, typ_each}
 use Rattle.wcps_types.specs.Kinds.{HasKind, FieldsHaveKinds, ConditionIsBoolean, CombinationHasKinds, HaveKinds}

@@ -11,7 +11,7 @@ use Rattle.arr_core.specs.Names.{keywords, is_keyword, is_spelled, goes_on_name}
 use Rattle.wcps_text.specs.declared.token.Keyword.{Keyword}
 use Rattle.wcps_text.specs.declared.token.Keyword.TheVariants as words
 use Rattle.wcps_text.specs.Token.{name}
-use Rattle.wcps_text.specs.Lexing.{begins_name, continues_name, Every, keyword_text, IsWritten, IsName, is_name, Reads, plain}
+use Rattle.wcps_text.specs.Lexing.{begins_name, continues_name, Every, keyword_text, IsWritten, is_name, Reads, plain}
 
 both : (a b : Bool) → a && b ≡ true → (a ≡ true) × (b ≡ true)
 both true b h = (refl, h)

@@ -1,5 +1,5 @@
 -- Kinds: which trees give Booleans, as 0 or 1, and which integers.
-use Rattle.std.specs.Prelude.{◌≡◌, ℕ, ℤ, pos, List, [], ◌∷◌, map, Bool, true, false, not, ◌||◌, Option, Some, None, option_map, slice_get}
+use Rattle.std.specs.Prelude.{◌≡◌, ℕ, ℤ, pos, List, [], ◌∷◌, Bool, true, false, not, ◌||◌, Option, Some, None, option_map, slice_get}
 use Rattle.std.specs.List.{list_all}
 use Rattle.std.specs.Ordering.{int_eq}
 use Rattle.arr_core.specs.declared.field.Field.{Field}

@@ -1,5 +1,5 @@
 -- Typed trees as values alone, without where they lie in memory.
-use Rattle.std.specs.Prelude.{ℕ, zero, suc, ℤ, pos, List, [], ◌∷◌, map, Bool, Option, Some, None, option_map}
+use Rattle.std.specs.Prelude.{ℕ, zero, suc, ℤ, pos, List, [], ◌∷◌, Bool, Option, Some, None, option_map}
 use Rattle.arr_core.specs.declared.domain.Axis.{Axis}
 use Rattle.arr_core.specs.declared.signature.Signature.{Signature}
 use Rattle.wcps_text.specs.declared.operator.UnaryOperator.{UnaryOperator}

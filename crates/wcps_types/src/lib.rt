@@ -15,6 +15,7 @@ mod operators;
 mod query;
 mod records;
 mod refusal;
+mod same;
 mod shape;
 mod sharing;
 mod trees;

@@ -1,10 +1,11 @@
 //! The check of a whole query.
 
-ghost use Rattle.std.specs.Prelude.{◌≡◌, ◌<◌, ◌≤◌, [], IfOk, OnOk, length, map, Some, slice_get};
+ghost use Rattle.std.specs.Prelude.{◌≡◌, ◌<◌, ◌≤◌, [], IfOk, OnOk, length, map, option_map, Some, slice_get};
 ghost use Rattle.wcps_types.specs.Cells.{result_cells, max_cells};
 ghost use Rattle.wcps_types.specs.Work.{query_work, max_work};
 ghost use Rattle.wcps_text.specs.Tree.{query_view};
 ghost use Rattle.wcps_types.specs.Renamed.{over, combination_view};
+ghost use Rattle.wcps_types.specs.Typed.{tree_view};
 ghost use Rattle.wcps_types.specs.TypedQueries.{query_view as typed_query_view};
 ghost use Rattle.wcps_types.specs.Shapes.{Says};
 ghost use Rattle.wcps_types.specs.Bindings.{choice_view, combination_count, combinations};
@@ -16,12 +17,13 @@ use crate::cells::{MAX_CELLS, combinations_cells};
 use crate::effort::{MAX_WORK, combinations_work};
 use crate::names::Bound;
 use crate::refusal::{CheckError, TypeRefusal};
+use crate::same::place_of_same;
 use crate::sharing::{own_variables, places_of, signatures_of, tree_of_like};
 use crate::trees::tree_of;
 use crate::typed::Tree;
 use crate::typed_query::{Combination, TypedQuery};
 use arr_core::Signature;
-use std::alloc::Global;
+use std::alloc::{AllocError, Global};
 use wcps_text::Query;
 
 /// The query over the variables of a combination, each with the signature of its coverage.
@@ -40,8 +42,22 @@ fn shared_tree(
     tree_of(alloc, &signatures, &variables, query)
 }
 
-/// The place of the tree of a query over coverages: that of a maker whose coverages are like these, else of a new tree,
-/// whose maker this combination is.
+/// The place of a tree: of one that is the same, else of this one, now the last.
+fn kept(trees: &mut Vec<Tree>, made: Tree) -> Result<usize, AllocError>
+    ensures same { IfOk result (λ k. option_map tree_view (slice_get trees.new.items k) ≡ Some (tree_view made)) }
+    ensures kept { OnOk result (Grows trees.old.items trees.new.items) }
+    ensures longer { OnOk result (length trees.old.items ≤ length trees.new.items) }
+{
+    if let Some(tree) = place_of_same(trees, &made) {
+        return Ok(tree);
+    }
+    let tree = trees.len();
+    trees.push(made)?;
+    Ok(tree)
+}
+
+/// The place of the tree of a query over coverages: that of a maker whose coverages are like these, else that of the tree
+/// that is made of this combination, which is a maker too.
 fn place_of_tree(
     alloc: Global,
     coverages: &[Signature],
@@ -62,9 +78,8 @@ fn place_of_tree(
         return Ok(tree);
     }
     let made = shared_tree(alloc, coverages, bound, query)?;
-    let tree = trees.len();
+    let tree = kept(trees, made)?;
     let coverages = places_of(alloc, bound)?;
-    trees.push(made)?;
     makers.push(Combination { tree, coverages })?;
     Ok(tree)
 }
@@ -107,8 +122,8 @@ fn each_combination(
 }
 
 /// The typed query, or the first refusal: first the `for` list and the number of combinations, then each combination in
-/// order, then the number of result cells, then the work. It takes memory for as many trees as there are different choices
-/// of domains and fields, not as there are combinations.
+/// order, then the number of result cells, then the work. It takes memory for as many trees as differ, not as there
+/// are combinations.
 pub fn check(
     alloc: Global,
     signatures: &[Signature],

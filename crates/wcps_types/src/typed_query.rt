@@ -22,9 +22,10 @@ pub struct Combination {
 }
 
 /// A typed query, which `check` alone gives. It owns all that it needs. Combinations whose variables have coverages of the
-/// same domains and fields have one tree. Each tree over the coverages of its combination can be evaluated: every coverage,
-/// field, axis and iterator has its place, and a list has an item for each point. It gives values of its kind, and its
-/// parts do. There is at least one combination. The result has at most 2^20 cells, and the work is at most 2^32 steps.
+/// same domains and fields have one tree, and so have others whose trees are the same. Each tree over the coverages of its
+/// combination can be evaluated: every coverage, field, axis and iterator has its place, and a list has an item for each
+/// point. It gives values of its kind, and its parts do. There is at least one combination. The result has at most 2^20
+/// cells, and the work is at most 2^32 steps.
 #[derive(Debug, Drop)]
 pub struct TypedQuery {
     coverages: Vec<Signature>,
@@ -67,7 +68,7 @@ impl TypedQuery {
         &self.coverages
     }
 
-    /// The trees over the variables, one for each choice of domains and fields.
+    /// The trees over the variables, at most one for each choice of domains and fields.
     pub fn trees(&self) -> &[Tree]
         ensures { result.now ≡ self.now.trees.items }
     {

@@ -1,4 +1,4 @@
-use Rattle.std.proofs.Common.{rules, ◌≡◌, ◌<◌, ◌∙◌, ap, sym, refl, arith, [], ◌++◌, length, map, get_or, Ok}
+use Rattle.std.proofs.Common.{rules, ◌≡◌, ◌<◌, ◌∙◌, ap, sym, refl, arith, [], ◌++◌, length, get_or, Ok}
 use Rattle.std.proofs.lemmas.Result.{err_from_is_err_and}
 use Rattle.arr_core.specs.Domains.{points}
 use Rattle.wcps_types.specs.Typed.{item_view}

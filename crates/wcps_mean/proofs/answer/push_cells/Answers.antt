@@ -8,7 +8,7 @@ use Rattle.wcps_mean.proofs.ItemFields.{field_at}
 use Rattle.arr_core.specs.declared.cell.Cell.{Cell}
 use Rattle.wcps_mean.specs.declared.cell.PointFault.{PointFault}
 use Rattle.wcps_mean.specs.Meaning.{val}
-use Rattle.wcps_mean.specs.Answer.{joined, given, cell_of}
+use Rattle.wcps_mean.specs.Answer.{given, cell_of}
 use Rattle.wcps_mean.specs.Errors.{PushesCells}
 use Rattle.wcps_mean.proofs.Told.{tells-from}
 use Rattle.wcps_mean.proofs.Joins.{turn-more, turn-stop, turns-all, pushed-ok, ok-pushed}

@@ -1,5 +1,5 @@
 -- A combination is its tree over its coverages.
-use Rattle.std.proofs.Common.{◌≡◌, sym, subst, append-nil}
+use Rattle.std.proofs.Common.{sym, subst, append-nil}
 use Rattle.wcps_types.specs.Cells.{max_cells}
 use Rattle.wcps_types.specs.Renamed.{over}
 use Rattle.wcps_mean.specs.Answer.{combination_answer}

@@ -1,5 +1,5 @@
 -- A combination is its tree over its coverages.
-use Rattle.std.proofs.Common.{◌≡◌, Option, Some, subst, sym, ◌∙◌, ap}
+use Rattle.std.proofs.Common.{◌∙◌, ap}
 use Rattle.wcps_types.specs.Renamed.{over}
 use Rattle.wcps_mean.specs.Parts.{of_combination}
 use Rattle.wcps_mean.proofs.part.part_of.Goals as goal

@@ -1,5 +1,5 @@
 -- The tree of a field is read off the node.
-use Rattle.std.proofs.Common.{rules, ◌≡◌, ◌<◌, ◌≤◌, ◌∙◌, [], Option, Some, None, ap, refl, arith, length}
+use Rattle.std.proofs.Common.{rules, ◌≡◌, ◌<◌, ◌≤◌, ◌∙◌, [], Some, None, ap, refl, arith, length}
 use Rattle.std.specs.Prelude.{option_map, option_and_then}
 use Rattle.wcps_types.specs.Typed.{field_tree, tree_view}
 use Rattle.wcps_types.specs.Renamed.{renamed, renamed_combination}

@@ -1,10 +1,9 @@
-use Rattle.std.proofs.Common.{◌≡◌, ◌∷◌, ◌++◌, [], length, rules, subst, ap, ◌∙◌, sym, arith}
+use Rattle.std.proofs.Common.{◌≡◌, ◌∷◌, ◌++◌, [], length, rules, subst, ap, ◌∙◌, sym}
 use Rattle.std.specs.Prelude.{Some, Ok, slice_get}
 use Rattle.wcps_text.specs.Tree.{query_view}
 use Rattle.wcps_types.specs.declared.typed_query.Combination.{Combination}
-use Rattle.wcps_types.specs.Renamed.{over}
-use Rattle.wcps_types.specs.Sharing.{own, coverages_in, HasTree, AreMade, Grows}
-use Rattle.wcps_types.proofs.LikeTrees.{last-tree, grows-last, made-grown, made-last}
+use Rattle.wcps_types.specs.Sharing.{own, coverages_in, HasTree, AreMade}
+use Rattle.wcps_types.proofs.LikeTrees.{over-same, has-same, made_inside, made-grown, made-last}
 use Rattle.wcps_types.proofs.query.place_of_tree.Goals as goal
 
 pub returns-in-Some-clause-inside : goal.returns-in-Some-clause-inside
@@ -14,31 +13,31 @@ returns-in-Some-clause-inside c =
 
 pub returns-clause-said : goal.returns-clause-said
 returns-clause-said c =
-    let put : c.push.new.self.items ≡ c.args.trees.now.items ++ c.in_ok-made.made ∷ [] = search rules in
-    let len : c.len-tree.result ≡ length c.args.trees.now.items = omega (arith, c.args.trees.now.ok, c.len-tree.ensures) in
-    let at : slice_get c.push.new.self.items c.len-tree.result ≡ Some c.in_ok-made.made = rw (put, len) (last-tree c.args.trees.now.items c.in_ok-made.made) in
-    c.in_ok-made.ensures.said ∙ ap (λ o. Ok (over (coverages_in c.args.bound.now) o)) (sym at)
+    c.in_ok-made.ensures.said ∙ ap Ok (sym (over-same (coverages_in c.args.bound.now) (slice_get c.kept.new.trees.items c.in_ok-tree.tree) c.in_ok-made.made c.in_ok-tree.ensures.same))
+
+pub returns-clause-inside : goal.returns-clause-inside
+returns-clause-inside c =
+    let q = query_view c.args.query.now in
+    let places = coverages_in c.args.bound.now in
+    let own_ones = own 0 c.args.bound.now in
+    let new = c.kept.new.trees.items in
+    let x : Combination = record { tree = c.in_ok-tree.tree; coverages = c.in_ok-coverages.coverages } in
+    let is : c.in_ok-coverages.coverages.items ≡ places = search rules in
+    let has : HasTree c.args.coverages.now q own_ones places (slice_get new c.in_ok-tree.tree) =
+    has-same c.args.coverages.now q own_ones places (slice_get new c.in_ok-tree.tree) c.in_ok-made.made c.in_ok-tree.ensures.same c.in_ok-made.ensures.made in
+    made_inside c.args.coverages.now q own_ones new x (subst (λ ps. HasTree c.args.coverages.now q own_ones ps (slice_get new c.in_ok-tree.tree)) (sym is) has)
 
 pub returns-clause-made : goal.returns-clause-made
 returns-clause-made c =
     let cs = c.args.coverages.now in
     let q = query_view c.args.query.now in
     let own_ones = own 0 c.args.bound.now in
+    let places = coverages_in c.args.bound.now in
     let old = c.args.trees.now.items in
-    let new = c.push.new.self.items in
-    let put : new ≡ old ++ c.in_ok-made.made ∷ [] = search rules in
-    let len : c.len-tree.result ≡ length old = omega (arith, c.args.trees.now.ok, c.len-tree.ensures) in
-    let at : slice_get new c.len-tree.result ≡ Some c.in_ok-made.made = rw (put, len) (last-tree old c.in_ok-made.made) in
-    let x : Combination = record { tree = c.len-tree.result; coverages = c.in_ok-coverages.coverages } in
-    let put_maker : c.push-2.new.self.items ≡ c.args.makers.now.items ++ x ∷ [] = search rules in
-    let places : c.in_ok-coverages.coverages.items ≡ coverages_in c.args.bound.now = search rules in
-    let here : HasTree cs q own_ones (coverages_in c.args.bound.now) (slice_get new c.len-tree.result) = subst (HasTree cs q own_ones (coverages_in c.args.bound.now)) (sym at) c.in_ok-made.ensures.made in
-    let has : HasTree cs q own_ones x.coverages.items (slice_get new x.tree) = subst (λ ps. HasTree cs q own_ones ps (slice_get new c.len-tree.result)) (sym places) here in
-    let grows : Grows old new = subst (Grows old) (sym put) (grows-last old c.in_ok-made.made) in
-    subst (AreMade cs q own_ones new) (sym put_maker) (made-last cs q own_ones new c.args.makers.now.items x (made-grown cs q own_ones old new c.args.makers.now.items grows c.requires.made) has)
-
-pub returns-clause-kept : goal.returns-clause-kept
-returns-clause-kept c =
-    let old = c.args.trees.now.items in
-    let put : c.push.new.self.items ≡ old ++ c.in_ok-made.made ∷ [] = search rules in
-    subst (Grows old) (sym put) (grows-last old c.in_ok-made.made)
+    let new = c.kept.new.trees.items in
+    let x : Combination = record { tree = c.in_ok-tree.tree; coverages = c.in_ok-coverages.coverages } in
+    let put : c.push.new.self.items ≡ c.args.makers.now.items ++ x ∷ [] = search rules in
+    let is : c.in_ok-coverages.coverages.items ≡ places = search rules in
+    let has : HasTree cs q own_ones places (slice_get new x.tree) = has-same cs q own_ones places (slice_get new x.tree) c.in_ok-made.made c.in_ok-tree.ensures.same c.in_ok-made.ensures.made in
+    let here : HasTree cs q own_ones x.coverages.items (slice_get new x.tree) = subst (λ ps. HasTree cs q own_ones ps (slice_get new x.tree)) (sym is) has in
+    subst (AreMade cs q own_ones new) (sym put) (made-last cs q own_ones new c.args.makers.now.items x (made-grown cs q own_ones old new c.args.makers.now.items c.in_ok-tree.ensures.kept c.requires.made) here)
