@@ -1,15 +1,12 @@
 -- Look-ups among the pages of a cache.
-use Rattle.std.proofs.Common.{◌≡◌, ◌≢◌, ℕ, ◌-◌, Bool, true, false, List, [], ◌∷◌, Option, Some, None, IsSome, IsTrue, nat_eq, take, zero, suc, cond, length, refl, sym, ◌∙◌, ap, ◌⊎◌, inl, inr, Result, Ok, Err, OnOk, OnErr}
+use Rattle.std.proofs.Common.{◌≡◌, ◌≢◌, ℕ, ◌-◌, Bool, true, false, List, [], ◌∷◌, Option, Some, None, IsSome, nat_eq, take, zero, suc, cond, refl, sym, ◌∙◌, ap, ◌⊎◌, inl, inr, Result, Ok, Err, OnOk, OnErr}
 use Rattle.std.specs.Cmp.{nat_eq_equiv}
 use Rattle.std.specs.List.{IsDistinct}
 use Rattle.std.specs.Option.{option_map_or}
 use Rattle.std.specs.Map.{keys_of, lookup, lookup_entry, remove_entry, set_value}
 use Rattle.std.proofs.lemmas.Bool.{eqb-true, ne_eqb}
-use Rattle.std.proofs.lemmas.Bool.Decides.{eqb_tells}
 use Rattle.std.proofs.lemmas.Map.{lookup-remove_entry, lookup-set_value}
 use Rattle.lru.specs.LruCache.{LruCache, lru_cache, promoted, put_entries}
-use Rattle.block_file.specs.State.{block_at}
-use Rattle.block_file.specs.Words.{OthersKept}
 use Rattle.page_pool.specs.Pages.{page_of, SamePages, NoneAdded, Forgets, Renews, ArePages}
 
 same_test : (k x y : ℕ) → nat_eq k x ≡ true → nat_eq k y ≡ nat_eq x y

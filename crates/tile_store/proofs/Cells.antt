@@ -1,9 +1,9 @@
 -- The cells of tiles: read, written, and as numbers at points.
-use Rattle.std.proofs.Common.{◌≡◌, ℕ, zero, suc, ◌+◌, ◌<◌, List, [], ◌∷◌, ◌++◌, ◌*◌, length, get_or, take, drop, map, arith, refl, sym, ◌∙◌, ap, subst, All, Option, Some, None, inl, inr}
+use Rattle.std.proofs.Common.{◌≡◌, ℕ, zero, suc, ◌+◌, ◌<◌, List, [], ◌∷◌, ◌++◌, ◌*◌, length, get_or, take, drop, map, arith, refl, sym, ◌∙◌, ap, subst, Option, Some, None, inl, inr}
 use Rattle.std.proofs.lemmas.Int.{ints}
 use Rattle.std.specs.Prelude.{Vec, slice_get, Bool, int_le, ℤ, pos, ◌≤ℤ◌, if◌then◌else◌, true, false, Contains}
 use Rattle.std.proofs.lemmas.Bool.{cases_lt}
-use Rattle.std.proofs.lemmas.List.{ext_get_or, get_or-map, get_or_past, length-map, get_or_default, take_at}
+use Rattle.std.proofs.lemmas.List.{ext_get_or, get_or-map, length-map, get_or_default, take_at}
 use Rattle.arr_core.specs.declared.cell.FieldType.{FieldType}
 use Rattle.std.specs.declared.alloc.Global.{Global}
 use Rattle.arr_core.specs.declared.domain.Axis.{Axis}
@@ -18,7 +18,7 @@ use Rattle.tile_index.specs.declared.entry.Entry.{Entry}
 use Rattle.tile_index.specs.Index.{found_at}
 use Rattle.block_file.specs.State.{BlocksState, block_at}
 use Rattle.tile_store.specs.Listing.{entry_times}
-use Rattle.tile_store.specs.Stored.{entry_data, cells_read, tile_cells, tile_box, tile_number, number_at, IsSpelled, IsTileSpelled, KeepsListed}
+use Rattle.tile_store.specs.Stored.{entry_data, cells_read, tile_cells, tile_box, tile_number, number_at, IsTileSpelled, KeepsListed}
 use Rattle.tile_store.specs.declared.field.FieldTiles.{FieldTiles}
 use Rattle.tile_store.specs.declared.numbers.Numbers.TheVariants.{Each}
 use Rattle.tile_store.specs.Numbers.{AreNumbers, number_of}

@@ -1,9 +1,7 @@
 -- A field after the exchange of its index: which blocks it lists, and that it is sound.
-use Rattle.std.proofs.Common.{◌≡◌, ℕ, ◌+◌, ◌<◌, ◌≤◌, ◌^◌, List, [], length, arith, refl, sym, ◌∙◌, ap, subst, inl, inr, Option, Some, IsTrue, All}
+use Rattle.std.proofs.Common.{◌≡◌, ℕ, ◌+◌, ◌<◌, ◌≤◌, ◌^◌, List, [], length, arith, sym, ◌∙◌, ap, subst, inl, inr, Option, IsTrue, All}
 use Rattle.std.specs.Prelude.{sum_by}
-use Rattle.std.specs.List.Sorted.{IsStrictlyIncreasing}
 use Rattle.std.proofs.lemmas.Bool.{cases_eq}
-use Rattle.arr_core.specs.declared.domain.Axis.{Axis}
 use Rattle.arr_core.specs.Domains.{IsDomain}
 use Rattle.arr_core.specs.Tiles.{tile_boxes}
 use Rattle.block_file.specs.Format.{chain_blocks}
@@ -14,14 +12,13 @@ use Rattle.tile_index.specs.Bytes.{index_bytes}
 use Rattle.tile_index.specs.Index.{found_at, changed_at, IsIndex}
 use Rattle.tile_store.specs.declared.numbers.Patch.{Patch}
 use Rattle.tile_store.specs.declared.update.Fresh.{Fresh}
-use Rattle.tile_store.specs.Listing.{listed, listed_for, tiles_of, given, AreChanges, IsSound, Takes}
+use Rattle.tile_store.specs.Listing.{listed, listed_for, tiles_of, AreChanges, IsSound, Takes}
 use Rattle.tile_store.specs.Patches.{patched, blocks_after, IsPatched, LacksRoom}
-use Rattle.tile_store.specs.Room.{AreMeeting, new_blocks, replaced_bytes, given_bytes, HasRoom, listed_bytes, room_for}
+use Rattle.tile_store.specs.Room.{AreMeeting, replaced_bytes, given_bytes, HasRoom, listed_bytes}
 use Rattle.tile_store.specs.Written.{AreWritten, IsWritten}
-use Rattle.tile_store.proofs.Cells.{written_kept}
 use Rattle.tile_store.proofs.Changes.{all_of, changes_of, ranked_changes, ranked_index, ranked_from, exchanged_times, replaced_listed, below_changed}
 use Rattle.tile_store.proofs.NewSize.{size_after, lacks_of}
-use Rattle.tile_store.proofs.Patched.{BoxWritten, patched_of, keeps_taken, few_tiles, sizes_written}
+use Rattle.tile_store.proofs.Patched.{patched_of, keeps_taken, few_tiles, sizes_written}
 use Rattle.tile_store.proofs.Takes.{exchanged_moves, free_taken, free_given}
 
 -- what a write has done before it exchanges the index

@@ -1,6 +1,6 @@
 -- A field after a write: its numbers and its tiles.
-use Rattle.std.proofs.Common.{◌≡◌, ℕ, zero, suc, ◌+◌, ◌-◌, ◌<◌, ◌≤◌, ◌^◌, true, List, [], ◌∷◌, ◌++◌, length, get_or, take, map, arith, refl, sym, ◌∙◌, ap, subst, ◌⊎◌, inl, inr, Option, Some, None, IsTrue, All}
-use Rattle.std.specs.Prelude.{sum_by, if◌then◌else◌, Contains, ℤ, pos}
+use Rattle.std.proofs.Common.{◌≡◌, ℕ, suc, ◌+◌, ◌-◌, ◌<◌, ◌≤◌, ◌^◌, true, List, [], ◌∷◌, ◌++◌, length, get_or, take, map, arith, refl, sym, ◌∙◌, ap, subst, ◌⊎◌, inl, inr, Option, Some, None, IsTrue, All}
+use Rattle.std.specs.Prelude.{sum_by, if◌then◌else◌, ℤ, pos}
 use Rattle.std.specs.List.{list_all}
 use Rattle.std.specs.Ordering.{int_eq}
 use Rattle.std.proofs.lemmas.Bool.{cases_eq}
@@ -9,25 +9,24 @@ use Rattle.std.proofs.lemmas.List.Elements.{All-push}
 use Rattle.std.proofs.lemmas.List.Sums.{sum_by-cons, sum_by_push, sum_by_more_le}
 use Rattle.arr_core.specs.declared.cell.FieldType.{FieldType}
 use Rattle.arr_core.specs.declared.domain.Axis.{Axis}
-use Rattle.arr_core.specs.Domains.{points, count, rank_of, AreOrdered, IsDomain, IsInside, is_inside}
+use Rattle.arr_core.specs.Domains.{points, rank_of, AreOrdered, IsDomain, IsInside, is_inside}
 use Rattle.arr_core.specs.Stores.{updated_values}
 use Rattle.arr_core.specs.Tiles.{tile_boxes, edge_of, IsInTile}
 use Rattle.arr_core.proofs.Grids.{in-own-tile, length-tile_boxes, count-grid}
 use Rattle.arr_core.proofs.Points.{length-points}
 use Rattle.block_file.specs.State.{BlocksState, block, block_at, times, none}
-use Rattle.block_file.specs.Words.{OnlyReads, Moves}
+use Rattle.block_file.specs.Words.{OnlyReads}
 use Rattle.block_file.proofs.Times.{times_none}
 use Rattle.tile_index.specs.declared.entry.Entry.{Entry}
 use Rattle.tile_index.specs.Entries.{IsEntry}
 use Rattle.tile_index.specs.Index.{found_at, changed_at}
 use Rattle.tile_store.specs.declared.numbers.Patch.{Patch}
 use Rattle.tile_store.specs.declared.update.Fresh.{Fresh}
-use Rattle.tile_store.specs.Listing.{entry_times, listed, tiles_of, given, IsSound, Takes}
+use Rattle.tile_store.specs.Listing.{tiles_of, given, IsSound, Takes}
 use Rattle.tile_store.specs.Numbers.{numbers_in}
-use Rattle.tile_store.specs.Patches.{CoversTile, IsSpelledFor, patched, blocks_after, IsPatched}
-use Rattle.tile_store.specs.Reading.{Meets}
-use Rattle.tile_store.specs.Room.{AreMeeting, cells_after, entry_blocks, tile_blocks}
-use Rattle.tile_store.specs.Stored.{tile_cells, tile_box, tile_number, number_at, field_values, IsTileSpelled, KeepsListed}
+use Rattle.tile_store.specs.Patches.{CoversTile, IsSpelledFor, patched, IsPatched}
+use Rattle.tile_store.specs.Room.{AreMeeting, entry_blocks, tile_blocks}
+use Rattle.tile_store.specs.Stored.{tile_cells, tile_box, tile_number, number_at, field_values, KeepsListed}
 use Rattle.tile_store.specs.Written.{IsWritten, AreWritten, AreAfter, IsNewTile}
 use Rattle.tile_store.proofs.Cells.{cells_listed, cell_listed, number_in_tile, written_kept, after_kept}
 use Rattle.tile_store.proofs.Changes.{found_all, found_or, found_listed, change_of, after_change, after_none, tiles_push}

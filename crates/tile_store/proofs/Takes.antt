@@ -1,10 +1,10 @@
 -- Blocks that are taken, written and given back.
-use Rattle.std.proofs.Common.{◌≡◌, ◌≢◌, ℕ, zero, suc, ◌+◌, ◌-◌, ◌<◌, ◌≤◌, inl, inr, List, [], ◌∷◌, ◌++◌, length, arith, refl, sym, ◌∙◌, ap, Ok, Err}
+use Rattle.std.proofs.Common.{◌≡◌, ℕ, zero, suc, ◌+◌, ◌-◌, ◌<◌, ◌≤◌, inl, inr, List, [], ◌∷◌, ◌++◌, length, arith, refl, ◌∙◌, ap, Ok, Err}
 use Rattle.std.specs.Prelude.{Result, OnErr}
 use Rattle.std.proofs.lemmas.Bool.{cases_eq}
 use Rattle.block_file.specs.State.{BlocksState, block, block_at, free_up_to, free_of, one, times, none}
 use Rattle.block_file.specs.Words.{OnlyReads, Recounts, Moves, Covers, AreLowestFree}
-use Rattle.block_file.proofs.Times.{one_same, one_other, one_le, times_none, times-cons, times_append}
+use Rattle.block_file.proofs.Times.{one_other, one_le, times_none, times-cons, times_append}
 use Rattle.block_file.proofs.Frames.{reads_moves, recounts_moves, moves_then, moves_as}
 use Rattle.block_file.proofs.Free.{free_none, free-suc}
 use Rattle.tile_store.specs.Listing.{UsesOnce, Takes}

@@ -1,5 +1,5 @@
 -- Which blocks tiles, indexes and changes list: how often each block stands there.
-use Rattle.std.specs.Prelude.{◌≡◌, ℕ, ◌-◌, ◌<◌, ◌≤◌, ◌^◌, max, IsTrue, List, length, map, sum_by, All, Option, Some, None}
+use Rattle.std.specs.Prelude.{◌≡◌, ℕ, ◌-◌, ◌<◌, ◌≤◌, max, IsTrue, List, length, map, sum_by, All, Option, Some, None}
 use Rattle.block_file.specs.State.{BlocksState, block, times, none}
 use Rattle.block_file.specs.Words.{Moves, Covers}
 use Rattle.arr_core.specs.declared.domain.Axis.{Axis}

@@ -1,5 +1,4 @@
 use Rattle.std.proofs.Common.{arith, get_or, ◌∙◌}
-use Rattle.std.specs.Prelude.{IsTrue}
 use Rattle.block_file.specs.State.{block}
 use Rattle.block_file.proofs.Times.{times_at}
 use Rattle.tile_store.proofs.Parts.{parts_joined, parts_more, parts_whole, moves_on}

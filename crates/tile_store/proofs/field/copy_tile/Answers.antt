@@ -1,14 +1,7 @@
-use Rattle.std.proofs.Common.{arith, ◌≡◌, ◌∙◌, ap, sym, subst, length, List, []}
-use Rattle.std.specs.Prelude.{ℤ, pos}
-use Rattle.arr_core.specs.declared.domain.Axis.{Axis}
+use Rattle.std.proofs.Common.{◌≡◌, ◌∙◌, []}
 use Rattle.arr_core.specs.Cells.{Fits}
-use Rattle.arr_core.specs.Domains.{points, count, rank_of, IsInside}
 use Rattle.arr_core.specs.Tiles.{tile_boxes}
-use Rattle.arr_core.proofs.Points.{length-points}
 use Rattle.tile_store.specs.declared.numbers.Numbers.TheVariants.{Each}
-use Rattle.tile_store.specs.Numbers.{AreNumbers, HasNumbers, number_of}
-use Rattle.tile_store.specs.Overlays.{Overlaid}
-use Rattle.tile_store.specs.Reading.{number_in}
 use Rattle.tile_store.specs.Stored.{tile_box}
 use Rattle.tile_store.proofs.Fitting.{all_overlaid, number_fits, has_numbers}
 use Rattle.tile_store.proofs.Cells.{get_of, tile_numbers, tile_overlaid}

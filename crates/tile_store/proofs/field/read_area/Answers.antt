@@ -1,12 +1,9 @@
-use Rattle.std.proofs.Common.{rules, arith, ◌≡◌, ◌∙◌, ap, length, get_or, List, inl, inr, subst}
-use Rattle.std.specs.Prelude.{IsTrue, ℤ}
+use Rattle.std.proofs.Common.{rules, arith, ◌≡◌, ◌∙◌, ap, length, get_or, inl, inr, subst}
 use Rattle.std.proofs.lemmas.Bool.{cases_lt}
 use Rattle.std.proofs.lemmas.Grind.{common_steps}
 use Rattle.std.proofs.lemmas.List.{get_or_default}
 use Rattle.arr_core.proofs.Points.{length-points}
-use Rattle.tile_store.specs.Overlays.{Overlaid}
-use Rattle.tile_store.specs.Reading.{number_in, IsSpelledIn, Meets}
-use Rattle.tile_store.specs.Stored.{tile_box}
+use Rattle.tile_store.specs.Reading.{number_in, IsSpelledIn}
 use Rattle.tile_store.proofs.Cells.{area_copied, tiles_copied, lent_back, listed_at}
 use Rattle.tile_store.proofs.Takes.{reads_then}
 use Rattle.tile_store.proofs.field.read_area.Goals as goal

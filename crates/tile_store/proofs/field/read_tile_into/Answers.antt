@@ -3,10 +3,10 @@ use Rattle.std.proofs.Common.{rules, arith, ◌≡◌, ◌∙◌, ap, sym, map, 
 use Rattle.std.specs.Prelude.{ℤ, option_copied}
 use Rattle.std.proofs.lemmas.Grind.{common_steps}
 use Rattle.arr_core.specs.declared.domain.Axis.{Axis}
-use Rattle.arr_core.specs.Domains.{points, count}
+use Rattle.arr_core.specs.Domains.{points}
 use Rattle.arr_core.specs.Tiles.{tile_boxes}
 use Rattle.tile_index.specs.Index.{found_at}
-use Rattle.tile_store.specs.Stored.{number_at, tile_box}
+use Rattle.tile_store.specs.Stored.{number_at}
 use Rattle.tile_store.proofs.Cells.{get_of, tile_spells, spells_tile, cells_listed, number_said}
 use Rattle.tile_store.proofs.Listed.{found_covered}
 use Rattle.tile_store.proofs.field.read_tile_into.Goals as goal

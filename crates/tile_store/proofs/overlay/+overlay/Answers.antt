@@ -1,7 +1,7 @@
 use Rattle.std.proofs.Common.{rules, arith, ◌≡◌, ◌-◌, ◌+◌, ◌*◌, ap, refl, ◌∙◌, length}
 use Rattle.std.proofs.lemmas.Grind.{common_steps}
 use Rattle.arr_core.proofs.Points.{count-pos}
-use Rattle.arr_core.specs.Domains.{count, rank_of}
+use Rattle.arr_core.specs.Domains.{count}
 use Rattle.tile_store.specs.Numbers.{number_of}
 use Rattle.tile_store.proofs.Fitting.{has_fewer}
 use Rattle.tile_store.proofs.Rows.{cons_of, written_all, written_line, row_written, row_within, length_lent, point_overlaid, size_small, line_count, first_place, rest_few}

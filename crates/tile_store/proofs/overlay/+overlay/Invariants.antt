@@ -1,4 +1,4 @@
-use Rattle.std.proofs.Common.{ℕ, ◌+◌, ◌-◌, ◌*◌, length}
+use Rattle.std.proofs.Common.{◌+◌, ◌-◌, ◌*◌, length}
 use Rattle.arr_core.specs.Domains.{rank_of}
 use Rattle.tile_store.specs.Numbers.{number_of}
 use Rattle.tile_store.proofs.Rows.{RowsWritten}

@@ -1,4 +1,4 @@
-use Rattle.std.proofs.Common.{rules, ◌≡◌, ◌++◌, sym}
+use Rattle.std.proofs.Common.{rules, ◌≡◌, ◌++◌}
 use Rattle.tile_store.proofs.Takes.{takes_fresh, unused_of, fresh_of}
 use Rattle.tile_store.proofs.tile.take_fresh.Goals as goal
 

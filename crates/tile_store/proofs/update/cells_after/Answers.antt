@@ -1,7 +1,5 @@
-use Rattle.std.proofs.Common.{rules, arith, [], length, ◌≡◌, ◌∙◌, ap, List}
-use Rattle.std.specs.Prelude.{ℤ}
+use Rattle.std.proofs.Common.{arith, [], length, ◌≡◌, ◌∙◌, ap}
 use Rattle.std.proofs.lemmas.Grind.{common_steps}
-use Rattle.arr_core.specs.declared.domain.Axis.{Axis}
 use Rattle.arr_core.specs.Cells.{Fits}
 use Rattle.arr_core.specs.Domains.{count}
 use Rattle.arr_core.specs.Tiles.{tile_boxes}

@@ -1,8 +1,7 @@
-use Rattle.std.proofs.Common.{rules, arith, ◌≡◌, ◌∙◌, ap, inl, inr, List, get_or}
+use Rattle.std.proofs.Common.{rules, arith, ◌∙◌, ap, inl, inr, List, get_or}
 use Rattle.std.specs.Prelude.{ℤ, pos}
 use Rattle.std.proofs.lemmas.Grind.{common_steps}
-use Rattle.arr_core.specs.declared.domain.Axis.{Axis}
-use Rattle.arr_core.specs.Domains.{points, count, rank_of, IsBoxOf}
+use Rattle.arr_core.specs.Domains.{rank_of, IsBoxOf}
 use Rattle.arr_core.proofs.Points.{length-points}
 use Rattle.tile_store.specs.Stored.{tile_box, number_at}
 use Rattle.tile_store.proofs.Cells.{not_outside, cell_listed}

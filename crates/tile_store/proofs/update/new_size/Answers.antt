@@ -1,5 +1,5 @@
-use Rattle.std.proofs.Common.{arith, ap, length, List, ℕ}
-use Rattle.tile_store.proofs.NewSize.{Sized, sized_of}
+use Rattle.std.proofs.Common.{arith}
+use Rattle.tile_store.proofs.NewSize.{sized_of}
 use Rattle.tile_store.proofs.update.new_size.Goals as goal
 
 pub listed_size-replaced-requires-clause-few : goal.listed_size-replaced-requires-clause-few

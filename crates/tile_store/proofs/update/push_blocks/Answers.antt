@@ -1,4 +1,4 @@
-use Rattle.std.proofs.Common.{rules, arith, ap, ◌≡◌, ◌+◌, ◌++◌, ℕ, List, Option}
+use Rattle.std.proofs.Common.{rules, arith, ap, ◌≡◌, ◌++◌, ℕ, List, Option}
 use Rattle.std.specs.Prelude.{option_copied}
 use Rattle.block_file.specs.State.{times}
 use Rattle.block_file.proofs.Times.{times_append}

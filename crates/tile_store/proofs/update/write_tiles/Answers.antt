@@ -1,11 +1,10 @@
-use Rattle.std.proofs.Common.{rules, arith, ◌≡◌, ℕ, ◌<◌, List, take, length, get_or, ap, sym, refl, ◌∙◌}
-use Rattle.std.specs.Prelude.{IsTrue, ℤ, sum_by}
+use Rattle.std.proofs.Common.{rules, arith, ◌≡◌, ℕ, List, take, length, get_or, ap, sym, refl, ◌∙◌}
+use Rattle.std.specs.Prelude.{ℤ, sum_by}
 use Rattle.std.proofs.lemmas.Grind.{common_steps}
 use Rattle.std.proofs.lemmas.List.{get_or_default, take_all}
 use Rattle.block_file.proofs.Times.{times_none}
 use Rattle.tile_store.specs.Patches.{patched, blocks_after}
 use Rattle.tile_store.specs.Room.{tile_blocks}
-use Rattle.tile_store.specs.Reading.{Meets}
 use Rattle.tile_store.proofs.Cells.{after_kept}
 use Rattle.tile_store.proofs.Kept.{tile_kept}
 use Rattle.tile_store.proofs.Listed.{given-nil}
