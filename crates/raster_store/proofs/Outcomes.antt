@@ -11,7 +11,7 @@ use Rattle.block_file.specs.State.{BlocksState, none, free_of}
 use Rattle.block_file.specs.Words.{Moves}
 use Rattle.tile_store.specs.declared.numbers.Numbers.{Numbers}
 use Rattle.tile_store.specs.declared.numbers.Patch.{Patch}
-use Rattle.tile_store.specs.Listing.{listed, IsSound}
+use Rattle.tile_store.specs.Listing.{listed, IsSound, UsesOnce}
 use Rattle.tile_store.specs.Faults.{Refuses}
 use Rattle.tile_store.specs.Numbers.{AreNumbers, numbers_in}
 use Rattle.tile_store.specs.Patches.{Patches, IsPatched, RefusesPatch}
@@ -163,13 +163,14 @@ module _ {B : Type 0} {state : B → BlocksState} {old new : B} {held : List Hel
       let all = rest_of catalogue held place field h w.changed.place w.changed.was w.changed.field in
       (all.0, rw w.changed.read at all.1, λ least. least h all.0 (subst (λ (y : Held). all.0 + length (index_bytes (index_at y field)) ≡ metadata_size catalogue (indexes_of held)) w.changed.was all.1))
 
-  pub wrote_done : {T E : Type 0} (r : Result T E) → Least → free_of (state new) < 2 ^ 32 → OnOk r (Patches u (state old) x (state new) x') → OnOk r (HasRoom rest x' (state new))
+  pub wrote_done : {T E : Type 0} (r : Result T E) → Least → free_of (state new) < 2 ^ 32 → OnOk r (Patches u (state old) x (state new) x') → OnOk r (UsesOnce (state old) (state new)) → OnOk r (HasRoom rest x' (state new))
       → OnOk r (Writes state name field u.area.now (numbers_in u.area.now u.numbers.now) catalogue (view_of state old held fetched) (view_of state new (set held place h') fetched))
-  wrote_done (Err e) least small done room = tt
-  wrote_done (Ok v) least small done room = record {
+  wrote_done (Err e) least small done once room = tt
+  wrote_done (Ok v) least small done once room = record {
     coverages = λ sure. written_after (state old) (state new) held place field h h' x x' w.changed w.target.f name u.area.now (numbers_in u.area.now u.numbers.now) sure w.target.kind w.target.at (rw (w.domain, sym w.kind) at (done sure).numbers);
     signatures = same_names;
     moves = moves_all (state old) (state new) held place field h h' x x' w.changed;
+    once = once;
     room = room_after (state old) (state new) held place field h h' x x' w.changed catalogue rest all_rest.0 all_rest.1 (all_rest.2 least) small room;
   }
 

@@ -53,7 +53,7 @@ number_is s h j f p is within inside =
     same_number x.0.kind f.kind h.signature.domain f.domain.now (index_at h j) f.index.now s.content p x.2 is.domain is.index ∙ value
 
 -- a point of a box is one of the domain
-box_inside : (domain area : List Axis) (p : List ℤ) → IsBoxOf domain area → IsInside area p → IsInside domain p
+pub box_inside : (domain area : List Axis) (p : List ℤ) → IsBoxOf domain area → IsInside area p → IsInside domain p
 box_inside [] [] [] b i = tt
 box_inside [] [] (x ∷ p) b i = absurd i
 box_inside [] (c ∷ area) p b i = absurd b
@@ -85,7 +85,7 @@ edge_pos : (n : ℕ) → 0 < edge_of n
 edge_pos n = grind (arith, nat_tests)
 
 -- the box of a tile
-tile_is_box : (domain : List Axis) (n : ℕ) → IsDomain domain → n < length (tile_boxes domain) → AreOrdered (tile_box domain n) × IsBoxOf domain (tile_box domain n)
+pub tile_is_box : (domain : List Axis) (n : ℕ) → IsDomain domain → n < length (tile_boxes domain) → AreOrdered (tile_box domain n) × IsBoxOf domain (tile_box domain n)
 tile_is_box domain n d h =
     let e = edge_of (length domain) in
     let g = grid e domain in

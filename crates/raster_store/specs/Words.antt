@@ -10,6 +10,7 @@ use Rattle.block_file.specs.State.{BlocksState, free_of, none}
 use Rattle.block_file.specs.Words.{OnlyReads, Recounts, Moves}
 use Rattle.disk_face.specs.Disk.{Tells}
 use Rattle.tile_store.specs.declared.fault.Fault.TheVariants as device
+use Rattle.tile_store.specs.Listing.{UsesOnce}
 use Rattle.tile_store.specs.Room.{AreMeeting}
 use Rattle.raster_store.specs.declared.fault.WriteFault.{WriteFault}
 use Rattle.raster_store.specs.declared.fault.WriteFault.TheVariants.{Device}
@@ -88,11 +89,13 @@ FetchesBox name area old new =
     IsSomeAnd (found name old.coverages) (λ c. (tiles : List ℕ) × AreMeeting c.domain area tiles × Fetched (length tiles) old.fetched new.fetched)
 
 -- What a write of numbers, as these cells are stored, into a box of a field has done: function update on the box, where the
--- disk is honest. What other indexes list is kept, and so many blocks are free that the metadata has room.
+-- disk is honest. What other indexes list is kept, a block that was free is in use once at most, and so many blocks are free
+-- that the metadata has room.
 pub record Writes {B : Type 0} (state : B → BlocksState) (name : List ℕ) (field : ℕ) (area : List Axis) (numbers : List ℤ) (catalogue : ℕ) (old new : RasterView B) : Type 0 where
   pub coverages : IsTrue (state old.blocks).honest → new.coverages ≡ updated name field area numbers old.coverages
   pub signatures : AreSameSignatures old.coverages new.coverages
   pub moves : Moves (listed_all old.indexes) (listed_all new.indexes) (state old.blocks) (state new.blocks)
+  pub once : UsesOnce (state old.blocks) (state new.blocks)
   pub room : reserve catalogue new.indexes ≤ free_of (state new.blocks)
 
 -- cells were written into a box of a field

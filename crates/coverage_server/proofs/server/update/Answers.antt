@@ -42,7 +42,7 @@ returns-in_err-write-clause-answered g c =
     rw (p.1, p.2)
     (write_answered c.args.busy c.if-busy.false v c.write.new.self u.coverage u.field u.intervals.items (content_view u.content) x.0 x.1 k place spelled c.in_err-write.field-0.0
     (subst (λ (a : List Axis). WriteRefused u.coverage k a (content_view u.content) v c.in_err-write.field-0.0) area c.in_err-write.ensures.refused)
-    c.write.ensures.told.told c.in_err-write.ensures.unchanged)
+    c.in_err-write.ensures.told.told c.in_err-write.ensures.unchanged)
 
 pub returns-clause-answered : goal.returns-clause-answered
 returns-clause-answered g c =

@@ -59,7 +59,7 @@ returns-clause-done g c =
     c.write_area-written.result c.self.invariant.is_held (rw c.deref.ensures.value at c.place_held-place.ensures.named) c.index_mut-coverage.ensures.value
     (rw (← c.self.view_is) at c.requires.patch) c.index_mut-index.ensures.value refl c.kind_of.ensures refl refl e.done e.sound e.frame e.same e.kept in
     let small : free_of (state c.write_area-written.new.blocks) < 2 ^ 32 = omega (arith, c.free-free.ensures) in
-    rw (← c.self.view_is) (wrote_done c.args.catalogue c.rest_size-rest.result c.self.inside.fetched w c.write_area-written.result (rw c.deref-2.ensures.value at c.rest_size-rest.ensures) small e.done e.room)
+    rw (← c.self.view_is) (wrote_done c.args.catalogue c.rest_size-rest.result c.self.inside.fetched w c.write_area-written.result (rw c.deref-2.ensures.value at c.rest_size-rest.ensures) small e.done e.once e.room)
 
 pub returns-clause-same : goal.returns-clause-same
 returns-clause-same g c =
