@@ -1,4 +1,4 @@
-use Rattle.std.proofs.Common.{◌≡◌, ◌∷◌, ◌++◌, [], length, rules, subst, ap, sym, ◌∙◌, arith}
+use Rattle.std.proofs.Common.{◌≡◌, ◌∷◌, ◌++◌, [], length, rules, subst, ap, sym, arith}
 use Rattle.std.specs.Prelude.{Some, option_map, slice_get}
 use Rattle.wcps_types.specs.Typed.{tree_view}
 use Rattle.wcps_types.specs.Sharing.{Grows}

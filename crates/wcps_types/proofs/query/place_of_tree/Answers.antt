@@ -1,5 +1,5 @@
-use Rattle.std.proofs.Common.{◌≡◌, ◌∷◌, ◌++◌, [], length, rules, subst, ap, ◌∙◌, sym}
-use Rattle.std.specs.Prelude.{Some, Ok, slice_get}
+use Rattle.std.proofs.Common.{◌≡◌, ◌∷◌, ◌++◌, [], rules, subst, ap, ◌∙◌, sym}
+use Rattle.std.specs.Prelude.{Ok, slice_get}
 use Rattle.wcps_text.specs.Tree.{query_view}
 use Rattle.wcps_types.specs.declared.typed_query.Combination.{Combination}
 use Rattle.wcps_types.specs.Sharing.{own, coverages_in, HasTree, AreMade}

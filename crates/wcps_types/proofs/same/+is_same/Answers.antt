@@ -1,5 +1,5 @@
 -- Records of the same parts give the same fields.
-use Rattle.std.proofs.Common.{◌≡◌, ap, sym, map, ◌∙◌}
+use Rattle.std.proofs.Common.{ap, sym, map, ◌∙◌}
 use Rattle.wcps_types.specs.declared.typed.Node.{Node}
 use Rattle.wcps_types.specs.Typed.{field_tree, only_tree}
 use Rattle.wcps_types.proofs.SameTrees.{same_parts}
