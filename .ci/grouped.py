@@ -30,8 +30,8 @@ def toolchain():
 
 rt = toolchain()
 ONE_JOB = ["--jobs", "1"]
-# what an edit comes to where rt ci counts it as refused
-WELL = (rt.REFUSED, rt.AT_LIMIT)
+# what rt tells of an edit that it counts as refused: one of these words, or, where it has none, that it is true
+WELL = [getattr(rt, it, True) for it in ("REFUSED", "AT_LIMIT")]
 HARMLESS = "let _control = {}_usize + 1;"
 # What a proof file says where it names what an edit took away: that shows little of the meaning.
 MISSING_NAME = re.compile(r"has no field|is not in scope|has no `|was not admitted")

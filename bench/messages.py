@@ -1,29 +1,30 @@
 #!/usr/bin/env python3
-"""Messages a second of one stream, beside a loop in C over the same bytes that reads, looks for the blank line and writes.
+"""Messages a second over loopback, beside a server in C that reads, looks for the blank line and writes.
 
 usage: bench/messages.py [CONNECTIONS, else 2000]
 
-The server is crates/message_bench, which `rt run` in its folder builds: it reads each request from its pairs and answers
-it over a store without coverages. A connection has 500 messages, each a list of coverages asked by GET or by POST, and
-another connection follows at once. The loop in C reads 16,384 bytes at a time, looks for the blank line behind each
-head, passes over the body and writes the same bytes as the server, in one write a message.
+The server is the built program over an empty store in memory (`rt run` in crates/rasterd builds it). A connection has 500
+messages, each a list of coverages asked by GET or by POST; another connection follows at once. The server in C accepts
+the same connections, reads 16,384 bytes at a time, looks for the blank line behind each head, passes over the body and
+writes the same bytes as the program, in one write a message. A client in this process sends all messages of a connection,
+then reads to its end.
 
-Both read a file and write to a pipe that a third process empties (pipe), or to /dev/null (null). The figure is the time
-by the clock, the least of seven runs that take turns; what it takes to start is measured by a run without connections,
-and taken off.
+The figures are by the clock, of what the client waits for, and by the processor time of each server, each the least of
+seven runs that take turns.
 """
 import os
+import socket
 import subprocess
 import sys
-import tempfile
 import time
 
 from compiled import compiled
 
 TOP = os.path.dirname(os.path.dirname(os.path.abspath(__file__)))
-PROGRAM = f"{TOP}/crates/message_bench/out/message_bench"
+PROGRAM = f"{TOP}/crates/rasterd/out/rasterd"
 CONNECTIONS = int(sys.argv[1]) if len(sys.argv) > 1 else 2000
 MESSAGES = 500
+LONGEST = 60
 BODY = b"request=ListCoverages"
 REPLY = b"HTTP/1.1 200 OK\r\nContent-Type: text/plain\r\nContent-Length: 0\r\n\r\n"
 # each kind of message, its bytes, and how many of them are its body
@@ -34,67 +35,100 @@ KINDS = [
 
 LOOP = r"""
 #define _GNU_SOURCE
+#include <arpa/inet.h>
 #include <stdlib.h>
 #include <string.h>
+#include <sys/socket.h>
 #include <unistd.h>
 static const char reply[] = "HTTP/1.1 200 OK\r\nContent-Type: text/plain\r\nContent-Length: 0\r\n\r\n";
 static char held[16384];
-int main(int count, char **words) {
-    size_t body = atol(words[1]), start = 0, end = 0;
+static void serve(int to, size_t body) {
+    size_t start = 0, end = 0;
     for (;;) {
         char *blank = memmem(held + start, end - start, "\r\n\r\n", 4);
         size_t next = blank ? blank + 4 + body - held : sizeof held + 1;
         if (next <= end) {
             start = next;
-            if (write(1, reply, sizeof reply - 1) < 0) return 1;
+            if (write(to, reply, sizeof reply - 1) < 0) return;
             continue;
         }
         memmove(held, held + start, end - start);
         end -= start;
         start = 0;
-        ssize_t came = read(0, held + end, sizeof held - end);
-        if (came <= 0) return 0;
+        ssize_t came = read(to, held + end, sizeof held - end);
+        if (came <= 0) return;
         end += came;
+    }
+}
+int main(int words, char **word) {
+    int at = socket(AF_INET, SOCK_STREAM, 0), yes = 1;
+    struct sockaddr_in here = {.sin_family = AF_INET, .sin_port = htons(atoi(word[1])), .sin_addr.s_addr = htonl(INADDR_LOOPBACK)};
+    setsockopt(at, SOL_SOCKET, SO_REUSEADDR, &yes, sizeof yes);
+    if (words < 4 || bind(at, (struct sockaddr *)&here, sizeof here) || listen(at, 16)) return 1;
+    for (long left = atol(word[2]); left > 0; left--) {
+        int to = accept(at, 0, 0);
+        if (to < 0) return 1;
+        serve(to, atol(word[3]));
+        close(to);
     }
 }
 """
 
 
-def taken(words, path, empties):
-    """The seconds that a program takes over a file of messages, and how many bytes it writes."""
-    with open(path, "rb") as stream:
-        begun = time.perf_counter()
-        if not empties:
-            subprocess.run(words, stdin=stream, stdout=subprocess.DEVNULL, check=True)
-            return time.perf_counter() - begun
-        with subprocess.Popen(words, stdin=stream, stdout=subprocess.PIPE) as ran:
-            subprocess.run(["cat"], stdin=ran.stdout, stdout=subprocess.DEVNULL, check=True)
-        return time.perf_counter() - begun
+def free_port():
+    with socket.socket() as probe:
+        probe.bind(("127.0.0.1", 0))
+        return probe.getsockname()[1]
+
+
+def asked(port, stream):
+    """What a server writes for a connection that sends a stream and then nothing."""
+    with socket.create_connection(("127.0.0.1", port), timeout=LONGEST) as client:
+        client.sendall(stream)
+        client.shutdown(socket.SHUT_WR)
+        return b"".join(iter(lambda: client.recv(1 << 16), b""))
+
+
+def first_asked(port, stream):
+    """The same, once the server listens."""
+    given_up = time.monotonic() + LONGEST
+    while True:
+        try:
+            return asked(port, stream)
+        except ConnectionRefusedError:
+            if time.monotonic() > given_up:
+                raise
+            time.sleep(0.01)
+
+
+def served(words, message):
+    """The seconds by the clock, and of the server's processor time, that connections of so many messages take."""
+    port = free_port()
+    server = subprocess.Popen([str(port) if it is None else it for it in words], stdin=subprocess.DEVNULL)
+    try:
+        said = first_asked(port, message * 3)
+        if said != REPLY * 3:
+            sys.exit(f"another reply than that of the loop: {said!r}")
+        begun, length = time.perf_counter(), len(REPLY) * MESSAGES
+        for _ in range(CONNECTIONS):
+            if len(asked(port, message * MESSAGES)) != length:
+                sys.exit("a reply is missing")
+        taken = time.perf_counter() - begun
+        _, _, used = os.wait4(server.pid, 0)
+        return taken, used.ru_utime + used.ru_stime
+    finally:
+        server.kill()
 
 
 def main():
-    print(f"{'':14}{'messages a second':>20}{'of the loop in C':>20}{'its time':>10}")
-    with tempfile.TemporaryDirectory() as folder, compiled(LOOP) as loop:
-        none = os.path.join(folder, "none")
-        open(none, "wb").close()
+    print(f"{'':14}{'messages a second':>20}{'of the server in C':>20}{'its time':>10}")
+    with compiled(LOOP) as loop:
+        count, total = str(CONNECTIONS + 1), MESSAGES * CONNECTIONS
         for kind, message, body in KINDS:
-            path = os.path.join(folder, kind)
-            with open(path, "wb") as file:
-                for _ in range(CONNECTIONS):
-                    file.write(message * MESSAGES)
-            server = [PROGRAM, str(len(message) * MESSAGES), str(CONNECTIONS)]
-            idle = [PROGRAM, "0", "0"]
-            said = subprocess.run([PROGRAM, str(len(message) * 3), "1"], input=message * 3, capture_output=True, check=True).stdout
-            if said != REPLY * 3:
-                sys.exit(f"another reply than that of the loop: {said!r}")
-            for empties in (True, False):
-                runs = [
-                    (taken(server, path, empties) - taken(idle, none, empties), taken([loop, str(body)], path, empties) - taken([loop, "0"], none, empties))
-                    for _ in range(7)
-                ]
-                ours, plain = (min(column) for column in zip(*runs))
-                total = MESSAGES * CONNECTIONS
-                print(f"{kind:6}{'pipe' if empties else 'null':8}{total / ours:20,.0f}{total / plain:20,.0f}{ours / plain:10.2f}")
+            runs = [(served([PROGRAM, "-", "listen", None, count], message), served([loop, None, count, str(body)], message)) for _ in range(7)]
+            for at, by in enumerate(("clock", "processor")):
+                ours, plain = (min(run[at] for run in column) for column in zip(*runs))
+                print(f"{kind:5}{by:9}{total / ours:20,.0f}{total / plain:20,.0f}{ours / plain:10.2f}")
 
 
 main()

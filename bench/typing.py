@@ -1,6 +1,6 @@
 #!/usr/bin/env python3
 """Seconds and MiB for typing the worst queries that were found, each beside the length of its text and beside a plain
-chain of 65,536 bytes: first with a tree for each combination, then with trees that combinations share.
+chain of 65,536 bytes.
 
 usage: bench/typing.py [the program, else crates/bench/out/bench]
 
@@ -69,6 +69,21 @@ ROWS = [
         fitted(lambda n: over(LAI, "{a:" * 30 + f"{parts('c', n)}.a0" + "}.a" * 30)),
     ),
     (
+        "nested records, 64 unlike",
+        fitted(lambda n: over(UNLIKE, "{a:" * 30 + f"{parts('c', n)}.a0" + "}.a" * 30 + "[x(0)]")),
+    ),
+    ("a sum of zeros at a position, 64 unlike", fitted(lambda n: over(UNLIKE, f"c[x({balanced('0', n)})]"))),
+    ("cells and zeros on axes, 64 unlike", fitted(lambda n: over(UNLIKE, balanced("(c[x(0)]" + "+0" * 26 + ")", n)))),
+    ("cells under minus signs, 64 unlike", fitted(lambda n: over(UNLIKE, balanced("(" + "-" * 26 + "c[x(0)])", n)))),
+    ("a sum of reductions, 64 unlike", fitted(lambda n: over(UNLIKE, balanced("add(c)", n)))),
+    (
+        "many variables and their sum, 64 unlike",
+        fitted(
+            lambda n: f"for {','.join([f'w{k} in (u1,u2)' for k in range(6)] + [f'v{k} in (lai)' for k in range(n)])}"
+            f" return encode({'+'.join(f'w{k}[x(0)]' for k in range(6))}+{balanced(f'v{n - 1}[x(0)]', n)}, csv)"
+        ),
+    ),
+    (
         "256 iterators, then a sum",
         fitted(
             lambda n: over(
@@ -91,21 +106,19 @@ ROWS = [
 ]
 
 
-def measured(text, reading):
+def measured(text):
     begun = time.monotonic()
-    ran = subprocess.Popen([PROGRAM, "query", "1", reading, text], stdout=subprocess.PIPE)
+    ran = subprocess.Popen([PROGRAM, "query", "1", "typed", text], stdout=subprocess.PIPE)
     found = ran.stdout.read().decode().strip()
     _, _, used = os.wait4(ran.pid, 0)
     return time.monotonic() - begun, used.ru_maxrss / 1024, found
 
 
 def main():
-    print(f"{'query':50} {'found':22} {'bytes':>7} {'seconds':>9} {'MiB':>8} {'shared':>9} {'MiB':>8}")
+    print(f"{'query':50} {'found':22} {'bytes':>7} {'seconds':>9} {'MiB':>8}")
     for name, text in ROWS:
-        taken, memory, found = measured(text, "typed")
-        shared_taken, shared_memory, shared_found = measured(text, "shared")
-        told = found if found == shared_found else f"{found}, {shared_found}"
-        print(f"{name:50} {told:22} {len(text):7} {taken:9.3f} {memory:8.1f} {shared_taken:9.3f} {shared_memory:8.1f}")
+        taken, memory, found = measured(text)
+        print(f"{name:50} {found:22} {len(text):7} {taken:9.3f} {memory:8.1f}")
 
 
 main()

@@ -1,7 +1,6 @@
 //! Reads a query, to time how queries are read.
 //!
-//! Its words are how often, `syntax`, `typed`, or `shared` for a query that is typed so that combinations share trees, and
-//! the query. The line says what was found.
+//! Its words are how often, `syntax` or `typed`, and the query. The line says what was found.
 
 mod coverages;
 
@@ -11,27 +10,25 @@ use coverages::coverages;
 use std::alloc::Global;
 use wcps_parse::{ParseError, parse};
 use wcps_text::lex;
-use wcps_types::{CheckError, check, check_shared};
+use wcps_types::{CheckError, TypedQuery, check};
 
 /// How far a query is read.
 #[derive(Clone, Copy)]
 enum Reading {
     Syntax,
     Types,
-    SharedTypes,
 }
 
 fn reading_of(word: &str) -> Result<Reading> {
     Ok(match word {
         "syntax" => Reading::Syntax,
         "typed" => Reading::Types,
-        "shared" => Reading::SharedTypes,
         _ => bail!("no reading {word}"),
     })
 }
 
 /// What the types of a query were found to be.
-fn found<T: Drop>(typed: Result<T, CheckError>) -> &'static str {
+fn found(typed: Result<TypedQuery, CheckError>) -> &'static str {
     match typed {
         Ok(_typed) => "a typed query",
         Err(CheckError::Refused(_)) => "refused by its types",
@@ -54,7 +51,6 @@ fn read_once(
             Ok(query) => match reading {
                 Reading::Syntax => "a query",
                 Reading::Types => found(check(alloc, signatures, &query)),
-                Reading::SharedTypes => found(check_shared(alloc, signatures, &query)),
             },
         },
     }
@@ -63,7 +59,7 @@ fn read_once(
 /// What the words ask for.
 pub fn run(alloc: Global, words: &[String]) -> Result<String> {
     let [rounds, how, text @ ..] = words else {
-        bail!("words: query ROUNDS syntax|typed|shared QUERY");
+        bail!("words: query ROUNDS syntax|typed QUERY");
     };
     let rounds = rounds.parse::<u32>()?;
     let how = reading_of(how.as_str())?;

@@ -1,184 +1,143 @@
--- A chain of blocks that is followed.
-use Rattle.std.proofs.Common.{◌≡◌, ◌≢◌, ℕ, zero, suc, ◌+◌, ◌-◌, ◌*◌, ◌/◌, ◌%◌, ◌<◌, ◌≤◌, ◌⊎◌, inl, inr, List, [], ◌∷◌, ◌++◌, take, length, length-append, get_or, set, replicate, arith, refl, ap, sym, ◌∙◌}
-use Rattle.std.proofs.lemmas.Grind.{common_steps}
-use Rattle.std.proofs.lemmas.Bool.{cases_lt, cases_eq}
-use Rattle.std.proofs.lemmas.List.{get_or-set_same, get_or-set_other, get_or-append-add}
-use Rattle.std.proofs.Math.ListN.{get_or-append}
+-- A chain of blocks: followed, kept and written.
+use Rattle.std.proofs.Common.{add-one, below_more, ◌≡◌, ◌≢◌, ℕ, suc, ◌+◌, ◌-◌, ◌*◌, ◌/◌, ◌%◌, ◌<◌, ◌≤◌, List, length, get_or, set, arith, refl, ap, sym, ◌∙◌, get_or-set_same, get_or-set_other, zero, min}
+use Rattle.std.proofs.lemmas.Grind.{elements}
+use Rattle.std.proofs.lemmas.List.{get_or_past}
 use borrow.Rule.Slice.PartMut.{mid_of}
-use Rattle.block_file.specs.Blocks.{block_at}
-use Rattle.block_file.specs.Format.{number_at, next_of, link, chain_blocks, IsChain}
-use Rattle.block_file.specs.View.{IsFresh, MarksChain, ReadsLink, used_in, kept_in, use_count, uses_of}
+use Rattle.block_file.specs.State.{block_at, BlocksState, block, one, times, none}
+use Rattle.block_file.specs.Format.{next_of, link, chain_blocks, IsChain, number_at}
+use Rattle.block_file.specs.Links.{AddsLink, HoldsLink, HoldsLinks}
+use Rattle.block_file.specs.Words.{OthersKept, Recounts, Moves, AreLowestFree, HoldsChain}
 use Rattle.block_file.proofs.Places.{whole_inside}
-use Rattle.block_file.proofs.Numbers.{byte-mid, length-mid, get_or-zeros}
-use Rattle.block_file.proofs.Marks.{used-set, used-nil, used-cons, kept-nil, kept-cons, uses_same}
-
-link-next : (block : ℕ → List ℕ) (first n : ℕ) → link block first (n + 1) ≡ next_of block (link block first n)
-unfolding link
-link-next block first n = let e : n + 1 ≡ suc n = omega arith in ap (link block first) e
-
-link-zero : (block : ℕ → List ℕ) (first : ℕ) → link block first 0 ≡ first
-unfolding link
-link-zero block first = refl
+use Rattle.block_file.proofs.Times.{one_other, one_place, times_at}
 
 -- the first n blocks of a chain were read, and k is the next
 pub record Followed (block : ℕ → List ℕ) (first n k : ℕ) (marks metadata : List ℕ) : Type 0 where
   pub at : k ≡ link block first n
-  pub above_zero : (i : ℕ) → i < n → 0 < link block first i
-  pub whole : (i : ℕ) → i < n → length (block (link block first i)) ≡ 4096
+  pub each : (i : ℕ) → i < n → (0 < link block first i) × (length (block (link block first i)) ≡ 4096) × (get_or marks (link block first i) 0 ≡ 255)
   pub distinct : (i j : ℕ) → i < n → j < n → link block first i ≡ link block first j → i ≡ j
-  pub marked : (i : ℕ) → i < n → get_or marks (link block first i) 0 ≡ 255
   pub others : (j : ℕ) → 0 < j → ((i : ℕ) → i < n → link block first i ≢ j) → get_or marks j 0 ≡ 0
   pub bytes : (j : ℕ) → j < length metadata → get_or metadata j 0 ≡ get_or (block (link block first (j / 4092))) (4 + j % 4092) 0
 
 pub followed_none : (block : ℕ → List ℕ) (first : ℕ) (marks metadata : List ℕ) → ((j : ℕ) → 0 < j → get_or marks j 0 ≡ 0) → length metadata ≡ 0 → Followed block first 0 first marks metadata
+unfolding link
 followed_none block first marks metadata zeros none = record {
-  at = sym (link-zero block first);
-  above_zero = λ i lt. absurd (omega arith);
-  whole = λ i lt. absurd (omega arith);
+  at = refl;
+  each = λ i lt. absurd (omega arith);
   distinct = λ i j li lj e. absurd (omega arith);
-  marked = λ i lt. absurd (omega arith);
   others = λ j above out. zeros j above;
   bytes = λ j lt. absurd (omega arith);
 }
 
-below_or_last : (i n : ℕ) → i < n + 1 → (i < n) ⊎ (i ≡ n)
-below_or_last i n lt = elim (cases_lt i n) [ inl below ↦ inl below | inr le ↦ inr (omega arith) ]
-
-added_byte : (block : ℕ → List ℕ) (first n k following part j : ℕ) (old new : List ℕ) → k ≡ link block first n → length old ≡ 4092 * n → part ≤ 4092 → ReadsLink block k following part old new → length old ≤ j → j < length new → get_or new j 0 ≡ get_or (block (link block first (j / 4092))) (4 + j % 4092) 0
+added_byte : (block : ℕ → List ℕ) (first n k following part j : ℕ) (old new : List ℕ) → k ≡ link block first n → length old ≡ 4092 * n → part ≤ 4092 → AddsLink (block k) following part old new → length old ≤ j → j < length new → get_or new j 0 ≡ get_or (block (link block first (j / 4092))) (4 + j % 4092) 0
 added_byte block first n k following part j old new at full most read le lt =
-    let size = read.size in
     let there : length old + (j - length old) ≡ j = omega arith in
-    let whole : j / 4092 ≡ n = omega arith in
-    let rest : j % 4092 ≡ j - length old = omega arith in
-    ap (λ m. get_or new m 0) (sym there) ∙ read.added (j - length old) (omega arith)
-    ∙ ap (λ b. get_or (block b) (4 + (j - length old)) 0) at
-    ∙ ap (λ m. get_or (block (link block first m)) (4 + (j - length old)) 0) (sym whole)
-    ∙ ap (λ m. get_or (block (link block first (j / 4092))) (4 + m) 0) (sym rest)
+    let whole : j / 4092 ≡ n = omega (arith, read.size) in
+    let rest : j % 4092 ≡ j - length old = omega (arith, whole) in
+    rw (whole, rest, ← at) (rw there at (read.added (j - length old) (omega (arith, read.size))))
 
-pub followed_more : (block : ℕ → List ℕ) (first n k following part : ℕ) (marks old new : List ℕ) → get_or marks 0 0 ≡ 1 → k < length marks → get_or marks k 0 ≡ 0 → length old ≡ 4092 * n → part ≤ 4092 → Followed block first n k marks old → ReadsLink block k following part old new → Followed block first (n + 1) following (set marks k 255) new
-followed_more block first n k following part marks old new header inside unmarked full most so_far read =
+pub followed_more : (block : ℕ → List ℕ) (first n k following part : ℕ) (marks old new : List ℕ) → 0 < k → k < length marks → get_or marks k 0 ≡ 0 → length old ≡ 4092 * n → part ≤ 4092 → Followed block first n k marks old → length (block k) ≡ 4096 → AddsLink (block k) following part old new → Followed block first (n + 1) following (set marks k 255) new
+unfolding link
+followed_more block first n k following part marks old new above inside unmarked full most so_far whole read =
     let at = so_far.at in
-    let above : 0 < k = elim (cases_eq k 0) [
-      | inl e ↦ let same = ap (λ m. get_or marks m 0) e in absurd (omega arith)
-      | inr ne ↦ omega arith
-    ] in
-    let out : (i : ℕ) → i < n → link block first i ≢ k = λ i lt e. let same = ap (λ m. get_or marks m 0) e in let marked = so_far.marked i lt in omega arith in
+    let place : ℕ → ℕ = link block first in
+    let out : (i : ℕ) → i < n → place i ≢ k = λ i lt e. let same = ap (λ m. get_or marks m 0) e in let marked = (so_far.each i lt).2 in omega arith in
     record {
-      at = read.next ∙ ap (next_of block) at ∙ sym (link-next block first n);
-      above_zero = λ i lt. elim (below_or_last i n lt) [ inl below ↦ so_far.above_zero i below | inr e ↦ rw (e, ← at) above ];
-      whole = λ i lt. elim (below_or_last i n lt) [ inl below ↦ so_far.whole i below | inr e ↦ rw (e, ← at) read.whole ];
-      distinct = λ i j li lj same. elim (below_or_last i n li) [
-        | inl bi ↦ elim (below_or_last j n lj) [
-          | inl bj ↦ so_far.distinct i j bi bj same
-          | inr ej ↦ absurd (out i bi (same ∙ ap (link block first) ej ∙ sym at))
-        ]
-        | inr ei ↦ elim (below_or_last j n lj) [
-          | inl bj ↦ absurd (out j bj (sym same ∙ ap (link block first) ei ∙ sym at))
-          | inr ej ↦ ei ∙ sym ej
-        ]
-      ];
-      marked = λ i lt. elim (below_or_last i n lt) [
-        | inl below ↦ get_or-set_other marks k (link block first i) 255 0 (out i below) ∙ so_far.marked i below
-        | inr e ↦ ap (λ m. get_or (set marks k 255) m 0) (ap (link block first) e ∙ sym at) ∙ get_or-set_same marks k 255 0 inside
-      ];
+      at = rw add-one (read.next ∙ ap (next_of block) at);
+      each = below_more (λ i. (0 < place i) × (length (block (place i)) ≡ 4096) × (get_or (set marks k 255) (place i) 0 ≡ 255)) n
+          (λ i lt. let was = so_far.each i lt in (was.0, was.1, get_or-set_other marks k (place i) 255 0 (out i lt) ∙ was.2))
+          (rw (← at) (above, whole, get_or-set_same marks k 255 0 inside));
+      distinct = λ i j li lj. below_more (λ i. place i ≡ place j → i ≡ j) n
+          (λ i li. below_more (λ j. place i ≡ place j → i ≡ j) n (λ j lj. so_far.distinct i j li lj) (λ same. absurd (out i li (same ∙ sym at))) j lj)
+          (below_more (λ j. place n ≡ place j → n ≡ j) n (λ j lj same. absurd (out j lj (sym same ∙ sym at))) (λ same. refl) j lj) i li;
       others = λ j pos outside.
-          let ne : j ≢ k = λ e. outside n (omega arith) (sym at ∙ sym e) in
-          get_or-set_other marks k j 255 0 ne ∙ so_far.others j pos (λ i lt. outside i (omega arith));
-      bytes = λ j lt. elim (cases_lt j (length old)) [
-        | inl below ↦ read.kept j below ∙ so_far.bytes j below
-        | inr le ↦ added_byte block first n k following part j old new at full most read le lt
-      ];
+          get_or-set_other marks k j 255 0 (λ e. outside n (omega arith) (sym at ∙ sym e)) ∙ so_far.others j pos (λ i lt. outside i (omega arith));
+      bytes = λ j lt. grind (arith, λ (below : j < length old). read.kept j below ∙ so_far.bytes j below, λ (le : length old ≤ j). added_byte block first n k following part j old new at full most read le lt);
     }
-
--- the whole chain was read, and it ends
-pub followed_all : (block : ℕ → List ℕ) (first n : ℕ) (marks metadata : List ℕ) → 0 < length metadata → n ≡ chain_blocks (length metadata) → Followed block first n 0 marks metadata → IsChain block first metadata
-followed_all block first n marks metadata some count done = record {
-  some = some;
-  above_zero = λ i lt. done.above_zero i (omega arith);
-  whole = λ i lt. done.whole i (omega arith);
-  distinct = λ i j li lj e. done.distinct i j (omega arith) (omega arith) e;
-  ends = ap (link block first) (sym count) ∙ sym done.at;
-  bytes = done.bytes;
-}
-
-pub followed_marks : (block : ℕ → List ℕ) (first n k size : ℕ) (marks metadata : List ℕ) → n ≡ chain_blocks size → Followed block first n k marks metadata → MarksChain block first size marks
-followed_marks block first n k size marks metadata count done = record {
-  chain = λ i lt. done.marked i (omega arith);
-  others = λ j pos out. done.others j pos (λ i lt. out i (omega arith));
-}
 
 -- a chain that comes to a block that is past the end, the header or one that it met is none
 pub refuted : (content : List ℕ) (first n k : ℕ) (marks metadata chained : List ℕ) → length content ≡ 4096 * length marks → (k < length marks → get_or marks k 0 ≡ 0 → ⊥) → n < chain_blocks (length chained) → Followed (block_at content) first n k marks metadata → IsChain (block_at content) first chained → ⊥
 refuted content first n k marks metadata chained len refused more so_far chain =
     let inside = whole_inside content (link (block_at content) first n) (chain.whole n more) in
     let above = chain.above_zero n more in
-    let at = so_far.at in
-    refused (omega arith) (so_far.others k (omega arith) (λ i lt e.
-    let same = chain.distinct i n (omega arith) more (e ∙ at) in
+    refused (omega (arith, so_far.at)) (so_far.others k (omega (arith, so_far.at)) (λ i lt e.
+    let same = chain.distinct i n (omega arith) more (e ∙ so_far.at) in
     omega arith))
 
-pub refuted_end : (block : ℕ → List ℕ) (first n k : ℕ) (marks metadata chained : List ℕ) → k ≢ 0 → n ≡ chain_blocks (length chained) → Followed block first n k marks metadata → IsChain block first chained → ⊥
-refuted_end block first n k marks metadata chained ne count so_far chain =
-    ne (so_far.at ∙ ap (link block first) count ∙ chain.ends)
+-- a block that a chain has is kept, and the place of the next one with it
+pub same_link : (old new : ℕ → List ℕ) (first : ℕ) (metadata : List ℕ) → IsChain old first metadata → OthersKept 0 old new → (i : ℕ) → i ≤ chain_blocks (length metadata) → link new first i ≡ link old first i
+unfolding link
+same_link old new first metadata chain kept zero le = refl
+same_link old new first metadata chain kept (suc i) le =
+    ap (number_at 0 4) (ap new (same_link old new first metadata chain kept i (omega arith))
+    ∙ kept (link old first i) (let above = chain.above_zero i (omega arith) in omega arith) (chain.whole i (omega arith)))
 
-mid_added : (m part j : ℕ) (bytes old : List ℕ) → m ≡ part → part ≤ 4092 → length bytes ≡ 4096 → j < part → get_or (old ++ mid_of 4 m bytes) (length old + j) 0 ≡ get_or bytes (4 + j) 0
-mid_added m part j bytes old e most len lt = get_or-append-add old (mid_of 4 m bytes) j 0 ∙ byte-mid 4 m j bytes (omega arith)
-
--- a block that was read, and the part of it that was added
-pub linked : (content bytes old : List ℕ) (k m part following : ℕ) → m ≡ part → part ≤ 4092 → length bytes ≡ 4096 → bytes ≡ block_at content k → following ≡ number_at 0 4 bytes → ReadsLink (block_at content) k following part old (old ++ mid_of 4 m bytes)
-linked content bytes old k m part following e most len same next = record {
-  whole = rw (← same) len;
-  next = next ∙ ap (number_at 0 4) same;
-  size = omega (arith, length-append old (mid_of 4 m bytes), length-mid 4 m bytes (omega arith));
-  kept = λ j lt. get_or-append old (mid_of 4 m bytes) 0 j lt;
-  added = λ j lt. mid_added m part j bytes old e most len lt ∙ ap (λ (b : List ℕ). get_or b (4 + j) 0) same;
-}
-
--- marks of which the header alone is in use stay so
-pub fresh_kept : (marks : List ℕ) (k : ℕ) → IsFresh marks → k < length marks → get_or marks k 0 ≡ 0 → IsFresh (set marks k 255)
-fresh_kept marks k fresh inside unmarked =
-    let none : uses_of marks k ≡ 0 = ap use_count unmarked in
-    let above : k ≢ 0 = λ e. let same = ap (λ m. get_or marks m 0) e in let header = fresh.header in omega arith in
+-- a chain whose blocks are kept
+pub chain_kept : (old new : ℕ → List ℕ) (first : ℕ) (metadata : List ℕ) → IsChain old first metadata → OthersKept 0 old new → IsChain new first metadata
+chain_kept old new first metadata chain kept =
+    let same = same_link old new first metadata chain kept in
+    let block = λ (i : ℕ) (lt : i < chain_blocks (length metadata)). ap new (same i (omega arith)) ∙ kept (link old first i) (omega (arith, chain.above_zero i lt)) (chain.whole i lt) in
     record {
-      header = get_or-set_other marks k 0 255 0 (λ e. above (sym e)) ∙ fresh.header;
-      unused = λ j pos. elim (cases_eq j k) [
-        | inl e ↦ ap (λ m. uses_of (set marks k 255) m) e ∙ ap use_count (get_or-set_same marks k 255 0 inside)
-        | inr ne ↦ uses_same marks (set marks k 255) j (get_or-set_other marks k j 255 0 ne) ∙ fresh.unused j pos
-      ];
-      free = let free = fresh.free in omega (arith, used-set marks k 255 inside);
+      some = chain.some;
+      above_zero = λ i lt. rw (same i (omega arith)) (chain.above_zero i lt);
+      whole = λ i lt. ap length (block i lt) ∙ chain.whole i lt;
+      distinct = λ i j li lj e. chain.distinct i j li lj (sym (same i (omega arith)) ∙ e ∙ same j (omega arith));
+      ends = same (chain_blocks (length metadata)) (omega arith) ∙ chain.ends;
+      bytes = λ j lt. chain.bytes j lt ∙ ap (λ (b : List ℕ). get_or b (4 + j % 4092) 0) (sym (block (j / 4092) (omega arith)));
     }
 
-pub blank_at : (n k : ℕ) → 0 < k → get_or {A = ℕ} (1 ∷ replicate n 0) k 0 ≡ 0
-blank_at n zero pos = absurd (omega arith)
-blank_at n (suc k) pos = get_or-zeros n k
+-- the first n blocks of a list are written
+abbrev pub LinkedTo : ℕ → (ℕ → List ℕ) → List ℕ → List ℕ → Type 0
+LinkedTo n block ks metadata = (i : ℕ) → i < n → HoldsLink (block (get_or ks i 0)) i ks metadata
 
-used_zeros : (n : ℕ) → used_in (replicate n 0) ≡ 0
-used_zeros zero = used-nil
-used_zeros (suc n) = omega (arith, used-cons 0 (replicate n 0), used_zeros n)
+pub part_byte : (from n m j : ℕ) (metadata : List ℕ) → from + n ≤ length metadata → from + n ≡ min (length metadata) (from + m) → j < m → get_or (mid_of from n metadata) j 0 ≡ get_or metadata (from + j) 0
+part_byte from n m j metadata fits ends lt = grind (arith, elements, get_or_past)
 
--- marks of a header and of blocks in no use
-pub fresh_made : (n : ℕ) (marks : List ℕ) → marks ≡ 1 ∷ replicate n 0 → IsFresh marks
-fresh_made n marks e = rw e (record {
-  header = refl;
-  unused = λ k pos. ap use_count (blank_at n k pos);
-  free = omega (arith, used-cons 1 (replicate n 0), used_zeros n);
-})
+-- one more block is written
+pub linked_more : (n : ℕ) (old new : BlocksState) (bytes ks metadata : List ℕ) → n < length ks → ((k : ℕ) → times ks k ≤ 1) → ((k : ℕ) → 0 < times ks k → old.uses k ≡ 1)
+    → LinkedTo n (block old) ks metadata → Moves (one (get_or ks n 0)) (one (get_or ks n 0)) old new → block new (get_or ks n 0) ≡ bytes → HoldsLink bytes n ks metadata → LinkedTo (n + 1) (block new) ks metadata
+linked_more n old new bytes ks metadata inside once used so_far moves written made = below_more (λ i. HoldsLink (block new (get_or ks i 0)) i ks metadata) n (λ i below.
+    let before = so_far i below in
+    let apart : get_or ks n 0 ≢ get_or ks i 0 = λ e. let same = one_place ks n i once inside (omega arith) e in omega arith in
+    rw (moves.kept (get_or ks i 0) (omega (arith, one_other (get_or ks n 0) (get_or ks i 0) apart, used (get_or ks i 0) (times_at ks i (omega arith)))) before.whole) before)
+    (rw written made)
 
-kept_zeros : (n : ℕ) → kept_in (replicate n 0) ≡ 0
-kept_zeros zero = kept-nil
-kept_zeros (suc n) = omega (arith, kept-cons 0 (replicate n 0), kept_zeros n)
+-- the block at each place of the chain is that of the list, and behind the last comes 0
+link_at : (block : ℕ → List ℕ) (ks metadata : List ℕ) → LinkedTo (length ks) block ks metadata → (i : ℕ) → i ≤ length ks → link block (get_or ks 0 0) i ≡ get_or ks i 0
+unfolding link
+link_at block ks metadata linked zero le = refl
+link_at block ks metadata linked (suc i) le =
+    let here : link block (get_or ks 0 0) i ≡ get_or ks i 0 = link_at block ks metadata linked i (omega arith) in
+    let next : i + 1 ≡ suc i = omega arith in
+    ap (next_of block) here ∙ (linked i (omega arith)).next ∙ ap (λ m. get_or ks m 0) next
 
--- none of them is marked as metadata
-pub none_kept : (n : ℕ) (marks : List ℕ) → marks ≡ 1 ∷ replicate n 0 → kept_in marks ≡ 0
-none_kept n marks e = rw e (omega (arith, kept-cons 1 (replicate n 0), kept_zeros n))
+chain_made : (block : ℕ → List ℕ) (ks metadata : List ℕ) → 0 < length metadata → length ks ≡ chain_blocks (length metadata) → ((k : ℕ) → times ks k ≤ 1) → ((i : ℕ) → i < length ks → 0 < get_or ks i 0) → LinkedTo (length ks) block ks metadata → IsChain block (get_or ks 0 0) metadata
+chain_made block ks metadata some count once above linked =
+    let at = λ (i : ℕ) (le : i ≤ length ks). link_at block ks metadata linked i le in
+    record {
+      some = some;
+      above_zero = λ i lt. rw (at i (omega arith)) (above i (omega arith));
+      whole = λ i lt. rw (at i (omega arith)) (linked i (omega arith)).whole;
+      distinct = λ i j li lj e. one_place ks i j once (omega arith) (omega arith) (sym (at i (omega arith)) ∙ e ∙ at j (omega arith));
+      ends = ap (link block (get_or ks 0 0)) (sym count) ∙ at (length ks) (omega arith) ∙ get_or_past ks (length ks) 0 (omega arith);
+      bytes = λ j lt.
+          let inside : j / 4092 < length ks = omega arith in
+          let there : 4092 * (j / 4092) + j % 4092 ≡ j = omega arith in
+          sym ((linked (j / 4092) inside).part (j % 4092) (omega arith) ∙ ap (λ m. get_or metadata m 0) there)
+          ∙ ap (λ k. get_or (block k) (4 + j % 4092) 0) (sym (at (j / 4092) (omega arith)));
+    }
 
-pub unmarked_made : (n : ℕ) (marks : List ℕ) → marks ≡ 1 ∷ replicate n 0 → (k : ℕ) → 0 < k → get_or marks k 0 ≡ 0
-unmarked_made n marks e k pos = ap (λ (xs : List ℕ). get_or xs k 0) e ∙ blank_at n k pos
-
-whole_one : (n : ℕ) (xs : List ℕ) → 0 < n → xs ≡ 1 ∷ [] → take n xs ≡ 1 ∷ []
-whole_one n xs some e = grind (arith, common_steps)
-
-pub marks_made : (n len : ℕ) (none one : List ℕ) → 0 < n → none ≡ [] → one ≡ none ++ 1 ∷ [] → len ≡ 1 → take n one ++ replicate (n - len) 0 ≡ 1 ∷ replicate (n - 1) 0
-marks_made n len none one some is_none is_one is_len =
-    let front : take n one ≡ 1 ∷ [] = whole_one n one some (is_one ∙ ap (λ (xs : List ℕ). xs ++ 1 ∷ []) is_none) in
-    rw (front, is_len) refl
+-- blocks were taken, a chain was written into them, and they were given back
+pub holds_chain : (s0 s1 s2 s3 : BlocksState) (n : ℕ) (ks metadata : List ℕ) → 0 < length metadata → length ks ≡ chain_blocks (length metadata)
+    → AreLowestFree n ks s0 → Recounts none (times ks) s0 s1 → Moves (times ks) (times ks) s1 s2 → HoldsLinks ks metadata s2 → Recounts (times ks) none s2 s3
+    → HoldsChain (get_or ks 0 0) metadata s3
+holds_chain s0 s1 s2 s3 n ks metadata some count free taken written links given =
+    rw given.content (record {
+      chain = λ honest. chain_made (block s2) ks metadata some count free.once (λ i lt. (free.free (get_or ks i 0) (times_at ks i lt)).above_zero) (links (rw given.honest at honest));
+      padded = λ honest i j lt small past.
+          let linked = links (rw given.honest at honest) in
+          rw (link_at (block s2) ks metadata linked i (omega arith)) ((linked i (omega arith)).part j small ∙ get_or_past metadata (4092 * i + j) 0 past);
+      unused = λ honest i lt.
+          let k : ℕ = get_or ks i 0 in
+          let at = link_at (block s2) ks metadata (links (rw given.honest at honest)) i (omega arith) in
+          rw at (omega (arith, given.uses k, written.uses k, taken.uses k, (free.free k (times_at ks i (omega arith))).unused));
+    })

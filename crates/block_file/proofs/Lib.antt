@@ -1,9 +1,8 @@
 pub mod Chains
-pub mod Closing
-pub mod Fills
+pub mod Frames
+pub mod Free
 pub mod Headers
-pub mod Links
-pub mod Marks
+pub mod Markings
 pub mod Numbers
-pub mod Opening
 pub mod Places
+pub mod Times

@@ -2,7 +2,7 @@
 -- is the header.
 use Rattle.std.specs.Prelude.{◌≡◌, ◌≢◌, ℕ, zero, suc, ◌+◌, ◌*◌, ◌/◌, ◌%◌, ◌<◌, ◌≤◌, max, List, length, take, slice_index, codes}
 use Rattle.byteorder.specs.Endian.{little_from}
-use Rattle.block_file.specs.Blocks.{block_at}
+use Rattle.block_file.specs.State.{block_at}
 use Rattle.block_file.specs.declared.header.State.{State}
 use Rattle.block_file.specs.declared.header.State.TheVariants.{Open, Closed}
 
@@ -60,13 +60,17 @@ pub record IsChain (block : ℕ → List ℕ) (first : ℕ) (metadata : List ℕ
   pub some : 0 < length metadata
   pub above_zero : (i : ℕ) → i < chain_blocks (length metadata) → 0 < link block first i
   pub whole : (i : ℕ) → i < chain_blocks (length metadata) → length (block (link block first i)) ≡ 4096
-  pub distinct : (i j : ℕ) → i < chain_blocks (length metadata) → j < chain_blocks (length metadata) → link block first i ≡ link block first j → i ≡ j
+  pub distinct : (i j : ℕ) → i < chain_blocks (length metadata) → j < chain_blocks (length metadata)
+      → link block first i ≡ link block first j → i ≡ j
   pub ends : link block first (chain_blocks (length metadata)) ≡ 0
-  pub bytes : (j : ℕ) → j < length metadata → slice_index metadata j ≡ slice_index (block (link block first (j / 4092))) (4 + j % 4092)
+  pub bytes : (j : ℕ) → j < length metadata
+      → slice_index metadata j ≡ slice_index (block (link block first (j / 4092))) (4 + j % 4092)
 
 -- what a chain of so many bytes has behind them is zeros
 abbrev pub IsPadded : (ℕ → List ℕ) → ℕ → ℕ → Type 0
-IsPadded block first size = (i j : ℕ) → i < chain_blocks size → j < 4092 → size ≤ 4092 * i + j → slice_index (block (link block first i)) (4 + j) ≡ 0
+IsPadded block first size =
+    (i j : ℕ) → i < chain_blocks size → j < 4092 → size ≤ 4092 * i + j
+    → slice_index (block (link block first i)) (4 + j) ≡ 0
 
 -- the first metadata block, as the header has it
 abbrev pub first_of : List ℕ → ℕ
@@ -104,16 +108,21 @@ pub record HeaderTorn (old new : List ℕ) : Type 0 where
 
 -- a header that was there still is
 abbrev pub KeepsHeader : List ℕ → List ℕ → Type 0
-KeepsHeader old new = (state : State) (block_count from byte_count : ℕ) → IsHeader old state block_count from byte_count → IsHeader new state block_count from byte_count
+KeepsHeader old new =
+    (state : State) (block_count from byte_count : ℕ) → IsHeader old state block_count from byte_count
+    → IsHeader new state block_count from byte_count
 
 -- a closed file with this metadata, whose chain has the blocks that it had from block `first` on
 pub record ClosedWith (first : ℕ) (old new metadata : List ℕ) : Type 0 where
   pub closed : IsClosed new metadata
-  pub links : (i : ℕ) → i < chain_blocks (length metadata) → link (block_at new) (first_of new) i ≡ link (block_at old) first i
+  pub links : (i : ℕ) → i < chain_blocks (length metadata)
+      → link (block_at new) (first_of new) i ≡ link (block_at old) first i
 
 -- Closing makes the metadata that a chain from block `first` on held before that of the closed file.
 abbrev pub Closes : ℕ → ℕ → List ℕ → List ℕ → Type 0
-Closes first size old new = (metadata : List ℕ) → length metadata ≡ size → IsChain (block_at old) first metadata → ClosedWith first old new metadata
+Closes first size old new =
+    (metadata : List ℕ) → length metadata ≡ size → IsChain (block_at old) first metadata
+    → ClosedWith first old new metadata
 
 -- a last block that was cut short is filled with zeros; the number of blocks counts the header
 pub record Filled (old new : List ℕ) (blocks : ℕ) : Type 0 where
@@ -129,4 +138,6 @@ pub record Extends (old new : List ℕ) : Type 0 where
 
 -- A byte of the header has changed only where all that lies behind the header was synced before.
 abbrev pub HeaderLast : List ℕ → List ℕ → List ℕ → Type 0
-HeaderLast old new synced = (i : ℕ) → i < 4096 → i < length old → slice_index new i ≢ slice_index old i → (j : ℕ) → 4096 ≤ j → slice_index synced j ≡ slice_index new j
+HeaderLast old new synced =
+    (i : ℕ) → i < 4096 → i < length old → slice_index new i ≢ slice_index old i
+    → (j : ℕ) → 4096 ≤ j → slice_index synced j ≡ slice_index new j

@@ -1,3 +1,6 @@
-pub mod Blocks
+pub mod State
+pub mod Words
 pub mod Format
+pub mod Uses
 pub mod View
+pub mod Links

@@ -1,44 +1,43 @@
 //! A store file in a disk.
-ghost use Rattle.std.specs.Prelude.{◌≡◌, ◌≢◌, ◌≤◌, ◌<◌, ◌+◌, ◌-◌, ◌*◌, ◌/◌, ◌^◌, max, [], ◌∷◌, ℕ, List, length, slice_index, vec_capacity, IfOk, IfErr, OnOk, OnErr, IsErrOf, IsTrue};
-ghost use Rattle.disk_face.specs.Disk.{Rose, Counts};
-ghost use Rattle.block_file.specs.Blocks.{block_at};
-ghost use Rattle.block_file.specs.Format.{number_at, first_of, chain_blocks, IsStoreFile, IsHeader, IsClosed, IsDamaged, HeaderWritten, HeaderLast, Filled, Extends};
-ghost use Rattle.block_file.specs.View.{IsFresh, MarksChain, CanClaim, Claims, OpenCounts, free_in, kept_in};
+ghost use Rattle.std.specs.Prelude.{◌≡◌, ◌≤◌, ◌<◌, ◌*◌, length, IfOk, IfErr, IsErr, OnOk, OnErr, IsErrOf, IsTrue};
+ghost use Rattle.disk_face.specs.Disk.{Tells, Unwritten};
+ghost use Rattle.block_file.specs.State.{times, none};
+ghost use Rattle.block_file.specs.Words.{Recounts};
+ghost use Rattle.block_file.specs.Format.{Filled, Extends};
+ghost use Rattle.block_file.specs.View.{state_of, IsOpened, IsRefused};
+ghost use Rattle.block_file.specs.Uses.{IsFresh, CanClaim, Claims};
+ghost use Rattle.block_file.specs.Links.{IsClosedHeader};
 
-use crate::chain::{Layout, blank_marks, read_chain};
-use crate::free_list::{claim_all, give_back_all, make_list, take_all};
+use crate::chain::{Layout, read_chain};
 use crate::header::{Header, header_bytes, parse_header};
+use crate::marks::Marks;
 use crate::{BLOCK_BYTES, Blocks, Damaged, MAX_BLOCKS, OpenFault, State, TakeFault};
 use disk_face::{Disk, DiskFault};
 use std::alloc::Global;
 use std::marker::Model;
 
-/// The blocks of a disk. The room for the list of free blocks is that of a number a block.
+/// The blocks of a disk.
 #[derive(Drop)]
 pub struct BlockFile<D: Disk> {
     disk: D,
-    marks: Vec<u8>,
-    used: usize,
-    free: Vec<u32>,
-    is_listed: bool,
+    marks: Marks,
     alloc: Global,
 }
 
 impl<D: Disk> Model for BlockFile<D> {
-    ghost use Rattle.std.specs.Prelude.{vec_capacity};
-    ghost use Rattle.block_file.specs.View.{BlockFileView, IsSound};
+    ghost use Rattle.block_file.specs.View.{BlockFileView, IsWithin};
 
     ghost Value = { BlockFileView };
 
     ghost view = { λ s. record {
       content = D.content s.disk;
       synced = D.synced s.disk;
-      marks = s.marks.items;
+      marks = s.marks;
       failures = D.failures s.disk;
       honest = D.honest s.disk;
     } };
 
-    ghost invariant = { λ s. IsSound (D.content s.disk) (D.honest s.disk) s.marks.items s.free.items s.used (vec_capacity s.free) s.is_listed };
+    ghost invariant = { λ s. IsWithin (D.content s.disk) (D.honest s.disk) s.marks };
 }
 
 /// A file that was opened, and its metadata: empty for a disk without a byte, else what the chain holds, which is
@@ -64,45 +63,23 @@ impl<D: Disk> BlockFile<D> {
     /// another version; not closed for the state of an open file; damaged for any other departure from the format.
     /// Want of memory and a fault of the disk may come at any time.
     pub fn open(alloc: Global, mut disk: D) -> Result<Opened<D>, Refused<D>>
-        ensures new_file { IfOk result (λ opened. IsTrue (D.honest disk) → D.content disk ≡ [] → opened.metadata.items ≡ []) }
-        ensures closed { IfOk result (λ opened. IsTrue (D.honest disk) → 0 < length (D.content disk) → IsClosed (D.content disk) opened.metadata.items) }
-        ensures unique { IfOk result (λ opened. IsTrue (D.honest disk) → (metadata : List ℕ) → IsClosed (D.content disk) metadata → opened.metadata.items ≡ metadata) }
-        ensures marks { IfOk result (λ opened. IsTrue (D.honest disk) → 0 < length (D.content disk) → MarksChain (block_at (D.content disk)) (first_of (D.content disk)) (length opened.metadata.items) opened.file.marks) }
-        ensures kept { IfOk result (λ opened. IsTrue (D.honest disk) → 0 < length (D.content disk) → chain_blocks (length opened.metadata.items) ≤ kept_in opened.file.marks) }
-        ensures reserve { IfOk result (λ opened. kept_in opened.file.marks ≤ free_in opened.file.marks) }
-        ensures blocks { IfOk result (λ opened. IsTrue (D.honest disk) → length opened.file.marks ≡ max 1 (length (D.content disk) / 4096)) }
-        ensures whole { IfOk result (λ opened. IsTrue (D.honest disk) → (k : ℕ) → 0 < k → k < length opened.file.marks → length (block_at (D.content disk) k) ≡ 4096) }
-        ensures fresh { IfOk result (λ opened. IsFresh opened.file.marks) }
-        ensures content { IfOk result (λ opened. opened.file.content ≡ D.content disk) }
-        ensures synced { IfOk result (λ opened. opened.file.synced ≡ D.synced disk) }
-        ensures honest { IfOk result (λ opened. opened.file.honest ≡ D.honest disk) }
-        ensures failures { IfOk result (λ opened. opened.file.failures ≡ D.failures disk) }
-        ensures no_store { IfErr result (λ refused. refused.fault ≡ OpenFault.NotAStore → IsTrue (D.honest disk) → (0 < length (D.content disk)) × (IsStoreFile (D.content disk) → ⊥)) }
-        ensures left_open { IfErr result (λ refused. refused.fault ≡ OpenFault.NotClosed → IsTrue (D.honest disk) → IsStoreFile (D.content disk) × (number_at 12 4 (D.content disk) ≡ 1)) }
-        ensures damaged { IfErr result (λ refused. refused.fault ≡ OpenFault.Damaged → IsTrue (D.honest disk) → IsDamaged (D.content disk)) }
-        ensures disk_fault { IfErr result (λ refused. refused.fault ≡ OpenFault.DiskFault → Rose (D.failures disk) (D.failures refused.disk)) }
-        ensures other_fault { IfErr result (λ refused. refused.fault ≢ OpenFault.DiskFault → D.failures refused.disk ≡ D.failures disk) }
-        ensures same { IfErr result (λ refused. (D.content refused.disk ≡ D.content disk) × (D.synced refused.disk ≡ D.synced disk) × (D.honest refused.disk ≡ D.honest disk)) }
+        ensures opened { IfOk result (λ it.
+            IsTrue (D.honest disk) → IsOpened (D.content disk) it.metadata.items it.file.marks) }
+        ensures fresh { IfOk result (λ it. IsFresh it.file.marks) }
+        ensures content { IfOk result (λ it. it.file.content ≡ D.content disk) }
+        ensures synced { IfOk result (λ it. it.file.synced ≡ D.synced disk) }
+        ensures honest { IfOk result (λ it. it.file.honest ≡ D.honest disk) }
+        ensures failures { IfOk result (λ it. it.file.failures ≡ D.failures disk) }
+        ensures refused { IfErr result (λ it. IsTrue (D.honest disk) → IsRefused it.fault (D.content disk)) }
+        ensures same { IfErr result (λ it. Unwritten D.content D.synced D.honest disk it.disk) }
+        ensures told { IfErr result (λ r. Tells (r.fault ≡ OpenFault.DiskFault) (D.failures disk) (D.failures r.disk)) }
     {
         match read_layout(alloc, &mut disk) {
             Err(fault) => Err(Refused { disk, fault }),
-            Ok(Layout { marks, metadata }) => match Vec::with_capacity(alloc, marks.len()) {
-                Err(_) => Err(Refused {
-                    disk,
-                    fault: OpenFault::NoMemory,
-                }),
-                Ok(free) => Ok(Opened {
-                    file: BlockFile {
-                        disk,
-                        marks,
-                        used: 1,
-                        free,
-                        is_listed: false,
-                        alloc,
-                    },
-                    metadata,
-                }),
-            },
+            Ok(Layout { marks, metadata }) => Ok(Opened {
+                file: BlockFile { disk, marks, alloc },
+                metadata,
+            }),
         }
     }
 
@@ -111,22 +88,13 @@ impl<D: Disk> BlockFile<D> {
     /// `take`. Takes no memory.
     pub fn claim(&mut self, ks: &[u32]) -> Result<(), Damaged>
         ensures claims { OnOk result (Claims ks.now self.old.marks self.new.marks) }
-        ensures free { OnOk result (free_in self.new.marks + length ks.now ≡ free_in self.old.marks) }
+        ensures counts { OnOk result (Recounts none (times ks.now) (state_of self.old) (state_of self.new)) }
         ensures refused { OnErr result (CanClaim ks.now self.old.marks → ⊥) }
-        ensures err { OnErr result (self.new.marks ≡ self.old.marks) }
-        ensures kept { kept_in self.new.marks ≡ kept_in self.old.marks }
-        ensures reserve { kept_in self.new.marks ≤ free_in self.new.marks }
-        ensures content { self.new.content ≡ self.old.content }
-        ensures synced { self.new.synced ≡ self.old.synced }
-        ensures failures { self.new.failures ≡ self.old.failures }
-        ensures honest { self.new.honest ≡ self.old.honest }
+        ensures same { OnErr result (self.new ≡ self.old) }
     {
-        if !claim_all(&mut self.marks, ks) {
+        if !self.marks.claim(ks) {
             return Err(Damaged);
         }
-        self.used += ks.len();
-        self.free.clear();
-        self.is_listed = false;
         Ok(())
     }
 
@@ -140,9 +108,6 @@ impl<D: Disk> BlockFile<D> {
         let BlockFile {
             disk,
             marks: _,
-            used: _,
-            free: _,
-            is_listed: _,
             alloc: _,
         } = self;
         disk
@@ -150,22 +115,9 @@ impl<D: Disk> BlockFile<D> {
 }
 
 impl<D: Disk> Blocks for BlockFile<D> {
-    ghost use Rattle.std.specs.Prelude.{length};
-    ghost use Rattle.block_file.specs.View.{uses_of, free_in};
+    ghost use Rattle.block_file.specs.View.{state_of};
 
-    ghost content = { λ s. s.content };
-
-    ghost synced = { λ s. s.synced };
-
-    ghost uses = { λ s. uses_of s.marks };
-
-    ghost extent = { λ s. length s.marks };
-
-    ghost free_blocks = { λ s. free_in s.marks };
-
-    ghost failures = { λ s. s.failures };
-
-    ghost honest = { λ s. s.honest };
+    ghost state = { λ s. state_of s };
 
     fn read(&mut self, k: u32, bytes: &mut [u8; 4096]) -> Result<(), DiskFault> {
         self.disk.read_at(4096 * k as u64, bytes)?;
@@ -178,36 +130,27 @@ impl<D: Disk> Blocks for BlockFile<D> {
     }
 
     fn take(&mut self, n: usize) -> Result<Vec<u32>, TakeFault> {
-        if n > MAX_BLOCKS - self.used {
+        if n > self.marks.free() {
             return Err(TakeFault::NoRoom);
         }
         let mut taken = Vec::with_capacity(self.alloc, n)?;
-        let beyond = n.saturating_sub(self.marks.len() - self.used);
-        self.marks.reserve(beyond)?;
-        self.free
-            .reserve(self.marks.len() + beyond - self.free.len())?;
-        make_list(&mut self.marks, &mut self.free, self.is_listed);
-        self.is_listed = true;
-        take_all(&mut self.marks, &mut self.free, &mut taken, n);
-        self.used += n;
+        self.marks.reserve(n)?;
+        self.marks.take(&mut taken, n);
         Ok(taken)
     }
 
     fn give_back(&mut self, ks: &[u32]) {
-        make_list(&mut self.marks, &mut self.free, self.is_listed);
-        self.is_listed = true;
-        give_back_all(&mut self.marks, &mut self.free, ks);
-        self.used -= ks.len();
+        self.marks.give_back(ks);
     }
 
     fn free(&self) -> u32 {
-        (MAX_BLOCKS - self.used) as u32
+        self.marks.free() as u32
     }
 
-    fn write_header(&mut self, state: State, first: u32, length: u64) -> Result<(), DiskFault> {
+    fn write_header(&mut self, session: State, first: u32, length: u64) -> Result<(), DiskFault> {
         let blocks = fill_last_block(&mut self.disk)?;
         self.disk.sync()?;
-        let header = header_bytes(state, blocks, first, length);
+        let header = header_bytes(session, blocks, first, length);
         self.disk.write_at(0, &header)?;
         self.disk.sync()?;
         Ok(())
@@ -216,40 +159,37 @@ impl<D: Disk> Blocks for BlockFile<D> {
 
 /// Fills a last block that is cut short with zeros. Gives the number of blocks, the header counted.
 fn fill_last_block<D: Disk>(disk: &mut D) -> Result<u32, DiskFault>
-    ensures filled { IfOk result (λ blocks. IsTrue (D.honest disk.old) → length (D.content disk.old) ≤ 4096 * 1048576 → Filled (D.content disk.old) (D.content disk.new) blocks) }
+    requires { IsTrue (D.honest disk.old) → length (D.content disk.old) ≤ 4096 * 1048576 }
+    ensures filled { IfOk result (λ n.
+        IsTrue (D.honest disk.old) → Filled (D.content disk.old) (D.content disk.new) n) }
     ensures extends { IsTrue (D.honest disk.old) → Extends (D.content disk.old) (D.content disk.new) }
     ensures honest { D.honest disk.new ≡ D.honest disk.old }
-    ensures counts { Counts result (D.failures disk.old) (D.failures disk.new) }
+    ensures told { Tells (IsErr result) (D.failures disk.old) (D.failures disk.new) }
 {
     let length = disk.len();
+    let blocks = length.div_ceil(4096).clamp(1, MAX_BLOCKS as u64) as u32;
     let over = (length % 4096) as usize;
-    if over != 0 {
-        disk.write_at(length, &[0u8; 4096][over..])?;
+    if over == 0 {
+        return Ok(blocks);
     }
-    Ok(length.div_ceil(4096).clamp(1, MAX_BLOCKS as u64) as u32)
+    disk.write_at(length, &[0u8; 4096][over..])?;
+    Ok(blocks)
 }
 
 /// The layout of the file in a disk.
 fn read_layout<D: Disk>(alloc: Global, disk: &mut D) -> Result<Layout, OpenFault>
-    ensures new_file { IfOk result (λ layout. IsTrue (D.honest disk.old) → D.content disk.old ≡ [] → layout.metadata.items ≡ []) }
-    ensures closed { IfOk result (λ layout. IsTrue (D.honest disk.old) → 0 < length (D.content disk.old) → IsClosed (D.content disk.old) layout.metadata.items) }
-    ensures marks { IfOk result (λ layout. IsTrue (D.honest disk.old) → 0 < length (D.content disk.old) → MarksChain (block_at (D.content disk.old)) (first_of (D.content disk.old)) (length layout.metadata.items) layout.marks.items) }
-    ensures kept { IfOk result (λ layout. kept_in layout.marks.items ≡ chain_blocks (length layout.metadata.items)) }
-    ensures blocks { IfOk result (λ layout. IsTrue (D.honest disk.old) → length layout.marks.items ≡ max 1 (length (D.content disk.old) / 4096)) }
-    ensures within { IfOk result (λ layout. IsTrue (D.honest disk.old) → length (D.content disk.old) ≤ 4096 * length layout.marks.items) }
-    ensures few { IfOk result (λ layout. length layout.marks.items ≤ 1048576) }
-    ensures fresh { IfOk result (λ layout. IsFresh layout.marks.items) }
-    ensures no_store { IsErrOf result OpenFault.NotAStore → IsTrue (D.honest disk.old) → (0 < length (D.content disk.old)) × (IsStoreFile (D.content disk.old) → ⊥) }
-    ensures left_open { IsErrOf result OpenFault.NotClosed → IsTrue (D.honest disk.old) → IsStoreFile (D.content disk.old) × (number_at 12 4 (D.content disk.old) ≡ 1) }
-    ensures damaged { IsErrOf result OpenFault.Damaged → IsTrue (D.honest disk.old) → IsDamaged (D.content disk.old) }
-    ensures same { D.content disk.new ≡ D.content disk.old }
-    ensures synced { D.synced disk.new ≡ D.synced disk.old }
-    ensures honest { D.honest disk.new ≡ D.honest disk.old }
-    ensures counts { OpenCounts result (D.failures disk.old) (D.failures disk.new) }
+    ensures opened { IfOk result (λ it.
+        IsTrue (D.honest disk.old) → IsOpened (D.content disk.old) it.metadata.items it.marks) }
+    ensures fresh { IfOk result (λ it. IsFresh it.marks) }
+    ensures some { IfOk result (λ it. 0 < length it.marks) }
+    ensures few { IfOk result (λ it. length it.marks ≤ 1048576) }
+    ensures refused { IfErr result (λ fault. IsTrue (D.honest disk.old) → IsRefused fault (D.content disk.old)) }
+    ensures same { Unwritten D.content D.synced D.honest disk.old disk.new }
+    ensures told { Tells (IsErrOf result OpenFault.DiskFault) (D.failures disk.old) (D.failures disk.new) }
 {
     if disk.len() == 0 {
         return Ok(Layout {
-            marks: blank_marks(alloc, 1)?,
+            marks: Marks::blank(alloc, 1)?,
             metadata: Vec::new(alloc),
         });
     }
@@ -260,17 +200,13 @@ fn read_layout<D: Disk>(alloc: Global, disk: &mut D) -> Result<Layout, OpenFault
 
 /// The header of a closed file whose length is the number of blocks that it tells.
 fn read_header<D: Disk>(disk: &mut D) -> Result<Header, OpenFault>
-    ensures header { IfOk result (λ header. IsTrue (D.honest disk.old) → IsHeader (D.content disk.old) State.Closed header.blocks header.first header.length) }
-    ensures whole { IfOk result (λ header. IsTrue (D.honest disk.old) → length (D.content disk.old) ≡ 4096 * header.blocks) }
+    requires { IsTrue (D.honest disk.old) → 0 < length (D.content disk.old) }
+    ensures header { IfOk result (λ header. IsTrue (D.honest disk.old) → IsClosedHeader header (D.content disk.old)) }
     ensures some { IfOk result (λ header. 0 < header.blocks) }
     ensures few { IfOk result (λ header. header.blocks ≤ 1048576) }
-    ensures no_store { IsErrOf result OpenFault.NotAStore → IsTrue (D.honest disk.old) → IsStoreFile (D.content disk.old) → ⊥ }
-    ensures left_open { IsErrOf result OpenFault.NotClosed → IsTrue (D.honest disk.old) → IsStoreFile (D.content disk.old) × (number_at 12 4 (D.content disk.old) ≡ 1) }
-    ensures damaged { IsErrOf result OpenFault.Damaged → IsTrue (D.honest disk.old) → IsDamaged (D.content disk.old) }
-    ensures same { D.content disk.new ≡ D.content disk.old }
-    ensures synced { D.synced disk.new ≡ D.synced disk.old }
-    ensures honest { D.honest disk.new ≡ D.honest disk.old }
-    ensures counts { OpenCounts result (D.failures disk.old) (D.failures disk.new) }
+    ensures refused { IfErr result (λ fault. IsTrue (D.honest disk.old) → IsRefused fault (D.content disk.old)) }
+    ensures same { Unwritten D.content D.synced D.honest disk.old disk.new }
+    ensures told { Tells (IsErrOf result OpenFault.DiskFault) (D.failures disk.old) (D.failures disk.new) }
 {
     let length = disk.len();
     if length < BLOCK_BYTES as u64 {

@@ -1,6 +1,7 @@
 //! The header of a store file, and the numbers in its bytes.
-ghost use Rattle.std.specs.Prelude.{◌≡◌, ◌≢◌, ◌≤◌, ◌<◌, ◌+◌, ℕ, take, length, slice_index, IfOk, IsErrOf, IsTrue, ◌↔◌};
-ghost use Rattle.block_file.specs.Format.{number_at, magic_bytes, state_number, Put, IsStoreFile, IsHeader};
+ghost use Rattle.std.specs.Prelude.{◌≡◌, ◌≤◌, ◌<◌, ◌+◌, ◌^◌, ℕ, take, length, slice_index, IfOk, IfErr, IsTrue, ◌↔◌};
+ghost use Rattle.block_file.specs.Format.{number_at, magic_bytes, state_number, Put, IsHeader};
+ghost use Rattle.block_file.specs.Links.{IsNoHeader};
 
 use crate::OpenFault;
 use byteorder::{ByteOrder, LittleEndian};
@@ -53,20 +54,14 @@ fn u64_at(bytes: &[u8], at: usize) -> u64
     LittleEndian::read_u64(&bytes[at..])
 }
 
-/// Writes a number into four bytes from `at` on.
-pub(crate) fn put_u32(bytes: &mut [u8], at: usize, n: u32)
-    requires { at + 4 ≤ length bytes.old }
-    ensures { Put at 4 n bytes.old bytes.new }
+/// Writes a number into so many bytes from `at` on, the lowest first.
+pub(crate) fn put_number(bytes: &mut [u8], at: usize, width: usize, n: u64)
+    requires width { (1 ≤ width) × (width ≤ 8) }
+    requires inside { at + width ≤ length bytes.old }
+    requires fits { n < 256 ^ width }
+    ensures { Put at width n bytes.old bytes.new }
 {
-    LittleEndian::write_u32(&mut bytes[at..at + 4], n);
-}
-
-/// Writes a number into eight bytes from `at` on.
-fn put_u64(bytes: &mut [u8], at: usize, n: u64)
-    requires { at + 8 ≤ length bytes.old }
-    ensures { Put at 8 n bytes.old bytes.new }
-{
-    LittleEndian::write_u64(&mut bytes[at..at + 8], n);
+    LittleEndian::write_uint(&mut bytes[at..at + width], n, width);
 }
 
 /// A header whose fields are all zero.
@@ -84,11 +79,11 @@ pub(crate) fn header_bytes(state: State, blocks: u32, first: u32, length: u64) -
     ensures { IsHeader result state blocks first length }
 {
     let mut bytes = blank_header();
-    put_u32(&mut bytes, 8, VERSION);
-    put_u32(&mut bytes, 12, state.number());
-    put_u32(&mut bytes, 16, blocks);
-    put_u32(&mut bytes, 20, first);
-    put_u64(&mut bytes, 24, length);
+    put_number(&mut bytes, 8, 4, VERSION as u64);
+    put_number(&mut bytes, 12, 4, state.number() as u64);
+    put_number(&mut bytes, 16, 4, blocks as u64);
+    put_number(&mut bytes, 20, 4, first as u64);
+    put_number(&mut bytes, 24, 8, length);
     bytes
 }
 
@@ -96,11 +91,7 @@ pub(crate) fn header_bytes(state: State, blocks: u32, first: u32, length: u64) -
 /// for the state of an open one, then as damaged for another state or bytes behind the fields that are not zero.
 pub(crate) fn parse_header(bytes: &[u8; 4096]) -> Result<Header, OpenFault>
     ensures ok { IfOk result (λ header. IsHeader bytes.now State.Closed header.blocks header.first header.length) }
-    ensures no_store { IsErrOf result OpenFault.NotAStore → IsStoreFile bytes.now → ⊥ }
-    ensures left_open { IsErrOf result OpenFault.NotClosed → IsStoreFile bytes.now × (number_at 12 4 bytes.now ≡ 1) }
-    ensures damaged { IsErrOf result OpenFault.Damaged → IsStoreFile bytes.now × (number_at 12 4 bytes.now ≢ 1) × ((blocks first size : ℕ) → IsHeader bytes.now State.Closed blocks first size → ⊥) }
-    ensures memory { IsErrOf result OpenFault.NoMemory → ⊥ }
-    ensures disk { IsErrOf result OpenFault.DiskFault → ⊥ }
+    ensures refused { IfErr result (λ fault. IsNoHeader fault bytes.now) }
 {
     if bytes[..8] != MAGIC[..] || u32_at(bytes, 8) != VERSION {
         return Err(OpenFault::NotAStore);
@@ -109,7 +100,10 @@ pub(crate) fn parse_header(bytes: &[u8; 4096]) -> Result<Header, OpenFault>
     if state == State::Open.number() {
         return Err(OpenFault::NotClosed);
     }
-    if state != State::Closed.number() || !all_zero(&bytes[32..]) {
+    if state != State::Closed.number() {
+        return Err(OpenFault::Damaged);
+    }
+    if !all_zero(bytes, 32) {
         return Err(OpenFault::Damaged);
     }
     Ok(Header {
@@ -119,9 +113,10 @@ pub(crate) fn parse_header(bytes: &[u8; 4096]) -> Result<Header, OpenFault>
     })
 }
 
-/// Whether each byte is zero.
-fn all_zero(bytes: &[u8]) -> bool
-    ensures { IsTrue result ↔ ((i : ℕ) → i < length bytes.now → slice_index bytes.now i ≡ 0) }
+/// Whether each byte from `at` on is zero.
+fn all_zero(bytes: &[u8], at: usize) -> bool
+    requires { at ≤ length bytes.now }
+    ensures { IsTrue result ↔ ((i : ℕ) → at ≤ i → i < length bytes.now → slice_index bytes.now i ≡ 0) }
 {
-    bytes.iter().all(|byte| *byte == 0)
+    bytes[at..].iter().all(|byte| *byte == 0)
 }

@@ -49,8 +49,8 @@ pub record IsCatalogue (signatures : List Signature) : Type 0 where
   pub distinct : AreDistinct (names_of signatures)
 
 -- the signature with a name
-abbrev pub found : List ℕ → List Signature → Option Signature
-found name signatures = find (λ (s : Signature). bytes_eq s.name name) signatures
+abbrev pub listed : List ℕ → List Signature → Option Signature
+listed name signatures = find (λ (s : Signature). bytes_eq s.name name) signatures
 
 -- the signatures without the one with a name; the others keep their order
 abbrev pub without : List ℕ → List Signature → List Signature
@@ -70,5 +70,6 @@ abbrev pub IsRefused : List Signature → Signature → InsertError → Type 0
 IsRefused held s CoverageExists = Contains (names_of held) s.name
 IsRefused held s BadDomain = (¬ Contains (names_of held) s.name) × (s.domain ≡ [])
 IsRefused held s BadField = (¬ Contains (names_of held) s.name) × (1 ≤ length s.domain) × (¬ AreFields s.fields)
-IsRefused held s TooManyCoverages = (¬ Contains (names_of held) s.name) × (1 ≤ length s.domain) × AreFields s.fields × (1024 ≤ length held)
+IsRefused held s TooManyCoverages =
+    (¬ Contains (names_of held) s.name) × (1 ≤ length s.domain) × AreFields s.fields × (1024 ≤ length held)
 IsRefused held s NoMemory = MayInsert held s

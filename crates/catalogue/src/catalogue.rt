@@ -2,7 +2,7 @@
 
 ghost use Rattle.std.specs.Prelude.{◌≡◌, ◌≤◌, ◌<◌, [], ◌∷◌, ◌++◌, length, Contains, option_copied, IfOk, OnOk, IfErr, OnErr, IsErrOf, IsTrue, ◌↔◌};
 ghost use Rattle.arr_core.specs.Fields.{AreFields};
-ghost use Rattle.catalogue.specs.Signatures.{names_of, found, without, MayInsert, IsRefused, IsSignature, IsCatalogue};
+ghost use Rattle.catalogue.specs.Signatures.{names_of, listed, without, MayInsert, IsRefused, IsSignature, IsCatalogue};
 ghost use Rattle.catalogue.specs.Bytes.{catalogue_bytes};
 
 use crate::error::{InsertError, NoSuchCoverage};
@@ -77,6 +77,7 @@ impl Catalogue {
     }
 
     /// Adds a signature at the end. An error changes nothing.
+    #[tactic(auto, using(crate::proofs::Held::held_small))]
     pub(crate) fn push(&mut self, signature: Signature) -> Result<(), AllocError>
         requires { MayInsert self.old signature }
         ensures pushed { OnOk result (self.new ≡ self.old ++ signature ∷ []) }
@@ -121,7 +122,7 @@ impl Catalogue {
 
     /// The signature of the coverage with a name. Takes no memory.
     pub fn describe(&self, name: &Name) -> Option<&Signature>
-        ensures { option_copied result ≡ found name.now self.now }
+        ensures { option_copied result ≡ listed name.now self.now }
     {
         self.signatures.get(name.as_str())
     }
@@ -161,6 +162,7 @@ impl Catalogue {
 
     /// How many bytes `to_bytes` would give with one more signature, which has an axis, and 1 to 16
     /// fields with names of their own. Takes no memory.
+    #[tactic(auto, using(crate::proofs::Held::held_small, crate::proofs::Held::longer))]
     pub fn bytes_len_with(&self, signature: &Signature) -> u64
         requires axes { 1 ≤ length signature.now.domain }
         requires fields { AreFields signature.now.fields }

@@ -1,6 +1,6 @@
 //! How many bytes the parts of a catalogue are written in.
 
-ghost use Rattle.std.specs.Prelude.{◌≡◌, ◌+◌, ◌≤◌, length, flat_map, All};
+ghost use Rattle.std.specs.Prelude.{◌≡◌, ℕ, List, ◌+◌, ◌*◌, ◌^◌, ◌≤◌, ◌<◌, length, sum_by, All};
 ghost use Rattle.arr_core.specs.Names.{IsName};
 ghost use Rattle.arr_core.specs.Domains.{IsDomain};
 ghost use Rattle.arr_core.specs.Fields.{AreFields};
@@ -10,6 +10,7 @@ ghost use Rattle.catalogue.specs.Bytes.{name_bytes, axis_bytes, domain_bytes, fi
 use arr_core::{Axis, Field, Name, Signature};
 
 /// Of a name: at most 65 bytes.
+#[tactic(auto, using(crate::proofs::Names::name_short))]
 fn name_len(name: &Name) -> u64
     ensures value { result ≡ length (name_bytes name.now) }
     ensures small { result ≤ 65 }
@@ -25,53 +26,63 @@ fn bound_len(bound: i32) -> u64
     bound.to_le_bytes().len() as u64
 }
 
-/// Of an axis: at most 73 bytes.
-fn axis_len(axis: &Axis) -> u64
-    ensures value { result ≡ length (axis_bytes axis.now) }
-    ensures small { result ≤ 73 }
-    ensures axis { IsAxis axis.now }
-{
-    name_len(&axis.name) + bound_len(axis.lo) + bound_len(axis.hi)
+/// What stands in the lists of a coverage.
+trait Measured {
+    ghost is_value: { Self → Type 0 };
+
+    ghost code: { Self → List ℕ };
+
+    ghost most: { ℕ };
+
+    /// Of the part: at most `most` bytes.
+    fn bytes_len(&self) -> u64
+        ensures value { result ≡ length (code self.now) }
+        ensures small { result ≤ most }
+        ensures part { is_value self.now };
 }
 
-/// Of axes in turn, which are at most 4.
-fn axes_len(axes: &[Axis]) -> u64
-    requires { length axes.now ≤ 4 }
-    ensures value { result ≡ length (flat_map axis_bytes axes.now) }
-    ensures small { result ≤ 292 }
-    ensures each { All IsAxis axes.now }
-{
-    let mut total = 0;
-    for axis in axes {
-        total += axis_len(axis);
+impl Measured for Axis {
+    ghost is_value = { IsAxis };
+
+    ghost code = { axis_bytes };
+
+    ghost most = { 73 };
+
+    #[tactic(auto, using(crate::proofs::ByteCounts::axis_length))]
+    fn bytes_len(&self) -> u64 {
+        name_len(&self.name) + bound_len(self.lo) + bound_len(self.hi)
     }
-    total
 }
 
-/// Of a field: at most 66 bytes.
-fn field_len(field: &Field) -> u64
-    ensures value { result ≡ length (field_bytes field.now) }
-    ensures small { result ≤ 66 }
-    ensures field { IsField field.now }
-{
-    name_len(&field.name) + 1
+impl Measured for Field {
+    ghost is_value = { IsField };
+
+    ghost code = { field_bytes };
+
+    ghost most = { 66 };
+
+    #[tactic(auto, using(crate::proofs::ByteCounts::field_length))]
+    fn bytes_len(&self) -> u64 {
+        name_len(&self.name) + 1
+    }
 }
 
-/// Of fields in turn, which are at most 16.
-fn each_field_len(fields: &[Field]) -> u64
-    requires { length fields.now ≤ 16 }
-    ensures value { result ≡ length (flat_map field_bytes fields.now) }
-    ensures small { result ≤ 1056 }
-    ensures each { All IsField fields.now }
+/// Of parts in turn.
+fn list_len<T: Measured>(list: &[T]) -> u64
+    requires { T.most * length list.now < 2 ^ 64 }
+    ensures value { result ≡ sum_by (λ x. length (T.code x)) list.now }
+    ensures small { result ≤ T.most * length list.now }
+    ensures each { All T.is_value list.now }
 {
     let mut total = 0;
-    for field in fields {
-        total += field_len(field);
+    for part in list {
+        total += part.bytes_len();
     }
     total
 }
 
 /// Of a signature: at most 1,415 bytes.
+#[tactic(auto, using(crate::proofs::ByteCounts::signature_length))]
 pub fn signature_len(signature: &Signature) -> u64
     requires axes { 1 ≤ length signature.now.domain }
     requires fields { AreFields signature.now.fields }
@@ -81,5 +92,5 @@ pub fn signature_len(signature: &Signature) -> u64
 {
     let axes = signature.domain.axes();
     let fields = signature.fields.as_slice();
-    name_len(&signature.name) + 1 + axes_len(axes) + 1 + each_field_len(fields)
+    name_len(&signature.name) + 1 + list_len(axes) + 1 + list_len(fields)
 }

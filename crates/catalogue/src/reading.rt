@@ -21,6 +21,7 @@ use std::str::from_utf8;
 const MAX_FIELDS: u8 = 16;
 
 /// The name of these bytes.
+#[tactic(auto, using(crate::proofs::Names::name_utf8))]
 fn name_of(alloc: Global, bytes: &[u8]) -> Result<Name, ReadError>
     ensures same { IfOk result (λ name. name ≡ bytes.now) }
     ensures named { OnOk result (IsName bytes.now) }
@@ -51,35 +52,57 @@ fn read_name(alloc: Global, bytes: &mut Reader) -> Result<Name, ReadError>
     Ok(name)
 }
 
-/// The next axis.
-fn read_axis(alloc: Global, bytes: &mut Reader) -> Result<Axis, ReadError>
-    ensures read { IfOk result (λ axis. IsRead IsAxis axis_bytes bytes.old axis bytes.new) }
-    ensures damaged { IsErrOf result ReadError.Damaged → NoneIsRead IsAxis axis_bytes bytes.old }
-{
-    let name = read_name(alloc, bytes)?;
-    let Some(lo) = bytes.read_i32() else {
-        return Err(ReadError::Damaged);
-    };
-    let Some(hi) = bytes.read_i32() else {
-        return Err(ReadError::Damaged);
-    };
-    Ok(Axis { name, lo, hi })
+/// What is read from the bytes of a catalogue, alone or in lists.
+trait Readable: Sized + Drop {
+    ghost is_value: { Self → Type 0 };
+
+    ghost code: { Self → List ℕ };
+
+    /// The next one.
+    fn read(alloc: Global, bytes: &mut Reader) -> Result<Self, ReadError>
+        ensures read { IfOk result (λ part. IsRead is_value code bytes.old part bytes.new) }
+        ensures damaged { IsErrOf result ReadError.Damaged → NoneIsRead is_value code bytes.old };
 }
 
-/// The next `count` axes.
-fn read_axes(alloc: Global, bytes: &mut Reader, count: u8) -> Result<Vec<Axis>, ReadError>
-    ensures read { IfOk result (λ axes. IsRead (AreMany IsAxis count) (flat_map axis_bytes) bytes.old axes.items bytes.new) }
-    ensures damaged { IsErrOf result ReadError.Damaged → NoneIsRead (AreMany IsAxis count) (flat_map axis_bytes) bytes.old }
+/// The next `count` parts.
+fn read_list<T: Readable>(
+    alloc: Global,
+    bytes: &mut Reader,
+    count: u32,
+) -> Result<Vec<T>, ReadError>
+    ensures read { IfOk result
+        (λ list. IsRead (AreMany T.is_value count) (flat_map T.code) bytes.old list.items bytes.new) }
+    ensures damaged { IsErrOf result ReadError.Damaged
+        → NoneIsRead (AreMany T.is_value count) (flat_map T.code) bytes.old }
 {
-    let mut axes = Vec::new(alloc);
+    let mut list = Vec::new(alloc);
     for _ in 0..count {
-        let axis = read_axis(alloc, bytes)?;
-        axes.push(axis)?;
+        let part = T::read(alloc, bytes)?;
+        list.push(part)?;
     }
-    Ok(axes)
+    Ok(list)
+}
+
+impl Readable for Axis {
+    ghost is_value = { IsAxis };
+
+    ghost code = { axis_bytes };
+
+    #[tactic(auto, unfolding(crate::specs::Bytes::axis_bytes))]
+    fn read(alloc: Global, bytes: &mut Reader) -> Result<Axis, ReadError> {
+        let name = read_name(alloc, bytes)?;
+        let Some(lo) = bytes.read_i32() else {
+            return Err(ReadError::Damaged);
+        };
+        let Some(hi) = bytes.read_i32() else {
+            return Err(ReadError::Damaged);
+        };
+        Ok(Axis { name, lo, hi })
+    }
 }
 
 /// The next domain of a coverage.
+#[tactic(auto, unfolding(crate::specs::Bytes::domain_bytes))]
 fn read_domain(alloc: Global, bytes: &mut Reader) -> Result<Domain, ReadError>
     ensures read { IfOk result (λ domain. IsRead IsCoverageDomain domain_bytes bytes.old domain bytes.new) }
     ensures damaged { IsErrOf result ReadError.Damaged → NoneIsRead IsCoverageDomain domain_bytes bytes.old }
@@ -93,7 +116,7 @@ fn read_domain(alloc: Global, bytes: &mut Reader) -> Result<Domain, ReadError>
     if usize::from(count) > MAX_AXES {
         return Err(ReadError::Damaged);
     }
-    let axes = read_axes(alloc, bytes, count)?;
+    let axes = read_list(alloc, bytes, u32::from(count))?;
     match Domain::new(axes) {
         Ok(domain) => Ok(domain),
         Err(_) => Err(ReadError::Damaged),
@@ -114,35 +137,26 @@ fn type_of(number: u8) -> Option<FieldType>
     }
 }
 
-/// The next field.
-fn read_field(alloc: Global, bytes: &mut Reader) -> Result<Field, ReadError>
-    ensures read { IfOk result (λ field. IsRead IsField field_bytes bytes.old field bytes.new) }
-    ensures damaged { IsErrOf result ReadError.Damaged → NoneIsRead IsField field_bytes bytes.old }
-{
-    let name = read_name(alloc, bytes)?;
-    let Some(number) = bytes.read_u8() else {
-        return Err(ReadError::Damaged);
-    };
-    let Some(kind) = type_of(number) else {
-        return Err(ReadError::Damaged);
-    };
-    Ok(Field { name, kind })
-}
+impl Readable for Field {
+    ghost is_value = { IsField };
 
-/// The next `count` fields.
-fn read_each_field(alloc: Global, bytes: &mut Reader, count: u8) -> Result<Vec<Field>, ReadError>
-    ensures read { IfOk result (λ fields. IsRead (AreMany IsField count) (flat_map field_bytes) bytes.old fields.items bytes.new) }
-    ensures damaged { IsErrOf result ReadError.Damaged → NoneIsRead (AreMany IsField count) (flat_map field_bytes) bytes.old }
-{
-    let mut fields = Vec::new(alloc);
-    for _ in 0..count {
-        let field = read_field(alloc, bytes)?;
-        fields.push(field)?;
+    ghost code = { field_bytes };
+
+    #[tactic(auto, unfolding(crate::specs::Bytes::field_bytes))]
+    fn read(alloc: Global, bytes: &mut Reader) -> Result<Field, ReadError> {
+        let name = read_name(alloc, bytes)?;
+        let Some(number) = bytes.read_u8() else {
+            return Err(ReadError::Damaged);
+        };
+        let Some(kind) = type_of(number) else {
+            return Err(ReadError::Damaged);
+        };
+        Ok(Field { name, kind })
     }
-    Ok(fields)
 }
 
 /// The next fields of a coverage.
+#[tactic(auto, unfolding(crate::specs::Bytes::fields_bytes))]
 fn read_fields(alloc: Global, bytes: &mut Reader) -> Result<Fields, ReadError>
     ensures read { IfOk result (λ fields. IsRead AreCoverageFields fields_bytes bytes.old fields bytes.new) }
     ensures damaged { IsErrOf result ReadError.Damaged → NoneIsRead AreCoverageFields fields_bytes bytes.old }
@@ -153,7 +167,7 @@ fn read_fields(alloc: Global, bytes: &mut Reader) -> Result<Fields, ReadError>
     if count > MAX_FIELDS {
         return Err(ReadError::Damaged);
     }
-    let list = read_each_field(alloc, bytes, count)?;
+    let list = read_list(alloc, bytes, u32::from(count))?;
     let fields = Fields::new(list);
     if !fields.are_fields() {
         return Err(ReadError::Damaged);
@@ -161,35 +175,57 @@ fn read_fields(alloc: Global, bytes: &mut Reader) -> Result<Fields, ReadError>
     Ok(fields)
 }
 
-/// The next signature.
-fn read_signature(alloc: Global, bytes: &mut Reader) -> Result<Signature, ReadError>
-    ensures read { IfOk result (λ signature. IsRead IsSignature signature_bytes bytes.old signature bytes.new) }
-    ensures damaged { IsErrOf result ReadError.Damaged → NoneIsRead IsSignature signature_bytes bytes.old }
-{
-    let name = read_name(alloc, bytes)?;
-    let domain = read_domain(alloc, bytes)?;
-    let fields = read_fields(alloc, bytes)?;
-    Ok(Signature {
-        name,
-        domain,
-        fields,
-    })
+impl Readable for Signature {
+    ghost is_value = { IsSignature };
+
+    ghost code = { signature_bytes };
+
+    #[tactic(auto, unfolding(crate::specs::Bytes::signature_bytes))]
+    fn read(alloc: Global, bytes: &mut Reader) -> Result<Signature, ReadError> {
+        let name = read_name(alloc, bytes)?;
+        let domain = read_domain(alloc, bytes)?;
+        let fields = read_fields(alloc, bytes)?;
+        Ok(Signature {
+            name,
+            domain,
+            fields,
+        })
+    }
 }
 
-/// A catalogue of the next `count` signatures.
-fn read_signatures(alloc: Global, bytes: &mut Reader, count: u32) -> Result<Catalogue, ReadError>
-    requires { count ≤ 1024 }
-    ensures read { IfOk result (λ held. IsRead (IsCatalogueOf count) (flat_map signature_bytes) bytes.old held bytes.new) }
-    ensures damaged { IsErrOf result ReadError.Damaged → NoneIsRead (IsCatalogueOf count) (flat_map signature_bytes) bytes.old }
+/// The catalogue of signatures.
+fn catalogue_of(alloc: Global, signatures: Vec<Signature>) -> Result<Catalogue, ReadError>
+    requires few { length signatures.items ≤ 1024 }
+    requires each { All IsSignature signatures.items }
+    ensures same { IfOk result (λ held. held ≡ signatures.items) }
+    ensures catalogue { IfOk result (λ held. IsCatalogue held) }
+    ensures damaged { IsErrOf result ReadError.Damaged → ¬ IsCatalogue signatures.items }
 {
     let mut catalogue = Catalogue::new(alloc);
-    for _ in 0..count {
-        let signature = read_signature(alloc, bytes)?;
+    for signature in signatures {
         if catalogue.holds(&signature.name) {
             return Err(ReadError::Damaged);
         }
         catalogue.push(signature)?;
     }
+    let _count = catalogue.len();
+    Ok(catalogue)
+}
+
+/// The next catalogue.
+#[tactic(auto, unfolding(crate::specs::Bytes::catalogue_bytes))]
+fn read_catalogue(alloc: Global, bytes: &mut Reader) -> Result<Catalogue, ReadError>
+    ensures read { IfOk result (λ held. IsRead IsCatalogue catalogue_bytes bytes.old held bytes.new) }
+    ensures damaged { IsErrOf result ReadError.Damaged → NoneIsRead IsCatalogue catalogue_bytes bytes.old }
+{
+    let Some(count) = bytes.read_u32() else {
+        return Err(ReadError::Damaged);
+    };
+    if count as usize > MAX_COVERAGES {
+        return Err(ReadError::Damaged);
+    }
+    let signatures = read_list(alloc, bytes, count)?;
+    let catalogue = catalogue_of(alloc, signatures)?;
     Ok(catalogue)
 }
 
@@ -198,17 +234,13 @@ impl Catalogue {
     pub fn from_bytes(alloc: Global, bytes: &[u8]) -> Result<Catalogue, ReadError>
         ensures read { IfOk result (λ held. bytes.now ≡ catalogue_bytes held) }
         ensures catalogue { IfOk result (λ held. IsCatalogue held) }
-        ensures only { IfOk result (λ held. (other : List Signature) → IsCatalogue other → bytes.now ≡ catalogue_bytes other → other ≡ held) }
-        ensures damaged { IsErrOf result ReadError.Damaged → (other : List Signature) → IsCatalogue other → bytes.now ≡ catalogue_bytes other → ⊥ }
+        ensures only { IfOk result (λ held. (other : List Signature) → IsCatalogue other
+            → bytes.now ≡ catalogue_bytes other → other ≡ held) }
+        ensures damaged { IsErrOf result ReadError.Damaged → (other : List Signature) → IsCatalogue other
+            → bytes.now ≡ catalogue_bytes other → ⊥ }
     {
         let mut rest = Reader::new(bytes);
-        let Some(count) = rest.read_u32() else {
-            return Err(ReadError::Damaged);
-        };
-        if count as usize > MAX_COVERAGES {
-            return Err(ReadError::Damaged);
-        }
-        let catalogue = read_signatures(alloc, &mut rest, count)?;
+        let catalogue = read_catalogue(alloc, &mut rest)?;
         if rest.len() != 0 {
             return Err(ReadError::Damaged);
         }

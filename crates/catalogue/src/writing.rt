@@ -19,6 +19,7 @@ fn push_u8(bytes: &mut Vec<u8>, byte: u8) -> Result<(), AllocError>
 }
 
 /// Writes a name after the bytes.
+#[tactic(auto, using(crate::proofs::Names::name_short))]
 fn push_name(bytes: &mut Vec<u8>, name: &Name) -> Result<(), AllocError>
     ensures { OnOk result (bytes.new.items ≡ bytes.old.items ++ name_bytes name.now) }
 {
@@ -42,6 +43,7 @@ pub fn type_number(kind: FieldType) -> u8
 }
 
 /// Writes an axis after the bytes.
+#[tactic(auto, unfolding(crate::specs::Bytes::axis_bytes))]
 fn push_axis(bytes: &mut Vec<u8>, axis: &Axis) -> Result<(), AllocError>
     ensures { OnOk result (bytes.new.items ≡ bytes.old.items ++ axis_bytes axis.now) }
 {
@@ -52,6 +54,7 @@ fn push_axis(bytes: &mut Vec<u8>, axis: &Axis) -> Result<(), AllocError>
 }
 
 /// Writes axes after the bytes: how many there are, and each in turn.
+#[tactic(auto, unfolding(crate::specs::Bytes::domain_bytes))]
 fn push_axes(bytes: &mut Vec<u8>, axes: &[Axis]) -> Result<(), AllocError>
     requires { length axes.now < 256 }
     ensures { OnOk result (bytes.new.items ≡ bytes.old.items ++ domain_bytes axes.now) }
@@ -64,6 +67,7 @@ fn push_axes(bytes: &mut Vec<u8>, axes: &[Axis]) -> Result<(), AllocError>
 }
 
 /// Writes a field after the bytes.
+#[tactic(auto, unfolding(crate::specs::Bytes::field_bytes))]
 fn push_field(bytes: &mut Vec<u8>, field: &Field) -> Result<(), AllocError>
     ensures { OnOk result (bytes.new.items ≡ bytes.old.items ++ field_bytes field.now) }
 {
@@ -73,6 +77,7 @@ fn push_field(bytes: &mut Vec<u8>, field: &Field) -> Result<(), AllocError>
 }
 
 /// Writes fields after the bytes: how many there are, and each in turn.
+#[tactic(auto, unfolding(crate::specs::Bytes::fields_bytes))]
 fn push_fields(bytes: &mut Vec<u8>, fields: &[Field]) -> Result<(), AllocError>
     requires { length fields.now < 256 }
     ensures { OnOk result (bytes.new.items ≡ bytes.old.items ++ fields_bytes fields.now) }
@@ -85,6 +90,7 @@ fn push_fields(bytes: &mut Vec<u8>, fields: &[Field]) -> Result<(), AllocError>
 }
 
 /// Writes a signature after the bytes.
+#[tactic(auto, unfolding(crate::specs::Bytes::signature_bytes))]
 fn push_signature(bytes: &mut Vec<u8>, signature: &Signature) -> Result<(), AllocError>
     requires { length signature.now.fields < 256 }
     ensures { OnOk result (bytes.new.items ≡ bytes.old.items ++ signature_bytes signature.now) }

@@ -13,8 +13,8 @@ use Rattle.wcps_text.specs.Grammar.{IsSpelled}
 use Rattle.wcps_text.specs.Tree.{QueryTree, query_view}
 use Rattle.wcps_parse.specs.Outcome.{IsWithinLimits, IsTooDeep}
 use Rattle.wcps_types.specs.Queries.{typ_query}
-use Rattle.wcps_types.specs.declared.shared.SharedQuery.{SharedQuery}
-use Rattle.wcps_types.specs.SharedQueries.{shared_query_view as typed_view}
+use Rattle.wcps_types.specs.declared.typed_query.TypedQuery.{TypedQuery}
+use Rattle.wcps_types.specs.TypedQueries.{query_view as typed_view}
 use Rattle.raster_store.specs.Calls.{signature_of}
 use Rattle.coverage_server.specs.Views.{ServerView, IsSound}
 use Rattle.coverage_server.proofs.TypedLemmas.{typed-held, typed-some}
@@ -67,7 +67,7 @@ by_query store text ts q r short cut x is =
     by_tokens store text ts r short cut
     (subst (λ (b : TypedAnswer). TokensTyped store (map tok ts) b) (tree_within store (query_view q) x.2 ∙ is) (query (query_view q) x.0 x.1))
 
-pub text_types : (store : Store) (text : List ℕ) (ts : List Token) (q : Query) (r : Result SharedQuery Refusal) → length text ≤ 65536 → Lexed 0 text (map piece ts)
+pub text_types : (store : Store) (text : List ℕ) (ts : List Token) (q : Query) (r : Result TypedQuery Refusal) → length text ≤ 65536 → Lexed 0 text (map piece ts)
     → GivesQuery (map tok ts) (Ok q) → GivesTyped (typ_query (map signature_of store) (query_view q)) r → GivesText store text r
 text_types store text ts q (Ok typed) short cut x g = record {
   typed = by_query store text ts q (Ok (typed_view typed)) short cut x (ap numbered g);
@@ -94,7 +94,7 @@ refused_text v text DiskFault x = absurd x
 refused_text v text NoRoom x = absurd x
 refused_text v text Damaged x = absurd x
 
-module _ (v w : ServerView) (still : w.store ≡ v.store) (text : List ℕ) (q : SharedQuery) (typed : TextTyped v.store text (Ok (typed_view q))) where
+module _ (v w : ServerView) (still : w.store ≡ v.store) (text : List ℕ) (q : TypedQuery) (typed : TextTyped v.store text (Ok (typed_view q))) where
   pub refused_values : (e : Refusal) → (IsSound v → GivesValues (evaluated v.store (Ok (typed_view q))) (Err e)) → FailsReading v w e → Answered (Answers text) ⊥ v w (Err e)
   refused_values (Numbered code) is fails = refused v w text code still (λ sound. (Ok (typed_view q), typed, sym (is sound)))
   refused_values NoMemory is fails = tt

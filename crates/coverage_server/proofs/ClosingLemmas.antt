@@ -1,11 +1,12 @@
 -- The metadata that a closing writes is that of the store, and the disk then holds it.
-use Rattle.std.proofs.Common.{◌≡◌, ◌≢◌, ℕ, ◌+◌, ◌/◌, ◌<◌, ◌≤◌, Bool, true, false, List, [], ◌∷◌, ◌++◌, length, take, get_or, Option, None, Some, Result, Ok, Err, OnOk, refl, sym, ap, ◌∙◌, subst, arith, Contains, inr, append_assoc, append-nil}
+use Rattle.std.proofs.Common.{◌≡◌, ◌≢◌, ℕ, ◌+◌, ◌/◌, ◌<◌, ◌≤◌, Bool, true, false, List, [], ◌∷◌, ◌++◌, length, take, get_or, Option, None, Some, Result, Ok, Err, OnOk, refl, sym, ap, ◌∙◌, subst, arith, Contains, inl, inr, append_assoc, append-nil}
 use Rattle.std.specs.Prelude.{IsErrOf, IsSomeAnd, IsTrue, slice_get}
 use Rattle.std.specs.List.{flat_map}
 use Rattle.std.specs.Str.{bytes_eq}
 use Rattle.std.proofs.lemmas.Grind.{flat_map-append}
 use Rattle.std.proofs.lemmas.List.{take_more, take_all}
 use Rattle.std.proofs.lemmas.Option.{slice_get_within, get_or_from_slice_get}
+use Rattle.std.proofs.lemmas.Bool.{cases_eq}
 use Rattle.std.proofs.lemmas.Slice.Eq.{bytes_eq-Decides}
 use Rattle.arr_core.specs.declared.signature.Signature.{Signature}
 use Rattle.arr_core.specs.Names.{AreDistinct}
@@ -13,23 +14,25 @@ use Rattle.arr_core.specs.Stores.{Coverage, Store, found}
 use Rattle.catalogue.specs.Bytes.{catalogue_bytes}
 use Rattle.catalogue.specs.Signatures.{names_of, IsCatalogue}
 use Rattle.catalogue.proofs.Held.{contains_here, contains_later}
-use Rattle.block_file.specs.Blocks.{block_at}
-use Rattle.block_file.specs.Format.{IsChain, Closes, link, chain_blocks}
+use Rattle.block_file.specs.State.{BlocksState, block, block_at, free_up_to}
+use Rattle.block_file.specs.Format.{Closes, link, chain_blocks}
+use Rattle.block_file.specs.Words.{HoldsChain}
 use Rattle.block_file.proofs.Places.{whole_inside}
 use Rattle.metadata.proofs.Sizes.{length_metadata}
 use Rattle.metadata.specs.Metadata.{part_bytes, indexes_bytes, metadata_bytes, AreCounted}
 use Rattle.tile_index.specs.Bytes.{index_bytes}
-use Rattle.raster_store.specs.Views.{Index, times_all, metadata_size, fields_size, AreIntact}
+use Rattle.raster_store.specs.Views.{Index, listed_all, metadata_size, fields_size, AreIntact}
 use Rattle.raster_store.specs.Calls.{index_of, AreWhole, AreListed}
 use Rattle.coverage_server.specs.Views.{signatures_of, IsClosable}
-use Rattle.disk_face.specs.Disk.{Rose}
+use Rattle.disk_face.specs.Disk.{Tells}
 use Rattle.tile_store.specs.declared.fault.Fault.{Fault}
 use Rattle.tile_store.specs.declared.fault.Fault.TheVariants as device
-use Rattle.tile_store.specs.Faults.{FaultCounts}
 use Rattle.coverage_server.specs.declared.closing.CloseFault.{CloseFault}
 use Rattle.coverage_server.specs.declared.closing.CloseFault.TheVariants as closing
 use Rattle.coverage_server.specs.Closing.{indexes_named, field_indexes, bytes_named, bytes_written, IsWritten, close_fault}
 use Rattle.coverage_server.specs.Disk.{AreTiles, HoldsStore}
+use Rattle.coverage_server.proofs.FaultLemmas.{tells_as, tells_none}
+use Rattle.coverage_server.proofs.FreeLemmas.{free_unlisted}
 
 -- the index of a field is one of those of its coverage
 pub index_named : (name : List ℕ) (field : ℕ) (store : Store) (indexes : List (List Index)) → index_of name field store indexes ≡ slice_get (indexes_named name store indexes) field
@@ -122,9 +125,10 @@ block_within : (content : List ℕ) (k : ℕ) → length (block_at content k) �
 block_within content k whole = let e = whole_inside content k whole in omega (arith, e)
 
 -- what was closed holds the store
-pub holds : (content : List ℕ) (uses : ℕ → ℕ) (honest : Bool) (store : Store) (indexes : List (List Index)) → AreListed content uses honest store indexes → IsTrue honest
-    → IsCatalogue (signatures_of store) → IsWritten content (metadata_bytes (signatures_of store) indexes) indexes → AreIntact content store indexes → HoldsStore content store
-holds content uses honest store indexes l h k w intact = record {
+pub holds : (s : BlocksState) (store : Store) (indexes : List (List Index)) → AreListed s store indexes → IsTrue s.honest
+    → IsCatalogue (signatures_of store) → ((k : ℕ) → listed_all indexes k ≤ 1) → listed_all indexes 0 ≡ 0
+    → IsWritten s.content (metadata_bytes (signatures_of store) indexes) indexes → AreIntact s.content store indexes → HoldsStore s.content store
+holds s store indexes l h k once zero w intact = record {
   indexes = indexes;
   lists = inr (record {
     metadata = metadata_bytes (signatures_of store) indexes;
@@ -134,10 +138,13 @@ holds content uses honest store indexes l h k w intact = record {
       written = record { catalogue = k; counted = are_counted store indexes l.each; written = refl };
       tiles = are_tiles store indexes l.each;
       blocks = λ n more. record {
-        once = (l.used n more).0;
-        above_zero = (l.used n more).2;
-        within = block_within content n (l.whole h n more);
-        apart = λ i below same. let none : times_all n indexes ≡ 0 = subst (λ (m : ℕ). times_all m indexes ≡ 0) same (w.apart i below) in absurd (omega (arith, none, more));
+        once = (let least = once n in omega (arith, least, more));
+        above_zero = elim (cases_eq n 0) [
+          | inl e ↦ absurd (let none : listed_all indexes n ≡ 0 = rw e zero in omega (arith, none, more))
+          | inr other ↦ omega (arith, other)
+        ];
+        within = block_within s.content n (l.whole h n more);
+        apart = λ i below same. let none : listed_all indexes n ≡ 0 = subst (λ (m : ℕ). listed_all indexes m ≡ 0) same (w.apart i below) in absurd (omega (arith, none, more));
       };
     };
     is = l.values;
@@ -145,16 +152,17 @@ holds content uses honest store indexes l h k w intact = record {
   intact = intact;
 }
 
--- what a write of the header makes of a chain that was written before
-pub is_written : (first : ℕ) (mid new shown metadata : List ℕ) (indexes later : List (List Index)) → shown ≡ metadata → IsChain (block_at mid) first shown
-    → Closes first (length shown) mid new → ((i : ℕ) → i < chain_blocks (length shown) → times_all (link (block_at mid) first i) indexes ≡ 0) → later ≡ indexes
+-- what a write of the header makes of a chain that was written before, in blocks that are in no use
+pub is_written : (first : ℕ) (mid : BlocksState) (new shown metadata : List ℕ) (indexes later : List (List Index)) → IsTrue mid.honest → shown ≡ metadata
+    → HoldsChain first shown mid → Closes first (length shown) mid.content new → ((k : ℕ) → mid.uses k ≡ listed_all indexes k) → later ≡ indexes
     → IsWritten new metadata later
-is_written first mid new shown metadata indexes later is chain closes apart same =
-    let w = closes shown refl chain in
+is_written first mid new shown metadata indexes later honest is holds closes counted same =
+    let w = closes shown refl (holds.chain honest) in
     subst (λ (m : List ℕ). IsWritten new m later) is
     (record {
       closed = w.closed;
-      apart = λ i below. ap (λ (k : ℕ). times_all k later) (w.links i below) ∙ ap (λ (l : List (List Index)). times_all (link (block_at mid) first i) l) same ∙ apart i below;
+      apart = λ i below. ap (listed_all later) (w.links i below) ∙ ap (λ (l : List (List Index)). listed_all l (link (block mid) first i)) same
+          ∙ sym (counted (link (block mid) first i)) ∙ holds.unused honest i below;
     })
 
 -- the metadata that is written fits the blocks that are kept free for it
@@ -162,18 +170,19 @@ pub metadata_some : (catalogue : ℕ) (indexes : List (List Index)) → 0 < meta
 unfolding metadata_size
 metadata_some catalogue indexes = omega arith
 
-pub written_fits : (metadata : List ℕ) (catalogue : List Signature) (store : Store) (indexes : List (List Index)) (free : ℕ) → metadata ≡ bytes_written store indexes
-    → AreWhole store indexes → IsCatalogue catalogue → IsClosable catalogue store indexes free
-    → (metadata ≡ metadata_bytes (signatures_of store) indexes) × (0 < length metadata) × (chain_blocks (length metadata) ≤ free)
-written_fits metadata catalogue store indexes free is w k room =
-    let known : IsCatalogue (signatures_of store) = subst IsCatalogue room.signatures k in
+pub written_fits : (metadata : List ℕ) (catalogue : List Signature) (store : Store) (indexes : List (List Index)) (uses : ℕ → ℕ) → metadata ≡ bytes_written store indexes
+    → AreWhole store indexes → IsCatalogue catalogue → IsClosable catalogue store indexes uses
+    → (metadata ≡ metadata_bytes (signatures_of store) indexes) × (0 < length metadata) × (chain_blocks (length metadata) ≤ free_up_to 1048575 uses)
+written_fits metadata catalogue store indexes uses is w k ready =
+    let known : IsCatalogue (signatures_of store) = subst IsCatalogue ready.signatures k in
     let same : metadata ≡ metadata_bytes (signatures_of store) indexes = is ∙ metadata_written store indexes w known in
     let size : length metadata ≡ metadata_size (length (catalogue_bytes catalogue)) indexes =
     ap (λ (l : List ℕ). length l) same ∙ metadata_length (signatures_of store) indexes
-    ∙ ap (λ (l : List Signature). metadata_size (length (catalogue_bytes l)) indexes) (sym room.signatures) in (
+    ∙ ap (λ (l : List Signature). metadata_size (length (catalogue_bytes l)) indexes) (sym ready.signatures) in
+    let free = free_unlisted uses indexes ready.counted in (
       same,
       subst (λ (n : ℕ). 0 < n) (sym size) (metadata_some (length (catalogue_bytes catalogue)) indexes),
-      subst (λ (n : ℕ). chain_blocks n ≤ free) (sym size) room.room,
+      rw (size, free) ready.room,
     )
 
 -- where nothing is listed nothing is written
@@ -190,17 +199,10 @@ pub on_ok : {X E : Type 0} (r : Result X E) (P Q : Type 0) → (P → Q) → OnO
 on_ok (Ok x) P Q f p = f p
 on_ok (Err e) P Q f p = tt
 
--- where memory was wanting for the metadata no failure was counted
-pub not_counted : (T U : Type 0) (fault : Fault) (told : CloseFault) (old new : ℕ) → told ≡ close_fault fault → FaultCounts {T = T} (Err fault) old new
-    → IsErrOf {T = U} (Err told) closing.NoMemory → new ≡ old
-not_counted T U device.NoMemory told old new is counts wants = counts.others (λ (e : IsErrOf {T = T} (Err device.NoMemory) device.DiskFault). absurd cc)
-not_counted T U device.DiskFault told old new is counts wants = absurd cc
-not_counted T U device.NoRoom told old new is counts wants = counts.others (λ (e : IsErrOf {T = T} (Err device.NoRoom) device.DiskFault). absurd cc)
-not_counted T U device.Damaged told old new is counts wants = counts.others (λ (e : IsErrOf {T = T} (Err device.Damaged) device.DiskFault). absurd cc)
-
-pub counted : (T U : Type 0) (fault : Fault) (told : CloseFault) (old new : ℕ) → told ≡ close_fault fault → FaultCounts {T = T} (Err fault) old new
-    → IsErrOf {T = U} (Err told) closing.DiskFault → Rose old new
-counted T U device.NoMemory told old new is counts wants = absurd cc
-counted T U device.DiskFault told old new is counts wants = counts.disk refl
-counted T U device.NoRoom told old new is counts wants = absurd cc
-counted T U device.Damaged told old new is counts wants = absurd cc
+-- what a refused closing tells of the disk
+pub close_told : (T U : Type 0) (fault : Fault) (told : CloseFault) (old new : ℕ) → told ≡ close_fault fault
+    → Tells (IsErrOf {T = T} (Err fault) device.DiskFault) old new → Tells (IsErrOf {T = U} (Err told) closing.DiskFault) old new
+close_told T U device.NoMemory told old new is t = tells_none _ _ old new (λ e. absurd cc) (λ e. absurd cc) t
+close_told T U device.DiskFault told old new is t = tells_as _ _ old new (λ e. ap Err is) (λ e. refl) t
+close_told T U device.NoRoom told old new is t = tells_none _ _ old new (λ e. absurd cc) (λ e. absurd cc) t
+close_told T U device.Damaged told old new is t = tells_none _ _ old new (λ e. absurd cc) (λ e. absurd cc) t

@@ -343,7 +343,7 @@ module _ (v w : ServerView) (still : w.store ≡ v.store) (old new : DeskView) (
 
     pub step_failed : (e : CellError) → TellsError e Sound v.failures w.failures → AnsweredIn (StepsJob n units) ⊥ (session v old) (session w new) (Err (cell_refusal e))
     step_failed cell.NoMemory told = held_up
-    step_failed cell.DiskFault told = (told.1, held_up)
+    step_failed cell.DiskFault told = (omega (arith, told), held_up)
     step_failed cell.Damaged told = λ sound s r.
         let at = at_job v.store n x.was old.jobs s.jobs r.jobs x.held in told.0 (reads sound x.was at.job same at.stands some_left)
 

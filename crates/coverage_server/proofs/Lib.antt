@@ -3,6 +3,8 @@ pub mod StoreLemmas
 pub mod ServingLemmas
 pub mod MachineLemmas
 pub mod RemovalLemmas
+pub mod FaultLemmas
+pub mod FreeLemmas
 pub mod InsertLemmas
 pub mod UpdateLemmas
 pub mod WriteLemmas

@@ -1,70 +1,65 @@
 -- The parts of an opening: the blocks that indexes list, the coverages that are attached so far, and what a disk lists.
 use Rattle.std.proofs.Common.{◌≡◌, ℕ, zero, suc, ◌+◌, ◌/◌, ◌<◌, ◌≤◌, max, List, [], ◌∷◌, ◌++◌, length, take, get_or, Vec, Contains, None, arith, refl, sym, ◌∙◌, ap, subst, inl, inr, append-nil}
-use Rattle.std.specs.Prelude.{nat_eq, if◌then◌else◌, ◌⊎◌}
+use Rattle.std.specs.Prelude.{◌⊎◌}
 use Rattle.std.specs.List.{flat_map}
 use Rattle.std.specs.declared.alloc.Global.{Global}
-use Rattle.std.proofs.lemmas.Bool.Decides.{nat_tests}
+use Rattle.std.proofs.lemmas.Bool.{cases_lt}
 use Rattle.std.proofs.lemmas.List.{take_more, take_all, map-append, length_push}
 use Rattle.std.proofs.lemmas.List.Concat.{flat_map-cons}
-use Rattle.std.proofs.lemmas.List.Sums.{sum_by-append, sum_by-cons}
+use Rattle.std.proofs.lemmas.List.Sums.{sum_by-cons}
 use Rattle.arr_core.specs.declared.signature.Signature.{Signature}
 use Rattle.arr_core.specs.Names.{AreDistinct}
 use Rattle.arr_core.specs.Stores.{Store, found}
-use Rattle.block_file.specs.Format.{IsClosed, IsDamaged, HeaderTorn, number_at, chain_blocks}
-use Rattle.block_file.specs.View.{CanClaim, IsFresh, free_in, kept_in}
+use Rattle.block_file.specs.State.{block_at, free_up_to, times}
+use Rattle.block_file.specs.Format.{IsClosed, IsDamaged, HeaderTorn, number_at, link, first_of, chain_blocks}
+use Rattle.block_file.specs.Uses.{CanClaim, Claims, IsFresh, use_count, uses_of}
+use Rattle.block_file.specs.View.{BlockFileView, IsOpened}
+use Rattle.block_file.proofs.Free.{free_enough}
+use Rattle.block_file.proofs.Places.{whole_inside}
+use Rattle.block_file.proofs.Times.{one_same, times_none, times-cons, times_append}
 use Rattle.catalogue.proofs.Held.{contains_here, contains_later, contains_cases, nothing_in_nil}
 use Rattle.catalogue.specs.Bytes.{catalogue_bytes}
 use Rattle.catalogue.specs.Signatures.{names_of, IsCatalogue}
 use Rattle.metadata.specs.Metadata.{IsMetadata, AreCounted}
 use Rattle.tile_index.specs.declared.entry.Entry.{Entry}
 use Rattle.tile_index.specs.declared.index.TileIndex.{TileIndex}
-use Rattle.tile_store.specs.Listing.{times, times_in}
-use Rattle.raster_store.specs.Views.{Index, times_fields, times_all, metadata_size, reserve, coverage_in, coverages_in, AreBelow}
-use Rattle.raster_store.proofs.Totals.{times_all-nil, times_all-push}
+use Rattle.tile_store.specs.Listing.{listed}
+use Rattle.raster_store.specs.Views.{Index, RasterView, listed_fields, listed_all, metadata_size, reserve, coverage_in, coverages_in, AreBelow}
+use Rattle.raster_store.proofs.Totals.{listed_none, listed_all-nil, listed_all-push}
 use Rattle.coverage_server.specs.Disk.{AreTiles, IsTileBlock, IsLaidOut, HoldsStore, IsWant, IsNoStore}
 use Rattle.tile_store.specs.declared.fault.Fault.{Fault}
 use Rattle.tile_store.specs.declared.fault.Fault.TheVariants as device
-use Rattle.coverage_server.specs.Opening.{items_of, IsOpened, IsListed, ClaimsListed, IsNotLaidOut, Lists, Departs, attach_fault}
+use Rattle.coverage_server.specs.Opening.{items_of, IsListed, ClaimsListed, CannotClaim, ClaimsLayout, IsNotLaidOut, Lists, Departs, attach_fault}
 use Rattle.coverage_server.specs.declared.opening.OpenFault.{OpenFault}
 use Rattle.coverage_server.specs.declared.opening.OpenFault.TheVariants as opening
-use Rattle.coverage_server.specs.Views.{signatures_of}
+use Rattle.coverage_server.specs.Views.{signatures_of, free_blocks}
 use Rattle.coverage_server.proofs.LayoutLemmas.{claimed_blocks, laid_claims, one_layout}
 use Rattle.coverage_server.proofs.ClosingLemmas.{metadata_length}
+use Rattle.coverage_server.proofs.FreeLemmas.{IsReady, free_unlisted}
 use Rattle.coverage_server.proofs.StoreLemmas.{fresh_found}
 
-pub times_none : (k : ℕ) → times k [] ≡ 0
-unfolding times
-times_none k = refl
-
-pub times_append : (k : ℕ) (xs ys : List ℕ) → times k (xs ++ ys) ≡ times k xs + times k ys
-unfolding times
-times_append k xs ys = sum_by-append (λ b. if nat_eq b k then 1 else 0) xs ys
-
-times_in_none : (k : ℕ) → times_in k [] ≡ 0
-unfolding times_in
-times_in_none k = refl
-
-times_in_cons : (k : ℕ) (x : ℕ × Entry) (index : Index) → times_in k (x ∷ index) ≡ times k x.1.blocks + times_in k index
-unfolding times_in
-times_in_cons k x index = sum_by-cons (λ (y : ℕ × Entry). times k y.1.blocks) x index
+listed-cons : (x : ℕ × Entry) (index : Index) (k : ℕ) → listed (x ∷ index) k ≡ times x.1.blocks k + listed index k
+unfolding listed
+listed-cons x index k = sum_by-cons (λ (y : ℕ × Entry). times y.1.blocks k) x index
 
 -- the blocks of an index are those that it lists
-pub times_listed : (k : ℕ) (index : Index) → times k (flat_map (λ (x : ℕ × Entry). x.1.blocks) index) ≡ times_in k index
-times_listed k [] = times_none k ∙ sym (times_in_none k)
-times_listed k (x ∷ index) =
-    ap (times k) (flat_map-cons (λ (y : ℕ × Entry). y.1.blocks) x index)
-    ∙ times_append k x.1.blocks (flat_map (λ (y : ℕ × Entry). y.1.blocks) index)
-    ∙ ap (λ (n : ℕ). times k x.1.blocks + n) (times_listed k index) ∙ sym (times_in_cons k x index)
+pub times_listed : (index : Index) (k : ℕ) → times (flat_map (λ (x : ℕ × Entry). x.1.blocks) index) k ≡ listed index k
+times_listed [] k = times_none k ∙ sym (listed_none k)
+times_listed (x ∷ index) k =
+    ap (λ (l : List ℕ). times l k) (flat_map-cons (λ (y : ℕ × Entry). y.1.blocks) x index)
+    ∙ times_append x.1.blocks (flat_map (λ (y : ℕ × Entry). y.1.blocks) index) k
+    ∙ ap (λ (n : ℕ). times x.1.blocks k + n) (times_listed index k) ∙ sym (listed-cons x index k)
 
 -- one more coverage of those whose blocks are listed
 pub items_more : (indexes : List (Vec TileIndex Global)) (j : ℕ) (d : Vec TileIndex Global) → j < length indexes → items_of (take (j + 1) indexes) ≡ items_of (take j indexes) ++ (get_or indexes j d).items ∷ []
 items_more indexes j d h =
     ap items_of (take_more indexes j d h) ∙ map-append (λ (v : Vec TileIndex Global). v.items) (take j indexes) (get_or indexes j d ∷ [])
 
-pub times_more : (k : ℕ) (indexes : List (Vec TileIndex Global)) (j : ℕ) (d : Vec TileIndex Global) → j < length indexes → d ≡ get_or indexes j d → times_all k (items_of (take (j + 1) indexes)) ≡ times_all k (items_of (take j indexes)) + times_fields k d.items
-times_more k indexes j d h is =
-    ap (times_all k) (items_more indexes j d h) ∙ times_all-push k (items_of (take j indexes)) (get_or indexes j d).items
-    ∙ ap (λ (v : Vec TileIndex Global). times_all k (items_of (take j indexes)) + times_fields k v.items) (sym is)
+pub listed_more : (indexes : List (Vec TileIndex Global)) (j : ℕ) (d : Vec TileIndex Global) (k : ℕ) → j < length indexes → d ≡ get_or indexes j d
+    → listed_all (items_of (take (j + 1) indexes)) k ≡ listed_all (items_of (take j indexes)) k + listed_fields d.items k
+listed_more indexes j d k h is =
+    ap (λ (l : List (List Index)). listed_all l k) (items_more indexes j d h) ∙ listed_all-push k (items_of (take j indexes)) (get_or indexes j d).items
+    ∙ ap (λ (v : Vec TileIndex Global). listed_all (items_of (take j indexes)) k + listed_fields v.items k) (sym is)
 
 -- the coverages that are attached: those of the first signatures, one for each of the first indexes
 pub record IsAttached (content : List ℕ) (signatures : List Signature) (indexes : List (List Index)) (store : Store) (held : List (List Index)) (place : ℕ) : Type 0 where
@@ -167,27 +162,28 @@ next_attached content signatures before new store store' held held' place s a h 
       tiles = subst (λ (l : List Signature). AreTiles l (before ++ new ∷ [])) (sym more) (tiles_push (take place signatures) before s new long a.tiles below);
     }
 
--- a block, counted
-abbrev one : ℕ → ℕ → ℕ
-one k b = if nat_eq b k then 1 else 0
+-- after an opening blocks are in use as often as they are claimed
+pub fresh_counts : (marks marks' : List ℕ) (indexes : List (List Index)) → IsFresh marks → ClaimsListed indexes marks marks' → (k : ℕ) → uses_of marks' k ≡ listed_all indexes k
+fresh_counts marks marks' indexes fresh claimed k = omega (arith, claimed.counts k, fresh k)
 
-one_same : (k : ℕ) → one k k ≡ 1
-one_same k = grind (arith, nat_tests)
-
-times_here : (b : ℕ) (blocks : List ℕ) → 0 < times b (b ∷ blocks)
-unfolding times
-times_here b blocks = omega (arith, sum_by-cons (one b) b blocks, one_same b)
+-- each of the blocks that were claimed is whole
+pub claimed_whole : (content metadata marks marks' : List ℕ) (indexes : List (List Index)) → IsOpened content metadata marks → ClaimsListed indexes marks marks'
+    → (k : ℕ) → 0 < listed_all indexes k → length (block_at content k) ≡ 4096
+claimed_whole content metadata marks marks' indexes o claimed k some =
+    let here : 0 < times claimed.blocks k = omega (arith, claimed.each k, some) in
+    o.whole k (claimed.claims.could.above_zero k here) (claimed.claims.could.inside k here)
 
 -- where nothing is listed there are no blocks
-no_blocks : (blocks : List ℕ) → ((k : ℕ) → times k blocks ≡ times_all k []) → blocks ≡ []
+no_blocks : (blocks : List ℕ) → ((k : ℕ) → times blocks k ≡ listed_all [] k) → blocks ≡ []
 no_blocks [] e = refl
-no_blocks (b ∷ blocks) e = absurd (omega (arith, e b, times_here b blocks, times_all-nil b))
+no_blocks (b ∷ blocks) e = absurd (omega (arith, e b, times-cons b blocks b, one_same b, listed_all-nil b))
 
 claims_none : (marks : List ℕ) → CanClaim [] marks
 claims_none marks = record {
-  distinct = λ i j h. absurd (omega (arith, h));
-  inside = λ i h. absurd (omega (arith, h));
-  unmarked = λ i h. absurd (omega (arith, h));
+  once = λ k. omega (arith, times_none k);
+  above_zero = λ k some. absurd (omega (arith, some, times_none k));
+  inside = λ k some. absurd (omega (arith, some, times_none k));
+  unmarked = λ k some. absurd (omega (arith, some, times_none k));
 }
 
 -- a disk without a byte, or one with bytes
@@ -227,22 +223,22 @@ the_layout : (content metadata marks : List ℕ) (signatures s : List Signature)
 the_layout content metadata marks signatures s indexes i m o h l laid = one_layout content metadata m signatures s indexes i o.unique (l.only (o.closed h).chain.some) laid
 
 -- its blocks may not be claimed
-pub unclaimed : (content metadata marks blocks : List ℕ) (signatures : List Signature) (indexes : List (List Index)) → IsOpened content metadata marks → IsFresh marks
-    → IsListed metadata signatures indexes → ((k : ℕ) → times k blocks ≡ times_all k indexes) → (CanClaim blocks marks → ⊥) → (0 < length content) × IsNotLaidOut content
-unclaimed content metadata marks blocks signatures indexes o fresh l counted refused = elim (some_bytes content) [
+pub unclaimed : (content metadata marks : List ℕ) (signatures : List Signature) (indexes : List (List Index)) → IsOpened content metadata marks
+    → IsListed metadata signatures indexes → CannotClaim indexes marks → (0 < length content) × IsNotLaidOut content
+unclaimed content metadata marks signatures indexes o l cannot = elim (some_bytes content) [
   | inl e ↦
       let none : indexes ≡ [] = (l.new_file (o.new_file e)).1 in
-      let empty : blocks ≡ [] = no_blocks blocks (λ k. counted k ∙ ap (times_all k) none) in
-      absurd (refused (subst (λ (b : List ℕ). CanClaim b marks) (sym empty) (claims_none marks)))
+      let empty : cannot.blocks ≡ [] = no_blocks cannot.blocks (λ k. cannot.each k ∙ ap (λ (i : List (List Index)). listed_all i k) none) in
+      absurd (cannot.refused (subst (λ (b : List ℕ). CanClaim b marks) (sym empty) (claims_none marks)))
   | inr h ↦ (
     h,
     λ m s i laid.
         let same = the_layout content metadata marks signatures s indexes i m o h l laid in
         let size : m ≡ metadata = sym (o.unique m laid.closed) in
-        let each : (k : ℕ) → 0 < times_all k indexes → IsTileBlock content (length metadata) indexes k =
+        let each : (k : ℕ) → 0 < listed_all indexes k → IsTileBlock content (length metadata) indexes k =
         λ k some. subst (λ (l : List ℕ). IsTileBlock content (length l) indexes k) size
-        (subst (λ (x : List (List Index)). 0 < times_all k x → IsTileBlock content (length m) x k) same.1 (laid.blocks k) some) in
-        refused (laid_claims content (length metadata) marks blocks indexes (o.marked h) (block_count content m marks laid.closed o.blocks) fresh.header counted each),
+        (subst (λ (x : List (List Index)). 0 < listed_all x k → IsTileBlock content (length m) x k) same.1 (laid.blocks k) some) in
+        cannot.refused (laid_claims content (length metadata) marks cannot.blocks indexes (o.marked h) (block_count content m marks laid.closed o.blocks) cannot.each each),
   )
 ]
 
@@ -262,10 +258,10 @@ beyond content metadata marks signatures indexes o l refused = elim (some_bytes 
 ]
 
 -- What was read, claimed and attached is what the disk lists, and it lists nothing else.
-pub lists_all : (content metadata marks marks' : List ℕ) (signatures : List Signature) (indexes held : List (List Index)) (store : Store) → IsOpened content metadata marks → IsFresh marks
+pub lists_all : (content metadata marks marks' : List ℕ) (signatures : List Signature) (indexes held : List (List Index)) (store : Store) → IsOpened content metadata marks
     → IsListed metadata signatures indexes → ClaimsListed indexes marks marks' → AreTiles signatures indexes → store ≡ coverages_in content signatures indexes → held ≡ indexes
     → Lists content store held
-lists_all content metadata marks marks' signatures indexes held store o fresh l claimed tiles is index = elim (some_bytes content) [
+lists_all content metadata marks marks' signatures indexes held store o l claimed tiles is index = elim (some_bytes content) [
   | inl e ↦
       let none = l.new_file (o.new_file e) in
       let no_store : store ≡ [] = is ∙ ap (λ (s : List Signature). coverages_in content s indexes) none.0 in
@@ -287,8 +283,8 @@ lists_all content metadata marks marks' signatures indexes held store o fresh l 
             closed = closed;
             written = subst (λ (x : List (List Index)). IsMetadata metadata signatures x) (sym index) (l.read closed.chain.some);
             tiles = subst (λ (x : List (List Index)). AreTiles signatures x) (sym index) tiles;
-            blocks = subst (λ (x : List (List Index)). (k : ℕ) → 0 < times_all k x → IsTileBlock content (length metadata) x k) (sym index)
-                (claimed_blocks content (length metadata) marks claimed.blocks indexes (o.marked h) (block_count content metadata marks closed o.blocks) fresh.header claimed.each claimed.claims.could);
+            blocks = subst (λ (x : List (List Index)). (k : ℕ) → 0 < listed_all x k → IsTileBlock content (length metadata) x k) (sym index)
+                (claimed_blocks content (length metadata) marks claimed.blocks indexes (o.marked h) (block_count content metadata marks closed o.blocks) claimed.each claimed.claims.could);
           };
           is = is ∙ ap (λ (x : List (List Index)). coverages_in content signatures x) (sym index);
         });
@@ -306,29 +302,52 @@ reserve_none : reserve (length (catalogue_bytes [])) [] ≡ 1
 unfolding metadata_size catalogue_bytes
 reserve_none = refl
 
+-- where nothing is listed a block is free
+one_free : 1 ≤ free_blocks []
+one_free = free_enough 1048575 1 (λ i. 1) (listed_all []) (λ i below. (omega arith, omega arith, listed_all-nil 1)) (λ i j a b same. omega (arith, a, b))
+
 -- As many blocks stay free as the metadata takes.
 pub layout_room : (metadata marks marks' : List ℕ) (signatures : List Signature) (indexes : List (List Index)) → IsFresh marks → IsListed metadata signatures indexes → ClaimsListed indexes marks marks'
-    → chain_blocks (length metadata) ≤ free_in marks' → reserve (length (catalogue_bytes signatures)) indexes ≤ free_in marks'
-layout_room metadata marks marks' signatures indexes fresh l claimed enough = elim (some_bytes metadata) [
-  | inl e ↦
-      let none = l.new_file e in
-      let empty : claimed.blocks ≡ [] = no_blocks claimed.blocks (λ k. claimed.each k ∙ ap (times_all k) none.1) in
-      let no_length : length claimed.blocks ≡ 0 = ap (λ (b : List ℕ). length b) empty in
-      let small : reserve (length (catalogue_bytes signatures)) indexes ≡ 1 =
-      ap (λ (s : List Signature). reserve (length (catalogue_bytes s)) indexes) none.0 ∙ ap (λ (x : List (List Index)). reserve (length (catalogue_bytes [])) x) none.1 ∙ reserve_none in
-      omega (arith, small, claimed.free, fresh.free, no_length)
-  | inr h ↦
-      let size : length metadata ≡ metadata_size (length (catalogue_bytes signatures)) indexes =
-      ap (λ (b : List ℕ). length b) (l.read h).written ∙ metadata_length signatures indexes in
-      subst (λ (n : ℕ). chain_blocks n ≤ free_in marks') size enough
-]
+    → chain_blocks (length metadata) ≤ free_up_to 1048575 (uses_of marks') → reserve (length (catalogue_bytes signatures)) indexes ≤ free_blocks indexes
+layout_room metadata marks marks' signatures indexes fresh l claimed enough =
+    let free = free_unlisted (uses_of marks') indexes (fresh_counts marks marks' indexes fresh claimed) in
+    elim (some_bytes metadata) [
+      | inl e ↦
+          let none = l.new_file e in
+          let small : reserve (length (catalogue_bytes signatures)) indexes ≡ 1 =
+          ap (λ (s : List Signature). reserve (length (catalogue_bytes s)) indexes) none.0 ∙ ap (λ (x : List (List Index)). reserve (length (catalogue_bytes [])) x) none.1 ∙ reserve_none in
+          rw small (rw none.1 one_free)
+      | inr h ↦
+          let size : length metadata ≡ metadata_size (length (catalogue_bytes signatures)) indexes =
+          ap (λ (b : List ℕ). length b) (l.read h).written ∙ metadata_length signatures indexes in
+          rw (← size, ← free) enough
+    ]
 
--- an honest disk has them
-pub room_there : (content metadata marks marks' : List ℕ) → IsOpened content metadata marks → kept_in marks' ≡ kept_in marks → kept_in marks' ≤ free_in marks'
-    → chain_blocks (length metadata) ≤ free_in marks'
-room_there content metadata marks marks' o same kept = elim (some_bytes content) [
+-- a block that is marked as metadata is in no use
+marked_unused : (marks : List ℕ) (k : ℕ) → get_or marks k 0 ≡ 255 → uses_of marks k ≡ 0
+marked_unused marks zero e = refl
+marked_unused marks (suc k) e = ap use_count e
+
+-- an honest disk has them: those that hold the metadata
+pub room_there : (content metadata marks marks' ks : List ℕ) → IsOpened content metadata marks → Claims ks marks marks'
+    → chain_blocks (length metadata) ≤ free_up_to 1048575 (uses_of marks')
+room_there content metadata marks marks' ks o claims = elim (some_bytes content) [
   | inl e ↦ (let none : length metadata ≡ 0 = ap (λ (b : List ℕ). length b) (o.new_file e) in omega (arith, none))
-  | inr h ↦ omega (arith, o.kept h, same, kept)
+  | inr h ↦
+      let closed = o.closed h in
+      let chain = closed.chain in
+      free_enough 1048575 (chain_blocks (length metadata)) (link (block_at content) (first_of content)) (uses_of marks')
+      (λ i below.
+      let k : ℕ = link (block_at content) (first_of content) i in
+      let mark : get_or marks k 0 ≡ 255 = (o.marked h).chain i below in
+      let unclaimed : times ks k ≡ 0 = elim (cases_lt 0 (times ks k)) [
+        | inl some ↦ (let zero : get_or marks k 0 ≡ 0 = claims.could.unmarked k some in absurd (omega (arith, zero, mark)))
+        | inr none ↦ omega (arith, none)
+      ] in
+      let still : get_or marks' k 0 ≡ 255 = omega (arith, claims.marks k, mark, unclaimed) in
+      let inside = whole_inside content k (chain.whole i below) in
+      let few = closed.few in
+      (chain.above_zero i below, omega (arith, inside, few), marked_unused marks' k still)) chain.distinct
 ]
 
 -- Why an opened file is refused.
@@ -437,3 +456,17 @@ attach_departs P device.NoMemory f d = tt
 attach_departs P device.DiskFault f d = absurd (d refl)
 attach_departs P device.NoRoom f d = tt
 attach_departs P device.Damaged f d = f refl
+
+-- the coverages that were attached can be closed
+pub layout_ready : (metadata marks marks' : List ℕ) (content : List ℕ) (signatures : List Signature) (indexes : List (List Index)) (cells : RasterView BlockFileView)
+    → IsFresh marks → ClaimsLayout metadata signatures indexes marks marks' → cells.coverages ≡ coverages_in content signatures indexes → cells.indexes ≡ indexes
+    → cells.blocks.marks ≡ marks' → IsReady signatures cells
+layout_ready metadata marks marks' content signatures indexes cells fresh laid values listed same =
+    let long = counted_all signatures indexes (listed_counted metadata signatures indexes laid.listed) in
+    let claims = laid.claims in
+    record {
+      signatures = sym (ap signatures_of values ∙ signatures_same content signatures indexes long);
+      counted = rw (same, listed) (fresh_counts marks marks' indexes fresh claims);
+      once = rw listed (λ k. let least = claims.claims.could.once k in omega (arith, claims.each k, least));
+      room = rw listed laid.room;
+    }

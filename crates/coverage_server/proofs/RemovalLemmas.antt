@@ -1,5 +1,5 @@
 -- What is left where a coverage is taken out.
-use Rattle.std.proofs.Common.{◌≡◌, ℕ, ◌+◌, ◌≤◌, Bool, true, false, List, [], ◌∷◌, length, Result, Ok, Err, OnOk, OnErr, refl, sym, ap, ◌∙◌, arith, Contains}
+use Rattle.std.proofs.Common.{◌≡◌, ℕ, zero, suc, ◌≤◌, Bool, true, false, List, [], ◌∷◌, length, Result, Ok, Err, OnOk, OnErr, refl, sym, ap, ◌∙◌, arith, Contains}
 use Rattle.std.specs.Prelude.{sum_by, flat_map}
 use Rattle.std.specs.Str.{bytes_eq}
 use Rattle.std.proofs.lemmas.List.{length-append}
@@ -10,10 +10,11 @@ use Rattle.catalogue.specs.Bytes.{signature_bytes, catalogue_bytes}
 use Rattle.catalogue.specs.declared.error.NoSuchCoverage.{NoSuchCoverage}
 use Rattle.catalogue.specs.Signatures.{names_of, without}
 use Rattle.catalogue.proofs.ByteCounts.{catalogue_length}
-use Rattle.tile_store.specs.Stored.{block_count}
-use Rattle.raster_store.specs.Views.{Index, listed_blocks, fields_size, metadata_size, reserve}
+use Rattle.block_file.specs.State.{free_up_to}
+use Rattle.block_file.proofs.Free.{free_none, free-suc}
+use Rattle.raster_store.specs.Views.{Index, listed_fields, listed_all, fields_size, metadata_size, reserve}
 use Rattle.raster_store.specs.Calls.{signature_of, indexes_without}
-use Rattle.coverage_server.specs.Views.{signatures_of}
+use Rattle.coverage_server.specs.Views.{signatures_of, free_blocks}
 use Rattle.coverage_server.proofs.StoreLemmas.{keeps_all}
 
 -- the signatures without one are those of the coverages without that one
@@ -56,14 +57,27 @@ shorter name (s ∷ held) = by_test (bytes_eq s.name name) refl (shorter name he
         rw t
         (omega (arith, later, length-append (signature_bytes s) (flat_map signature_bytes held), length-append (signature_bytes s) (flat_map signature_bytes (without name held))))
 
--- the metadata that is left takes no more blocks, and no fewer are free
-pub room_left : (name : List ℕ) (store : Store) (held : List Signature) (indexes : List (List Index)) (before after : ℕ)
-    → after + listed_blocks (indexes_without name store indexes) ≡ before + listed_blocks indexes
-    → reserve (length (catalogue_bytes held)) indexes ≤ before
-    → reserve (length (catalogue_bytes (without name held))) (indexes_without name store indexes) ≤ after
-unfolding listed_blocks metadata_size
-room_left name store held indexes before after given room =
-    let blocks = fewer (λ (fields : List Index). sum_by block_count fields) name store indexes in
+-- the indexes that are left list a block no more often
+pub listed_left : (name : List ℕ) (store : Store) (indexes : List (List Index)) (k : ℕ) → listed_all (indexes_without name store indexes) k ≤ listed_all indexes k
+unfolding listed_all
+listed_left name store indexes k = fewer (λ (fields : List Index). listed_fields fields k) name store indexes
+
+-- where no block has more uses, no fewer are free
+no_fewer_free : (n : ℕ) (old new : ℕ → ℕ) → ((k : ℕ) → new k ≤ old k) → free_up_to n old ≤ free_up_to n new
+no_fewer_free zero old new less = omega (arith, free_none old, free_none new)
+no_fewer_free (suc n) old new less = omega (arith, free-suc n old, free-suc n new, no_fewer_free n old new less, less (suc n))
+
+less_metadata : (name : List ℕ) (store : Store) (held : List Signature) (indexes : List (List Index))
+    → reserve (length (catalogue_bytes (without name held))) (indexes_without name store indexes) ≤ reserve (length (catalogue_bytes held)) indexes
+unfolding metadata_size
+less_metadata name store held indexes =
     let sizes = fewer fields_size name store indexes in
     let bytes = shorter name held in
-    omega (arith, given, room, blocks, sizes, bytes, catalogue_length held, catalogue_length (without name held))
+    omega (arith, sizes, bytes, catalogue_length held, catalogue_length (without name held))
+
+-- the metadata that is left takes no more blocks, and no fewer are free
+pub room_left : (name : List ℕ) (store : Store) (held : List Signature) (indexes : List (List Index)) → reserve (length (catalogue_bytes held)) indexes ≤ free_blocks indexes
+    → reserve (length (catalogue_bytes (without name held))) (indexes_without name store indexes) ≤ free_blocks (indexes_without name store indexes)
+room_left name store held indexes room =
+    let free = no_fewer_free 1048575 (listed_all indexes) (listed_all (indexes_without name store indexes)) (listed_left name store indexes) in
+    omega (arith, room, less_metadata name store held indexes, free)

@@ -7,7 +7,7 @@ use Rattle.std.proofs.lemmas.List.Elements.{filter-append}
 use Rattle.std.proofs.lemmas.Slice.Eq.{bytes_eq-Decides}
 use Rattle.arr_core.specs.declared.signature.Signature.{Signature}
 use Rattle.arr_core.specs.Stores.{Store, found, inserted}
-use Rattle.catalogue.specs.Signatures.{names_of, without, found as listed}
+use Rattle.catalogue.specs.Signatures.{names_of, without, listed}
 use Rattle.catalogue.proofs.Held.{nothing_in_nil, contains_here, contains_later, contains_cases}
 use Rattle.raster_store.specs.Calls.{signature_of}
 use Rattle.coverage_server.specs.Views.{signatures_of}

@@ -1,6 +1,6 @@
 -- The numbers of a tile are the cells that are read there.
 use Rattle.std.proofs.Common.{◌≡◌, ℕ, suc, ◌<◌, Bool, true, false, ◌&&◌, nat_lt, ℤ, ◌≤ℤ◌, T, List, [], ◌∷◌, length, map, get_or, Option, None, Some, Err, refl, sym, ◌∙◌, subst, arith}
-use Rattle.std.specs.Prelude.{All, IsSomeAnd, int_le, slice_get}
+use Rattle.std.specs.Prelude.{All, IsErrOf, IsSomeAnd, int_le, slice_get}
 use Rattle.std.proofs.lemmas.Bool.{lt-ltb}
 use Rattle.arr_core.specs.declared.domain.Axis.{Axis}
 use Rattle.arr_core.specs.declared.signature.Signature.{Signature}
@@ -13,10 +13,12 @@ use Rattle.raster_store.proofs.Readings.{box_inside, tile_is_box}
 use Rattle.coverage_server.specs.Asking.{cells_of, number_in}
 use Rattle.tile_store.specs.declared.fault.Fault.{Fault}
 use Rattle.tile_store.specs.declared.fault.Fault.TheVariants as device
-use Rattle.tile_store.specs.Faults.{FaultCounts}
-use Rattle.wcps_mean.specs.Reports.{Tells}
-use Rattle.coverage_server.specs.Tiles.{AreNumbers, IsHeld, ReadsSound, cell_error}
+use Rattle.tile_store.specs.Faults.{Refuses}
+use Rattle.disk_face.specs.Disk.{Tells}
+use Rattle.wcps_mean.specs.Reports.{Tells as Reports}
+use Rattle.coverage_server.specs.Tiles.{AreNumbers, IsHeld, IsTileFault, ReadsSound, cell_error}
 use Rattle.coverage_server.specs.Views.{ServerView, IsSound}
+use Rattle.coverage_server.proofs.FaultLemmas.{never_fewer}
 
 both : (a b : Bool) → a ≡ true → b ≡ true → (a && b) ≡ true
 both a b h k = rw (h, k) refl
@@ -93,9 +95,9 @@ some_out None f h = absurd h
 some_out (Some x) f h = f x h
 
 -- how a tile that is not read is told
-pub tile_reports : (v w : ServerView) (asked : List Signature) (s : Signature) (fault : Fault) → IsHeldIn asked s → (fault ≡ device.Damaged → IsSound v → IsHeld v.store s → ⊥) → ¬ (fault ≡ device.NoRoom)
-    → FaultCounts {T = Unit {0}} (Err fault) v.failures w.failures → Tells (cell_error fault) (ReadsSound v asked) v.failures w.failures
-tile_reports v w asked s device.NoMemory at damaged room counts = counts.others (λ e. absurd cc)
-tile_reports v w asked s device.DiskFault at damaged room counts = (counts.no_fewer, counts.disk refl)
-tile_reports v w asked s device.NoRoom at damaged room counts = absurd (room refl)
-tile_reports v w asked s device.Damaged at damaged room counts = (λ reads. damaged refl reads.sound (at (IsHeld v.store) reads.held), counts.others (λ e. absurd cc))
+pub tile_reports : (v w : ServerView) (asked : List Signature) (s : Signature) (fault : Fault) → IsHeldIn asked s → Refuses {T = Unit {0}} (Err fault) (IsTileFault s v) ⊥
+    → Tells (IsErrOf {T = Unit {0}} (Err fault) device.DiskFault) v.failures w.failures → Reports (cell_error fault) (ReadsSound v asked) v.failures w.failures
+tile_reports v w asked s device.NoMemory at why told = told.quiet (λ e. absurd cc)
+tile_reports v w asked s device.DiskFault at why told = (never_fewer _ _ _ told, let rose = told.told refl in omega (arith, rose))
+tile_reports v w asked s device.NoRoom at why told = absurd (why.for_room refl)
+tile_reports v w asked s device.Damaged at why told = (λ reads. why.for_damage refl reads.sound (at (IsHeld v.store) reads.held), told.quiet (λ e. absurd cc))

@@ -5,7 +5,7 @@ use Rattle.std.specs.List.{position_or_len}
 use Rattle.std.proofs.lemmas.List.Folds.{find_at}
 use Rattle.std.proofs.lemmas.Option.{slice_get_cases}
 use borrow.Author.Tests.{ltb-false}
-use Rattle.catalogue.specs.Signatures.{found as listed}
+use Rattle.catalogue.specs.Signatures.{listed}
 use Rattle.coverage_server.proofs.StoreLemmas.{listed_alike}
 use Rattle.std.specs.Str.{bytes_eq}
 use Rattle.std.proofs.lemmas.List.Elements.{All-nil, All-push}
@@ -29,7 +29,7 @@ use Rattle.coverage_server.specs.Tiles.{IsHeld}
 
 -- the signature that a name is looked up as
 abbrev looked : List ℕ → List Signature → Answer Signature
-looked name signatures = bindings.found (signature_at (coverage_place name signatures) signatures)
+looked name signatures = bindings.known_signature (signature_at (coverage_place name signatures) signatures)
 
 -- a signature with that name, which is that of the store's coverage
 abbrev IsOf : Store → List ℕ → Signature → Type 0
@@ -70,10 +70,10 @@ place_found name signatures = by_test (nat_lt (position_or_len is_named signatur
 -- what a name is looked up as is that of the store's coverage with the name
 looked_up : (store : Store) (name : List ℕ) → Gives (IsOf store name) (looked name (map signature_of store))
 looked_up store name =
-    subst (λ (o : Option Signature). Gives (IsOf store name) (bindings.found o)) (sym (place_found name (map signature_of store) ∙ listed_alike name store))
+    subst (λ (o : Option Signature). Gives (IsOf store name) (bindings.known_signature o)) (sym (place_found name (map signature_of store) ∙ listed_alike name store))
     (by_found (found name store) refl)
   where
-    by_found : (o : Option Coverage) → found name store ≡ o → Gives (IsOf store name) (bindings.found (option_map signature_of o))
+    by_found : (o : Option Coverage) → found name store ≡ o → Gives (IsOf store name) (bindings.known_signature (option_map signature_of o))
     by_found None e = tt
     by_found (Some c) e =
         let same = found_name name store c e in

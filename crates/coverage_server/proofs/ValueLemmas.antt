@@ -1,5 +1,5 @@
 -- The values of a typed query, from a run of its plan.
-use Rattle.std.proofs.Common.{◌≡◌, List, Ok, Err, sym, ap, ◌∙◌}
+use Rattle.std.proofs.Common.{◌≡◌, List, Ok, Err, sym, ap, ◌∙◌, arith}
 use Rattle.std.specs.Prelude.{All, String}
 use Rattle.std.specs.declared.alloc.Global.{Global}
 use Rattle.arr_core.specs.declared.signature.Signature.{Signature}
@@ -30,7 +30,7 @@ no_values a cell.Damaged = tt
 pub fails_reading : (v w : ServerView) (asked : List Signature) → All (IsHeld v.store) asked → (e : CellError) → Tells e (ReadsSound v asked) v.failures w.failures
     → FailsReading v w (cell_refusal e)
 fails_reading v w asked held cell.NoMemory x = tt
-fails_reading v w asked held cell.DiskFault x = x.1
+fails_reading v w asked held cell.DiskFault x = omega (arith, x)
 fails_reading v w asked held cell.Damaged x = λ sound. x.0 (record { sound = sound; held = held })
 
 module _ (store : Store) (q : TypedTree) (plan done : PlanTree) (p : IsPlanOf q plan) (same : done ≡ plan) (asked : List Signature) (reads : asked ≡ plan.coverages) where

@@ -1,27 +1,37 @@
 -- What a write answers.
-use Rattle.std.proofs.Common.{◌≡◌, ℕ, zero, suc, ◌+◌, ◌*◌, ◌<◌, List, [], ◌∷◌, ◌++◌, Option, None, Some, Result, Ok, Err, OnOk, OnErr, refl, sym, ap, ◌∙◌, subst, arith, inl, inr, Contains, is_some, false}
-use Rattle.std.specs.Prelude.{All, IsSomeAnd, replicate, slice_get, option_copied, option_map}
+use Rattle.std.proofs.Common.{◌≡◌, ℕ, zero, suc, ◌+◌, ◌*◌, ◌<◌, List, [], ◌∷◌, ◌++◌, length, Option, None, Some, Result, Ok, Err, OnOk, OnErr, refl, sym, ap, ◌∙◌, subst, arith, inl, inr, Contains, is_some, false}
+use Rattle.std.specs.Prelude.{ℤ, All, IsErrOf, IsSomeAnd, map, replicate, slice_get, option_copied, option_map}
 use Rattle.std.specs.Borrow.{Bor}
 use Rattle.std.proofs.lemmas.List.{length-replicate}
+use Rattle.std.proofs.lemmas.Option.{slice_get_cases}
 use Rattle.std.proofs.lemmas.List.Elements.{All-replicate, All-head}
 use Rattle.arr_core.specs.declared.cell.Cell.{Cell}
 use Rattle.arr_core.specs.declared.domain.Axis.{Axis}
 use Rattle.arr_core.specs.declared.field.Field.{Field}
 use Rattle.arr_core.specs.declared.signature.Signature.{Signature}
-use Rattle.arr_core.specs.Cells.{Holds}
+use Rattle.arr_core.specs.Cells.{Holds, stored}
 use Rattle.arr_core.specs.Domains.{count, gap}
 use Rattle.arr_core.specs.Stores.{Coverage, Store, found}
+use Rattle.disk_face.specs.Disk.{Tells}
+use Rattle.block_file.specs.View.{BlockFileView, state_of}
+use Rattle.catalogue.specs.Bytes.{catalogue_bytes}
 use Rattle.catalogue.specs.declared.error.NoSuchCoverage.{NoSuchCoverage}
-use Rattle.catalogue.specs.Signatures.{names_of, without, found as listed}
+use Rattle.catalogue.specs.Signatures.{names_of, without, listed}
 use Rattle.tile_store.specs.declared.fault.Fault.TheVariants as device
 use Rattle.raster_store.specs.declared.fault.WriteFault.{WriteFault}
 use Rattle.raster_store.specs.declared.fault.WriteFault.TheVariants as writing
-use Rattle.raster_store.specs.Calls.{signature_of, HasNumbers, Refuses}
-use Rattle.kvp_front.specs.Contents.{fill}
-use Rattle.coverage_server.specs.Views.{ServerView, IsSound, signatures_of}
-use Rattle.coverage_server.specs.Room.{LacksRoomToWrite}
-use Rattle.coverage_server.specs.Writing.{write_refusal, FindsCoverage, MayWrite, WriteRefused}
+use Rattle.raster_store.specs.Views.{RasterView, metadata_size}
+use Rattle.raster_store.specs.Calls.{signature_of, HasField, index_of, HasNumbers, LacksRoomFor}
+use Rattle.raster_store.specs.Words.{FillsBox, WritesBox, RefusesFill, RefusesBox}
+use Rattle.kvp_front.specs.Contents.{fill, values}
+use Rattle.coverage_server.specs.Views.{blocks_of, signatures_of}
+use Rattle.coverage_server.specs.Writing.{write_refusal, FindsCoverage, MayWrite, WritesCells, WriteRefused}
+use Rattle.coverage_server.specs.declared.arguments.Refusal.{Refusal}
+use Rattle.coverage_server.specs.declared.arguments.Refusal.TheVariants.{DiskFault}
+use Rattle.coverage_server.proofs.FaultLemmas.{tells_as, tells_none}
+use Rattle.coverage_server.proofs.FreeLemmas.{IsReady, shown, ready_free}
 use Rattle.coverage_server.proofs.StoreLemmas.{listed_alike, listed_last, without_last}
+use Rattle.coverage_server.proofs.TileLemmas.{some_both}
 
 -- what is there has more
 some_and : {X : Type 0} (o : Option X) (P Q : X → Type 0) → ((x : X) → P x → Q x) → IsSomeAnd o P → IsSomeAnd o Q
@@ -72,18 +82,78 @@ pub fill_may : (name : List ℕ) (field : ℕ) (area : List Axis) (cell : Cell) 
 fill_may name field area cell store h =
     some_and (found name store) _ _ (λ c x. (x.0, some_and (slice_get c.fields field) _ _ (λ (f : Field) all. first_of_same (Holds f.kind) (count area) cell (some_points area) all) x.1.1)) h
 
--- why one cell is not written everywhere
-pub fill_refused : (name : List ℕ) (field : ℕ) (area : List Axis) (cell : Cell) (v : ServerView) (fault : WriteFault)
-    → Refuses name field area (replicate (count area) cell) v.store fault
-    → (fault ≡ writing.Device device.NoRoom → IsSound v → LacksRoomToWrite name field area (fill cell) v)
-    → (fault ≡ writing.Device device.Damaged → IsSound v → ⊥)
-    → WriteRefused name field area (fill cell) v (write_refusal fault)
-fill_refused name field area cell v writing.OutsideDomain x room whole = some_and (found name v.store) _ _ (λ c y. inl (y, refl)) x
-fill_refused name field area cell v writing.ValueCount x room whole = some_and (found name v.store) _ _ (λ c y. absurd (y.1 (length-replicate (count area) cell))) x
-fill_refused name field area cell v writing.ValueRange x room whole =
-    some_and (found name v.store) _ _
-    (λ c y. inr (y.0, some_and (slice_get c.fields field) _ _ (λ (f : Field) none. ((λ h. none (All-replicate (Holds f.kind) (count area) cell h)), refl)) y.2)) x
-fill_refused name field area cell v (writing.Device device.NoMemory) x room whole = tt
-fill_refused name field area cell v (writing.Device device.DiskFault) x room whole = tt
-fill_refused name field area cell v (writing.Device device.NoRoom) x room whole = room refl
-fill_refused name field area cell v (writing.Device device.Damaged) x room whole = whole refl
+pub put_may : (name : List ℕ) (field : ℕ) (area : List Axis) (cells : List Cell) (store : Store) → HasNumbers name field area cells store
+    → MayWrite name field area (values cells) store
+put_may name field area cells store h =
+    some_and (found name store) _ _ (λ c x. (x.0, some_and (slice_get c.fields field) _ _ (λ (f : Field) all. (x.1.0, all)) x.1.1)) h
+
+-- there is a field at a place of the coverage
+some_field : (fields : List Field) (k : ℕ) (P : Field → Type 0) → k < length fields → ((f : Field) → P f) → IsSomeAnd (slice_get fields k) P
+some_field fields k P within all = elim (slice_get_cases fields k).1 [
+  | inl c ↦ subst (λ (o : Option Field). IsSomeAnd o P) (sym c.2) (all c.0)
+  | inr c ↦ absurd (let past = c.0 in omega (arith, past, within))
+]
+
+-- room is wanting by what the server tells
+wanting : (name : List ℕ) (field : ℕ) (area : List Axis) (numbers : List ℤ) (size : ℕ) (catalogue : List Signature) (cells : RasterView BlockFileView) → IsReady catalogue cells
+    → size ≡ length (catalogue_bytes catalogue)
+    → LacksRoomFor name field area numbers size (state_of cells.blocks) cells.coverages cells.indexes
+    → LacksRoomFor name field area numbers (length (catalogue_bytes (signatures_of cells.coverages))) (blocks_of (shown cells)) cells.coverages cells.indexes
+wanting name field area numbers size catalogue cells ready is lacks =
+    let bytes : size ≡ length (catalogue_bytes (signatures_of cells.coverages)) = is ∙ ap (λ (l : List Signature). length (catalogue_bytes l)) ready.signatures in
+    let free = ready_free catalogue cells ready in
+    some_and (found name cells.coverages) _ _
+    (λ c x. some_and (slice_get c.fields field) _ _
+    (λ (f : Field) y. some_and (index_of name field cells.coverages cells.indexes) _ _
+    (λ i z. (z.0, z.1 ∙ ap (λ (n : ℕ). metadata_size n cells.indexes) bytes, (z.2.0, z.2.1, omega (arith, free, z.2.2)))) y) x) lacks
+
+module _ (name : List ℕ) (field : ℕ) (area : List Axis) (size : ℕ) (catalogue : List Signature) (cells : RasterView BlockFileView) (ready : IsReady catalogue cells)
+    (is : size ≡ length (catalogue_bytes catalogue)) where
+  -- why one cell is not written everywhere
+  pub fill_refused : (cell : Cell) (fault : WriteFault) → RefusesFill state_of name field area cell size cells fault
+      → WriteRefused name field area (fill cell) (shown cells) (write_refusal fault)
+  fill_refused cell writing.OutsideDomain x = some_and (found name cells.coverages) _ _ (λ c y. inl (y, refl)) x.for_cells
+  fill_refused cell writing.ValueCount x = some_and (found name cells.coverages) _ _ (λ c y. absurd (y.1 (length-replicate (count area) cell))) x.for_cells
+  fill_refused cell writing.ValueRange x =
+      some_and (found name cells.coverages) _ _
+      (λ c y. inr (y.0, some_and (slice_get c.fields field) _ _ (λ (f : Field) none. ((λ h. none (All-replicate (Holds f.kind) (count area) cell h)), refl)) y.2)) x.for_cells
+  fill_refused cell (writing.Device device.NoMemory) x = tt
+  fill_refused cell (writing.Device device.DiskFault) x = tt
+  fill_refused cell (writing.Device device.NoRoom) x =
+      λ sound. wanting name field area (replicate (count area) (stored cell)) size catalogue cells ready is (x.for_room refl sound.honest)
+  fill_refused cell (writing.Device device.Damaged) x = λ sound. x.for_damage refl sound.honest sound.intact
+
+  -- why cells are not written
+  pub put_refused : HasField name field cells.coverages → (list : List Cell) (fault : WriteFault) → RefusesBox state_of name field area list size cells fault
+      → WriteRefused name field area (values list) (shown cells) (write_refusal fault)
+  put_refused has list writing.OutsideDomain x = some_and (found name cells.coverages) _ _ (λ c y. inl (y, refl)) x.for_cells
+  put_refused has list writing.ValueCount x =
+      some_both (found name cells.coverages) {P = λ c. field < length c.fields}
+      (λ c within y. inr (y.0, some_field c.fields field _ within (λ (f : Field). inl (y.1, refl)))) has x.for_cells
+  put_refused has list writing.ValueRange x =
+      some_and (found name cells.coverages) _ _
+      (λ c y. inr (y.0, some_and (slice_get c.fields field) _ _ (λ (f : Field) none. inr (y.1, none, refl)) y.2)) x.for_cells
+  put_refused has list (writing.Device device.NoMemory) x = tt
+  put_refused has list (writing.Device device.DiskFault) x = tt
+  put_refused has list (writing.Device device.NoRoom) x = λ sound. wanting name field area (map stored list) size catalogue cells ready is (x.for_room refl sound.honest)
+  put_refused has list (writing.Device device.Damaged) x = λ sound. x.for_damage refl sound.honest sound.intact
+
+-- what was written, by what the server tells
+pub fill_done : (name : List ℕ) (field : ℕ) (area : List Axis) (cell : Cell) (size : ℕ) (old new : RasterView BlockFileView) → FillsBox state_of name field area cell size old new
+    → WritesCells name field area (fill cell) (shown old) (shown new)
+fill_done name field area cell size old new x = record { may = fill_may name field area cell old.coverages x.0; written = x.1.coverages }
+
+pub put_done : (name : List ℕ) (field : ℕ) (area : List Axis) (list : List Cell) (size : ℕ) (old new : RasterView BlockFileView) → WritesBox state_of name field area list size old new
+    → WritesCells name field area (values list) (shown old) (shown new)
+put_done name field area list size old new x = record { may = put_may name field area list old.coverages x.0; written = x.1.coverages }
+
+-- what a refused write tells of the disk
+pub write_told : (T U : Type 0) (fault : WriteFault) (told : Refusal) (old new : ℕ) → told ≡ write_refusal fault
+    → Tells (IsErrOf {T = T} (Err fault) (writing.Device device.DiskFault)) old new → Tells (IsErrOf {T = U} (Err told) DiskFault) old new
+write_told T U writing.OutsideDomain told old new is t = tells_none _ _ old new (λ e. absurd cc) (λ e. absurd cc) t
+write_told T U writing.ValueCount told old new is t = tells_none _ _ old new (λ e. absurd cc) (λ e. absurd cc) t
+write_told T U writing.ValueRange told old new is t = tells_none _ _ old new (λ e. absurd cc) (λ e. absurd cc) t
+write_told T U (writing.Device device.NoMemory) told old new is t = tells_none _ _ old new (λ e. absurd cc) (λ e. absurd cc) t
+write_told T U (writing.Device device.DiskFault) told old new is t = tells_as _ _ old new (λ e. ap Err is) (λ e. refl) t
+write_told T U (writing.Device device.NoRoom) told old new is t = tells_none _ _ old new (λ e. absurd cc) (λ e. absurd cc) t
+write_told T U (writing.Device device.Damaged) told old new is t = tells_none _ _ old new (λ e. absurd cc) (λ e. absurd cc) t

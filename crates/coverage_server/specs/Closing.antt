@@ -4,16 +4,16 @@ use Rattle.std.specs.List.{flat_map}
 use Rattle.std.specs.Str.{bytes_eq}
 use Rattle.arr_core.specs.declared.signature.Signature.{Signature}
 use Rattle.arr_core.specs.Stores.{Coverage, Store, found}
-use Rattle.block_file.specs.Blocks.{block_at}
+use Rattle.block_file.specs.State.{block_at}
 use Rattle.block_file.specs.Format.{IsClosed, link, first_of, chain_blocks}
 use Rattle.catalogue.specs.Bytes.{catalogue_bytes}
-use Rattle.metadata.specs.Metadata.{part_bytes, indexes_bytes}
-use Rattle.raster_store.specs.Views.{Index, times_all}
+use Rattle.metadata.specs.Metadata.{part_bytes, indexes_bytes, metadata_bytes}
+use Rattle.raster_store.specs.Views.{Index, listed_all}
 use Rattle.tile_store.specs.declared.fault.Fault.{Fault}
 use Rattle.tile_store.specs.declared.fault.Fault.TheVariants as device
 use Rattle.coverage_server.specs.declared.closing.CloseFault.{CloseFault}
 use Rattle.coverage_server.specs.declared.closing.CloseFault.TheVariants as closing
-use Rattle.coverage_server.specs.Views.{signatures_of}
+use Rattle.coverage_server.specs.Views.{ServerView, signatures_of}
 
 -- the indexes of the fields of the coverage with a name
 abbrev pub indexes_named : List ℕ → Store → List (List Index) → List Index
@@ -34,10 +34,14 @@ abbrev pub bytes_written : Store → List (List Index) → List ℕ
 bytes_written store indexes =
     part_bytes (catalogue_bytes (signatures_of store)) ++ flat_map (λ (s : Signature). bytes_named s.name store indexes) (signatures_of store)
 
+-- the metadata of the file that a server is closed to
+abbrev pub metadata_held : ServerView → List ℕ
+metadata_held v = metadata_bytes (signatures_of v.store) v.indexes
+
 -- The file is closed with this metadata, and no block of its chain holds a tile.
 pub record IsWritten (content metadata : List ℕ) (indexes : List (List Index)) : Type 0 where
   pub closed : IsClosed content metadata
-  pub apart : (i : ℕ) → i < chain_blocks (length metadata) → times_all (link (block_at content) (first_of content) i) indexes ≡ 0
+  pub apart : (i : ℕ) → i < chain_blocks (length metadata) → listed_all indexes (link (block_at content) (first_of content) i) ≡ 0
 
 -- why a server is not closed
 abbrev pub close_fault : Fault → CloseFault

@@ -2,14 +2,14 @@
 use Rattle.std.specs.Prelude.{◌≡◌, ◌≢◌, ℕ, ◌/◌, ◌<◌, ◌⊎◌, List, [], ◌∷◌, length, ⊤}
 use Rattle.arr_core.specs.declared.signature.Signature.{Signature}
 use Rattle.arr_core.specs.Stores.{Store}
-use Rattle.block_file.specs.Blocks.{block_at}
+use Rattle.block_file.specs.State.{block_at}
 use Rattle.block_file.specs.Format.{IsStoreFile, IsClosed, number_at, link, first_of, chain_blocks}
 use Rattle.metadata.specs.Metadata.{IsMetadata}
 use Rattle.coverage_server.specs.declared.opening.OpenFault.{OpenFault}
 use Rattle.coverage_server.specs.declared.opening.OpenFault.TheVariants as opening
 use Rattle.coverage_server.specs.declared.closing.CloseFault.{CloseFault}
 use Rattle.coverage_server.specs.declared.closing.CloseFault.TheVariants as closing
-use Rattle.raster_store.specs.Views.{Index, AreBelow, AreIntact, coverages_in, times_all}
+use Rattle.raster_store.specs.Views.{Index, AreBelow, AreIntact, coverages_in, listed_all}
 
 -- each index lists only tiles of its coverage's domain
 abbrev pub AreTiles : List Signature → List (List Index) → Type 0
@@ -19,7 +19,7 @@ AreTiles (s ∷ signatures) (i ∷ indexes) = AreBelow s.domain i × AreTiles si
 
 -- a block of the file that holds a tile: listed once, not the header, within the file, and none of the metadata's
 pub record IsTileBlock (content : List ℕ) (size : ℕ) (indexes : List (List Index)) (k : ℕ) : Type 0 where
-  pub once : times_all k indexes ≡ 1
+  pub once : listed_all indexes k ≡ 1
   pub above_zero : 0 < k
   pub within : k < length content / 4096
   pub apart : (i : ℕ) → i < chain_blocks size → link (block_at content) (first_of content) i ≢ k
@@ -29,7 +29,7 @@ pub record IsLaidOut (content metadata : List ℕ) (signatures : List Signature)
   pub closed : IsClosed content metadata
   pub written : IsMetadata metadata signatures indexes
   pub tiles : AreTiles signatures indexes
-  pub blocks : (k : ℕ) → 0 < times_all k indexes → IsTileBlock content (length metadata) indexes k
+  pub blocks : (k : ℕ) → 0 < listed_all indexes k → IsTileBlock content (length metadata) indexes k
 
 -- a closed file of these coverages, whether or not their tiles spell cells
 pub record ListsCoverages (content : List ℕ) (store : Store) (indexes : List (List Index)) : Type 0 where

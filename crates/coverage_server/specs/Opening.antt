@@ -1,37 +1,33 @@
 -- What the parts of an opening make of a file.
-use Rattle.std.specs.Prelude.{◌≡◌, ℕ, ◌+◌, ◌/◌, ◌<◌, ◌≤◌, max, List, [], length, map, Vec, ⊤}
+use Rattle.std.specs.Prelude.{◌≡◌, ℕ, ◌+◌, ◌/◌, ◌<◌, ◌≤◌, IsTrue, List, [], length, map, Vec, ⊤}
 use Rattle.std.specs.declared.alloc.Global.{Global}
 use Rattle.arr_core.specs.declared.signature.Signature.{Signature}
 use Rattle.arr_core.specs.Stores.{Store}
-use Rattle.block_file.specs.Blocks.{block_at}
-use Rattle.block_file.specs.Format.{IsClosed, first_of, chain_blocks}
-use Rattle.block_file.specs.View.{MarksChain, Claims, free_in, kept_in}
+use Rattle.block_file.specs.State.{times}
+use Rattle.block_file.specs.Format.{IsHeader}
+use Rattle.block_file.specs.Uses.{CanClaim, Claims, uses_of}
+use Rattle.block_file.specs.View.{BlockFileView}
+use Rattle.block_file.specs.declared.header.State.TheVariants.{Open}
 use Rattle.block_file.specs.declared.fault.OpenFault.{OpenFault as ChainFault}
 use Rattle.block_file.specs.declared.fault.OpenFault.TheVariants as chain
+use Rattle.catalogue.specs.Bytes.{catalogue_bytes}
 use Rattle.metadata.specs.Metadata.{IsMetadata}
 use Rattle.tile_index.specs.declared.index.TileIndex.{TileIndex}
 use Rattle.tile_store.specs.declared.fault.Fault.{Fault}
 use Rattle.tile_store.specs.declared.fault.Fault.TheVariants as device
-use Rattle.tile_store.specs.Listing.{times}
-use Rattle.raster_store.specs.Views.{Index, times_all}
+use Rattle.raster_store.specs.Views.{Index, listed_all, reserve}
 use Rattle.coverage_server.specs.declared.opening.OpenFault.{OpenFault}
 use Rattle.coverage_server.specs.declared.opening.OpenFault.TheVariants as opening
 use Rattle.coverage_server.specs.Disk.{IsLaidOut, ListsStore}
+use Rattle.coverage_server.specs.Views.{free_blocks}
 
 -- the indexes of coverages, as lists
 abbrev pub items_of : List (Vec TileIndex Global) → List (List Index)
 items_of indexes = map (λ (v : Vec TileIndex Global). v.items) indexes
 
--- What an opened file says of its metadata and of its blocks' marks: without a byte there is no metadata, else it is that
--- of the closed file, whose chain is marked.
-pub record IsOpened (content metadata marks : List ℕ) : Type 0 where
-  pub new_file : content ≡ [] → metadata ≡ []
-  pub closed : 0 < length content → IsClosed content metadata
-  pub unique : (other : List ℕ) → IsClosed content other → metadata ≡ other
-  pub marked : 0 < length content → MarksChain (block_at content) (first_of content) (length metadata) marks
-  pub kept : 0 < length content → chain_blocks (length metadata) ≤ kept_in marks
-  pub blocks : length marks ≡ max 1 (length content / 4096)
-  pub whole : (k : ℕ) → 0 < k → k < length marks → length (block_at content k) ≡ 4096
+-- the header is that of an open file with as many blocks as there are
+abbrev pub IsOpenFile : List ℕ → Type 0
+IsOpenFile content = IsHeader content Open (length content / 4096) 0 0
 
 -- what metadata lists, and nothing else: without a byte no coverage
 pub record IsListed (metadata : List ℕ) (signatures : List Signature) (indexes : List (List Index)) : Type 0 where
@@ -39,16 +35,32 @@ pub record IsListed (metadata : List ℕ) (signatures : List Signature) (indexes
   pub read : 0 < length metadata → IsMetadata metadata signatures indexes
   pub only : 0 < length metadata → (s : List Signature) (i : List (List Index)) → IsMetadata metadata s i → (s ≡ signatures) × (i ≡ indexes)
 
--- the blocks that indexes list were claimed
+-- The blocks that indexes list were claimed, and are in use as often as they are listed besides.
 pub record ClaimsListed (indexes : List (List Index)) (old new : List ℕ) : Type 0 where
   pub blocks : List ℕ
-  pub each : (k : ℕ) → times k blocks ≡ times_all k indexes
+  pub each : (k : ℕ) → times blocks k ≡ listed_all indexes k
   pub claims : Claims blocks old new
-  pub free : free_in new + length blocks ≡ free_in old
+  pub counts : (k : ℕ) → uses_of new k ≡ uses_of old k + listed_all indexes k
+
+-- the blocks that indexes list may not be claimed
+pub record CannotClaim (indexes : List (List Index)) (marks : List ℕ) : Type 0 where
+  pub blocks : List ℕ
+  pub each : (k : ℕ) → times blocks k ≡ listed_all indexes k
+  pub refused : CanClaim blocks marks → ⊥
+
+-- What metadata lists was claimed, and as many blocks are free as the metadata takes.
+pub record ClaimsLayout (metadata : List ℕ) (signatures : List Signature) (indexes : List (List Index)) (old new : List ℕ) : Type 0 where
+  pub listed : IsListed metadata signatures indexes
+  pub claims : ClaimsListed indexes old new
+  pub room : reserve (length (catalogue_bytes signatures)) indexes ≤ free_blocks indexes
 
 -- no metadata of any signatures and indexes is laid out
 abbrev pub IsNotLaidOut : List ℕ → Type 0
 IsNotLaidOut content = (metadata : List ℕ) (signatures : List Signature) (indexes : List (List Index)) → IsLaidOut content metadata signatures indexes → ⊥
+
+-- metadata is none of any signatures and indexes
+abbrev pub IsUnread : List ℕ → Type 0
+IsUnread metadata = (0 < length metadata) × ((signatures : List Signature) (indexes : List (List Index)) → IsMetadata metadata signatures indexes → ⊥)
 
 -- the disk lists these coverages, and no others
 pub record Lists (content : List ℕ) (store : Store) (indexes : List (List Index)) : Type 0 where
@@ -62,6 +74,10 @@ Departs departure opening.DiskFault = ⊥
 Departs departure opening.Damaged = departure
 Departs departure opening.NotAStore = ⊥
 Departs departure opening.NotClosed = ⊥
+
+-- why an opened file holds no store, if its disk is honest
+abbrev pub IsNoLayout : BlockFileView → OpenFault → Type 0
+IsNoLayout file fault = Departs (IsTrue file.honest → (0 < length file.content) × IsNotLaidOut file.content) fault
 
 -- why a file is not opened, and why coverages are not attached
 abbrev pub chain_fault : ChainFault → OpenFault

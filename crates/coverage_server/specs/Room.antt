@@ -9,17 +9,17 @@ use Rattle.arr_core.specs.Fields.{place_of as field_place}
 use Rattle.arr_core.specs.Stores.{found}
 use Rattle.catalogue.specs.Bytes.{catalogue_bytes}
 use Rattle.raster_store.specs.Views.{reserve}
-use Rattle.raster_store.specs.Calls.{LacksRoomFor}
+use Rattle.raster_store.specs.Calls.{LacksRoomFor, indexes_with}
 use Rattle.kvp_front.specs.Contents.{Cells, fill, values}
 use Rattle.kvp_front.specs.Requests.{Asks, insert_coverage, update_coverage, delete_coverage, list_coverages, describe_coverage, process_coverages, submit_query, step_job, fetch_job, cancel_job, expand_template, process_template}
 use Rattle.coverage_server.specs.Machine.{axes_of}
-use Rattle.coverage_server.specs.Views.{ServerView, signatures_of}
+use Rattle.coverage_server.specs.Views.{ServerView, signatures_of, free_blocks, blocks_of}
 use Rattle.kvp_front.specs.declared.request.Interval.{Interval}
 
 -- the metadata with a new coverage, which has no tiles, takes more blocks than are free
 abbrev pub LacksRoomToInsert : Signature → ServerView → Type 0
 LacksRoomToInsert s v =
-    v.free < reserve (length (catalogue_bytes (signatures_of v.store ++ s ∷ []))) (v.indexes ++ replicate (length s.fields) [] ∷ [])
+    free_blocks v.indexes < reserve (length (catalogue_bytes (signatures_of v.store ++ s ∷ []))) (indexes_with s v.indexes)
 
 -- the stored numbers of a box's cells
 abbrev pub numbers_of : List Axis → Cells → List ℤ
@@ -29,7 +29,7 @@ numbers_of box (values cells) = map stored cells
 -- the new tiles of a box and the metadata take more blocks than are free
 abbrev pub LacksRoomToWrite : List ℕ → ℕ → List Axis → Cells → ServerView → Type 0
 LacksRoomToWrite name field box cells v =
-    LacksRoomFor name field box (numbers_of box cells) (length (catalogue_bytes (signatures_of v.store))) v.content v.store v.indexes v.free
+    LacksRoomFor name field box (numbers_of box cells) (length (catalogue_bytes (signatures_of v.store))) (blocks_of v) v.store v.indexes
 
 -- the same of the field with a name
 abbrev pub LacksRoomToUpdate : List ℕ → List ℕ → List Interval → Cells → ServerView → Type 0

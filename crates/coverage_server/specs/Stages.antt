@@ -12,10 +12,10 @@ use Rattle.wcps_text.specs.Grammar.{IsSpelled}
 use Rattle.wcps_text.specs.Tree.{query_view}
 use Rattle.wcps_parse.specs.Outcome.{IsWithinLimits}
 use Rattle.wcps_types.specs.declared.refusal.TypeRefusal.{TypeRefusal}
-use Rattle.wcps_types.specs.declared.shared.SharedQuery.{SharedQuery}
+use Rattle.wcps_types.specs.declared.typed_query.TypedQuery.{TypedQuery}
 use Rattle.wcps_types.specs.Refusals.{number_of as type_number}
 use Rattle.wcps_types.specs.Typed.{TypedTree}
-use Rattle.wcps_types.specs.SharedQueries.{shared_query_view as typed_view}
+use Rattle.wcps_types.specs.TypedQueries.{query_view as typed_view}
 use Rattle.wcps_types.specs.Work.{query_work}
 use Rattle.wcps_mean.specs.declared.cells.CellError.{CellError}
 use Rattle.wcps_mean.specs.declared.cells.CellError.TheVariants as cell
@@ -56,7 +56,7 @@ GivesQuery ts (Err NoRoom) = ⊥
 GivesQuery ts (Err Damaged) = ⊥
 
 -- a typed query, or its refusal
-abbrev pub GivesTyped : Result TypedTree TypeRefusal → Result SharedQuery Refusal → Type 0
+abbrev pub GivesTyped : Result TypedTree TypeRefusal → Result TypedQuery Refusal → Type 0
 GivesTyped checked (Ok q) = checked ≡ Ok (typed_view q)
 GivesTyped checked (Err (Numbered code)) = (refusal : TypeRefusal) × (checked ≡ Err refusal) × (code ≡ type_number refusal)
 GivesTyped checked (Err NoMemory) = ⊤
@@ -71,7 +71,7 @@ pub record IsTypedText (store : Store) (text : List ℕ) (q : TypedTree) : Type 
   pub some : 1 ≤ length q.combinations
 
 -- the typed query of a text over a store, or its refusal
-abbrev pub GivesText : Store → List ℕ → Result SharedQuery Refusal → Type 0
+abbrev pub GivesText : Store → List ℕ → Result TypedQuery Refusal → Type 0
 GivesText store text (Ok q) = IsTypedText store text (typed_view q)
 GivesText store text (Err (Numbered code)) = TextTyped store text (Err code)
 GivesText store text (Err NoMemory) = ⊤

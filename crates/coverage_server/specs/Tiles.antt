@@ -20,6 +20,14 @@ pub record ReadsSound (v : ServerView) (asked : List Signature) : Type 0 where
   pub sound : IsSound v
   pub held : All (IsHeld v.store) asked
 
+-- the coverage of the store with that name has that domain, and a field at the place
+abbrev pub HasDomain : Signature → ℕ → Store → Type 0
+HasDomain s field store = IsSomeAnd (found s.name store) (λ c. (c.domain ≡ s.domain) × (field < length c.fields))
+
+-- the disk is not sound, or the store has no coverage of this signature
+abbrev pub IsTileFault : Signature → ServerView → Type 0
+IsTileFault s v = IsSound v → IsHeld v.store s → ⊥
+
 -- the coverage of the store with that name has that domain and a field at the place, and these are its numbers in a tile
 abbrev pub AreNumbers : Signature → ℕ → ℕ → Store → List ℤ → Type 0
 AreNumbers s field tile store numbers =

@@ -2,18 +2,18 @@
 use Rattle.std.specs.Prelude.{◌≡◌, ℕ, ◌≤◌, Bool, IsTrue, List, map, length}
 use Rattle.arr_core.specs.declared.signature.Signature.{Signature}
 use Rattle.arr_core.specs.Stores.{Store}
+use Rattle.block_file.specs.State.{BlocksState, free_up_to}
 use Rattle.catalogue.specs.Bytes.{catalogue_bytes}
 use Rattle.job_desk.specs.Desks.{DeskView}
-use Rattle.raster_store.specs.Views.{Index, AreIntact, reserve}
+use Rattle.raster_store.specs.Views.{Index, AreIntact, listed_all, reserve}
 use Rattle.raster_store.specs.Calls.{signature_of, AreSameSignatures}
 
--- The store; the index of each field of each coverage; what the disk holds, how many of its blocks are free, whether it is
--- honest, and how many of its calls have failed; and how many tiles were fetched.
+-- The store; the index of each field of each coverage; what the disk holds, whether it is honest, and how many of its
+-- calls have failed; and how many tiles were fetched.
 pub record ServerView : Type 0 where
   pub store : Store
   pub indexes : List (List Index)
   pub content : List ℕ
-  pub free : ℕ
   pub honest : Bool
   pub failures : ℕ
   pub fetched : ℕ
@@ -41,10 +41,28 @@ pub record IsUnchanged (old new : ServerView) : Type 0 where
   pub signatures : AreSameSignatures old.store new.store
   pub store : IsTrue old.honest → new.store ≡ old.store
 
--- The catalogue is that of the store, and as many blocks are free as the metadata takes.
-pub record IsClosable (catalogue : List Signature) (store : Store) (indexes : List (List Index)) (free : ℕ) : Type 0 where
+-- How many blocks of a disk are free: of those from 1 to 1,048,575 as many as no index lists. Block 0 is the header.
+abbrev pub free_blocks : List (List Index) → ℕ
+free_blocks indexes = free_up_to 1048575 (listed_all indexes)
+
+-- the blocks of the disk, each in use as often as the indexes list it
+abbrev pub blocks_of : ServerView → BlocksState
+blocks_of v = record {
+  content = v.content;
+  synced = v.content;
+  uses = listed_all v.indexes;
+  size = 1048576;
+  failures = v.failures;
+  honest = v.honest;
+}
+
+-- The catalogue is that of the store; each block is in use exactly as often as the indexes list it, which is once at most;
+-- and as many blocks are free as the metadata takes.
+pub record IsClosable (catalogue : List Signature) (store : Store) (indexes : List (List Index)) (uses : ℕ → ℕ) : Type 0 where
   pub signatures : catalogue ≡ signatures_of store
-  pub room : reserve (length (catalogue_bytes catalogue)) indexes ≤ free
+  pub counted : (k : ℕ) → uses k ≡ listed_all indexes k
+  pub once : (k : ℕ) → listed_all indexes k ≤ 1
+  pub room : reserve (length (catalogue_bytes catalogue)) indexes ≤ free_blocks indexes
 
 -- what reading leaves as it is: all but the counts
 abbrev pub still_of : ServerView → ServerView

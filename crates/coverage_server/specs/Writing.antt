@@ -1,5 +1,5 @@
 -- When coverages are inserted and boxes written, and why not.
-use Rattle.std.specs.Prelude.{◌≡◌, ℕ, ◌⊎◌, List, length, All, Option, Some, None, slice_get, IsSomeAnd, ⊤}
+use Rattle.std.specs.Prelude.{◌≡◌, ℕ, ◌⊎◌, IsTrue, List, length, All, Option, Some, None, slice_get, IsSomeAnd, ⊤}
 use Rattle.std.specs.Borrow.{Bor}
 use Rattle.arr_core.specs.declared.cell.FieldType.{FieldType}
 use Rattle.arr_core.specs.declared.domain.Axis.{Axis}
@@ -7,17 +7,17 @@ use Rattle.arr_core.specs.declared.field.Field.{Field}
 use Rattle.arr_core.specs.declared.signature.Signature.{Signature}
 use Rattle.arr_core.specs.Cells.{Holds}
 use Rattle.arr_core.specs.Domains.{count, IsBoxOf}
-use Rattle.arr_core.specs.Stores.{Coverage, Store, found}
+use Rattle.arr_core.specs.Stores.{Coverage, Store, found, inserted, updated}
 use Rattle.catalogue.specs.declared.error.InsertError.{InsertError}
 use Rattle.catalogue.specs.declared.error.InsertError.TheVariants as insertion
-use Rattle.catalogue.specs.Signatures.{IsRefused}
+use Rattle.catalogue.specs.Signatures.{IsRefused, MayInsert}
 use Rattle.tile_store.specs.declared.fault.Fault.{Fault}
 use Rattle.tile_store.specs.declared.fault.Fault.TheVariants as device
 use Rattle.raster_store.specs.declared.fault.WriteFault.{WriteFault}
 use Rattle.raster_store.specs.declared.fault.WriteFault.TheVariants as writing
 use Rattle.raster_store.specs.Calls.{signature_of}
 use Rattle.kvp_front.specs.Contents.{Cells, fill, values}
-use Rattle.coverage_server.specs.Room.{LacksRoomToInsert, LacksRoomToWrite}
+use Rattle.coverage_server.specs.Room.{LacksRoomToInsert, LacksRoomToWrite, numbers_of}
 use Rattle.coverage_server.specs.Views.{ServerView, IsSound, signatures_of}
 use Rattle.coverage_server.specs.declared.arguments.Refusal.{Refusal}
 use Rattle.coverage_server.specs.declared.arguments.Refusal.TheVariants.{Numbered, NoMemory, DiskFault, NoRoom, Damaged}
@@ -47,6 +47,11 @@ abbrev pub FindsCoverage : List ℕ → Store → Option (Bor Signature) → Typ
 FindsCoverage name store None = found name store ≡ None
 FindsCoverage name store (Some s) = (c : Coverage) × (found name store ≡ Some c) × (s.now ≡ signature_of c)
 
+-- a coverage came that is 0 or false everywhere
+pub record InsertsCoverage (s : Signature) (old new : ServerView) : Type 0 where
+  pub may : MayInsert (signatures_of old.store) s
+  pub inserted : new.store ≡ inserted s.name s.domain s.fields old.store
+
 -- a coverage is not inserted: the catalogue refuses it, memory is wanting, or room
 abbrev pub InsertRefused : ServerView → Signature → Refusal → Type 0
 InsertRefused v s (Numbered code) = (e : InsertError) × (insert_refusal e ≡ Numbered code) × IsRefused (signatures_of v.store) s e
@@ -71,6 +76,11 @@ AreRefused kind box (values cells) code =
 abbrev pub MayWrite : List ℕ → ℕ → List Axis → Cells → Store → Type 0
 MayWrite name field box cells store =
     IsSomeAnd (found name store) (λ c. IsBoxOf c.domain box × IsSomeAnd (slice_get c.fields field) (λ (f : Field). AreCellsOf f.kind box cells))
+
+-- Cells were written into a box of a field: they may be, and where the disk is honest the store is function update on the box.
+pub record WritesCells (name : List ℕ) (field : ℕ) (box : List Axis) (cells : Cells) (old new : ServerView) : Type 0 where
+  pub may : MayWrite name field box cells old.store
+  pub written : IsTrue old.honest → new.store ≡ updated name field box (numbers_of box cells) old.store
 
 -- no box of the coverage, or no cells for the field
 abbrev pub IsNoWrite : Coverage → ℕ → List Axis → Cells → ℕ → Type 0

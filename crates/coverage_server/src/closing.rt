@@ -1,18 +1,11 @@
 //! A server is closed: the metadata is written, then the header, and the disk comes out.
-ghost use Rattle.std.specs.Prelude.{◌≡◌, ◌++◌, ◌<◌, ◌≤◌, length, IsSomeAnd, IsErrOf, IsTrue, IfOk, IfErr, OnOk, OnErr};
-ghost use Rattle.arr_core.specs.Stores.{found};
+ghost use Rattle.std.specs.Prelude.{◌≡◌, ◌++◌, ◌≤◌, IsErrOf, IfOk, IfErr, OnOk};
 ghost use Rattle.block_file.specs.Format.{KeepsHeader};
-ghost use Rattle.catalogue.specs.Bytes.{catalogue_bytes};
-ghost use Rattle.catalogue.specs.Signatures.{IsCatalogue};
-ghost use Rattle.disk_face.specs.Disk.{Rose};
-ghost use Rattle.metadata.specs.Metadata.{part_bytes, metadata_bytes};
-ghost use Rattle.raster_store.specs.Views.{metadata_size};
-ghost use Rattle.raster_store.specs.Calls.{AreWhole};
-ghost use Rattle.tile_index.specs.Bytes.{index_bytes};
-ghost use Rattle.coverage_server.specs.Closing.{bytes_named, bytes_written, IsWritten};
+ghost use Rattle.disk_face.specs.Disk.{Tells};
+ghost use Rattle.coverage_server.specs.Closing.{bytes_named, bytes_written, metadata_held, IsWritten};
 ghost use Rattle.coverage_server.specs.Disk.{HoldsStore};
 ghost use Rattle.coverage_server.specs.Sessions.{IsNotClosed};
-ghost use Rattle.coverage_server.specs.Views.{IsSound, IsUnchanged, signatures_of};
+ghost use Rattle.coverage_server.specs.Views.{IsSound, IsUnchanged};
 
 use crate::cells::AskedCells;
 use crate::coverages::Coverages;
@@ -70,7 +63,8 @@ fn push_indexes<D: Disk>(
     name: &Name,
     bytes: &mut Vec<u8>,
 ) -> Result<(), AllocError>
-    ensures { OnOk result (bytes.new.items ≡ bytes.old.items ++ bytes_named name.now coverages.now.store coverages.now.indexes) }
+    ensures { OnOk result
+        (bytes.new.items ≡ bytes.old.items ++ bytes_named name.now coverages.now.store coverages.now.indexes) }
 {
     let Some(signature) = coverages.signature(name) else {
         return Ok(());
@@ -97,13 +91,13 @@ fn metadata_of<D: Disk>(alloc: Global, coverages: &Coverages<D>) -> Result<Vec<u
 
 /// Writes the metadata, and then the header of a closed file.
 fn write_closed<D: Disk>(alloc: Global, coverages: &mut Coverages<D>) -> Result<(), CloseFault>
-    ensures written { OnOk result (IsSound coverages.old → IsWritten coverages.new.content (metadata_bytes (signatures_of coverages.old.store) coverages.old.indexes) coverages.new.indexes) }
+    ensures written { OnOk result (IsSound coverages.old
+        → IsWritten coverages.new.content (metadata_held coverages.old) coverages.new.indexes) }
     ensures unchanged { IsUnchanged coverages.old coverages.new }
     ensures sound { IsSound coverages.old → IsSound coverages.new }
     ensures honest { coverages.new.honest ≡ coverages.old.honest }
-    ensures disk_fault { IsErrOf result CloseFault.DiskFault → Rose coverages.old.failures coverages.new.failures }
-    ensures no_memory { IsErrOf result CloseFault.NoMemory → KeepsHeader coverages.old.content coverages.new.content × (coverages.new.failures ≡ coverages.old.failures) }
-    ensures no_fewer { coverages.old.failures ≤ coverages.new.failures }
+    ensures told { Tells (IsErrOf result CloseFault.DiskFault) coverages.old.failures coverages.new.failures }
+    ensures header { IsErrOf result CloseFault.NoMemory → KeepsHeader coverages.old.content coverages.new.content }
 {
     let metadata = metadata_of(alloc, coverages)?;
     coverages.write_metadata(&metadata)

@@ -1,26 +1,27 @@
 //! The coverages of a disk: their catalogue, and their cells in tiles.
-ghost use Rattle.std.specs.Prelude.{◌≡◌, ◌/◌, ◌<◌, ◌≤◌, map, length, true, false, IsSomeAnd, IfOk, IfErr, OnOk, OnErr, IsErrOf, IsTrue};
+ghost use Rattle.std.specs.Prelude.{◌≡◌, ◌<◌, ◌≤◌, length, true, false, IfOk, IfErr, OnOk, OnErr};
+ghost use Rattle.std.specs.Prelude.{IsErr, IsErrOf, IsTrue};
 ghost use Rattle.arr_core.specs.Domains.{points};
-ghost use Rattle.arr_core.specs.Stores.{found, inserted, deleted, updated};
+ghost use Rattle.arr_core.specs.Stores.{deleted};
 ghost use Rattle.arr_core.specs.Tiles.{tile_boxes};
-ghost use Rattle.block_file.specs.Format.{IsHeader, HeaderTorn, KeepsHeader, Closes};
+ghost use Rattle.block_file.specs.Format.{HeaderTorn, KeepsHeader, Closes};
 ghost use Rattle.catalogue.specs.Bytes.{catalogue_bytes};
-ghost use Rattle.metadata.specs.Metadata.{part_bytes, metadata_bytes};
-ghost use Rattle.tile_index.specs.Bytes.{index_bytes};
-ghost use Rattle.catalogue.specs.Signatures.{IsCatalogue, MayInsert};
-ghost use Rattle.tile_store.specs.Faults.{FaultCounts};
+ghost use Rattle.metadata.specs.Metadata.{part_bytes};
+ghost use Rattle.catalogue.specs.Signatures.{IsCatalogue};
+ghost use Rattle.tile_store.specs.Faults.{Refuses};
 ghost use Rattle.tile_store.specs.Stored.{tile_box};
-ghost use Rattle.raster_store.specs.Calls.{HasField, index_of};
+ghost use Rattle.raster_store.specs.Calls.{HasField, IsIndexOf};
 ghost use Rattle.raster_store.specs.Views.{Fetched};
-ghost use Rattle.coverage_server.specs.Tiles.{AreNumbers, IsHeld};
-ghost use Rattle.disk_face.specs.Disk.{Counts, Rose};
+ghost use Rattle.coverage_server.specs.Tiles.{AreNumbers, HasDomain, IsHeld, IsTileFault};
+ghost use Rattle.disk_face.specs.Disk.{Tells};
 ghost use Rattle.kvp_front.specs.Contents.{content_view};
-ghost use Rattle.coverage_server.specs.Closing.{bytes_written, IsWritten, close_fault};
+ghost use Rattle.coverage_server.specs.Closing.{bytes_written, metadata_held, IsWritten, close_fault};
 ghost use Rattle.kvp_front.specs.Contents as contents;
 ghost use Rattle.coverage_server.specs.Disk.{HoldsStore};
-ghost use Rattle.coverage_server.specs.Room.{LacksRoomToInsert, LacksRoomToWrite, numbers_of};
+ghost use Rattle.coverage_server.specs.Opening.{IsOpenFile};
 ghost use Rattle.coverage_server.specs.Views.{IsSound, IsUnchanged, signatures_of, still_of};
-ghost use Rattle.coverage_server.specs.Writing.{device_refusal, write_refusal, insert_refusal, FindsCoverage, InsertRefused, MayWrite, WriteRefused};
+ghost use Rattle.coverage_server.specs.Writing.{device_refusal, write_refusal, insert_refusal, FindsCoverage};
+ghost use Rattle.coverage_server.specs.Writing.{InsertsCoverage, InsertRefused, WritesCells, WriteRefused};
 
 use crate::arguments::Refusal;
 use crate::closing::CloseFault;
@@ -44,7 +45,7 @@ pub struct Coverages<D: Disk> {
 }
 
 impl<D: Disk> Model for Coverages<D> {
-    ghost use Rattle.page_pool.specs.Pages.{free_of};
+    ghost use Rattle.block_file.specs.Uses.{uses_of};
     ghost use Rattle.coverage_server.specs.Views.{ServerView, IsClosable};
 
     ghost Value = { ServerView };
@@ -53,13 +54,12 @@ impl<D: Disk> Model for Coverages<D> {
       store = s.cells.coverages;
       indexes = s.cells.indexes;
       content = s.cells.blocks.content;
-      free = free_of s.cells.blocks;
       honest = s.cells.blocks.honest;
       failures = s.cells.blocks.failures;
       fetched = s.cells.fetched;
     } };
 
-    ghost invariant = { λ s. IsClosable s.catalogue s.cells.coverages s.cells.indexes (free_of s.cells.blocks) };
+    ghost invariant = { λ s. IsClosable s.catalogue s.cells.coverages s.cells.indexes (uses_of s.cells.blocks.marks) };
 }
 
 /// Why a signature is not inserted.
@@ -112,12 +112,12 @@ fn close_fault(fault: Fault) -> CloseFault
 }
 
 impl<D: Disk> Coverages<D> {
-    ghost use Rattle.page_pool.specs.Pages.{free_of};
+    ghost use Rattle.block_file.specs.Uses.{uses_of};
     ghost use Rattle.coverage_server.specs.Views.{IsClosable};
 
     /// The coverages that cells hold, with their catalogue.
     pub(crate) fn new(catalogue: Catalogue, cells: RasterStore<PagePool<D>>) -> Coverages<D>
-        requires { IsClosable catalogue cells.coverages cells.indexes (free_of cells.blocks) }
+        requires { IsClosable catalogue cells.coverages cells.indexes (uses_of cells.blocks.marks) }
         ensures store { result.store ≡ cells.coverages }
         ensures indexes { result.indexes ≡ cells.indexes }
         ensures content { result.content ≡ cells.blocks.content }
@@ -160,8 +160,7 @@ impl<D: Disk> Coverages<D> {
     /// Adds a coverage that is 0 or false everywhere. Refused as the catalogue refuses its signature, then for memory,
     /// and for room where fewer blocks are free than the metadata takes with it. A refusal changes nothing.
     pub fn insert(&mut self, alloc: Global, signature: Signature) -> Result<(), Refusal>
-        ensures inserted { OnOk result (self.new.store ≡ inserted signature.name signature.domain signature.fields self.old.store) }
-        ensures may { OnOk result (MayInsert (signatures_of self.old.store) signature) }
+        ensures inserted { OnOk result (InsertsCoverage signature self.old self.new) }
         ensures refused { IfErr result (λ e. InsertRefused self.old signature e) }
         ensures unchanged { OnErr result (IsUnchanged self.old self.new) }
         ensures sound { IsSound self.old → IsSound self.new }
@@ -209,11 +208,9 @@ impl<D: Disk> Coverages<D> {
         content: &Content,
     ) -> Result<(), Refusal>
         requires field { HasField name.now field self.old.store }
-        ensures written { OnOk result (IsTrue self.old.honest → self.new.store ≡ updated name.now field area.now (numbers_of area.now (content_view content.now)) self.old.store) }
-        ensures may { OnOk result (MayWrite name.now field area.now (content_view content.now) self.old.store) }
+        ensures done { OnOk result (WritesCells name.now field area.now (content_view content.now) self.old self.new) }
         ensures refused { IfErr result (WriteRefused name.now field area.now (content_view content.now) self.old) }
-        ensures disk_fault { IsErrOf result Refusal.DiskFault → Rose self.old.failures self.new.failures }
-        ensures no_fewer { self.old.failures ≤ self.new.failures }
+        ensures told { Tells (IsErrOf result Refusal.DiskFault) self.old.failures self.new.failures }
         ensures unchanged { OnErr result (IsUnchanged self.old self.new) }
         ensures sound { IsSound self.old → IsSound self.new }
         ensures header { KeepsHeader self.old.content self.new.content }
@@ -228,11 +225,9 @@ impl<D: Disk> Coverages<D> {
     /// Writes one cell at each point of a box.
     fn fill(&mut self, name: &Name, field: usize, area: &Domain, cell: Cell) -> Result<(), Refusal>
         requires field { HasField name.now field self.old.store }
-        ensures written { OnOk result (IsTrue self.old.honest → self.new.store ≡ updated name.now field area.now (numbers_of area.now (contents.fill cell)) self.old.store) }
-        ensures may { OnOk result (MayWrite name.now field area.now (contents.fill cell) self.old.store) }
+        ensures done { OnOk result (WritesCells name.now field area.now (contents.fill cell) self.old self.new) }
         ensures refused { IfErr result (WriteRefused name.now field area.now (contents.fill cell) self.old) }
-        ensures disk_fault { IsErrOf result Refusal.DiskFault → Rose self.old.failures self.new.failures }
-        ensures no_fewer { self.old.failures ≤ self.new.failures }
+        ensures told { Tells (IsErrOf result Refusal.DiskFault) self.old.failures self.new.failures }
         ensures unchanged { OnErr result (IsUnchanged self.old self.new) }
         ensures sound { IsSound self.old → IsSound self.new }
         ensures header { KeepsHeader self.old.content self.new.content }
@@ -254,11 +249,9 @@ impl<D: Disk> Coverages<D> {
         cells: &[Cell],
     ) -> Result<(), Refusal>
         requires field { HasField name.now field self.old.store }
-        ensures written { OnOk result (IsTrue self.old.honest → self.new.store ≡ updated name.now field area.now (numbers_of area.now (contents.values cells.now)) self.old.store) }
-        ensures may { OnOk result (MayWrite name.now field area.now (contents.values cells.now) self.old.store) }
+        ensures done { OnOk result (WritesCells name.now field area.now (contents.values cells.now) self.old self.new) }
         ensures refused { IfErr result (WriteRefused name.now field area.now (contents.values cells.now) self.old) }
-        ensures disk_fault { IsErrOf result Refusal.DiskFault → Rose self.old.failures self.new.failures }
-        ensures no_fewer { self.old.failures ≤ self.new.failures }
+        ensures told { Tells (IsErrOf result Refusal.DiskFault) self.old.failures self.new.failures }
         ensures unchanged { OnErr result (IsUnchanged self.old self.new) }
         ensures sound { IsSound self.old → IsSound self.new }
         ensures header { KeepsHeader self.old.content self.new.content }
@@ -273,8 +266,9 @@ impl<D: Disk> Coverages<D> {
 
     /// Whether the coverage with a signature's name has its domain, and a field at a place.
     fn is_held(&self, asked: &Signature, field: usize) -> bool
-        ensures yes { result ≡ true → IsSomeAnd (found asked.now.name self.now.store) (λ c. (c.domain ≡ asked.now.domain) × (field < length c.fields)) }
-        ensures no { result ≡ false → field < length asked.now.fields → IsHeld self.now.store asked.now → ⊥ }
+        ensures yes { result ≡ true → HasDomain asked.now field self.now.store }
+        ensures no { result ≡ false → field < length asked.now.fields
+            → IsHeld self.now.store asked.now → ⊥ }
     {
         match self.signature(&asked.name) {
             None => false,
@@ -295,14 +289,14 @@ impl<D: Disk> Coverages<D> {
     ) -> Result<(), Fault>
         requires field { field < length asked.now.fields }
         requires tile { tile < length (tile_boxes asked.now.domain) }
-        ensures value { OnOk result (IsTrue self.old.honest → AreNumbers asked.now field tile self.old.store numbers.new.items) }
+        ensures value { OnOk result (IsTrue self.old.honest
+            → AreNumbers asked.now field tile self.old.store numbers.new.items) }
         ensures counted { OnOk result (length numbers.new.items ≡ length (points (tile_box asked.now.domain tile))) }
-        ensures damaged { IsErrOf result Fault.Damaged → IsSound self.old → IsHeld self.old.store asked.now → ⊥ }
-        ensures no_room { IsErrOf result Fault.NoRoom → ⊥ }
+        ensures why { Refuses result (IsTileFault asked.now self.old) ⊥ }
         ensures still { still_of self.new ≡ still_of self.old }
         ensures fetched { OnOk result (Fetched 1 self.old.fetched self.new.fetched) }
         ensures rises { self.old.fetched ≤ self.new.fetched }
-        ensures counts { FaultCounts result self.old.failures self.new.failures }
+        ensures told { Tells (IsErrOf result Fault.DiskFault) self.old.failures self.new.failures }
     {
         let _fetched = self.cells.fetched();
         if !self.is_held(asked, field) {
@@ -328,7 +322,7 @@ impl<D: Disk> Coverages<D> {
         field: usize,
     ) -> Result<Vec<u8>, AllocError>
         requires field { HasField name.now field self.now.store }
-        ensures { IfOk result (λ bytes. IsSomeAnd (index_of name.now field self.now.store self.now.indexes) (λ i. bytes.items ≡ index_bytes i)) }
+        ensures { IfOk result (λ bytes. IsIndexOf name.now field self.now.store self.now.indexes bytes.items) }
     {
         let bytes = self.cells.index_bytes(alloc, name, field)?;
         Ok(bytes)
@@ -338,13 +332,13 @@ impl<D: Disk> Coverages<D> {
     /// where the disk has counted a failure.
     pub fn write_metadata(&mut self, metadata: &[u8]) -> Result<(), CloseFault>
         requires { metadata.now ≡ bytes_written self.old.store self.old.indexes }
-        ensures written { OnOk result (IsSound self.old → IsWritten self.new.content (metadata_bytes (signatures_of self.old.store) self.old.indexes) self.new.indexes) }
+        ensures written { OnOk result (IsSound self.old
+            → IsWritten self.new.content (metadata_held self.old) self.new.indexes) }
         ensures unchanged { IsUnchanged self.old self.new }
         ensures sound { IsSound self.old → IsSound self.new }
         ensures honest { self.new.honest ≡ self.old.honest }
-        ensures disk_fault { IsErrOf result CloseFault.DiskFault → Rose self.old.failures self.new.failures }
-        ensures no_fewer { self.old.failures ≤ self.new.failures }
-        ensures no_memory { IsErrOf result CloseFault.NoMemory → KeepsHeader self.old.content self.new.content × (self.new.failures ≡ self.old.failures) }
+        ensures told { Tells (IsErrOf result CloseFault.DiskFault) self.old.failures self.new.failures }
+        ensures header { IsErrOf result CloseFault.NoMemory → KeepsHeader self.old.content self.new.content }
     {
         let _catalogue = self.catalogue.len();
         let _whole = self.cells.len();
@@ -360,9 +354,8 @@ impl<D: Disk> Coverages<D> {
         ensures unchanged { IsUnchanged self.old self.new }
         ensures sound { IsSound self.old → IsSound self.new }
         ensures honest { self.new.honest ≡ self.old.honest }
-        ensures disk_fault { OnErr result (Rose self.old.failures self.new.failures) }
-        ensures no_fewer { self.old.failures ≤ self.new.failures }
-        ensures fault { IsErrOf result CloseFault.NoMemory → ⊥ }
+        ensures told { Tells (IsErrOf result CloseFault.DiskFault) self.old.failures self.new.failures }
+        ensures memory { IsErrOf result CloseFault.NoMemory → ⊥ }
     {
         match self.cells.write_header(State::Closed, first, length) {
             Ok(()) => Ok(()),
@@ -372,20 +365,21 @@ impl<D: Disk> Coverages<D> {
 
     /// Writes the header of an open file. Refused where the disk has counted a failure.
     pub(crate) fn write_open(&mut self) -> Result<(), DiskFault>
-        ensures header { OnOk result (IsTrue self.old.honest → IsHeader self.new.content State.Open (length self.new.content / 4096) 0 0) }
+        ensures header { OnOk result (IsTrue self.old.honest → IsOpenFile self.new.content) }
         ensures torn { IsTrue self.old.honest → HeaderTorn self.old.content self.new.content }
         ensures indexes { self.new.indexes ≡ self.old.indexes }
         ensures store { IsTrue self.old.honest → self.new.store ≡ self.old.store }
         ensures sound { IsSound self.old → IsSound self.new }
         ensures honest { self.new.honest ≡ self.old.honest }
-        ensures counts { Counts result self.old.failures self.new.failures }
+        ensures told { Tells (IsErr result) self.old.failures self.new.failures }
     {
         self.cells.write_header(State::Open, 0, 0)
     }
 
     /// The disk below. Once a closing has been written it holds the store.
     pub fn into_disk(self) -> D
-        ensures held { IsWritten (D.content result) (metadata_bytes (signatures_of self.store) self.indexes) self.indexes → IsSound self → HoldsStore (D.content result) self.store }
+        ensures held { IsWritten (D.content result) (metadata_held self) self.indexes → IsSound self
+            → HoldsStore (D.content result) self.store }
         ensures content { D.content result ≡ self.content }
         ensures honest { D.honest result ≡ self.honest }
         ensures failures { D.failures result ≡ self.failures }

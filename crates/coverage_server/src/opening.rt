@@ -1,18 +1,16 @@
 //! A disk is opened: its metadata is read, its blocks are claimed, its coverages attached, and then its header tells
 //! that it is open.
-ghost use Rattle.std.specs.Prelude.{◌≡◌, ◌+◌, ◌<◌, ◌≤◌, ◌/◌, ◌⊎◌, ◌++◌, ◌∷◌, [], ℕ, List, Vec, map, length, IsTrue, IsErrOf, IfOk, IfErr, OnOk};
-ghost use Rattle.arr_core.specs.declared.signature.Signature.{Signature};
+ghost use Rattle.std.specs.Prelude.{◌≡◌, ◌+◌, ◌++◌, ◌∷◌, [], ℕ, List, IsTrue, IfOk, IfErr, OnOk};
 ghost use Rattle.arr_core.specs.Stores.{Store};
-ghost use Rattle.block_file.specs.Format.{IsHeader};
-ghost use Rattle.block_file.specs.View.{IsFresh, CanClaim, free_in, kept_in};
-ghost use Rattle.catalogue.specs.Bytes.{catalogue_bytes};
-ghost use Rattle.catalogue.specs.Signatures.{IsCatalogue};
-ghost use Rattle.metadata.specs.Metadata.{IsMetadata, AreCounted};
+ghost use Rattle.block_file.specs.State.{times};
+ghost use Rattle.block_file.specs.Uses.{IsFresh};
+ghost use Rattle.block_file.specs.View.{IsOpened};
+ghost use Rattle.metadata.specs.Metadata.{AreCounted};
 ghost use Rattle.raster_store.specs.Calls.{MayAttach};
-ghost use Rattle.raster_store.specs.Views.{Index, coverages_in, times_all, times_fields, reserve};
-ghost use Rattle.tile_store.specs.Listing.{times};
+ghost use Rattle.raster_store.specs.Views.{Index, coverages_in, listed_all, listed_fields};
 ghost use Rattle.coverage_server.specs.Disk.{AreTiles, ListsStore, HoldsStore};
-ghost use Rattle.coverage_server.specs.Opening.{items_of, IsOpened, IsListed, IsNotLaidOut, ClaimsListed, Lists, Departs, attach_fault, chain_fault};
+ghost use Rattle.coverage_server.specs.Opening.{items_of, IsListed, IsUnread, ClaimsListed, CannotClaim, ClaimsLayout};
+ghost use Rattle.coverage_server.specs.Opening.{Lists, Departs, IsNoLayout, IsOpenFile, attach_fault, chain_fault};
 ghost use Rattle.coverage_server.specs.Sessions.{IsNotOpened, disk_view};
 ghost use Rattle.coverage_server.specs.Views.{IsSound};
 
@@ -85,7 +83,7 @@ pub struct NotOpened<D: Disk> {
 
 /// Puts the blocks that the indexes of fields list behind others.
 fn push_blocks(alloc: Global, fields: &[TileIndex], blocks: &mut Vec<u32>) -> Result<(), AllocError>
-    ensures { OnOk result ((k : ℕ) → times k blocks.new.items ≡ times k blocks.old.items + times_fields k fields.now) }
+    ensures { OnOk result ((k : ℕ) → times blocks.new.items k ≡ times blocks.old.items k + listed_fields fields.now k) }
 {
     for index in fields {
         let listed = index.blocks(alloc)?;
@@ -96,7 +94,7 @@ fn push_blocks(alloc: Global, fields: &[TileIndex], blocks: &mut Vec<u32>) -> Re
 
 /// The blocks that indexes list.
 fn blocks_of(alloc: Global, indexes: &[Vec<TileIndex>]) -> Result<Vec<u32>, AllocError>
-    ensures { IfOk result (λ blocks. (k : ℕ) → times k blocks.items ≡ times_all k (items_of indexes.now)) }
+    ensures { IfOk result (λ blocks. (k : ℕ) → times blocks.items k ≡ listed_all (items_of indexes.now) k) }
 {
     let mut blocks = Vec::new(alloc);
     for fields in indexes {
@@ -108,7 +106,7 @@ fn blocks_of(alloc: Global, indexes: &[Vec<TileIndex>]) -> Result<Vec<u32>, Allo
 /// The catalogue and the indexes that metadata has. Without a byte there are none.
 fn read_layout(alloc: Global, metadata: &[u8]) -> Result<Metadata, OpenFault>
     ensures listed { IfOk result (λ m. IsListed metadata.now m.catalogue (items_of m.indexes.items)) }
-    ensures refused { IfErr result (Departs ((0 < length metadata.now) × ((signatures : List Signature) (indexes : List (List Index)) → IsMetadata metadata.now signatures indexes → ⊥))) }
+    ensures refused { IfErr result (Departs (IsUnread metadata.now)) }
 {
     if metadata.is_empty() {
         return Ok(Metadata {
@@ -130,9 +128,7 @@ fn claim_listed<D: Disk>(
     indexes: &[Vec<TileIndex>],
 ) -> Result<(), OpenFault>
     ensures claims { OnOk result (ClaimsListed (items_of indexes.now) file.old.marks file.new.marks) }
-    ensures refused { IfErr result (Departs ((blocks : List ℕ) × ((k : ℕ) → times k blocks ≡ times_all k (items_of indexes.now)) × (CanClaim blocks file.old.marks → ⊥))) }
-    ensures kept { kept_in file.new.marks ≡ kept_in file.old.marks }
-    ensures reserve { OnOk result (kept_in file.new.marks ≤ free_in file.new.marks) }
+    ensures refused { IfErr result (Departs (CannotClaim (items_of indexes.now) file.old.marks)) }
     ensures content { file.new.content ≡ file.old.content }
     ensures failures { file.new.failures ≡ file.old.failures }
     ensures honest { file.new.honest ≡ file.old.honest }
@@ -153,10 +149,9 @@ fn claim_layout<D: Disk>(
 ) -> Result<Metadata, OpenFault>
     requires opened { IsTrue file.old.honest → IsOpened file.old.content metadata.now file.old.marks }
     requires fresh { IsFresh file.old.marks }
-    ensures listed { IfOk result (λ m. IsListed metadata.now m.catalogue (items_of m.indexes.items)) }
-    ensures claims { IfOk result (λ m. ClaimsListed (items_of m.indexes.items) file.old.marks file.new.marks) }
-    ensures room { IfOk result (λ m. reserve (length (catalogue_bytes m.catalogue)) (items_of m.indexes.items) ≤ free_in file.new.marks) }
-    ensures refused { IfErr result (Departs (IsTrue file.old.honest → (0 < length file.old.content) × IsNotLaidOut file.old.content)) }
+    ensures claims { IfOk result (λ m.
+        ClaimsLayout metadata.now m.catalogue (items_of m.indexes.items) file.old.marks file.new.marks) }
+    ensures refused { IfErr result (IsNoLayout file.old) }
     ensures content { file.new.content ≡ file.old.content }
     ensures failures { file.new.failures ≡ file.old.failures }
     ensures honest { file.new.honest ≡ file.old.honest }
@@ -193,8 +188,10 @@ fn attach_all<B: Blocks>(
     requires coverages { cells.old.coverages ≡ [] }
     requires indexes { cells.old.indexes ≡ [] }
     requires counted { AreCounted catalogue.now (items_of indexes.items) }
-    requires blocks { (before : List (List Index)) (new : List Index) (after : List (List Index)) → items_of indexes.items ≡ before ++ new ∷ after → MayAttach (B.content cells.old.blocks) (B.uses cells.old.blocks) (B.honest cells.old.blocks) before new }
-    ensures coverages { OnOk result (cells.new.coverages ≡ coverages_in (B.content cells.old.blocks) catalogue.now (items_of indexes.items)) }
+    requires blocks { (before : List (List Index)) (new : List Index) (after : List (List Index))
+        → items_of indexes.items ≡ before ++ new ∷ after → MayAttach (B.state cells.old.blocks) before new }
+    ensures coverages { OnOk result
+        (cells.new.coverages ≡ coverages_in (B.state cells.old.blocks).content catalogue.now (items_of indexes.items)) }
     ensures indexes { OnOk result (cells.new.indexes ≡ items_of indexes.items) }
     ensures tiles { OnOk result (AreTiles catalogue.now (items_of indexes.items)) }
     ensures refused { IfErr result (Departs (AreTiles catalogue.now (items_of indexes.items) → ⊥)) }
@@ -229,11 +226,12 @@ fn chain_fault(fault: block_file::OpenFault) -> OpenFault
 fn coverages_of<D: Disk>(alloc: Global, opened: Opened<D>) -> Result<Coverages<D>, NotOpened<D>>
     requires opened { IsTrue opened.file.honest → IsOpened opened.file.content opened.metadata.items opened.file.marks }
     requires fresh { IsFresh opened.file.marks }
-    ensures lists { IfOk result (λ coverages. IsTrue opened.file.honest → Lists opened.file.content coverages.store coverages.indexes) }
+    ensures lists { IfOk result (λ coverages. IsTrue opened.file.honest
+        → Lists opened.file.content coverages.store coverages.indexes) }
     ensures content { IfOk result (λ coverages. coverages.content ≡ opened.file.content) }
     ensures honest { IfOk result (λ coverages. coverages.honest ≡ opened.file.honest) }
     ensures failures { IfOk result (λ coverages. coverages.failures ≡ opened.file.failures) }
-    ensures refused { IfErr result (λ refused. Departs (IsTrue opened.file.honest → (0 < length opened.file.content) × IsNotLaidOut opened.file.content) refused.fault) }
+    ensures refused { IfErr result (λ refused. IsNoLayout opened.file refused.fault) }
     ensures same { IfErr result (λ refused. D.content refused.disk ≡ opened.file.content) }
     ensures honest_disk { IfErr result (λ refused. D.honest refused.disk ≡ opened.file.honest) }
     ensures failures_disk { IfErr result (λ refused. D.failures refused.disk ≡ opened.file.failures) }
@@ -268,14 +266,18 @@ impl<D: Disk> Server<D> {
     /// twice, is the header or one of the metadata's, or lies past the end. Want of memory and a fault of the disk may
     /// come at any time. Nothing is written before the metadata is accepted, and then the header alone.
     pub fn open(alloc: Global, disk: D) -> Result<Server<D>, NotOpened<D>>
-        ensures listed { IfOk result (λ server. IsTrue (D.honest disk) → ListsStore (D.content disk) server.coverages.store server.coverages.indexes) }
-        ensures store { IfOk result (λ server. IsTrue (D.honest disk) → (store : Store) → HoldsStore (D.content disk) store → server.coverages.store ≡ store) }
-        ensures sound { IfOk result (λ server. IsTrue (D.honest disk) → (store : Store) → HoldsStore (D.content disk) store → IsSound server.coverages) }
+        ensures listed { IfOk result (λ server. IsTrue (D.honest disk)
+            → ListsStore (D.content disk) server.coverages.store server.coverages.indexes) }
+        ensures store { IfOk result (λ server. IsTrue (D.honest disk)
+            → (store : Store) → HoldsStore (D.content disk) store → server.coverages.store ≡ store) }
+        ensures sound { IfOk result (λ server. IsTrue (D.honest disk)
+            → (store : Store) → HoldsStore (D.content disk) store → IsSound server.coverages) }
         ensures desk { IfOk result (λ server. server.desk ≡ record { jobs = []; next = Some 1 }) }
-        ensures header { IfOk result (λ server. IsTrue (D.honest disk) → IsHeader server.coverages.content State.Open (length server.coverages.content / 4096) 0 0) }
+        ensures header { IfOk result (λ server. IsTrue (D.honest disk) → IsOpenFile server.coverages.content) }
         ensures honest { IfOk result (λ server. server.coverages.honest ≡ D.honest disk) }
         ensures failures { IfOk result (λ server. server.coverages.failures ≡ D.failures disk) }
-        ensures refused { IfErr result (λ refused. IsNotOpened refused.fault (disk_view D.content D.honest D.failures disk) (disk_view D.content D.honest D.failures refused.disk)) }
+        ensures refused { IfErr result (λ refused. IsNotOpened refused.fault
+            (disk_view D.content D.honest D.failures disk) (disk_view D.content D.honest D.failures refused.disk)) }
     {
         let opened = match BlockFile::open(alloc, disk) {
             Ok(opened) => opened,

@@ -4,7 +4,7 @@ ghost use Rattle.arr_core.specs.declared.signature.Signature.{Signature};
 ghost use Rattle.wcps_text.specs.Token.{tok};
 ghost use Rattle.wcps_text.specs.Tree.{query_view};
 ghost use Rattle.wcps_types.specs.Queries.{typ_query};
-ghost use Rattle.wcps_types.specs.SharedQueries.{shared_query_view as typed_view};
+ghost use Rattle.wcps_types.specs.TypedQueries.{query_view as typed_view};
 ghost use Rattle.plan_ir.specs.Plans.{plan_view};
 ghost use Rattle.tile_exec.specs.Standing.{IsBegun, plan_of as plan_in};
 ghost use Rattle.coverage_server.specs.Asking.{evaluated};
@@ -28,7 +28,7 @@ use tile_exec::Exec;
 use wcps_mean::CellError;
 use wcps_parse::{ParseError, parse};
 use wcps_text::{LexError, Query, Token, lex};
-use wcps_types::{CheckError, SharedQuery, check_shared};
+use wcps_types::{CheckError, TypedQuery, check};
 
 /// The most bytes of a query.
 const MAX_QUERY: usize = 65_536;
@@ -58,10 +58,10 @@ fn query_of(alloc: Global, tokens: &[Token]) -> Result<Query, Refusal>
 }
 
 /// The typed query.
-fn typed_of(alloc: Global, signatures: &[Signature], query: &Query) -> Result<SharedQuery, Refusal>
+fn typed_of(alloc: Global, signatures: &[Signature], query: &Query) -> Result<TypedQuery, Refusal>
     ensures { GivesTyped (typ_query signatures.now (query_view query.now)) result }
 {
-    match check_shared(alloc, signatures, query) {
+    match check(alloc, signatures, query) {
         Ok(typed) => Ok(typed),
         Err(CheckError::Refused(refusal)) => Err(Refusal::Numbered(refusal.number())),
         Err(CheckError::NoMemory) => Err(Refusal::NoMemory),
@@ -95,7 +95,7 @@ impl From<CellError> for Refusal {
 }
 
 /// The plan of a typed query, as it is run.
-pub fn plan_of(alloc: Global, typed: &SharedQuery) -> Result<Plan, AllocError>
+pub fn plan_of(alloc: Global, typed: &TypedQuery) -> Result<Plan, AllocError>
     requires { 1 ≤ length (typed_view typed.now).combinations }
     ensures { IfOk result (λ p. IsPlanOf (typed_view typed.now) (plan_view p)) }
 {
@@ -110,7 +110,7 @@ pub fn typed_text<D: Disk>(
     alloc: Global,
     coverages: &Coverages<D>,
     text: &str,
-) -> Result<SharedQuery, Refusal>
+) -> Result<TypedQuery, Refusal>
     ensures { GivesText coverages.now.store text.now result }
 {
     if text.len() > MAX_QUERY {
@@ -127,7 +127,7 @@ pub fn typed_text<D: Disk>(
 /// is done a unit after the other.
 fn values_by<D: Disk>(
     cells: &mut AskedCells<D>,
-    typed: &SharedQuery,
+    typed: &TypedQuery,
     exec: &mut Exec,
 ) -> Result<String, Refusal>
     requires held { All (IsHeld cells.old.coverages.store) typed.now.coverages.items }
@@ -147,7 +147,7 @@ fn values_by<D: Disk>(
 }
 
 /// The comma-separated values of a typed query, or the refusal by its evaluation.
-fn values_of<D: Disk>(cells: &mut AskedCells<D>, typed: &SharedQuery) -> Result<String, Refusal>
+fn values_of<D: Disk>(cells: &mut AskedCells<D>, typed: &TypedQuery) -> Result<String, Refusal>
     requires held { All (IsHeld cells.old.coverages.store) typed.now.coverages.items }
     requires some { 1 ≤ length (typed_view typed.now).combinations }
     ensures values { IsSound cells.old.coverages → GivesValues (evaluated cells.old.coverages.store (Ok (typed_view typed.now))) result }

@@ -1,5 +1,5 @@
 -- What the calls of a disk do to the bytes that it holds.
-use Rattle.std.specs.Prelude.{◌≡◌, ℕ, ◌+◌, ◌-◌, ◌^◌, ◌<◌, ◌≤◌, min, max, Bool, true, false, take, List, length, slice_index, Result, OnOk, OnErr}
+use Rattle.std.specs.Prelude.{◌≡◌, ℕ, ◌+◌, ◌-◌, ◌^◌, ◌<◌, ◌≤◌, min, max, Bool, true, false, IsTrue, take, List, length, slice_index}
 
 -- A disk in memory as callers see it: its bytes, and how many of its calls have failed.
 pub record Memory : Type 0 where
@@ -12,8 +12,8 @@ pub record Failing : Type 0 where
   pub failures : ℕ
   pub left : ℕ
 
--- A disk over a file as callers see it: its bytes, those that last, whether the file does what it tells, how many of the
--- disk's calls have failed, and whether the length of its file is not known.
+-- A disk over a file as callers see it: its bytes, those that last, whether the file does what it tells, how many of
+-- the disk's calls have failed, and whether the length of its file is not known.
 pub record Filed : Type 0 where
   pub content : List ℕ
   pub synced : List ℕ
@@ -21,7 +21,8 @@ pub record Filed : Type 0 where
   pub failures : ℕ
   pub is_broken : Bool
 
--- The bytes of a file as far as a disk over it knows them: all, or once its length is not known as many as it had before.
+-- The bytes of a file as far as a disk over it knows them: all, or once its length is not known as many as it had
+-- before.
 abbrev pub known_bytes : Bool → Bool → ℕ → List ℕ → List ℕ
 known_bytes honest false known bytes = bytes
 known_bytes true true known bytes = take known bytes
@@ -31,6 +32,14 @@ known_bytes false true known bytes = bytes
 pub record Holds (content : List ℕ) (at : ℕ) (bytes : List ℕ) : Type 0 where
   pub within : at + length bytes ≤ length content
   pub each : (i : ℕ) → i < length bytes → slice_index content (at + i) ≡ slice_index bytes i
+
+-- so many bytes from this place on lie inside of the content
+abbrev pub IsInside : ℕ → List ℕ → List ℕ → Type 0
+IsInside at bytes content = at + length bytes ≤ length content
+
+-- what a disk knows of its file's length: it, or once it is broken no more than it
+abbrev pub KnowsLength : Bool → ℕ → List ℕ → Type 0
+KnowsLength is_broken known content = (is_broken ≡ false → known ≡ length content) × (known ≤ length content)
 
 -- After a write of n bytes that may have been cut short: any bytes in its range, and in the gap between
 -- the old end and its range; the others are as they were.
@@ -47,12 +56,30 @@ pub record Written (at : ℕ) (bytes old new : List ℕ) : Type 0 where
   pub gap : (i : ℕ) → length old ≤ i → i < at → slice_index new i ≡ 0
   pub others : Torn at (length bytes) old new
 
--- the count rose, or stands at the last value of a `u64`
-abbrev pub Rose : ℕ → ℕ → Type 0
-Rose old new = min (old + 1) (2 ^ 64 - 1) ≤ new
+-- the first n bytes, of which there is one at least, stand there
+abbrev pub HoldsPart : List ℕ → ℕ → ℕ → List ℕ → Type 0
+HoldsPart content at n bytes = 0 < n → Holds content at (take n bytes)
 
--- how a call changes the count of failures: a call that was done not at all, and a refused one is counted
-pub record Counts {T E : Type 0} (result : Result T E) (old new : ℕ) : Type 0 where
-  pub no_fewer : old ≤ new
-  pub done : OnOk result (new ≡ old)
-  pub refused : OnErr result (Rose old new)
+-- the first n bytes, of which there is one at least, were written
+abbrev pub WrittenPart : ℕ → ℕ → List ℕ → List ℕ → List ℕ → Type 0
+WrittenPart at n bytes old new = 0 < n → Written at (take n bytes) old new
+
+-- of an honest disk: the bytes were written
+abbrev pub Writes : Bool → ℕ → List ℕ → List ℕ → List ℕ → Type 0
+Writes honest at bytes old new = IsTrue honest → Written at bytes old new
+
+-- the count rose, or stands at the last value of a `u64`; it has not fallen
+abbrev pub Rose : ℕ → ℕ → Type 0
+Rose old new = max old (min (old + 1) (2 ^ 64 - 1)) ≤ new
+
+-- What an answer tells of the disk's failures: a fault only where the count rose in the call, or stands at its last
+-- value; an answer that tells no fault left the count as it was.
+pub record Tells (fault : Type 0) (old new : ℕ) : Type 0 where
+  pub told : fault → Rose old new
+  pub quiet : (fault → ⊥) → new ≡ old
+
+-- what a disk holds, what of it lasts, and whether it is honest, is as it was
+pub record Unwritten {D : Type 0} (content synced : D → List ℕ) (honest : D → Bool) (old new : D) : Type 0 where
+  pub same_content : content new ≡ content old
+  pub same_synced : synced new ≡ synced old
+  pub same_honest : honest new ≡ honest old

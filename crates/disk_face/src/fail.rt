@@ -1,7 +1,7 @@
 //! A disk in memory of which one call fails, to try what stands on a disk.
-ghost use Rattle.std.specs.Prelude.{◌≡◌, ◌≢◌, ◌≤◌, ◌+◌, ◌-◌, ◌/◌, length, take, true, IsOk, IsErr, OnOk, OnErr};
+ghost use Rattle.std.specs.Prelude.{◌≡◌, ◌≢◌, ◌-◌, ◌/◌, length, take, true, IsOk, IsErr, OnOk, OnErr};
 ghost use Rattle.std.specs.Bool.{OnTrue, OnFalse};
-ghost use Rattle.disk_face.specs.Disk.{Holds, Torn, Written, Counts};
+ghost use Rattle.disk_face.specs.Disk.{IsInside, Holds, Torn, Written, Tells};
 
 use crate::{Disk, DiskFault, MemDisk};
 use std::marker::Model;
@@ -69,10 +69,10 @@ impl Disk for FailDisk {
     fn read_at(&mut self, at: u64, buf: &mut [u8]) -> Result<(), DiskFault>
         ensures read { OnOk result (Holds self.old.content at buf.new) }
         ensures due { self.old.left ≡ 1 → IsErr result }
-        ensures inside { self.old.left ≢ 1 → at + length buf.old ≤ length self.old.content → IsOk result }
+        ensures inside { self.old.left ≢ 1 → IsInside at buf.old self.old.content → IsOk result }
         ensures same { self.new.content ≡ self.old.content }
         ensures left { self.new.left ≡ self.old.left - 1 }
-        ensures counts { Counts result self.old.failures self.new.failures }
+        ensures told { Tells (IsErr result) self.old.failures self.new.failures }
     {
         if self.is_due() {
             return Err(self.disk.refuse());
@@ -84,12 +84,13 @@ impl Disk for FailDisk {
     fn write_at(&mut self, at: u64, bytes: &[u8]) -> Result<(), DiskFault>
         ensures written { OnOk result (Written at bytes.now self.old.content self.new.content) }
         ensures due { self.old.left ≡ 1 → IsErr result }
-        ensures inside { self.old.left ≢ 1 → at + length bytes.now ≤ length self.old.content → IsOk result }
-        ensures half { self.old.left ≡ 1 → at + length bytes.now ≤ length self.old.content → Written at (take (length bytes.now / 2) bytes.now) self.old.content self.new.content }
+        ensures inside { self.old.left ≢ 1 → IsInside at bytes.now self.old.content → IsOk result }
+        ensures half { self.old.left ≡ 1 → IsInside at bytes.now self.old.content
+            → Written at (take (length bytes.now / 2) bytes.now) self.old.content self.new.content }
         ensures refused { self.old.left ≢ 1 → OnErr result (self.new.content ≡ self.old.content) }
         ensures torn { Torn at (length bytes.now) self.old.content self.new.content }
         ensures left { self.new.left ≡ self.old.left - 1 }
-        ensures counts { Counts result self.old.failures self.new.failures }
+        ensures told { Tells (IsErr result) self.old.failures self.new.failures }
     {
         if self.is_due() {
             let _half = self.disk.write_at(at, &bytes[..bytes.len() / 2]);
@@ -110,7 +111,7 @@ impl Disk for FailDisk {
         ensures done { self.old.left ≢ 1 → IsOk result }
         ensures same { self.new.content ≡ self.old.content }
         ensures left { self.new.left ≡ self.old.left - 1 }
-        ensures counts { Counts result self.old.failures self.new.failures }
+        ensures told { Tells (IsErr result) self.old.failures self.new.failures }
     {
         if self.is_due() {
             return Err(self.disk.refuse());

@@ -1,6 +1,6 @@
 //! A disk over a file: each call reads or writes all of its bytes, and the length is right after each.
 ghost use Rattle.std.specs.Prelude.{◌≡◌, ◌≤◌, ◌<◌, ◌+◌, ◌-◌, ◌^◌, min, length, true, false, IfOk, OnOk, OnErr, IsTrue};
-ghost use Rattle.disk_face.specs.Disk.{Holds, Torn, Written};
+ghost use Rattle.disk_face.specs.Disk.{IsInside, Holds, Torn, Writes, Unwritten};
 
 use crate::{Disk, DiskFault, RawFault, RawFile, StdFile};
 use std::fs::{File, OpenOptions};
@@ -18,8 +18,8 @@ pub struct FileDisk<F: RawFile> {
 }
 
 impl<F: RawFile> Model for FileDisk<F> {
-    ghost use Rattle.std.specs.Prelude.{◌≡◌, ◌≤◌, false, length, IsTrue};
-    ghost use Rattle.disk_face.specs.Disk.{Filed, known_bytes};
+    ghost use Rattle.std.specs.Prelude.{IsTrue};
+    ghost use Rattle.disk_face.specs.Disk.{Filed, KnowsLength, known_bytes};
 
     ghost Value = { Filed };
 
@@ -31,14 +31,15 @@ impl<F: RawFile> Model for FileDisk<F> {
       is_broken = d.is_broken;
     } };
 
-    ghost invariant = { λ d. IsTrue (F.honest d.file) → (d.is_broken ≡ false → d.known ≡ length (F.content d.file)) × (d.known ≤ length (F.content d.file)) };
+    ghost invariant = { λ d. IsTrue (F.honest d.file) → KnowsLength d.is_broken d.known (F.content d.file) };
 }
 
 impl FileDisk<StdFile> {
     /// The file at this path, which is made where there is none. Refused where the system will not open or make it;
     /// there is no count yet.
     pub fn open<R: Files<File = File>>(rt: &R, path: &str) -> Result<FileDisk<StdFile>, DiskFault>
-        ensures { IfOk result (λ disk. disk.failures ≡ 0) }
+        ensures failures { IfOk result (λ disk. disk.failures ≡ 0) }
+        ensures works { IfOk result (λ disk. disk.is_broken ≡ false) }
     {
         let mut options = OpenOptions::new();
         options.read(true).write(true).create(true);
@@ -108,10 +109,9 @@ impl<F: RawFile> FileDisk<F> {
 /// Reads in as many calls as it takes until the buffer is full. Refused where the file refuses or ends before.
 fn read_all<F: RawFile>(file: &mut F, at: u64, buf: &mut [u8]) -> Result<(), RawFault>
     requires { at + length buf.old < 2 ^ 64 }
-    ensures read { OnOk result (IsTrue (F.honest file.old) → at + length buf.new ≤ length (F.content file.old) → Holds (F.content file.old) at buf.new) }
-    ensures same { F.content file.new ≡ F.content file.old }
-    ensures same_synced { F.synced file.new ≡ F.synced file.old }
-    ensures honest { F.honest file.new ≡ F.honest file.old }
+    ensures read { OnOk result (IsTrue (F.honest file.old) → IsInside at buf.new (F.content file.old)
+        → Holds (F.content file.old) at buf.new) }
+    ensures same { Unwritten F.content F.synced F.honest file.old file.new }
 {
     let mut filled = 0;
     'reading: while filled < buf.len() {
@@ -128,7 +128,7 @@ fn read_all<F: RawFile>(file: &mut F, at: u64, buf: &mut [u8]) -> Result<(), Raw
 fn write_all<F: RawFile>(file: &mut F, at: u64, bytes: &[u8]) -> Result<(), RawFault>
     requires fits { at + length bytes.now < 2 ^ 64 }
     requires some { 0 < length bytes.now }
-    ensures written { OnOk result (IsTrue (F.honest file.old) → Written at bytes.now (F.content file.old) (F.content file.new)) }
+    ensures written { OnOk result (Writes (F.honest file.old) at bytes.now (F.content file.old) (F.content file.new)) }
     ensures torn { Torn at (length bytes.now) (F.content file.old) (F.content file.new) }
     ensures torn_synced { Torn at (length bytes.now) (F.synced file.old) (F.synced file.new) }
     ensures honest { F.honest file.new ≡ F.honest file.old }

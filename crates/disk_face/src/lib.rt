@@ -3,8 +3,8 @@
 //! whether it gives back what was written.
 #![tactic(auto)]
 
-ghost use Rattle.std.specs.Prelude.{◌≡◌, ℕ, Bool, List, length, IsTrue, OnOk, OnErr};
-ghost use Rattle.disk_face.specs.Disk.{Holds, Torn, Written, Counts};
+ghost use Rattle.std.specs.Prelude.{◌≡◌, ℕ, Bool, List, length, IsTrue, IsErr, OnOk, OnErr};
+ghost use Rattle.disk_face.specs.Disk.{Holds, Torn, Writes, Tells, Unwritten};
 
 mod fail;
 mod file;
@@ -43,19 +43,17 @@ pub trait Disk {
     /// Fills the buffer with the bytes from `at` on. A read past the length fails; the buffer then holds any bytes.
     fn read_at(&mut self, at: u64, buf: &mut [u8]) -> Result<(), DiskFault>
         ensures read { OnOk result (IsTrue (honest self.old) → Holds (content self.old) at buf.new) }
-        ensures same { content self.new ≡ content self.old }
-        ensures same_synced { synced self.new ≡ synced self.old }
-        ensures honest { honest self.new ≡ honest self.old }
-        ensures counts { Counts result (failures self.old) (failures self.new) };
+        ensures same { Unwritten content synced honest self.old self.new }
+        ensures told { Tells (IsErr result) (failures self.old) (failures self.new) };
 
     /// Writes the bytes from `at` on. A write past the end fills the gap with zeros. One that fails leaves any
     /// bytes in its range and the gap, and the others as they were.
     fn write_at(&mut self, at: u64, bytes: &[u8]) -> Result<(), DiskFault>
-        ensures written { OnOk result (IsTrue (honest self.old) → Written at bytes.now (content self.old) (content self.new)) }
+        ensures written { OnOk result (Writes (honest self.old) at bytes.now (content self.old) (content self.new)) }
         ensures torn { Torn at (length bytes.now) (content self.old) (content self.new) }
         ensures torn_synced { Torn at (length bytes.now) (synced self.old) (synced self.new) }
         ensures honest { honest self.new ≡ honest self.old }
-        ensures counts { Counts result (failures self.old) (failures self.new) };
+        ensures told { Tells (IsErr result) (failures self.old) (failures self.new) };
 
     /// How many bytes it holds.
     fn len(&self) -> u64
@@ -67,5 +65,5 @@ pub trait Disk {
         ensures done { OnOk result (synced self.new ≡ content self.old) }
         ensures refused { OnErr result (synced self.new ≡ synced self.old) }
         ensures honest { honest self.new ≡ honest self.old }
-        ensures counts { Counts result (failures self.old) (failures self.new) };
+        ensures told { Tells (IsErr result) (failures self.old) (failures self.new) };
 }

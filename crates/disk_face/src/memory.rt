@@ -1,6 +1,6 @@
 //! A disk in memory. It is honest, and what it holds needs no sync.
-ghost use Rattle.std.specs.Prelude.{◌≡◌, ◌≤◌, ◌+◌, ◌-◌, ◌^◌, length, min, true, IsTrue, IsOk, OnOk, OnErr};
-ghost use Rattle.disk_face.specs.Disk.{Holds, Torn, Written, Counts};
+ghost use Rattle.std.specs.Prelude.{◌≡◌, ◌≤◌, ◌+◌, ◌-◌, ◌^◌, length, min, true, IsTrue, IsOk, IsErr, OnOk, OnErr};
+ghost use Rattle.disk_face.specs.Disk.{IsInside, Holds, Torn, Written, Tells};
 
 use crate::{Disk, DiskFault};
 use std::alloc::AllocError;
@@ -61,9 +61,9 @@ impl Disk for MemDisk {
     /// Fails only past the length.
     fn read_at(&mut self, at: u64, buf: &mut [u8]) -> Result<(), DiskFault>
         ensures read { OnOk result (Holds self.old.content at buf.new) }
-        ensures inside { at + length buf.old ≤ length self.old.content → IsOk result }
+        ensures inside { IsInside at buf.old self.old.content → IsOk result }
         ensures same { self.new.content ≡ self.old.content }
-        ensures counts { Counts result self.old.failures self.new.failures }
+        ensures told { Tells (IsErr result) self.old.failures self.new.failures }
     {
         let at = at as usize;
         if at > self.bytes.len() || buf.len() > self.bytes.len() - at {
@@ -77,10 +77,10 @@ impl Disk for MemDisk {
     /// before.
     fn write_at(&mut self, at: u64, bytes: &[u8]) -> Result<(), DiskFault>
         ensures written { OnOk result (Written at bytes.now self.old.content self.new.content) }
-        ensures inside { at + length bytes.now ≤ length self.old.content → IsOk result }
+        ensures inside { IsInside at bytes.now self.old.content → IsOk result }
         ensures refused { OnErr result (self.new.content ≡ self.old.content) }
         ensures torn { Torn at (length bytes.now) self.old.content self.new.content }
-        ensures counts { Counts result self.old.failures self.new.failures }
+        ensures told { Tells (IsErr result) self.old.failures self.new.failures }
     {
         match overwrite(&mut self.bytes, at as usize, bytes) {
             Ok(()) => Ok(()),
@@ -107,7 +107,7 @@ impl Disk for MemDisk {
 /// not found.
 pub(crate) fn overwrite(content: &mut Vec<u8>, at: usize, bytes: &[u8]) -> Result<(), AllocError>
     ensures written { OnOk result (Written at bytes.now content.old.items content.new.items) }
-    ensures inside { at + length bytes.now ≤ length content.old.items → IsOk result }
+    ensures inside { IsInside at bytes.now content.old.items → IsOk result }
     ensures refused { OnErr result (content.new.items ≡ content.old.items) }
 {
     let end = at.checked_add(bytes.len()).ok_or(AllocError)?;

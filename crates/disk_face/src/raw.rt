@@ -1,7 +1,7 @@
 //! A file by the calls of the system: one call each, which may do less than it was asked.
-ghost use Rattle.std.specs.Prelude.{◌≡◌, ◌<◌, ℕ, Bool, List, [], take, length, false, IsTrue, IfOk, OnOk, OnErr};
+ghost use Rattle.std.specs.Prelude.{◌≡◌, ◌<◌, ℕ, Bool, List, [], length, false, IsTrue, IfOk, OnOk, OnErr};
 ghost use Rattle.std.specs.Io.{ReadsAtMost, WritesAtMost};
-ghost use Rattle.disk_face.specs.Disk.{Holds, Torn, Written};
+ghost use Rattle.disk_face.specs.Disk.{HoldsPart, Torn, WrittenPart, Unwritten};
 
 use std::fs::File;
 use std::os::unix::fs::FileExt;
@@ -23,20 +23,21 @@ pub trait RawFile {
     /// The calls do what they tell.
     ghost honest: { Self → Bool };
 
-    /// Reads once from a place on. Gives how many bytes came: none at the end, and at times fewer than there is room
-    /// for.
+    /// Reads once from a place on. Gives how many bytes came: none only at the end, and at times fewer than there is
+    /// room for.
     fn read_some(&mut self, at: u64, buf: &mut [u8]) -> Result<usize, RawFault>
         ensures bound { ReadsAtMost result buf.new }
-        ensures read { IsTrue (honest self.old) → IfOk result (λ n. 0 < n → Holds (content self.old) at (take n buf.new)) }
-        ensures same { content self.new ≡ content self.old }
-        ensures same_synced { synced self.new ≡ synced self.old }
-        ensures honest { honest self.new ≡ honest self.old };
+        ensures read { IsTrue (honest self.old) → IfOk result (λ n. HoldsPart (content self.old) at n buf.new) }
+        ensures end { IsTrue (honest self.old)
+            → IfOk result (λ n. at < length (content self.old) → 0 < length buf.old → 0 < n) }
+        ensures same { Unwritten content synced honest self.old self.new };
 
     /// Writes once from a place on. Gives how many of the bytes were taken; where it is refused, any bytes may stand
     /// in their range.
     fn write_some(&mut self, at: u64, bytes: &[u8]) -> Result<usize, RawFault>
         ensures bound { WritesAtMost result bytes.now }
-        ensures written { IsTrue (honest self.old) → IfOk result (λ n. 0 < n → Written at (take n bytes.now) (content self.old) (content self.new)) }
+        ensures written { IsTrue (honest self.old)
+            → IfOk result (λ n. WrittenPart at n bytes.now (content self.old) (content self.new)) }
         ensures torn { Torn at (length bytes.now) (content self.old) (content self.new) }
         ensures torn_synced { Torn at (length bytes.now) (synced self.old) (synced self.new) }
         ensures honest { honest self.new ≡ honest self.old };
@@ -44,9 +45,7 @@ pub trait RawFile {
     /// How many bytes the file has.
     fn length(&mut self) -> Result<u64, RawFault>
         ensures told { IsTrue (honest self.old) → IfOk result (λ n. n ≡ length (content self.old)) }
-        ensures same { content self.new ≡ content self.old }
-        ensures same_synced { synced self.new ≡ synced self.old }
-        ensures honest { honest self.new ≡ honest self.old };
+        ensures same { Unwritten content synced honest self.old self.new };
 
     /// Makes all that was written last.
     fn sync(&mut self) -> Result<(), RawFault>

@@ -10,11 +10,12 @@ signed_bytes z = little_bytes 4 (cast_unsigned w32 z)
 -- where the values that may be written have codes that can be told apart with whatever follows them
 abbrev pub IsPrefixCode : {X : Type 0} → (X → Type 0) → (X → List ℕ) → Type 0
 IsPrefixCode {X = X} is_value code =
-    (x y : X) (rest others : List ℕ) → is_value x → is_value y → code x ++ rest ≡ code y ++ others → (x ≡ y) × (rest ≡ others)
+    (x y : X) (a b : List ℕ) → is_value x → is_value y → code x ++ a ≡ code y ++ b → (x ≡ y) × (a ≡ b)
 
 -- A value was read from the front of some bytes: they begin with its code, the others are left, and
 -- they begin with the code of no other value.
-pub record IsRead {X : Type 0} (is_value : X → Type 0) (code : X → List ℕ) (bytes : List ℕ) (x : X) (left : List ℕ) : Type 0 where
+pub record IsRead {X : Type 0} (is_value : X → Type 0) (code : X → List ℕ)
+    (bytes : List ℕ) (x : X) (left : List ℕ) : Type 0 where
   pub value : is_value x
   pub front : bytes ≡ code x ++ left
   pub only : (y : X) (rest : List ℕ) → is_value y → bytes ≡ code y ++ rest → (y ≡ x) × (rest ≡ left)

@@ -63,7 +63,8 @@ impl<'a> Reader<'a> {
 
     /// The number in the next 4 bytes, or none where fewer are left.
     pub fn read_u32(&mut self) -> Option<u32>
-        ensures read { MatchOption result (length self.old < 4) (λ number. self.old ≡ little_bytes 4 number ++ self.new) }
+        ensures read { MatchOption result (length self.old < 4)
+            (λ number. self.old ≡ little_bytes 4 number ++ self.new) }
         ensures left { MatchOption result (self.new ≡ self.old) (λ _. Unit {0}) }
         ensures only { IfSome result (λ number. IsRead (λ n. n < 2 ^ 32) (little_bytes 4) self.old number self.new) }
     {
@@ -73,7 +74,8 @@ impl<'a> Reader<'a> {
 
     /// The signed number in the next 4 bytes, in two's complement, or none where fewer are left.
     pub fn read_i32(&mut self) -> Option<i32>
-        ensures read { MatchOption result (length self.old < 4) (λ number. IsRead (FitsSigned w32) signed_bytes self.old number self.new) }
+        ensures read { MatchOption result (length self.old < 4)
+            (λ number. IsRead (FitsSigned w32) signed_bytes self.old number self.new) }
         ensures left { MatchOption result (self.new ≡ self.old) (λ _. Unit {0}) }
     {
         let bytes = self.take(4)?;

@@ -5,7 +5,7 @@ use anyhow::{Context, Result, bail};
 use std::alloc::Global;
 use tile_kernel::{Column, MAX_PLACES, operate_columns};
 use wcps_mean::{Outcome, PointFault};
-use wcps_types::Operation2;
+use wcps_text::BinaryOperator;
 
 /// The outcomes of a column's first place, of its inner places, and of its last place.
 #[derive(Clone, Copy)]
@@ -90,14 +90,14 @@ impl Ends {
     fn quotients(&self, alloc: Global, len: usize) -> Result<Column> {
         let values = self.parts(alloc, len, Part::Value)?;
         let divisors = self.parts(alloc, len, Part::Divisor)?;
-        operated(alloc, Operation2::Divide, &values, &divisors)
+        operated(alloc, BinaryOperator::Divide, &values, &divisors)
     }
 
     /// 0, and the faults of a bit 64.
     fn bits(&self, alloc: Global, len: usize) -> Result<Column> {
         let zeros = filled(alloc, len, Outcome::Value(0))?;
         let bits = self.parts(alloc, len, Part::Bit)?;
-        operated(alloc, Operation2::Bit, &zeros, &bits)
+        operated(alloc, BinaryOperator::Bit, &zeros, &bits)
     }
 }
 
@@ -122,7 +122,12 @@ fn filled(alloc: Global, len: usize, outcome: Outcome) -> Result<Column> {
 }
 
 /// An operation on two columns.
-pub fn operated(alloc: Global, op: Operation2, left: &Column, right: &Column) -> Result<Column> {
+pub fn operated(
+    alloc: Global,
+    op: BinaryOperator,
+    left: &Column,
+    right: &Column,
+) -> Result<Column> {
     let mut out = Column::new(alloc)?;
     if left.len() != right.len() {
         bail!("columns of two lengths");
@@ -143,7 +148,7 @@ pub fn column(alloc: Global, len: usize, words: &str) -> Result<Column> {
     }
     let quotients = ends.quotients(alloc, len)?;
     let bits = ends.bits(alloc, len)?;
-    operated(alloc, Operation2::Add, &quotients, &bits)
+    operated(alloc, BinaryOperator::Add, &quotients, &bits)
 }
 
 /// The outcomes of a column.

@@ -10,7 +10,7 @@ use std::alloc::Global;
 use tile_kernel::{
     Accumulator, Column, add_column, add_column_where, fold_column, fold_column_where,
 };
-use wcps_mean::Aggregate;
+use wcps_text::Aggregate;
 
 /// Places one after the other.
 fn places_from(alloc: Global, first: u64, len: usize) -> Result<Vec<u64>> {

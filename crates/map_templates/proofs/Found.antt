@@ -21,7 +21,7 @@ use Rattle.map_templates.specs.declared.refusal.ExpandRefusal.TheVariants.{BadPa
 use Rattle.map_templates.specs.declared.template.LocalOperation.{LocalOperation}
 use Rattle.map_templates.specs.declared.template.Summary.{Summary}
 use Rattle.map_templates.specs.Refusals.{Answer, then_of, Says}
-use Rattle.map_templates.specs.Expansion.{Operation, local_on, focal_on, zonal_on, found, coverage_of, field_found, field_at, field_of, second_of, radius_of, local_operation, on_plane, focal_operation, zonal_operation, text_of, as_text}
+use Rattle.map_templates.specs.Expansion.{Operation, local_on, focal_on, zonal_on, known_signature, coverage_of, field_found, field_at, field_of, second_of, radius_of, local_operation, on_plane, focal_operation, zonal_operation, text_of, as_text}
 use Rattle.map_templates.specs.Queries.{IsAxis, IsField, IsCoverage}
 use Rattle.map_templates.proofs.Written.{IsLayer, IsFieldName, AreAxes}
 use Rattle.map_templates.proofs.Same.{Decides-same}
@@ -57,7 +57,7 @@ pub record IsFound (signatures : List Signature) (layer : Layer) (s : Signature)
   pub found : signature_at (coverage_place layer.coverage signatures) signatures ≡ Some s
   pub field : field_of layer s ≡ Ok f
 
-is_found : (o : Option Signature) (s : Signature) → found o ≡ Ok s → o ≡ Some s
+is_found : (o : Option Signature) (s : Signature) → known_signature o ≡ Ok s → o ≡ Some s
 is_found None s e = no_answer e
 is_found (Some t) s e = ap (λ (x : Signature). Some x) (same_answer e)
 

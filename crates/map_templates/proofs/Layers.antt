@@ -14,7 +14,7 @@ use Rattle.wcps_text.specs.Tree.{Tree, QueryTree}
 use Rattle.wcps_types.specs.declared.names.Bound.{Bound}
 use Rattle.wcps_types.specs.declared.refusal.TypeRefusal.{TypeRefusal}
 use Rattle.wcps_types.specs.declared.refusal.TypeRefusal.TheVariants.{DomainMismatch, ResultTooLarge, TooMuchWork}
-use Rattle.wcps_types.specs.declared.typed.Operation2.{Operation2}
+use Rattle.wcps_text.specs.declared.operator.BinaryOperator.{BinaryOperator}
 use Rattle.wcps_types.specs.Typed.{Typed, cell, select, binary, TypedTree, CombinationTree}
 use Rattle.wcps_types.specs.Shapes.{ShapeTree, Answer, then_of, unnamed, is_scalar}
 use Rattle.wcps_types.specs.Variables.{is_boolean, cells_from, variable}
@@ -102,11 +102,11 @@ layer_reads cells cs layer s c f (Some x) at named env p = ap (λ (x : Option Si
 abbrev pub HasAxes : List Axis → Type 0
 HasAxes axes = is_scalar axes ≡ false
 
-pub numeric_same : (op : Operation2) (b : Bool) (axes : List Axis) (m n : Option (List ℕ)) (p q : Bool) (l r : Typed) → HasAxes axes → are_same axes axes ≡ true
+pub numeric_same : (op : BinaryOperator) (b : Bool) (axes : List Axis) (m n : Option (List ℕ)) (p q : Bool) (l r : Typed) → HasAxes axes → are_same axes axes ≡ true
     → numeric op b (one axes m p l) (one axes n q r) ≡ Ok (unnamed axes b (binary op l r))
 numeric_same op b axes m n p q l r some same = rw (some, same) refl
 
-pub numeric_unlike : (op : Operation2) (b : Bool) (axes others : List Axis) (m n : Option (List ℕ)) (p q : Bool) (l r : Typed) → HasAxes axes → HasAxes others → are_same axes others ≡ false
+pub numeric_unlike : (op : BinaryOperator) (b : Bool) (axes others : List Axis) (m n : Option (List ℕ)) (p q : Bool) (l r : Typed) → HasAxes axes → HasAxes others → are_same axes others ≡ false
     → numeric op b (one axes m p l) (one others n q r) ≡ Err DomainMismatch
 numeric_unlike op b axes others m n p q l r some more unlike = rw (some, more, unlike) refl
 

@@ -10,7 +10,7 @@ use Rattle.wcps_text.specs.declared.token.Keyword.TheVariants as words
 use Rattle.wcps_text.specs.declared.error.LexError.{LexError}
 use Rattle.wcps_text.specs.Runs.{Stops}
 use Rattle.wcps_text.specs.Token.{Tok, number, name, dollar, quoted, word, sign}
-use Rattle.wcps_text.specs.Lexing.{begins_name, continues_name, Every, decimal, decimal_from, keyword_text, symbol_text, double, IsName, is_name, IsDigits, is_digits, Reads, numeral, plain, reserved, marked, one_byte, two_bytes, IsLongest, Piece, Lexed, at_end, past_space, past_token, tokens_of}
+use Rattle.wcps_text.specs.Lexing.{begins_name, continues_name, Every, decimal, decimal_from, keyword_text, symbol_text, double, IsWord, is_word, IsDigits, is_digits, Reads, numeral, plain, reserved, marked, one_byte, two_bytes, IsLongest, Piece, Lexed, at_end, past_space, past_token, tokens_of}
 use Rattle.wcps_text.proofs.Fronts.{AtMost, fits, digit_most, letter_most, dollar_most, none_equal, true_false}
 
 -- a space, or a token
@@ -104,36 +104,36 @@ number_text n lt = decimal_by_steps IsText one_digit more_digits n lt
 
 -- ---- words and signs
 
-word_text : (k : Keyword) → IsName (keyword_text k) × (length (keyword_text k) ≤ 64)
-word_text words.For = (is_name refl (refl, (refl, tt)), omega arith)
-word_text words.In = (is_name refl (refl, tt), omega arith)
-word_text words.Where = (is_name refl (refl, (refl, (refl, (refl, tt)))), omega arith)
-word_text words.Return = (is_name refl (refl, (refl, (refl, (refl, (refl, tt))))), omega arith)
-word_text words.Encode = (is_name refl (refl, (refl, (refl, (refl, (refl, tt))))), omega arith)
-word_text words.Csv = (is_name refl (refl, (refl, tt)), omega arith)
-word_text words.Coverage = (is_name refl (refl, (refl, (refl, (refl, (refl, (refl, (refl, tt))))))), omega arith)
-word_text words.Over = (is_name refl (refl, (refl, (refl, tt))), omega arith)
-word_text words.Values = (is_name refl (refl, (refl, (refl, (refl, (refl, tt))))), omega arith)
-word_text words.Value = (is_name refl (refl, (refl, (refl, (refl, tt)))), omega arith)
-word_text words.List = (is_name refl (refl, (refl, (refl, tt))), omega arith)
-word_text words.Condense = (is_name refl (refl, (refl, (refl, (refl, (refl, (refl, (refl, tt))))))), omega arith)
-word_text words.Using = (is_name refl (refl, (refl, (refl, (refl, tt)))), omega arith)
-word_text words.And = (is_name refl (refl, (refl, tt)), omega arith)
-word_text words.Or = (is_name refl (refl, tt), omega arith)
-word_text words.Xor = (is_name refl (refl, (refl, tt)), omega arith)
-word_text words.Not = (is_name refl (refl, (refl, tt)), omega arith)
-word_text words.Abs = (is_name refl (refl, (refl, tt)), omega arith)
-word_text words.Bit = (is_name refl (refl, (refl, tt)), omega arith)
-word_text words.True = (is_name refl (refl, (refl, (refl, tt))), omega arith)
-word_text words.False = (is_name refl (refl, (refl, (refl, (refl, tt)))), omega arith)
-word_text words.Count = (is_name refl (refl, (refl, (refl, (refl, tt)))), omega arith)
-word_text words.Some = (is_name refl (refl, (refl, (refl, tt))), omega arith)
-word_text words.All = (is_name refl (refl, (refl, tt)), omega arith)
-word_text words.Add = (is_name refl (refl, (refl, tt)), omega arith)
-word_text words.Avg = (is_name refl (refl, (refl, tt)), omega arith)
-word_text words.Min = (is_name refl (refl, (refl, tt)), omega arith)
-word_text words.Max = (is_name refl (refl, (refl, tt)), omega arith)
-word_text words.ImageCrsDomain = (is_name refl (refl, (refl, (refl, (refl, (refl, (refl, (refl, (refl, (refl, (refl, (refl, (refl, (refl, tt))))))))))))), omega arith)
+word_text : (k : Keyword) → IsWord (keyword_text k) × (length (keyword_text k) ≤ 64)
+word_text words.For = (is_word refl (refl, (refl, tt)), omega arith)
+word_text words.In = (is_word refl (refl, tt), omega arith)
+word_text words.Where = (is_word refl (refl, (refl, (refl, (refl, tt)))), omega arith)
+word_text words.Return = (is_word refl (refl, (refl, (refl, (refl, (refl, tt))))), omega arith)
+word_text words.Encode = (is_word refl (refl, (refl, (refl, (refl, (refl, tt))))), omega arith)
+word_text words.Csv = (is_word refl (refl, (refl, tt)), omega arith)
+word_text words.Coverage = (is_word refl (refl, (refl, (refl, (refl, (refl, (refl, (refl, tt))))))), omega arith)
+word_text words.Over = (is_word refl (refl, (refl, (refl, tt))), omega arith)
+word_text words.Values = (is_word refl (refl, (refl, (refl, (refl, (refl, tt))))), omega arith)
+word_text words.Value = (is_word refl (refl, (refl, (refl, (refl, tt)))), omega arith)
+word_text words.List = (is_word refl (refl, (refl, (refl, tt))), omega arith)
+word_text words.Condense = (is_word refl (refl, (refl, (refl, (refl, (refl, (refl, (refl, tt))))))), omega arith)
+word_text words.Using = (is_word refl (refl, (refl, (refl, (refl, tt)))), omega arith)
+word_text words.And = (is_word refl (refl, (refl, tt)), omega arith)
+word_text words.Or = (is_word refl (refl, tt), omega arith)
+word_text words.Xor = (is_word refl (refl, (refl, tt)), omega arith)
+word_text words.Not = (is_word refl (refl, (refl, tt)), omega arith)
+word_text words.Abs = (is_word refl (refl, (refl, tt)), omega arith)
+word_text words.Bit = (is_word refl (refl, (refl, tt)), omega arith)
+word_text words.True = (is_word refl (refl, (refl, (refl, tt))), omega arith)
+word_text words.False = (is_word refl (refl, (refl, (refl, (refl, tt)))), omega arith)
+word_text words.Count = (is_word refl (refl, (refl, (refl, (refl, tt)))), omega arith)
+word_text words.Some = (is_word refl (refl, (refl, (refl, tt))), omega arith)
+word_text words.All = (is_word refl (refl, (refl, tt)), omega arith)
+word_text words.Add = (is_word refl (refl, (refl, tt)), omega arith)
+word_text words.Avg = (is_word refl (refl, (refl, tt)), omega arith)
+word_text words.Min = (is_word refl (refl, (refl, tt)), omega arith)
+word_text words.Max = (is_word refl (refl, (refl, tt)), omega arith)
+word_text words.ImageCrsDomain = (is_word refl (refl, (refl, (refl, (refl, (refl, (refl, (refl, (refl, (refl, (refl, (refl, (refl, (refl, tt))))))))))))), omega arith)
 
 -- each token reads as itself
 sign_reads : (s : Symbol) → Reads (symbol_text s) (Ok (sign s))
@@ -174,8 +174,8 @@ drop_front (x ∷ xs) ys = drop_front xs ys
 stops_front : (p : ℕ → Bool) (xs ys : List ℕ) → Stops p ys → Stops p (drop (length xs) (xs ++ ys))
 stops_front p xs ys h = subst (λ (t : List ℕ). Stops p t) (sym (drop_front xs ys)) h
 
-name_bound : (w rest : List ℕ) → IsName w → Stops continues_name rest → Bound w rest
-name_bound w rest (is_name {c} {cs} begin more) h = λ v us q form same. fits (letter_most c (length cs) (cs ++ rest) begin (stops_front continues_name cs rest h)) v us q form same
+name_bound : (w rest : List ℕ) → IsWord w → Stops continues_name rest → Bound w rest
+name_bound w rest (is_word {c} {cs} begin more) h = λ v us q form same. fits (letter_most c (length cs) (cs ++ rest) begin (stops_front continues_name cs rest h)) v us q form same
 
 digit_goes_on : (b : ℕ) → continues_name b ≡ false → is_ascii_digit b ≡ false
 digit_goes_on b h = grind (arith, nat_tests)

@@ -12,7 +12,7 @@ use Rattle.arr_core.specs.Names.{keywords, is_keyword, goes_on_name, is_spelled}
 use Rattle.wcps_text.specs.declared.token.Keyword.{Keyword}
 use Rattle.wcps_text.specs.declared.token.Keyword.TheVariants as words
 use Rattle.wcps_text.specs.Token.{name, dollar}
-use Rattle.wcps_text.specs.Lexing.{continues_name, Every, keyword_text, IsWritten, IsName, is_name, Reads, plain, marked}
+use Rattle.wcps_text.specs.Lexing.{continues_name, Every, keyword_text, IsWritten, IsWord, is_word, Reads, plain, marked}
 use Rattle.wcps_text.proofs.Fronts.{true_false}
 use Rattle.wcps_text.proofs.Words.{place, place_bound}
 
@@ -67,9 +67,9 @@ all_go_on : (bs : List ℕ) → list_all goes_on_name bs ≡ true → Every cont
 all_go_on [] h = tt
 all_go_on (b ∷ bs) h = let e = both (goes_on_name b) (list_all goes_on_name bs) h in (goes_on b e.0, all_go_on bs e.1)
 
-spelled_name : (x : List ℕ) → is_spelled x ≡ true → IsName x
+spelled_name : (x : List ℕ) → is_spelled x ≡ true → IsWord x
 spelled_name [] h = absurd (true_false h refl)
-spelled_name (b ∷ bs) h = let e = both (names.begins_name b) (list_all goes_on_name bs) h in is_name e.0 (all_go_on bs e.1)
+spelled_name (b ∷ bs) h = let e = both (names.begins_name b) (list_all goes_on_name bs) h in is_word e.0 (all_go_on bs e.1)
 
 -- what a name is
 record Name (x : List ℕ) : Type 0 where
@@ -126,16 +126,16 @@ pub f_reads : Reads (codes "f") (Ok (name (codes "f")))
 f_reads = name_reads (codes "f") short_f
 
 pub p_reads : Reads (codes "$p") (Ok (dollar (codes "$p")))
-p_reads = marked (is_name refl tt) (omega arith)
+p_reads = marked (is_word refl tt) (omega arith)
 
 pub q_reads : Reads (codes "$q") (Ok (dollar (codes "$q")))
-q_reads = marked (is_name refl tt) (omega arith)
+q_reads = marked (is_word refl tt) (omega arith)
 
 pub u_reads : Reads (codes "$u") (Ok (dollar (codes "$u")))
-u_reads = marked (is_name refl tt) (omega arith)
+u_reads = marked (is_word refl tt) (omega arith)
 
 pub v_reads : Reads (codes "$v") (Ok (dollar (codes "$v")))
-v_reads = marked (is_name refl tt) (omega arith)
+v_reads = marked (is_word refl tt) (omega arith)
 
 -- the digit of a number
 pub one_digit : (k : ℕ) → k < 10 → decimal k ≡ (48 + k) ∷ []
@@ -147,8 +147,8 @@ digit k lt = grind (arith, nat_tests)
 -- the variables with a digit
 pub p_number : (k : ℕ) → k < 10 → Reads (codes "$p" ++ decimal k) (Ok (dollar (codes "$p" ++ decimal k)))
 p_number k lt =
-    subst (λ (ds : List ℕ). Reads (codes "$p" ++ ds) (Ok (dollar (codes "$p" ++ ds)))) (sym (one_digit k lt)) (marked (is_name refl (digit_goes_on (48 + k) (digit k lt), tt)) (omega arith))
+    subst (λ (ds : List ℕ). Reads (codes "$p" ++ ds) (Ok (dollar (codes "$p" ++ ds)))) (sym (one_digit k lt)) (marked (is_word refl (digit_goes_on (48 + k) (digit k lt), tt)) (omega arith))
 
 pub u_number : (k : ℕ) → k < 10 → Reads (codes "$u" ++ decimal k) (Ok (dollar (codes "$u" ++ decimal k)))
 u_number k lt =
-    subst (λ (ds : List ℕ). Reads (codes "$u" ++ ds) (Ok (dollar (codes "$u" ++ ds)))) (sym (one_digit k lt)) (marked (is_name refl (digit_goes_on (48 + k) (digit k lt), tt)) (omega arith))
+    subst (λ (ds : List ℕ). Reads (codes "$u" ++ ds) (Ok (dollar (codes "$u" ++ ds)))) (sym (one_digit k lt)) (marked (is_word refl (digit_goes_on (48 + k) (digit k lt), tt)) (omega arith))

@@ -4,20 +4,19 @@ use Rattle.std.proofs.lemmas.Int.{ints}
 use Rattle.arr_core.specs.declared.domain.Axis.{Axis}
 use Rattle.wcps_text.specs.declared.token.Symbol.TheVariants as signs
 use Rattle.wcps_text.specs.declared.token.Keyword.TheVariants as words
-use Rattle.wcps_text.specs.declared.tree.UnaryOp.TheVariants as unaries
-use Rattle.wcps_text.specs.declared.tree.BinaryOp.{BinaryOp}
-use Rattle.wcps_text.specs.declared.tree.BinaryOp.TheVariants as binaries
-use Rattle.wcps_text.specs.declared.tree.CondenseOp.{CondenseOp}
-use Rattle.wcps_text.specs.declared.tree.CondenseOp.TheVariants as condensers
+use Rattle.wcps_text.specs.declared.operator.UnaryOperator.TheVariants as unaries
+use Rattle.wcps_text.specs.declared.operator.BinaryOperator.{BinaryOperator}
+use Rattle.wcps_text.specs.declared.operator.BinaryOperator.TheVariants as binaries
 use Rattle.wcps_text.specs.Token.{Tok, number, name, dollar, word, sign}
 use Rattle.wcps_text.specs.Tree as tree
 use Rattle.wcps_text.specs.Tree.{Tree, Subs, no_subs, sub, at, bounds, Iters, no_iters, iter, only, always, encode, BindingTree, QueryTree}
-use Rattle.wcps_text.specs.Grammar.{rank_of, binary_token, condense_token, closed, open_ended, SpellsInt, unsigned, negative, Spells, post, coverage, condense, unary, tighter, binary, negate, parens, SpellsPost, literal, variable, grouped, field, brackets, SpellsSub, of_axis, SpellsSubs, last_sub, more_subs, position, SpellsInterval, between, SpellsIter, iterator, SpellsIters, last_iter, more_iters, conditional, plain_name, dollar_name, last_name, stands_for, last_binding, more_bindings, csv_word, encoded, for_all, IsSpelled, query}
+use Rattle.wcps_text.specs.Grammar.{rank_of, binary_token, Condenses, by_sum, by_greatest, by_least, closed, open_ended, SpellsInt, unsigned, negative, Spells, post, coverage, condense, unary, tighter, binary, negate, parens, SpellsPost, literal, variable, grouped, field, brackets, SpellsSub, of_axis, SpellsSubs, last_sub, more_subs, position, SpellsInterval, between, SpellsIter, iterator, SpellsIters, last_iter, more_iters, conditional, plain_name, dollar_name, last_name, stands_for, last_binding, more_bindings, csv_word, encoded, for_all, IsSpelled, query}
 use Rattle.map_templates.specs.declared.params.Layer.{Layer}
 use Rattle.map_templates.specs.declared.template.LocalOperation.{LocalOperation}
 use Rattle.map_templates.specs.declared.template.LocalOperation.TheVariants as locals
 use Rattle.map_templates.specs.declared.template.Summary.{Summary}
 use Rattle.map_templates.specs.declared.template.Summary.TheVariants as summaries
+use Rattle.map_templates.specs.TypedTrees.{condenser_of}
 use Rattle.map_templates.proofs.Marks.{Mark, gap, tk, toks_of}
 use Rattle.map_templates.proofs.Written.{Marks, field_marks, layer_marks, chosen_marks, local_marks, ending, local_query, listing, bound_marks, axis_marks, summary_mark, window_marks, moved_marks, conjunction, edge_marks, first_position, second_position, focal_value_marks, focal_edges_marks, focal_window_marks, focal_query, numbered, iterators_marks, position_marks, positions_marks, located_marks, next_iterator, zonal_value_marks, zonal_test_marks, zonal_box_marks, zonal_query}
 
@@ -55,7 +54,7 @@ layer_post v layer rest = field_post v layer.field rest
 
 -- ---- local
 
-abbrev chosen_expr : BinaryOp → Tree → Tree → Tree → Tree
+abbrev chosen_expr : BinaryOperator → Tree → Tree → Tree → Tree
 chosen_expr op v a b = tree.binary binaries.Multiply v (tree.binary op a b)
 
 abbrev pub local_expr : LocalOperation → Tree → Tree → Tree
@@ -65,7 +64,7 @@ local_expr locals.Product a b = tree.binary binaries.Multiply a b
 local_expr locals.Maximum a b = tree.binary binaries.Add (chosen_expr binaries.GreaterEqual a a b) (chosen_expr binaries.Less b a b)
 local_expr locals.Minimum a b = tree.binary binaries.Add (chosen_expr binaries.LessEqual a a b) (chosen_expr binaries.Greater b a b)
 
-chosen_spelled : (op : BinaryOp) (V A B : Marks) (v a b : Tree) → rank_of op ≡ 3 → IsPost V v → IsPost A a → IsPost B b → (rest : List Mark)
+chosen_spelled : (op : BinaryOperator) (V A B : Marks) (v a b : Tree) → rank_of op ≡ 3 → IsPost V v → IsPost A a → IsPost B b → (rest : List Mark)
     → Spells closed 1 (toks_of (chosen_marks V A (binary_token op) B rest)) (chosen_expr op v a b) (toks_of rest)
 chosen_spelled op V A B v a b rank hv ha hb rest =
     binary binaries.Multiply refl (at1 (hv _))
@@ -129,16 +128,10 @@ window_iterator v x r rest = iterator dollar_name (between negative unsigned)
 
 -- ---- focal
 
-abbrev pub condenser_of : Summary → CondenseOp
-condenser_of summaries.Sum = condensers.Add
-condenser_of summaries.Maximum = condensers.Max
-condenser_of summaries.Minimum = condensers.Min
-
-condensed_spelled : (op : Summary) (rest : List Mark) {ts : List Tok} {e : Tree}
-    → Spells open_ended 0 (word words.Condense ∷ condense_token (condenser_of op) ∷ toks_of rest) e ts → Spells open_ended 0 (word words.Condense ∷ toks_of (tk (summary_mark op) ∷ rest)) e ts
-condensed_spelled summaries.Sum rest h = h
-condensed_spelled summaries.Maximum rest h = h
-condensed_spelled summaries.Minimum rest h = h
+summary_joins : (op : Summary) → Condenses (condenser_of op) (summary_mark op)
+summary_joins summaries.Sum = by_sum
+summary_joins summaries.Maximum = by_greatest
+summary_joins summaries.Minimum = by_least
 
 abbrev pub moved_expr : List ℕ → List ℕ → Tree
 moved_expr p u = tree.binary binaries.Add (tree.variable p) (tree.variable u)
@@ -241,11 +234,10 @@ windows_tail layer x y r rest =
 focal_condense_spelled : (op : Summary) (layer : Layer) (x y : Axis) (r : ℕ) (rest : List Mark)
     → Spells open_ended 0 (word words.Condense ∷ toks_of (tk (summary_mark op) ∷ windows_tail layer x y r rest)) (focal_condense op layer x y r) (toks_of (ending rest))
 focal_condense_spelled op layer x y r rest =
-    condensed_spelled op (windows_tail layer x y r rest)
-    (condense (condenser_of op)
+    condense (summary_joins op)
     (conditional (more_iters (window_iterator (codes "$u") x r (next_iterator (codes "$v") (window_marks y r (behind_windows layer x y rest)))) (last_iter (window_iterator (codes "$v") y r (behind_windows layer x y rest))))
     (edges_spelled x y (focal_value_marks layer x y rest)))
-    (at5 (focal_body_spelled layer x y rest)))
+    (at5 (focal_body_spelled layer x y rest))
 
 abbrev pub focal_tree : Summary → Layer → Axis → Axis → ℕ → QueryTree
 focal_tree op layer x y r = query_of (bound_tree (codes "a") layer.coverage ∷ []) (focal_expr op layer x y r)
@@ -314,10 +306,9 @@ behind_box layer zones axes rest = zonal_test_marks zones axes (zonal_value_mark
 zonal_condense_spelled : (op : Summary) (layer zones : Layer) (axes : List Axis) (rest : List Mark) → 1 ≤ length axes
     → Spells open_ended 0 (word words.Condense ∷ toks_of (tk (summary_mark op) ∷ gap ∷ tk (word words.Over) ∷ gap ∷ iterators_marks (codes "$u") 1 axes (behind_box layer zones axes rest))) (zonal_condense op layer zones axes) (toks_of (ending rest))
 zonal_condense_spelled op layer zones axes rest some =
-    condensed_spelled op (gap ∷ tk (word words.Over) ∷ gap ∷ iterators_marks (codes "$u") 1 axes (behind_box layer zones axes rest))
-    (condense (condenser_of op)
+    condense (summary_joins op)
     (conditional (iters_spelled (codes "$u") 1 axes (behind_box layer zones axes rest) some) (zone_spelled zones axes (zonal_value_marks layer axes rest) some))
-    (at5 (located_spelled (codes "a") layer (codes "$u") axes (ending rest) some)))
+    (at5 (located_spelled (codes "a") layer (codes "$u") axes (ending rest) some))
 
 abbrev pub zonal_tree : Summary → Layer → Layer → List Axis → QueryTree
 zonal_tree op layer zones axes = query_of (bound_tree (codes "a") layer.coverage ∷ bound_tree (codes "z") zones.coverage ∷ []) (zonal_expr op layer zones axes)

@@ -7,14 +7,13 @@ use Rattle.arr_core.specs.declared.domain.Axis.{Axis}
 use Rattle.arr_core.specs.declared.signature.Signature.{Signature}
 use Rattle.arr_core.specs.Domains.{points}
 use Rattle.wcps_types.specs.Typed.{Typed}
-use Rattle.wcps_mean.specs.declared.aggregate.Aggregate.{Aggregate}
+use Rattle.wcps_text.specs.declared.operator.Aggregate.{Aggregate}
 use Rattle.wcps_mean.specs.declared.cell.PointFault.{PointFault}
 use Rattle.wcps_mean.specs.declared.cell.PointFault.TheVariants.{Overflow}
 use Rattle.wcps_mean.specs.declared.cell.Outcome.{Outcome}
 use Rattle.wcps_mean.specs.declared.cell.Outcome.TheVariants.{Value, Fault}
 use Rattle.wcps_mean.specs.Cells.{fits_64, ranged, truth}
 use Rattle.wcps_mean.specs.Condensers.{first_fault, values, larger, smaller, greatest, least, combined, condensed, demanded}
-use Rattle.wcps_mean.specs.Aggregates.{of_condenser}
 use Rattle.wcps_mean.specs.Meaning.{val}
 use Rattle.wcps_mean.specs.Answer.{joined, cells_at, given, then_of, answer}
 use Rattle.map_templates.specs.declared.template.Summary.{Summary}
@@ -76,7 +75,7 @@ value-ranged : (z : ℤ) → fits_64 z ≡ true → Value z ≡ ranged z
 value-ranged z h = rw h refl
 
 -- of the values of a set that is not empty
-pub combined-summary : (op : Summary) (zs : List ℤ) → zs ≢ [] → Fitting zs → combined (of_condenser (condenser_of op)) zs ≡ ranged (summary op zs)
+pub combined-summary : (op : Summary) (zs : List ℤ) → zs ≢ [] → Fitting zs → combined (condenser_of op) zs ≡ ranged (summary op zs)
 combined-summary summaries.Sum zs some all = refl
 combined-summary summaries.Maximum [] some all = absurd (some refl)
 combined-summary summaries.Maximum (z ∷ zs) some all = value-ranged (greatest z zs) (greatest-fits z zs all.0 all.1)

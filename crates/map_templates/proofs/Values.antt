@@ -6,13 +6,12 @@ use Rattle.std.proofs.lemmas.Bool.{false≢true}
 use Rattle.arr_core.specs.declared.domain.Axis.{Axis}
 use Rattle.arr_core.specs.Domains.{gap, points, rank_of, AreOrdered, IsInside}
 use Rattle.arr_core.proofs.Points.{at_rank, rank_of-lt-count, length-points}
-use Rattle.wcps_types.specs.declared.typed.Operation2.TheVariants as twos
+use Rattle.wcps_text.specs.declared.operator.BinaryOperator.TheVariants as binaries
 use Rattle.wcps_types.specs.Typed.{Typed, binary, bracket}
 use Rattle.wcps_mean.specs.declared.cell.Outcome.TheVariants.{Value}
 use Rattle.wcps_mean.specs.Cells as cells
 use Rattle.wcps_mean.specs.Cells.{fits_64, ranged, truth, is_true, int_eq, operate2, at_position}
 use Rattle.wcps_mean.specs.Condensers.{larger, smaller, condensed, combined}
-use Rattle.wcps_mean.specs.Aggregates.{of_condenser}
 use Rattle.wcps_mean.specs.Meaning.{val}
 use Rattle.map_templates.specs.declared.template.LocalOperation.{LocalOperation}
 use Rattle.map_templates.specs.declared.template.LocalOperation.TheVariants as locals
@@ -35,17 +34,17 @@ times-none : (x : ℤ) → x *ℤ pos 0 ≡ pos 0
 times-none (pos n) = let e : n * 0 ≡ 0 = omega arith in ap pos e
 times-none (negsuc n) = let e : suc n * 0 ≡ 0 = omega arith in ap (λ (m : ℕ). neg_ℤ (pos m)) e
 
-alone : (x y z : ℤ) → fits_64 z ≡ true → x +ℤ y ≡ z → fits_64 x ≡ true → fits_64 y ≡ true → operate2 twos.Add (ranged x) (ranged y) ≡ ranged z
+alone : (x y z : ℤ) → fits_64 z ≡ true → x +ℤ y ≡ z → fits_64 x ≡ true → fits_64 y ≡ true → operate2 binaries.Add (ranged x) (ranged y) ≡ ranged z
 alone x y z h sum fx fy = rw (fx, fy) (ap ranged sum)
 
-left-alone : (x y : ℤ) → fits_64 x ≡ true → operate2 twos.Add (ranged (x *ℤ pos 1)) (ranged (y *ℤ pos 0)) ≡ ranged x
+left-alone : (x y : ℤ) → fits_64 x ≡ true → operate2 binaries.Add (ranged (x *ℤ pos 1)) (ranged (y *ℤ pos 0)) ≡ ranged x
 left-alone x y h =
-    ap (λ (z : ℤ). operate2 twos.Add (ranged z) (ranged (y *ℤ pos 0))) (times-one x) ∙ ap (λ (z : ℤ). operate2 twos.Add (ranged x) (ranged z)) (times-none y)
+    ap (λ (z : ℤ). operate2 binaries.Add (ranged z) (ranged (y *ℤ pos 0))) (times-one x) ∙ ap (λ (z : ℤ). operate2 binaries.Add (ranged x) (ranged z)) (times-none y)
     ∙ alone x (pos 0) x h (omega (arith, ints)) h refl
 
-right-alone : (x y : ℤ) → fits_64 y ≡ true → operate2 twos.Add (ranged (x *ℤ pos 0)) (ranged (y *ℤ pos 1)) ≡ ranged y
+right-alone : (x y : ℤ) → fits_64 y ≡ true → operate2 binaries.Add (ranged (x *ℤ pos 0)) (ranged (y *ℤ pos 1)) ≡ ranged y
 right-alone x y h =
-    ap (λ (z : ℤ). operate2 twos.Add (ranged z) (ranged (y *ℤ pos 1))) (times-none x) ∙ ap (λ (z : ℤ). operate2 twos.Add (ranged (pos 0)) (ranged z)) (times-one y)
+    ap (λ (z : ℤ). operate2 binaries.Add (ranged z) (ranged (y *ℤ pos 1))) (times-none x) ∙ ap (λ (z : ℤ). operate2 binaries.Add (ranged (pos 0)) (ranged z)) (times-one y)
     ∙ alone (pos 0) y y h (omega (arith, ints)) refl h
 
 le-false : (a b : ℤ) → b <ℤ a → int_le a b ≡ false
@@ -74,7 +73,7 @@ larger-left x y h = pick (int_le x y) refl
     pick false e = refl
 
 greater-value : (x y : ℤ) → fits_64 x ≡ true → fits_64 y ≡ true
-    → operate2 twos.Add (ranged (x *ℤ cells.number (int_le y x))) (ranged (y *ℤ cells.number (int_lt x y))) ≡ ranged (larger x y)
+    → operate2 binaries.Add (ranged (x *ℤ cells.number (int_le y x))) (ranged (y *ℤ cells.number (int_lt x y))) ≡ ranged (larger x y)
 greater-value x y fx fy =
     by_lt_z x y (λ lt. rw (le-false y x lt, lt-true x y lt) (right-alone x y fy ∙ ap ranged (sym (right lt))))
     (λ le. rw (le-true y x le, lt-false x y le) (left-alone x y fx ∙ ap ranged (sym (larger-left x y le))))
@@ -83,7 +82,7 @@ greater-value x y fx fy =
     right lt = rw (le-true x y (omega (arith, ints))) refl
 
 lesser-value : (x y : ℤ) → fits_64 x ≡ true → fits_64 y ≡ true
-    → operate2 twos.Add (ranged (x *ℤ cells.number (int_le x y))) (ranged (y *ℤ cells.number (int_lt y x))) ≡ ranged (smaller x y)
+    → operate2 binaries.Add (ranged (x *ℤ cells.number (int_le x y))) (ranged (y *ℤ cells.number (int_lt y x))) ≡ ranged (smaller x y)
 lesser-value x y fx fy =
     by_lt_z y x (λ lt. rw (le-false x y lt, lt-true y x lt) (right-alone x y fy))
     (λ le. rw (le-true x y le, lt-false y x le) (left-alone x y fx))
@@ -203,12 +202,12 @@ pub zonal-value : (op : Summary) (s : Source) (axes : List Axis) (ta tz : Typed)
     → val s (zonal_tree op axes ta tz) [] p ≡ ranged (zonal op axes a z p)
 zonal-value op s axes ta tz a z p ordered ra rz fits inside =
     let same : List ℤ → Bool = λ q. int_eq (z q) (z p) in
-    let test : Typed = binary twos.Equal (bracket (located tz 0 axes (iterators (length axes) axes))) (bracket (located tz 0 axes (iterators 0 axes))) in
+    let test : Typed = binary binaries.Equal (bracket (located tz 0 axes (iterators (length axes) axes))) (bracket (located tz 0 axes (iterators 0 axes))) in
     let body : Typed = bracket (located ta 0 axes (iterators (length axes) axes)) in
-    ap (condensed (of_condenser (condenser_of op))) (kept same a (λ x. val s test (p ++ x) []) (λ x. val s body (p ++ x) []) (points axes)
+    ap (condensed (condenser_of op)) (kept same a (λ x. val s test (p ++ x) []) (λ x. val s body (p ++ x) []) (points axes)
     (every-of (IsInside axes) (λ (x : List ℤ). val s test (p ++ x) [] ≡ truth (same x)) (points axes) (λ x h. rw (at-other s tz z rz axes p x inside h, at-own s tz z rz axes p x inside) refl) (points-inside axes ordered))
     (every-of (IsInside axes) (λ (x : List ℤ). same x ≡ true → val s body (p ++ x) [] ≡ Value (a x)) (points axes) (λ x h _. at-other s ta a ra axes p x inside h) (points-inside axes ordered)))
-    ∙ condensed-values (of_condenser (condenser_of op)) (map a (filter same (points axes)))
+    ∙ condensed-values (condenser_of op) (map a (filter same (points axes)))
     ∙ combined-summary op (map a (filter same (points axes))) (some-location axes p same a inside (int_eq-same (z p)))
     (every-map (λ (v : ℤ). fits_64 v ≡ true) a (filter same (points axes)) (every-all (λ (q : List ℤ). fits_64 (a q) ≡ true) (filter same (points axes)) fits))
 
@@ -226,7 +225,7 @@ is_true-number : (b : Bool) → is_true (cells.number b) ≡ b
 is_true-number true = refl
 is_true-number false = refl
 
-and-truth : (a b : Bool) → operate2 twos.And (truth a) (truth b) ≡ truth (a && b)
+and-truth : (a b : Bool) → operate2 binaries.And (truth a) (truth b) ≡ truth (a && b)
 and-truth a b = rw (is_true-number a, is_true-number b) refl
 
 four : (a b c d : Bool) → ((a && b) && c) && d ≡ (a && b) && ((c && d) && true)
@@ -270,7 +269,7 @@ near-same r (a ∷ axes) (x ∷ p) h = rw (none x, near-same r axes p h.2) (here
 
 -- the condition and the body at an offset
 focal-test : (s : Source) (x y : Axis) (r : ℕ) (c d u v : ℤ) → r ≤ 8 → x.lo ≤ℤ x.hi → y.lo ≤ℤ y.hi → Near x r c u → Near y r d v
-    → val s (binary twos.And (binary twos.And (edge_tree first_moved x) (binary twos.GreaterEqual second_moved (literal y.lo))) (binary twos.LessEqual second_moved (literal y.hi))) (c ∷ d ∷ u ∷ v ∷ []) [] ≡ truth (stays (x ∷ y ∷ []) (c ∷ d ∷ []) (u ∷ v ∷ []))
+    → val s (binary binaries.And (binary binaries.And (edge_tree first_moved x) (binary binaries.GreaterEqual second_moved (literal y.lo))) (binary binaries.LessEqual second_moved (literal y.hi))) (c ∷ d ∷ u ∷ v ∷ []) [] ≡ truth (stays (x ∷ y ∷ []) (c ∷ d ∷ []) (u ∷ v ∷ []))
 focal-test s x y r c d u v few ox oy nx ny =
     let fx = bounds-fit x nx.small ox in
     let fy = bounds-fit y ny.small oy in
@@ -307,7 +306,7 @@ focal-body s ta a reads x y r c d u v few nx ny stay =
 
 -- what the condenser is given at an offset
 record AtOffset (s : Source) (ta : Typed) (a : Raster) (x y : Axis) (p q : List ℤ) : Type 0 where
-  test : val s (binary twos.And (binary twos.And (edge_tree first_moved x) (binary twos.GreaterEqual second_moved (literal y.lo))) (binary twos.LessEqual second_moved (literal y.hi))) (p ++ q) [] ≡ truth (stays (x ∷ y ∷ []) p q)
+  test : val s (binary binaries.And (binary binaries.And (edge_tree first_moved x) (binary binaries.GreaterEqual second_moved (literal y.lo))) (binary binaries.LessEqual second_moved (literal y.hi))) (p ++ q) [] ≡ truth (stays (x ∷ y ∷ []) p q)
   body : stays (x ∷ y ∷ []) p q ≡ true → val s (bracket (located ta 0 (x ∷ y ∷ []) (first_moved ∷ second_moved ∷ []))) (p ++ q) [] ≡ Value (a (moved p q))
 
 at-offset : (s : Source) (ta : Typed) (a : Raster) → Reads s ta a → (x y : Axis) (r : ℕ) → r ≤ 8 → IsSmall x → IsSmall y → AreOrdered (x ∷ y ∷ []) → (p q : List ℤ) → IsInside (x ∷ y ∷ []) p → IsInside (windows_of r (x ∷ y ∷ [])) q
@@ -337,13 +336,13 @@ focal-value op s x y r ta a p few sx sy ordered ra fits inside =
     let windows : List Axis = windows_of r axes in
     let stay : List ℤ → Bool = λ q. stays axes p q in
     let there : List ℤ → ℤ = λ q. a (moved p q) in
-    let test : Typed = binary twos.And (binary twos.And (edge_tree first_moved x) (binary twos.GreaterEqual second_moved (literal y.lo))) (binary twos.LessEqual second_moved (literal y.hi)) in
+    let test : Typed = binary binaries.And (binary binaries.And (edge_tree first_moved x) (binary binaries.GreaterEqual second_moved (literal y.lo))) (binary binaries.LessEqual second_moved (literal y.hi)) in
     let body : Typed = bracket (located ta 0 axes (first_moved ∷ second_moved ∷ [])) in
     let at : (q : List ℤ) → IsInside windows q → AtOffset s ta a x y p q = λ q h. at-offset s ta a ra x y r few sx sy ordered p q inside h in
-    ap (condensed (of_condenser (condenser_of op))) (kept stay there (λ q. val s test (p ++ q) []) (λ q. val s body (p ++ q) []) (points windows)
+    ap (condensed (condenser_of op)) (kept stay there (λ q. val s test (p ++ q) []) (λ q. val s body (p ++ q) []) (points windows)
     (every-of (IsInside windows) (λ (q : List ℤ). val s test (p ++ q) [] ≡ truth (stay q)) (points windows) (λ q h. (at q h).test) (points-inside windows (windows-ordered r axes)))
     (every-of (IsInside windows) (λ (q : List ℤ). stay q ≡ true → val s body (p ++ q) [] ≡ Value (there q)) (points windows) (λ q h. (at q h).body) (points-inside windows (windows-ordered r axes))))
-    ∙ condensed-values (of_condenser (condenser_of op)) (map there (filter stay (points windows)))
-    ∙ ap (combined (of_condenser (condenser_of op))) (sym (map-map a (moved p) (filter stay (points windows))) ∙ ap (map a) (moved-windows axes r p ordered inside))
+    ∙ condensed-values (condenser_of op) (map there (filter stay (points windows)))
+    ∙ ap (combined (condenser_of op)) (sym (map-map a (moved p) (filter stay (points windows))) ∙ ap (map a) (moved-windows axes r p ordered inside))
     ∙ combined-summary op (map a (filter (are_near r p) (points axes))) (some-location axes p (are_near r p) a inside (near-same r axes p inside))
     (every-map (λ (v : ℤ). fits_64 v ≡ true) a (filter (are_near r p) (points axes)) (every-all (λ (q : List ℤ). fits_64 (a q) ≡ true) (filter (are_near r p) (points axes)) fits))

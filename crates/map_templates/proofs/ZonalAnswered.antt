@@ -5,9 +5,8 @@ use Rattle.arr_core.specs.declared.signature.Signature.{Signature}
 use Rattle.arr_core.specs.Domains.{AreOrdered}
 use Rattle.wcps_text.specs.Tree as tree
 use Rattle.wcps_text.specs.Tree.{Tree, Iters, Subs, only}
-use Rattle.wcps_text.specs.declared.tree.BinaryOp.TheVariants as binaries
+use Rattle.wcps_text.specs.declared.operator.BinaryOperator.TheVariants as binaries
 use Rattle.wcps_types.specs.declared.refusal.TypeRefusal.TheVariants.{NeedsInteger}
-use Rattle.wcps_types.specs.declared.typed.Operation2.TheVariants as twos
 use Rattle.wcps_types.specs.Typed.{Typed, bracket, binary, condense_where, TypedTree}
 use Rattle.wcps_types.specs.Shapes.{unnamed}
 use Rattle.wcps_types.specs.Boxes.{is_domain, no_iterators}
@@ -22,12 +21,12 @@ use Rattle.map_templates.specs.Expansion.{zonal_on}
 use Rattle.map_templates.specs.Meaning.{Cells, AreIntegers, listed, array_of}
 use Rattle.map_templates.specs.Queries.{IsAxis, IsCoverage}
 use Rattle.map_templates.specs.TypedTrees as trees
-use Rattle.map_templates.specs.TypedTrees.{single, located, iterators}
+use Rattle.map_templates.specs.TypedTrees.{condenser_of, single, located, iterators}
 use Rattle.map_templates.proofs.FocalTyped.{is_written}
 use Rattle.map_templates.proofs.Found.{IsFound, found_named}
 use Rattle.map_templates.proofs.Laws.{tomlins}
 use Rattle.map_templates.proofs.Layers.{layer_node, one, IsOne, layer_typed, layer_reads, AreBound, bound_both, one_choice, query_typed, query_refused}
-use Rattle.map_templates.proofs.Spelled.{layer_expr, bound_tree, condenser_of, query_of, zonal_expr, zonal_tree}
+use Rattle.map_templates.proofs.Spelled.{layer_expr, bound_tree, query_of, zonal_expr, zonal_tree}
 use Rattle.map_templates.proofs.ZonalTyped.{iters_of, iters_typed, subs_of, located_typed, AllWritten, Arranged, arranged, names_from, same_iters, same_subs, bindings, Named, named}
 
 many_iterators : (k : ℕ) (axes : List Axis) → length (iterators k axes) ≡ length axes
@@ -53,7 +52,7 @@ same_expr op layer zones axes ps us hp hu =
 -- the tree of the condenser
 abbrev summed : Summary → List Axis → Typed → Typed → Typed
 summed op axes a z =
-    condense_where (trees.condenser_of op) axes (binary twos.Equal (bracket (located z 0 axes (iterators (length axes) axes))) (bracket (located z 0 axes (iterators 0 axes))))
+    condense_where (condenser_of op) axes (binary binaries.Equal (bracket (located z 0 axes (iterators (length axes) axes))) (bracket (located z 0 axes (iterators 0 axes))))
     (bracket (located a 0 axes (iterators (length axes) axes)))
 
 -- how the iterators, the zones and the value are typed

@@ -18,13 +18,13 @@ use Rattle.map_templates.specs.Refusals.{Answer, then_of}
 use Rattle.map_templates.specs.Templates.{template_named}
 use Rattle.map_templates.specs.Texts.{local_text, focal_text, zonal_text}
 
-abbrev pub found : Option Signature → Answer Signature
-found None = Err NoSuchCoverage
-found (Some s) = Ok s
+abbrev pub known_signature : Option Signature → Answer Signature
+known_signature None = Err NoSuchCoverage
+known_signature (Some s) = Ok s
 
 -- the coverage of a layer
 abbrev pub coverage_of : Layer → List Signature → Answer Signature
-coverage_of layer signatures = found (signature_at (coverage_place layer.coverage signatures) signatures)
+coverage_of layer signatures = known_signature (signature_at (coverage_place layer.coverage signatures) signatures)
 
 abbrev pub field_found : Option ℕ → Answer ℕ
 field_found None = Err BadParameter

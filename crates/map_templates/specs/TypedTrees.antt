@@ -2,10 +2,10 @@
 use Rattle.std.specs.Prelude.{ℕ, suc, ℤ, pos, negsuc, ◌-ℤ◌, List, [], ◌∷◌, length, map, false, None}
 use Rattle.arr_core.specs.declared.domain.Axis.{Axis}
 use Rattle.arr_core.specs.declared.signature.Signature.{Signature}
-use Rattle.wcps_types.specs.declared.typed.Condenser.{Condenser}
-use Rattle.wcps_types.specs.declared.typed.Condenser.TheVariants as condensers
-use Rattle.wcps_types.specs.declared.typed.Operation1.TheVariants as ones
-use Rattle.wcps_types.specs.declared.typed.Operation2.TheVariants as twos
+use Rattle.wcps_text.specs.declared.operator.Aggregate.{Aggregate}
+use Rattle.wcps_text.specs.declared.operator.Aggregate.TheVariants as aggregates
+use Rattle.wcps_text.specs.declared.operator.UnaryOperator.TheVariants as unaries
+use Rattle.wcps_text.specs.declared.operator.BinaryOperator.TheVariants as binaries
 use Rattle.wcps_types.specs.Typed.{Typed, number, iterator, unary, binary, bracket, slice, array, condense_where, FieldTree, TypedTree}
 use Rattle.map_templates.specs.declared.template.LocalOperation.{LocalOperation}
 use Rattle.map_templates.specs.declared.template.LocalOperation.TheVariants as locals
@@ -14,19 +14,19 @@ use Rattle.map_templates.specs.declared.template.Summary.TheVariants as summarie
 use Rattle.map_templates.specs.Expansion.{Operation, local_on, focal_on, zonal_on}
 
 -- the condenser of each summary
-abbrev pub condenser_of : Summary → Condenser
-condenser_of summaries.Sum = condensers.Add
-condenser_of summaries.Maximum = condensers.Max
-condenser_of summaries.Minimum = condensers.Min
+abbrev pub condenser_of : Summary → Aggregate
+condenser_of summaries.Sum = aggregates.Sum
+condenser_of summaries.Maximum = aggregates.Greatest
+condenser_of summaries.Minimum = aggregates.Least
 
 -- ---- local
 
 abbrev pub local_tree : LocalOperation → Typed → Typed → Typed
-local_tree locals.Sum a b = binary twos.Add a b
-local_tree locals.Difference a b = binary twos.Subtract a b
-local_tree locals.Product a b = binary twos.Multiply a b
-local_tree locals.Maximum a b = binary twos.Add (binary twos.Multiply a (binary twos.GreaterEqual a b)) (binary twos.Multiply b (binary twos.Less a b))
-local_tree locals.Minimum a b = binary twos.Add (binary twos.Multiply a (binary twos.LessEqual a b)) (binary twos.Multiply b (binary twos.Greater a b))
+local_tree locals.Sum a b = binary binaries.Add a b
+local_tree locals.Difference a b = binary binaries.Subtract a b
+local_tree locals.Product a b = binary binaries.Multiply a b
+local_tree locals.Maximum a b = binary binaries.Add (binary binaries.Multiply a (binary binaries.GreaterEqual a b)) (binary binaries.Multiply b (binary binaries.Less a b))
+local_tree locals.Minimum a b = binary binaries.Add (binary binaries.Multiply a (binary binaries.LessEqual a b)) (binary binaries.Multiply b (binary binaries.Greater a b))
 
 -- ---- layers at positions
 
@@ -46,7 +46,7 @@ iterators k (a ∷ axes) = iterator k ∷ iterators (suc k) axes
 abbrev pub zonal_tree : Summary → List Axis → Typed → Typed → Typed
 zonal_tree op axes a z =
     array (condense_where (condenser_of op) axes
-    (binary twos.Equal (bracket (located z 0 axes (iterators (length axes) axes))) (bracket (located z 0 axes (iterators 0 axes))))
+    (binary binaries.Equal (bracket (located z 0 axes (iterators (length axes) axes))) (bracket (located z 0 axes (iterators 0 axes))))
     (bracket (located a 0 axes (iterators (length axes) axes))))
 
 -- ---- focal
@@ -62,20 +62,20 @@ windows_of r axes = map (window_of r) axes
 -- a number as a query writes it: a sign is an operator
 abbrev pub literal : ℤ → Typed
 literal (pos n) = number (pos n)
-literal (negsuc n) = unary ones.Negate (number (pos (suc n)))
+literal (negsuc n) = unary unaries.Negate (number (pos (suc n)))
 
 abbrev pub edge_tree : Typed → Axis → Typed
-edge_tree m a = binary twos.And (binary twos.GreaterEqual m (literal a.lo)) (binary twos.LessEqual m (literal a.hi))
+edge_tree m a = binary binaries.And (binary binaries.GreaterEqual m (literal a.lo)) (binary binaries.LessEqual m (literal a.hi))
 
 abbrev pub first_moved : Typed
-first_moved = binary twos.Add (iterator 0) (iterator 2)
+first_moved = binary binaries.Add (iterator 0) (iterator 2)
 
 abbrev pub second_moved : Typed
-second_moved = binary twos.Add (iterator 1) (iterator 3)
+second_moved = binary binaries.Add (iterator 1) (iterator 3)
 
 -- a location moved by an offset is one of the domain
 abbrev pub edges_tree : Axis → Axis → Typed
-edges_tree x y = binary twos.And (binary twos.And (edge_tree first_moved x) (binary twos.GreaterEqual second_moved (literal y.lo))) (binary twos.LessEqual second_moved (literal y.hi))
+edges_tree x y = binary binaries.And (binary binaries.And (edge_tree first_moved x) (binary binaries.GreaterEqual second_moved (literal y.lo))) (binary binaries.LessEqual second_moved (literal y.hi))
 
 abbrev pub focal_tree : Summary → Axis → Axis → ℕ → Typed → Typed
 focal_tree op x y r a =

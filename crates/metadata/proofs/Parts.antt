@@ -1,26 +1,18 @@
 -- Parts that are read: bytes behind their length.
-use Rattle.std.proofs.Common.{◌≡◌, ℕ, ◌<◌, ◌^◌, List, [], ◌∷◌, ◌++◌, length, refl, sym, ap, ap₂, ◌∙◌, arith, append_assoc, length-append}
+use Rattle.std.proofs.Common.{◌≡◌, ℕ, ◌<◌, ◌^◌, List, ◌++◌, length, sym, ap, ap₂, ◌∙◌, arith, append_assoc, length-append}
 use Rattle.byteorder.specs.Endian.{little_bytes}
 use Rattle.file_bytes.specs.Codes.{IsRead}
 use Rattle.file_bytes.proofs.Numbers.{same-numbers}
+use Rattle.catalogue.proofs.Sequences.{read-taken}
 use Rattle.metadata.specs.Metadata.{part_bytes}
 use Rattle.metadata.specs.Parts.{IsAny}
-
-same-front : (xs ys a b : List ℕ) → length xs ≡ length ys → xs ++ a ≡ ys ++ b → (xs ≡ ys) × (a ≡ b)
-same-front [] [] a b l e = (refl, e)
-same-front [] (y ∷ ys) a b l e = absurd (omega arith)
-same-front (x ∷ xs) [] a b l e = absurd (omega arith)
-same-front (x ∷ xs) (y ∷ ys) a b l e =
-    let head : x ≡ y = cc in
-    let tail : xs ++ a ≡ ys ++ b = cc in
-    let rest = same-front xs ys a b (omega arith) tail in
-    (ap₂ (λ z zs. z ∷ zs) head rest.0, rest.1)
 
 part-split : (x rest : List ℕ) → part_bytes x ++ rest ≡ little_bytes 8 (length x) ++ (x ++ rest)
 part-split x rest = append_assoc (little_bytes 8 (length x)) x rest
 
 -- what the number in front says of a part
-same-length : (n : ℕ) (bytes left y rest : List ℕ) → n < 2 ^ 64 → length left < 2 ^ 64 → bytes ≡ little_bytes 8 n ++ left → bytes ≡ part_bytes y ++ rest → (n ≡ length y) × (left ≡ y ++ rest)
+same-length : (n : ℕ) (bytes left y rest : List ℕ) → n < 2 ^ 64 → length left < 2 ^ 64 → bytes ≡ little_bytes 8 n ++ left
+    → bytes ≡ part_bytes y ++ rest → (n ≡ length y) × (left ≡ y ++ rest)
 same-length n bytes left y rest small short e f =
     let whole : little_bytes 8 n ++ left ≡ little_bytes 8 (length y) ++ (y ++ rest) = sym e ∙ f ∙ part-split y rest in
     let longer = length-append y rest in
@@ -29,11 +21,12 @@ same-length n bytes left y rest small short e f =
     let front-y = length-append (little_bytes 8 (length y)) (y ++ rest) in
     same-numbers 8 n (length y) left (y ++ rest) (omega arith) (omega arith) whole
 
-pub part-read : (n : ℕ) (bytes left part new : List ℕ) → n < 2 ^ 64 → length left < 2 ^ 64 → bytes ≡ little_bytes 8 n ++ left → length part ≡ n → left ≡ part ++ new → IsRead IsAny part_bytes bytes part new
-part-read n bytes left part new small short e l p = record {
+pub part-read : {bytes left part new : List ℕ} (n : ℕ) → n < 2 ^ 64 → length left < 2 ^ 64 → bytes ≡ little_bytes 8 n ++ left
+    → length part ≡ n → left ≡ part ++ new → IsRead IsAny part_bytes bytes part new
+part-read {bytes} {left} {part} {new} n small short e l p = record {
   value = tt;
   front = e ∙ ap₂ (λ (k : ℕ) (xs : List ℕ). little_bytes 8 k ++ xs) (sym l) p ∙ sym (part-split part new);
   only = λ y rest v f.
       let s = same-length n bytes left y rest small short e f in
-      same-front y part rest new (sym s.0 ∙ sym l) (sym s.1 ∙ p);
+      (read-taken l p).only y rest (tt, sym s.0) s.1;
 }

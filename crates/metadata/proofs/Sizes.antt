@@ -1,7 +1,8 @@
 -- How many bytes the metadata has.
-use Rattle.std.proofs.Common.{◌≡◌, ℕ, ◌+◌, List, [], ◌∷◌, length, flat_map, refl, arith, length-append}
+use Rattle.std.proofs.Common.{◌≡◌, ℕ, ◌+◌, List, length, flat_map, ap, ◌∙◌, arith, length-append}
+use mathlib.Core.Path.{fun_ext}
 use Rattle.std.specs.List.{sum_by}
-use Rattle.std.proofs.lemmas.List.Sums.{sum_by-cons}
+use Rattle.std.proofs.lemmas.List.Concat.{length-flat_map}
 use Rattle.byteorder.specs.Endian.{little_bytes}
 use Rattle.arr_core.specs.declared.signature.Signature.{Signature}
 use Rattle.tile_index.specs.declared.entry.Entry.{Entry}
@@ -16,15 +17,14 @@ length_part bytes = omega (arith, length-append (little_bytes 8 (length bytes)) 
 -- the indexes of the fields of a coverage
 pub length_indexes : (indexes : List (List (ℕ × Entry))) → length (indexes_bytes indexes) ≡ sum_by (λ (i : List (ℕ × Entry)). 8 + length (index_bytes i)) indexes
 unfolding indexes_bytes
-length_indexes [] = refl
-length_indexes (i ∷ indexes) =
-    omega (arith, length_indexes indexes, length_part (index_bytes i), length-append (part_bytes (index_bytes i)) (flat_map (λ (j : List (ℕ × Entry)). part_bytes (index_bytes j)) indexes), sum_by-cons (λ (j : List (ℕ × Entry)). 8 + length (index_bytes j)) i indexes)
+length_indexes indexes =
+    length-flat_map (λ (i : List (ℕ × Entry)). part_bytes (index_bytes i)) indexes
+    ∙ ap (λ (f : List (ℕ × Entry) → ℕ). sum_by f indexes) (fun_ext (λ i. length_part (index_bytes i)))
 
 -- the indexes of all coverages
 pub length_all_indexes : (indexes : List (List (List (ℕ × Entry)))) → length (flat_map indexes_bytes indexes) ≡ sum_by (λ (fields : List (List (ℕ × Entry))). sum_by (λ (i : List (ℕ × Entry)). 8 + length (index_bytes i)) fields) indexes
-length_all_indexes [] = refl
-length_all_indexes (fields ∷ indexes) =
-    omega (arith, length_all_indexes indexes, length_indexes fields, length-append (indexes_bytes fields) (flat_map indexes_bytes indexes), sum_by-cons (λ (f : List (List (ℕ × Entry))). sum_by (λ (i : List (ℕ × Entry)). 8 + length (index_bytes i)) f) fields indexes)
+length_all_indexes indexes =
+    length-flat_map indexes_bytes indexes ∙ ap (λ (f : List (List (ℕ × Entry)) → ℕ). sum_by f indexes) (fun_ext length_indexes)
 
 -- the metadata: the catalogue and each index, each behind its length in 8 bytes
 pub length_metadata : (signatures : List Signature) (indexes : List (List (List (ℕ × Entry)))) → length (metadata_bytes signatures indexes) ≡ (8 + length (catalogue_bytes signatures)) + sum_by (λ (fields : List (List (ℕ × Entry))). sum_by (λ (i : List (ℕ × Entry)). 8 + length (index_bytes i)) fields) indexes

@@ -1,9 +1,11 @@
 -- The metadata of a store file. Numbers have the lowest byte first.
-use Rattle.std.specs.Prelude.{◌≡◌, ℕ, List, [], ◌∷◌, ◌++◌, length, All}
+use Rattle.std.specs.Prelude.{◌≡◌, ℕ, List, [], ◌∷◌, ◌++◌, length, map, All, Vec}
 use Rattle.std.specs.List.{flat_map}
+use Rattle.std.specs.declared.alloc.Global.{Global}
 use Rattle.byteorder.specs.Endian.{little_bytes}
 use Rattle.arr_core.specs.declared.signature.Signature.{Signature}
 use Rattle.tile_index.specs.declared.entry.Entry.{Entry}
+use Rattle.tile_index.specs.declared.index.TileIndex.{TileIndex}
 use Rattle.tile_index.specs.Bytes.{index_bytes}
 use Rattle.tile_index.specs.Index.{IsIndex}
 use Rattle.catalogue.specs.Bytes.{catalogue_bytes}
@@ -21,6 +23,10 @@ indexes_bytes indexes = flat_map (λ (i : List (ℕ × Entry)). part_bytes (inde
 unfoldable pub metadata_bytes : List Signature → List (List (List (ℕ × Entry))) → List ℕ
 metadata_bytes signatures indexes = part_bytes (catalogue_bytes signatures) ++ flat_map indexes_bytes indexes
 
+-- for each coverage the indexes of its fields, as they are held
+abbrev pub indexes_of : List (Vec TileIndex Global) → List (List (List (ℕ × Entry)))
+indexes_of indexes = map (λ (v : Vec TileIndex Global). v.items) indexes
+
 -- each coverage has an index for each of its fields
 abbrev pub AreCounted : List Signature → List (List (List (ℕ × Entry))) → Type 0
 AreCounted [] [] = Unit {0}
@@ -29,7 +35,8 @@ AreCounted [] (i ∷ indexes) = ⊥
 AreCounted (s ∷ signatures) [] = ⊥
 
 -- these bytes are the metadata of a catalogue and its indexes
-pub record IsMetadata (bytes : List ℕ) (signatures : List Signature) (indexes : List (List (List (ℕ × Entry)))) : Type 0 where
+pub record IsMetadata (bytes : List ℕ) (signatures : List Signature) (indexes : List (List (List (ℕ × Entry))))
+    : Type 0 where
   pub catalogue : IsCatalogue signatures
   pub counted : AreCounted signatures indexes
   pub written : bytes ≡ metadata_bytes signatures indexes

@@ -1,6 +1,6 @@
 //! Metadata read from its bytes.
 
-ghost use Rattle.std.specs.Prelude.{◌≡◌, ℕ, List, length, map, flat_map, Vec, IfOk, IsErrOf, MatchOption};
+ghost use Rattle.std.specs.Prelude.{◌≡◌, ℕ, List, length, flat_map, IfOk, IsErrOf, MatchOption};
 ghost use Rattle.arr_core.specs.declared.signature.Signature.{Signature};
 ghost use Rattle.byteorder.specs.Endian.{little_bytes};
 ghost use Rattle.file_bytes.specs.Codes.{IsRead, NoneIsRead};
@@ -9,7 +9,7 @@ ghost use Rattle.tile_index.specs.Index.{IsIndex};
 ghost use Rattle.catalogue.specs.Signatures.{IsCatalogue};
 ghost use Rattle.catalogue.specs.Reading.{AreMany};
 ghost use Rattle.metadata.specs.declared.reading.ReadError.TheVariants.{NoMemory};
-ghost use Rattle.metadata.specs.Metadata.{part_bytes, indexes_bytes, AreCounted, IsMetadata};
+ghost use Rattle.metadata.specs.Metadata.{part_bytes, indexes_bytes, indexes_of, AreCounted, IsMetadata};
 ghost use Rattle.metadata.specs.Parts.{IsAny, catalogue_part_bytes, index_part_bytes};
 
 use arr_core::Signature;
@@ -65,7 +65,8 @@ fn length_of(bytes: &[u8]) -> u64
 /// The bytes of the next part, which stand behind their length in 64 bits: none where that length
 /// is cut short or points past the end.
 fn read_part<'a>(bytes: &mut Reader<'a>) -> Option<&'a [u8]>
-    ensures { MatchOption result (NoneIsRead IsAny part_bytes bytes.old) (λ part. IsRead IsAny part_bytes bytes.old part.now bytes.new) }
+    ensures { MatchOption result (NoneIsRead IsAny part_bytes bytes.old)
+        (λ part. IsRead IsAny part_bytes bytes.old part.now bytes.new) }
 {
     let length = length_of(bytes.take(8)?);
     if length > bytes.len() as u64 {
@@ -107,7 +108,8 @@ fn read_index(alloc: Global, bytes: &mut Reader) -> Result<TileIndex, ReadError>
 
 /// The indexes of the next `count` fields.
 fn read_fields(alloc: Global, bytes: &mut Reader, count: usize) -> Result<Vec<TileIndex>, ReadError>
-    ensures read { IfOk result (λ indexes. IsRead (AreMany IsIndex count) indexes_bytes bytes.old indexes.items bytes.new) }
+    ensures read { IfOk result
+        (λ indexes. IsRead (AreMany IsIndex count) indexes_bytes bytes.old indexes.items bytes.new) }
     ensures damaged { IsErrOf result ReadError.Damaged → NoneIsRead (AreMany IsIndex count) indexes_bytes bytes.old }
 {
     let mut indexes = Vec::new(alloc);
@@ -124,8 +126,10 @@ fn read_indexes(
     bytes: &mut Reader,
     signatures: &[Signature],
 ) -> Result<Vec<Vec<TileIndex>>, ReadError>
-    ensures read { IfOk result (λ indexes. IsRead (AreCounted signatures.now) (flat_map indexes_bytes) bytes.old (map (λ (v : Vec TileIndex Global). v.items) indexes.items) bytes.new) }
-    ensures damaged { IsErrOf result ReadError.Damaged → NoneIsRead (AreCounted signatures.now) (flat_map indexes_bytes) bytes.old }
+    ensures read { IfOk result (λ indexes. IsRead (AreCounted signatures.now) (flat_map indexes_bytes)
+        bytes.old (indexes_of indexes.items) bytes.new) }
+    ensures damaged { IsErrOf result ReadError.Damaged
+        → NoneIsRead (AreCounted signatures.now) (flat_map indexes_bytes) bytes.old }
 {
     let mut indexes = Vec::new(alloc);
     for signature in signatures {
@@ -137,9 +141,13 @@ fn read_indexes(
 
 /// The metadata whose bytes these are: `Damaged` where they are those of none.
 pub fn read_metadata(alloc: Global, bytes: &[u8]) -> Result<Metadata, ReadError>
-    ensures read { IfOk result (λ m. IsMetadata bytes.now m.catalogue (map (λ (v : Vec TileIndex Global). v.items) m.indexes.items)) }
-    ensures only { IfOk result (λ m. (signatures : List Signature) (indexes : List (List (List (ℕ × Entry)))) → IsMetadata bytes.now signatures indexes → (signatures ≡ m.catalogue) × (indexes ≡ map (λ (v : Vec TileIndex Global). v.items) m.indexes.items)) }
-    ensures damaged { IsErrOf result ReadError.Damaged → (signatures : List Signature) (indexes : List (List (List (ℕ × Entry)))) → IsMetadata bytes.now signatures indexes → ⊥ }
+    ensures read { IfOk result (λ m. IsMetadata bytes.now m.catalogue (indexes_of m.indexes.items)) }
+    ensures only { IfOk result (λ m. (signatures : List Signature) (indexes : List (List (List (ℕ × Entry))))
+        → IsMetadata bytes.now signatures indexes
+        → (signatures ≡ m.catalogue) × (indexes ≡ indexes_of m.indexes.items)) }
+    ensures damaged { IsErrOf result ReadError.Damaged
+        → (signatures : List Signature) (indexes : List (List (List (ℕ × Entry))))
+        → IsMetadata bytes.now signatures indexes → ⊥ }
 {
     let mut rest = Reader::new(bytes);
     let catalogue = read_catalogue(alloc, &mut rest)?;

@@ -1,14 +1,12 @@
 -- Look-ups among the pages of a cache.
-use Rattle.std.proofs.Common.{◌≡◌, ◌≢◌, ℕ, ◌-◌, Bool, true, false, List, [], ◌∷◌, Option, Some, None, IsSome, IsTrue, nat_eq, take, zero, suc, cond, length, refl, sym, ◌∙◌, ap, ◌⊎◌, inl, inr, Result, Ok, Err, OnOk, OnErr}
+use Rattle.std.proofs.Common.{◌≡◌, ◌≢◌, ℕ, ◌-◌, Bool, true, false, List, [], ◌∷◌, Option, Some, None, IsSome, nat_eq, take, zero, suc, cond, refl, sym, ◌∙◌, ap, ◌⊎◌, inl, inr, Result, Ok, Err, OnOk, OnErr}
 use Rattle.std.specs.Cmp.{nat_eq_equiv}
 use Rattle.std.specs.List.{IsDistinct}
 use Rattle.std.specs.Option.{option_map_or}
 use Rattle.std.specs.Map.{keys_of, lookup, lookup_entry, remove_entry, set_value}
 use Rattle.std.proofs.lemmas.Bool.{eqb-true, ne_eqb}
-use Rattle.std.proofs.lemmas.Bool.Decides.{eqb_tells}
 use Rattle.std.proofs.lemmas.Map.{lookup-remove_entry, lookup-set_value}
 use Rattle.lru.specs.LruCache.{LruCache, lru_cache, promoted, put_entries}
-use Rattle.block_file.specs.Blocks.{block_at, OthersKept}
 use Rattle.page_pool.specs.Pages.{page_of, SamePages, NoneAdded, Forgets, Renews, ArePages}
 
 same_test : (k x y : ℕ) → nat_eq k x ≡ true → nat_eq k y ≡ nat_eq x y
@@ -16,9 +14,6 @@ same_test k x y t = ap (λ n. nat_eq n y) (eqb-true k x t)
 
 itself : (k : ℕ) → nat_eq k k ≡ true
 itself k = nat_eq_equiv.refl k
-
-or_is : (j k : ℕ) → (j ≡ k) ⊎ (j ≢ k)
-or_is j k = elim (eqb_tells j k) [ inl same ↦ inl same.1 | inr ne ↦ inr ne.1 ]
 
 apart : (j k : ℕ) → j ≢ k → nat_eq k j ≡ false
 apart j k ne = ne_eqb k j (λ e. ne (sym e))
@@ -122,36 +117,3 @@ are_pages_of content honest old new added pages = record {
 
 pub are_same : (content : List ℕ) (honest : Bool) (old new : List (ℕ × List ℕ)) → SamePages old new → ArePages content honest old → ArePages content honest new
 are_same content honest old new same = are_pages_of content honest old new (λ k page found. sym (same k) ∙ found)
-
--- pages but that of block k, where the other whole blocks hold what they held
-pub are_forgotten : (old new : List ℕ) (honest : Bool) (k : ℕ) (before after : List (ℕ × List ℕ)) → Forgets k before after → (IsTrue honest → OthersKept k (block_at old) (block_at new)) → ArePages old honest before → ArePages new honest after
-are_forgotten old new honest k before after forgot kept pages = record {
-  whole = λ j page found. elim (or_is j k) [
-    | inl same ↦ let no = rw (ap (page_of after) same ∙ forgot.gone) at found in cc
-    | inr ne ↦ pages.whole j page (sym (forgot.others j ne) ∙ found)
-  ];
-  held = λ true j page found. elim (or_is j k) [
-    | inl same ↦ let no = rw (ap (page_of after) same ∙ forgot.gone) at found in cc
-    | inr ne ↦
-        let was : page_of before j ≡ Some page = sym (forgot.others j ne) ∙ found in
-        let held : page ≡ block_at old j = pages.held true j page was in
-        held ∙ sym (kept true j ne (ap length (sym held) ∙ pages.whole j page was))
-  ];
-}
-
--- pages of which that of block k, where there is one, has what the block holds now
-pub are_renewed : (old new : List ℕ) (honest : Bool) (k : ℕ) (v : List ℕ) (before after : List (ℕ × List ℕ)) → Renews k v before after → length v ≡ 4096 → (IsTrue honest → v ≡ block_at new k)
-    → (IsTrue honest → OthersKept k (block_at old) (block_at new)) → ArePages old honest before → ArePages new honest after
-are_renewed old new honest k v before after renewed long is kept pages = record {
-  whole = λ j page found. elim (or_is j k) [
-    | inl same ↦ ap length (renewed.here page (sym (ap (page_of after) same) ∙ found)) ∙ long
-    | inr ne ↦ pages.whole j page (renewed.others j page ne found)
-  ];
-  held = λ true j page found. elim (or_is j k) [
-    | inl same ↦ renewed.here page (sym (ap (page_of after) same) ∙ found) ∙ is true ∙ ap (block_at new) (sym same)
-    | inr ne ↦
-        let was : page_of before j ≡ Some page = renewed.others j page ne found in
-        let held : page ≡ block_at old j = pages.held true j page was in
-        held ∙ sym (kept true j ne (ap length (sym held) ∙ pages.whole j page was))
-  ];
-}

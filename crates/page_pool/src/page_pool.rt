@@ -54,23 +54,9 @@ impl<D: Disk> PagePool<D> {
 }
 
 impl<D: Disk> Blocks for PagePool<D> {
-    ghost use Rattle.std.specs.Prelude.{length};
-    ghost use Rattle.block_file.specs.View.{uses_of};
-    ghost use Rattle.page_pool.specs.Pages.{free_of};
+    ghost use Rattle.block_file.specs.View.{state_of};
 
-    ghost content = { λ s. s.content };
-
-    ghost synced = { λ s. s.synced };
-
-    ghost uses = { λ s. uses_of s.marks };
-
-    ghost extent = { λ s. length s.marks };
-
-    ghost free_blocks = { λ s. free_of s };
-
-    ghost failures = { λ s. s.failures };
-
-    ghost honest = { λ s. s.honest };
+    ghost state = { λ s. state_of s };
 
     fn read(&mut self, k: u32, bytes: &mut [u8; 4096]) -> Result<(), DiskFault> {
         if self.pages.get(k, bytes) {
@@ -106,8 +92,8 @@ impl<D: Disk> Blocks for PagePool<D> {
         self.file.free()
     }
 
-    fn write_header(&mut self, state: State, first: u32, length: u64) -> Result<(), DiskFault> {
+    fn write_header(&mut self, session: State, first: u32, length: u64) -> Result<(), DiskFault> {
         self.pages.forget(0);
-        self.file.write_header(state, first, length)
+        self.file.write_header(session, first, length)
     }
 }

@@ -1,9 +1,9 @@
 -- Bodies as values alone, without where they lie in memory.
 use Rattle.std.specs.Prelude.{ℕ, ℤ, pos, List, Option, Some, None}
 use Rattle.arr_core.specs.declared.domain.Axis.{Axis}
-use Rattle.wcps_types.specs.declared.typed.Operation1.{Operation1}
-use Rattle.wcps_types.specs.declared.typed.Operation2.{Operation2}
-use Rattle.wcps_mean.specs.declared.aggregate.Aggregate.{Aggregate}
+use Rattle.wcps_text.specs.declared.operator.UnaryOperator.{UnaryOperator}
+use Rattle.wcps_text.specs.declared.operator.BinaryOperator.{BinaryOperator}
+use Rattle.wcps_text.specs.declared.operator.Aggregate.{Aggregate}
 use Rattle.plan_ir.specs.declared.body.Index.{Index}
 use Rattle.plan_ir.specs.declared.body.Fold.{Fold}
 use Rattle.plan_ir.specs.declared.body.Body.{Body, Lit, Var, Reg, Op1', Op2', Read, Table, Bind', Fold', Held-Fold-condition, None', Some'}
@@ -13,8 +13,8 @@ pub data Tree : Type 0 where
   lit : ℤ → Tree
   var : ℕ → Tree
   reg : ℕ → Tree
-  op1 : Operation1 → Tree → Tree
-  op2 : Operation2 → Tree → Tree → Tree
+  op1 : UnaryOperator → Tree → Tree
+  op2 : BinaryOperator → Tree → Tree → Tree
   -- the coverage, the field, and an index for each axis
   read : ℕ → ℕ → List Index → Tree
   table : List Axis → List ℤ → List Index → Tree

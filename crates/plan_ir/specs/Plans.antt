@@ -2,7 +2,7 @@
 use Rattle.std.specs.Prelude.{ℕ, ℤ, List, map, Bool, Option, option_map, slice_get, slice_index_or}
 use Rattle.arr_core.specs.declared.domain.Axis.{Axis}
 use Rattle.arr_core.specs.declared.signature.Signature.{Signature}
-use Rattle.wcps_mean.specs.declared.aggregate.Aggregate.{Aggregate}
+use Rattle.wcps_text.specs.declared.operator.Aggregate.{Aggregate}
 use Rattle.plan_ir.specs.declared.body.Fold.{Fold}
 use Rattle.plan_ir.specs.declared.plan.Bind.{Bind}
 use Rattle.plan_ir.specs.declared.plan.Field.{Field}

@@ -1,8 +1,7 @@
 //! Bodies: what a plan evaluates at each point of a box.
 
 use arr_core::Domain;
-use wcps_mean::Aggregate;
-use wcps_types::{Operation1, Operation2};
+use wcps_text::{Aggregate, BinaryOperator, UnaryOperator};
 
 /// What stands for a coordinate: a constant, or the variable of that level.
 #[derive(Clone, Copy, PartialEq, Eq, Debug)]
@@ -30,9 +29,9 @@ pub enum Body {
     /// The outcome of the pass at that place, a fault too.
     Reg(usize),
     /// An operation on the operand.
-    Op1(Operation1, Box<Body>),
+    Op1(UnaryOperator, Box<Body>),
     /// An operation on both operands, the left one first.
-    Op2(Operation2, Box<Body>, Box<Body>),
+    Op2(BinaryOperator, Box<Body>, Box<Body>),
     /// The cell of a field, by its place in its coverage, at the point of the indexes: one for each axis. The coverage
     /// is its place among those that the combination chooses.
     Read {

@@ -9,17 +9,16 @@ use Rattle.arr_core.specs.declared.domain.Axis.{Axis}
 use Rattle.arr_core.specs.declared.signature.Signature.{Signature}
 use Rattle.arr_core.specs.Domains.{points}
 use Rattle.wcps_types.specs.declared.typed.Node.{Node}
-use Rattle.wcps_types.specs.declared.typed.Combination.{Combination}
-use Rattle.wcps_types.specs.declared.shared.SharedCombination.{SharedCombination}
-use Rattle.wcps_types.specs.Typed.{Typed, number, iterator, cell, unary, binary, scalar, select, bracket, slice, array, listed, condense, condense_where, reduce, FieldTree, ItemTree, CombinationTree, only_tree, item_view, combination_view}
-use Rattle.wcps_types.specs.Renamed.{renamed, renamed_field, renamed_item, renamed_combination, over, shared_view}
+use Rattle.wcps_types.specs.declared.typed.Tree.{Tree}
+use Rattle.wcps_types.specs.declared.typed_query.Combination.{Combination}
+use Rattle.wcps_types.specs.Typed.{Typed, number, iterator, cell, unary, binary, scalar, select, bracket, slice, array, listed, condense, condense_where, reduce, FieldTree, ItemTree, CombinationTree, only_tree, item_view, tree_view}
+use Rattle.wcps_types.specs.Renamed.{renamed, renamed_field, renamed_item, renamed_combination, over, combination_view}
 use Rattle.wcps_types.specs.WellTyped.{FieldsAreTyped, ConditionIsTyped, CombinationIsTyped, AreTyped}
 use Rattle.wcps_mean.specs.declared.cell.PointFault.{PointFault}
 use Rattle.wcps_mean.specs.declared.cell.Outcome.{Outcome}
 use Rattle.wcps_mean.specs.declared.item.Item.{Item}
 use Rattle.wcps_mean.specs.Cells.{operate1, operate2, at_position, is_true}
 use Rattle.wcps_mean.specs.Condensers.{condensed, demanded}
-use Rattle.wcps_mean.specs.Aggregates.{of_condenser, of_reduction}
 use Rattle.wcps_mean.specs.Meaning.{val}
 use Rattle.wcps_mean.specs.Answer.{then_of, given, joined, cell_of, line_of, field_count, cells_at, item_cells, item_answer, chosen, combination_answer}
 use Rattle.plan_ir.specs.declared.body.Index.{Index}
@@ -61,12 +60,12 @@ val-over (slice e axis lo hi i) ks s env p =
     ∙ position-same (val s (renamed ks i) env []) lo hi _ _ (λ z above below. val-over e ks s env (insert p axis z))
 val-over (array e) ks s env p = val-over e ks s (env ++ p) []
 val-over (listed box items) ks s env p = refl
-val-over (condense op box e) ks s env p = ap (condensed (of_condenser op)) (map-each _ _ (points box) (λ x. val-over e ks s (env ++ x) []))
+val-over (condense op box e) ks s env p = ap (condensed op) (map-each _ _ (points box) (λ x. val-over e ks s (env ++ x) []))
 val-over (condense_where op box c e) ks s env p =
-    ap (condensed (of_condenser op)) (flat-each _ _ (points box) (λ x.
+    ap (condensed op) (flat-each _ _ (points box) (λ x.
     ap (λ o. demanded o (val (cells_of s ks) e (env ++ x) [])) (val-over c ks s (env ++ x) [])
     ∙ ap (demanded (val s (renamed ks c) (env ++ x) [])) (val-over e ks s (env ++ x) [])))
-val-over (reduce op box e) ks s env p = ap (condensed (of_reduction op)) (map-each _ _ (points box) (λ x. val-over e ks s env x))
+val-over (reduce op box e) ks s env p = ap (condensed op) (map-each _ _ (points box) (λ x. val-over e ks s env x))
 
 abbrev cell_in : (ℕ → ℕ → List ℤ → ℤ) → List ℤ → FieldTree → Result (List Cell) PointFault
 cell_in s p f = given (λ z. cell_of f.boolean z ∷ []) (val s f.tree [] p)
@@ -96,33 +95,33 @@ combination-over c ks s =
     ∙ ap (out_of (chosen s (option_map (renamed ks) c.condition))) (item-over c.item ks s)
 
 -- the steps of a tree, over the coverages of a combination
-tree-means : (t : Combination) (ks : List ℕ) (s : ℕ → ℕ → List ℤ → ℤ) → steps_planned (cells_of s ks) (lowered_tree t) ≡ combination_answer s (renamed_combination ks (combination_view t))
-tree-means t ks s = steps-mean t.condition t.item (cells_of s ks) ∙ combination-over (combination_view t) ks s
+tree-means : (t : Tree) (ks : List ℕ) (s : ℕ → ℕ → List ℤ → ℤ) → steps_planned (cells_of s ks) (lowered_tree t) ≡ combination_answer s (renamed_combination ks (tree_view t))
+tree-means t ks s = steps-mean t.condition t.item (cells_of s ks) ∙ combination-over (tree_view t) ks s
 
 -- what the combinations of a plan give, one by one
-abbrev each : (ℕ → ℕ → List ℤ → ℤ) → List Combination → List Choice → List (Result (List Item) PointFault)
+abbrev each : (ℕ → ℕ → List ℤ → ℤ) → List Tree → List Choice → List (Result (List Item) PointFault)
 each s trees all = map (λ (c : Choice). choice_planned s c.coverages (slice_get (map lowered_tree trees) c.steps)) all
 
 then-same : (r : Result (List Item) PointFault) → r ≡ then_of r (λ ys. Ok ys)
 then-same (Ok ys) = refl
 then-same (Err f) = refl
 
-one-means : (o : Option Combination) (trees : List Combination) (c : SharedCombination) (rest : List Choice) (s : ℕ → ℕ → List ℤ → ℤ) → slice_get trees c.tree ≡ o
+one-means : (o : Option Tree) (trees : List Tree) (c : Combination) (rest : List Choice) (s : ℕ → ℕ → List ℤ → ℤ) → slice_get trees c.tree ≡ o
     → joined (each s trees (lowered_choice o c ++ rest)) ≡ then_of (combination_answer s (over c.coverages.items o)) (λ xs. then_of (joined (each s trees rest)) (λ ys. Ok (xs ++ ys)))
 one-means None trees c rest s e = then-same (joined (each s trees rest))
 one-means (Some t) trees c rest s e =
     ap (λ r. then_of r (λ xs. then_of (joined (each s trees rest)) (λ ys. Ok (xs ++ ys))))
     (ap (choice_planned s c.coverages.items) (slice_get-map lowered_tree trees c.tree ∙ ap (option_map lowered_tree) e) ∙ tree-means t c.coverages.items s)
 
-choices-mean : (all : List SharedCombination) (trees : List Combination) (s : ℕ → ℕ → List ℤ → ℤ) → joined (each s trees (lowered_choices trees all)) ≡ joined (map (combination_answer s) (map (shared_view trees) all))
+choices-mean : (all : List Combination) (trees : List Tree) (s : ℕ → ℕ → List ℤ → ℤ) → joined (each s trees (lowered_choices trees all)) ≡ joined (map (combination_answer s) (map (combination_view trees) all))
 choices-mean [] trees s = refl
 choices-mean (c ∷ all) trees s =
     one-means (slice_get trees c.tree) trees c (lowered_choices trees all) s refl
-    ∙ ap (λ (r : Result (List Item) PointFault). then_of (combination_answer s (shared_view trees c)) (λ xs. then_of r (λ ys. Ok (xs ++ ys)))) (choices-mean all trees s)
+    ∙ ap (λ (r : Result (List Item) PointFault). then_of (combination_answer s (combination_view trees c)) (λ xs. then_of r (λ ys. Ok (xs ++ ys)))) (choices-mean all trees s)
 
 -- the plan gives the answer
-pub query-means : (cs : List Signature) (trees : List Combination) (all : List SharedCombination) (s : ℕ → ℕ → List ℤ → ℤ)
-    → planned s (record { coverages = cs; steps = map lowered_tree trees; combinations = lowered_choices trees all }) ≡ joined (map (combination_answer s) (map (shared_view trees) all))
+pub query-means : (cs : List Signature) (trees : List Tree) (all : List Combination) (s : ℕ → ℕ → List ℤ → ℤ)
+    → planned s (record { coverages = cs; steps = map lowered_tree trees; combinations = lowered_choices trees all }) ≡ joined (map (combination_answer s) (map (combination_view trees) all))
 query-means cs trees all s = choices-mean all trees s
 
 variable-over : (i : Index) (cs : List Signature) (ks : List ℕ) (regs : ℕ) (scope : List Interval) → IsPlaced (slice_get cs) regs scope (variable i) → IsPlaced (signature_of cs ks) regs scope (variable i)
@@ -156,7 +155,7 @@ condition-placed : (o : Option Node) (cs : List Signature) (ks : List ℕ) → C
 condition-placed None cs ks h = tt
 condition-placed (Some e) cs ks h = placed-over (only_tree e) cs ks 0 (outermost [] []) (outer-placed (renamed ks (only_tree e)) [] [] cs 0 h)
 
-tree-placed : (t : Combination) (cs : List Signature) (ks : List ℕ) → CombinationIsTyped cs (renamed_combination ks (combination_view t)) → AreSteps (signature_of cs ks) (lowered_tree t)
+tree-placed : (t : Tree) (cs : List Signature) (ks : List ℕ) → CombinationIsTyped cs (renamed_combination ks (tree_view t)) → AreSteps (signature_of cs ks) (lowered_tree t)
 tree-placed t cs ks h = record {
   passes = tt;
   condition = condition-placed t.condition cs ks h.0;
@@ -167,10 +166,10 @@ all-more : (P : Choice → Type 0) (x : Choice) (xs : List Choice) → P x → A
 all-more P x xs h a zero d lt = h
 all-more P x xs h a (suc k) d lt = a k d (omega (arith, lt))
 
-abbrev Stands : List Signature → List Combination → Choice → Type 0
+abbrev Stands : List Signature → List Tree → Choice → Type 0
 Stands cs trees c = IsSomeAnd (slice_get (map lowered_tree trees) c.steps) (AreSteps (signature_of cs c.coverages))
 
-one-placed : (o : Option Combination) (cs : List Signature) (trees : List Combination) (c : SharedCombination) (rest : List Choice) → slice_get trees c.tree ≡ o → CombinationIsTyped cs (over c.coverages.items o) → All (Stands cs trees) rest
+one-placed : (o : Option Tree) (cs : List Signature) (trees : List Tree) (c : Combination) (rest : List Choice) → slice_get trees c.tree ≡ o → CombinationIsTyped cs (over c.coverages.items o) → All (Stands cs trees) rest
     → All (Stands cs trees) (lowered_choice o c ++ rest)
 one-placed None cs trees c rest e t h = h
 one-placed (Some b) cs trees c rest e t h =
@@ -178,12 +177,12 @@ one-placed (Some b) cs trees c rest e t h =
     let steps = slice_get-map lowered_tree trees c.tree ∙ ap (option_map lowered_tree) e in
     all-more (Stands cs trees) (record { steps = c.tree; coverages = ks }) rest (subst (λ o. IsSomeAnd o (AreSteps (signature_of cs ks))) (sym steps) (tree-placed b cs ks t)) h
 
-choices-placed : (all : List SharedCombination) (cs : List Signature) (trees : List Combination) → AreTyped cs (map (shared_view trees) all) → All (Stands cs trees) (lowered_choices trees all)
+choices-placed : (all : List Combination) (cs : List Signature) (trees : List Tree) → AreTyped cs (map (combination_view trees) all) → All (Stands cs trees) (lowered_choices trees all)
 choices-placed [] cs trees t = λ k d lt. absurd (omega (arith, lt))
 choices-placed (c ∷ all) cs trees t = one-placed (slice_get trees c.tree) cs trees c (lowered_choices trees all) refl t.0 (choices-placed all cs trees t.1)
 
 -- the plan is well-formed
-pub query-placed : (cs : List Signature) (trees : List Combination) (all : List SharedCombination) → AreTyped cs (map (shared_view trees) all)
+pub query-placed : (cs : List Signature) (trees : List Tree) (all : List Combination) → AreTyped cs (map (combination_view trees) all)
     → IsPlan (record { coverages = cs; steps = map lowered_tree trees; combinations = lowered_choices trees all })
 query-placed cs trees all t = choices-placed all cs trees t
 

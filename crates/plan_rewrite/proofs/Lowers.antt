@@ -12,7 +12,6 @@ use Rattle.wcps_mean.specs.declared.cell.Outcome.{Outcome}
 use Rattle.wcps_mean.specs.declared.cell.Outcome.TheVariants.{Value}
 use Rattle.wcps_mean.specs.Cells.{operate1, operate2, at_position}
 use Rattle.wcps_mean.specs.Condensers.{condensed, demanded}
-use Rattle.wcps_mean.specs.Aggregates.{of_condenser, of_reduction}
 use Rattle.wcps_mean.specs.Meaning.{val}
 use Rattle.plan_ir.specs.declared.body.Index.{Index}
 use Rattle.plan_ir.specs.declared.body.Index.TheVariants.{Const, Var}
@@ -81,14 +80,14 @@ lowered-means (array e) s regs iters dom c vars h k len =
 lowered-means (listed box items) s regs iters dom c vars h k len = refl
 lowered-means (condense op box e) s regs iters dom c vars h k len =
     let env = numbers_at vars c.iterators in
-    ap (condensed (of_condenser op)) (flat-same (Lie (spans box)) _ (λ x. val s e (env ++ x) [] ∷ []) (points box) (λ x lx.
+    ap (condensed op) (flat-same (Lie (spans box)) _ (λ x. val s e (env ++ x) [] ∷ []) (points box) (λ x lx.
     let lies = lie-length (spans box) x lx in
     ap (λ o. o ∷ []) (lowered-means e s regs (iters ++ spans box) [] (at_box c box) (vars ++ x) (indexes-under iters c.scope (spans box) c.iterators h) tt (longer c.scope (spans box) vars x len lies)
     ∙ ap (λ l. val s e l []) (numbers-with iters c.scope c.iterators vars x (spans box) h len lies))) (points-lie box)
     ∙ flat_map_single (λ x. val s e (env ++ x) []) (points box))
 lowered-means (condense_where op box b e) s regs iters dom c vars h k len =
     let env = numbers_at vars c.iterators in
-    ap (condensed (of_condenser op)) (flat-same (Lie (spans box)) _ _ (points box) (λ x lx.
+    ap (condensed op) (flat-same (Lie (spans box)) _ _ (points box) (λ x lx.
     let lies = lie-length (spans box) x lx in
     let is = indexes-under iters c.scope (spans box) c.iterators h in
     let long = longer c.scope (spans box) vars x len lies in
@@ -99,7 +98,7 @@ lowered-means (condense_where op box b e) s regs iters dom c vars h k len =
     (lowered-means e s regs (iters ++ spans box) [] (at_box c box) (vars ++ x) is tt long ∙ ap (λ l. val s e l []) under)) (points-lie box))
 lowered-means (reduce op box e) s regs iters dom c vars h k len =
     let env = numbers_at vars c.iterators in
-    ap (condensed (of_reduction op)) (flat-same (Lie (spans box)) _ (λ x. val s e env x ∷ []) (points box) (λ x lx.
+    ap (condensed op) (flat-same (Lie (spans box)) _ (λ x. val s e env x ∷ []) (points box) (λ x lx.
     let lies = lie-length (spans box) x lx in
     ap (λ o. o ∷ []) (lowered-means e s regs iters (spans box) (at_points c box) (vars ++ x) (indexes-more iters c.scope (spans box) c.iterators h) (levels-lie c.scope (spans box) (length c.scope) refl) (longer c.scope (spans box) vars x len lies)
     ∙ ap (λ l. val s e l (numbers_at (vars ++ x) (levels (length c.scope) (spans box)))) (numbers-more iters c.scope vars x c.iterators len h)

@@ -3,7 +3,6 @@
 use Rattle.std.specs.Prelude.{ℕ, ℤ, pos, List, [], ◌∷◌, ◌++◌, length, slice_index_or, insert}
 use Rattle.arr_core.specs.declared.domain.Axis.{Axis}
 use Rattle.wcps_types.specs.Typed.{Typed, number, iterator, cell, unary, binary, scalar, select, bracket, slice, array, listed, condense, condense_where, reduce}
-use Rattle.wcps_mean.specs.Aggregates.{of_condenser, of_reduction}
 use Rattle.plan_ir.specs.declared.body.Index.{Index}
 use Rattle.plan_ir.specs.declared.body.Index.TheVariants.{Const, Var}
 use Rattle.plan_ir.specs.declared.body.Interval.{Interval}
@@ -74,6 +73,6 @@ lowered c (bracket e) = lowered c e
 lowered c (slice e axis lo hi i) = bind (lowered (at_scalar c) i) lo hi (lowered (at_slice c axis lo hi) e)
 lowered c (array e) = lowered (at_iterators c) e
 lowered c (listed box items) = table box items c.point
-lowered c (condense op box e) = fold (of_condenser op) box always (lowered (at_box c box) e)
-lowered c (condense_where op box b e) = fold (of_condenser op) box (lowered (at_box c box) b) (lowered (at_box c box) e)
-lowered c (reduce op box e) = fold (of_reduction op) box always (lowered (at_points c box) e)
+lowered c (condense op box e) = fold op box always (lowered (at_box c box) e)
+lowered c (condense_where op box b e) = fold op box (lowered (at_box c box) b) (lowered (at_box c box) e)
+lowered c (reduce op box e) = fold op box always (lowered (at_points c box) e)

@@ -19,7 +19,6 @@ use crate::nodes::{
 use arr_core::Axis;
 use plan_ir::{Body, Interval};
 use std::alloc::{AllocError, Global};
-use wcps_mean::{of_condenser, of_reduction};
 use wcps_types::Node;
 
 /// The body of one field of an expression, whose variables are its iterators, which go over the axes `iterators`, and
@@ -99,7 +98,7 @@ pub fn lowered(alloc: Global, context: &Context, e: &Node, field: usize) -> Resu
         Node::Condense { op, domain, body } => {
             let inner = context.over(alloc, domain.axes())?;
             let body = lowered(alloc, &inner, body, 0)?;
-            plain_fold(alloc, of_condenser(*op), domain, body)
+            plain_fold(alloc, *op, domain, body)
         }
         Node::CondenseWhere {
             op,
@@ -110,12 +109,12 @@ pub fn lowered(alloc: Global, context: &Context, e: &Node, field: usize) -> Resu
             let inner = context.over(alloc, domain.axes())?;
             let c = lowered(alloc, &inner, condition, 0)?;
             let body = lowered(alloc, &inner, body, 0)?;
-            conditional_fold(alloc, of_condenser(*op), domain, c, body)
+            conditional_fold(alloc, *op, domain, c, body)
         }
         Node::Reduce { op, domain, body } => {
             let inner = context.across(alloc, domain.axes())?;
             let body = lowered(alloc, &inner, body, 0)?;
-            plain_fold(alloc, of_reduction(*op), domain, body)
+            plain_fold(alloc, *op, domain, body)
         }
     }
 }

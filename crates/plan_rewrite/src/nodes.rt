@@ -6,8 +6,7 @@ ghost use Rattle.plan_ir.specs.Bodies.{body_view, fold_view, op1, op2, read, tab
 use arr_core::Domain;
 use plan_ir::{Body, Fold, Index, Interval};
 use std::alloc::{AllocError, Global};
-use wcps_mean::Aggregate;
-use wcps_types::{Operation1, Operation2};
+use wcps_text::{Aggregate, BinaryOperator, UnaryOperator};
 
 /// A body on the heap.
 fn boxed(alloc: Global, body: Body) -> Result<Box<Body>, AllocError>
@@ -18,14 +17,14 @@ fn boxed(alloc: Global, body: Body) -> Result<Box<Body>, AllocError>
 }
 
 /// An operation on one operand.
-pub fn op1_body(alloc: Global, op: Operation1, e: Body) -> Result<Body, AllocError>
+pub fn op1_body(alloc: Global, op: UnaryOperator, e: Body) -> Result<Body, AllocError>
     ensures { IfOk result (λ b. body_view b ≡ op1 op (body_view e)) }
 {
     Ok(Body::Op1(op, boxed(alloc, e)?))
 }
 
 /// An operation on two operands.
-pub fn op2_body(alloc: Global, op: Operation2, l: Body, r: Body) -> Result<Body, AllocError>
+pub fn op2_body(alloc: Global, op: BinaryOperator, l: Body, r: Body) -> Result<Body, AllocError>
     ensures { IfOk result (λ b. body_view b ≡ op2 op (body_view l) (body_view r)) }
 {
     let l = boxed(alloc, l)?;

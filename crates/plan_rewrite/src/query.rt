@@ -1,7 +1,7 @@
 //! Lowering of queries.
 
 ghost use Rattle.std.specs.Prelude.{◌≡◌, ◌++◌, ◌∷◌, [], ◌+◌, ◌*◌, ◌≤◌, ℕ, ℤ, List, IfOk, OnOk, length, map, option_copied, slice_get};
-ghost use Rattle.wcps_types.specs.SharedQueries.{shared_query_view};
+ghost use Rattle.wcps_types.specs.TypedQueries.{query_view};
 ghost use Rattle.wcps_types.specs.Work.{query_work};
 ghost use Rattle.wcps_mean.specs.Answer.{answer};
 ghost use Rattle.plan_ir.specs.Plans.{Choice, steps_view, choice_view, plan_view};
@@ -16,16 +16,16 @@ use crate::choice::lowered_steps;
 use arr_core::Signature;
 use plan_ir::{Combination as Choice, Plan, Steps};
 use std::alloc::{AllocError, Global};
-use wcps_types::{Combination, SharedCombination, SharedQuery};
+use wcps_types::{Combination, Tree, TypedQuery};
 
 /// The plan of a query, without passes. It gives the query's answer, its first fault too, and is well-formed. Steps stand
 /// once for each tree, and combinations that share a tree share them. `rewrite` makes it a plan of at most as many units as
 /// the number of combinations times two more than the work.
-pub fn lower(alloc: Global, query: &SharedQuery) -> Result<Plan, AllocError>
-    ensures planned { IfOk result (λ p. (s : ℕ → ℕ → List ℤ → ℤ) → planned s (plan_view p) ≡ answer s (shared_query_view query.now)) }
+pub fn lower(alloc: Global, query: &TypedQuery) -> Result<Plan, AllocError>
+    ensures planned { IfOk result (λ p. (s : ℕ → ℕ → List ℤ → ℤ) → planned s (plan_view p) ≡ answer s (query_view query.now)) }
     ensures placed { IfOk result (λ p. IsPlan (plan_view p)) }
-    ensures units { IfOk result (λ p. units (plan_view p) + fold_points (plan_view p) ≤ length (shared_query_view query.now).combinations * (2 + query_work (shared_query_view query.now).combinations)) }
-    ensures coverages { IfOk result (λ p. p.coverages.items ≡ (shared_query_view query.now).coverages) }
+    ensures units { IfOk result (λ p. units (plan_view p) + fold_points (plan_view p) ≤ length (query_view query.now).combinations * (2 + query_work (query_view query.now).combinations)) }
+    ensures coverages { IfOk result (λ p. p.coverages.items ≡ (query_view query.now).coverages) }
     ensures shared { IfOk result (λ p. length p.steps.items ≡ length query.now.trees.items) }
 {
     let coverages = copies(alloc, query.coverages())?;
@@ -64,7 +64,7 @@ fn copy(alloc: Global, signature: &Signature) -> Result<Signature, AllocError>
 }
 
 /// The steps of each tree.
-fn each_lowered(alloc: Global, trees: &[Combination]) -> Result<Vec<Steps>, AllocError>
+fn each_lowered(alloc: Global, trees: &[Tree]) -> Result<Vec<Steps>, AllocError>
     ensures { IfOk result (λ v. map steps_view v.items ≡ map lowered_tree trees.now) }
 {
     let mut list = Vec::new(alloc);
@@ -75,11 +75,7 @@ fn each_lowered(alloc: Global, trees: &[Combination]) -> Result<Vec<Steps>, Allo
 }
 
 /// The combinations that have a tree, which in a checked query all do.
-fn choices(
-    alloc: Global,
-    trees: &[Combination],
-    all: &[SharedCombination],
-) -> Result<Vec<Choice>, AllocError>
+fn choices(alloc: Global, trees: &[Tree], all: &[Combination]) -> Result<Vec<Choice>, AllocError>
     ensures { IfOk result (λ v. map choice_view v.items ≡ lowered_choices trees.now all.now) }
 {
     let mut list = Vec::new(alloc);
@@ -90,8 +86,8 @@ fn choices(
 /// Puts the combinations that have a tree at the end of a list.
 fn push_choices(
     alloc: Global,
-    trees: &[Combination],
-    all: &[SharedCombination],
+    trees: &[Tree],
+    all: &[Combination],
     list: &mut Vec<Choice>,
 ) -> Result<(), AllocError>
     ensures { OnOk result (map choice_view list.new.items ≡ map choice_view list.old.items ++ lowered_choices trees.now all.now) }
@@ -108,7 +104,7 @@ fn push_choices(
 }
 
 /// The tree at a place.
-fn tree_at(trees: &[Combination], k: usize) -> Option<&Combination>
+fn tree_at(trees: &[Tree], k: usize) -> Option<&Tree>
     ensures { option_copied result ≡ slice_get trees.now k }
 {
     trees.get(k)
@@ -117,7 +113,7 @@ fn tree_at(trees: &[Combination], k: usize) -> Option<&Combination>
 /// Puts a combination at the end of a list. Its steps have the place of its tree.
 fn push_choice(
     alloc: Global,
-    combination: &SharedCombination,
+    combination: &Combination,
     list: &mut Vec<Choice>,
 ) -> Result<(), AllocError>
     ensures { OnOk result (map choice_view list.new.items ≡ map choice_view list.old.items ++ record { steps = combination.now.tree; coverages = combination.now.coverages.items } ∷ []) }

@@ -5,8 +5,8 @@ use csv_out::csv_text;
 use plan_ir::{Bind, Body, Combination, Field, Fold, Index, Interval, Item, Plan, Steps, run};
 use std::alloc::Global;
 use test_rows::{domain, refusal};
-use wcps_mean::{Aggregate, CellError, Cells, EvalError};
-use wcps_types::Operation2;
+use wcps_mean::{CellError, Cells, EvalError};
+use wcps_text::{Aggregate, BinaryOperator};
 
 /// Every cell of every coverage is the same.
 #[derive(Drop)]
@@ -76,7 +76,7 @@ impl Reading {
         self.bodies.pop().context("no body")
     }
 
-    fn operation(&mut self, alloc: Global, op: Operation2) -> Result<Body> {
+    fn operation(&mut self, alloc: Global, op: BinaryOperator) -> Result<Body> {
         let right = self.body()?;
         let left = self.body()?;
         Ok(Body::Op2(op, Box::new(alloc, left)?, Box::new(alloc, right)?))
@@ -123,11 +123,11 @@ impl Reading {
         let (name, rest) = word.split_once('@').unwrap_or((word, ""));
         match name {
             "+" => {
-                let body = self.operation(alloc, Operation2::Add)?;
+                let body = self.operation(alloc, BinaryOperator::Add)?;
                 self.bodies.push(body)?;
             }
             "*" => {
-                let body = self.operation(alloc, Operation2::Multiply)?;
+                let body = self.operation(alloc, BinaryOperator::Multiply)?;
                 self.bodies.push(body)?;
             }
             "pass" | "pass_where" => {

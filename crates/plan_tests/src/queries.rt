@@ -16,7 +16,7 @@ use test_rows::refusal;
 use wcps_mean::{EvalError, Item, eval_plain};
 use wcps_parse::parse;
 use wcps_text::{Query, lex};
-use wcps_types::{SharedQuery, check, check_shared};
+use wcps_types::{TypedQuery, check};
 
 /// The query of a text.
 fn read(alloc: Global, text: &str) -> Result<Query> {
@@ -24,12 +24,10 @@ fn read(alloc: Global, text: &str) -> Result<Query> {
     parse(alloc, &tokens).ok().context("no query")
 }
 
-/// The typed query of a text, over variables.
-fn shared(alloc: Global, signatures: &[Signature], text: &str) -> Result<SharedQuery> {
+/// The typed query of a text.
+fn typed(alloc: Global, signatures: &[Signature], text: &str) -> Result<TypedQuery> {
     let query = read(alloc, text)?;
-    check_shared(alloc, signatures, &query)
-        .ok()
-        .context("no type")
+    check(alloc, signatures, &query).ok().context("no type")
 }
 
 /// The CSV of items, or their fault.
@@ -55,10 +53,7 @@ fn agreed(plain: String, lowered: &str, rewritten: &str) -> Result<String> {
 impl Coverages {
     /// What a query gives, evaluated plainly.
     fn plain(&mut self, alloc: Global, text: &str) -> Result<String> {
-        let query = read(alloc, text)?;
-        let typed = check(alloc, &self.signatures, &query)
-            .ok()
-            .context("no type")?;
+        let typed = typed(alloc, &self.signatures, text)?;
         self.list(typed.coverages())?;
         let items = eval_plain(alloc, self, &typed);
         csv(alloc, items)
@@ -89,7 +84,7 @@ impl Coverages {
     fn lowered(&self, alloc: Global, text: &str) -> Result<Plan>
         ensures { IfOk result (λ p. IsPlan (plan_view p)) }
     {
-        let query = shared(alloc, &self.signatures, text)?;
+        let query = typed(alloc, &self.signatures, text)?;
         Ok(lower(alloc, &query)?)
     }
 

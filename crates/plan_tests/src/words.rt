@@ -3,7 +3,7 @@
 use arr_core::{Axis, Domain};
 use plan_ir::{Body, Combination, Fold, Index, Interval, Item, Plan, Steps};
 use std::alloc::{AllocError, Global};
-use wcps_mean::Aggregate;
+use wcps_text::Aggregate;
 
 /// Puts a word at the end of a text.
 fn push_word(text: &mut String, word: &str) -> Result<(), AllocError> {

@@ -4,10 +4,8 @@ use anyhow::{Context, Result, bail};
 use csv_out::csv_text;
 use std::alloc::Global;
 use test_rows::{cell, refusal};
-use wcps_mean::{
-    Aggregate, CellList, Item, Outcome, Part, PointFault, Running, operate, operate_both,
-};
-use wcps_types::{Operation1, Operation2};
+use wcps_mean::{CellList, Item, Outcome, Part, PointFault, Running, operate, operate_both};
+use wcps_text::{Aggregate, BinaryOperator, UnaryOperator};
 
 /// A number, or a fault by its name.
 fn outcome(word: &str) -> Result<Outcome> {
@@ -28,32 +26,32 @@ pub fn shown(alloc: Global, outcome: Outcome) -> Result<String> {
     }
 }
 
-fn operation(word: &str) -> Result<Operation2> {
+fn operation(word: &str) -> Result<BinaryOperator> {
     Ok(match word {
-        "*" => Operation2::Multiply,
-        "/" => Operation2::Divide,
-        "+" => Operation2::Add,
-        "-" => Operation2::Subtract,
-        "<" => Operation2::Less,
-        "<=" => Operation2::LessEqual,
-        ">" => Operation2::Greater,
-        ">=" => Operation2::GreaterEqual,
-        "=" => Operation2::Equal,
-        "!=" => Operation2::NotEqual,
-        "and" => Operation2::And,
-        "or" => Operation2::Or,
-        "xor" => Operation2::Xor,
-        "bit" => Operation2::Bit,
+        "*" => BinaryOperator::Multiply,
+        "/" => BinaryOperator::Divide,
+        "+" => BinaryOperator::Add,
+        "-" => BinaryOperator::Subtract,
+        "<" => BinaryOperator::Less,
+        "<=" => BinaryOperator::LessEqual,
+        ">" => BinaryOperator::Greater,
+        ">=" => BinaryOperator::GreaterEqual,
+        "=" => BinaryOperator::Equal,
+        "!=" => BinaryOperator::NotEqual,
+        "and" => BinaryOperator::And,
+        "or" => BinaryOperator::Or,
+        "xor" => BinaryOperator::Xor,
+        "bit" => BinaryOperator::Bit,
         _ => bail!("no operation {word}"),
     })
 }
 
-fn operation_on_one(word: &str) -> Result<Operation1> {
+fn operation_on_one(word: &str) -> Result<UnaryOperator> {
     Ok(match word {
-        "-" => Operation1::Negate,
-        "+" => Operation1::Plus,
-        "not" => Operation1::Not,
-        "abs" => Operation1::Absolute,
+        "-" => UnaryOperator::Negate,
+        "+" => UnaryOperator::Plus,
+        "not" => UnaryOperator::Not,
+        "abs" => UnaryOperator::Absolute,
         _ => bail!("no operation {word}"),
     })
 }

@@ -1,80 +1,230 @@
--- The value of a coverage at a point is the number that its field's tiles have there.
-use Rattle.std.proofs.Common.{◌≡◌, ℕ, suc, ◌<◌, List, [], ◌∷◌, length, get_or, map, Some, refl, sym, ap, ◌∙◌, subst, arith, All}
-use Rattle.std.specs.Prelude.{ℤ, pos, slice_get, ◌≤ℤ◌}
+-- What is known of a coverage that is found, and what reads of its fields' tiles say of it.
+use Rattle.std.proofs.Common.{◌≡◌, ℕ, zero, suc, ◌<◌, List, [], ◌∷◌, length, Option, Some, None, arith, get_or, refl, sym, ap, ◌∙◌, subst, map, All, inl, inr}
+use Rattle.std.specs.Prelude.{IsSomeAnd, slice_get, IsTrue, option_map, ℤ, pos}
+use Rattle.std.proofs.lemmas.List.{length-map, get_or-map}
+use Rattle.std.proofs.lemmas.List.Elements.{All-from_recursion}
+use Rattle.std.proofs.lemmas.Option.{slice_get-map, slice_get_read, slice_get_cases}
 use Rattle.std.proofs.lemmas.Int.{ints}
-use Rattle.std.proofs.lemmas.List.{get_or-map, length-map}
-use Rattle.std.proofs.lemmas.Bool.Decides.{nat_tests}
-use Rattle.arr_core.specs.declared.domain.Axis.{Axis}
-use Rattle.arr_core.specs.declared.field.Field.{Field}
 use Rattle.arr_core.specs.declared.cell.FieldType.{FieldType}
-use Rattle.arr_core.specs.Domains.{points, count, point_at, rank_of, IsInside, IsBoxOf, IsDomain, AreOrdered}
-use Rattle.arr_core.specs.Stores.{value_at}
-use Rattle.arr_core.specs.Tiles.{tile_boxes, grid, edge_of, box_at}
+use Rattle.arr_core.specs.declared.field.Field.{Field}
+use Rattle.arr_core.specs.declared.domain.Axis.{Axis}
+use Rattle.arr_core.specs.Domains.{IsBoxOf, points, count, point_at, rank_of, IsInside, IsDomain, AreOrdered}
+use Rattle.arr_core.specs.Stores.{Coverage, Store, found, value_at}
+use Rattle.arr_core.specs.Tiles.{tile_boxes, grid, edge_of}
 use Rattle.arr_core.proofs.Points.{at_rank, at_place, length-points, point-inside, rank_of-lt-count}
 use Rattle.arr_core.proofs.Boxes.{IsDomain-box, IsBoxOf-box}
-use Rattle.arr_core.proofs.Grids.{ordered-grid}
-use Rattle.tile_store.specs.Stored.{field_values, number_at, tile_box}
+use Rattle.arr_core.proofs.Grids.{ordered-grid, edge-some, length-tile_boxes, get_or-tile_boxes}
+use Rattle.block_file.specs.State.{BlocksState, block}
+use Rattle.block_file.specs.Words.{Covers}
+use Rattle.tile_store.specs.declared.numbers.Numbers.{Numbers}
+use Rattle.tile_store.specs.Numbers.{AreNumbers}
+use Rattle.tile_store.specs.Listing.{IsBelow, IsSound}
+use Rattle.tile_store.specs.declared.field.FieldTiles.{FieldTiles}
+use Rattle.tile_store.specs.Reading.{number_in, IsSpelledIn, IsTileRead}
+use Rattle.tile_store.specs.Stored.{field_values, number_at, tile_box, IsSpelled, IsTileSpelled}
 use Rattle.raster_store.specs.declared.held.Held.{Held}
-use Rattle.raster_store.specs.Views.{Index}
-use Rattle.raster_store.specs.Holding.{coverage_of}
-use Rattle.raster_store.proofs.Contents.{values-at}
+use Rattle.raster_store.specs.declared.reading.TileAt.{TileAt}
+use Rattle.raster_store.specs.Views.{FieldsIntact, AreIntact, listed_fields, Index}
+use Rattle.raster_store.specs.Calls.{HasField}
+use Rattle.raster_store.specs.Fetches.{HasTile, HasTileNumber, IsPlaceOf, IsSpelledAt, IsDecoded}
+use Rattle.raster_store.specs.Holding.{coverages_of, coverage_of, indexes_of, index_at, NoneNamed, IsNamedAt, IsWhole, IsHeld}
+use Rattle.raster_store.specs.Fields.{IsNamed, HasPatch, IsFieldOf}
+use Rattle.raster_store.proofs.Contents.{intact-at, found_none, found_named, named_within, values-at}
+use Rattle.raster_store.proofs.Totals.{all_parts, field_parts}
 
--- a field's number at a point of its domain
-values_number : (kind : FieldType) (domain : List Axis) (x : Index) (content : List ℕ) (p : List ℤ) → IsInside domain p
-    → get_or (field_values kind domain x content) (rank_of domain p) (pos 0) ≡ number_at kind domain x content p
-unfolding field_values
-values_number kind domain x content p inside =
-    let within : rank_of domain p < length (points domain) = omega (arith, length-points domain, rank_of-lt-count domain p inside) in
-    get_or-map (number_at kind domain x content) (points domain) (rank_of domain p) [] (pos 0) within ∙ ap (number_at kind domain x content) (at_rank domain p [] inside)
+pub some_weaker : {X : Type 0} (o : Option X) (P Q : X → Type 0) → ((x : X) → P x → Q x) → IsSomeAnd o P → IsSomeAnd o Q
+some_weaker None P Q f h = absurd h
+some_weaker (Some x) P Q f h = f x h
 
-pub value_number : (content : List ℕ) (h : Held) (j : ℕ) (f : Field) (x : Index) (p : List ℤ) → slice_get h.signature.fields j ≡ Some f → j < length h.fields.items → x ≡ get_or h.fields.items j []
-    → IsInside h.signature.domain p → number_at f.kind h.signature.domain x content p ≡ value_at (coverage_of content h) j p
-value_number content h j f x p kind within is inside =
-    let at = values-at content h.signature.domain h.signature.fields h.fields.items j f kind within in
-    sym (values_number f.kind h.signature.domain x content p inside)
-    ∙ rw is (ap (λ (v : List ℤ). get_or v (rank_of h.signature.domain p) (pos 0)) (sym at))
+pub some_both : {X : Type 0} (o : Option X) (P Q : X → Type 0) → IsSomeAnd o P → IsSomeAnd o Q → IsSomeAnd o (λ x. P x × Q x)
+some_both None P Q p q = absurd p
+some_both (Some x) P Q p q = (p, q)
+
+pub some_within : {X : Type 0} (xs : List X) (i : ℕ) (P : X → Type 0) → IsSomeAnd (slice_get xs i) P → i < length xs
+some_within [] i P has = absurd has
+some_within (x ∷ xs) zero P has = omega arith
+some_within (x ∷ xs) (suc i) P has = omega (arith, some_within xs i P has)
+
+-- what is true of a field's type is true of the type that it has
+pub kind_has : (o : Option Field) (kind : FieldType) (P : FieldType → Type 0) → IsSomeAnd o (λ f. f.kind ≡ kind) → IsSomeAnd o (λ f. P f.kind) → P kind
+kind_has None kind P is has = absurd has
+kind_has (Some f) kind P is has = rw (← is) has
+
+pub kind_gives : (o : Option Field) (kind : FieldType) (P : FieldType → Type 0) → IsSomeAnd o (λ f. f.kind ≡ kind) → P kind → IsSomeAnd o (λ f. P f.kind)
+kind_gives None kind P is has = absurd is
+kind_gives (Some f) kind P is has = rw is has
+
+-- the coverage h of a store was found: what it says, its blocks, and that it is whole
+pub record Known (s : BlocksState) (held : List Held) (o : Option Coverage) (h : Held) : Type 0 where
+  pub at : o ≡ Some (coverage_of s.content h)
+  pub whole : IsWhole h
+  pub counted : Covers s (listed_fields h.fields.items)
+  pub filled : IsTrue s.honest → (k : ℕ) → 0 < listed_fields h.fields.items k → length (block s k) ≡ 4096
+  pub intact : AreIntact s.content (coverages_of s.content held) (indexes_of held) → FieldsIntact s.content h.signature.domain h.signature.fields h.fields.items
+
+pub known : (s : BlocksState) (held : List Held) (place : ℕ) (h : Held) → IsHeld s held → place < length held → h ≡ get_or held place h → Known s held (slice_get (coverages_of s.content held) place) h
+known s held place h is within was = record {
+  at = slice_get-map (coverage_of s.content) held place ∙ ap (option_map (coverage_of s.content)) (slice_get_read held (length held) place h refl within was);
+  whole = subst IsWhole (sym was) (is.each place h within);
+  counted = λ k. omega (arith, is.counted k, (all_parts k held place h h within was).0);
+  filled = λ sure k some. is.whole sure k (omega (arith, some, (all_parts k held place h h within was).0));
+  intact = intact-at s.content held place h within was;
+}
+
+pub indexes_at : (held : List Held) (place : ℕ) (h : Held) → place < length held → h ≡ get_or held place h → get_or (indexes_of held) place [] ≡ h.fields.items
+indexes_at held place h within was = get_or-map (λ (x : Held). x.fields.items) held place h [] within ∙ ap (λ (x : Held). x.fields.items) (sym was)
+
+pub known_named : (s : BlocksState) (held : List Held) (name : List ℕ) (h : Held) → IsHeld s held → IsNamed name held h → Known s held (found name (coverages_of s.content held)) h
+known_named s held name h held_is is =
+    subst (λ (o : Option Coverage). Known s held o h) (sym (found_named s.content name 0 held is.0 is.1).0) (known s held is.0 h held_is (named_within name held is.0 is.1) is.2)
+
+-- a store that has a coverage of a name has the name
+pub has_name_of : (content : List ℕ) (held : List Held) (name : List ℕ) (field : ℕ) → HasField name field (coverages_of content held) → NoneNamed name held → ⊥
+has_name_of content held name field has none = rw (found_none content name held none) at has
+
+-- a field of the coverage
+pub record FieldOf (s : BlocksState) (held : List Held) (o : Option Coverage) (h : Held) (j : ℕ) : Type 0 where
+  pub facts : Known s held o h
+  pub described : j < length h.signature.fields
+  pub indexed : j < length h.fields.items
+  pub sound : IsSound h.signature.domain s (index_at h j)
+
+pub field_of : {s : BlocksState} {held : List Held} {o : Option Coverage} (h : Held) (j : ℕ) → Known s held o h → j < length h.signature.fields → FieldOf s held o h j
+field_of h j facts described =
+    let within : j < length h.fields.items = omega (arith, described, facts.whole.0) in
+    record {
+      facts = facts;
+      described = described;
+      indexed = within;
+      sound = record {
+        below = All-from_recursion (IsBelow (length (tile_boxes h.signature.domain))) h.fields.items facts.whole.2 j [] within;
+        counted = λ k. omega (arith, facts.counted k, (field_parts k h.fields.items j [] within).0);
+        whole = λ sure k some. facts.filled sure k (omega (arith, some, (field_parts k h.fields.items j [] within).0));
+      };
+    }
+
+-- the place of a coverage
+pub place_of_name : (content : List ℕ) (held : List Held) (name : List ℕ) (place : ℕ) → IsNamedAt name held place → IsPlaceOf name (coverages_of content held) place
+place_of_name content held name place at =
+    (omega (arith, named_within name held place at, length-map held (coverage_of content)), (found_named content name 0 held place at).0)
+
+pub place_within : (content : List ℕ) (held : List Held) (at : TileAt) → HasTile at (coverages_of content held) → at.coverage < length held
+place_within content held at has =
+    omega (arith, length-map held (coverage_of content), some_within (coverages_of content held) at.coverage (λ (c : Coverage). (at.field < length c.fields) × (at.tile < length (tile_boxes c.domain))) has)
+
+-- a tile of the coverage with a name is one at its place
+pub tile_named : (coverages : Store) (name : List ℕ) (place field tile : ℕ) → found name coverages ≡ slice_get coverages place → HasField name field coverages
+    → HasTileNumber name tile coverages → HasTile (record { coverage = place; field = field; tile = tile }) coverages
+tile_named coverages name place field tile is has within =
+    some_both (slice_get coverages place) (λ (c : Coverage). field < length c.fields) (λ (c : Coverage). tile < length (tile_boxes c.domain)) (rw is at has) (rw is at within)
+
+-- a field of the coverage with a name
+pub named_field : (s : BlocksState) (held : List Held) (name : List ℕ) (field : ℕ) (h : Held) → IsHeld s held → IsNamed name held h → HasField name field (coverages_of s.content held) → FieldOf s held (found name (coverages_of s.content held)) h field
+named_field s held name field h held_is is has =
+    let facts = known_named s held name h held_is is in
+    field_of h field facts (rw facts.at at has)
+
+pub patch_field : (coverages : Store) (name : List ℕ) (field : ℕ) (area : List Axis) (numbers : Numbers) → HasPatch name field area numbers coverages → HasField name field coverages
+patch_field coverages name field area numbers has =
+    let fit = λ (f : Field). AreNumbers f.kind area numbers in
+    some_weaker (found name coverages) (λ (c : Coverage). IsBoxOf c.domain area × IsSomeAnd (slice_get c.fields field) fit) (λ (c : Coverage). field < length c.fields) (λ c p. some_within c.fields field fit p.1) has
 
 -- a point of a box is one of the domain
-pub box_inside : (domain area : List Axis) (p : List ℤ) → IsBoxOf domain area → IsInside area p → IsInside domain p
-box_inside [] [] [] b i = tt
-box_inside [] [] (x ∷ p) b i = absurd i
+box_inside : (domain area : List Axis) (p : List ℤ) → IsBoxOf domain area → IsInside area p → IsInside domain p
+box_inside [] [] p b i = i
 box_inside [] (c ∷ area) p b i = absurd b
 box_inside (a ∷ domain) [] p b i = absurd b
 box_inside (a ∷ domain) (c ∷ area) [] b i = absurd i
 box_inside (a ∷ domain) (c ∷ area) (x ∷ p) b i =
-    let low : a.lo ≤ℤ c.lo = b.0.1 in
-    let high : c.hi ≤ℤ a.hi = b.0.2 in
-    let above : c.lo ≤ℤ x = i.0 in
-    let under : x ≤ℤ c.hi = i.1 in
-    (omega (arith, ints), omega (arith, ints), box_inside domain area p b.1 i.2)
+    (omega (arith, ints, b.0.1, i.0), omega (arith, ints, b.0.2, i.1), box_inside domain area p b.1 i.2)
 
 same_map : {X : Type 0} (f g : X → ℤ) (xs : List X) → All (λ x. f x ≡ g x) xs → map f xs ≡ map g xs
 same_map f g [] h = refl
 same_map f g (x ∷ xs) h = rw (h 0 x (omega arith), same_map f g xs (λ k d l. h (suc k) d (omega (arith, l)))) refl
 
--- the values of a coverage in a box
-pub box_values : (content : List ℕ) (h : Held) (j : ℕ) (f : Field) (x : Index) (area : List Axis) → slice_get h.signature.fields j ≡ Some f → j < length h.fields.items → x ≡ get_or h.fields.items j []
-    → AreOrdered area → IsBoxOf h.signature.domain area → map (number_at f.kind h.signature.domain x content) (points area) ≡ map (value_at (coverage_of content h) j) (points area)
-box_values content h j f x area kind within is ordered box =
-    same_map _ _ (points area)
-    (λ k d l.
-    let below : k < count area = omega (arith, l, length-points area) in
-    let here : get_or (points area) k d ≡ point_at area k = at_place area k d below in
-    let inside : IsInside h.signature.domain (get_or (points area) k d) = subst (λ (p : List ℤ). IsInside h.signature.domain p) (sym here) (box_inside h.signature.domain area (point_at area k) box (point-inside area k below ordered)) in
-    value_number content h j f x (get_or (points area) k d) kind within is inside)
-
-edge_pos : (n : ℕ) → 0 < edge_of n
-edge_pos n = grind (arith, nat_tests)
-
 -- the box of a tile
 pub tile_is_box : (domain : List Axis) (n : ℕ) → IsDomain domain → n < length (tile_boxes domain) → AreOrdered (tile_box domain n) × IsBoxOf domain (tile_box domain n)
 tile_is_box domain n d h =
     let e = edge_of (length domain) in
-    let g = grid e domain in
-    let within : n < length (points g) = omega (arith, h, length-map (points g) (box_at e domain)) in
-    let below : n < count g = omega (arith, within, length-points g) in
-    let is : tile_box domain n ≡ box_at e domain (get_or (points g) n []) = get_or-map (box_at e domain) (points g) n [] [] within in
-    let inside : IsInside g (get_or (points g) n []) = subst (λ (p : List ℤ). IsInside g p) (sym (at_place g n [] below)) (point-inside g n below (ordered-grid e domain)) in (
-      subst AreOrdered (sym is) (IsDomain-box e domain (get_or (points g) n []) (edge_pos (length domain)) d inside).ordered,
-      subst (λ (b : List Axis). IsBoxOf domain b) (sym is) (IsBoxOf-box e domain (get_or (points g) n []) (edge_pos (length domain)) d.ordered inside),
-    )
+    let below : n < count (grid e domain) = omega (arith, h, length-tile_boxes domain) in
+    let at = point_at (grid e domain) n in
+    let inside : IsInside (grid e domain) at = point-inside (grid e domain) n below (ordered-grid e domain) in
+    rw (get_or-tile_boxes domain n [] below) ((IsDomain-box e domain at (edge-some (length domain)) d inside).ordered, IsBoxOf-box e domain at (edge-some (length domain)) d.ordered inside)
+
+-- a field of a coverage that was found
+module _ {s : BlocksState} {held : List Held} {o : Option Coverage} {h : Held} {j : ℕ} (at : FieldOf s held o h j) (f : FieldTiles) (is : IsFieldOf h j f) where
+  -- The value at a point is the number that the field's tiles have there.
+  pub number_is : (p : List ℤ) → IsInside h.signature.domain p → number_in f s p ≡ value_at (coverage_of s.content h) j p
+  unfolding field_values
+  number_is p inside =
+      let domain = h.signature.domain in
+      let number = number_at f.kind domain (index_at h j) s.content in
+      let below : rank_of domain p < length (points domain) = omega (arith, length-points domain, rank_of-lt-count domain p inside) in
+      let here : get_or (map number (points domain)) (rank_of domain p) (pos 0) ≡ number p =
+      get_or-map number (points domain) (rank_of domain p) [] (pos 0) below ∙ ap number (at_rank domain p [] inside) in
+      rw (is.domain, is.index) (sym here ∙ ap (λ (v : List ℤ). get_or v (rank_of domain p) (pos 0)) (sym (values-at s.content domain h.signature.fields h.fields.items j f.kind is.kind at.indexed).0))
+
+  -- the values in a box
+  pub numbers_are : (area : List Axis) → AreOrdered area → IsBoxOf h.signature.domain area → map (number_in f s) (points area) ≡ map (value_at (coverage_of s.content h) j) (points area)
+  numbers_are area ordered box =
+      same_map (number_in f s) (value_at (coverage_of s.content h) j) (points area)
+      (λ k d l.
+      let below : k < count area = omega (arith, l, length-points area) in
+      rw (at_place area k d below) (number_is (point_at area k) (box_inside h.signature.domain area (point_at area k) box (point-inside area k below ordered))))
+
+  -- in an intact store each tile is spelled
+  pub intact_tile : AreIntact s.content (coverages_of s.content held) (indexes_of held) → (tile : ℕ) → IsSpelledIn f s tile
+  unfolding IsSpelled
+  intact_tile all tile =
+      rw (is.domain, is.index) ((values-at s.content h.signature.domain h.signature.fields h.fields.items j f.kind is.kind at.indexed).1 (at.facts.intact all) tile)
+
+-- a tile of the coverage at its place
+pub record Placed (s : BlocksState) (held : List Held) (at : TileAt) (h : Held) : Type 0 where
+  pub of : FieldOf s held (slice_get (coverages_of s.content held) at.coverage) h at.field
+  pub indexes : get_or (indexes_of held) at.coverage [] ≡ h.fields.items
+  pub below : at.tile < length (tile_boxes h.signature.domain)
+
+pub placed : (s : BlocksState) (held : List Held) (at : TileAt) (h : Held) → IsHeld s held → HasTile at (coverages_of s.content held) → h ≡ get_or held at.coverage h → Placed s held at h
+placed s held at h is has was =
+    let within = place_within s.content held at has in
+    let facts = known s held at.coverage h is within was in
+    let there = rw facts.at at has in
+    record { of = field_of h at.field facts there.0; indexes = indexes_at held at.coverage h within was; below = there.1 }
+
+module _ {s : BlocksState} {held : List Held} {at : TileAt} {h : Held} (p : Placed s held at h) (f : FieldTiles) where
+  -- a tile is spelled in the store as in the coverage at its place
+  pub spelled_is : IsFieldOf h at.field f → (IsSpelledAt at s.content (coverages_of s.content held) (indexes_of held) → IsSpelledIn f s at.tile) × (IsSpelledIn f s at.tile → IsSpelledAt at s.content (coverages_of s.content held) (indexes_of held))
+  spelled_is is =
+      let o = slice_get h.signature.fields at.field in
+      let spelled = λ (kind : FieldType). IsTileSpelled kind h.signature.domain (index_at h at.field) s.content at.tile in
+      rw (p.of.facts.at, p.indexes, is.domain, is.index) (kind_has o f.kind spelled is.kind, kind_gives o f.kind spelled is.kind)
+
+  -- what a tile that was read says of the store
+  pub decoded_tile : (cells : List ℤ) → IsFieldOf h at.field f → IsTileRead f at.tile s cells → IsDecoded s (coverages_of s.content held) (indexes_of held) at cells
+  decoded_tile cells is read =
+      let box = tile_is_box h.signature.domain at.tile is.is_domain p.below in
+      record {
+        counted = rw (p.of.facts.at, ← is.domain) read.counted;
+        values = λ sure. rw p.of.facts.at (read.numbers sure ∙ ap (λ (d : List Axis). map (number_in f s) (points (tile_box d at.tile))) is.domain ∙ numbers_are p.of f is (tile_box h.signature.domain at.tile) box.0 box.1);
+        spelled = λ sure. (spelled_is is).1 (read.spelled sure);
+      }
+
+-- in an intact store each tile is spelled
+fields_spelled : (content : List ℕ) (domain : List Axis) (fields : List Field) (indexes : List Index) (j tile : ℕ) → j < length fields → length indexes ≡ length fields → FieldsIntact content domain fields indexes
+    → IsSomeAnd (slice_get fields j) (λ (f : Field). IsTileSpelled f.kind domain (get_or indexes j []) content tile)
+unfolding IsSpelled
+fields_spelled content domain [] indexes j tile h n s = absurd (omega arith)
+fields_spelled content domain (f ∷ fields) [] j tile h n s = absurd (omega arith)
+fields_spelled content domain (f ∷ fields) (i ∷ indexes) zero tile h n s = s.0 tile
+fields_spelled content domain (f ∷ fields) (i ∷ indexes) (suc j) tile h n s = fields_spelled content domain fields indexes j tile (omega (arith, h)) (omega (arith, n)) s.1
+
+pub intact_spelled : (s : BlocksState) (held : List Held) (at : TileAt) → IsHeld s held → HasTile at (coverages_of s.content held)
+    → AreIntact s.content (coverages_of s.content held) (indexes_of held) → IsSpelledAt at s.content (coverages_of s.content held) (indexes_of held)
+intact_spelled s held at is has all = elim (slice_get_cases held at.coverage).1 [
+  | inl there ↦
+      let h = there.0 in
+      let facts = known s held at.coverage h is there.1 (sym there.3) in
+      let field = rw facts.at at has in
+      rw (facts.at, indexes_at held at.coverage h there.1 (sym there.3)) (fields_spelled s.content h.signature.domain h.signature.fields h.fields.items at.field at.tile field.0 facts.whole.0 (facts.intact all))
+  | inr past ↦ absurd (rw (slice_get-map (coverage_of s.content) held at.coverage, past.1) at has)
+]

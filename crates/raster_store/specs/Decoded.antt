@@ -1,11 +1,12 @@
 -- The tiles that a store keeps decoded: each by its places, with its cells in row-major order.
-use Rattle.std.specs.Prelude.{◌≡◌, ℕ, ℤ, Bool, IsTrue, List, [], Option, Some, None, Vec, Contains, ◌⊎◌}
+use Rattle.std.specs.Prelude.{◌≡◌, ℤ, List, [], Option, Some, None, Vec, Contains, ◌⊎◌}
 use Rattle.std.specs.declared.alloc.Global.{Global}
 use Rattle.lru.specs.LruCache.{LruCache}
 use Rattle.arr_core.specs.Stores.{Store}
+use Rattle.block_file.specs.State.{BlocksState}
 use Rattle.raster_store.specs.declared.reading.TileAt.{TileAt}
 use Rattle.raster_store.specs.Views.{Index}
-use Rattle.raster_store.specs.Fetches.{AreTileCells, HasTileCount, IsSpelledAt}
+use Rattle.raster_store.specs.Fetches.{IsDecoded}
 
 abbrev pub Kept : Type 0
 Kept = List (TileAt × Vec ℤ Global)
@@ -25,15 +26,10 @@ NoneAdded old new = (at : TileAt) (cells : List ℤ) → IsKept at cells new →
 
 -- each tile was kept, or is this one with these cells
 abbrev pub Adds : TileAt → List ℤ → Kept → Kept → Type 0
-Adds at cells old new = (j : TileAt) (others : List ℤ) → IsKept j others new → IsKept j others old ⊎ ((j ≡ at) × (others ≡ cells))
-
--- Cells are those of a tile of a store: as many as it has points, and, where the disk is honest, the values there, of a
--- tile that is spelled.
-pub record IsDecoded (content : List ℕ) (honest : Bool) (coverages : Store) (indexes : List (List Index)) (at : TileAt) (cells : List ℤ) : Type 0 where
-  pub counted : HasTileCount at coverages cells
-  pub value : IsTrue honest → AreTileCells at coverages cells
-  pub spelled : IsTrue honest → IsSpelledAt at content coverages indexes
+Adds at cells old new =
+    (j : TileAt) (others : List ℤ) → IsKept j others new → IsKept j others old ⊎ ((j ≡ at) × (others ≡ cells))
 
 -- each kept tile has its cells as the store has them now
-abbrev pub AreDecoded : List ℕ → Bool → Store → List (List Index) → Kept → Type 0
-AreDecoded content honest coverages indexes kept = (at : TileAt) (cells : List ℤ) → IsKept at cells kept → IsDecoded content honest coverages indexes at cells
+abbrev pub AreDecoded : BlocksState → Store → List (List Index) → Kept → Type 0
+AreDecoded s coverages indexes kept =
+    (at : TileAt) (cells : List ℤ) → IsKept at cells kept → IsDecoded s coverages indexes at cells

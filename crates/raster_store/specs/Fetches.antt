@@ -1,10 +1,10 @@
 -- Tiles that are fetched by their places in a store.
-use Rattle.std.specs.Prelude.{◌≡◌, ℕ, ◌<◌, ℤ, Bool, List, [], map, length, slice_get, slice_index_or, IsSomeAnd}
+use Rattle.std.specs.Prelude.{◌≡◌, ℕ, ◌<◌, ℤ, IsTrue, List, [], map, length, slice_get, slice_index_or, IsSomeAnd}
 use Rattle.arr_core.specs.declared.field.Field.{Field}
 use Rattle.arr_core.specs.Domains.{points}
 use Rattle.arr_core.specs.Stores.{Store, found, value_at}
 use Rattle.arr_core.specs.Tiles.{tile_boxes}
-use Rattle.tile_store.specs.Listing.{OnlyReads}
+use Rattle.block_file.specs.State.{BlocksState}
 use Rattle.tile_store.specs.Stored.{tile_box, IsTileSpelled}
 use Rattle.raster_store.specs.Views.{Index, RasterView}
 use Rattle.raster_store.specs.declared.reading.TileAt.{TileAt}
@@ -15,12 +15,15 @@ IsPlaceOf name coverages place = (place < length coverages) × (found name cover
 
 -- there is a coverage at the place, with that field and that tile
 abbrev pub HasTile : TileAt → Store → Type 0
-HasTile at coverages = IsSomeAnd (slice_get coverages at.coverage) (λ c. (at.field < length c.fields) × (at.tile < length (tile_boxes c.domain)))
+HasTile at coverages =
+    IsSomeAnd (slice_get coverages at.coverage)
+    (λ c. (at.field < length c.fields) × (at.tile < length (tile_boxes c.domain)))
 
 -- the values of the field at the tile's points, in row-major order
 abbrev pub AreTileCells : TileAt → Store → List ℤ → Type 0
 AreTileCells at coverages cells =
-    IsSomeAnd (slice_get coverages at.coverage) (λ c. cells ≡ map (value_at c at.field) (points (tile_box c.domain at.tile)))
+    IsSomeAnd (slice_get coverages at.coverage)
+    (λ c. cells ≡ map (value_at c at.field) (points (tile_box c.domain at.tile)))
 
 -- as many cells as the tile has points
 abbrev pub HasTileCount : TileAt → Store → List ℤ → Type 0
@@ -33,8 +36,30 @@ IsSpelledAt at content coverages indexes =
     IsSomeAnd (slice_get coverages at.coverage) (λ c. IsSomeAnd (slice_get c.fields at.field) (λ (f : Field).
     IsTileSpelled f.kind c.domain (slice_index_or (slice_index_or indexes at.coverage []) at.field []) content at.tile))
 
--- a call that only fetches has left the coverages, their indexes and the blocks as they were
-pub record OnlyFetches {B : Type 0} (content : B → List ℕ) (uses : B → ℕ → ℕ) (free : B → ℕ) (honest : B → Bool) (old new : RasterView B) : Type 0 where
-  pub same_coverages : new.coverages ≡ old.coverages
-  pub same_indexes : new.indexes ≡ old.indexes
-  pub same_blocks : OnlyReads content uses free honest old.blocks new.blocks
+-- Cells are those of a tile of a store: as many as it has points, and, where the disk is honest, the values there, of a
+-- tile that is spelled.
+pub record IsDecoded (s : BlocksState) (coverages : Store) (indexes : List (List Index)) (at : TileAt)
+    (cells : List ℤ) : Type 0 where
+  pub counted : HasTileCount at coverages cells
+  pub values : IsTrue s.honest → AreTileCells at coverages cells
+  pub spelled : IsTrue s.honest → IsSpelledAt at s.content coverages indexes
+
+-- cells are those of a tile of a store
+abbrev pub IsFetched : {B : Type 0} → (B → BlocksState) → TileAt → RasterView B → List ℤ → Type 0
+IsFetched state at v cells = IsDecoded (state v.blocks) v.coverages v.indexes at cells
+
+-- the tile is not spelled, if the disk is honest
+abbrev pub IsDamagedAt : {B : Type 0} → (B → BlocksState) → TileAt → RasterView B → Type 0
+IsDamagedAt state at v =
+    IsTrue (state v.blocks).honest → IsSpelledAt at (state v.blocks).content v.coverages v.indexes → ⊥
+
+-- the coverage with a name has a tile
+abbrev pub HasTileNumber : List ℕ → ℕ → Store → Type 0
+HasTileNumber name tile coverages = IsSomeAnd (found name coverages) (λ c. tile < length (tile_boxes c.domain))
+
+-- cells are those of a tile of a field of the coverage with a name
+pub record AreCellsOf {B : Type 0} (state : B → BlocksState) (name : List ℕ) (field tile : ℕ) (v : RasterView B)
+    (cells : List ℤ) : Type 0 where
+  pub counted : IsSomeAnd (found name v.coverages) (λ c. length cells ≡ length (points (tile_box c.domain tile)))
+  pub values : IsTrue (state v.blocks).honest
+      → IsSomeAnd (found name v.coverages) (λ c. cells ≡ map (value_at c field) (points (tile_box c.domain tile)))

@@ -1,5 +1,6 @@
 -- A store of coverages over blocks, as callers see it.
 use Rattle.std.specs.Prelude.{◌≡◌, ℕ, ◌+◌, ◌-◌, ◌^◌, ℤ, min, List, [], ◌∷◌, length, sum_by}
+use Rattle.std.specs.List.{AllByRecursion as Each}
 use Rattle.arr_core.specs.declared.domain.Axis.{Axis}
 use Rattle.arr_core.specs.declared.field.Field.{Field}
 use Rattle.arr_core.specs.declared.signature.Signature.{Signature}
@@ -8,8 +9,8 @@ use Rattle.arr_core.specs.Tiles.{tile_boxes}
 use Rattle.tile_index.specs.declared.entry.Entry.{Entry}
 use Rattle.tile_index.specs.Bytes.{index_bytes}
 use Rattle.block_file.specs.Format.{chain_blocks}
-use Rattle.tile_store.specs.Listing.{times_in}
-use Rattle.tile_store.specs.Stored.{field_values, IsSpelled, IsBelow, block_count}
+use Rattle.tile_store.specs.Listing.{listed, IsBelow}
+use Rattle.tile_store.specs.Stored.{field_values, IsSpelled}
 
 -- which entry has each tile of a field
 abbrev pub Index : Type 0
@@ -19,40 +20,46 @@ Index = List (ℕ × Entry)
 abbrev pub values_in : List ℕ → List Axis → List Field → List Index → List (List ℤ)
 values_in content domain [] indexes = []
 values_in content domain (f ∷ fields) [] = []
-values_in content domain (f ∷ fields) (i ∷ indexes) = field_values f.kind domain i content ∷ values_in content domain fields indexes
+values_in content domain (f ∷ fields) (i ∷ indexes) =
+    field_values f.kind domain i content ∷ values_in content domain fields indexes
 
 -- the coverage with a signature whose fields have these indexes
 abbrev pub coverage_in : List ℕ → Signature → List Index → Coverage
-coverage_in content s indexes = record { name = s.name; domain = s.domain; fields = s.fields; values = values_in content s.domain s.fields indexes }
+coverage_in content s indexes = record {
+  name = s.name;
+  domain = s.domain;
+  fields = s.fields;
+  values = values_in content s.domain s.fields indexes;
+}
 
 -- the coverages with these signatures and indexes
 abbrev pub coverages_in : List ℕ → List Signature → List (List Index) → Store
 coverages_in content [] indexes = []
 coverages_in content (s ∷ signatures) [] = []
-coverages_in content (s ∷ signatures) (i ∷ indexes) = coverage_in content s i ∷ coverages_in content signatures indexes
+coverages_in content (s ∷ signatures) (i ∷ indexes) =
+    coverage_in content s i ∷ coverages_in content signatures indexes
 
 -- every listed tile of fields spells its cells
 abbrev pub FieldsIntact : List ℕ → List Axis → List Field → List Index → Type 0
 FieldsIntact content domain [] indexes = Unit {0}
 FieldsIntact content domain (f ∷ fields) [] = Unit {0}
-FieldsIntact content domain (f ∷ fields) (i ∷ indexes) = IsSpelled f.kind domain i content × FieldsIntact content domain fields indexes
+FieldsIntact content domain (f ∷ fields) (i ∷ indexes) =
+    IsSpelled f.kind domain i content × FieldsIntact content domain fields indexes
 
 -- every listed tile of a store spells its cells
 abbrev pub AreIntact : List ℕ → Store → List (List Index) → Type 0
 AreIntact content [] indexes = Unit {0}
 AreIntact content (c ∷ coverages) [] = Unit {0}
-AreIntact content (c ∷ coverages) (i ∷ indexes) = FieldsIntact content c.domain c.fields i × AreIntact content coverages indexes
+AreIntact content (c ∷ coverages) (i ∷ indexes) =
+    FieldsIntact content c.domain c.fields i × AreIntact content coverages indexes
 
--- how often indexes list a block
-unfoldable pub times_fields : ℕ → List Index → ℕ
-times_fields k indexes = sum_by (λ (i : Index). times_in k i) indexes
+-- how often the indexes of fields list a block
+unfoldable pub listed_fields : List Index → ℕ → ℕ
+listed_fields indexes k = sum_by (λ (i : Index). listed i k) indexes
 
-unfoldable pub times_all : ℕ → List (List Index) → ℕ
-times_all k indexes = sum_by (λ (fields : List Index). times_fields k fields) indexes
-
--- how many blocks indexes list
-unfoldable pub listed_blocks : List (List Index) → ℕ
-listed_blocks indexes = sum_by (λ (fields : List Index). sum_by block_count fields) indexes
+-- how often all indexes of a store list a block
+unfoldable pub listed_all : List (List Index) → ℕ → ℕ
+listed_all indexes k = sum_by (λ (fields : List Index). listed_fields fields k) indexes
 
 -- how many bytes the indexes of fields take in the metadata, each behind its length
 unfoldable pub fields_size : List Index → ℕ
@@ -68,8 +75,7 @@ reserve catalogue indexes = chain_blocks (metadata_size catalogue indexes)
 
 -- each index lists only tiles of the domain
 abbrev pub AreBelow : List Axis → List Index → Type 0
-AreBelow domain [] = Unit {0}
-AreBelow domain (i ∷ indexes) = IsBelow (length (tile_boxes domain)) i × AreBelow domain indexes
+AreBelow domain indexes = Each (IsBelow (length (tile_boxes domain))) indexes
 
 -- The coverages, the index of each of their fields, how many tiles were fetched, and the blocks below.
 pub record RasterView (B : Type 0) : Type 0 where

@@ -1,5 +1,6 @@
 //! Why a box was not written.
 
+use std::alloc::AllocError;
 use thiserror::Error;
 use tile_store::Fault;
 
@@ -18,4 +19,27 @@ pub enum WriteFault {
     /// The device or memory refused.
     #[error("not written")]
     Device(Fault),
+}
+
+impl From<Fault> for WriteFault {
+    ghost use Rattle.std.specs.Prelude.{◌≡◌};
+    ghost use Rattle.raster_store.specs.declared.fault.WriteFault.TheVariants.{Device};
+
+    ghost from_gives = { λ f e. e ≡ Device f };
+
+    fn from(fault: Fault) -> Self {
+        WriteFault::Device(fault)
+    }
+}
+
+impl From<AllocError> for WriteFault {
+    ghost use Rattle.std.specs.Prelude.{◌≡◌};
+    ghost use Rattle.raster_store.specs.declared.fault.WriteFault.TheVariants.{Device};
+    ghost use Rattle.tile_store.specs.declared.fault.Fault.TheVariants.{NoMemory};
+
+    ghost from_gives = { λ _ e. e ≡ Device NoMemory };
+
+    fn from(_: AllocError) -> Self {
+        WriteFault::Device(Fault::NoMemory)
+    }
 }

@@ -1,12 +1,16 @@
 //! A coverage as it is held.
 
-ghost use Rattle.std.specs.Prelude.{◌≡◌, ◌↔◌, ℕ, ◌+◌, ◌<◌, [], length, sum_by, replicate, position, All, IfOk, IfSome, IfNone, IsTrue, IsErrOf};
+ghost use Rattle.std.specs.Prelude.{◌≡◌, ◌<◌, ◌↔◌, [], length, replicate, position, All};
+ghost use Rattle.std.specs.Prelude.{IfOk, IfSome, IfNone, IsTrue, IsErrOf};
 ghost use Rattle.arr_core.specs.Tiles.{tile_boxes};
+ghost use Rattle.block_file.specs.State.{none};
+ghost use Rattle.block_file.specs.Words.{Recounts, Covers};
 ghost use Rattle.tile_index.specs.Index.{IsIndex};
-ghost use Rattle.tile_store.specs.Listing.{AreUsed};
-ghost use Rattle.tile_store.specs.Stored.{IsBelow, block_count};
-ghost use Rattle.raster_store.specs.Views.{AreBelow, times_fields};
+ghost use Rattle.tile_store.specs.Faults.{Refuses};
+ghost use Rattle.tile_store.specs.Listing.{IsBelow};
+ghost use Rattle.raster_store.specs.Views.{AreBelow, listed_fields};
 ghost use Rattle.raster_store.specs.Holding.{has_name, IsWhole, AreApart, NoneNamed, IsNamedAt};
+ghost use Rattle.raster_store.specs.Fields.{IsNamed};
 
 use arr_core::{Domain, Name, Signature};
 use block_file::Blocks;
@@ -30,9 +34,11 @@ fn position_of(held: &[Held], name: &Name) -> Option<usize>
 }
 
 /// The place of the coverage with a name.
+#[tactic(auto, using(crate::proofs::Contents::named_places))]
 pub(crate) fn place_of(held: &[Held], name: &Name) -> Option<usize>
     requires { AreApart held.now }
     ensures some { IfSome result (λ place. IsNamedAt name.now held.now place) }
+    ensures within { IfSome result (λ place. place < length held.now) }
     ensures none { IfNone result (NoneNamed name.now held.now) }
 {
     match position_of(held, name) {
@@ -45,12 +51,22 @@ pub(crate) fn place_of(held: &[Held], name: &Name) -> Option<usize>
 pub(crate) fn place_held(held: &[Held], name: &Name) -> usize
     requires apart { AreApart held.now }
     requires some { NoneNamed name.now held.now → ⊥ }
-    ensures { IsNamedAt name.now held.now result }
+    ensures named { IsNamedAt name.now held.now result }
+    ensures within { result < length held.now }
 {
     match place_of(held, name) {
         Some(place) => place,
         None => unreachable!(),
     }
+}
+
+/// The coverage with a name that is held.
+pub(crate) fn named<'a>(held: &'a [Held], name: &Name) -> &'a Held
+    requires apart { AreApart held.now }
+    requires some { NoneNamed name.now held.now → ⊥ }
+    ensures { IsNamed name.now held.now result.now }
+{
+    &held[place_held(held, name)]
 }
 
 /// The same signature again.
@@ -109,13 +125,10 @@ fn empty_fields(alloc: Global, count: usize) -> Result<Vec<FieldIndex>, AllocErr
 }
 
 /// Gives back the blocks of all tiles of fields.
+#[tactic(auto, unfolding(crate::specs::Views::listed_fields), using(std::proofs::lemmas::List::Sums::sum_by_more))]
 pub(crate) fn give_back_fields<B: Blocks>(blocks: &mut B, fields: &[FieldIndex])
-    requires { AreUsed (λ k. times_fields k fields.now) (B.uses blocks.old) }
-    ensures uses { (k : ℕ) → B.uses blocks.new k + times_fields k fields.now ≡ B.uses blocks.old k }
-    ensures free { B.free_blocks blocks.new ≡ B.free_blocks blocks.old + sum_by block_count fields.now }
-    ensures content { B.content blocks.new ≡ B.content blocks.old }
-    ensures honest { B.honest blocks.new ≡ B.honest blocks.old }
-    ensures failures { B.failures blocks.new ≡ B.failures blocks.old }
+    requires { Covers (B.state blocks.old) (listed_fields fields.now) }
+    ensures { Recounts (listed_fields fields.now) none (B.state blocks.old) (B.state blocks.new) }
 {
     for field in fields {
         give_back(blocks, field);
@@ -133,9 +146,8 @@ impl Held {
         ensures signature { IfOk result (λ h. h.signature ≡ signature.now) }
         ensures fields { IfOk result (λ h. h.fields.items ≡ indexes.items) }
         ensures whole { IfOk result (λ h. IsWhole h) }
-        ensures damaged { IsErrOf result Fault.Damaged → AreBelow signature.now.domain indexes.items → ⊥ }
+        ensures why { Refuses result (AreBelow signature.now.domain indexes.items → ⊥) ⊥ }
         ensures no_disk { IsErrOf result Fault.DiskFault → ⊥ }
-        ensures no_room { IsErrOf result Fault.NoRoom → ⊥ }
     {
         let signature = copy_of(alloc, signature)?;
         let fields = sized(alloc, indexes)?;

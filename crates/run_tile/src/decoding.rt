@@ -1,7 +1,7 @@
 //! Bytes to cells.
 
 ghost use Rattle.std.specs.Prelude.{◌≡◌, ◌≤◌, ◌<◌, ℤ, List, length, vec_capacity, IfOk, OnOk, IsErrOf};
-ghost use Rattle.run_tile.specs.Runs.{IsSpelling};
+ghost use Rattle.run_tile.specs.Runs.{IsSpelling, IsOfNone};
 
 use crate::error::DecodeError;
 use crate::reading::read_cells;
@@ -20,7 +20,7 @@ pub fn decode_into(
 ) -> Result<(), DecodeError>
     ensures spelled { OnOk result (IsSpelling kind bytes.now cells.new.items) }
     ensures counted { OnOk result (length cells.new.items ≡ count) }
-    ensures damaged { IsErrOf result DecodeError.Damaged → (list : List ℤ) → length list ≡ count → ¬ IsSpelling kind bytes.now list }
+    ensures damaged { IsErrOf result DecodeError.Damaged → IsOfNone count kind bytes.now }
     ensures no_memory { IsErrOf result DecodeError.NoMemory → vec_capacity cells.old < count }
     ensures capacity { vec_capacity cells.old ≤ vec_capacity cells.new }
 {
@@ -41,7 +41,7 @@ pub fn decode(
 ) -> Result<Vec<i64>, DecodeError>
     ensures spelled { IfOk result (λ cells. IsSpelling kind bytes.now cells.items) }
     ensures counted { IfOk result (λ cells. length cells.items ≡ count) }
-    ensures damaged { IsErrOf result DecodeError.Damaged → (cells : List ℤ) → length cells ≡ count → ¬ IsSpelling kind bytes.now cells }
+    ensures damaged { IsErrOf result DecodeError.Damaged → IsOfNone count kind bytes.now }
 {
     let mut cells = Vec::new(alloc);
     decode_into(kind, count, bytes, &mut cells)?;

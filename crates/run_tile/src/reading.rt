@@ -1,7 +1,7 @@
 //! The runs of a tile, read one after another into its cells.
 
 ghost use Rattle.std.specs.Prelude.{◌≡◌, ◌+◌, ◌≤◌, ◌<◌, ◌++◌, ℤ, None, false, List, length, take, replicate, IfSome, IfNone, IsTrue, ◌↔◌, Some};
-ghost use Rattle.run_tile.specs.Runs.{IsSpelling, run_count};
+ghost use Rattle.run_tile.specs.Runs.{IsSpelling, IsOfNone, run_count};
 ghost use Rattle.run_tile.specs.Reading.{AreRead};
 
 use crate::run::{Run, width};
@@ -15,12 +15,12 @@ pub struct Progress {
     pub last: Option<i64>,
 }
 
-/// Whether the run before, if there was one, had a value.
+/// Whether the run before, if there was one, had the value of this one.
 #[inline(always)]
-fn repeats(before: Option<i64>, value: i64) -> bool
-    ensures { IsTrue result ↔ before ≡ Some value }
+fn repeats(before: Option<i64>, run: Run) -> bool
+    ensures { IsTrue result ↔ before ≡ Some run.value }
 {
-    before == Some(value)
+    before == Some(run.value)
 }
 
 /// How many cells of a run are written together.
@@ -34,11 +34,12 @@ const FEW: usize = 8;
 
 /// Writes the cell of a run of one.
 #[inline(always)]
-fn write_cell(cells: &mut [i64], place: usize, value: i64)
-    requires { place < length cells.old }
-    ensures { take (place + 1) cells.new ≡ take place cells.old ++ replicate 1 value }
+fn write_cell(cells: &mut [i64], place: usize, run: Run)
+    requires one { run.count ≡ 1 }
+    requires within { place < length cells.old }
+    ensures { take (place + run.count) cells.new ≡ take place cells.old ++ replicate run.count run.value }
 {
-    cells[place] = value;
+    cells[place] = run.value;
 }
 
 /// Writes the cells of a run from a place on; what stood after them may be lost, since they are written in blocks.
@@ -72,15 +73,15 @@ fn read_singles(kind: FieldType, bytes: &[u8], cells: &mut [i64], at: Progress) 
     let room = (bytes.len() / size - at.runs).min(cells.len() - at.cells);
     let mut last = at.last;
     for k in 0..room {
-        let run = Run::read(kind, &bytes[(at.runs + k) * size..]);
-        if run.count != 1 || !kind.fits(run.value) || repeats(last, run.value) {
+        let run = Run::read_at(kind, bytes, at.runs + k);
+        if run.count != 1 || !run.is_run(kind) || repeats(last, run) {
             return Progress {
                 runs: at.runs + k,
                 cells: at.cells + k,
                 last,
             };
         }
-        write_cell(cells, at.cells + k, run.value);
+        write_cell(cells, at.cells + k, run);
         last = Some(run.value);
     }
     Progress {
@@ -97,12 +98,11 @@ fn read_run(kind: FieldType, bytes: &[u8], cells: &mut [i64], at: Progress) -> O
     requires inside { at.runs < run_count kind bytes.now }
     ensures read { IfSome result (λ next. AreRead kind bytes.now cells.new next) }
     ensures next { IfSome result (λ next. next.runs ≡ at.runs + 1) }
-    ensures damaged { IfNone result ((list : List ℤ) → length list ≡ length cells.old → ¬ IsSpelling kind bytes.now list) }
+    ensures damaged { IfNone result (IsOfNone (length cells.old) kind bytes.now) }
 {
-    let size = 2 + width(kind);
-    let run = Run::read(kind, &bytes[at.runs * size..]);
+    let run = Run::read_at(kind, bytes, at.runs);
     let after = at.cells + run.count as usize;
-    if !run.is_run(kind) || repeats(at.last, run.value) || cells.len() < after {
+    if !run.is_run(kind) || repeats(at.last, run) || cells.len() < after {
         return None;
     }
     write_run(cells, at.cells, run);
@@ -121,7 +121,7 @@ fn read_few(kind: FieldType, bytes: &[u8], cells: &mut [i64], from: Progress) ->
     ensures read { IfSome result (λ next. AreRead kind bytes.now cells.new next) }
     ensures inside { IfSome result (λ next. next.runs ≤ run_count kind bytes.now) }
     ensures further { IfSome result (λ next. from.runs < next.runs) }
-    ensures damaged { IfNone result ((list : List ℤ) → length list ≡ length cells.old → ¬ IsSpelling kind bytes.now list) }
+    ensures damaged { IfNone result (IsOfNone (length cells.old) kind bytes.now) }
 {
     let end = (bytes.len() / (2 + width(kind))).min(from.runs + FEW);
     let mut at = from;
@@ -139,7 +139,7 @@ fn read_few(kind: FieldType, bytes: &[u8], cells: &mut [i64], from: Progress) ->
 #[inline(always)]
 fn read_runs(kind: FieldType, bytes: &[u8], cells: &mut [i64]) -> bool
     ensures spelled { IsTrue result → IsSpelling kind bytes.now cells.new }
-    ensures damaged { (result ≡ false) → (list : List ℤ) → length list ≡ length cells.old → ¬ IsSpelling kind bytes.now list }
+    ensures damaged { (result ≡ false) → IsOfNone (length cells.old) kind bytes.now }
 {
     let size = 2 + width(kind);
     if bytes.len() % size != 0 {
@@ -171,7 +171,7 @@ fn read_runs(kind: FieldType, bytes: &[u8], cells: &mut [i64]) -> bool
 /// The same, by a loop of its own for each type.
 pub fn read_cells(kind: FieldType, bytes: &[u8], cells: &mut [i64]) -> bool
     ensures spelled { IsTrue result → IsSpelling kind bytes.now cells.new }
-    ensures damaged { (result ≡ false) → (list : List ℤ) → length list ≡ length cells.old → ¬ IsSpelling kind bytes.now list }
+    ensures damaged { (result ≡ false) → IsOfNone (length cells.old) kind bytes.now }
 {
     match kind {
         FieldType::Bool => read_runs(FieldType::Bool, bytes, cells),

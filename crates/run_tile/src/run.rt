@@ -1,8 +1,8 @@
 //! One run of equal cells, and its bytes.
 
-ghost use Rattle.std.specs.Prelude.{◌≡◌, ◌+◌, ◌≤◌, ◌↔◌, length, IsTrue};
+ghost use Rattle.std.specs.Prelude.{◌≡◌, ◌+◌, ◌≤◌, ◌<◌, ◌↔◌, length, IsTrue};
 ghost use Rattle.run_tile.specs.Types.{width_of, value_of};
-ghost use Rattle.run_tile.specs.Runs.{run_size, run_of, IsRun};
+ghost use Rattle.run_tile.specs.Runs.{run_size, run_of, run_at, run_count, IsRun};
 ghost use Rattle.byteorder.specs.Endian.{little_number};
 
 use arr_core::FieldType;
@@ -55,7 +55,18 @@ impl Run {
         }
     }
 
+    /// The run at a place, counted from 0.
+    #[inline(always)]
+    pub fn read_at(kind: FieldType, bytes: &[u8], place: usize) -> Run
+        requires { place < run_count kind bytes.now }
+        ensures { result ≡ run_at kind bytes.now place }
+    {
+        let size = 2 + width(kind);
+        Run::read(kind, &bytes[place * size..])
+    }
+
     /// Whether it has 1 to 4,096 cells, of a type.
+    #[inline(always)]
     pub fn is_run(self, kind: FieldType) -> bool
         ensures { IsTrue result ↔ IsRun kind self }
     {

@@ -1,11 +1,12 @@
 //! A file of blocks, and the pages that are kept of it.
 
 use crate::disks::{AnyDisk, TestDisk, done};
-use crate::words::{DAMAGED, DISK_FAULT, NO_MEMORY, NO_ROOM, counted, cut, number, told};
+use crate::words::{
+    DAMAGED, DISK_FAULT, NO_MEMORY, NO_ROOM, block_numbers, counted, cut, number, told,
+};
 use anyhow::{Context, Result, bail};
 use block_file::{
-    BlockFile, Blocks, CHAIN_BYTES, ChainFault, OpenFault, Opened, Refused, State, TakeFault,
-    write_chain,
+    BlockFile, Blocks, CHAIN_BYTES, ChainFault, OpenFault, State, TakeFault, write_chain,
 };
 use disk_face::DiskFault;
 use page_pool::PagePool;
@@ -23,14 +24,14 @@ pub struct Volume {
 }
 
 impl Model for Volume {
-    ghost use Rattle.block_file.specs.Blocks.{AreInUse};
-    ghost use Rattle.block_file.specs.View.{BlockFileView, uses_of};
+    ghost use Rattle.block_file.specs.View.{BlockFileView, state_of};
+    ghost use Rattle.tile_store.specs.Written.{AreFresh};
 
     ghost Value = { BlockFileView };
 
     ghost view = { λ v. v.file };
 
-    ghost invariant = { λ v. AreInUse v.taken.items (uses_of v.file.marks) };
+    ghost invariant = { λ v. AreFresh v.taken.items (state_of v.file) };
 }
 
 impl Volume {
@@ -104,6 +105,19 @@ fn open_number(fault: OpenFault) -> u16 {
     }
 }
 
+/// Keeps a file of blocks, of which none has a name and no page is kept.
+fn mount(alloc: Global, file: BlockFile<TestDisk>, volume: &mut Option<Volume>) {
+    *volume = Some(Volume::new(alloc, PagePool::new(alloc, file, 0)));
+}
+
+/// The metadata of a file that was opened, or `ok` for none.
+fn shown(alloc: Global, metadata: &[u8]) -> Result<String> {
+    if metadata.is_empty() {
+        return told(alloc, "ok");
+    }
+    Ok(hex(alloc, metadata)?)
+}
+
 /// Opens a disk as a file of blocks, and gives its metadata, or `ok` for none. A disk that is refused stays.
 pub fn open(
     alloc: Global,
@@ -114,21 +128,13 @@ pub fn open(
         bail!("no test disk");
     };
     match BlockFile::open(alloc, tested) {
-        Ok(Opened { file, metadata }) => {
-            *volume = Some(Volume::new(alloc, PagePool::new(alloc, file, 0)));
-            if metadata.is_empty() {
-                return told(alloc, "ok");
-            }
-            Ok(hex(alloc, &metadata)?)
+        Ok(opened) => {
+            mount(alloc, opened.file, volume);
+            shown(alloc, &opened.metadata)
         }
-        Err(
-            Refused {
-                disk: refused,
-                fault,
-            },
-        ) => {
-            *disk = Some(AnyDisk::Test(refused));
-            refusal(alloc, open_number(fault))
+        Err(refused) => {
+            *disk = Some(AnyDisk::Test(refused.disk));
+            refusal(alloc, open_number(refused.fault))
         }
     }
 }
@@ -166,20 +172,24 @@ fn leave(alloc: Global, volume: &mut Volume, words: &str) -> Result<String> {
     }
 }
 
+/// Claims blocks on a file, which is kept whether it has them or not; says whether it has.
+fn claimed(alloc: Global, before: Volume, blocks: &[u32], volume: &mut Option<Volume>) -> bool {
+    let mut file = before.into_file().into_file();
+    let is_claimed = file.claim(blocks).is_ok();
+    mount(alloc, file, volume);
+    is_claimed
+}
+
 /// Claims blocks, as `1,2`. Those that were taken before have no name any more, and no page is kept.
 pub fn claim(alloc: Global, volume: &mut Option<Volume>, words: &str) -> Result<String> {
-    let mut blocks = Vec::new(alloc);
-    for word in words.split(',') {
-        blocks.push(word.parse::<u32>()?)?;
+    let blocks = block_numbers(alloc, words)?;
+    let Some(before) = volume.take() else {
+        bail!("no file of blocks");
+    };
+    if claimed(alloc, before, &blocks, volume) {
+        return told(alloc, "ok");
     }
-    let before = volume.take().context("no file of blocks")?;
-    let mut file = before.into_file().into_file();
-    let claimed = file.claim(&blocks);
-    *volume = Some(Volume::new(alloc, PagePool::new(alloc, file, 0)));
-    match claimed {
-        Ok(()) => told(alloc, "ok"),
-        Err(_) => refusal(alloc, DAMAGED),
-    }
+    refusal(alloc, DAMAGED)
 }
 
 /// Keeps at most so many pages from now on.
@@ -188,18 +198,30 @@ fn resize(alloc: Global, volume: &mut Volume, words: &str) -> Result<String> {
     told(alloc, "ok")
 }
 
-/// Writes the first bytes of a block and zeros behind them, as `0 0x0102`.
-fn write(alloc: Global, volume: &mut Volume, files: &Files, words: &str) -> Result<String> {
-    let (place, words) = cut(words);
-    let place = number(place) as usize;
-    let mut block = [0u8; 4096];
-    for (byte, new) in block.iter_mut().zip(files.bytes(alloc, words)?.iter()) {
-        *byte = *new;
+/// Puts bytes at the front of a block; what would stand past its end is left out.
+fn overwrite(block: &mut [u8], bytes: &[u8]) {
+    for k in 0..bytes.len() {
+        if k < block.len() {
+            block[k] = bytes[k];
+        }
     }
+}
+
+/// Writes the first bytes of a block and zeros behind them.
+fn write_first(alloc: Global, volume: &mut Volume, place: usize, bytes: &[u8]) -> Result<String> {
+    let mut block = [0u8; 4096];
+    overwrite(&mut block, bytes);
     match volume.write(place, &block) {
         Some(outcome) => done(alloc, outcome),
         None => bail!("no such block"),
     }
+}
+
+/// Writes the first bytes of a block and zeros behind them, as `0 0x0102`.
+fn write(alloc: Global, volume: &mut Volume, files: &Files, words: &str) -> Result<String> {
+    let (place, words) = cut(words);
+    let bytes = files.bytes(alloc, words)?;
+    write_first(alloc, volume, number(place) as usize, &bytes)
 }
 
 /// The bytes of a block.
@@ -245,6 +267,22 @@ fn write_header(alloc: Global, volume: &mut Volume, words: &str) -> Result<Strin
     )
 }
 
+/// How many blocks are free.
+fn free(alloc: Global, volume: &Volume) -> Result<String> {
+    counted(alloc, u64::from(volume.file.free()))
+}
+
+/// The first block of the chain that was written last.
+fn first(alloc: Global, volume: &Volume) -> Result<String> {
+    counted(alloc, u64::from(volume.first))
+}
+
+/// Gives back the first of the blocks that were taken.
+fn give_back(alloc: Global, volume: &mut Volume, words: &str) -> Result<String> {
+    volume.give_back(number(words) as usize);
+    told(alloc, "ok")
+}
+
 /// A call on a file of blocks.
 pub fn called(
     alloc: Global,
@@ -254,18 +292,15 @@ pub fn called(
     words: &str,
 ) -> Result<String> {
     match verb {
-        "free" => counted(alloc, u64::from(volume.file.free())),
+        "free" => free(alloc, volume),
         "take" => take(alloc, volume, words),
         "leave" => leave(alloc, volume, words),
-        "give_back" => {
-            volume.give_back(number(words) as usize);
-            told(alloc, "ok")
-        }
+        "give_back" => give_back(alloc, volume, words),
         "pages" => resize(alloc, volume, words),
         "write" => write(alloc, volume, files, words),
         "read" => read(alloc, volume, words),
         "chain" => chain(alloc, volume, files, words),
-        "first" => counted(alloc, u64::from(volume.first)),
+        "first" => first(alloc, volume),
         "header" => write_header(alloc, volume, words),
         _ => bail!("no such call"),
     }

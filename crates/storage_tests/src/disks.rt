@@ -7,20 +7,24 @@ use std::alloc::Global;
 use std::fs;
 use test_rows::{Files, hex, refusal};
 
-/// A disk in memory of which one call fails, and one read gives each byte inverted. So of what it reads nothing is said.
+/// A disk in memory of which one call fails, and one read gives each byte inverted, and that has no more than `room`
+/// bytes. So of what it reads nothing is said.
 #[derive(Drop)]
 pub struct TestDisk {
     disk: FailDisk,
     /// How many reads are left until one lies, or 0 for none.
     left: u64,
+    room: u64,
 }
 
 impl TestDisk {
-    /// The disk with these bytes whose call of a number fails, and whose read of a number lies, or none for 0.
-    fn new(bytes: Vec<u8>, fails: u64, lies: u64) -> TestDisk {
+    /// The disk with these bytes whose call of a number fails, and whose read of a number lies, or none for 0, and that has
+    /// room for so many bytes.
+    fn new(bytes: Vec<u8>, fails: u64, lies: u64, room: u64) -> TestDisk {
         TestDisk {
             disk: FailDisk::new(MemDisk::new(bytes), fails),
             left: lies,
+            room,
         }
     }
 }
@@ -48,8 +52,16 @@ impl Disk for TestDisk {
         Ok(())
     }
 
+    /// A write across the last byte that there is room for takes what it can, and fails, as a read past the end does.
     fn write_at(&mut self, at: u64, bytes: &[u8]) -> Result<(), DiskFault> {
-        self.disk.write_at(at, bytes)
+        let free = self.room.saturating_sub(at);
+        if bytes.len() as u64 <= free {
+            return self.disk.write_at(at, bytes);
+        }
+        if free > 0 {
+            self.disk.write_at(at, &bytes[..free as usize])?;
+        }
+        self.disk.read_at(u64::MAX, &mut [0u8])
     }
 
     fn len(&self) -> u64 {
@@ -118,7 +130,15 @@ impl AnyDisk {
         let (fails, rest) = cut(words);
         let (lies, words) = cut(rest);
         let bytes = files.bytes(alloc, words)?;
-        let disk = TestDisk::new(bytes, number(fails), number(lies));
+        let disk = TestDisk::new(bytes, number(fails), number(lies), u64::MAX);
+        Ok(AnyDisk::Test(disk))
+    }
+
+    /// A disk in memory that has room for so many bytes, as `8192 lai`.
+    pub fn within(alloc: Global, files: &Files, words: &str) -> Result<AnyDisk> {
+        let (room, words) = cut(words);
+        let bytes = files.bytes(alloc, words)?;
+        let disk = TestDisk::new(bytes, 0, 0, number(room));
         Ok(AnyDisk::Test(disk))
     }
 

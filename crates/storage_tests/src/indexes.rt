@@ -5,7 +5,7 @@ ghost use Rattle.tile_index.specs.declared.entry.Entry.{Entry};
 ghost use Rattle.tile_index.specs.Entries.{IsEntry};
 ghost use Rattle.tile_index.specs.Index.{found_at};
 
-use crate::words::{DAMAGED, NO_MEMORY, counted, cut, joined, number, told};
+use crate::words::{DAMAGED, NO_MEMORY, block_numbers, counted, cut, joined, number, told};
 use anyhow::{Result, bail};
 use metadata::{Metadata, ReadError, catalogue_part, push_part, read_metadata};
 use std::alloc::{AllocError, Global};
@@ -42,10 +42,7 @@ fn entry_of(alloc: Global, words: &str) -> Result<Entry>
 {
     let (length, list) = cut(words);
     let length = length.parse::<u32>()?;
-    let mut numbers = Vec::new(alloc);
-    for word in list.split(',') {
-        numbers.push(word.parse::<u32>()?)?;
-    }
+    let numbers = block_numbers(alloc, list)?;
     if length == 0 || length > 40960 || numbers.len() != length.div_ceil(4096) as usize {
         bail!("no such tile");
     }

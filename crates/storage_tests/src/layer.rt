@@ -57,41 +57,80 @@ impl Site {
         told(alloc, "ok")
     }
 
+    fn put_disk(&mut self, disk: AnyDisk) {
+        self.disk = Some(disk);
+    }
+
+    /// A disk of a kind, as `memory lai`.
+    fn new_disk(&mut self, alloc: Global, kind: &str, rest: &str) -> Result<String> {
+        let disk = AnyDisk::new(alloc, &self.files, kind, rest)?;
+        self.put_disk(disk);
+        told(alloc, "ok")
+    }
+
+    /// A call on the disk that there is.
+    fn with_disk(&mut self, alloc: Global, verb: &str, rest: &str) -> Result<String> {
+        match &mut self.disk {
+            Some(disk) => disk.called(alloc, &self.files, verb, rest),
+            None => bail!("no disk"),
+        }
+    }
+
     /// A call on the disk.
     fn on_disk(&mut self, rt: &HostRuntime, verb: &str, rest: &str) -> Result<String> {
         let alloc = rt.alloc();
         match verb {
-            "memory" | "test" | "full" => {
-                self.disk = Some(AnyDisk::new(alloc, &self.files, verb, rest)?);
-                told(alloc, "ok")
-            }
+            "memory" | "test" | "full" => self.new_disk(alloc, verb, rest),
             "open" => open_file(rt, &mut self.disk, rest),
             "remove" => remove_file(rt, rest),
             "keep" => self.keep(alloc, rest),
-            _ => match &mut self.disk {
-                Some(disk) => disk.called(alloc, &self.files, verb, rest),
-                None => bail!("no disk"),
-            },
+            _ => self.with_disk(alloc, verb, rest),
+        }
+    }
+
+    /// Opens the disk as a file of blocks.
+    fn open_blocks(&mut self, alloc: Global) -> Result<String> {
+        blocks::open(alloc, &mut self.disk, &mut self.volume)
+    }
+
+    /// Opens a disk of which a call fails and a read lies.
+    fn open_on(&mut self, alloc: Global, rest: &str) -> Result<String> {
+        let disk = AnyDisk::test(alloc, &self.files, rest)?;
+        self.put_disk(disk);
+        self.open_blocks(alloc)
+    }
+
+    /// Opens a disk that has room for so many bytes.
+    fn open_within(&mut self, alloc: Global, rest: &str) -> Result<String> {
+        let disk = AnyDisk::within(alloc, &self.files, rest)?;
+        self.put_disk(disk);
+        self.open_blocks(alloc)
+    }
+
+    /// Takes the disk of the file of blocks back.
+    fn close_blocks(&mut self, alloc: Global) -> Result<String> {
+        let disk = blocks::unmount(&mut self.volume)?;
+        self.put_disk(disk);
+        told(alloc, "ok")
+    }
+
+    /// A call on the file of blocks that there is.
+    fn with_blocks(&mut self, alloc: Global, verb: &str, rest: &str) -> Result<String> {
+        match &mut self.volume {
+            Some(volume) => blocks::called(alloc, volume, &self.files, verb, rest),
+            None => bail!("no file of blocks"),
         }
     }
 
     /// A call on the file of blocks.
     fn on_blocks(&mut self, alloc: Global, verb: &str, rest: &str) -> Result<String> {
         match verb {
-            "open" => blocks::open(alloc, &mut self.disk, &mut self.volume),
-            "on" => {
-                self.disk = Some(AnyDisk::test(alloc, &self.files, rest)?);
-                blocks::open(alloc, &mut self.disk, &mut self.volume)
-            }
-            "close" => {
-                self.disk = Some(blocks::unmount(&mut self.volume)?);
-                told(alloc, "ok")
-            }
+            "open" => self.open_blocks(alloc),
+            "on" => self.open_on(alloc, rest),
+            "within" => self.open_within(alloc, rest),
+            "close" => self.close_blocks(alloc),
             "claim" => blocks::claim(alloc, &mut self.volume, rest),
-            _ => match &mut self.volume {
-                Some(volume) => blocks::called(alloc, volume, &self.files, verb, rest),
-                None => bail!("no file of blocks"),
-            },
+            _ => self.with_blocks(alloc, verb, rest),
         }
     }
 

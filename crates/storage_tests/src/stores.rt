@@ -3,9 +3,8 @@
 ghost use Rattle.std.specs.Prelude.{◌<◌, length, IfSome, IsSomeAnd, IsTrue};
 ghost use Rattle.arr_core.specs.Domains.{IsBoxOf, IsInside};
 ghost use Rattle.arr_core.specs.Stores.{found};
-ghost use Rattle.arr_core.specs.Tiles.{tile_boxes};
 ghost use Rattle.raster_store.specs.Calls.{HasField};
-ghost use Rattle.raster_store.specs.Fetches.{HasTile};
+ghost use Rattle.raster_store.specs.Fetches.{HasTile, HasTileNumber};
 
 use crate::blocks::Volume;
 use crate::disks::TestDisk;
@@ -14,7 +13,7 @@ use crate::words::{
     signature, told,
 };
 use anyhow::{Context, Result, bail};
-use arr_core::{Domain, Name};
+use arr_core::{Cell, Domain, Name, Signature};
 use page_pool::PagePool;
 use raster_store::{Fault, RasterStore, TileAt, WriteFault};
 use std::alloc::Global;
@@ -54,7 +53,7 @@ fn has_box(store: &Store, name: &Name, area: &Domain) -> bool
 
 /// Whether a store has a coverage with a name, and that has a tile of the number.
 fn has_tile(store: &Store, name: &Name, tile: u64) -> bool
-    ensures { IsTrue result → IsSomeAnd (found name.now store.now.coverages) (λ c. tile < length (tile_boxes c.domain)) }
+    ensures { IsTrue result → HasTileNumber name.now tile store.now.coverages }
 {
     match store.signature(name) {
         Some(signature) => tile < signature.domain.tiles(),
@@ -71,8 +70,11 @@ fn refused(fault: Fault) -> u16 {
     }
 }
 
-/// `ok`, or the refusal of a write.
-fn written(alloc: Global, outcome: Result<(), WriteFault>) -> Result<String> {
+/// `ok`, or the refusal of a write; none of a field that there is not.
+fn written(alloc: Global, outcome: Option<Result<(), WriteFault>>) -> Result<String> {
+    let Some(outcome) = outcome else {
+        bail!("no field");
+    };
     match outcome {
         Ok(()) => told(alloc, "ok"),
         Err(WriteFault::OutsideDomain) => refusal(alloc, 24),
@@ -97,16 +99,36 @@ fn target(alloc: Global, words: &str) -> Result<(Name, usize, &str)> {
     Ok((Name::new(alloc, name)?, number(field) as usize, rest))
 }
 
-/// Adds a coverage, as `lai x(0:99) v:i16`.
-fn create(alloc: Global, store: &mut Store, bytes: u64, words: &str) -> Result<String> {
-    let signature = signature(alloc, words)?;
+/// Adds a coverage.
+fn add(alloc: Global, store: &mut Store, bytes: u64, signature: &Signature) -> Result<String> {
     if store.signature(&signature.name).is_some() {
         bail!("there is one with this name");
     }
-    match store.create(&signature, bytes) {
+    match store.create(signature, bytes) {
         Ok(()) => told(alloc, "ok"),
         Err(fault) => refusal(alloc, refused(fault)),
     }
+}
+
+/// Adds a coverage, as `lai x(0:99) v:i16`.
+fn create(alloc: Global, store: &mut Store, bytes: u64, words: &str) -> Result<String> {
+    let signature = signature(alloc, words)?;
+    add(alloc, store, bytes, &signature)
+}
+
+/// Writes cells into a box; none of a field that there is not.
+fn write_box(
+    store: &mut Store,
+    name: &Name,
+    field: usize,
+    area: &Domain,
+    list: &[Cell],
+    bytes: u64,
+) -> Option<Result<(), WriteFault>> {
+    if !has_field(store, name, field) {
+        return None;
+    }
+    Some(store.write_box(name, field, area, list, bytes))
 }
 
 /// Writes cells into a box, as `lai 0 x(0:2) 1,2,3`.
@@ -115,10 +137,22 @@ fn write(alloc: Global, store: &mut Store, bytes: u64, words: &str) -> Result<St
     let (area, list) = cut(rest);
     let area = domain(alloc, area)?;
     let list = cells(alloc, list)?;
-    if !has_field(store, &name, field) {
-        bail!("no field");
+    written(alloc, write_box(store, &name, field, &area, &list, bytes))
+}
+
+/// Writes one cell at every point of a box; none of a field that there is not.
+fn fill_box(
+    store: &mut Store,
+    name: &Name,
+    field: usize,
+    area: &Domain,
+    cell: Cell,
+    bytes: u64,
+) -> Option<Result<(), WriteFault>> {
+    if !has_field(store, name, field) {
+        return None;
     }
-    written(alloc, store.write_box(&name, field, &area, &list, bytes))
+    Some(store.fill_box(name, field, area, cell, bytes))
 }
 
 /// Writes one cell at every point of a box, as `lai 0 x(0:99) 7`.
@@ -127,33 +161,52 @@ fn fill(alloc: Global, store: &mut Store, bytes: u64, words: &str) -> Result<Str
     let (area, word) = cut(rest);
     let cell = cell(word)?;
     let area = domain(alloc, area)?;
-    if !has_field(store, &name, field) {
-        bail!("no field");
+    written(alloc, fill_box(store, &name, field, &area, cell, bytes))
+}
+
+/// The numbers of a box.
+fn read_box(
+    alloc: Global,
+    store: &mut Store,
+    name: &Name,
+    field: usize,
+    area: &Domain,
+) -> Result<String> {
+    if !has_field(store, name, field) || !has_box(store, name, area) {
+        bail!("no field or no box");
     }
-    written(alloc, store.fill_box(&name, field, &area, cell, bytes))
+    numbers(alloc, store.read_box(name, field, area))
 }
 
 /// The numbers of a box, as `lai 0 x(0:99)`.
 fn read(alloc: Global, store: &mut Store, words: &str) -> Result<String> {
     let (name, field, area) = target(alloc, words)?;
     let area = domain(alloc, area)?;
-    if !has_field(store, &name, field) || !has_box(store, &name, &area) {
-        bail!("no field or no box");
+    read_box(alloc, store, &name, field, &area)
+}
+
+/// The number at a point.
+fn read_point(
+    alloc: Global,
+    store: &mut Store,
+    name: &Name,
+    field: usize,
+    point: &[i32],
+) -> Result<String> {
+    if !has_field(store, name, field) || !has_point(store, name, point) {
+        bail!("no field or no point");
     }
-    numbers(alloc, store.read_box(&name, field, &area))
+    match store.read_cell(name, field, point) {
+        Ok(z) => Ok(format!(in alloc; "{z}")?),
+        Err(fault) => refusal(alloc, refused(fault)),
+    }
 }
 
 /// The number at a point, as `lai 0 99`.
 fn at(alloc: Global, store: &mut Store, words: &str) -> Result<String> {
     let (name, field, coordinates) = target(alloc, words)?;
     let point = point(alloc, coordinates)?;
-    if !has_field(store, &name, field) || !has_point(store, &name, &point) {
-        bail!("no field or no point");
-    }
-    match store.read_cell(&name, field, &point) {
-        Ok(z) => Ok(format!(in alloc; "{z}")?),
-        Err(fault) => refusal(alloc, refused(fault)),
-    }
+    read_point(alloc, store, &name, field, &point)
 }
 
 /// The numbers of a tile, as `lai 0 1`.
@@ -209,13 +262,19 @@ fn tiles(alloc: Global, store: &mut Store, words: &str) -> Result<String> {
     Ok(read)
 }
 
+/// The bytes of the index of a field.
+fn bytes_of(alloc: Global, store: &Store, name: &Name, field: usize) -> Result<String> {
+    if !has_field(store, name, field) {
+        bail!("no field");
+    }
+    let bytes = store.index_bytes(alloc, name, field)?;
+    Ok(hex(alloc, &bytes)?)
+}
+
 /// The bytes of the index of a field, as `lai 0 -`.
 fn index_bytes(alloc: Global, store: &Store, words: &str) -> Result<String> {
     let (name, field, _) = target(alloc, words)?;
-    if !has_field(store, &name, field) {
-        bail!("no field");
-    }
-    Ok(hex(alloc, &store.index_bytes(alloc, &name, field)?)?)
+    bytes_of(alloc, store, &name, field)
 }
 
 /// What is told of the coverage with a name.

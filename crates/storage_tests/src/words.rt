@@ -120,3 +120,17 @@ pub fn signature(alloc: Global, words: &str) -> Result<Signature> {
         fields: fields(alloc, list)?,
     })
 }
+
+fn add_block(blocks: &mut Vec<u32>, word: &str) -> Result<()> {
+    blocks.push(word.parse::<u32>()?)?;
+    Ok(())
+}
+
+/// Numbers of blocks, as `1,2`.
+pub fn block_numbers(alloc: Global, words: &str) -> Result<Vec<u32>> {
+    let mut blocks = Vec::new(alloc);
+    for word in words.split(',') {
+        add_block(&mut blocks, word)?;
+    }
+    Ok(blocks)
+}

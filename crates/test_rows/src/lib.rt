@@ -5,12 +5,18 @@
 //! `bytes`, and so are the texts in calls where their layer says so.
 #![tactic(auto)]
 
+mod answer;
 mod escapes;
 mod files;
 mod rows;
+mod texts;
 mod words;
 
-pub use escapes::{bytes, hex, text, written};
+pub use answer::Answer;
+pub use escapes::{bytes, hex, text};
 pub use files::Files;
 pub use rows::{Layer, judge};
-pub use words::{axes, cell, domain, fields, kind, numbers, point, refusal, shown, yes};
+pub use texts::{coordinate, cut, cut_at, index, integer, number};
+pub use words::{
+    axes, cell, domain, fields, kind, numbers, point, refusal, say_domain, shown, yes,
+};

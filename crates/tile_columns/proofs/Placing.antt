@@ -7,9 +7,9 @@ use Rattle.std.proofs.lemmas.List.Elements.{All-map}
 use Rattle.arr_core.specs.declared.domain.Axis.{Axis}
 use Rattle.arr_core.specs.declared.signature.Signature.{Signature}
 use Rattle.arr_core.specs.Domains.{IsInside}
-use Rattle.wcps_types.specs.declared.typed.Operation1.{Operation1}
-use Rattle.wcps_types.specs.declared.typed.Operation2.{Operation2}
-use Rattle.wcps_mean.specs.declared.aggregate.Aggregate.{Aggregate}
+use Rattle.wcps_text.specs.declared.operator.UnaryOperator.{UnaryOperator}
+use Rattle.wcps_text.specs.declared.operator.BinaryOperator.{BinaryOperator}
+use Rattle.wcps_text.specs.declared.operator.Aggregate.{Aggregate}
 use Rattle.plan_ir.specs.declared.body.Interval.{Interval}
 use Rattle.plan_ir.specs.declared.body.Index.{Index}
 use Rattle.plan_ir.specs.declared.body.Index.TheVariants.{Const, Var}
@@ -56,13 +56,13 @@ point_within (a ∷ box) (z ∷ x) i = (i.0, i.1, point_within box x i.2)
 
 -- ---- the parts of a body
 
-pub operand_place : {cs : ℕ → Option Signature} {n : ℕ} (op : Operation1) (e : Tree) (envs : List (List ℤ)) → HasPlace cs n (op1 op e) envs → HasPlace cs n e envs
+pub operand_place : {cs : ℕ → Option Signature} {n : ℕ} (op : UnaryOperator) (e : Tree) (envs : List (List ℤ)) → HasPlace cs n (op1 op e) envs → HasPlace cs n e envs
 operand_place op e envs h = record { scope = h.scope; placed = h.placed; within = h.within }
 
-pub left_place : {cs : ℕ → Option Signature} {n : ℕ} (op : Operation2) (l r : Tree) (envs : List (List ℤ)) → HasPlace cs n (op2 op l r) envs → HasPlace cs n l envs
+pub left_place : {cs : ℕ → Option Signature} {n : ℕ} (op : BinaryOperator) (l r : Tree) (envs : List (List ℤ)) → HasPlace cs n (op2 op l r) envs → HasPlace cs n l envs
 left_place op l r envs h = record { scope = h.scope; placed = h.placed.0; within = h.within }
 
-pub right_place : {cs : ℕ → Option Signature} {n : ℕ} (op : Operation2) (l r : Tree) (envs : List (List ℤ)) → HasPlace cs n (op2 op l r) envs → HasPlace cs n r envs
+pub right_place : {cs : ℕ → Option Signature} {n : ℕ} (op : BinaryOperator) (l r : Tree) (envs : List (List ℤ)) → HasPlace cs n (op2 op l r) envs → HasPlace cs n r envs
 right_place op l r envs h = record { scope = h.scope; placed = h.placed.1; within = h.within }
 
 pub position_place : {cs : ℕ → Option Signature} {n : ℕ} (i : Tree) (lo hi : ℤ) (e : Tree) (envs : List (List ℤ)) → HasPlace cs n (bind i lo hi e) envs → HasPlace cs n i envs

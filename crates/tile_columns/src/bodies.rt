@@ -3,7 +3,7 @@
 ghost use Rattle.std.specs.Prelude.{◌≡◌, ℕ, ◌+◌, ◌-◌, ◌*◌, ◌<◌, ◌≤◌, ◌^◌, ◌≤ℤ◌, ℤ, List, [], ◌∷◌, ◌++◌, map, length, slice_index_or, OnOk, IfOk};
 ghost use Rattle.std.specs.List.{All, flat_map};
 ghost use Rattle.arr_core.specs.Domains.{points, count};
-ghost use Rattle.wcps_mean.specs.declared.aggregate.Aggregate.{Aggregate};
+ghost use Rattle.wcps_text.specs.declared.operator.Aggregate.{Aggregate};
 ghost use Rattle.wcps_mean.specs.Reports.{Reports};
 ghost use Rattle.plan_ir.specs.Bodies.{body_view, condition_view, fold_view};
 ghost use Rattle.plan_ir.specs.Run.{run};

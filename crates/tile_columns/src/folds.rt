@@ -4,7 +4,7 @@ ghost use Rattle.std.specs.Prelude.{◌≡◌, ℕ, ◌+◌, ◌*◌, ◌++◌, 
 ghost use Rattle.std.specs.List.{range_with_len};
 ghost use Rattle.arr_core.specs.Domains.{points, count, IsInside};
 ghost use Rattle.arr_core.specs.Tiles.{tile_boxes};
-ghost use Rattle.wcps_mean.specs.declared.aggregate.Aggregate.{Aggregate};
+ghost use Rattle.wcps_text.specs.declared.operator.Aggregate.{Aggregate};
 ghost use Rattle.wcps_mean.specs.Condensers.{condensed};
 ghost use Rattle.tile_kernel.specs.Told.{Told, outcomes, AreRising};
 ghost use Rattle.tile_kernel.specs.Selected.{Chooses};
@@ -16,7 +16,8 @@ use crate::frame::Frame;
 use arr_core::Domain;
 use std::alloc::{AllocError, Global};
 use tile_kernel::{Accumulator, Column};
-use wcps_mean::{Aggregate, Outcome, is_set, push_point};
+use wcps_mean::{Outcome, is_set, push_point};
+use wcps_text::Aggregate;
 
 /// Accumulators of no point, one for each place.
 pub(crate) fn empty_folds(

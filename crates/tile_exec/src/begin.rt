@@ -16,7 +16,7 @@ use crate::workspace::Workspace;
 use plan_ir::{Plan, Steps};
 use std::alloc::{AllocError, Global};
 use tile_kernel::Accumulator;
-use wcps_mean::Aggregate;
+use wcps_text::Aggregate;
 
 /// Tasks in their order, and how many boxes they have together.
 #[derive(Drop)]

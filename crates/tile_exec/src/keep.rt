@@ -2,7 +2,7 @@
 
 ghost use Rattle.std.specs.Prelude.{◌≡◌, ℕ, Bool, ◌+◌, ◌<◌, ◌≤◌, ◌^◌, List, [], ◌∷◌, ◌++◌, map, length, vec_capacity, All, slice_set, slice_get, Some};
 ghost use Rattle.arr_core.specs.declared.cell.Cell.{Cell};
-ghost use Rattle.wcps_mean.specs.declared.aggregate.Aggregate.{Aggregate};
+ghost use Rattle.wcps_text.specs.declared.operator.Aggregate.{Aggregate};
 ghost use Rattle.wcps_mean.specs.declared.cell.Outcome.{Outcome};
 ghost use Rattle.tile_kernel.specs.Told.{Told, IsFirst};
 ghost use Rattle.tile_kernel.specs.Joins.{HoldsOfBoth};
@@ -20,7 +20,8 @@ use crate::task::{First, Status};
 use arr_core::Cell;
 use std::mem;
 use tile_kernel::Accumulator;
-use wcps_mean::{Aggregate, CellList, Item, Outcome, is_set};
+use wcps_mean::{CellList, Item, Outcome, is_set};
+use wcps_text::Aggregate;
 
 /// Puts an outcome at the end of a list that has room for it.
 fn put_register(registers: &mut Vec<Outcome>, o: Outcome)

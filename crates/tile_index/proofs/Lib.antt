@@ -1,4 +1,5 @@
-pub mod Lists
+pub mod Between
+pub mod Found
 pub mod Merging
 pub mod Changed
 pub mod Codes

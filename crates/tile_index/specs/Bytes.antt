@@ -1,8 +1,9 @@
 -- The bytes of an index, every number in 32 bits with the lowest byte first: how many entries there
 -- are, and then for each entry its tile, its length, and its blocks.
-use Rattle.std.specs.Prelude.{ℕ, List, ◌++◌, length, flat_map}
+use Rattle.std.specs.Prelude.{◌≡◌, ℕ, List, ◌++◌, length, flat_map}
 use Rattle.byteorder.specs.Endian.{little_bytes}
 use Rattle.tile_index.specs.declared.entry.Entry.{Entry}
+use Rattle.tile_index.specs.Index.{IsIndex}
 
 -- the bytes of one number
 abbrev pub number_bytes : ℕ → List ℕ
@@ -15,3 +16,11 @@ entry_bytes x = number_bytes x.0 ++ (number_bytes x.1.length ++ flat_map number_
 -- the bytes of an index
 unfoldable pub index_bytes : List (ℕ × Entry) → List ℕ
 index_bytes index = number_bytes (length index) ++ flat_map entry_bytes index
+
+-- the bytes are those of no index
+abbrev pub IsOfNoIndex : List ℕ → Type 0
+IsOfNoIndex bytes = (index : List (ℕ × Entry)) → IsIndex index → bytes ≡ index_bytes index → ⊥
+
+-- the bytes are those of no other index
+abbrev pub IsOfNoOther : List ℕ → List (ℕ × Entry) → Type 0
+IsOfNoOther bytes index = (other : List (ℕ × Entry)) → IsIndex other → bytes ≡ index_bytes other → other ≡ index

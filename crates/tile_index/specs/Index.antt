@@ -1,5 +1,5 @@
 -- An index: a finite map from tile numbers to entries, as the list of its pairs in rising order.
-use Rattle.std.specs.Prelude.{ℕ, ◌<◌, ◌^◌, List, [], ◌∷◌, length, All, AllPairs, Option, Some, None, ◌==◌, if◌then◌else◌, unwrap_or}
+use Rattle.std.specs.Prelude.{◌≡◌, ℕ, ◌<◌, ◌^◌, List, [], ◌∷◌, length, All, AllPairs, Option, Some, None, ◌==◌, if◌then◌else◌, unwrap_or}
 use Rattle.tile_index.specs.declared.entry.Entry.{Entry}
 use Rattle.tile_index.specs.Entries.{IsEntry}
 
@@ -25,12 +25,27 @@ pub record ArePairs (pairs : List (ℕ × Entry)) : Type 0 where
   pub rising : IsRising pairs
   pub each : All IsPair pairs
 
+-- so many of them
+abbrev pub AreSoMany : ℕ → List (ℕ × Entry) → Type 0
+AreSoMany count pairs = (length pairs ≡ count) × ArePairs pairs
+
 -- the pairs of an index: fewer than 2^32 of them
 pub record IsIndex (index : List (ℕ × Entry)) : Type 0 where
   pub pairs : ArePairs index
   pub few : length index < 2 ^ 32
 
+-- what changes give are entries
+abbrev pub AreEntries : List (ℕ × Option Entry) → Type 0
+AreEntries changes = (tile : ℕ) (entry : Entry) → found_at tile changes ≡ Some (Some entry) → IsEntry entry
+
 -- what a tile has after changes: what they give it, an entry or none, and what it had where they
 -- do not list it
 abbrev pub changed_at : ℕ → List (ℕ × Option Entry) → List (ℕ × Entry) → Option Entry
 changed_at tile changes index = unwrap_or (found_at tile changes) (found_at tile index)
+
+-- changes of an index, in rising order; after them a tile whose number has 32 bits has no entry
+pub record AreChanges (changes : List (ℕ × Option Entry)) (index : List (ℕ × Entry)) : Type 0 where
+  pub rising : IsRising changes
+  pub small : AreSmall changes
+  pub entries : AreEntries changes
+  pub room : (tile : ℕ) × (tile < 2 ^ 32) × (changed_at tile changes index ≡ None)

@@ -1,18 +1,22 @@
--- How pairs are moved from the end of one list to the end of another.
-use Rattle.std.specs.Prelude.{◌≡◌, ℕ, ◌<◌, List, ◌++◌, reverse}
-use Rattle.std.specs.List.{AllByRecursion}
+-- How the pairs of two lists, one after the other, are parted at a tile.
+use Rattle.std.specs.Prelude.{◌≡◌, ◌≢◌, ℕ, suc, ◌<◌, ◌≤◌, ◌^◌, List, [], ◌∷◌, ◌++◌}
 use Rattle.tile_index.specs.declared.entry.Entry.{Entry}
+use Rattle.tile_index.specs.Index.{found_at}
 
--- the pairs after a tile are moved one by one, so that the last one comes first
-pub record MovesAfter (tile : ℕ) (old new from to : List (ℕ × Entry)) : Type 0 where
-  pub later : List (ℕ × Entry)
-  pub parts : old ≡ new ++ later
-  pub moved : reverse to ≡ later ++ reverse from
-  pub after : AllByRecursion (λ (x : ℕ × Entry). tile < x.0) later
+-- the tile numbers rise, from one number on and up to another
+abbrev pub IsBetween : {X : Type 0} → ℕ → List (ℕ × X) → ℕ → Type 0
+IsBetween low [] high = low ≤ high
+IsBetween low (x ∷ xs) high = (low ≤ x.0) × IsBetween (suc x.0) xs high
 
--- the pairs of a tile are dropped
-pub record DropsAt (tile : ℕ) (old new : List (ℕ × Entry)) : Type 0 where
-  pub same : List (ℕ × Entry)
-  pub parts : old ≡ new ++ same
-  pub before : AllByRecursion (λ (x : ℕ × Entry). x.0 < tile) new
-  pub at : AllByRecursion (λ (x : ℕ × Entry). x.0 ≡ tile) same
+-- the second list has only tiles after this one, and after those of the first
+pub record AreApart (tile : ℕ) (front back : List (ℕ × Entry)) : Type 0 where
+  pub bound : ℕ
+  pub above : tile < bound
+  pub low : IsBetween 0 front bound
+  pub high : IsBetween bound back (2 ^ 32)
+
+-- the first list has the tiles before this one, the second those after it, and both what the whole had there
+pub record ArePartedAt (tile : ℕ) (whole front back : List (ℕ × Entry)) : Type 0 where
+  pub before : IsBetween 0 front tile
+  pub after : IsBetween (suc tile) back (2 ^ 32)
+  pub same : (t : ℕ) → t ≢ tile → found_at t (front ++ back) ≡ found_at t whole

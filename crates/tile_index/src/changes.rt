@@ -1,51 +1,28 @@
 //! Entries joined with changes of some of them.
 
-ghost use Rattle.std.specs.Prelude.{◌≡◌, ◌<◌, ◌≤◌, ◌+◌, ℕ, [], ◌∷◌, ◌++◌, length, All, reverse, vec_len, vec_capacity, Some, MatchOption, get_or};
-ghost use Rattle.tile_index.specs.declared.entry.Entry.{Entry};
-ghost use Rattle.tile_index.specs.Index.{found_at, changed_at, IsRising, AreSmall};
-ghost use Rattle.tile_index.specs.Moves.{MovesAfter, DropsAt};
-ghost use Rattle.std.specs.List.{AllByRecursion};
+ghost use Rattle.std.specs.Prelude.{◌≡◌, ◌≤◌, ◌+◌, ℕ, [], ◌++◌, reverse, vec_len, vec_capacity};
+ghost use Rattle.tile_index.specs.Index.{found_at, changed_at, IsIndex, AreChanges};
+ghost use Rattle.tile_index.specs.Moves.{AreApart, ArePartedAt};
 
 use crate::entry::Entry;
 
-/// The last tile of a list.
-fn last_tile(entries: &[(u64, Entry)]) -> Option<u64>
-    ensures { MatchOption result (entries.now ≡ [])
-        (λ tile. (0 < length entries.now) × ((k : ℕ) (d : ℕ × Entry) → k + 1 ≡ length entries.now → (get_or entries.now k d).0 ≡ tile)) }
-{
-    match entries {
-        [] => None,
-        [.., (tile, _)] => Some(*tile),
-    }
-}
-
-/// Moves the entries after a tile from the end of one list to the end of another.
+/// Moves the entries after a tile from the end of one list to the end of another, and drops that of the tile.
 fn move_after(entries: &mut Vec<(u64, Entry)>, moved: &mut Vec<(u64, Entry)>, tile: u64)
-    requires rising { IsRising entries.old.items }
+    requires apart { AreApart tile entries.old.items (reverse moved.old.items) }
     requires room { vec_len entries.old + vec_len moved.old ≤ vec_capacity moved.old }
-    ensures moved { MovesAfter tile entries.old.items entries.new.items moved.old.items moved.new.items }
-    ensures left { AllByRecursion (λ (x : ℕ × Entry). x.0 ≤ tile) entries.new.items }
+    ensures parted { ArePartedAt tile (entries.old.items ++ reverse moved.old.items)
+        entries.new.items (reverse moved.new.items) }
     ensures fewer { vec_len entries.new + vec_len moved.new ≤ vec_len entries.old + vec_len moved.old }
     ensures room { vec_capacity moved.old ≤ vec_capacity moved.new }
 {
-    while let Some(last) = last_tile(entries) {
-        if last <= tile {
+    while let Some(pair) = entries.pop() {
+        if pair.0 < tile {
+            entries.push(pair).unwrap();
             return;
         }
-        let pair = entries.pop().unwrap();
-        moved.push(pair).unwrap();
-    }
-}
-
-/// Drops the last entry if it is that of a tile.
-fn drop_at(entries: &mut Vec<(u64, Entry)>, tile: u64)
-    requires rising { IsRising entries.old.items }
-    requires last { AllByRecursion (λ (x : ℕ × Entry). x.0 ≤ tile) entries.old.items }
-    ensures dropped { DropsAt tile entries.old.items entries.new.items }
-    ensures fewer { vec_len entries.new ≤ vec_len entries.old }
-{
-    if last_tile(entries) == Some(tile) {
-        let _dropped = entries.pop();
+        if pair.0 != tile {
+            moved.push(pair).unwrap();
+        }
     }
 }
 
@@ -65,18 +42,15 @@ pub fn merged(
     mut changes: Vec<(u64, Option<Entry>)>,
     mut room: Vec<(u64, Entry)>,
 ) -> Vec<(u64, Entry)>
-    requires rising { IsRising entries.items }
-    requires rising_changes { IsRising changes.items }
-    requires small { AreSmall entries.items }
-    requires small_changes { AreSmall changes.items }
+    requires index { IsIndex entries.items }
+    requires changes { AreChanges changes.items entries.items }
     requires empty { room.items ≡ [] }
     requires room { vec_len entries + vec_len changes ≤ vec_capacity room }
     ensures changed { (tile : ℕ) → found_at tile result.items ≡ changed_at tile changes.items entries.items }
-    ensures rising { IsRising result.items }
+    ensures index { IsIndex result.items }
 {
     while let Some((tile, change)) = changes.pop() {
         move_after(&mut entries, &mut room, tile);
-        drop_at(&mut entries, tile);
         if let Some(entry) = change {
             room.push((tile, entry)).unwrap();
         }

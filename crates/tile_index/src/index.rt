@@ -3,7 +3,7 @@
 ghost use Rattle.std.specs.Prelude.{◌≡◌, ◌<◌, ◌≤◌, ◌^◌, ℕ, [], ◌++◌, length, flat_map, All, Option, None, Some, IfOk, OnOk, OnErr, option_copied, get_or, slice_index_or};
 ghost use Rattle.tile_index.specs.declared.entry.Entry.{Entry};
 ghost use Rattle.tile_index.specs.Entries.{IsEntry};
-ghost use Rattle.tile_index.specs.Index.{found_at, changed_at, IsRising, AreSmall, IsPair, ArePairs, IsIndex};
+ghost use Rattle.tile_index.specs.Index.{found_at, changed_at, IsRising, AreSmall, AreEntries, IsIndex};
 
 use crate::changes::merged;
 use crate::entry::Entry;
@@ -30,26 +30,6 @@ impl Model for TileIndex {
     ghost invariant = { λ i. IsIndex i.entries.items };
 }
 
-/// The first place whose tile is not before a tile.
-fn place_of(entries: &[(u64, Entry)], tile: u64) -> usize
-    requires { IsRising entries.now }
-    ensures within { result ≤ length entries.now }
-    ensures before { (k : ℕ) (d : ℕ × Entry) → k < result → (get_or entries.now k d).0 < tile }
-    ensures from { (k : ℕ) (d : ℕ × Entry) → result ≤ k → k < length entries.now → tile ≤ (get_or entries.now k d).0 }
-{
-    let mut low = 0;
-    let mut high = entries.len();
-    while low < high {
-        let middle = low + (high - low) / 2;
-        if entries[middle].0 < tile {
-            low = middle + 1;
-        } else {
-            high = middle;
-        }
-    }
-    low
-}
-
 impl TileIndex {
     /// An index without tiles.
     pub fn new(alloc: Global) -> TileIndex
@@ -73,12 +53,10 @@ impl TileIndex {
         ensures { option_copied result ≡ found_at tile self.now }
     {
         let entries = self.as_slice();
-        let place = place_of(entries, tile);
-        if place == entries.len() {
-            return None;
+        match entries.binary_search_by_key(&tile, |pair| pair.0) {
+            Ok(place) => Some(&entries[place].1),
+            Err(_) => None,
         }
-        let (number, entry) = &entries[place];
-        if *number == tile { Some(entry) } else { None }
     }
 
     /// The pairs of a tile and its entry, in rising order.
@@ -94,7 +72,7 @@ impl TileIndex {
     pub fn replace_all(&mut self, changes: Vec<(u64, Option<Entry>)>) -> Result<(), AllocError>
         requires rising { IsRising changes.items }
         requires small { AreSmall changes.items }
-        requires entries { (tile : ℕ) (entry : Entry) → found_at tile changes.items ≡ Some (Some entry) → IsEntry entry }
+        requires entries { AreEntries changes.items }
         requires room { (tile : ℕ) × (tile < 2 ^ 32) × (changed_at tile changes.items self.old ≡ None) }
         ensures changed { OnOk result ((tile : ℕ) → found_at tile self.new ≡ changed_at tile changes.items self.old) }
         ensures unchanged { OnErr result (self.new ≡ self.old) }

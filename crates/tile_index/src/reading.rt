@@ -1,10 +1,9 @@
 //! Bytes as an index.
 
-ghost use Rattle.std.specs.Prelude.{◌≡◌, ◌++◌, ◌<◌, ◌≤◌, ◌*◌, ◌^◌, ℕ, List, length, All, flat_map, IfOk, OnOk, IsErrOf};
-ghost use Rattle.tile_index.specs.declared.entry.Entry.{Entry};
-ghost use Rattle.tile_index.specs.Entries.{IsEntry};
-ghost use Rattle.tile_index.specs.Index.{IsIndex, ArePairs, IsPair};
-ghost use Rattle.tile_index.specs.Bytes.{number_bytes, entry_bytes, index_bytes};
+ghost use Rattle.std.specs.Prelude.{◌≡◌, ◌++◌, ◌<◌, ◌≤◌, ◌*◌, length, flat_map, IfOk, IsErrOf};
+ghost use Rattle.file_bytes.specs.Codes.{NoneIsRead};
+ghost use Rattle.tile_index.specs.Index.{IsIndex, IsPair, ArePairs, AreSoMany};
+ghost use Rattle.tile_index.specs.Bytes.{number_bytes, entry_bytes, index_bytes, IsOfNoIndex, IsOfNoOther};
 
 use crate::entry::{BlockList, Entry};
 use crate::error::IndexError;
@@ -18,7 +17,8 @@ const MAX_LENGTH: u32 = 40_960;
 /// The next `count` numbers.
 fn read_numbers(alloc: Global, bytes: &mut Reader, count: usize) -> Result<Vec<u32>, IndexError>
     requires { count ≤ 10 }
-    ensures read { IfOk result (λ numbers. (length numbers.items ≡ count) × (bytes.old ≡ flat_map number_bytes numbers.items ++ bytes.new)) }
+    ensures counted { IfOk result (λ numbers. length numbers.items ≡ count) }
+    ensures read { IfOk result (λ numbers. bytes.old ≡ flat_map number_bytes numbers.items ++ bytes.new) }
     ensures damaged { IsErrOf result IndexError.Damaged → length bytes.old < 4 * count }
 {
     let mut numbers = Vec::with_capacity(alloc, count)?;
@@ -32,9 +32,10 @@ fn read_numbers(alloc: Global, bytes: &mut Reader, count: usize) -> Result<Vec<u
 }
 
 /// The next tile and its entry.
+#[tactic(auto, unfolding(crate::specs::Bytes::entry_bytes))]
 fn read_entry(alloc: Global, bytes: &mut Reader) -> Result<(u64, Entry), IndexError>
     ensures read { IfOk result (λ pair. IsPair pair × (bytes.old ≡ entry_bytes pair ++ bytes.new)) }
-    ensures damaged { IsErrOf result IndexError.Damaged → (pair : ℕ × Entry) (rest : List ℕ) → IsPair pair → bytes.old ≡ entry_bytes pair ++ rest → ⊥ }
+    ensures damaged { IsErrOf result IndexError.Damaged → NoneIsRead IsPair entry_bytes bytes.old }
 {
     let Some(tile) = bytes.read_u32() else {
         return Err(IndexError::Damaged);
@@ -42,7 +43,7 @@ fn read_entry(alloc: Global, bytes: &mut Reader) -> Result<(u64, Entry), IndexEr
     let Some(length) = bytes.read_u32() else {
         return Err(IndexError::Damaged);
     };
-    if length < 1 || MAX_LENGTH < length {
+    if !(1..=MAX_LENGTH).contains(&length) {
         return Err(IndexError::Damaged);
     }
     let blocks = read_numbers(alloc, bytes, length.div_ceil(4096) as usize)?;
@@ -62,7 +63,8 @@ fn read_entries(
     ensures read { IfOk result (λ entries. bytes.old ≡ flat_map entry_bytes entries.items ++ bytes.new) }
     ensures counted { IfOk result (λ entries. length entries.items ≡ count) }
     ensures index { IfOk result (λ entries. ArePairs entries.items) }
-    ensures damaged { IsErrOf result IndexError.Damaged → (entries : List (ℕ × Entry)) (rest : List ℕ) → length entries ≡ count → ArePairs entries → bytes.old ≡ flat_map entry_bytes entries ++ rest → ⊥ }
+    ensures damaged { IsErrOf result IndexError.Damaged
+        → NoneIsRead (AreSoMany count) (flat_map entry_bytes) bytes.old }
 {
     let mut entries = Vec::new(alloc);
     let mut after = 0;
@@ -79,11 +81,12 @@ fn read_entries(
 
 impl TileIndex {
     /// The index whose bytes these are: `Damaged` where they are those of none.
+    #[tactic(auto, unfolding(crate::specs::Bytes::index_bytes))]
     pub fn from_bytes(alloc: Global, bytes: &[u8]) -> Result<TileIndex, IndexError>
         ensures read { IfOk result (λ index. bytes.now ≡ index_bytes index) }
         ensures index { IfOk result (λ index. IsIndex index) }
-        ensures only { IfOk result (λ index. (other : List (ℕ × Entry)) → IsIndex other → bytes.now ≡ index_bytes other → other ≡ index) }
-        ensures damaged { IsErrOf result IndexError.Damaged → (index : List (ℕ × Entry)) → IsIndex index → bytes.now ≡ index_bytes index → ⊥ }
+        ensures only { IfOk result (λ index. IsOfNoOther bytes.now index) }
+        ensures damaged { IsErrOf result IndexError.Damaged → IsOfNoIndex bytes.now }
     {
         let mut bytes = Reader::new(bytes);
         let Some(count) = bytes.read_u32() else {

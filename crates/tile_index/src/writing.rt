@@ -20,6 +20,7 @@ fn push_numbers(bytes: &mut Vec<u8>, numbers: &[u32]) -> Result<(), AllocError>
 }
 
 /// Writes a tile and its entry after the bytes.
+#[tactic(auto, unfolding(crate::specs::Bytes::entry_bytes))]
 fn push_entry(bytes: &mut Vec<u8>, tile: u32, entry: &Entry) -> Result<(), AllocError>
     ensures { OnOk result (bytes.new.items ≡ bytes.old.items ++ entry_bytes (tile, entry.now)) }
 {
@@ -31,6 +32,7 @@ fn push_entry(bytes: &mut Vec<u8>, tile: u32, entry: &Entry) -> Result<(), Alloc
 impl TileIndex {
     /// The bytes of the index, every number in 32 bits with the lowest byte first: how many
     /// entries there are, and for each its tile, its length and its blocks.
+    #[tactic(auto, unfolding(crate::specs::Bytes::index_bytes))]
     pub fn to_bytes(&self, alloc: Global) -> Result<Vec<u8>, AllocError>
         ensures { IfOk result (λ bytes. bytes.items ≡ index_bytes self.now) }
     {

@@ -1,8 +1,8 @@
 -- The greatest and the least of values.
 use Rattle.std.proofs.Common.{◌≡◌, arith, List, [], ◌∷◌, ◌++◌, refl, sym, ap, ◌∙◌, ℤ, ◌≤ℤ◌, ◌<ℤ◌, Option, Some, None, ◌⊎◌, inl, inr}
 use Rattle.std.proofs.lemmas.Int.{ints, by_lt_z}
-use Rattle.wcps_mean.specs.declared.aggregate.Aggregate.{Aggregate}
-use Rattle.wcps_mean.specs.declared.aggregate.Aggregate.TheVariants.{Sum, Product, Greatest, Least, Every, Any, Count, Average}
+use Rattle.wcps_text.specs.declared.operator.Aggregate.{Aggregate}
+use Rattle.wcps_text.specs.declared.operator.Aggregate.TheVariants.{Sum, Product, Greatest, Least, Every, Any, Count, Average}
 use Rattle.wcps_mean.specs.Condensers.{larger, smaller, greatest, least}
 use Rattle.wcps_mean.specs.Best.{greatest_of, least_of}
 use Rattle.tile_kernel.specs.Joins.{better, best_both}

@@ -3,8 +3,8 @@ use Rattle.std.proofs.Common.{◌≡◌, ℕ, zero, suc, ◌+◌, ◌<◌, ◌�
 use Rattle.std.specs.Prelude.{replicate, slice_get}
 use Rattle.std.proofs.lemmas.Option.{slice_get-get_or, slice_get_within}
 use Rattle.std.proofs.lemmas.List.{same_lists, length-map, get_or-map, length-take-le, get_or-take, length-replicate, get_or-replicate}
-use Rattle.wcps_types.specs.declared.typed.Operation1.{Operation1}
-use Rattle.wcps_types.specs.declared.typed.Operation2.{Operation2}
+use Rattle.wcps_text.specs.declared.operator.UnaryOperator.{UnaryOperator}
+use Rattle.wcps_text.specs.declared.operator.BinaryOperator.{BinaryOperator}
 use Rattle.wcps_mean.specs.declared.cell.PointFault.{PointFault}
 use Rattle.wcps_mean.specs.declared.cell.Outcome.{Outcome}
 use Rattle.wcps_mean.specs.declared.cell.Outcome.TheVariants.{Value}
@@ -59,35 +59,35 @@ at_mixed n k zs fs z f d lt h =
 
 -- ---- an operation on two columns
 
-pub length-operate_all : (op : Operation2) (ls rs : List Outcome) → length ls ≡ length rs → length (operate_all op ls rs) ≡ length ls
+pub length-operate_all : (op : BinaryOperator) (ls rs : List Outcome) → length ls ≡ length rs → length (operate_all op ls rs) ≡ length ls
 length-operate_all op [] rs h = refl
 length-operate_all op (l ∷ ls) [] h = absurd (omega arith)
 length-operate_all op (l ∷ ls) (r ∷ rs) h = let e = length-operate_all op ls rs (omega arith) in omega arith
 
-pub get_or-operate_all : (op : Operation2) (ls rs : List Outcome) (k : ℕ) (d e f : Outcome) → k < length ls → k < length rs → get_or (operate_all op ls rs) k d ≡ operate2 op (get_or ls k e) (get_or rs k f)
+pub get_or-operate_all : (op : BinaryOperator) (ls rs : List Outcome) (k : ℕ) (d e f : Outcome) → k < length ls → k < length rs → get_or (operate_all op ls rs) k d ≡ operate2 op (get_or ls k e) (get_or rs k f)
 get_or-operate_all op [] rs k d e f p q = absurd (omega arith)
 get_or-operate_all op (l ∷ ls) [] k d e f p q = absurd (omega arith)
 get_or-operate_all op (l ∷ ls) (r ∷ rs) zero d e f p q = refl
 get_or-operate_all op (l ∷ ls) (r ∷ rs) (suc k) d e f p q = get_or-operate_all op ls rs k d e f (omega arith) (omega arith)
 
 -- the operation of two columns over the same points
-pub operate_all-map : {X : Type 0} (op : Operation2) (f g : X → Outcome) (xs : List X) → operate_all op (map f xs) (map g xs) ≡ map (λ x. operate2 op (f x) (g x)) xs
+pub operate_all-map : {X : Type 0} (op : BinaryOperator) (f g : X → Outcome) (xs : List X) → operate_all op (map f xs) (map g xs) ≡ map (λ x. operate2 op (f x) (g x)) xs
 operate_all-map op f g [] = refl
 operate_all-map op f g (x ∷ xs) = ap (λ l. operate2 op (f x) (g x) ∷ l) (operate_all-map op f g xs)
 
 -- a column that has the operation's outcome at each place
-pub operated : (op : Operation2) (ls rs os : List Outcome) → length ls ≡ length rs → length os ≡ length ls → ((k : ℕ) (d : Outcome) → k < length ls → get_or os k d ≡ operate2 op (outcome_at ls k) (outcome_at rs k)) → os ≡ operate_all op ls rs
+pub operated : (op : BinaryOperator) (ls rs os : List Outcome) → length ls ≡ length rs → length os ≡ length ls → ((k : ℕ) (d : Outcome) → k < length ls → get_or os k d ≡ operate2 op (outcome_at ls k) (outcome_at rs k)) → os ≡ operate_all op ls rs
 operated op ls rs os h n at =
     let m = length-operate_all op ls rs h in
     same_lists os (operate_all op ls rs) (omega arith) (λ k d lt. at k d (omega arith) ∙ sym (get_or-operate_all op ls rs k d (Value (pos 0)) (Value (pos 0)) (omega arith) (omega arith)))
 
-pub operated_values : (op : Operation2) (ls rs : List Outcome) (n : ℕ) (zs : List ℤ) (fs : List (Option PointFault)) → IsRoomy n zs fs → length ls ≡ length rs → n ≡ length ls → ((k : ℕ) → k < length ls → operate2 op (outcome_at ls k) (outcome_at rs k) ≡ Value (get_or zs k (pos 0))) → seen Values n zs fs ≡ operate_all op ls rs
+pub operated_values : (op : BinaryOperator) (ls rs : List Outcome) (n : ℕ) (zs : List ℤ) (fs : List (Option PointFault)) → IsRoomy n zs fs → length ls ≡ length rs → n ≡ length ls → ((k : ℕ) → k < length ls → operate2 op (outcome_at ls k) (outcome_at rs k) ≡ Value (get_or zs k (pos 0))) → seen Values n zs fs ≡ operate_all op ls rs
 operated_values op ls rs n zs fs room h e at = operated op ls rs (seen Values n zs fs) h (length-seen Values n zs fs room ∙ e) (λ k d lt. at_values n k zs fs (pos 0) d (omega arith) room ∙ sym (at k lt))
 
-pub operated_mixed : (op : Operation2) (ls rs : List Outcome) (n : ℕ) (zs : List ℤ) (fs : List (Option PointFault)) → IsRoomy n zs fs → length ls ≡ length rs → n ≡ length ls → ((k : ℕ) → k < length ls → outcome_of (get_or zs k (pos 0)) (get_or fs k None) ≡ operate2 op (outcome_at ls k) (outcome_at rs k)) → seen Mixed n zs fs ≡ operate_all op ls rs
+pub operated_mixed : (op : BinaryOperator) (ls rs : List Outcome) (n : ℕ) (zs : List ℤ) (fs : List (Option PointFault)) → IsRoomy n zs fs → length ls ≡ length rs → n ≡ length ls → ((k : ℕ) → k < length ls → outcome_of (get_or zs k (pos 0)) (get_or fs k None) ≡ operate2 op (outcome_at ls k) (outcome_at rs k)) → seen Mixed n zs fs ≡ operate_all op ls rs
 operated_mixed op ls rs n zs fs room h e at = operated op ls rs (seen Mixed n zs fs) h (length-seen Mixed n zs fs room ∙ e) (λ k d lt. at_mixed n k zs fs (pos 0) None d (omega arith) room ∙ at k lt)
 
-pub operated_same : (op : Operation2) (l r o : Outcome) (n m : ℕ) → n ≡ m → o ≡ operate2 op l r → replicate n o ≡ operate_all op (replicate n l) (replicate m r)
+pub operated_same : (op : BinaryOperator) (l r o : Outcome) (n m : ℕ) → n ≡ m → o ≡ operate2 op l r → replicate n o ≡ operate_all op (replicate n l) (replicate m r)
 operated_same op l r o n m e h =
     let a = length-replicate n l in
     let b = length-replicate m r in
@@ -158,7 +158,7 @@ copied_all cells all le at =
     let l : k < length cells = omega arith in
     get_or-take (length cells) all k d l ∙ other_default all k d (pos 0) (omega arith) ∙ at k l ∙ other_default cells k (pos 0) d l)
 
-pub operated_scalars : (op : Operation2) (f g : Form) (n m : ℕ) (zs ys : List ℤ) (fs gs : List (Option PointFault)) (ls rs : List Outcome) (l r o : Outcome) → f ≡ Same l → g ≡ Same r → seen f n zs fs ≡ ls → seen g m ys gs ≡ rs → IsRoomy n zs fs → IsRoomy m ys gs → length ls ≡ length rs → o ≡ operate2 op l r → replicate n o ≡ operate_all op ls rs
+pub operated_scalars : (op : BinaryOperator) (f g : Form) (n m : ℕ) (zs ys : List ℤ) (fs gs : List (Option PointFault)) (ls rs : List Outcome) (l r o : Outcome) → f ≡ Same l → g ≡ Same r → seen f n zs fs ≡ ls → seen g m ys gs ≡ rs → IsRoomy n zs fs → IsRoomy m ys gs → length ls ≡ length rs → o ≡ operate2 op l r → replicate n o ≡ operate_all op ls rs
 operated_scalars op f g n m zs ys fs gs ls rs l r o p q v w a b same e =
     let x : replicate n l ≡ ls = ap (λ h. seen h n zs fs) (sym p) ∙ v in
     let y : replicate m r ≡ rs = ap (λ h. seen h m ys gs) (sym q) ∙ w in
@@ -168,18 +168,18 @@ operated_scalars op f g n m zs ys fs gs ls rs l r o p q v w a b same e =
 
 -- ---- an operation on one column
 
-operated_one : (op : Operation1) (ls os : List Outcome) → length os ≡ length ls → ((k : ℕ) (d : Outcome) → k < length ls → get_or os k d ≡ operate1 op (outcome_at ls k)) → os ≡ map (operate1 op) ls
+operated_one : (op : UnaryOperator) (ls os : List Outcome) → length os ≡ length ls → ((k : ℕ) (d : Outcome) → k < length ls → get_or os k d ≡ operate1 op (outcome_at ls k)) → os ≡ map (operate1 op) ls
 operated_one op ls os n at =
     let m = length-map ls (operate1 op) in
     same_lists os (map (operate1 op) ls) (omega arith) (λ k d lt. at k d (omega arith) ∙ sym (get_or-map (operate1 op) ls k (Value (pos 0)) d (omega arith)))
 
-pub operated_one_values : (op : Operation1) (ls : List Outcome) (n : ℕ) (zs : List ℤ) (fs : List (Option PointFault)) → IsRoomy n zs fs → n ≡ length ls → ((k : ℕ) → k < length ls → operate1 op (outcome_at ls k) ≡ Value (get_or zs k (pos 0))) → seen Values n zs fs ≡ map (operate1 op) ls
+pub operated_one_values : (op : UnaryOperator) (ls : List Outcome) (n : ℕ) (zs : List ℤ) (fs : List (Option PointFault)) → IsRoomy n zs fs → n ≡ length ls → ((k : ℕ) → k < length ls → operate1 op (outcome_at ls k) ≡ Value (get_or zs k (pos 0))) → seen Values n zs fs ≡ map (operate1 op) ls
 operated_one_values op ls n zs fs room e at = operated_one op ls (seen Values n zs fs) (length-seen Values n zs fs room ∙ e) (λ k d lt. at_values n k zs fs (pos 0) d (omega arith) room ∙ sym (at k lt))
 
-pub operated_one_mixed : (op : Operation1) (ls : List Outcome) (n : ℕ) (zs : List ℤ) (fs : List (Option PointFault)) → IsRoomy n zs fs → n ≡ length ls → ((k : ℕ) → k < length ls → outcome_of (get_or zs k (pos 0)) (get_or fs k None) ≡ operate1 op (outcome_at ls k)) → seen Mixed n zs fs ≡ map (operate1 op) ls
+pub operated_one_mixed : (op : UnaryOperator) (ls : List Outcome) (n : ℕ) (zs : List ℤ) (fs : List (Option PointFault)) → IsRoomy n zs fs → n ≡ length ls → ((k : ℕ) → k < length ls → outcome_of (get_or zs k (pos 0)) (get_or fs k None) ≡ operate1 op (outcome_at ls k)) → seen Mixed n zs fs ≡ map (operate1 op) ls
 operated_one_mixed op ls n zs fs room e at = operated_one op ls (seen Mixed n zs fs) (length-seen Mixed n zs fs room ∙ e) (λ k d lt. at_mixed n k zs fs (pos 0) None d (omega arith) room ∙ at k lt)
 
-pub operated_one_scalar : (op : Operation1) (f : Form) (n : ℕ) (zs : List ℤ) (fs : List (Option PointFault)) (ls : List Outcome) (l o : Outcome) → f ≡ Same l → seen f n zs fs ≡ ls → IsRoomy n zs fs → o ≡ operate1 op l → replicate n o ≡ map (operate1 op) ls
+pub operated_one_scalar : (op : UnaryOperator) (f : Form) (n : ℕ) (zs : List ℤ) (fs : List (Option PointFault)) (ls : List Outcome) (l o : Outcome) → f ≡ Same l → seen f n zs fs ≡ ls → IsRoomy n zs fs → o ≡ operate1 op l → replicate n o ≡ map (operate1 op) ls
 operated_one_scalar op f n zs fs ls l o p v room e =
     let x : replicate n l ≡ ls = ap (λ h. seen h n zs fs) (sym p) ∙ v in
     let i = length-replicate n l in

@@ -5,8 +5,8 @@ use Rattle.std.proofs.lemmas.Int.{ints}
 use Rattle.std.proofs.lemmas.List.{append-nil}
 use Rattle.std.proofs.lemmas.Bool.{cases_eq, eq-eqb, ne_eqb, lt-ltb}
 use Rattle.wcps_mean.specs.declared.product.Product.{Product}
-use Rattle.wcps_mean.specs.declared.aggregate.Aggregate.{Aggregate}
-use Rattle.wcps_mean.specs.declared.aggregate.Aggregate.TheVariants as kinds
+use Rattle.wcps_text.specs.declared.operator.Aggregate.{Aggregate}
+use Rattle.wcps_text.specs.declared.operator.Aggregate.TheVariants as aggregates
 use Rattle.wcps_mean.specs.declared.running.Running.{Running}
 use Rattle.wcps_mean.specs.Feeding.{Keeps}
 use Rattle.wcps_mean.specs.Cells.{is_true}
@@ -169,8 +169,8 @@ pub any_trues : (zs : List ℤ) → any zs ≡ nat_lt 0 (trues zs)
 any_trues [] = refl
 any_trues (z ∷ zs) = ap (λ b. is_true z || b) (any_trues zs) ∙ any_more (is_true z) (trues zs)
 
-pub keeps_every : (op : Aggregate) (r : Running) (zs : List ℤ) → op ≡ kinds.Every → r.all ≡ every zs → Keeps op r zs
+pub keeps_every : (op : Aggregate) (r : Running) (zs : List ℤ) → op ≡ aggregates.Every → r.all ≡ every zs → Keeps op r zs
 keeps_every op r zs o e = subst (λ op. Keeps op r zs) (sym o) e
 
-pub keeps_any : (op : Aggregate) (r : Running) (zs : List ℤ) → op ≡ kinds.Any → r.some ≡ any zs → Keeps op r zs
+pub keeps_any : (op : Aggregate) (r : Running) (zs : List ℤ) → op ≡ aggregates.Any → r.some ≡ any zs → Keeps op r zs
 keeps_any op r zs o e = subst (λ op. Keeps op r zs) (sym o) e

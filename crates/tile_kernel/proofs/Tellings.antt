@@ -7,7 +7,7 @@ use Rattle.std.proofs.Common.{length-append}
 use Rattle.std.proofs.lemmas.List.{take_more, append-nil, append_assoc, length-replicate, get_or-replicate}
 use Rattle.std.proofs.lemmas.List.Elements.{All-cons, All-nil, All-append}
 use Rattle.wcps_mean.specs.declared.running.Running.{Running}
-use Rattle.wcps_mean.specs.declared.aggregate.Aggregate.{Aggregate}
+use Rattle.wcps_text.specs.declared.operator.Aggregate.{Aggregate}
 use Rattle.wcps_mean.specs.declared.cell.Outcome.{Outcome}
 use Rattle.wcps_mean.specs.declared.cell.Outcome.TheVariants.{Value, Fault}
 use Rattle.wcps_mean.specs.Cells.{is_true}

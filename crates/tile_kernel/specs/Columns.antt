@@ -1,7 +1,7 @@
 -- Columns as lists of outcomes.
 use Rattle.std.specs.Prelude.{◌≡◌, ℕ, ◌<◌, ◌≤◌, ℤ, pos, List, [], ◌∷◌, map, length, take, replicate, slice_index_or, Option, Some, None}
-use Rattle.wcps_types.specs.declared.typed.Operation1.{Operation1}
-use Rattle.wcps_types.specs.declared.typed.Operation2.{Operation2}
+use Rattle.wcps_text.specs.declared.operator.UnaryOperator.{UnaryOperator}
+use Rattle.wcps_text.specs.declared.operator.BinaryOperator.{BinaryOperator}
 use Rattle.wcps_mean.specs.declared.cell.PointFault.{PointFault}
 use Rattle.wcps_mean.specs.declared.cell.Outcome.{Outcome}
 use Rattle.wcps_mean.specs.declared.cell.Outcome.TheVariants.{Value, Fault}
@@ -36,14 +36,14 @@ abbrev pub outcome_at : List Outcome → ℕ → Outcome
 outcome_at column k = slice_index_or column k (Value (pos 0))
 
 -- the operation at a place
-abbrev pub each1 : Operation1 → List Outcome → ℕ → Outcome
+abbrev pub each1 : UnaryOperator → List Outcome → ℕ → Outcome
 each1 op column k = operate1 op (outcome_at column k)
 
-abbrev pub each2 : Operation2 → List Outcome → List Outcome → ℕ → Outcome
+abbrev pub each2 : BinaryOperator → List Outcome → List Outcome → ℕ → Outcome
 each2 op left right k = operate2 op (outcome_at left k) (outcome_at right k)
 
 -- with a value on the left
-abbrev pub each_with : Operation2 → (ℕ → ℤ) → List Outcome → ℕ → Outcome
+abbrev pub each_with : BinaryOperator → (ℕ → ℤ) → List Outcome → ℕ → Outcome
 each_with op left right k = operate2 op (Value (left k)) (outcome_at right k)
 
 -- each of the first n outcomes is the value there
@@ -55,7 +55,7 @@ abbrev pub AreOutcomes : ℕ → (ℕ → Outcome) → List ℤ → List (Option
 AreOutcomes n outcomes zs fs = (k : ℕ) → k < n → outcome_of (slice_index_or zs k (pos 0)) (slice_index_or fs k None) ≡ outcomes k
 
 -- the operation at each place
-abbrev pub operate_all : Operation2 → List Outcome → List Outcome → List Outcome
+abbrev pub operate_all : BinaryOperator → List Outcome → List Outcome → List Outcome
 operate_all op [] rs = []
 operate_all op (l ∷ ls) [] = []
 operate_all op (l ∷ ls) (r ∷ rs) = operate2 op l r ∷ operate_all op ls rs

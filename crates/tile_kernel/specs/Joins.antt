@@ -1,7 +1,7 @@
 -- What is kept of two lists of values at once.
 use Rattle.std.specs.Prelude.{ℤ, List, ◌++◌, Option, Some, None}
-use Rattle.wcps_mean.specs.declared.aggregate.Aggregate.{Aggregate}
-use Rattle.wcps_mean.specs.declared.aggregate.Aggregate.TheVariants.{Greatest}
+use Rattle.wcps_text.specs.declared.operator.Aggregate.{Aggregate}
+use Rattle.wcps_text.specs.declared.operator.Aggregate.TheVariants.{Greatest}
 use Rattle.wcps_mean.specs.Condensers.{larger, smaller}
 
 -- what holds of one list and what holds of another give what holds of both, one after the other

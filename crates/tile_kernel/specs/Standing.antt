@@ -1,7 +1,7 @@
 -- What an accumulator stands for.
 use Rattle.std.specs.Prelude.{◌≡◌, ℕ, ◌<◌, ◌≤◌, List, ◌++◌, length, slice_index_or, Bool}
 use Rattle.std.specs.List.{All}
-use Rattle.wcps_mean.specs.declared.aggregate.Aggregate.{Aggregate}
+use Rattle.wcps_text.specs.declared.operator.Aggregate.{Aggregate}
 use Rattle.wcps_mean.specs.declared.cell.Outcome.{Outcome}
 use Rattle.wcps_mean.specs.Condensers.{values}
 use Rattle.wcps_mean.specs.Feeding.{Keeps}

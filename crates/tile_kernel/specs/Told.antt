@@ -5,7 +5,7 @@ use Rattle.std.specs.List.Sorted.{IsPermutation}
 use Rattle.wcps_mean.specs.declared.cell.PointFault.{PointFault}
 use Rattle.wcps_mean.specs.declared.cell.Outcome.{Outcome}
 use Rattle.wcps_mean.specs.declared.cell.Outcome.TheVariants.{Value, Fault}
-use Rattle.wcps_mean.specs.declared.aggregate.Aggregate.{Aggregate}
+use Rattle.wcps_text.specs.declared.operator.Aggregate.{Aggregate}
 use Rattle.wcps_mean.specs.Condensers.{demanded, condensed}
 use Rattle.tile_kernel.specs.Columns.{outcome_at}
 

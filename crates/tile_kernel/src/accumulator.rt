@@ -5,7 +5,8 @@ ghost use Rattle.tile_kernel.specs.Told.{Told, IsFirst};
 ghost use Rattle.tile_kernel.specs.Joins.{HoldsOfBoth};
 
 use crate::joined::joined;
-use wcps_mean::{Aggregate, Outcome, PointFault, Running, is_set};
+use wcps_mean::{Outcome, PointFault, Running, is_set};
+use wcps_text::Aggregate;
 
 /// What is kept of the points of a box, at most 2^24 of them, that a condenser has been told of. The order of telling
 /// does not matter: sums are exact in 128 bits, products keep sign, magnitude and whether there is a zero, and of the

@@ -1,7 +1,7 @@
 //! Condensers over columns.
 
 ghost use Rattle.std.specs.Prelude.{◌≡◌, ℕ, ◌+◌, ◌<◌, ◌≤◌, ◌^◌, [], ◌∷◌, length, IfSome};
-ghost use Rattle.wcps_mean.specs.declared.aggregate.Aggregate.{Aggregate};
+ghost use Rattle.wcps_text.specs.declared.operator.Aggregate.{Aggregate};
 ghost use Rattle.tile_kernel.specs.Columns.{outcome_at};
 ghost use Rattle.tile_kernel.specs.Told.{told_at, demanded_at, demanded_from};
 ghost use Rattle.tile_kernel.specs.Standing.{Stands, AreOf, HaveAtMost, EachTakesIn, IsCondensed};
@@ -13,7 +13,8 @@ use crate::column::Column;
 use crate::form::Form;
 use crate::operand::{Each, Same};
 use crate::reduce::condense_values;
-use wcps_mean::{Aggregate, Outcome, is_set};
+use wcps_mean::{Outcome, is_set};
+use wcps_text::Aggregate;
 
 /// What a condenser keeps of those places of a column that count, where no outcome of the column is a fault.
 fn condense_column<C: Choice>(op: Aggregate, column: &Column, choice: &C) -> Option<Accumulator>

@@ -8,7 +8,8 @@ ghost use Rattle.wcps_mean.specs.Products.{StandsFor};
 ghost use Rattle.wcps_mean.specs.Feeding.{Keeps};
 ghost use Rattle.tile_kernel.specs.Joins.{HoldsOfBoth, better, best_both};
 
-use wcps_mean::{Aggregate, PointFault, Product, Running};
+use wcps_mean::{PointFault, Product, Running};
+use wcps_text::Aggregate;
 
 /// What two condensers of one kind keep together, and the fault that stands for both.
 pub(crate) fn joined(a: &Running, b: &Running, fault: Option<PointFault>) -> Running

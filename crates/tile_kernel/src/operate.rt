@@ -2,7 +2,7 @@
 
 ghost use Rattle.std.specs.Prelude.{◌≡◌, ◌≤◌, length, IsTrue};
 ghost use Rattle.wcps_mean.specs.Cells.{exact2};
-ghost use Rattle.wcps_types.specs.declared.typed.Operation2.TheVariants.{Multiply};
+ghost use Rattle.wcps_text.specs.declared.operator.BinaryOperator.TheVariants.{Multiply};
 ghost use Rattle.tile_kernel.specs.Columns.{operate_all, each2, each_with, AreValues, AreOutcomes};
 
 use crate::column::{Column, parts};
@@ -14,12 +14,12 @@ use crate::operations::{
     NarrowProduct, OneOnly, Product, Quotient, Sum,
 };
 use wcps_mean::{Outcome, PointFault, operate_both};
-use wcps_types::Operation2;
+use wcps_text::BinaryOperator;
 
 /// Makes `out` the operation at each place: the left operand's fault, else the right one's, else the exact result,
 /// tested. It takes no memory. Operands without faults are tried in one loop; only where some result there is no value
 /// is each place taken by itself.
-pub fn operate_columns(op: Operation2, left: &Column, right: &Column, out: &mut Column)
+pub fn operate_columns(op: BinaryOperator, left: &Column, right: &Column, out: &mut Column)
     requires { length left.now ≡ length right.now }
     ensures { out.new ≡ operate_all op left.now right.now }
 {
@@ -39,7 +39,7 @@ pub fn operate_columns(op: Operation2, left: &Column, right: &Column, out: &mut 
 }
 
 /// Tries an operation where no operand has a fault; tells whether each result is its outcome.
-fn try_columns(op: Operation2, left: &Column, right: &Column, out: &mut Vec<i64>) -> bool
+fn try_columns(op: BinaryOperator, left: &Column, right: &Column, out: &mut Vec<i64>) -> bool
     requires same { length left.now ≡ length right.now }
     requires room { length out.old.items ≡ 4096 }
     ensures value { IsTrue result → AreValues (length left.now) (each2 op left.now right.now) out.new.items }
@@ -63,7 +63,7 @@ fn try_columns(op: Operation2, left: &Column, right: &Column, out: &mut Vec<i64>
 
 /// Tries an operation whose right operand is a column.
 fn try_right<L: Operand>(
-    op: Operation2,
+    op: BinaryOperator,
     len: usize,
     left: &L,
     right: &Column,
@@ -91,7 +91,7 @@ fn try_right<L: Operand>(
 
 /// Tries an operation at the first `len` places; tells whether each result is its value.
 fn try_operation<L: Operand, R: Operand>(
-    op: Operation2,
+    op: BinaryOperator,
     len: usize,
     left: &L,
     right: &R,
@@ -103,20 +103,20 @@ fn try_operation<L: Operand, R: Operand>(
     ensures { IsTrue result → AreValues len (λ k. exact2 op (L.value left.now k) (R.value right.now k)) out.new }
 {
     match op {
-        Operation2::Multiply => try_product(len, left, right, out),
-        Operation2::Divide => try_places::<Quotient, L, R>(len, left, right, out),
-        Operation2::Add => try_places::<Sum, L, R>(len, left, right, out),
-        Operation2::Subtract => try_places::<Difference, L, R>(len, left, right, out),
-        Operation2::Less => try_places::<IsLess, L, R>(len, left, right, out),
-        Operation2::LessEqual => try_places::<IsAtMost, L, R>(len, left, right, out),
-        Operation2::Greater => try_places::<IsGreater, L, R>(len, left, right, out),
-        Operation2::GreaterEqual => try_places::<IsAtLeast, L, R>(len, left, right, out),
-        Operation2::Equal => try_places::<IsEqual, L, R>(len, left, right, out),
-        Operation2::NotEqual => try_places::<IsOther, L, R>(len, left, right, out),
-        Operation2::And => try_places::<Both, L, R>(len, left, right, out),
-        Operation2::Or => try_places::<Either, L, R>(len, left, right, out),
-        Operation2::Xor => try_places::<OneOnly, L, R>(len, left, right, out),
-        Operation2::Bit => try_places::<BitSet, L, R>(len, left, right, out),
+        BinaryOperator::Multiply => try_product(len, left, right, out),
+        BinaryOperator::Divide => try_places::<Quotient, L, R>(len, left, right, out),
+        BinaryOperator::Add => try_places::<Sum, L, R>(len, left, right, out),
+        BinaryOperator::Subtract => try_places::<Difference, L, R>(len, left, right, out),
+        BinaryOperator::Less => try_places::<IsLess, L, R>(len, left, right, out),
+        BinaryOperator::LessEqual => try_places::<IsAtMost, L, R>(len, left, right, out),
+        BinaryOperator::Greater => try_places::<IsGreater, L, R>(len, left, right, out),
+        BinaryOperator::GreaterEqual => try_places::<IsAtLeast, L, R>(len, left, right, out),
+        BinaryOperator::Equal => try_places::<IsEqual, L, R>(len, left, right, out),
+        BinaryOperator::NotEqual => try_places::<IsOther, L, R>(len, left, right, out),
+        BinaryOperator::And => try_places::<Both, L, R>(len, left, right, out),
+        BinaryOperator::Or => try_places::<Either, L, R>(len, left, right, out),
+        BinaryOperator::Xor => try_places::<OneOnly, L, R>(len, left, right, out),
+        BinaryOperator::Bit => try_places::<BitSet, L, R>(len, left, right, out),
     }
 }
 
@@ -135,7 +135,7 @@ fn try_product<L: Operand, R: Operand>(len: usize, left: &L, right: &R, out: &mu
 
 /// The operation place by place.
 fn operate_each(
-    op: Operation2,
+    op: BinaryOperator,
     left: &Column,
     right: &Column,
     values: &mut Vec<i64>,

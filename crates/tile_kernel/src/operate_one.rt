@@ -10,10 +10,10 @@ use crate::loops::try_places;
 use crate::operand::{Each, Same};
 use crate::operations::{Itself, Magnitude, Negative, Opposite};
 use wcps_mean::{PointFault, operate};
-use wcps_types::Operation1;
+use wcps_text::UnaryOperator;
 
 /// Makes `out` the operation at each place: the operand's fault, else the exact result, tested. It takes no memory.
-pub fn operate_column(op: Operation1, operand: &Column, out: &mut Column)
+pub fn operate_column(op: UnaryOperator, operand: &Column, out: &mut Column)
     ensures { out.new ≡ map (operate1 op) operand.now }
 {
     out.len = operand.len;
@@ -30,7 +30,7 @@ pub fn operate_column(op: Operation1, operand: &Column, out: &mut Column)
 }
 
 /// Tries an operation where the operand has no fault; tells whether each result is its outcome.
-fn try_column(op: Operation1, operand: &Column, out: &mut Vec<i64>) -> bool
+fn try_column(op: UnaryOperator, operand: &Column, out: &mut Vec<i64>) -> bool
     requires { length out.old.items ≡ 4096 }
     ensures value { IsTrue result → AreValues (length operand.now) (each1 op operand.now) out.new.items }
     ensures room { length out.new.items ≡ 4096 }
@@ -49,7 +49,7 @@ fn try_column(op: Operation1, operand: &Column, out: &mut Vec<i64>) -> bool
 }
 
 /// Tries an operation at the first `len` places; tells whether each result is its value.
-fn try_one(op: Operation1, len: usize, operand: &Each<'_>, out: &mut [i64]) -> bool
+fn try_one(op: UnaryOperator, len: usize, operand: &Each<'_>, out: &mut [i64]) -> bool
     requires operand { len ≤ length operand.now.values.now }
     requires few { len ≤ 4096 }
     requires out { len ≤ length out.old }
@@ -57,16 +57,18 @@ fn try_one(op: Operation1, len: usize, operand: &Each<'_>, out: &mut [i64]) -> b
 {
     let none = Same { value: 0 };
     match op {
-        Operation1::Negate => try_places::<Negative, Each<'_>, Same>(len, operand, &none, out),
-        Operation1::Plus => try_places::<Itself, Each<'_>, Same>(len, operand, &none, out),
-        Operation1::Not => try_places::<Opposite, Each<'_>, Same>(len, operand, &none, out),
-        Operation1::Absolute => try_places::<Magnitude, Each<'_>, Same>(len, operand, &none, out),
+        UnaryOperator::Negate => try_places::<Negative, Each<'_>, Same>(len, operand, &none, out),
+        UnaryOperator::Plus => try_places::<Itself, Each<'_>, Same>(len, operand, &none, out),
+        UnaryOperator::Not => try_places::<Opposite, Each<'_>, Same>(len, operand, &none, out),
+        UnaryOperator::Absolute => try_places::<Magnitude, Each<'_>, Same>(
+            len, operand, &none, out,
+        ),
     }
 }
 
 /// The operation place by place.
 fn operate_each_one(
-    op: Operation1,
+    op: UnaryOperator,
     operand: &Column,
     values: &mut Vec<i64>,
     faults: &mut Vec<Option<PointFault>>,

@@ -26,7 +26,7 @@ pub(crate) struct Sum;
 
 impl Trial for Sum {
     ghost use Rattle.wcps_mean.specs.Cells.{exact2};
-    ghost use Rattle.wcps_types.specs.declared.typed.Operation2.TheVariants.{Add};
+    ghost use Rattle.wcps_text.specs.declared.operator.BinaryOperator.TheVariants.{Add};
 
     ghost exact = { exact2 Add };
 
@@ -44,7 +44,7 @@ pub(crate) struct Difference;
 
 impl Trial for Difference {
     ghost use Rattle.wcps_mean.specs.Cells.{exact2};
-    ghost use Rattle.wcps_types.specs.declared.typed.Operation2.TheVariants.{Subtract};
+    ghost use Rattle.wcps_text.specs.declared.operator.BinaryOperator.TheVariants.{Subtract};
 
     ghost exact = { exact2 Subtract };
 
@@ -70,7 +70,7 @@ pub(crate) struct NarrowProduct;
 
 impl Trial for NarrowProduct {
     ghost use Rattle.wcps_mean.specs.Cells.{exact2};
-    ghost use Rattle.wcps_types.specs.declared.typed.Operation2.TheVariants.{Multiply};
+    ghost use Rattle.wcps_text.specs.declared.operator.BinaryOperator.TheVariants.{Multiply};
 
     ghost exact = { exact2 Multiply };
 
@@ -88,7 +88,7 @@ pub(crate) struct Product;
 
 impl Trial for Product {
     ghost use Rattle.wcps_mean.specs.Cells.{exact2};
-    ghost use Rattle.wcps_types.specs.declared.typed.Operation2.TheVariants.{Multiply};
+    ghost use Rattle.wcps_text.specs.declared.operator.BinaryOperator.TheVariants.{Multiply};
 
     ghost exact = { exact2 Multiply };
 
@@ -106,7 +106,7 @@ pub(crate) struct Quotient;
 
 impl Trial for Quotient {
     ghost use Rattle.wcps_mean.specs.Cells.{exact2};
-    ghost use Rattle.wcps_types.specs.declared.typed.Operation2.TheVariants.{Divide};
+    ghost use Rattle.wcps_text.specs.declared.operator.BinaryOperator.TheVariants.{Divide};
 
     ghost exact = { exact2 Divide };
 
@@ -123,7 +123,7 @@ pub(crate) struct IsLess;
 
 impl Trial for IsLess {
     ghost use Rattle.wcps_mean.specs.Cells.{exact2};
-    ghost use Rattle.wcps_types.specs.declared.typed.Operation2.TheVariants.{Less};
+    ghost use Rattle.wcps_text.specs.declared.operator.BinaryOperator.TheVariants.{Less};
 
     ghost exact = { exact2 Less };
 
@@ -137,7 +137,7 @@ pub(crate) struct IsAtMost;
 
 impl Trial for IsAtMost {
     ghost use Rattle.wcps_mean.specs.Cells.{exact2};
-    ghost use Rattle.wcps_types.specs.declared.typed.Operation2.TheVariants.{LessEqual};
+    ghost use Rattle.wcps_text.specs.declared.operator.BinaryOperator.TheVariants.{LessEqual};
 
     ghost exact = { exact2 LessEqual };
 
@@ -151,7 +151,7 @@ pub(crate) struct IsGreater;
 
 impl Trial for IsGreater {
     ghost use Rattle.wcps_mean.specs.Cells.{exact2};
-    ghost use Rattle.wcps_types.specs.declared.typed.Operation2.TheVariants.{Greater};
+    ghost use Rattle.wcps_text.specs.declared.operator.BinaryOperator.TheVariants.{Greater};
 
     ghost exact = { exact2 Greater };
 
@@ -165,7 +165,7 @@ pub(crate) struct IsAtLeast;
 
 impl Trial for IsAtLeast {
     ghost use Rattle.wcps_mean.specs.Cells.{exact2};
-    ghost use Rattle.wcps_types.specs.declared.typed.Operation2.TheVariants.{GreaterEqual};
+    ghost use Rattle.wcps_text.specs.declared.operator.BinaryOperator.TheVariants.{GreaterEqual};
 
     ghost exact = { exact2 GreaterEqual };
 
@@ -179,7 +179,7 @@ pub(crate) struct IsEqual;
 
 impl Trial for IsEqual {
     ghost use Rattle.wcps_mean.specs.Cells.{exact2};
-    ghost use Rattle.wcps_types.specs.declared.typed.Operation2.TheVariants.{Equal};
+    ghost use Rattle.wcps_text.specs.declared.operator.BinaryOperator.TheVariants.{Equal};
 
     ghost exact = { exact2 Equal };
 
@@ -193,7 +193,7 @@ pub(crate) struct IsOther;
 
 impl Trial for IsOther {
     ghost use Rattle.wcps_mean.specs.Cells.{exact2};
-    ghost use Rattle.wcps_types.specs.declared.typed.Operation2.TheVariants.{NotEqual};
+    ghost use Rattle.wcps_text.specs.declared.operator.BinaryOperator.TheVariants.{NotEqual};
 
     ghost exact = { exact2 NotEqual };
 
@@ -207,7 +207,7 @@ pub(crate) struct Both;
 
 impl Trial for Both {
     ghost use Rattle.wcps_mean.specs.Cells.{exact2};
-    ghost use Rattle.wcps_types.specs.declared.typed.Operation2.TheVariants.{And};
+    ghost use Rattle.wcps_text.specs.declared.operator.BinaryOperator.TheVariants.{And};
 
     ghost exact = { exact2 And };
 
@@ -221,7 +221,7 @@ pub(crate) struct Either;
 
 impl Trial for Either {
     ghost use Rattle.wcps_mean.specs.Cells.{exact2};
-    ghost use Rattle.wcps_types.specs.declared.typed.Operation2.TheVariants.{Or};
+    ghost use Rattle.wcps_text.specs.declared.operator.BinaryOperator.TheVariants.{Or};
 
     ghost exact = { exact2 Or };
 
@@ -235,7 +235,7 @@ pub(crate) struct OneOnly;
 
 impl Trial for OneOnly {
     ghost use Rattle.wcps_mean.specs.Cells.{exact2};
-    ghost use Rattle.wcps_types.specs.declared.typed.Operation2.TheVariants.{Xor};
+    ghost use Rattle.wcps_text.specs.declared.operator.BinaryOperator.TheVariants.{Xor};
 
     ghost exact = { exact2 Xor };
 
@@ -249,7 +249,7 @@ pub(crate) struct BitSet;
 
 impl Trial for BitSet {
     ghost use Rattle.wcps_mean.specs.Cells.{exact2};
-    ghost use Rattle.wcps_types.specs.declared.typed.Operation2.TheVariants.{Bit};
+    ghost use Rattle.wcps_text.specs.declared.operator.BinaryOperator.TheVariants.{Bit};
 
     ghost exact = { exact2 Bit };
 
@@ -266,7 +266,7 @@ pub(crate) struct Negative;
 
 impl Trial for Negative {
     ghost use Rattle.wcps_mean.specs.Cells.{exact1};
-    ghost use Rattle.wcps_types.specs.declared.typed.Operation1.TheVariants.{Negate};
+    ghost use Rattle.wcps_text.specs.declared.operator.UnaryOperator.TheVariants.{Negate};
 
     ghost exact = { λ x y. exact1 Negate x };
 
@@ -280,7 +280,7 @@ pub(crate) struct Itself;
 
 impl Trial for Itself {
     ghost use Rattle.wcps_mean.specs.Cells.{exact1};
-    ghost use Rattle.wcps_types.specs.declared.typed.Operation1.TheVariants.{Plus};
+    ghost use Rattle.wcps_text.specs.declared.operator.UnaryOperator.TheVariants.{Plus};
 
     ghost exact = { λ x y. exact1 Plus x };
 
@@ -294,7 +294,7 @@ pub(crate) struct Opposite;
 
 impl Trial for Opposite {
     ghost use Rattle.wcps_mean.specs.Cells.{exact1};
-    ghost use Rattle.wcps_types.specs.declared.typed.Operation1.TheVariants.{Not};
+    ghost use Rattle.wcps_text.specs.declared.operator.UnaryOperator.TheVariants.{Not};
 
     ghost exact = { λ x y. exact1 Not x };
 
@@ -308,7 +308,7 @@ pub(crate) struct Magnitude;
 
 impl Trial for Magnitude {
     ghost use Rattle.wcps_mean.specs.Cells.{exact1};
-    ghost use Rattle.wcps_types.specs.declared.typed.Operation1.TheVariants.{Absolute};
+    ghost use Rattle.wcps_text.specs.declared.operator.UnaryOperator.TheVariants.{Absolute};
 
     ghost exact = { λ x y. exact1 Absolute x };
 

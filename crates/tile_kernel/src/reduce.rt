@@ -12,7 +12,8 @@ ghost use Rattle.tile_kernel.specs.Selected.{selected};
 use crate::choice::Choice;
 use crate::joined::{larger, smaller};
 use crate::operand::Operand;
-use wcps_mean::{Aggregate, Product, Running, is_set};
+use wcps_mean::{Product, Running, is_set};
+use wcps_text::Aggregate;
 
 /// What a condenser keeps of the values at those of the first `len` places that count.
 pub(crate) fn condense_values<V: Operand, C: Choice>(

@@ -1,27 +1,29 @@
 -- The cells of tiles: read, written, and as numbers at points.
-use Rattle.std.proofs.Common.{◌≡◌, ℕ, ◌+◌, ◌<◌, List, [], ◌∷◌, ◌++◌, ◌*◌, length, get_or, take, drop, map, arith, refl, sym, ◌∙◌, ap, subst, All, Option, Some, None, inl, inr}
+use Rattle.std.proofs.Common.{◌≡◌, ℕ, ◌+◌, ◌<◌, List, [], ◌∷◌, length, get_or, map, arith, refl, sym, ◌∙◌, ap, subst, Option, Some, None, IsTrue, inl, inr, Vec, ℤ, pos, ◌≤ℤ◌, if◌then◌else◌, false, Contains, Global}
 use Rattle.std.proofs.lemmas.Int.{ints}
-use Rattle.std.specs.Prelude.{Bool, int_le, ℤ, pos, ◌≤ℤ◌, if◌then◌else◌, true, false, Contains}
 use Rattle.std.proofs.lemmas.Bool.{cases_lt}
-use Rattle.std.proofs.lemmas.List.{ext_get_or, get_or-map, get_or_past, length-map, get_or_default, take_at}
+use Rattle.std.proofs.lemmas.List.Elements.{Contains-get_or}
+use Rattle.std.proofs.lemmas.List.{ext_get_or, get_or-map, length-map, get_or_default}
 use Rattle.arr_core.specs.declared.cell.FieldType.{FieldType}
 use Rattle.arr_core.specs.declared.domain.Axis.{Axis}
 use Rattle.arr_core.specs.Domains.{points, count, rank_of, point_at, AreOrdered, IsInside, IsBoxOf, is_inside}
 use Rattle.arr_core.specs.Tiles.{tile_boxes, IsInTile}
 use Rattle.arr_core.proofs.Grids.{in-no-other, in-own-tile}
-use Rattle.std.specs.List.{list_all}
-use Rattle.std.specs.Ordering.{int_eq}
-use Rattle.run_tile.specs.Runs.{IsSpelling, runs_in, run_size}
-use Rattle.tile_index.specs.Entries.{blocks_filled}
+use Rattle.run_tile.specs.Runs.{IsSpelling}
 use Rattle.tile_index.specs.declared.entry.Entry.{Entry}
 use Rattle.tile_index.specs.Index.{found_at}
-use Rattle.block_file.specs.Blocks.{block_at}
+use Rattle.block_file.specs.State.{BlocksState, block_at}
 use Rattle.tile_store.specs.Listing.{entry_times}
-use Rattle.tile_store.specs.Stored.{entry_data, cells_read, tile_cells, tile_box, tile_number, number_at, IsSpelled, IsTileSpelled, KeepsListed}
+use Rattle.tile_store.specs.Stored.{entry_data, cells_read, tile_cells, tile_box, tile_number, number_at, IsTileSpelled, KeepsListed}
+use Rattle.tile_store.specs.declared.field.FieldTiles.{FieldTiles}
+use Rattle.tile_store.specs.declared.numbers.Numbers.TheVariants.{Each}
+use Rattle.tile_store.specs.Numbers.{AreNumbers, number_of}
+use Rattle.tile_store.specs.Reading.{IsTileRead, Meets, number_in}
 use Rattle.tile_store.specs.Room.{tile_blocks, cells_after, AreMeeting}
-use Rattle.tile_store.specs.Written.{Spells, EntrySpells, SaysCells, IsWritten}
-use Rattle.tile_store.proofs.Points.{length-points, rank-point, point-inside, at_rank, rank_of-lt-count}
-use Rattle.tile_store.specs.Overlays.{Overlaid, cell_at}
+use Rattle.tile_store.specs.Written.{EntrySpells, HasCells, IsWritten, IsRead}
+use Rattle.arr_core.proofs.Points.{length-points, rank-point, point-inside, at_rank, rank_of-lt-count}
+use Rattle.tile_store.specs.Overlays.{Overlaid}
+use Rattle.tile_store.proofs.Fitting.{fits_spelled}
 use Rattle.tile_store.proofs.Rows.{inside_cases, overlaid_same}
 use Rattle.tile_store.proofs.Kept.{data_same, map_same, number_kept}
 
@@ -30,105 +32,76 @@ pub spelled_cells : (kind : FieldType) (bytes : List ℕ) (cells : List ℤ) →
 unfolding cells_read
 spelled_cells kind bytes cells s = sym s.cells_are
 
--- bytes that spell cells spell as many of them
-pub spells_of : (kind : FieldType) (bytes : List ℕ) (cells : List ℤ) (n : ℕ) → IsSpelling kind bytes cells → length cells ≡ n → Spells kind bytes n
-spells_of kind bytes cells n s is = rw (spelled_cells kind bytes cells s) (s, is)
-
-pub says_spelled : (kind : FieldType) (content : List ℕ) (entry : Option Entry) (e : Entry) (bytes : List ℕ) (cells : List ℤ) → entry ≡ Some e → bytes ≡ entry_data content e → IsSpelling kind bytes cells → SaysCells kind content entry cells
-says_spelled kind content entry e bytes cells some is s i =
-    let there : tile_cells kind content entry ≡ cells = ap (tile_cells kind content) some ∙ ap (cells_read kind) (sym is) ∙ spelled_cells kind bytes cells s in
-    ap (λ (l : List ℤ). get_or l i (pos 0)) there
-
--- cells that are all 0 are those of a tile that is not listed
-zero_at : (cells : List ℤ) (i : ℕ) → All (λ z. z ≡ pos 0) cells → get_or cells i (pos 0) ≡ pos 0
-zero_at cells i zeros = elim (cases_lt i (length cells)) [ inl lt ↦ zeros i (pos 0) lt | inr ge ↦ get_or_past cells i (pos 0) ge ]
-
-pub says_none : (kind : FieldType) (content : List ℕ) (entry : Option Entry) (cells : List ℤ) → entry ≡ None → All (λ z. z ≡ pos 0) cells → SaysCells kind content entry cells
-says_none kind content entry cells none zeros i = ap (λ (o : Option Entry). get_or (tile_cells kind content o) i (pos 0)) none ∙ sym (zero_at cells i zeros)
-
--- a tile that was written
-pub written_none : (kind : FieldType) (content : List ℕ) (cells : List ℤ) → All (λ z. z ≡ pos 0) cells → tile_blocks kind cells ≡ 0 → IsWritten kind content None cells
-written_none kind content cells zeros none = record { says = says_none kind content None cells refl zeros; spelled = λ e same. absurd (cc); size = sym none }
+-- a tile whose bytes spell cells has them, and is spelled
+spelled_some : (kind : FieldType) (content : List ℕ) (e : Entry) (bytes : List ℕ) (cells : List ℤ) → bytes ≡ entry_data content e → IsSpelling kind bytes cells → HasCells kind content (Some e) cells × EntrySpells kind content (Some e) (length cells)
+spelled_some kind content e bytes cells is s =
+    let there : cells_read kind (entry_data content e) ≡ cells = rw (← is) (spelled_cells kind bytes cells s) in
+    (λ i. rw there refl, λ e' some. (let other : e ≡ e' = cc in rw (← other, there, ← is) (s, refl)))
 
 pub written_some : (kind : FieldType) (content : List ℕ) (e : Entry) (bytes : List ℕ) (cells : List ℤ) → bytes ≡ entry_data content e → IsSpelling kind bytes cells → length e.blocks ≡ tile_blocks kind cells → IsWritten kind content (Some e) cells
 written_some kind content e bytes cells is s size = record {
-  says = says_spelled kind content (Some e) e bytes cells refl is s;
-  spelled = λ e' same. (let other : e ≡ e' = cc in let there : bytes ≡ entry_data content e' = is ∙ ap (entry_data content) other in subst (λ (b : List ℕ). Spells kind b (length cells)) there (spells_of kind bytes cells (length cells) s refl));
+  has = (spelled_some kind content e bytes cells is s).0;
+  spelled = (spelled_some kind content e bytes cells is s).1;
   size = size;
 }
 
+pub read_some : (kind : FieldType) (n : ℕ) (s : BlocksState) (entry : Option Entry) (e : Entry) (bytes : List ℕ) (cells : List ℤ) → entry ≡ Some e → (IsTrue s.honest → bytes ≡ entry_data s.content e) → IsSpelling kind bytes cells → length cells ≡ n → IsRead kind n s entry cells
+read_some kind n s entry e bytes cells some is spells size = rw (some, ← size) (record {
+  counted = refl;
+  fit = fits_spelled kind bytes cells spells;
+  has = λ honest. (spelled_some kind s.content e bytes cells (is honest) spells).0;
+  spelled = λ honest. (spelled_some kind s.content e bytes cells (is honest) spells).1;
+})
+
 -- it stays so while its blocks hold what they hold
-pub written_kept : (kind : FieldType) (old new : List ℕ) (entry : Option Entry) (cells : List ℤ) → IsWritten kind old entry cells → ((k : ℕ) → 0 < entry_times k entry → block_at new k ≡ block_at old k) → IsWritten kind new entry cells
-written_kept kind old new None cells w same = record { says = w.says; spelled = λ e none. absurd (cc); size = w.size }
+pub written_kept : (kind : FieldType) (old new : List ℕ) (entry : Option Entry) (cells : List ℤ) → IsWritten kind old entry cells → ((k : ℕ) → 0 < entry_times entry k → block_at new k ≡ block_at old k) → IsWritten kind new entry cells
+written_kept kind old new None cells w same = record { has = w.has; spelled = λ e none. absurd (cc); size = w.size }
 written_kept kind old new (Some e) cells w same =
     let is : entry_data new e ≡ entry_data old e = data_same old new e same in
     record {
-      says = λ i. ap (λ (bytes : List ℕ). get_or (cells_read kind bytes) i (pos 0)) is ∙ w.says i;
-      spelled = λ e' some.
-          let other : e ≡ e' = cc in
-          let there : entry_data old e' ≡ entry_data new e' = ap (entry_data old) (sym other) ∙ sym is ∙ ap (entry_data new) other in
-          subst (λ (b : List ℕ). Spells kind b (length cells)) there (w.spelled e' some);
+      has = λ i. rw is (w.has i);
+      spelled = λ e' some. (let other : e ≡ e' = cc in rw (← other, is) (w.spelled e refl));
       size = w.size;
     }
-
--- cells that are a function's at each point of a box are its list
-pub cells_listed : (box : List Axis) (f : List ℤ → ℤ) (cells : List ℤ) → length cells ≡ count box → AreOrdered box → ((p : List ℤ) → IsInside box p → get_or cells (rank_of box p) (pos 0) ≡ f p) → cells ≡ map f (points box)
-cells_listed box f cells size ordered each =
-    ext_get_or (pos 0) cells (map f (points box)) (size ∙ sym (length-map (points box) f ∙ length-points box)) (λ i h.
-    let below : i < count box = omega (arith, h, size) in
-    let p = point_at box i in
-    let inside : IsInside box p = point-inside box i below ordered in
-    let rank : rank_of box p ≡ i = rank-point box i below in
-    let here : get_or cells i (pos 0) ≡ f p = rw rank at (each p inside) in
-    let stands : get_or (points box) i p ≡ p = rw rank at (at_rank box p p inside) in
-    here ∙ sym (get_or-map f (points box) i p (pos 0) (omega (arith, below, length-points box)) ∙ ap f stands))
 
 -- the cell of a point in a function's list
 pub cell_listed : (box : List Axis) (f : List ℤ → ℤ) (p : List ℤ) → IsInside box p → get_or (map f (points box)) (rank_of box p) (pos 0) ≡ f p
 cell_listed box f p inside =
     get_or-map f (points box) (rank_of box p) p (pos 0) (omega (arith, length-points box, rank_of-lt-count box p inside)) ∙ ap f (at_rank box p p inside)
 
+-- cells that are a function's at each point of a box are its list
+pub cells_listed : (box : List Axis) (f : List ℤ → ℤ) (cells : List ℤ) → length cells ≡ count box → AreOrdered box → ((p : List ℤ) → IsInside box p → get_or cells (rank_of box p) (pos 0) ≡ f p) → cells ≡ map f (points box)
+cells_listed box f cells size ordered each =
+    ext_get_or (pos 0) cells (map f (points box)) (size ∙ sym (length-map (points box) f ∙ length-points box)) (λ i h.
+    let below : i < count box = omega (arith, h, size) in
+    let inside : IsInside box (point_at box i) = point-inside box i below ordered in
+    rw (rank-point box i below) at (each (point_at box i) inside ∙ sym (cell_listed box f (point_at box i) inside)))
+
 -- the number at a point is what its tile says there
-pub number_in : (kind : FieldType) (domain : List Axis) (index : List (ℕ × Entry)) (content : List ℕ) (tile : ℕ) (p : List ℤ) → tile < length (tile_boxes domain) → IsInside (tile_box domain tile) p
+pub number_in_tile : (kind : FieldType) (domain : List Axis) (index : List (ℕ × Entry)) (content : List ℕ) (tile : ℕ) (p : List ℤ) → tile < length (tile_boxes domain) → IsInside (tile_box domain tile) p
     → number_at kind domain index content p ≡ get_or (tile_cells kind content (found_at tile index)) (rank_of (tile_box domain tile) p) (pos 0)
 unfolding number_at
-number_in kind domain index content tile p below inside =
+number_in_tile kind domain index content tile p below inside =
     let own : tile ≡ tile_number domain p = in-no-other domain p tile (below, inside) in
     ap (λ (t : ℕ). get_or (tile_cells kind content (found_at t index)) (rank_of (tile_box domain t) p) (pos 0)) (sym own)
 
-pub number_said : (kind : FieldType) (domain : List Axis) (index : List (ℕ × Entry)) (content : List ℕ) (tile : ℕ) (box : List Axis) (entry : Option Entry) (cells : List ℤ) (p : List ℤ) → tile < length (tile_boxes domain) → tile_box domain tile ≡ box
-    → entry ≡ found_at tile index → SaysCells kind content entry cells → IsInside box p → get_or cells (rank_of box p) (pos 0) ≡ number_at kind domain index content p
-number_said kind domain index content tile box entry cells p below is found says inside =
-    let there : IsInside (tile_box domain tile) p = rw is inside in
-    sym (number_in kind domain index content tile p below there
-    ∙ ap (λ (o : Option Entry). get_or (tile_cells kind content o) (rank_of (tile_box domain tile) p) (pos 0)) (sym found)
-    ∙ ap (λ (b : List Axis). get_or (tile_cells kind content entry) (rank_of b p) (pos 0)) is
-    ∙ says (rank_of box p))
-
--- a listed tile that is spelled
-pub entry_spells : (kind : FieldType) (domain : List Axis) (index : List (ℕ × Entry)) (content : List ℕ) (tile : ℕ) (box : List Axis) (entry : Option Entry) (n : ℕ) → tile_box domain tile ≡ box → entry ≡ found_at tile index → n ≡ count box → IsSpelled kind domain index content → EntrySpells kind content entry n
-unfolding IsSpelled
-entry_spells kind domain index content tile box entry n is found size spelled e some =
-    let here = spelled tile e (sym found ∙ some) in
-    (here.0, here.1 ∙ ap count is ∙ sym size)
-
--- a tile whose bytes spell so many cells
-pub entry_spelled : (kind : FieldType) (content : List ℕ) (entry : Option Entry) (e : Entry) (bytes : List ℕ) (cells : List ℤ) (n : ℕ) → entry ≡ Some e → bytes ≡ entry_data content e → IsSpelling kind bytes cells → length cells ≡ n → EntrySpells kind content entry n
-entry_spelled kind content entry e bytes cells n some is s size e' same =
-    let other : e ≡ e' = cc in
-    let there : bytes ≡ entry_data content e' = is ∙ ap (entry_data content) other in
-    subst (λ (b : List ℕ). Spells kind b n) there (spells_of kind bytes cells n s size)
-
 -- a tile is spelled exactly where its entry spells as many cells as its box has points
-pub tile_spells : (kind : FieldType) (domain : List Axis) (index : List (ℕ × Entry)) (content : List ℕ) (tile : ℕ) (box : List Axis) (entry : Option Entry) (n : ℕ) → tile_box domain tile ≡ box → entry ≡ found_at tile index → n ≡ count box → IsTileSpelled kind domain index content tile → EntrySpells kind content entry n
-tile_spells kind domain index content tile box entry n is found size spelled e some =
-    let here = spelled e (sym found ∙ some) in
-    (here.0, here.1 ∙ ap count is ∙ sym size)
+pub tile_spells : (kind : FieldType) (domain : List Axis) (index : List (ℕ × Entry)) (content : List ℕ) (tile : ℕ) (part : List Axis) (entry : Option Entry) (n : ℕ) → tile_box domain tile ≡ part → entry ≡ found_at tile index → n ≡ count part → IsTileSpelled kind domain index content tile → EntrySpells kind content entry n
+tile_spells kind domain index content tile part entry n is found size spelled = rw (found, size, ← is) spelled
 
-pub spells_tile : (kind : FieldType) (domain : List Axis) (index : List (ℕ × Entry)) (content : List ℕ) (tile : ℕ) (box : List Axis) (entry : Option Entry) (n : ℕ) → tile_box domain tile ≡ box → entry ≡ found_at tile index → n ≡ count box → EntrySpells kind content entry n → IsTileSpelled kind domain index content tile
-spells_tile kind domain index content tile box entry n is found size spells e some =
-    let here = spells e (found ∙ some) in
-    (here.0, here.1 ∙ size ∙ sym (ap count is))
+-- the cells of a tile were read by its entry
+pub tile_read : (f : FieldTiles) (tile : ℕ) (s : BlocksState) (part : List Axis) (entry : Option Entry) (n : ℕ) (cells : List ℤ) → tile < length (tile_boxes f.domain.now) → tile_box f.domain.now tile ≡ part → entry ≡ found_at tile f.index.now → n ≡ count part → AreOrdered part
+    → IsRead f.kind n s entry cells → IsTileRead f tile s cells
+tile_read f tile s part entry n cells below is found size ordered read =
+    let box = tile_box f.domain.now tile in
+    let counted : length cells ≡ count box = read.counted ∙ size ∙ ap count (sym is) in
+    record {
+      counted = counted ∙ sym (length-points box);
+      fit = read.fit;
+      numbers = λ honest. cells_listed box (number_in f s) cells counted (rw is ordered) (λ p inside.
+          sym (number_in_tile f.kind f.domain.now f.index.now s.content tile p below inside ∙ rw found at (read.has honest (rank_of box p))));
+      spelled = λ honest. rw (found, size, ← is) at (read.spelled honest);
+    }
 
 inside_lo : (x y z : ℤ) → x ≤ℤ y → y ≤ℤ z → x ≤ℤ z
 inside_lo x y z h k = omega (arith, ints)
@@ -147,43 +120,20 @@ pub after_kept : (kind : FieldType) (domain : List Axis) (index : List (ℕ × E
 after_kept kind domain index old new area numbers tile kept =
     map_same _ _ (points (tile_box domain tile)) (λ (p : List ℤ). ap (λ (z : ℤ). if is_inside area p then get_or numbers (rank_of area p) (pos 0) else z) (number_kept kind domain index old new kept p))
 
--- a point inside passes the test
-le_yes : (x y : ℤ) (r : Bool) → int_le x y ≡ r → x ≤ℤ y → int_le x y ≡ true
-le_yes x y true e h = e
-le_yes x y false e h = absurd (grind (arith, ints))
-
-pub inside_yes : (area : List Axis) (p : List ℤ) → IsInside area p → is_inside area p ≡ true
-inside_yes [] [] h = refl
-inside_yes [] (x ∷ p) h = absurd h
-inside_yes (a ∷ area) [] h = absurd h
-inside_yes (a ∷ area) (x ∷ p) h = rw (le_yes a.lo x (int_le a.lo x) refl h.0, le_yes x a.hi (int_le x a.hi) refl h.1) (inside_yes area p h.2)
-
--- no point of a box inside another is outside that
-pub not_outside : (area box : List Axis) (p : List ℤ) → IsBoxOf area box → IsInside box p → is_inside area p ≡ false → ⊥
-not_outside area box p b h out = (let yes = inside_yes area p (inside_box area box p b h) in cc)
+-- a point inside is not outside
+pub not_outside : (area : List Axis) (p : List ℤ) → IsInside area p → is_inside area p ≡ false → ⊥
+not_outside area p inside out = elim (inside_cases area p) [ inl t ↦ (cc) | inr o ↦ o.1 inside ]
 
 -- the cells of a tile after a box was written over those before
-pub updated_listed : (kind : FieldType) (domain : List Axis) (index : List (ℕ × Entry)) (content : List ℕ) (area : List Axis) (numbers : List ℤ) (tile : ℕ) (box : List Axis) (entry : Option Entry) (before after : List ℤ) → tile < length (tile_boxes domain) → tile_box domain tile ≡ box
-    → entry ≡ found_at tile index → AreOrdered box → length after ≡ count box
-    → ((p : List ℤ) → IsInside box p → is_inside area p ≡ false → get_or (tile_cells kind content entry) (rank_of box p) (pos 0) ≡ get_or before (rank_of box p) (pos 0))
-    → Overlaid box area (cell_at area numbers) before after → after ≡ cells_after kind domain index content area numbers tile
-updated_listed kind domain index content area numbers tile box entry before after below is found ordered size says overlaid =
-    let f : List ℤ → ℤ = λ p. if is_inside area p then get_or numbers (rank_of area p) (pos 0) else number_at kind domain index content p in
-    cells_listed box f after size ordered (λ p inside. elim (inside_cases area p) [
-      | inl t ↦ overlaid p inside ∙ rw t.0 refl
-      | inr out ↦
-          let there : IsInside (tile_box domain tile) p = rw is inside in
-          let number : number_at kind domain index content p ≡ get_or (tile_cells kind content entry) (rank_of box p) (pos 0) =
-          number_in kind domain index content tile p below there ∙ ap (λ (o : Option Entry). get_or (tile_cells kind content o) (rank_of (tile_box domain tile) p) (pos 0)) (sym found) ∙ ap (λ (b : List Axis). get_or (tile_cells kind content entry) (rank_of b p) (pos 0)) is in
-          overlaid p inside ∙ rw out (sym (number ∙ says p inside out))
-    ]) ∙ ap (λ (b : List Axis). map f (points b)) (sym is)
-
--- a tile copied into a box
-pub overlaid_tile : (kind : FieldType) (domain : List Axis) (index : List (ℕ × Entry)) (content : List ℕ) (area : List Axis) (tile : ℕ) (box : List Axis) (entry : Option Entry) (numbers old new : List ℤ) → tile < length (tile_boxes domain) → tile_box domain tile ≡ box → entry ≡ found_at tile index
-    → SaysCells kind content entry numbers → Overlaid area box (cell_at box numbers) old new → Overlaid area (tile_box domain tile) (number_at kind domain index content) old new
-overlaid_tile kind domain index content area tile box entry numbers old new below is found says overlaid =
-    subst (λ (b : List Axis). Overlaid area b (number_at kind domain index content) old new) (sym is)
-    (overlaid_same area box (cell_at box numbers) (number_at kind domain index content) old new overlaid (λ q inside. number_said kind domain index content tile box entry numbers q below is found says inside))
+pub updated_listed : (kind : FieldType) (domain : List Axis) (index : List (ℕ × Entry)) (content : List ℕ) (area : List Axis) (numbers : List ℤ) (number : List ℤ → ℤ) (tile : ℕ) (before after : List ℤ) → AreOrdered (tile_box domain tile) → length after ≡ count (tile_box domain tile)
+    → ((p : List ℤ) → IsInside (tile_box domain tile) p → is_inside area p ≡ false → get_or before (rank_of (tile_box domain tile) p) (pos 0) ≡ number_at kind domain index content p)
+    → ((p : List ℤ) → IsInside area p → number p ≡ get_or numbers (rank_of area p) (pos 0))
+    → Overlaid (tile_box domain tile) area number before after → after ≡ cells_after kind domain index content area numbers tile
+updated_listed kind domain index content area numbers number tile before after ordered size old same overlaid =
+    cells_listed (tile_box domain tile) (λ p. if is_inside area p then get_or numbers (rank_of area p) (pos 0) else number_at kind domain index content p) after size ordered (λ p inside. elim (inside_cases area p) [
+      | inl t ↦ overlaid p inside ∙ rw t.0 (same p t.1)
+      | inr out ↦ overlaid p inside ∙ rw out.0 (old p inside out.0)
+    ])
 
 -- one tile more was copied: at the points of the tiles so far stand their numbers
 pub tiles_copied : (domain area : List Axis) (tiles : List ℕ) (i : ℕ) (f : List ℤ → ℤ) (old new : List ℤ) → i < length tiles
@@ -193,15 +143,16 @@ pub tiles_copied : (domain area : List Axis) (tiles : List ℕ) (i : ℕ) (f : L
 tiles_copied domain area tiles i f old new h done overlaid j lt p inside at = elim (inside_cases (tile_box domain (get_or tiles i 0)) p) [
   | inl t ↦ overlaid p at ∙ rw t.0 refl
   | inr out ↦ elim (cases_lt j i) [
-    | inl less ↦ overlaid p at ∙ rw out (done j less p inside at)
-    | inr ge ↦
-        let this : j ≡ i = omega (arith, lt, ge) in
-        let there : IsInside (tile_box domain (get_or tiles i 0)) p = rw (← this) inside in
-        absurd (let yes = inside_yes (tile_box domain (get_or tiles i 0)) p there in cc)
+    | inl less ↦ overlaid p at ∙ rw out.0 (done j less p inside at)
+    | inr ge ↦ (let this : j ≡ i = omega (arith, lt, ge) in absurd (out.1 (rw (← this) inside)))
   ]
 ]
 
-listed_at : (tiles : List ℕ) (t : ℕ) (c : Contains tiles t) → get_or tiles c.0 0 ≡ t
+-- the tiles of a list meet the box
+pub meets_at : (domain area : List Axis) (tiles : List ℕ) (i : ℕ) → AreMeeting domain area tiles → i < length tiles → Meets domain area (get_or tiles i 0)
+meets_at domain area tiles i meeting h = (meeting.exact (get_or tiles i 0)).0 (Contains-get_or tiles i 0 h)
+
+pub listed_at : (tiles : List ℕ) (t : ℕ) (c : Contains tiles t) → get_or tiles c.0 0 ≡ t
 listed_at tiles t c = get_or_default tiles c.0 0 t c.1 ∙ c.2
 
 -- the tiles that meet a box have all its points
@@ -214,10 +165,14 @@ area_copied domain area tiles f cells box meeting ordered size done = cells_list
     let stands : get_or tiles listed.0 0 ≡ tile_number domain p = listed_at tiles (tile_number domain p) listed in
     done listed.0 listed.1 p (rw stands own.1) inside)
 
--- a slice that was lent whole comes back
-pub lent_back : (xs ys : List ℤ) (n : ℕ) → n ≡ length xs → take n (xs ++ drop (length xs) ys) ≡ xs
-lent_back xs ys n is = take_at xs (drop (length xs) ys) n (sym is)
+-- the cells of a tile that was read, as numbers for its box
+pub tile_numbers : (f : FieldTiles) (tile : ℕ) (s : BlocksState) (box : List Axis) (list : Vec ℤ Global) → tile_box f.domain.now tile ≡ box → IsTileRead f tile s list.items → AreNumbers f.kind box (Each list)
+tile_numbers f tile s box list is read = (read.counted ∙ length-points (tile_box f.domain.now tile) ∙ ap count is, read.fit)
 
--- how many blocks a tile takes that is not 0 everywhere
-pub size_written : (kind : FieldType) (cells : List ℤ) (bytes : List ℕ) (n : ℕ) → list_all (int_eq (pos 0)) cells ≡ false → length bytes ≡ runs_in cells * run_size kind → n ≡ blocks_filled (length bytes) → n ≡ tile_blocks kind cells
-size_written kind cells bytes n some long is = is ∙ ap blocks_filled long ∙ rw some refl
+pub tile_overlaid : (f : FieldTiles) (tile : ℕ) (s : BlocksState) (area box : List Axis) (list : Vec ℤ Global) (old new : List ℤ) → tile_box f.domain.now tile ≡ box → list.items ≡ map (number_in f s) (points (tile_box f.domain.now tile))
+    → Overlaid area box (λ p. number_of (Each list) (0 + rank_of box p)) old new → Overlaid area (tile_box f.domain.now tile) (number_in f s) old new
+tile_overlaid f tile s area box list old new is numbers overlaid =
+    subst (λ (b : List Axis). Overlaid area b (number_in f s) old new) (sym is)
+    (overlaid_same area box (λ p. number_of (Each list) (0 + rank_of box p)) (number_in f s) old new overlaid (λ p inside.
+    let place : 0 + rank_of box p ≡ rank_of box p = omega arith in
+    rw place (ap (λ (l : List ℤ). get_or l (rank_of box p) (pos 0)) (numbers ∙ ap (λ (b : List Axis). map (number_in f s) (points b)) is) ∙ cell_listed box (number_in f s) p inside)))

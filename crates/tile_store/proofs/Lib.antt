@@ -1,15 +1,12 @@
-mod Points
-mod Rows
-pub mod Times
-mod Fitting
-mod Indexes
-mod Sums
-mod Taking
-mod Exchange
-mod Area
-mod Parts
+pub mod Listed
+mod Takes
 pub mod Kept
-mod Cells
+mod Rows
+mod Fitting
+mod Parts
+mod Sums
+mod Changes
 mod Sizes
-mod Changing
+mod Cells
+mod Patched
 mod Exchanged

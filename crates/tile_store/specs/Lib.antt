@@ -4,5 +4,6 @@ pub mod Listing
 pub mod Numbers
 pub mod Stored
 pub mod Room
-pub mod Changes
+pub mod Reading
+pub mod Patches
 pub mod Written

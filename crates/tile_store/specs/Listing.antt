@@ -1,37 +1,70 @@
--- Which blocks are listed, and what calls do to blocks. A block is known by its number.
-use Rattle.std.specs.Prelude.{◌≡◌, ℕ, ◌+◌, ◌<◌, ◌≤◌, Bool, nat_eq, if◌then◌else◌, List, length, sum_by, Option, Some, None}
+-- Which blocks tiles, indexes and changes list: how often each block stands there.
+use Rattle.std.specs.Prelude.{◌≡◌, ℕ, ◌+◌, ◌-◌, ◌<◌, ◌≤◌, max, IsTrue, List, length, map, sum_by, All, Option, Some, None}
+use Rattle.block_file.specs.State.{BlocksState, block, times, none, free_of}
+use Rattle.block_file.specs.Words.{Moves, Covers}
+use Rattle.arr_core.specs.declared.domain.Axis.{Axis}
+use Rattle.arr_core.specs.Tiles.{tile_boxes}
 use Rattle.tile_index.specs.declared.entry.Entry.{Entry}
+use Rattle.tile_index.specs.Entries.{IsEntry}
+use Rattle.tile_index.specs.Index.{found_at, IsRising}
 
--- how often a block stands in a list
-unfoldable pub times : ℕ → List ℕ → ℕ
-times k ks = sum_by (λ b. if nat_eq b k then 1 else 0) ks
+-- an index, as the list of its pairs
+abbrev pub Index : Type 0
+Index = List (ℕ × Entry)
 
 -- how often a tile has a block; a tile without an entry has none
-abbrev pub entry_times : ℕ → Option Entry → ℕ
-entry_times k None = 0
-entry_times k (Some e) = times k e.blocks
+abbrev pub entry_times : Option Entry → ℕ → ℕ
+entry_times None k = 0
+entry_times (Some e) k = times e.blocks k
 
 -- how often an index lists a block
-unfoldable pub times_in : ℕ → List (ℕ × Entry) → ℕ
-times_in k index = sum_by (λ (x : ℕ × Entry). times k x.1.blocks) index
+unfoldable pub listed : List (ℕ × Entry) → ℕ → ℕ
+listed index k = sum_by (λ (x : ℕ × Entry). times x.1.blocks k) index
 
--- Listed blocks are in use, each listed and used once, and none of them is the header.
-abbrev pub AreUsed : (ℕ → ℕ) → (ℕ → ℕ) → Type 0
-AreUsed listed uses = (k : ℕ) → 0 < listed k → (listed k ≡ 1) × (uses k ≡ 1) × (0 < k)
+-- a list has the blocks of a tile besides
+abbrev pub AddsBlocks : Option Entry → List ℕ → List ℕ → Type 0
+AddsBlocks entry old new = (k : ℕ) → times new k ≡ times old k + entry_times entry k
 
--- The blocks that came to those taken were free and are in use once. The others are used as before.
-pub record Extends (old new : List ℕ) (before after : ℕ → ℕ) : Type 0 where
-  pub more : (k : ℕ) → times k old ≤ times k new
-  pub after_is : (k : ℕ) → after k + times k old ≡ before k + times k new
-  pub fresh : (k : ℕ) → times k old < times k new → (times k new ≡ times k old + 1) × (before k ≡ 0) × (0 < k)
+-- how often an index has a block for some tiles
+unfoldable pub listed_for : List (ℕ × Entry) → List ℕ → ℕ → ℕ
+listed_for index tiles k = sum_by (λ t. entry_times (found_at t index) k) tiles
 
--- each block in use that was whole holds what it held
-abbrev pub KeepsUsed : (ℕ → ℕ) → (ℕ → List ℕ) → (ℕ → List ℕ) → Type 0
-KeepsUsed uses old new = (k : ℕ) → 0 < uses k → length (old k) ≡ 4096 → new k ≡ old k
+-- the tiles that are changed
+abbrev pub tiles_of : List (ℕ × Option Entry) → List ℕ
+tiles_of changes = map (λ (x : ℕ × Option Entry). x.0) changes
 
--- a call that only reads has left what the blocks hold, their uses, how many are free and whether they are honest
-pub record OnlyReads {B : Type 0} (content : B → List ℕ) (uses : B → ℕ → ℕ) (free : B → ℕ) (honest : B → Bool) (old new : B) : Type 0 where
-  pub same_content : content new ≡ content old
-  pub same_uses : uses new ≡ uses old
-  pub same_free : free new ≡ free old
-  pub same_honest : honest new ≡ honest old
+-- how often changes give tiles a block
+unfoldable pub given : List (ℕ × Option Entry) → ℕ → ℕ
+given changes k = sum_by (λ (x : ℕ × Option Entry). entry_times x.1 k) changes
+
+-- changes of tiles that rise and are below a number, to entries or to none
+pub record AreChanges (tiles : ℕ) (changes : List (ℕ × Option Entry)) : Type 0 where
+  pub rising : IsRising changes
+  pub below : All (λ (x : ℕ × Option Entry). x.0 < tiles) changes
+  pub entries : All (λ (x : ℕ × Option Entry). (e : Entry) → x.1 ≡ Some e → IsEntry e) changes
+
+-- an index lists only tiles below a number
+abbrev pub IsBelow : ℕ → List (ℕ × Entry) → Type 0
+IsBelow tiles index = All (λ (x : ℕ × Entry). x.0 < tiles) index
+
+-- What is true of the index of a field with this domain: it lists tiles of the domain alone, and each listed block is
+-- in use at least as often as it is listed, and whole on an honest disk.
+pub record IsSound (domain : List Axis) (s : BlocksState) (index : List (ℕ × Entry)) : Type 0 where
+  pub below : IsBelow (length (tile_boxes domain)) index
+  pub counted : Covers s (listed index)
+  pub whole : IsTrue s.honest → (k : ℕ) → 0 < listed index k → length (block s k) ≡ 4096
+
+-- the uses of one index became those of another, and nothing else in use has changed
+abbrev pub Relists : Index → Index → BlocksState → BlocksState → Type 0
+Relists index index' = Moves (listed index) (listed index')
+
+-- A block that was in no use is in use at most once, and each other at most as often as it was.
+abbrev pub UsesOnce : BlocksState → BlocksState → Type 0
+UsesOnce old new = (k : ℕ) → new.uses k ≤ max 1 (old.uses k)
+
+-- The blocks that came to those taken were free and taken once, no more have gone, and nothing else in use has changed.
+pub record Takes (taken taken' : List ℕ) (old new : BlocksState) : Type 0 where
+  pub more : (k : ℕ) → times taken k ≤ times taken' k
+  pub moves : Moves none (λ k. times taken' k - times taken k) old new
+  pub once : UsesOnce old new
+  pub free : free_of old + length taken ≤ free_of new + length taken'

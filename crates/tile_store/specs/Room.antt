@@ -1,5 +1,5 @@
 -- How many blocks a write needs: those of the new tiles, and those that the metadata takes when the file is closed.
-use Rattle.std.specs.Prelude.{◌↔◌, ℕ, zero, suc, ◌+◌, ◌-◌, ◌*◌, ◌<◌, ℤ, pos, List, map, length, sum_by, slice_index_or, Contains, Option, Some, None, if◌then◌else◌}
+use Rattle.std.specs.Prelude.{◌↔◌, ℕ, zero, suc, ◌+◌, ◌-◌, ◌*◌, ◌<◌, ◌≤◌, ℤ, pos, List, map, length, sum_by, slice_index_or, Contains, Option, Some, None, if◌then◌else◌}
 use Rattle.std.specs.List.{list_all}
 use Rattle.std.specs.List.Sorted.{IsStrictlyIncreasing}
 use Rattle.std.specs.Ordering.{int_eq}
@@ -14,6 +14,7 @@ use Rattle.tile_index.specs.Index.{found_at}
 use Rattle.tile_index.specs.Bytes.{index_bytes}
 use Rattle.block_file.specs.Format.{chain_blocks}
 use Rattle.tile_store.specs.Stored.{tile_box, number_at}
+use Rattle.block_file.specs.State.{BlocksState, free_of}
 
 -- the tiles that have a point in common with a box, rising
 pub record AreMeeting (domain area : List Axis) (tiles : List ℕ) : Type 0 where
@@ -33,25 +34,35 @@ abbrev pub entry_blocks : Option Entry → ℕ
 entry_blocks None = 0
 entry_blocks (Some e) = length e.blocks
 
+-- the number at a point after a box's numbers are put there
+abbrev pub patched_at : List Axis → List ℤ → (List ℤ → ℤ) → List ℤ → ℤ
+patched_at area numbers old p = if is_inside area p then slice_index_or numbers (rank_of area p) (pos 0) else old p
+
 -- the cells of a tile after a box's numbers are put into it
 abbrev pub cells_after : FieldType → List Axis → List (ℕ × Entry) → List ℕ → List Axis → List ℤ → ℕ → List ℤ
 cells_after kind domain index content area numbers tile =
-    map (λ (p : List ℤ). if is_inside area p then slice_index_or numbers (rank_of area p) (pos 0) else number_at kind domain index content p) (points (tile_box domain tile))
+    map (patched_at area numbers (number_at kind domain index content)) (points (tile_box domain tile))
 
 -- how many blocks the new tiles take, if a tile's new cells take so many
 abbrev pub new_blocks : (ℕ → ℕ) → List ℕ → ℕ
 new_blocks blocks tiles = sum_by blocks tiles
 
+-- how many bytes the entries of tiles take in an index, and how many changes give it
+abbrev pub replaced_bytes : List (ℕ × Entry) → List ℕ → ℕ
+replaced_bytes index tiles = sum_by (λ t. listed_bytes (entry_blocks (found_at t index))) tiles
+
+abbrev pub given_bytes : List (ℕ × Option Entry) → ℕ
+given_bytes changes = sum_by (λ (x : ℕ × Option Entry). listed_bytes (entry_blocks x.1)) changes
+
 -- how many bytes the index has after the new tiles have come
 abbrev pub index_size_after : (ℕ → ℕ) → List (ℕ × Entry) → List ℕ → ℕ
 index_size_after blocks index tiles =
-    (length (index_bytes index) + sum_by (λ t. listed_bytes (blocks t)) tiles) - sum_by (λ t. listed_bytes (entry_blocks (found_at t index))) tiles
+    (length (index_bytes index) + sum_by (λ t. listed_bytes (blocks t)) tiles) - replaced_bytes index tiles
 
 -- how many blocks a write needs, where the rest of the metadata has `rest` bytes
 abbrev pub room_for : (ℕ → ℕ) → List (ℕ × Entry) → List ℕ → ℕ → ℕ
 room_for blocks index tiles rest = new_blocks blocks tiles + chain_blocks (rest + index_size_after blocks index tiles)
 
--- A box of a field was refused for want of room: fewer blocks are free than its new tiles and the metadata need.
-abbrev pub LacksRoom : FieldType → List Axis → List (ℕ × Entry) → List ℕ → List Axis → List ℤ → ℕ → ℕ → Type 0
-LacksRoom kind domain index content area numbers rest free =
-    (tiles : List ℕ) × AreMeeting domain area tiles × (free < room_for (λ t. tile_blocks kind (cells_after kind domain index content area numbers t)) index tiles rest)
+-- so many blocks stay free for an index and metadata of `rest` bytes besides
+abbrev pub HasRoom : ℕ → List (ℕ × Entry) → BlocksState → Type 0
+HasRoom rest index s = chain_blocks (rest + length (index_bytes index)) ≤ free_of s

@@ -1,5 +1,5 @@
 -- What the tiles of a field say: a number at each point of its domain.
-use Rattle.std.specs.Prelude.{◌≡◌, ℕ, ◌<◌, ℤ, pos, List, [], map, take, length, slice_index_or, sum_by, All, Option, Some, None}
+use Rattle.std.specs.Prelude.{◌≡◌, ℕ, ◌<◌, ℤ, pos, List, [], map, take, length, slice_index_or, Option, Some, None}
 use Rattle.std.specs.List.{flat_map}
 use Rattle.arr_core.specs.declared.cell.FieldType.{FieldType}
 use Rattle.arr_core.specs.declared.domain.Axis.{Axis}
@@ -9,8 +9,8 @@ use Rattle.arr_core.specs.Meeting.{tile_at}
 use Rattle.run_tile.specs.Runs.{IsSpelling, cells_of, first_runs, run_count}
 use Rattle.tile_index.specs.declared.entry.Entry.{Entry}
 use Rattle.tile_index.specs.Index.{found_at}
-use Rattle.block_file.specs.Blocks.{block_at}
-use Rattle.tile_store.specs.Listing.{times_in}
+use Rattle.block_file.specs.State.{block_at}
+use Rattle.tile_store.specs.Listing.{listed}
 
 -- the bytes of a tile: those of its blocks in order, as many as its entry says
 unfoldable pub entry_data : List ℕ → Entry → List ℕ
@@ -25,6 +25,10 @@ abbrev pub tile_cells : FieldType → List ℕ → Option Entry → List ℤ
 tile_cells kind content None = []
 tile_cells kind content (Some e) = cells_read kind (entry_data content e)
 
+-- bytes spell so many cells
+abbrev pub Spells : FieldType → List ℕ → ℕ → Type 0
+Spells kind bytes n = IsSpelling kind bytes (cells_read kind bytes) × (length (cells_read kind bytes) ≡ n)
+
 -- the box of a tile of a domain
 abbrev pub tile_box : List Axis → ℕ → List Axis
 tile_box domain tile = slice_index_or (tile_boxes domain) tile []
@@ -36,34 +40,23 @@ tile_number domain p = rank_of (grid (edge_of (length domain)) domain) (tile_at 
 -- the stored number at a point: the one that its tile has there, and 0 where that tile is not listed
 unfoldable pub number_at : FieldType → List Axis → List (ℕ × Entry) → List ℕ → List ℤ → ℤ
 number_at kind domain index content p =
-    slice_index_or (tile_cells kind content (found_at (tile_number domain p) index)) (rank_of (tile_box domain (tile_number domain p)) p) (pos 0)
+    let tile = tile_number domain p in
+    slice_index_or (tile_cells kind content (found_at tile index)) (rank_of (tile_box domain tile) p) (pos 0)
 
 -- the stored numbers of a field, one at each point of its domain in row-major order
 unfoldable pub field_values : FieldType → List Axis → List (ℕ × Entry) → List ℕ → List ℤ
 field_values kind domain index content = map (number_at kind domain index content) (points domain)
 
--- an index lists only tiles below a number
-abbrev pub IsBelow : ℕ → List (ℕ × Entry) → Type 0
-IsBelow tiles index = All (λ (x : ℕ × Entry). x.0 < tiles) index
-
 -- a tile is not listed, or its bytes spell as many cells as it has points
 abbrev pub IsTileSpelled : FieldType → List Axis → List (ℕ × Entry) → List ℕ → ℕ → Type 0
 IsTileSpelled kind domain index content tile =
     (e : Entry) → found_at tile index ≡ Some e
-    → IsSpelling kind (entry_data content e) (cells_read kind (entry_data content e)) × (length (cells_read kind (entry_data content e)) ≡ count (tile_box domain tile))
+    → Spells kind (entry_data content e) (count (tile_box domain tile))
 
 -- each listed tile's bytes spell as many cells as the tile has points
 unfoldable pub IsSpelled : FieldType → List Axis → List (ℕ × Entry) → List ℕ → Type 0
 IsSpelled kind domain index content = (tile : ℕ) → IsTileSpelled kind domain index content tile
 
--- each listed block is whole
-abbrev pub AreWhole : List (ℕ × Entry) → List ℕ → Type 0
-AreWhole index content = (k : ℕ) → 0 < times_in k index → length (block_at content k) ≡ 4096
-
 -- the listed blocks of one content are those of another
 abbrev pub KeepsListed : List (ℕ × Entry) → List ℕ → List ℕ → Type 0
-KeepsListed index old new = (k : ℕ) → 0 < times_in k index → block_at new k ≡ block_at old k
-
--- how many blocks an index lists
-unfoldable pub block_count : List (ℕ × Entry) → ℕ
-block_count index = sum_by (λ (x : ℕ × Entry). length x.1.blocks) index
+KeepsListed index old new = (k : ℕ) → 0 < listed index k → block_at new k ≡ block_at old k

@@ -1,14 +1,11 @@
 //! The bytes of a tile in its blocks.
 
-ghost use Rattle.std.specs.Prelude.{◌≡◌, ℕ, ◌+◌, ◌*◌, ◌<◌, ◌≤◌, ◌^◌, List, length, take, IsErrOf, OnOk, IsTrue};
-ghost use Rattle.std.specs.List.{flat_map};
-ghost use Rattle.disk_face.specs.Disk.{Counts};
-ghost use Rattle.block_file.specs.Blocks.{block_at, IsDistinct};
-ghost use Rattle.block_file.specs.Format.{KeepsHeader};
-ghost use Rattle.tile_store.specs.Faults.{FaultCounts};
-ghost use Rattle.tile_store.specs.Listing.{times, KeepsUsed, OnlyReads};
-ghost use Rattle.tile_store.specs.Stored.{entry_data};
-ghost use Rattle.tile_store.specs.Written.{HoldsPart};
+ghost use Rattle.std.specs.Prelude.{◌≡◌, ◌*◌, ◌<◌, ◌≤◌, ◌^◌, length, IsErr, IsErrOf, OnOk, IsTrue};
+ghost use Rattle.disk_face.specs.Disk.{Tells};
+ghost use Rattle.block_file.specs.State.{times};
+ghost use Rattle.block_file.specs.Words.{OnlyReads, Moves, Covers};
+ghost use Rattle.tile_store.specs.Faults.{Refuses};
+ghost use Rattle.tile_store.specs.Written.{IsDataRead, HoldsPart, HoldsBytes, AreFresh};
 
 use crate::fault::Fault;
 use block_file::{BLOCK_BYTES, Blocks};
@@ -21,12 +18,11 @@ pub(crate) fn read_bytes<B: Blocks>(
     entry: &Entry,
     bytes: &mut Vec<u8>,
 ) -> Result<(), Fault>
-    requires { (k : ℕ) → 0 < times k entry.now.blocks → 0 < B.uses blocks.old k }
-    ensures value { OnOk result (IsTrue (B.honest blocks.old) → bytes.new.items ≡ entry_data (B.content blocks.old) entry.now) }
-    ensures reads { OnlyReads B.content B.uses B.free_blocks B.honest blocks.old blocks.new }
-    ensures counts { FaultCounts result (B.failures blocks.old) (B.failures blocks.new) }
-    ensures no_room { IsErrOf result Fault.NoRoom → ⊥ }
-    ensures damaged { IsErrOf result Fault.Damaged → ⊥ }
+    requires { Covers (B.state blocks.old) (times entry.now.blocks) }
+    ensures value { OnOk result (IsDataRead (B.state blocks.old) entry.now bytes.new.items) }
+    ensures why { Refuses result ⊥ ⊥ }
+    ensures frame { OnlyReads (B.state blocks.old) (B.state blocks.new) }
+    ensures told { Tells (IsErrOf result Fault.DiskFault) (B.state blocks.old).failures (B.state blocks.new).failures }
 {
     let numbers = entry.blocks.as_slice();
     bytes.clear();
@@ -57,19 +53,12 @@ pub(crate) fn write_bytes<B: Blocks>(
     numbers: &[u32],
     bytes: &[u8],
 ) -> Result<(), DiskFault>
-    requires used { (k : ℕ) → 0 < times k numbers.now → B.uses blocks.old k ≡ 1 }
-    requires distinct { IsDistinct numbers.now }
-    requires above_zero { (k : ℕ) → 0 < times k numbers.now → 0 < k }
+    requires fresh { AreFresh numbers.now (B.state blocks.old) }
     requires enough { length bytes.now ≤ 4096 * length numbers.now }
     requires few { length numbers.now < 2 ^ 32 }
-    ensures written { OnOk result (IsTrue (B.honest blocks.old) → take (length bytes.now) (flat_map (block_at (B.content blocks.new)) numbers.now) ≡ bytes.now) }
-    ensures whole { OnOk result (IsTrue (B.honest blocks.old) → (k : ℕ) → 0 < times k numbers.now → length (block_at (B.content blocks.new) k) ≡ 4096) }
-    ensures others { (k : ℕ) → times k numbers.now ≡ 0 → length (block_at (B.content blocks.old) k) ≡ 4096 → block_at (B.content blocks.new) k ≡ block_at (B.content blocks.old) k }
-    ensures header { KeepsHeader (B.content blocks.old) (B.content blocks.new) }
-    ensures uses { B.uses blocks.new ≡ B.uses blocks.old }
-    ensures free { B.free_blocks blocks.new ≡ B.free_blocks blocks.old }
-    ensures honest { B.honest blocks.new ≡ B.honest blocks.old }
-    ensures counts { Counts result (B.failures blocks.old) (B.failures blocks.new) }
+    ensures written { OnOk result (HoldsBytes numbers.now bytes.now (B.state blocks.new)) }
+    ensures frame { Moves (times numbers.now) (times numbers.now) (B.state blocks.old) (B.state blocks.new) }
+    ensures told { Tells (IsErr result) (B.state blocks.old).failures (B.state blocks.new).failures }
 {
     for place in 0..numbers.len() {
         let block = block_of(bytes, place);

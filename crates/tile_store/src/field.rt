@@ -1,33 +1,33 @@
-//! A field.
+//! A field: its tiles read, and a box of it read and written.
 
-ghost use Rattle.std.specs.Prelude.{◌≡◌, ℕ, ◌+◌, ◌<◌, ◌≤◌, ◌^◌, [], map, length, All, IsErrOf, IfOk, OnOk, OnErr, IsTrue, slice_index_or};
+ghost use Rattle.std.specs.Prelude.{◌≡◌, ◌<◌, ◌≤◌, [], length, option_copied, All, IsErrOf, IfOk, OnOk, OnErr, IsTrue};
 ghost use Rattle.arr_core.specs.Cells.{Fits};
-ghost use Rattle.arr_core.specs.Domains.{points, count, IsInside, IsBoxOf};
-ghost use Rattle.arr_core.specs.Stores.{updated_values};
+ghost use Rattle.arr_core.specs.Domains.{count, IsInside, IsBoxOf};
 ghost use Rattle.arr_core.specs.Tiles.{tile_boxes};
-ghost use Rattle.block_file.specs.Blocks.{block_at};
-ghost use Rattle.block_file.specs.Format.{chain_blocks, KeepsHeader};
+ghost use Rattle.disk_face.specs.Disk.{Tells};
+ghost use Rattle.block_file.specs.State.{none, times};
+ghost use Rattle.block_file.specs.Words.{OnlyReads, Recounts, Moves, Covers};
 ghost use Rattle.tile_index.specs.Bytes.{index_bytes};
-ghost use Rattle.tile_index.specs.Index.{IsIndex};
-ghost use Rattle.tile_store.specs.Faults.{FaultCounts};
-ghost use Rattle.tile_store.specs.Listing.{times_in, AreUsed, KeepsUsed, OnlyReads};
-ghost use Rattle.tile_store.specs.Numbers.{AreNumbers, numbers_in};
-ghost use Rattle.tile_store.specs.Overlays.{Overlaid};
-ghost use Rattle.tile_store.specs.Room.{LacksRoom, AreMeeting};
-ghost use Rattle.tile_store.specs.Stored.{number_at, field_values, IsBelow, IsSpelled, IsTileSpelled, AreWhole, tile_box, block_count};
+ghost use Rattle.tile_index.specs.Index.{IsIndex, found_at};
+ghost use Rattle.tile_store.specs.Faults.{Refuses};
+ghost use Rattle.tile_store.specs.Listing.{listed, IsSound, UsesOnce, Relists};
+ghost use Rattle.tile_store.specs.Patches.{CanPatch, Patches, RefusesPatch};
+ghost use Rattle.tile_store.specs.Reading.{IsTileRead, IsTileDamaged, IsPointRead, IsPointDamaged, IsCopied, IsAreaRead, IsAreaDamaged};
+ghost use Rattle.tile_store.specs.Room.{AreMeeting, HasRoom};
+ghost use Rattle.tile_store.specs.Stored.{tile_box};
+ghost use Rattle.tile_store.specs.Written.{CanExchange, Exchanges, GivesBack};
 
-use crate::copy::copy_common;
 use crate::fault::Fault;
-use crate::held::give_back_entries;
-use crate::numbers::Numbers;
-use crate::reserve::{EMPTY_INDEX, index_size};
-use crate::tile::{cell_count, fill_tile, read_tile, zeros};
-use crate::update::write_index;
+use crate::numbers::{Numbers, Patch};
+use crate::overlay::overlay;
+use crate::reserve::{EMPTY_INDEX, has_room, index_size};
+use crate::tile::{cell_count, fill_tile, zeros};
+use crate::update::{Fresh, Ready, prepare};
 use arr_core::{Domain, FieldType};
 use block_file::Blocks;
-use std::alloc::Global;
+use std::alloc::{AllocError, Global};
 use std::marker::Model;
-use tile_index::TileIndex;
+use tile_index::{Entry, TileIndex};
 
 /// The index of a field, and how many bytes it is written in.
 #[derive(Drop)]
@@ -77,6 +77,13 @@ impl FieldIndex {
         &self.index
     }
 
+    /// The entry of a tile. Takes no memory.
+    fn get(&self, tile: u64) -> Option<&Entry>
+        ensures { option_copied result ≡ found_at tile self.now }
+    {
+        self.index.get(tile)
+    }
+
     /// How many bytes the index is written in. Takes no memory.
     pub fn size(&self) -> u64
         ensures { result ≡ length (index_bytes self.now) }
@@ -85,44 +92,22 @@ impl FieldIndex {
     }
 }
 
-/// The stored number at a point.
-pub fn read_point<B: Blocks>(
-    alloc: Global,
-    blocks: &mut B,
-    kind: FieldType,
-    domain: &Domain,
-    field: &FieldIndex,
-    point: &[i32],
-) -> Result<i64, Fault>
-    requires inside { IsInside domain.now point.now }
-    requires used { (k : ℕ) → 0 < times_in k field.now → 0 < B.uses blocks.old k }
-    ensures value { IfOk result (λ z. IsTrue (B.honest blocks.old) → z ≡ number_at kind domain.now field.now (B.content blocks.old) point.now) }
-    ensures damaged { IsErrOf result Fault.Damaged → IsTrue (B.honest blocks.old) → IsSpelled kind domain.now field.now (B.content blocks.old) → ⊥ }
-    ensures no_room { IsErrOf result Fault.NoRoom → ⊥ }
-    ensures content { B.content blocks.new ≡ B.content blocks.old }
-    ensures uses { B.uses blocks.new ≡ B.uses blocks.old }
-    ensures free { B.free_blocks blocks.new ≡ B.free_blocks blocks.old }
-    ensures honest { B.honest blocks.new ≡ B.honest blocks.old }
-    ensures counts { FaultCounts result (B.failures blocks.old) (B.failures blocks.new) }
-{
-    let tile = domain.tile_of(point);
-    let part = domain.tile_box(alloc, tile)?;
-    let cells = read_tile(
-        alloc,
-        blocks,
-        kind,
-        field.index.get(tile),
-        cell_count(&part),
-    )?;
-    Ok(cells[part.rank(point) as usize])
-}
-
 /// A field as it is read: its type, its domain, and which of its tiles are listed.
 #[derive(Clone, Copy)]
 pub struct FieldTiles<'a> {
     pub kind: FieldType,
     pub domain: &'a Domain,
     pub index: &'a FieldIndex,
+}
+
+/// The box of a tile, by its number.
+pub(crate) fn part_of(alloc: Global, domain: &Domain, tile: u64) -> Result<Domain, AllocError>
+    requires { tile < length (tile_boxes domain.now) }
+    ensures part { IfOk result (λ part. tile_box domain.now tile ≡ part) }
+    ensures few { IfOk result (λ part. count part ≤ 4096) }
+{
+    let part = domain.tile_box(alloc, tile)?;
+    Ok(part)
 }
 
 /// Reads the stored numbers of a tile, by its number, into `cells`, at its points in row-major order, and its bytes
@@ -137,149 +122,175 @@ pub fn read_tile_into<B: Blocks>(
     cells: &mut Vec<i64>,
 ) -> Result<(), Fault>
     requires tile { tile < length (tile_boxes field.domain.now) }
-    requires used { (k : ℕ) → 0 < times_in k field.index.now → 0 < B.uses blocks.old k }
-    ensures value { OnOk result (IsTrue (B.honest blocks.old) → cells.new.items ≡ map (number_at field.entry.kind field.entry.domain.now field.entry.index.now (B.content blocks.old)) (points (tile_box field.entry.domain.now tile))) }
-    ensures counted { OnOk result (length cells.new.items ≡ length (points (tile_box field.entry.domain.now tile))) }
-    ensures fit { OnOk result (All (Fits field.entry.kind) cells.new.items) }
-    ensures spelled { OnOk result (IsTrue (B.honest blocks.old) → IsTileSpelled field.entry.kind field.entry.domain.now field.entry.index.now (B.content blocks.old) tile) }
-    ensures damaged { IsErrOf result Fault.Damaged → IsTrue (B.honest blocks.old) → IsTileSpelled field.entry.kind field.entry.domain.now field.entry.index.now (B.content blocks.old) tile → ⊥ }
-    ensures no_room { IsErrOf result Fault.NoRoom → ⊥ }
-    ensures reads { OnlyReads B.content B.uses B.free_blocks B.honest blocks.old blocks.new }
-    ensures counts { FaultCounts result (B.failures blocks.old) (B.failures blocks.new) }
+    requires used { Covers (B.state blocks.old) (listed field.index.now) }
+    ensures read { OnOk result (IsTileRead field.entry tile (B.state blocks.old) cells.new.items) }
+    ensures why { Refuses result (IsTileDamaged field.entry tile (B.state blocks.old)) ⊥ }
+    ensures frame { OnlyReads (B.state blocks.old) (B.state blocks.new) }
+    ensures told { Tells (IsErrOf result Fault.DiskFault) (B.state blocks.old).failures (B.state blocks.new).failures }
 {
-    let part = field.domain.tile_box(alloc, tile)?;
+    let part = part_of(alloc, field.domain, tile)?;
     let count = cell_count(&part);
-    let entry = field.index.index().get(tile);
+    let entry = field.index.get(tile);
     fill_tile(blocks, field.kind, entry, count, bytes, cells)?;
     Ok(())
+}
+
+/// The stored numbers of a tile, by its number, at its points in row-major order.
+pub(crate) fn read_tile<B: Blocks>(
+    alloc: Global,
+    blocks: &mut B,
+    field: FieldTiles,
+    tile: u64,
+) -> Result<Vec<i64>, Fault>
+    requires tile { tile < length (tile_boxes field.domain.now) }
+    requires used { Covers (B.state blocks.old) (listed field.index.now) }
+    ensures read { IfOk result (λ cells. IsTileRead field.entry tile (B.state blocks.old) cells.items) }
+    ensures why { Refuses result (IsTileDamaged field.entry tile (B.state blocks.old)) ⊥ }
+    ensures frame { OnlyReads (B.state blocks.old) (B.state blocks.new) }
+    ensures told { Tells (IsErrOf result Fault.DiskFault) (B.state blocks.old).failures (B.state blocks.new).failures }
+{
+    let mut bytes = Vec::new(alloc);
+    let mut cells = Vec::new(alloc);
+    read_tile_into(alloc, blocks, field, tile, &mut bytes, &mut cells)?;
+    Ok(cells)
+}
+
+/// The stored number at a point.
+pub fn read_point<B: Blocks>(
+    alloc: Global,
+    blocks: &mut B,
+    field: FieldTiles,
+    point: &[i32],
+) -> Result<i64, Fault>
+    requires inside { IsInside field.domain.now point.now }
+    requires used { Covers (B.state blocks.old) (listed field.index.now) }
+    ensures read { IfOk result (IsPointRead field.entry point.now (B.state blocks.old)) }
+    ensures why { Refuses result (IsPointDamaged field.entry point.now (B.state blocks.old)) ⊥ }
+    ensures frame { OnlyReads (B.state blocks.old) (B.state blocks.new) }
+    ensures told { Tells (IsErrOf result Fault.DiskFault) (B.state blocks.old).failures (B.state blocks.new).failures }
+{
+    let tile = field.domain.tile_of(point);
+    let part = part_of(alloc, field.domain, tile)?;
+    let cells = read_tile(alloc, blocks, field, tile)?;
+    Ok(cells[part.rank(point) as usize])
 }
 
 /// Copies the numbers of a tile to the points of a box that are in it.
 fn copy_tile<B: Blocks>(
     alloc: Global,
     blocks: &mut B,
-    kind: FieldType,
-    domain: &Domain,
-    field: &FieldIndex,
+    field: FieldTiles,
     tile: u64,
     area: &Domain,
     cells: &mut [i64],
 ) -> Result<(), Fault>
-    requires tile { tile < length (tile_boxes domain.now) }
-    requires used { (k : ℕ) → 0 < times_in k field.now → 0 < B.uses blocks.old k }
+    requires tile { tile < length (tile_boxes field.domain.now) }
+    requires used { Covers (B.state blocks.old) (listed field.index.now) }
     requires counted { length cells.old ≡ count area.now }
-    requires fit { All (Fits kind) cells.old }
-    ensures value { OnOk result (IsTrue (B.honest blocks.old) → Overlaid area.now (tile_box domain.now tile) (number_at kind domain.now field.now (B.content blocks.old)) cells.old cells.new) }
-    ensures fit { All (Fits kind) cells.new }
-    ensures damaged { IsErrOf result Fault.Damaged → IsTrue (B.honest blocks.old) → IsSpelled kind domain.now field.now (B.content blocks.old) → ⊥ }
-    ensures no_room { IsErrOf result Fault.NoRoom → ⊥ }
-    ensures content { B.content blocks.new ≡ B.content blocks.old }
-    ensures uses { B.uses blocks.new ≡ B.uses blocks.old }
-    ensures free { B.free_blocks blocks.new ≡ B.free_blocks blocks.old }
-    ensures honest { B.honest blocks.new ≡ B.honest blocks.old }
-    ensures counts { FaultCounts result (B.failures blocks.old) (B.failures blocks.new) }
+    requires fit { All (Fits field.kind) cells.old }
+    ensures copied { OnOk result (IsCopied field.entry tile area.now (B.state blocks.old) cells.old cells.new) }
+    ensures fit { All (Fits field.entry.kind) cells.new }
+    ensures why { Refuses result (IsTileDamaged field.entry tile (B.state blocks.old)) ⊥ }
+    ensures frame { OnlyReads (B.state blocks.old) (B.state blocks.new) }
+    ensures told { Tells (IsErrOf result Fault.DiskFault) (B.state blocks.old).failures (B.state blocks.new).failures }
 {
-    let part = domain.tile_box(alloc, tile)?;
-    let numbers = read_tile(
-        alloc,
-        blocks,
-        kind,
-        field.index.get(tile),
-        cell_count(&part),
-    )?;
-    copy_common(cells, area.axes(), &numbers, part.axes());
+    let part = part_of(alloc, field.domain, tile)?;
+    let numbers = Numbers::Each(read_tile(alloc, blocks, field, tile)?);
+    overlay(cells, area.axes(), &numbers, 0, part.axes());
     Ok(())
 }
 
-/// The stored numbers of a box at its points in row-major order, from the tiles that it meets,
-/// whose numbers these are.
+/// The stored numbers of a box at its points in row-major order, from the tiles that it meets, whose numbers these
+/// are. `Damaged` comes where one of them is not spelled as the format says.
 pub fn read_area<B: Blocks>(
     alloc: Global,
     blocks: &mut B,
-    kind: FieldType,
-    domain: &Domain,
-    field: &FieldIndex,
+    field: FieldTiles,
     area: &Domain,
     tiles: &[u64],
 ) -> Result<Vec<i64>, Fault>
-    requires area { IsBoxOf domain.now area.now }
-    requires tiles { AreMeeting domain.now area.now tiles.now }
-    requires used { (k : ℕ) → 0 < times_in k field.now → 0 < B.uses blocks.old k }
-    ensures value { IfOk result (λ cells. IsTrue (B.honest blocks.old) → cells.items ≡ map (number_at kind domain.now field.now (B.content blocks.old)) (points area.now)) }
-    ensures counted { IfOk result (λ cells. length cells.items ≡ length (points area.now)) }
-    ensures fit { IfOk result (λ cells. All (Fits kind) cells.items) }
-    ensures damaged { IsErrOf result Fault.Damaged → IsTrue (B.honest blocks.old) → IsSpelled kind domain.now field.now (B.content blocks.old) → ⊥ }
-    ensures no_room { IsErrOf result Fault.NoRoom → ⊥ }
-    ensures content { B.content blocks.new ≡ B.content blocks.old }
-    ensures uses { B.uses blocks.new ≡ B.uses blocks.old }
-    ensures free { B.free_blocks blocks.new ≡ B.free_blocks blocks.old }
-    ensures honest { B.honest blocks.new ≡ B.honest blocks.old }
-    ensures counts { FaultCounts result (B.failures blocks.old) (B.failures blocks.new) }
+    requires area { IsBoxOf field.domain.now area.now }
+    requires tiles { AreMeeting field.domain.now area.now tiles.now }
+    requires used { Covers (B.state blocks.old) (listed field.index.now) }
+    ensures read { IfOk result (λ cells. IsAreaRead field.entry area.now (B.state blocks.old) cells.items) }
+    ensures why { Refuses result (IsAreaDamaged field.entry area.now (B.state blocks.old)) ⊥ }
+    ensures frame { OnlyReads (B.state blocks.old) (B.state blocks.new) }
+    ensures told { Tells (IsErrOf result Fault.DiskFault) (B.state blocks.old).failures (B.state blocks.new).failures }
 {
     let mut cells = zeros(alloc, cell_count(area))?;
     for tile in tiles {
-        copy_tile(alloc, blocks, kind, domain, field, *tile, area, &mut cells)?;
+        copy_tile(alloc, blocks, field, *tile, area, &mut cells)?;
     }
     Ok(cells)
 }
 
-/// Writes numbers into a box of a field. The other metadata has `rest` bytes, or more than a `u64` holds where that is
-/// its last value. After a refusal the field is as before.
-pub fn write_area<B: Blocks>(
-    alloc: Global,
+/// Gives the index its new tiles, and gives back the blocks of those that they replace. Where memory is wanting, the
+/// blocks that were taken are given back, and the field stays as it is.
+fn exchange<B: Blocks>(
     blocks: &mut B,
-    kind: FieldType,
-    domain: &Domain,
     field: &mut FieldIndex,
-    area: &Domain,
-    numbers: &Numbers,
-    rest: u64,
-) -> Result<(), Fault>
-    requires area { IsBoxOf domain.now area.now }
-    requires numbers { AreNumbers kind area.now numbers.now }
-    requires below { IsBelow (length (tile_boxes domain.now)) field.old }
-    requires listed { AreUsed (λ k. times_in k field.old) (B.uses blocks.old) }
-    requires whole { IsTrue (B.honest blocks.old) → AreWhole field.old (B.content blocks.old) }
-    ensures written { OnOk result (IsTrue (B.honest blocks.old) → field_values kind domain.now field.new (B.content blocks.new) ≡ updated_values domain.now area.now (numbers_in area.now numbers.now) (field_values kind domain.now field.old (B.content blocks.old))) }
-    ensures spelled { OnOk result (IsTrue (B.honest blocks.old) → IsSpelled kind domain.now field.old (B.content blocks.old) → IsSpelled kind domain.now field.new (B.content blocks.new)) }
-    ensures unchanged { OnErr result (field.new ≡ field.old) }
-    ensures below { IsBelow (length (tile_boxes domain.now)) field.new }
-    ensures listed { AreUsed (λ k. times_in k field.new) (B.uses blocks.new) }
-    ensures whole { IsTrue (B.honest blocks.old) → AreWhole field.new (B.content blocks.new) }
-    ensures uses { (k : ℕ) → B.uses blocks.new k + times_in k field.old ≡ B.uses blocks.old k + times_in k field.new }
-    ensures free { B.free_blocks blocks.new + block_count field.new ≡ B.free_blocks blocks.old + block_count field.old }
-    ensures kept { KeepsUsed (B.uses blocks.old) (block_at (B.content blocks.old)) (block_at (B.content blocks.new)) }
-    ensures header { KeepsHeader (B.content blocks.old) (B.content blocks.new) }
-    ensures closable { OnOk result (chain_blocks (rest + length (index_bytes field.new)) ≤ B.free_blocks blocks.new) }
-    ensures room { IsErrOf result Fault.NoRoom → IsTrue (B.honest blocks.old) → IsSpelled kind domain.now field.old (B.content blocks.old) → LacksRoom kind domain.now field.old (B.content blocks.old) area.now (numbers_in area.now numbers.now) rest (B.free_blocks blocks.old) }
-    ensures damaged { IsErrOf result Fault.Damaged → IsTrue (B.honest blocks.old) → IsSpelled kind domain.now field.old (B.content blocks.old) → ⊥ }
-    ensures honest { B.honest blocks.new ≡ B.honest blocks.old }
-    ensures counts { FaultCounts result (B.failures blocks.old) (B.failures blocks.new) }
+    ready: Ready,
+) -> Result<(), AllocError>
+    requires { CanExchange field.old ready (B.state blocks.old) }
+    ensures done { OnOk result (Exchanges ready (B.state blocks.old) field.old (B.state blocks.new) field.new) }
+    ensures same { OnErr result (field.new ≡ field.old) }
+    ensures back { OnErr result (GivesBack ready (B.state blocks.old) (B.state blocks.new)) }
+    ensures quiet { (B.state blocks.new).failures ≡ (B.state blocks.old).failures }
 {
-    let _axes = domain.axes();
-    let size = write_index(
-        alloc,
-        blocks,
-        kind,
-        domain,
-        &mut field.index,
-        field.size,
-        area,
-        numbers,
-        rest,
-    )?;
+    let Ready {
+        fresh,
+        replaced,
+        size,
+    } = ready;
+    let Fresh {
+        changes,
+        blocks: taken,
+    } = fresh;
+    if let Err(error) = field.index.replace_all(changes) {
+        blocks.give_back(&taken);
+        return Err(error);
+    }
     field.size = size;
+    blocks.give_back(&replaced);
     Ok(())
 }
 
-/// Gives back the blocks of all tiles of fields.
-pub fn give_back<B: Blocks>(blocks: &mut B, field: &FieldIndex)
-    requires { AreUsed (λ k. times_in k field.now) (B.uses blocks.old) }
-    ensures uses { (k : ℕ) → B.uses blocks.new k + times_in k field.now ≡ B.uses blocks.old k }
-    ensures free { B.free_blocks blocks.new ≡ B.free_blocks blocks.old + block_count field.now }
-    ensures content { B.content blocks.new ≡ B.content blocks.old }
-    ensures honest { B.honest blocks.new ≡ B.honest blocks.old }
-    ensures failures { B.failures blocks.new ≡ B.failures blocks.old }
+/// Writes a patch into its field. The other metadata has `rest` bytes, or more than a `u64` holds where that is its
+/// last value. After a refusal the field is as before, and no block is used otherwise.
+pub fn write_area<B: Blocks>(
+    alloc: Global,
+    blocks: &mut B,
+    field: &mut FieldIndex,
+    patch: &Patch,
+    rest: u64,
+) -> Result<(), Fault>
+    requires { CanPatch patch.now (B.state blocks.old) field.old }
+    ensures done { OnOk result (Patches patch.now (B.state blocks.old) field.old (B.state blocks.new) field.new) }
+    ensures sound { OnOk result (IsSound patch.now.domain.now (B.state blocks.new) field.new) }
+    ensures frame { OnOk result (Relists field.old field.new (B.state blocks.old) (B.state blocks.new)) }
+    ensures once { OnOk result (UsesOnce (B.state blocks.old) (B.state blocks.new)) }
+    ensures room { OnOk result (HasRoom rest field.new (B.state blocks.new)) }
+    ensures same { OnErr result (field.new ≡ field.old) }
+    ensures kept { OnErr result (Moves none none (B.state blocks.old) (B.state blocks.new)) }
+    ensures why { RefusesPatch result patch.now rest (B.state blocks.old) field.old }
+    ensures told { Tells (IsErrOf result Fault.DiskFault) (B.state blocks.old).failures (B.state blocks.new).failures }
 {
-    give_back_entries(blocks, field.index.as_slice());
+    let ready = prepare(alloc, blocks, field, patch)?;
+    if !has_room(blocks.free(), rest, ready.size) {
+        blocks.give_back(&ready.fresh.blocks);
+        return Err(Fault::NoRoom);
+    }
+    exchange(blocks, field, ready)?;
+    Ok(())
+}
+
+/// Gives back the blocks of all tiles of a field: one use of each for each time that it is listed.
+pub fn give_back<B: Blocks>(blocks: &mut B, field: &FieldIndex)
+    requires { Covers (B.state blocks.old) (listed field.now) }
+    ensures { Recounts (listed field.now) none (B.state blocks.old) (B.state blocks.new) }
+{
+    let entries = field.index.as_slice();
+    for (_tile, entry) in entries {
+        blocks.give_back(entry.blocks.as_slice());
+    }
 }

@@ -3,11 +3,10 @@
 #![tactic(auto)]
 
 mod bytes;
-mod copy;
 mod fault;
 mod field;
-mod held;
 mod numbers;
+mod overlay;
 mod reserve;
 mod tile;
 mod update;
@@ -16,4 +15,4 @@ pub use fault::Fault;
 pub use field::{
     FieldIndex, FieldTiles, give_back, read_area, read_point, read_tile_into, write_area,
 };
-pub use numbers::Numbers;
+pub use numbers::{Numbers, Patch};

@@ -1,14 +1,11 @@
-//! The stored numbers that a write puts into a box.
+//! The stored numbers that are written into a box.
 
-ghost use Rattle.std.specs.Prelude.{◌≡◌, length, All};
-ghost use Rattle.arr_core.specs.Cells.{Fits};
-ghost use Rattle.arr_core.specs.Domains.{count};
-ghost use Rattle.tile_store.specs.Overlays.{Overlaid, cell_at};
+ghost use Rattle.std.specs.Prelude.{◌≡◌, ◌+◌};
+ghost use Rattle.tile_store.specs.Numbers.{HasNumbers, number_of};
 
-use crate::copy::{copy_common, fill_common};
 use arr_core::{Domain, FieldType};
 
-/// One number for each point of the box, or one for each in row-major order.
+/// One number for each point of a box, or one for each in row-major order.
 #[derive(Drop)]
 pub enum Numbers {
     Same(i64),
@@ -16,20 +13,23 @@ pub enum Numbers {
 }
 
 impl Numbers {
-    ghost use Rattle.tile_store.specs.Numbers.{AreNumbers, numbers_in};
-
-    /// Writes the numbers of the points that a tile has in common with the box.
-    pub(crate) fn overlay(&self, cells: &mut [i64], kind: FieldType, tile: &Domain, area: &Domain)
-        requires counted { length cells.old ≡ count tile.now }
-        requires numbers { AreNumbers kind area.now self.now }
-        requires fit { All (Fits kind) cells.old }
-        ensures overlaid { Overlaid tile.now area.now (cell_at area.now (numbers_in area.now self.now)) cells.old cells.new }
-        ensures fit { All (Fits kind) cells.new }
-        ensures counted { length cells.new ≡ count tile.now }
+    /// The number at a place.
+    pub(crate) fn at(&self, place: usize) -> i64
+        requires { HasNumbers self.now (place + 1) }
+        ensures { result ≡ number_of self.now place }
     {
         match self {
-            Numbers::Same(number) => fill_common(cells, tile.axes(), area.axes(), *number),
-            Numbers::Each(list) => copy_common(cells, tile.axes(), list, area.axes()),
+            Numbers::Same(number) => *number,
+            Numbers::Each(list) => list[place],
         }
     }
+}
+
+/// What is written where: numbers, into a box of a field with this type and domain.
+#[derive(Clone, Copy)]
+pub struct Patch<'a, 'b> {
+    pub kind: FieldType,
+    pub domain: &'a Domain,
+    pub area: &'b Domain,
+    pub numbers: &'b Numbers,
 }

@@ -5,8 +5,8 @@ ghost use Rattle.block_file.specs.Format.{chain_blocks};
 ghost use Rattle.tile_index.specs.declared.entry.Entry.{Entry};
 ghost use Rattle.tile_index.specs.Bytes.{index_bytes};
 ghost use Rattle.tile_index.specs.Entries.{IsEntry};
-ghost use Rattle.tile_index.specs.Index.{found_at, IsIndex};
-ghost use Rattle.tile_store.specs.Room.{listed_bytes, entry_blocks};
+ghost use Rattle.tile_index.specs.Index.{IsIndex};
+ghost use Rattle.tile_store.specs.Room.{listed_bytes, entry_blocks, replaced_bytes, given_bytes};
 
 use block_file::CHAIN_BYTES;
 use tile_index::{Entry, TileIndex};
@@ -44,7 +44,7 @@ pub(crate) fn index_size(index: &TileIndex) -> u64
 pub(crate) fn listed_size(index: &TileIndex, tiles: &[u64]) -> u64
     requires index { IsIndex index.now }
     requires few { length tiles.now ≤ 2 ^ 32 }
-    ensures { result ≡ sum_by (λ t. listed_bytes (entry_blocks (found_at t index.now))) tiles.now }
+    ensures { result ≡ replaced_bytes index.now tiles.now }
 {
     let mut size = 0u64;
     for tile in tiles {
@@ -57,7 +57,7 @@ pub(crate) fn listed_size(index: &TileIndex, tiles: &[u64]) -> u64
 pub(crate) fn changes_size(changes: &[(u64, Option<Entry>)]) -> u64
     requires entries { All (λ x. (e : Entry) → x.1 ≡ Some e → IsEntry e) changes.now }
     requires few { length changes.now ≤ 2 ^ 32 }
-    ensures value { result ≡ sum_by (λ x. listed_bytes (entry_blocks x.1)) changes.now }
+    ensures value { result ≡ given_bytes changes.now }
     ensures small { result ≤ 2 ^ 40 }
 {
     let mut size = 0u64;

@@ -1,22 +1,21 @@
-//! One tile: its cells read from blocks, and written to fresh ones.
+//! One tile: its cells read by its entry, and written to fresh blocks.
 
-ghost use Rattle.std.specs.Prelude.{◌≡◌, ◌≢◌, ℕ, ◌+◌, ◌<◌, ◌≤◌, ℤ, pos, List, length, All, option_copied, Some, IsErrOf, IfOk, OnOk, OnErr, IsTrue, ◌++◌, ◌↔◌, replicate};
+ghost use Rattle.std.specs.Prelude.{◌≡◌, ◌<◌, ◌≤◌, ◌++◌, ◌↔◌, pos, length, All, option_copied, IsErrOf, IfOk, OnOk, IsTrue, replicate};
 ghost use Rattle.std.specs.List.{list_all};
 ghost use Rattle.std.specs.Ordering.{int_eq};
 ghost use Rattle.arr_core.specs.Cells.{Fits};
 ghost use Rattle.arr_core.specs.Domains.{points, count, AreOrdered};
-ghost use Rattle.block_file.specs.Blocks.{block_at, AreInUse, IsDistinct};
-ghost use Rattle.block_file.specs.Format.{KeepsHeader};
-ghost use Rattle.tile_index.specs.Entries.{IsEntry};
-ghost use Rattle.tile_index.specs.declared.entry.Entry.{Entry};
-ghost use Rattle.tile_store.specs.Faults.{FaultCounts};
-ghost use Rattle.tile_store.specs.Listing.{times, entry_times, Extends, KeepsUsed, OnlyReads};
-ghost use Rattle.tile_store.specs.Room.{tile_blocks, entry_blocks};
-ghost use Rattle.tile_store.specs.Written.{EntrySpells, SaysCells, IsWritten};
+ghost use Rattle.disk_face.specs.Disk.{Tells};
+ghost use Rattle.block_file.specs.State.{free_of};
+ghost use Rattle.block_file.specs.Words.{OnlyReads, Covers};
+ghost use Rattle.tile_store.specs.Faults.{Refuses};
+ghost use Rattle.tile_store.specs.Listing.{entry_times, Takes};
+ghost use Rattle.tile_store.specs.Room.{tile_blocks};
+ghost use Rattle.tile_store.specs.Written.{IsRead, IsEntryDamaged, IsNewTile, AreFresh, AreUnused};
 
 use crate::bytes::{read_bytes, write_bytes};
-use crate::copy::count_of;
 use crate::fault::Fault;
+use crate::overlay::count_of;
 use arr_core::{Domain, FieldType};
 use block_file::{BLOCK_BYTES, Blocks};
 use run_tile::{decode_into, encode};
@@ -43,15 +42,11 @@ pub(crate) fn fill_tile<B: Blocks>(
     bytes: &mut Vec<u8>,
     cells: &mut Vec<i64>,
 ) -> Result<(), Fault>
-    requires { (k : ℕ) → 0 < entry_times k (option_copied entry) → 0 < B.uses blocks.old k }
-    ensures value { OnOk result (IsTrue (B.honest blocks.old) → SaysCells kind (B.content blocks.old) (option_copied entry.entry) cells.new.items) }
-    ensures counted { OnOk result (length cells.new.items ≡ count) }
-    ensures fit { OnOk result (All (Fits kind) cells.new.items) }
-    ensures spelled { OnOk result (IsTrue (B.honest blocks.old) → EntrySpells kind (B.content blocks.old) (option_copied entry.entry) count) }
-    ensures damaged { IsErrOf result Fault.Damaged → IsTrue (B.honest blocks.old) → EntrySpells kind (B.content blocks.old) (option_copied entry.entry) count → ⊥ }
-    ensures no_room { IsErrOf result Fault.NoRoom → ⊥ }
-    ensures reads { OnlyReads B.content B.uses B.free_blocks B.honest blocks.old blocks.new }
-    ensures counts { FaultCounts result (B.failures blocks.old) (B.failures blocks.new) }
+    requires { Covers (B.state blocks.old) (entry_times (option_copied entry)) }
+    ensures read { OnOk result (IsRead kind count (B.state blocks.old) (option_copied entry.entry) cells.new.items) }
+    ensures why { Refuses result (IsEntryDamaged kind count (B.state blocks.old) (option_copied entry.entry)) ⊥ }
+    ensures frame { OnlyReads (B.state blocks.old) (B.state blocks.new) }
+    ensures told { Tells (IsErrOf result Fault.DiskFault) (B.state blocks.old).failures (B.state blocks.new).failures }
 {
     match entry {
         None => {
@@ -65,33 +60,6 @@ pub(crate) fn fill_tile<B: Blocks>(
             Ok(())
         }
     }
-}
-
-/// The cells of a tile with `count` points. A tile without an entry is 0 everywhere.
-pub(crate) fn read_tile<B: Blocks>(
-    alloc: Global,
-    blocks: &mut B,
-    kind: FieldType,
-    entry: Option<&Entry>,
-    count: usize,
-) -> Result<Vec<i64>, Fault>
-    requires { (k : ℕ) → 0 < entry_times k (option_copied entry) → 0 < B.uses blocks.old k }
-    ensures value { IfOk result (λ cells. IsTrue (B.honest blocks.old) → SaysCells kind (B.content blocks.old) (option_copied entry.entry) cells.items) }
-    ensures counted { IfOk result (λ cells. length cells.items ≡ count) }
-    ensures fit { IfOk result (λ cells. All (Fits kind) cells.items) }
-    ensures spelled { OnOk result (IsTrue (B.honest blocks.old) → EntrySpells kind (B.content blocks.old) (option_copied entry.entry) count) }
-    ensures damaged { IsErrOf result Fault.Damaged → IsTrue (B.honest blocks.old) → EntrySpells kind (B.content blocks.old) (option_copied entry.entry) count → ⊥ }
-    ensures content { B.content blocks.new ≡ B.content blocks.old }
-    ensures uses { B.uses blocks.new ≡ B.uses blocks.old }
-    ensures free { B.free_blocks blocks.new ≡ B.free_blocks blocks.old }
-    ensures honest { B.honest blocks.new ≡ B.honest blocks.old }
-    ensures counts { FaultCounts result (B.failures blocks.old) (B.failures blocks.new) }
-    ensures no_room { IsErrOf result Fault.NoRoom → ⊥ }
-{
-    let mut bytes = Vec::new(alloc);
-    let mut cells = Vec::new(alloc);
-    fill_tile(blocks, kind, entry, count, &mut bytes, &mut cells)?;
-    Ok(cells)
 }
 
 /// So many zeros.
@@ -115,17 +83,13 @@ fn take_fresh<B: Blocks>(
     taken: &mut Vec<u32>,
     count: usize,
 ) -> Result<Vec<u32>, Fault>
-    ensures len { IfOk result (λ fresh. length fresh.items ≡ count) }
+    ensures count { IfOk result (λ fresh. length fresh.items ≡ count) }
     ensures added { IfOk result (λ fresh. taken.new.items ≡ taken.old.items ++ fresh.items) }
-    ensures distinct { IfOk result (λ fresh. IsDistinct fresh.items) }
-    ensures extends { Extends taken.old.items taken.new.items (B.uses blocks.old) (B.uses blocks.new) }
-    ensures free { B.free_blocks blocks.new + length taken.new.items ≡ B.free_blocks blocks.old + length taken.old.items }
-    ensures room { IsErrOf result Fault.NoRoom → B.free_blocks blocks.old < count }
-    ensures content { B.content blocks.new ≡ B.content blocks.old }
-    ensures honest { B.honest blocks.new ≡ B.honest blocks.old }
-    ensures failures { B.failures blocks.new ≡ B.failures blocks.old }
-    ensures disk { IsErrOf result Fault.DiskFault → ⊥ }
-    ensures damaged { IsErrOf result Fault.Damaged → ⊥ }
+    ensures fresh { IfOk result (λ fresh. AreFresh fresh.items (B.state blocks.new)) }
+    ensures unused { IfOk result (λ fresh. AreUnused fresh.items (B.state blocks.old)) }
+    ensures takes { Takes taken.old.items taken.new.items (B.state blocks.old) (B.state blocks.new) }
+    ensures why { Refuses result ⊥ (free_of (B.state blocks.old) < count) }
+    ensures told { Tells (IsErrOf result Fault.DiskFault) (B.state blocks.old).failures (B.state blocks.new).failures }
 {
     let fresh = blocks.take(count)?;
     if taken.extend_from_slice(&fresh).is_err() {
@@ -147,20 +111,10 @@ pub(crate) fn write_tile<B: Blocks>(
     requires some { 1 ≤ length cells.now }
     requires few { length cells.now ≤ 4096 }
     requires fit { All (Fits kind) cells.now }
-    requires used { (k : ℕ) → 0 < times k taken.old.items → B.uses blocks.old k ≡ 1 }
-    ensures written { IfOk result (λ change. IsTrue (B.honest blocks.old) → IsWritten kind (B.content blocks.new) change cells.now) }
-    ensures whole { IfOk result (λ change. IsTrue (B.honest blocks.old) → (k : ℕ) → 0 < entry_times k change → length (block_at (B.content blocks.new) k) ≡ 4096) }
-    ensures size { IfOk result (λ change. length taken.new.items ≡ length taken.old.items + entry_blocks change) }
-    ensures room { IsErrOf result Fault.NoRoom → B.free_blocks blocks.old < tile_blocks kind cells.now }
-    ensures entry { IfOk result (λ change. (e : Entry) → change ≡ Some e → IsEntry e) }
-    ensures added { IfOk result (λ change. (k : ℕ) → times k taken.new.items ≡ times k taken.old.items + entry_times k change) }
-    ensures extends { Extends taken.old.items taken.new.items (B.uses blocks.old) (B.uses blocks.new) }
-    ensures free { B.free_blocks blocks.new + length taken.new.items ≡ B.free_blocks blocks.old + length taken.old.items }
-    ensures kept { KeepsUsed (B.uses blocks.old) (block_at (B.content blocks.old)) (block_at (B.content blocks.new)) }
-    ensures header { KeepsHeader (B.content blocks.old) (B.content blocks.new) }
-    ensures honest { B.honest blocks.new ≡ B.honest blocks.old }
-    ensures counts { FaultCounts result (B.failures blocks.old) (B.failures blocks.new) }
-    ensures damaged { IsErrOf result Fault.Damaged → ⊥ }
+    ensures written { IfOk result (IsNewTile kind (B.state blocks.new) taken.old.items taken.new.items cells.now) }
+    ensures takes { Takes taken.old.items taken.new.items (B.state blocks.old) (B.state blocks.new) }
+    ensures why { Refuses result ⊥ (free_of (B.state blocks.old) < tile_blocks kind cells.now) }
+    ensures told { Tells (IsErrOf result Fault.DiskFault) (B.state blocks.old).failures (B.state blocks.new).failures }
 {
     if are_zero(cells) {
         return Ok(None);

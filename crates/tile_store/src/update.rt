@@ -1,181 +1,132 @@
-//! A box of one field written: the new tiles go to fresh blocks, and then the index is exchanged.
+//! New tiles written to fresh blocks.
 
-ghost use Rattle.std.specs.Prelude.{◌≡◌, ℕ, ◌+◌, ◌-◌, ◌<◌, ◌≤◌, ◌^◌, List, [], length, map, All, Option, Some, None, option_copied, IsErrOf, IfOk, OnOk, OnErr, IsTrue, sum_by, false, slice_index_or, pos, ℤ};
-ghost use Rattle.std.specs.List.Sorted.{IsStrictlyIncreasing};
-ghost use Rattle.arr_core.specs.Cells.{Fits};
-ghost use Rattle.arr_core.specs.Domains.{rank_of, IsInside, is_inside, IsDomain, IsBoxOf};
-ghost use Rattle.arr_core.specs.Stores.{updated_values};
+ghost use Rattle.std.specs.Prelude.{◌≡◌, ◌≢◌, ℕ, ◌+◌, ◌<◌, ◌≤◌, ◌^◌, [], length, All, Option, Some, IsErrOf, IfOk, OnOk, OnErr, option_copied, sum_by};
 ghost use Rattle.arr_core.specs.Tiles.{tile_boxes};
-ghost use Rattle.block_file.specs.Blocks.{block_at};
-ghost use Rattle.block_file.specs.Format.{chain_blocks, KeepsHeader};
+ghost use Rattle.disk_face.specs.Disk.{Tells};
+ghost use Rattle.block_file.specs.State.{times, none};
+ghost use Rattle.block_file.specs.Words.{OnlyReads, Moves, Covers};
 ghost use Rattle.tile_index.specs.declared.entry.Entry.{Entry};
 ghost use Rattle.tile_index.specs.Bytes.{index_bytes};
-ghost use Rattle.tile_index.specs.Entries.{IsEntry};
-ghost use Rattle.tile_index.specs.Index.{found_at, changed_at, IsIndex, IsRising};
-ghost use Rattle.tile_store.specs.Faults.{FaultCounts};
-ghost use Rattle.tile_store.specs.Listing.{times, times_in, entry_times, AreUsed, Extends, KeepsUsed};
-ghost use Rattle.tile_store.specs.Numbers.{AreNumbers, numbers_in};
-ghost use Rattle.tile_store.specs.Changes.{tiles_of, times_given, times_listed};
-ghost use Rattle.tile_store.specs.Room.{tile_blocks, entry_blocks, cells_after, new_blocks, index_size_after, room_for, listed_bytes, LacksRoom};
-ghost use Rattle.tile_store.specs.Stored.{tile_cells, field_values, IsBelow, IsSpelled, AreWhole, block_count};
-ghost use Rattle.tile_store.specs.Written.{EntrySpells, IsWritten};
+ghost use Rattle.tile_store.specs.Faults.{Refuses};
+ghost use Rattle.tile_store.specs.Listing.{AddsBlocks, listed, listed_for, IsSound, Takes};
+ghost use Rattle.tile_store.specs.Patches.{CanPatch, IsPatch, RefusesPatch};
+ghost use Rattle.tile_store.specs.Room.{AreMeeting, replaced_bytes, given_bytes};
+ghost use Rattle.tile_store.specs.Stored.{tile_box};
+ghost use Rattle.tile_store.specs.Written.{AreBefore, AreAfter, IsCutDamaged, Writes, RefusesTiles, IsSized, IsReady};
 
 use crate::fault::Fault;
-use crate::numbers::Numbers;
-use crate::reserve::{changes_size, has_room, listed_size};
-use crate::tile::{cell_count, read_tile, write_tile, zeros};
-use arr_core::{Domain, FieldType};
+use crate::field::{FieldIndex, FieldTiles, part_of, read_tile};
+use crate::numbers::Patch;
+use crate::overlay::overlay;
+use crate::reserve::{changes_size, listed_size};
+use crate::tile::{cell_count, write_tile, zeros};
+use arr_core::Domain;
 use block_file::Blocks;
 use std::alloc::{AllocError, Global};
 use tile_index::{Entry, TileIndex};
 
-/// The cells of a tile with `count` points before a write. Those inside the box may be any.
+/// What tiles become, and the blocks that were taken for them.
+#[derive(Drop)]
+pub(crate) struct Fresh {
+    pub changes: Vec<(u64, Option<Entry>)>,
+    pub blocks: Vec<u32>,
+}
+
+impl Fresh {
+    /// No tiles yet.
+    fn new(alloc: Global) -> Fresh
+        ensures changes { result.changes.items ≡ [] }
+        ensures blocks { result.blocks.items ≡ [] }
+    {
+        Fresh {
+            changes: Vec::new(alloc),
+            blocks: Vec::new(alloc),
+        }
+    }
+}
+
+/// The cells of a tile, whose box is `part`, before a write. Those inside the patch's box may be any.
 fn cells_before<B: Blocks>(
     alloc: Global,
     blocks: &mut B,
-    kind: FieldType,
-    entry: Option<&Entry>,
-    tile: &Domain,
-    area: &Domain,
-    count: usize,
+    field: &FieldIndex,
+    patch: &Patch,
+    tile: u64,
+    part: &Domain,
 ) -> Result<Vec<i64>, Fault>
-    requires { (k : ℕ) → 0 < entry_times k (option_copied entry) → 0 < B.uses blocks.old k }
-    ensures value { IfOk result (λ cells. IsTrue (B.honest blocks.old) → (p : List ℤ) → IsInside tile.now p → is_inside area.now p ≡ false → slice_index_or (tile_cells kind (B.content blocks.old) (option_copied entry.entry)) (rank_of tile.now p) (pos 0) ≡ slice_index_or cells.items (rank_of tile.now p) (pos 0)) }
-    ensures counted { IfOk result (λ cells. length cells.items ≡ count) }
-    ensures fit { IfOk result (λ cells. All (Fits kind) cells.items) }
-    ensures damaged { IsErrOf result Fault.Damaged → IsTrue (B.honest blocks.old) → EntrySpells kind (B.content blocks.old) (option_copied entry.entry) count → ⊥ }
-    ensures content { B.content blocks.new ≡ B.content blocks.old }
-    ensures uses { B.uses blocks.new ≡ B.uses blocks.old }
-    ensures free { B.free_blocks blocks.new ≡ B.free_blocks blocks.old }
-    ensures honest { B.honest blocks.new ≡ B.honest blocks.old }
-    ensures counts { FaultCounts result (B.failures blocks.old) (B.failures blocks.new) }
-    ensures no_room { IsErrOf result Fault.NoRoom → ⊥ }
+    requires tile { tile < length (tile_boxes patch.now.domain.now) }
+    requires part { tile_box patch.now.domain.now tile ≡ part.now }
+    requires used { Covers (B.state blocks.old) (listed field.now) }
+    ensures before { IfOk result (λ cells. AreBefore patch.now (B.state blocks.old) field.now tile cells.items) }
+    ensures why { Refuses result (IsCutDamaged patch.now (B.state blocks.old) field.now tile) ⊥ }
+    ensures frame { OnlyReads (B.state blocks.old) (B.state blocks.new) }
+    ensures told { Tells (IsErrOf result Fault.DiskFault) (B.state blocks.old).failures (B.state blocks.new).failures }
 {
-    if tile.is_box_of(area) {
-        let cells = zeros(alloc, count)?;
+    if part.is_box_of(patch.area) {
+        let cells = zeros(alloc, cell_count(part))?;
         return Ok(cells);
     }
-    let cells = read_tile(alloc, blocks, kind, entry, count)?;
+    let tiles = FieldTiles {
+        kind: patch.kind,
+        domain: patch.domain,
+        index: field,
+    };
+    let cells = read_tile(alloc, blocks, tiles, tile)?;
     Ok(cells)
 }
 
-/// The cells of a tile after numbers are put into a box.
-fn updated_cells<B: Blocks>(
+/// The cells of a tile after a write.
+fn cells_after<B: Blocks>(
     alloc: Global,
     blocks: &mut B,
-    kind: FieldType,
-    domain: &Domain,
-    area: &Domain,
-    numbers: &Numbers,
-    index: &TileIndex,
-    number: u64,
+    field: &FieldIndex,
+    patch: &Patch,
+    tile: u64,
 ) -> Result<Vec<i64>, Fault>
-    requires tile { number < length (tile_boxes domain.now) }
-    requires numbers { AreNumbers kind area.now numbers.now }
-    requires used { (k : ℕ) → 0 < times_in k index.now → 0 < B.uses blocks.old k }
-    ensures value { IfOk result (λ cells. IsTrue (B.honest blocks.old) → cells.items ≡ cells_after kind domain.now index.now (B.content blocks.old) area.now (numbers_in area.now numbers.now) number) }
-    ensures some { IfOk result (λ cells. 1 ≤ length cells.items) }
-    ensures few { IfOk result (λ cells. length cells.items ≤ 4096) }
-    ensures fit { IfOk result (λ cells. All (Fits kind) cells.items) }
-    ensures damaged { IsErrOf result Fault.Damaged → IsTrue (B.honest blocks.old) → IsSpelled kind domain.now index.now (B.content blocks.old) → ⊥ }
-    ensures content { B.content blocks.new ≡ B.content blocks.old }
-    ensures uses { B.uses blocks.new ≡ B.uses blocks.old }
-    ensures free { B.free_blocks blocks.new ≡ B.free_blocks blocks.old }
-    ensures honest { B.honest blocks.new ≡ B.honest blocks.old }
-    ensures counts { FaultCounts result (B.failures blocks.old) (B.failures blocks.new) }
-    ensures no_room { IsErrOf result Fault.NoRoom → ⊥ }
+    requires tile { tile < length (tile_boxes patch.now.domain.now) }
+    requires patch { IsPatch patch.now }
+    requires used { Covers (B.state blocks.old) (listed field.now) }
+    ensures after { IfOk result (λ cells. AreAfter patch.now (B.state blocks.old) field.now tile cells.items) }
+    ensures why { Refuses result (IsCutDamaged patch.now (B.state blocks.old) field.now tile) ⊥ }
+    ensures frame { OnlyReads (B.state blocks.old) (B.state blocks.new) }
+    ensures told { Tells (IsErrOf result Fault.DiskFault) (B.state blocks.old).failures (B.state blocks.new).failures }
 {
-    let tile = domain.tile_box(alloc, number)?;
-    let count = cell_count(&tile);
-    let mut cells = cells_before(alloc, blocks, kind, index.get(number), &tile, area, count)?;
+    let part = part_of(alloc, patch.domain, tile)?;
+    let mut cells = cells_before(alloc, blocks, field, patch, tile, &part)?;
     let slots: &mut [i64] = &mut cells;
-    numbers.overlay(slots, kind, &tile, area);
+    overlay(slots, part.axes(), patch.numbers, 0, patch.area.axes());
     Ok(cells)
 }
 
-/// Writes one tile as it is after numbers are put into a box.
-fn write_updated<B: Blocks>(
-    alloc: Global,
-    blocks: &mut B,
-    taken: &mut Vec<u32>,
-    kind: FieldType,
-    domain: &Domain,
-    area: &Domain,
-    numbers: &Numbers,
-    index: &TileIndex,
-    number: u64,
-) -> Result<Option<Entry>, Fault>
-    requires tile { number < length (tile_boxes domain.now) }
-    requires numbers { AreNumbers kind area.now numbers.now }
-    requires used { (k : ℕ) → 0 < times_in k index.now → 0 < B.uses blocks.old k }
-    requires taken { (k : ℕ) → 0 < times k taken.old.items → B.uses blocks.old k ≡ 1 }
-    ensures written { IfOk result (λ change. IsTrue (B.honest blocks.old) → IsWritten kind (B.content blocks.new) change (cells_after kind domain.now index.now (B.content blocks.old) area.now (numbers_in area.now numbers.now) number)) }
-    ensures whole { IfOk result (λ change. IsTrue (B.honest blocks.old) → (k : ℕ) → 0 < entry_times k change → length (block_at (B.content blocks.new) k) ≡ 4096) }
-    ensures size { IfOk result (λ change. length taken.new.items ≡ length taken.old.items + entry_blocks change) }
-    ensures room { IsErrOf result Fault.NoRoom → IsTrue (B.honest blocks.old) → B.free_blocks blocks.old < tile_blocks kind (cells_after kind domain.now index.now (B.content blocks.old) area.now (numbers_in area.now numbers.now) number) }
-    ensures damaged { IsErrOf result Fault.Damaged → IsTrue (B.honest blocks.old) → IsSpelled kind domain.now index.now (B.content blocks.old) → ⊥ }
-    ensures entry { IfOk result (λ change. (e : Entry) → change ≡ Some e → IsEntry e) }
-    ensures added { IfOk result (λ change. (k : ℕ) → times k taken.new.items ≡ times k taken.old.items + entry_times k change) }
-    ensures extends { Extends taken.old.items taken.new.items (B.uses blocks.old) (B.uses blocks.new) }
-    ensures free { B.free_blocks blocks.new + length taken.new.items ≡ B.free_blocks blocks.old + length taken.old.items }
-    ensures kept { KeepsUsed (B.uses blocks.old) (block_at (B.content blocks.old)) (block_at (B.content blocks.new)) }
-    ensures header { KeepsHeader (B.content blocks.old) (B.content blocks.new) }
-    ensures honest { B.honest blocks.new ≡ B.honest blocks.old }
-    ensures counts { FaultCounts result (B.failures blocks.old) (B.failures blocks.new) }
-{
-    let cells = updated_cells(alloc, blocks, kind, domain, area, numbers, index, number)?;
-    let entry = write_tile(alloc, blocks, taken, kind, &cells)?;
-    Ok(entry)
-}
-
-/// Writes the tiles with these numbers as they are after numbers are put into a box.
+/// Writes the tiles that the patch's box meets, as they are after the write, to fresh blocks.
 fn write_tiles<B: Blocks>(
     alloc: Global,
     blocks: &mut B,
-    changes: &mut Vec<(u64, Option<Entry>)>,
-    taken: &mut Vec<u32>,
-    kind: FieldType,
-    domain: &Domain,
-    area: &Domain,
-    numbers: &Numbers,
-    index: &TileIndex,
+    fresh: &mut Fresh,
+    field: &FieldIndex,
+    patch: &Patch,
     tiles: &[u64],
 ) -> Result<(), Fault>
-    requires tiles { All (λ t. t < length (tile_boxes domain.now)) tiles.now }
-    requires numbers { AreNumbers kind area.now numbers.now }
-    requires used { (k : ℕ) → 0 < times_in k index.now → 0 < B.uses blocks.old k }
-    requires whole { IsTrue (B.honest blocks.old) → AreWhole index.now (B.content blocks.old) }
-    requires changes { changes.old.items ≡ [] }
-    requires taken { taken.old.items ≡ [] }
-    ensures entries { OnOk result (All (λ x. (e : Entry) → x.1 ≡ Some e → IsEntry e) changes.new.items) }
-    ensures written { OnOk result (IsTrue (B.honest blocks.old) → All (λ x. IsWritten kind (B.content blocks.new) x.1 (cells_after kind domain.now index.now (B.content blocks.old) area.now (numbers_in area.now numbers.now) x.0)) changes.new.items) }
-    ensures whole { OnOk result (IsTrue (B.honest blocks.old) → (k : ℕ) → 0 < times k taken.new.items → length (block_at (B.content blocks.new) k) ≡ 4096) }
-    ensures size { OnOk result (length taken.new.items ≡ sum_by (λ x. entry_blocks x.1) changes.new.items) }
-    ensures room { IsErrOf result Fault.NoRoom → IsTrue (B.honest blocks.old) → B.free_blocks blocks.old < new_blocks (λ t. tile_blocks kind (cells_after kind domain.now index.now (B.content blocks.old) area.now (numbers_in area.now numbers.now) t)) tiles.now }
-    ensures damaged { IsErrOf result Fault.Damaged → IsTrue (B.honest blocks.old) → IsSpelled kind domain.now index.now (B.content blocks.old) → ⊥ }
-    ensures tiles { OnOk result (tiles_of changes.new.items ≡ tiles.now) }
-    ensures given { OnOk result ((k : ℕ) → times k taken.new.items ≡ times_given k changes.new.items) }
-    ensures extends { Extends [] taken.new.items (B.uses blocks.old) (B.uses blocks.new) }
-    ensures free { B.free_blocks blocks.new + length taken.new.items ≡ B.free_blocks blocks.old }
-    ensures kept { KeepsUsed (B.uses blocks.old) (block_at (B.content blocks.old)) (block_at (B.content blocks.new)) }
-    ensures header { KeepsHeader (B.content blocks.old) (B.content blocks.new) }
-    ensures honest { B.honest blocks.new ≡ B.honest blocks.old }
-    ensures counts { FaultCounts result (B.failures blocks.old) (B.failures blocks.new) }
+    requires patch { IsPatch patch.now }
+    requires sound { IsSound patch.now.domain.now (B.state blocks.old) field.now }
+    requires tiles { AreMeeting patch.now.domain.now patch.now.area.now tiles.now }
+    requires none { (fresh.old.changes.items ≡ []) × (fresh.old.blocks.items ≡ []) }
+    ensures written { Writes result patch.now (B.state blocks.old) field.now tiles.now fresh.new (B.state blocks.new) }
+    ensures takes { Takes [] fresh.new.blocks.items (B.state blocks.old) (B.state blocks.new) }
+    ensures why { RefusesTiles result patch.now tiles.now (B.state blocks.old) field.now }
+    ensures told { Tells (IsErrOf result Fault.DiskFault) (B.state blocks.old).failures (B.state blocks.new).failures }
 {
     for tile in tiles {
-        let entry = write_updated(
-            alloc, blocks, taken, kind, domain, area, numbers, index, *tile,
-        )?;
-        changes.push((*tile, entry))?;
+        let cells = cells_after(alloc, blocks, field, patch, *tile)?;
+        let entry = write_tile(alloc, blocks, &mut fresh.blocks, patch.kind, &cells)?;
+        fresh.changes.push((*tile, entry))?;
     }
     Ok(())
 }
 
 /// Puts the blocks of a tile after the others; a tile without an entry has none.
-#[tactic(auto, using(crate::proofs::Times::times_append))]
 fn push_blocks(blocks: &mut Vec<u32>, entry: Option<&Entry>) -> Result<(), AllocError>
-    ensures times { OnOk result ((k : ℕ) → times k blocks.new.items ≡ times k blocks.old.items + entry_times k (option_copied entry.entry)) }
-    ensures size { OnOk result (length blocks.new.items ≡ length blocks.old.items + entry_blocks (option_copied entry.entry)) }
+    ensures { OnOk result (AddsBlocks (option_copied entry.entry) blocks.old.items blocks.new.items) }
 {
     match entry {
         None => Ok(()),
@@ -188,8 +139,7 @@ fn push_blocks(blocks: &mut Vec<u32>, entry: Option<&Entry>) -> Result<(), Alloc
 
 /// The blocks of the tiles with these numbers, as an index has them.
 fn listed_blocks(alloc: Global, index: &TileIndex, tiles: &[u64]) -> Result<Vec<u32>, AllocError>
-    ensures times { IfOk result (λ blocks. (k : ℕ) → times k blocks.items ≡ times_listed k index.now tiles.now) }
-    ensures size { IfOk result (λ blocks. length blocks.items ≡ sum_by (λ t. entry_blocks (found_at t index.now)) tiles.now) }
+    ensures { IfOk result (λ blocks. (k : ℕ) → times blocks.items k ≡ listed_for index.now tiles.now k) }
 {
     let mut blocks = Vec::new(alloc);
     for tile in tiles {
@@ -198,161 +148,57 @@ fn listed_blocks(alloc: Global, index: &TileIndex, tiles: &[u64]) -> Result<Vec<
     Ok(blocks)
 }
 
-/// Writes the new tiles and sees to the room for the metadata, whose other parts have `rest` bytes. Gives the new
-/// size of the index.
-fn prepare<B: Blocks>(
-    alloc: Global,
-    blocks: &mut B,
-    changes: &mut Vec<(u64, Option<Entry>)>,
-    taken: &mut Vec<u32>,
-    kind: FieldType,
-    domain: &Domain,
-    area: &Domain,
-    numbers: &Numbers,
-    index: &TileIndex,
-    size: u64,
-    tiles: &[u64],
-    rest: u64,
-) -> Result<u64, Fault>
-    requires index { IsIndex index.now }
-    requires size { size ≡ length (index_bytes index.now) }
-    requires rising { IsStrictlyIncreasing tiles.now }
-    requires few { length (tile_boxes domain.now) ≤ 2 ^ 24 }
-    requires tiles { All (λ t. t < length (tile_boxes domain.now)) tiles.now }
-    requires numbers { AreNumbers kind area.now numbers.now }
-    requires used { (k : ℕ) → 0 < times_in k index.now → 0 < B.uses blocks.old k }
-    requires whole { IsTrue (B.honest blocks.old) → AreWhole index.now (B.content blocks.old) }
-    requires changes { changes.old.items ≡ [] }
-    requires taken { taken.old.items ≡ [] }
-    ensures entries { OnOk result (All (λ x. (e : Entry) → x.1 ≡ Some e → IsEntry e) changes.new.items) }
-    ensures written { OnOk result (IsTrue (B.honest blocks.old) → All (λ x. IsWritten kind (B.content blocks.new) x.1 (cells_after kind domain.now index.now (B.content blocks.old) area.now (numbers_in area.now numbers.now) x.0)) changes.new.items) }
-    ensures whole { OnOk result (IsTrue (B.honest blocks.old) → (k : ℕ) → 0 < times k taken.new.items → length (block_at (B.content blocks.new) k) ≡ 4096) }
-    ensures size { OnOk result (length taken.new.items ≡ sum_by (λ x. entry_blocks x.1) changes.new.items) }
-    ensures bytes { IfOk result (λ n. n + sum_by (λ t. listed_bytes (entry_blocks (found_at t index.now))) tiles.now ≡ length (index_bytes index.now) + sum_by (λ x. listed_bytes (entry_blocks x.1)) changes.new.items) }
-    ensures closable { IfOk result (λ n. chain_blocks (rest + n) ≤ B.free_blocks blocks.new) }
-    ensures room { IsErrOf result Fault.NoRoom → IsTrue (B.honest blocks.old) → B.free_blocks blocks.old < room_for (λ t. tile_blocks kind (cells_after kind domain.now index.now (B.content blocks.old) area.now (numbers_in area.now numbers.now) t)) index.now tiles.now rest }
-    ensures damaged { IsErrOf result Fault.Damaged → IsTrue (B.honest blocks.old) → IsSpelled kind domain.now index.now (B.content blocks.old) → ⊥ }
-    ensures tiles { OnOk result (tiles_of changes.new.items ≡ tiles.now) }
-    ensures given { OnOk result ((k : ℕ) → times k taken.new.items ≡ times_given k changes.new.items) }
-    ensures extends { Extends [] taken.new.items (B.uses blocks.old) (B.uses blocks.new) }
-    ensures free { B.free_blocks blocks.new + length taken.new.items ≡ B.free_blocks blocks.old }
-    ensures kept { KeepsUsed (B.uses blocks.old) (block_at (B.content blocks.old)) (block_at (B.content blocks.new)) }
-    ensures header { KeepsHeader (B.content blocks.old) (B.content blocks.new) }
-    ensures honest { B.honest blocks.new ≡ B.honest blocks.old }
-    ensures counts { FaultCounts result (B.failures blocks.old) (B.failures blocks.new) }
+/// How many bytes the index of a field has after changes of these tiles.
+fn new_size(field: &FieldIndex, changes: &[(u64, Option<Entry>)], tiles: &[u64]) -> u64
+    requires { IsSized field.now changes.now tiles.now }
+    ensures { result + replaced_bytes field.now tiles.now ≡ length (index_bytes field.now) + given_bytes changes.now }
 {
-    write_tiles(
-        alloc, blocks, changes, taken, kind, domain, area, numbers, index, tiles,
-    )?;
-    let replaced = listed_size(index, tiles);
-    let size = size - replaced + changes_size(changes);
-    if !has_room(blocks.free(), rest, size) {
-        return Err(Fault::NoRoom);
-    }
-    Ok(size)
+    let replaced = listed_size(field.index(), tiles);
+    field.size() - replaced + changes_size(changes)
 }
 
-/// Gives the index its new tiles, and the blocks of those that they replace back. Where memory is wanting, the blocks
-/// that were taken come back, and the index stays as it is.
-fn exchange<B: Blocks>(
-    blocks: &mut B,
-    index: &mut TileIndex,
-    changes: Vec<(u64, Option<Entry>)>,
-    taken: &[u32],
-    replaced: &[u32],
-) -> Result<(), Fault>
-    requires index { IsIndex index.old }
-    requires rising { IsRising changes.items }
-    requires below { IsBelow (2 ^ 24) index.old }
-    requires small { All (λ x. x.0 < 2 ^ 24) changes.items }
-    requires entries { All (λ x. (e : Entry) → x.1 ≡ Some e → IsEntry e) changes.items }
-    requires taken { AreUsed (λ k. times k taken.now) (B.uses blocks.old) }
-    requires replaced { AreUsed (λ k. times k replaced.now) (B.uses blocks.old) }
-    ensures changed { OnOk result ((t : ℕ) → found_at t index.new ≡ changed_at t changes.items index.old) }
-    ensures index { IsIndex index.new }
-    ensures unchanged { OnErr result (index.new ≡ index.old) }
-    ensures replaced { OnOk result ((k : ℕ) → B.uses blocks.new k + times k replaced.now ≡ B.uses blocks.old k) }
-    ensures returned { OnErr result ((k : ℕ) → B.uses blocks.new k + times k taken.now ≡ B.uses blocks.old k) }
-    ensures free { OnOk result (B.free_blocks blocks.new ≡ B.free_blocks blocks.old + length replaced.now) }
-    ensures free_again { OnErr result (B.free_blocks blocks.new ≡ B.free_blocks blocks.old + length taken.now) }
-    ensures memory { OnErr result (IsErrOf result Fault.NoMemory) }
-    ensures content { B.content blocks.new ≡ B.content blocks.old }
-    ensures honest { B.honest blocks.new ≡ B.honest blocks.old }
-    ensures failures { B.failures blocks.new ≡ B.failures blocks.old }
-{
-    if index.replace_all(changes).is_err() {
-        blocks.give_back(taken);
-        return Err(Fault::NoMemory);
-    }
-    blocks.give_back(replaced);
-    Ok(())
+/// What a write has ready before it exchanges the index: new tiles in fresh blocks, the blocks that they replace, and
+/// how many bytes the index has with them.
+#[derive(Drop)]
+pub(crate) struct Ready {
+    pub fresh: Fresh,
+    pub replaced: Vec<u32>,
+    pub size: u64,
 }
 
-/// Writes numbers into a box of a field, whose index is written in `size` bytes; the rest of the metadata has `rest`.
-/// Gives the size of the new index.
-pub(crate) fn write_index<B: Blocks>(
+/// The numbers of the tiles that the box of a patch meets, rising.
+fn meeting_tiles(alloc: Global, patch: &Patch) -> Result<Vec<u64>, AllocError>
+    ensures { IfOk result (λ tiles. AreMeeting patch.now.domain.now patch.now.area.now tiles.items) }
+{
+    let tiles = patch.domain.tiles_meeting(alloc, patch.area)?;
+    Ok(tiles)
+}
+
+/// Gets the tiles of a patch ready. After a refusal no block is used otherwise.
+pub(crate) fn prepare<B: Blocks>(
     alloc: Global,
     blocks: &mut B,
-    kind: FieldType,
-    domain: &Domain,
-    index: &mut TileIndex,
-    size: u64,
-    area: &Domain,
-    numbers: &Numbers,
-    rest: u64,
-) -> Result<u64, Fault>
-    requires domain { IsDomain domain.now }
-    requires index { IsIndex index.old }
-    requires size { size ≡ length (index_bytes index.old) }
-    requires few { length (tile_boxes domain.now) ≤ 2 ^ 24 }
-    requires area { IsBoxOf domain.now area.now }
-    requires numbers { AreNumbers kind area.now numbers.now }
-    requires below { IsBelow (length (tile_boxes domain.now)) index.old }
-    requires listed { AreUsed (λ k. times_in k index.old) (B.uses blocks.old) }
-    requires whole { IsTrue (B.honest blocks.old) → AreWhole index.old (B.content blocks.old) }
-    ensures index { IsIndex index.new }
-    ensures size { IfOk result (λ n. n ≡ length (index_bytes index.new)) }
-    ensures written { OnOk result (IsTrue (B.honest blocks.old) → field_values kind domain.now index.new (B.content blocks.new) ≡ updated_values domain.now area.now (numbers_in area.now numbers.now) (field_values kind domain.now index.old (B.content blocks.old))) }
-    ensures spelled { OnOk result (IsTrue (B.honest blocks.old) → IsSpelled kind domain.now index.old (B.content blocks.old) → IsSpelled kind domain.now index.new (B.content blocks.new)) }
-    ensures unchanged { OnErr result (index.new ≡ index.old) }
-    ensures below { IsBelow (length (tile_boxes domain.now)) index.new }
-    ensures listed { AreUsed (λ k. times_in k index.new) (B.uses blocks.new) }
-    ensures whole { IsTrue (B.honest blocks.old) → AreWhole index.new (B.content blocks.new) }
-    ensures uses { (k : ℕ) → B.uses blocks.new k + times_in k index.old ≡ B.uses blocks.old k + times_in k index.new }
-    ensures free { B.free_blocks blocks.new + block_count index.new ≡ B.free_blocks blocks.old + block_count index.old }
-    ensures kept { KeepsUsed (B.uses blocks.old) (block_at (B.content blocks.old)) (block_at (B.content blocks.new)) }
-    ensures header { KeepsHeader (B.content blocks.old) (B.content blocks.new) }
-    ensures closable { OnOk result (chain_blocks (rest + length (index_bytes index.new)) ≤ B.free_blocks blocks.new) }
-    ensures room { IsErrOf result Fault.NoRoom → IsTrue (B.honest blocks.old) → LacksRoom kind domain.now index.old (B.content blocks.old) area.now (numbers_in area.now numbers.now) rest (B.free_blocks blocks.old) }
-    ensures damaged { IsErrOf result Fault.Damaged → IsTrue (B.honest blocks.old) → IsSpelled kind domain.now index.old (B.content blocks.old) → ⊥ }
-    ensures honest { B.honest blocks.new ≡ B.honest blocks.old }
-    ensures counts { FaultCounts result (B.failures blocks.old) (B.failures blocks.new) }
+    field: &FieldIndex,
+    patch: &Patch,
+) -> Result<Ready, Fault>
+    requires { CanPatch patch.now (B.state blocks.old) field.now }
+    ensures ready { IfOk result (IsReady patch.now (B.state blocks.old) field.now (B.state blocks.new)) }
+    ensures kept { OnErr result (Moves none none (B.state blocks.old) (B.state blocks.new)) }
+    ensures why { (rest : ℕ) → RefusesPatch result patch.now rest (B.state blocks.old) field.now }
+    ensures told { Tells (IsErrOf result Fault.DiskFault) (B.state blocks.old).failures (B.state blocks.new).failures }
 {
-    let tiles = domain.tiles_meeting(alloc, area)?;
-    let replaced = listed_blocks(alloc, index, &tiles)?;
-    let mut changes = Vec::new(alloc);
-    let mut taken = Vec::new(alloc);
-    match prepare(
-        alloc,
-        blocks,
-        &mut changes,
-        &mut taken,
-        kind,
-        domain,
-        area,
-        numbers,
-        index,
+    let _axes = patch.domain.axes();
+    let tiles = meeting_tiles(alloc, patch)?;
+    let replaced = listed_blocks(alloc, field.index(), &tiles)?;
+    let mut fresh = Fresh::new(alloc);
+    if let Err(fault) = write_tiles(alloc, blocks, &mut fresh, field, patch, &tiles) {
+        blocks.give_back(&fresh.blocks);
+        return Err(fault);
+    }
+    let size = new_size(field, &fresh.changes, &tiles);
+    Ok(Ready {
+        fresh,
+        replaced,
         size,
-        &tiles,
-        rest,
-    ) {
-        Err(fault) => {
-            blocks.give_back(&taken);
-            Err(fault)
-        }
-        Ok(size) => {
-            exchange(blocks, index, changes, &taken, &replaced)?;
-            Ok(size)
-        }
-    }
+    })
 }

@@ -79,6 +79,13 @@ tells-on (Cells c) r q h t = tt
 pub item-err : (s : ℕ → ℕ → List ℤ → ℤ) (i : ItemTree) (f : PointFault) → item_cells s i ≡ Err f → item_answer s i ≡ Err f
 item-err s i f h = ap (λ (r : Result (List Cell) PointFault). then_of r (λ cells. Ok (record { line = line_of i.domain; fields = field_count (length i.fields); cells = cells }))) h
 
+pub item-ok : (s : ℕ → ℕ → List ℤ → ℤ) (i : ItemTree) (line fields : ℕ) (cells : List Cell) → item_cells s i ≡ Ok cells → line ≡ line_of i.domain → fields ≡ field_count (length i.fields)
+    → item_answer s i ≡ Ok (record { line = line; fields = fields; cells = cells })
+item-ok s i line fields cells h e f =
+    ap (λ (r : Result (List Cell) PointFault). then_of r (λ cells. Ok (record { line = line_of i.domain; fields = field_count (length i.fields); cells = cells }))) h
+    ∙ ap (λ n. Ok (record { line = n; fields = field_count (length i.fields); cells = cells })) (sym e)
+    ∙ ap (λ n. Ok (record { line = line; fields = n; cells = cells })) (sym f)
+
 abbrev from_item : Result Item PointFault → Result (List Item) PointFault
 from_item r = then_of r (λ i. Ok (i ∷ []))
 

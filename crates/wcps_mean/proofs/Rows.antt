@@ -3,12 +3,10 @@ use Rattle.std.proofs.Common.{◌≡◌, ℕ, zero, suc, List, [], ◌∷◌, re
 use Rattle.std.specs.Prelude.{ℤ, pos, negsuc, Some, None, Ok, Err}
 use Rattle.arr_core.specs.declared.domain.Axis.{Axis}
 use Rattle.arr_core.specs.declared.cell.Cell.TheVariants as cells
-use Rattle.wcps_types.specs.declared.typed.Operation1.TheVariants.{Negate, Absolute}
-use Rattle.wcps_types.specs.declared.typed.Operation2.TheVariants.{Multiply, Divide, Add, Subtract, Less, Equal, And, Bit}
-use Rattle.wcps_types.specs.declared.typed.Condenser.TheVariants as condensers
-use Rattle.wcps_types.specs.declared.typed.Reduction.TheVariants as reductions
+use Rattle.wcps_text.specs.declared.operator.UnaryOperator.TheVariants.{Negate, Absolute}
+use Rattle.wcps_text.specs.declared.operator.BinaryOperator.TheVariants.{Multiply, Divide, Add, Subtract, Less, Equal, And, Bit}
 use Rattle.wcps_types.specs.Typed.{Typed, number, iterator, cell, binary, slice, bracket, array, listed, condense, condense_where, reduce, FieldTree, TypedTree}
-use Rattle.wcps_mean.specs.declared.aggregate.Aggregate.TheVariants.{Sum, Product, Greatest, Least, Every, Any, Count, Average}
+use Rattle.wcps_text.specs.declared.operator.Aggregate.TheVariants.{Sum, Product, Greatest, Least, Every, Any, Count, Average}
 use Rattle.wcps_mean.specs.declared.cell.PointFault.TheVariants.{Overflow, DivideByZero, OutOfDomain, EmptyCondense, BadBit}
 use Rattle.wcps_mean.specs.declared.cell.Outcome.TheVariants.{Value, Fault}
 use Rattle.wcps_mean.specs.Cells.{operate1, operate2}
@@ -134,18 +132,18 @@ position_outside_its_trim : val sevens (bracket (slice (bracket (cell 0 0)) 0 (p
 position_outside_its_trim = refl
 
 -- condense + over $i x(0:1) where false using 1 / 0; with max for +
-value_not_demanded : val sevens (condense_where condensers.Add (line (pos 0) (pos 1)) (number (pos 0)) division_by_zero) [] [] ≡ Value (pos 0)
+value_not_demanded : val sevens (condense_where Sum (line (pos 0) (pos 1)) (number (pos 0)) division_by_zero) [] [] ≡ Value (pos 0)
 value_not_demanded = refl
 
-greatest_of_no_point : val sevens (condense_where condensers.Max (line (pos 0) (pos 1)) (number (pos 0)) division_by_zero) [] [] ≡ Fault EmptyCondense
+greatest_of_no_point : val sevens (condense_where Greatest (line (pos 0) (pos 1)) (number (pos 0)) division_by_zero) [] [] ≡ Fault EmptyCondense
 greatest_of_no_point = refl
 
 -- condense * over $i x(0:2) using $i + 1
-product_of_iterators : val sevens (condense condensers.Multiply (line (pos 0) (pos 2)) (binary Add (iterator 0) (number (pos 1)))) [] [] ≡ Value (pos 6)
+product_of_iterators : val sevens (condense Product (line (pos 0) (pos 2)) (binary Add (iterator 0) (number (pos 1)))) [] [] ≡ Value (pos 6)
 product_of_iterators = refl
 
 -- add(c) on c[x(3:5)]
-sum_of_sevens : val sevens (reduce reductions.Add (line (pos 3) (pos 5)) (bracket (cell 0 0))) [] [] ≡ Value (pos 21)
+sum_of_sevens : val sevens (reduce Sum (line (pos 3) (pos 5)) (bracket (cell 0 0))) [] [] ≡ Value (pos 21)
 sum_of_sevens = refl
 
 -- coverage m over $i x(0:2) value list <4;-5;6> at its second point

@@ -1,10 +1,10 @@
 -- Operations on cells: exact, and then tested. A Boolean stands as 0 or 1.
 use Rattle.std.specs.Prelude.{ℕ, zero, suc, ◌/◌, ◌%◌, ◌^◌, ℤ, pos, negsuc, ◌+ℤ◌, ◌-ℤ◌, ◌*ℤ◌, neg_ℤ, nat_abs, int_div, int_le, int_lt, nat_lt, nat_eq, cond, Bool, true, false, not, ◌&&◌, ◌||◌}
 use Rattle.std.specs.Int.{w64, cast_unsigned}
-use Rattle.wcps_types.specs.declared.typed.Operation1.{Operation1}
-use Rattle.wcps_types.specs.declared.typed.Operation1.TheVariants.{Negate, Plus, Not, Absolute}
-use Rattle.wcps_types.specs.declared.typed.Operation2.{Operation2}
-use Rattle.wcps_types.specs.declared.typed.Operation2.TheVariants.{Multiply, Divide, Add, Subtract, Less, LessEqual, Greater, GreaterEqual, Equal, NotEqual, And, Or, Xor, Bit}
+use Rattle.wcps_text.specs.declared.operator.UnaryOperator.{UnaryOperator}
+use Rattle.wcps_text.specs.declared.operator.UnaryOperator.TheVariants.{Negate, Plus, Not, Absolute}
+use Rattle.wcps_text.specs.declared.operator.BinaryOperator.{BinaryOperator}
+use Rattle.wcps_text.specs.declared.operator.BinaryOperator.TheVariants.{Multiply, Divide, Add, Subtract, Less, LessEqual, Greater, GreaterEqual, Equal, NotEqual, And, Or, Xor, Bit}
 use Rattle.wcps_mean.specs.declared.cell.PointFault.TheVariants.{Overflow, DivideByZero, OutOfDomain, BadBit}
 use Rattle.wcps_mean.specs.declared.cell.Outcome.{Outcome}
 use Rattle.wcps_mean.specs.declared.cell.Outcome.TheVariants.{Value, Fault}
@@ -56,14 +56,14 @@ differ true b = not b
 differ false b = b
 
 -- of a value
-abbrev pub exact1 : Operation1 → ℤ → Outcome
+abbrev pub exact1 : UnaryOperator → ℤ → Outcome
 exact1 Negate x = ranged (neg_ℤ x)
 exact1 Plus x = Value x
 exact1 Not x = truth (not (is_true x))
 exact1 Absolute x = ranged (pos (nat_abs x))
 
 -- of two values
-abbrev pub exact2 : Operation2 → ℤ → ℤ → Outcome
+abbrev pub exact2 : BinaryOperator → ℤ → ℤ → Outcome
 exact2 Multiply x y = ranged (x *ℤ y)
 exact2 Divide x y = quotient x y
 exact2 Add x y = ranged (x +ℤ y)
@@ -80,12 +80,12 @@ exact2 Xor x y = truth (differ (is_true x) (is_true y))
 exact2 Bit x y = bit x y
 
 -- the operand's fault, else the operation's own outcome
-abbrev pub operate1 : Operation1 → Outcome → Outcome
+abbrev pub operate1 : UnaryOperator → Outcome → Outcome
 operate1 op (Fault f) = Fault f
 operate1 op (Value x) = exact1 op x
 
 -- the left operand's fault, else the right one's, else the operation's own outcome
-abbrev pub operate2 : Operation2 → Outcome → Outcome → Outcome
+abbrev pub operate2 : BinaryOperator → Outcome → Outcome → Outcome
 operate2 op (Fault f) r = Fault f
 operate2 op (Value x) (Fault f) = Fault f
 operate2 op (Value x) (Value y) = exact2 op x y

@@ -1,7 +1,7 @@
 -- Condensers: what becomes of the outcomes at all points of a box. (WCPS condensers.)
 use Rattle.std.specs.Prelude.{ℕ, ◌+◌, ◌/◌, ℤ, pos, negsuc, ◌+ℤ◌, ◌*ℤ◌, int_le, cond, Bool, true, false, ◌&&◌, ◌||◌, List, [], ◌∷◌, length, Option, Some, None}
-use Rattle.wcps_mean.specs.declared.aggregate.Aggregate.{Aggregate}
-use Rattle.wcps_mean.specs.declared.aggregate.Aggregate.TheVariants.{Sum, Product, Greatest, Least, Every, Any, Count, Average}
+use Rattle.wcps_text.specs.declared.operator.Aggregate.{Aggregate}
+use Rattle.wcps_text.specs.declared.operator.Aggregate.TheVariants.{Sum, Product, Greatest, Least, Every, Any, Count, Average}
 use Rattle.wcps_mean.specs.declared.cell.PointFault.{PointFault}
 use Rattle.wcps_mean.specs.declared.cell.PointFault.TheVariants.{EmptyCondense}
 use Rattle.wcps_mean.specs.declared.cell.Outcome.{Outcome}

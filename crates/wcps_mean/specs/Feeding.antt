@@ -1,8 +1,8 @@
 -- What a running condenser has been fed.
 use Rattle.std.specs.Prelude.{◌≡◌, ℤ, List, length}
 use Rattle.wcps_mean.specs.declared.running.Running.{Running}
-use Rattle.wcps_mean.specs.declared.aggregate.Aggregate.{Aggregate}
-use Rattle.wcps_mean.specs.declared.aggregate.Aggregate.TheVariants.{Sum, Product, Greatest, Least, Every, Any, Count, Average}
+use Rattle.wcps_text.specs.declared.operator.Aggregate.{Aggregate}
+use Rattle.wcps_text.specs.declared.operator.Aggregate.TheVariants.{Sum, Product, Greatest, Least, Every, Any, Count, Average}
 use Rattle.wcps_mean.specs.declared.cell.Outcome.{Outcome}
 use Rattle.wcps_mean.specs.Condensers.{first_fault, values, total, every, any, trues}
 use Rattle.wcps_mean.specs.Best.{greatest_of, least_of}

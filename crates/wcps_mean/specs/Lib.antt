@@ -5,7 +5,6 @@ pub mod Magnitudes
 pub mod Products
 pub mod Best
 pub mod Feeding
-pub mod Aggregates
 pub mod Meaning
 pub mod Answer
 pub mod Reports

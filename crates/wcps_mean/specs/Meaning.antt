@@ -7,7 +7,6 @@ use Rattle.wcps_mean.specs.declared.cell.Outcome.{Outcome}
 use Rattle.wcps_mean.specs.declared.cell.Outcome.TheVariants.{Value}
 use Rattle.wcps_mean.specs.Cells.{operate1, operate2, at_position}
 use Rattle.wcps_mean.specs.Condensers.{condensed, demanded}
-use Rattle.wcps_mean.specs.Aggregates.{of_condenser, of_reduction}
 
 -- The outcome of a tree at the point p, its iterators bound to env, outermost first; s gives the cell of a coverage and
 -- a field at each point.
@@ -27,6 +26,6 @@ val s (bracket e) env p = val s e env p
 val s (slice e axis lo hi i) env p = at_position (val s i env []) lo hi (λ z. val s e env (insert p axis z))
 val s (array e) env p = val s e (env ++ p) []
 val s (listed box items) env p = Value (get_or items (rank_of box p) (pos 0))
-val s (condense op box e) env p = condensed (of_condenser op) (map (λ x. val s e (env ++ x) []) (points box))
-val s (condense_where op box c e) env p = condensed (of_condenser op) (flat_map (λ x. demanded (val s c (env ++ x) []) (val s e (env ++ x) [])) (points box))
-val s (reduce op box e) env p = condensed (of_reduction op) (map (λ x. val s e env x) (points box))
+val s (condense op box e) env p = condensed op (map (λ x. val s e (env ++ x) []) (points box))
+val s (condense_where op box c e) env p = condensed op (flat_map (λ x. demanded (val s c (env ++ x) []) (val s e (env ++ x) [])) (points box))
+val s (reduce op box e) env p = condensed op (map (λ x. val s e env x) (points box))

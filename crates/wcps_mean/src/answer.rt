@@ -1,9 +1,10 @@
 //! The answer of a query: its items, or the first fault.
 
-ghost use Rattle.std.specs.Prelude.{◌≡◌, ◌<◌, ◌≤◌, ◌*◌, false, get_or, List, [], ◌∷◌, ◌++◌, Ok, Err, Result, IfOk, IfErr, OnOk, MatchResult, length, map, option_map};
+ghost use Rattle.std.specs.Prelude.{◌≡◌, ◌<◌, ◌≤◌, ◌*◌, false, get_or, List, [], ◌∷◌, ◌++◌, Ok, Err, Result, IfOk, IfErr, OnOk, MatchResult, length, map, option_map, option_copied, slice_get};
 ghost use Rattle.arr_core.specs.Domains.{count};
 ghost use Rattle.wcps_types.specs.Cells.{result_cells, max_cells};
-ghost use Rattle.wcps_types.specs.Typed.{only_tree, fields_view, item_view, combination_view};
+ghost use Rattle.wcps_types.specs.Typed.{only_tree, item_view, tree_view};
+ghost use Rattle.wcps_types.specs.Renamed.{renamed, renamed_item, renamed_combination, combination_view};
 ghost use Rattle.wcps_types.specs.TypedQueries.{query_view};
 ghost use Rattle.wcps_mean.specs.Answer.{answer, combination_answer, chosen, item_answer, cells_at, cell_of, line_of, field_count};
 ghost use Rattle.wcps_mean.specs.Errors.{TellsFault, PushesCells, PassesOn};
@@ -16,7 +17,7 @@ use crate::points::{push_point, size};
 use arr_core::{Axis, Cell};
 use std::alloc::{AllocError, AllocFailed, Global};
 use thiserror::Error;
-use wcps_types::{Combination, Node, TypedItem, TypedQuery};
+use wcps_types::{Combination, Tree, TypedItem, TypedQuery};
 
 /// Why a query has no answer.
 #[derive(Clone, Copy, PartialEq, Eq, Debug, Error)]
@@ -78,11 +79,10 @@ pub fn eval_plain<C: Cells>(
     ensures intact { C.intact cells.old → C.intact cells.new }
     ensures reports { PassesOn result (C.intact cells.old) (C.failures cells.old) (C.failures cells.new) }
 {
+    let trees = query.trees();
     let mut items = Vec::new(alloc);
-    let mut env = Vec::new(alloc);
-    let mut points = Vec::new(alloc);
     for combination in query.combinations() {
-        push_combination(alloc, cells, combination, &mut items, &mut env, &mut points)?;
+        push_combination(alloc, cells, trees, combination, &mut items)?;
     }
     Ok(items)
 }
@@ -91,54 +91,79 @@ pub fn eval_plain<C: Cells>(
 fn push_combination<C: Cells>(
     alloc: Global,
     cells: &mut C,
+    trees: &[Tree],
     combination: &Combination,
     items: &mut Vec<Item>,
-    env: &mut Vec<i32>,
-    points: &mut Vec<i32>,
 ) -> Result<(), EvalError>
-    requires scope_empty { env.old.items ≡ [] }
-    requires place_empty { points.old.items ≡ [] }
-    requires few_cells { result_cells (combination_view combination.now ∷ []) ≤ max_cells }
-    ensures value { OnOk result (C.intact cells.old → PushesCells (combination_answer (C.cells cells.old) (combination_view combination.now)) items.old.items items.new.items) }
-    ensures fault { IfErr result (λ e. C.intact cells.old → TellsFault e (combination_answer (C.cells cells.old) (combination_view combination.now))) }
-    ensures scope { OnOk result (env.new.items ≡ []) }
-    ensures place { OnOk result (points.new.items ≡ []) }
+    requires few_cells { result_cells (combination_view trees.now combination.now ∷ []) ≤ max_cells }
+    ensures value { OnOk result (C.intact cells.old → PushesCells (combination_answer (C.cells cells.old) (combination_view trees.now combination.now)) items.old.items items.new.items) }
+    ensures fault { IfErr result (λ e. C.intact cells.old → TellsFault e (combination_answer (C.cells cells.old) (combination_view trees.now combination.now))) }
     ensures same { C.cells cells.new ≡ C.cells cells.old }
     ensures kept { C.kept cells.new ≡ C.kept cells.old }
     ensures intact { C.intact cells.old → C.intact cells.new }
     ensures reports { PassesOn result (C.intact cells.old) (C.failures cells.old) (C.failures cells.new) }
 {
-    let gives_item = is_chosen(cells, combination, env, points)?;
+    match tree_at(trees, combination.tree) {
+        None => Ok(()),
+        Some(tree) => {
+            push_tree(alloc, cells, &combination.coverages, tree, items)?;
+            Ok(())
+        }
+    }
+}
+
+/// The tree at a place.
+pub(crate) fn tree_at(trees: &[Tree], k: usize) -> Option<&Tree>
+    ensures { option_copied result ≡ slice_get trees.now k }
+{
+    trees.get(k)
+}
+
+/// Puts the item of a tree over coverages, if it gives one, at the end of a list.
+fn push_tree<C: Cells>(
+    alloc: Global,
+    cells: &mut C,
+    coverages: &[usize],
+    tree: &Tree,
+    items: &mut Vec<Item>,
+) -> Result<(), EvalError>
+    requires few_cells { result_cells (tree_view tree.now ∷ []) ≤ max_cells }
+    ensures value { OnOk result (C.intact cells.old → PushesCells (combination_answer (C.cells cells.old) (renamed_combination coverages.now (tree_view tree.now))) items.old.items items.new.items) }
+    ensures fault { IfErr result (λ e. C.intact cells.old → TellsFault e (combination_answer (C.cells cells.old) (renamed_combination coverages.now (tree_view tree.now)))) }
+    ensures same { C.cells cells.new ≡ C.cells cells.old }
+    ensures kept { C.kept cells.new ≡ C.kept cells.old }
+    ensures intact { C.intact cells.old → C.intact cells.new }
+    ensures reports { PassesOn result (C.intact cells.old) (C.failures cells.old) (C.failures cells.new) }
+{
+    let gives_item = is_chosen(alloc, cells, coverages, tree)?;
     if !gives_item {
         return Ok(());
     }
-    let item = item_of(alloc, cells, &combination.item, env, points)?;
+    let item = item_of(alloc, cells, coverages, &tree.item)?;
     items.push(item)?;
     Ok(())
 }
 
-/// Whether a combination gives an item: it has no condition, or its condition is true.
+/// Whether a tree over coverages gives an item: it has no condition, or its condition is true.
 fn is_chosen<C: Cells>(
+    alloc: Global,
     cells: &mut C,
-    combination: &Combination,
-    env: &mut Vec<i32>,
-    points: &mut Vec<i32>,
+    coverages: &[usize],
+    tree: &Tree,
 ) -> Result<bool, EvalError>
-    requires scope_empty { env.old.items ≡ [] }
-    requires place_empty { points.old.items ≡ [] }
-    ensures value { IfOk result (λ b. C.intact cells.old → chosen (C.cells cells.old) (option_map only_tree combination.now.condition) ≡ Ok b) }
-    ensures fault { IfErr result (λ e. C.intact cells.old → TellsFault e (chosen (C.cells cells.old) (option_map only_tree combination.now.condition))) }
-    ensures scope { OnOk result (env.new.items ≡ []) }
-    ensures place { OnOk result (points.new.items ≡ []) }
+    ensures value { IfOk result (λ b. C.intact cells.old → chosen (C.cells cells.old) (option_map (renamed coverages.now) (option_map only_tree tree.now.condition)) ≡ Ok b) }
+    ensures fault { IfErr result (λ e. C.intact cells.old → TellsFault e (chosen (C.cells cells.old) (option_map (renamed coverages.now) (option_map only_tree tree.now.condition)))) }
     ensures same { C.cells cells.new ≡ C.cells cells.old }
     ensures kept { C.kept cells.new ≡ C.kept cells.old }
     ensures intact { C.intact cells.old → C.intact cells.new }
     ensures reports { PassesOn result (C.intact cells.old) (C.failures cells.old) (C.failures cells.new) }
 {
-    match &combination.condition {
+    match &tree.condition {
         None => Ok(true),
         Some(node) => {
-            let o = eval(cells, node, 0, env, points, 0)?;
+            let mut env = Vec::new(alloc);
+            let mut points = Vec::new(alloc);
+            let o = eval(cells, coverages, node, 0, &mut env, &mut points, 0)?;
             match o {
                 Outcome::Fault(f) => Err(EvalError::Fault(f)),
                 Outcome::Value(x) => Ok(is_set(x)),
@@ -151,17 +176,12 @@ fn is_chosen<C: Cells>(
 fn item_of<C: Cells>(
     alloc: Global,
     cells: &mut C,
+    coverages: &[usize],
     item: &TypedItem,
-    env: &mut Vec<i32>,
-    points: &mut Vec<i32>,
 ) -> Result<Item, EvalError>
-    requires scope_empty { env.old.items ≡ [] }
-    requires place_empty { points.old.items ≡ [] }
-    requires few_cells { count item.now.domain * length (fields_view item.now.node 0 item.now.booleans.items) ≤ max_cells }
-    ensures value { IfOk result (λ i. C.intact cells.old → item_answer (C.cells cells.old) (item_view item.now) ≡ Ok i) }
-    ensures fault { IfErr result (λ e. C.intact cells.old → TellsFault e (item_answer (C.cells cells.old) (item_view item.now))) }
-    ensures scope { OnOk result (env.new.items ≡ []) }
-    ensures place { OnOk result (points.new.items ≡ []) }
+    requires few_cells { count item.now.domain * length item.now.booleans.items ≤ max_cells }
+    ensures value { IfOk result (λ i. C.intact cells.old → item_answer (C.cells cells.old) (renamed_item coverages.now (item_view item.now)) ≡ Ok i) }
+    ensures fault { IfErr result (λ e. C.intact cells.old → TellsFault e (item_answer (C.cells cells.old) (renamed_item coverages.now (item_view item.now)))) }
     ensures same { C.cells cells.new ≡ C.cells cells.old }
     ensures kept { C.kept cells.new ≡ C.kept cells.old }
     ensures intact { C.intact cells.old → C.intact cells.new }
@@ -170,9 +190,11 @@ fn item_of<C: Cells>(
     let fields = count_fields(item);
     let count = item.domain.points() * fields as u64;
     let mut list = Vec::with_capacity(alloc, count as usize)?;
+    let mut env = Vec::new(alloc);
+    let mut points = Vec::new(alloc);
     for place in 0..item.domain.points() {
-        push_point(points, &item.domain, place)?;
-        push_cells(cells, &item.node, &item.booleans, env, points, &mut list)?;
+        push_point(&mut points, &item.domain, place)?;
+        push_cells(cells, coverages, item, &mut env, &mut points, &mut list)?;
         points.truncate(0);
     }
     Ok(Item {
@@ -182,18 +204,18 @@ fn item_of<C: Cells>(
     })
 }
 
-/// Puts the cells of the fields at a point at the end of a list.
+/// Puts the cells of the fields of an item at a point at the end of a list.
 fn push_cells<C: Cells>(
     cells: &mut C,
-    node: &Node,
-    booleans: &[bool],
+    coverages: &[usize],
+    item: &TypedItem,
     env: &mut Vec<i32>,
     points: &mut Vec<i32>,
     list: &mut Vec<Cell>,
 ) -> Result<(), EvalError>
     requires scope_empty { env.old.items ≡ [] }
-    ensures value { OnOk result (C.intact cells.old → PushesCells (cells_at (C.cells cells.old) (fields_view node.now 0 booleans.now) points.old.items) list.old.items list.new.items) }
-    ensures fault { IfErr result (λ e. C.intact cells.old → TellsFault e (cells_at (C.cells cells.old) (fields_view node.now 0 booleans.now) points.old.items)) }
+    ensures value { OnOk result (C.intact cells.old → PushesCells (cells_at (C.cells cells.old) (renamed_item coverages.now (item_view item.now)).fields points.old.items) list.old.items list.new.items) }
+    ensures fault { IfErr result (λ e. C.intact cells.old → TellsFault e (cells_at (C.cells cells.old) (renamed_item coverages.now (item_view item.now)).fields points.old.items)) }
     ensures scope { OnOk result (env.new.items ≡ []) }
     ensures place { OnOk result (points.new.items ≡ points.old.items) }
     ensures same { C.cells cells.new ≡ C.cells cells.old }
@@ -201,22 +223,22 @@ fn push_cells<C: Cells>(
     ensures intact { C.intact cells.old → C.intact cells.new }
     ensures reports { PassesOn result (C.intact cells.old) (C.failures cells.old) (C.failures cells.new) }
 {
-    for field in 0..booleans.len() {
-        let o = eval(cells, node, field, env, points, 0)?;
+    for field in 0..item.booleans.len() {
+        let o = eval(cells, coverages, &item.node, field, env, points, 0)?;
         match o {
             Outcome::Fault(f) => return Err(EvalError::Fault(f)),
-            Outcome::Value(x) => list.push(field_cell(booleans, field, x))?,
+            Outcome::Value(x) => list.push(field_cell(item, field, x))?,
         }
     }
     Ok(())
 }
 
 /// The cell of the field at a place: a Boolean or an integer.
-fn field_cell(booleans: &[bool], field: usize, x: i64) -> Cell
-    requires { field < length booleans.now }
-    ensures { result ≡ cell_of (get_or booleans.now field false) x }
+fn field_cell(item: &TypedItem, field: usize, x: i64) -> Cell
+    requires { field < length item.now.booleans.items }
+    ensures { result ≡ cell_of (get_or item.now.booleans.items field false) x }
 {
-    cell_of(booleans[field], x)
+    cell_of(item.booleans[field], x)
 }
 
 /// A value of an item: a Boolean or an integer.
@@ -232,8 +254,8 @@ pub fn cell_of(boolean: bool, x: i64) -> Cell
 
 /// How many fields an item has, whose cells are few.
 fn count_fields(item: &TypedItem) -> u32
-    requires { count item.now.domain * length (fields_view item.now.node 0 item.now.booleans.items) ≤ max_cells }
-    ensures value { result ≡ field_count (length (fields_view item.now.node 0 item.now.booleans.items)) }
+    requires { count item.now.domain * length item.now.booleans.items ≤ max_cells }
+    ensures value { result ≡ field_count (length item.now.booleans.items) }
     ensures same { result ≡ length item.now.booleans.items }
 {
     item.booleans.len() as u32

@@ -7,7 +7,7 @@ ghost use Rattle.std.specs.Prelude.{◌≡◌, ℤ, ◌+ℤ◌, ◌-ℤ◌, ◌*
 ghost use Rattle.std.specs.Int.{w64};
 ghost use Rattle.wcps_mean.specs.Cells.{ranged, truth, is_true, quotient, bit, int_eq, exact1, exact2, operate1, operate2};
 
-use wcps_types::{Operation1, Operation2};
+use wcps_text::{BinaryOperator, UnaryOperator};
 
 /// Why a point has no value.
 #[derive(Clone, Copy, PartialEq, Eq, Debug)]
@@ -140,36 +140,36 @@ pub fn is_set(x: i64) -> bool
 }
 
 /// An operation on a value.
-fn operate_on_value(op: Operation1, x: i64) -> Outcome
+fn operate_on_value(op: UnaryOperator, x: i64) -> Outcome
     ensures { result ≡ exact1 op x }
 {
     match op {
-        Operation1::Negate => negate(x),
-        Operation1::Plus => Outcome::Value(x),
-        Operation1::Not => truth_value(!is_set(x)),
-        Operation1::Absolute => magnitude(x),
+        UnaryOperator::Negate => negate(x),
+        UnaryOperator::Plus => Outcome::Value(x),
+        UnaryOperator::Not => truth_value(!is_set(x)),
+        UnaryOperator::Absolute => magnitude(x),
     }
 }
 
 /// An operation on two values.
-fn operate_on_values(op: Operation2, x: i64, y: i64) -> Outcome
+fn operate_on_values(op: BinaryOperator, x: i64, y: i64) -> Outcome
     ensures { result ≡ exact2 op x y }
 {
     match op {
-        Operation2::Multiply => multiply(x, y),
-        Operation2::Divide => divide(x, y),
-        Operation2::Add => add(x, y),
-        Operation2::Subtract => subtract(x, y),
-        Operation2::Less => truth_value(x < y),
-        Operation2::LessEqual => truth_value(x <= y),
-        Operation2::Greater => truth_value(y < x),
-        Operation2::GreaterEqual => truth_value(y <= x),
-        Operation2::Equal => truth_value(are_equal(x, y)),
-        Operation2::NotEqual => truth_value(!are_equal(x, y)),
-        Operation2::And => truth_value(is_set(x) && is_set(y)),
-        Operation2::Or => truth_value(is_set(x) || is_set(y)),
-        Operation2::Xor => truth_value(is_set(x) != is_set(y)),
-        Operation2::Bit => bit_of(x, y),
+        BinaryOperator::Multiply => multiply(x, y),
+        BinaryOperator::Divide => divide(x, y),
+        BinaryOperator::Add => add(x, y),
+        BinaryOperator::Subtract => subtract(x, y),
+        BinaryOperator::Less => truth_value(x < y),
+        BinaryOperator::LessEqual => truth_value(x <= y),
+        BinaryOperator::Greater => truth_value(y < x),
+        BinaryOperator::GreaterEqual => truth_value(y <= x),
+        BinaryOperator::Equal => truth_value(are_equal(x, y)),
+        BinaryOperator::NotEqual => truth_value(!are_equal(x, y)),
+        BinaryOperator::And => truth_value(is_set(x) && is_set(y)),
+        BinaryOperator::Or => truth_value(is_set(x) || is_set(y)),
+        BinaryOperator::Xor => truth_value(is_set(x) != is_set(y)),
+        BinaryOperator::Bit => bit_of(x, y),
     }
 }
 
@@ -181,7 +181,7 @@ fn are_equal(x: i64, y: i64) -> bool
 }
 
 /// An operation on the outcome of its operand: the operand's fault, else the exact result, tested.
-pub fn operate(op: Operation1, operand: Outcome) -> Outcome
+pub fn operate(op: UnaryOperator, operand: Outcome) -> Outcome
     ensures { result ≡ operate1 op operand }
 {
     match operand {
@@ -192,7 +192,7 @@ pub fn operate(op: Operation1, operand: Outcome) -> Outcome
 
 /// An operation on the outcomes of both operands: the left one's fault, else the right one's, else the exact result,
 /// tested. `and` and `or` look at both operands too.
-pub fn operate_both(op: Operation2, left: Outcome, right: Outcome) -> Outcome
+pub fn operate_both(op: BinaryOperator, left: Outcome, right: Outcome) -> Outcome
     ensures { result ≡ operate2 op left right }
 {
     match left {

@@ -8,21 +8,24 @@ ghost use Rattle.wcps_mean.specs.Condensers.{condensed};
 ghost use Rattle.wcps_mean.specs.Meaning.{val};
 ghost use Rattle.wcps_mean.specs.Reports.{Reports};
 ghost use Rattle.wcps_types.specs.Typed.{field_tree, only_tree};
+ghost use Rattle.wcps_types.specs.Renamed.{renamed};
 
-use crate::aggregate::{Aggregate, of_condenser, of_reduction};
 use crate::cell::{Outcome, PointFault, operate, operate_both};
 use crate::cells::{CellError, Cells};
 use crate::points::{place_of, push_point};
 use crate::running::Running;
 use arr_core::Domain;
 use std::alloc::AllocError;
+use wcps_text::Aggregate;
 use wcps_types::Node;
 
-/// The outcome of one field of a node at the point that stands in `points` from `base` on, its iterators bound to `env`.
-/// Both lists grow and shrink as the evaluation goes down and up; after an outcome they are as before.
+/// The outcome of one field of a node at the point that stands in `points` from `base` on, its iterators bound to `env`; a
+/// variable stands for the coverage at its place among `coverages`. The last two lists grow and shrink as the evaluation goes
+/// down and up; after an outcome they are as before.
 #[cycle(eval)]
 pub(crate) fn eval<C: Cells>(
     cells: &mut C,
+    coverages: &[usize],
     e: &Node,
     field: usize,
     env: &mut Vec<i32>,
@@ -30,7 +33,7 @@ pub(crate) fn eval<C: Cells>(
     base: usize,
 ) -> Result<Outcome, CellError>
     requires { base ≤ vec_len points.old }
-    ensures value { IfOk result (λ o. C.intact cells.old → o ≡ val (C.cells cells.old) (field_tree e.now field) env.old.items (drop base points.old.items)) }
+    ensures value { IfOk result (λ o. C.intact cells.old → o ≡ val (C.cells cells.old) (renamed coverages.now (field_tree e.now field)) env.old.items (drop base points.old.items)) }
     ensures scope { OnOk result (env.new.items ≡ env.old.items) }
     ensures place { OnOk result (points.new.items ≡ points.old.items) }
     ensures same { C.cells cells.new ≡ C.cells cells.old }
@@ -41,29 +44,30 @@ pub(crate) fn eval<C: Cells>(
     match e {
         Node::Number(z) => Ok(Outcome::Value(*z)),
         Node::Iterator(k) => Ok(Outcome::Value(iterator(env, *k))),
-        Node::Coverage(coverage) => {
-            let z = cells.cell(*coverage, field, &points[base..])?;
+        Node::Coverage(variable) => {
+            let place = coverage_at(coverages, *variable);
+            let z = cells.cell(place, field, &points[base..])?;
             Ok(Outcome::Value(z))
         }
         Node::Unary(op, e) => {
-            let x = eval(cells, e, 0, env, points, base)?;
+            let x = eval(cells, coverages, e, 0, env, points, base)?;
             Ok(operate(*op, x))
         }
         Node::Binary(op, l, r) => {
-            let x = eval(cells, l, 0, env, points, base)?;
-            let y = eval(cells, r, 0, env, points, base)?;
+            let x = eval(cells, coverages, l, 0, env, points, base)?;
+            let y = eval(cells, coverages, r, 0, env, points, base)?;
             Ok(operate_both(*op, x, y))
         }
         Node::Scalar(e) => {
             let top = points.len();
-            eval(cells, e, field, env, points, top)
+            eval(cells, coverages, e, field, env, points, top)
         }
         Node::Record(parts) => match parts.get(field) {
             None => Ok(Outcome::Value(0)),
-            Some(part) => eval(cells, part, 0, env, points, base),
+            Some(part) => eval(cells, coverages, part, 0, env, points, base),
         },
-        Node::Select(e, own) => eval(cells, e, *own, env, points, base),
-        Node::Bracket(e) => eval(cells, e, field, env, points, base),
+        Node::Select(e, own) => eval(cells, coverages, e, *own, env, points, base),
+        Node::Bracket(e) => eval(cells, coverages, e, field, env, points, base),
         Node::Slice {
             value,
             axis,
@@ -72,22 +76,24 @@ pub(crate) fn eval<C: Cells>(
             position,
         } => {
             let top = points.len();
-            let x = eval(cells, position, 0, env, points, top)?;
+            let x = eval(cells, coverages, position, 0, env, points, top)?;
             match coordinate(x, *lo, *hi) {
                 Err(f) => Ok(Outcome::Fault(f)),
                 Ok(z) => {
-                    let o = at_coordinate(cells, value, field, env, points, base, *axis, z)?;
+                    let o = at_coordinate(
+                        cells, coverages, value, field, env, points, base, *axis, z,
+                    )?;
                     Ok(o)
                 }
             }
         }
-        Node::Array(e) => at_iterators(cells, e, env, points, base),
+        Node::Array(e) => at_iterators(cells, coverages, e, env, points, base),
         Node::List { domain, items } => {
             let place = place_of(domain.axes(), &points[base..]);
             Ok(Outcome::Value(item_at(items, place)))
         }
         Node::Condense { op, domain, body } => {
-            let o = condense(cells, body, of_condenser(*op), domain, env, points)?;
+            let o = condense(cells, coverages, body, *op, domain, env, points)?;
             Ok(o)
         }
         Node::CondenseWhere {
@@ -96,14 +102,14 @@ pub(crate) fn eval<C: Cells>(
             condition,
             body,
         } => {
-            let mut running = Running::new(of_condenser(*op));
+            let mut running = Running::new(*op);
             let depth = env.len();
             let top = points.len();
             for place in 0..domain.points() {
                 push_point(env, domain, place)?;
-                let c = eval(cells, condition, 0, env, points, top)?;
+                let c = eval(cells, coverages, condition, 0, env, points, top)?;
                 if running.demands(c) {
-                    let o = eval(cells, body, 0, env, points, top)?;
+                    let o = eval(cells, coverages, body, 0, env, points, top)?;
                     running.add(o);
                 }
                 env.truncate(depth);
@@ -111,7 +117,7 @@ pub(crate) fn eval<C: Cells>(
             Ok(running.finish())
         }
         Node::Reduce { op, domain, body } => {
-            let o = reduce(cells, body, of_reduction(*op), domain, env, points)?;
+            let o = reduce(cells, coverages, body, *op, domain, env, points)?;
             Ok(o)
         }
     }
@@ -121,13 +127,14 @@ pub(crate) fn eval<C: Cells>(
 #[cycle(eval)]
 fn at_iterators<C: Cells>(
     cells: &mut C,
+    coverages: &[usize],
     e: &Node,
     env: &mut Vec<i32>,
     points: &mut Vec<i32>,
     base: usize,
 ) -> Result<Outcome, CellError>
     requires { base ≤ vec_len points.old }
-    ensures value { IfOk result (λ o. C.intact cells.old → o ≡ val (C.cells cells.old) (only_tree e.now) (env.old.items ++ drop base points.old.items) []) }
+    ensures value { IfOk result (λ o. C.intact cells.old → o ≡ val (C.cells cells.old) (renamed coverages.now (only_tree e.now)) (env.old.items ++ drop base points.old.items) []) }
     ensures scope { OnOk result (env.new.items ≡ env.old.items) }
     ensures place { OnOk result (points.new.items ≡ points.old.items) }
     ensures same { C.cells cells.new ≡ C.cells cells.old }
@@ -138,7 +145,7 @@ fn at_iterators<C: Cells>(
     let depth = env.len();
     env.extend_from_slice(&points[base..])?;
     let top = points.len();
-    let o = eval(cells, e, 0, env, points, top)?;
+    let o = eval(cells, coverages, e, 0, env, points, top)?;
     env.truncate(depth);
     Ok(o)
 }
@@ -147,6 +154,7 @@ fn at_iterators<C: Cells>(
 #[cycle(eval)]
 fn at_coordinate<C: Cells>(
     cells: &mut C,
+    coverages: &[usize],
     e: &Node,
     field: usize,
     env: &mut Vec<i32>,
@@ -156,7 +164,7 @@ fn at_coordinate<C: Cells>(
     z: i32,
 ) -> Result<Outcome, CellError>
     requires { base ≤ vec_len points.old }
-    ensures value { IfOk result (λ o. C.intact cells.old → o ≡ val (C.cells cells.old) (field_tree e.now field) env.old.items (insert (drop base points.old.items) axis z)) }
+    ensures value { IfOk result (λ o. C.intact cells.old → o ≡ val (C.cells cells.old) (renamed coverages.now (field_tree e.now field)) env.old.items (insert (drop base points.old.items) axis z)) }
     ensures scope { OnOk result (env.new.items ≡ env.old.items) }
     ensures place { OnOk result (points.new.items ≡ points.old.items) }
     ensures same { C.cells cells.new ≡ C.cells cells.old }
@@ -166,7 +174,7 @@ fn at_coordinate<C: Cells>(
 {
     let at = base + axis.min(points.len() - base);
     put_in(points, at, z)?;
-    let o = eval(cells, e, field, env, points, base)?;
+    let o = eval(cells, coverages, e, field, env, points, base)?;
     points.remove(at);
     Ok(o)
 }
@@ -175,13 +183,14 @@ fn at_coordinate<C: Cells>(
 #[cycle(eval)]
 fn condense<C: Cells>(
     cells: &mut C,
+    coverages: &[usize],
     e: &Node,
     op: Aggregate,
     domain: &Domain,
     env: &mut Vec<i32>,
     points: &mut Vec<i32>,
 ) -> Result<Outcome, CellError>
-    ensures value { IfOk result (λ o. C.intact cells.old → o ≡ condensed op (map (λ x. val (C.cells cells.old) (only_tree e.now) (env.old.items ++ x) []) (box_points domain.now))) }
+    ensures value { IfOk result (λ o. C.intact cells.old → o ≡ condensed op (map (λ x. val (C.cells cells.old) (renamed coverages.now (only_tree e.now)) (env.old.items ++ x) []) (box_points domain.now))) }
     ensures scope { OnOk result (env.new.items ≡ env.old.items) }
     ensures place { OnOk result (points.new.items ≡ points.old.items) }
     ensures same { C.cells cells.new ≡ C.cells cells.old }
@@ -194,7 +203,7 @@ fn condense<C: Cells>(
     let top = points.len();
     for place in 0..domain.points() {
         push_point(env, domain, place)?;
-        let o = eval(cells, e, 0, env, points, top)?;
+        let o = eval(cells, coverages, e, 0, env, points, top)?;
         env.truncate(depth);
         running.add(o);
     }
@@ -205,13 +214,14 @@ fn condense<C: Cells>(
 #[cycle(eval)]
 fn reduce<C: Cells>(
     cells: &mut C,
+    coverages: &[usize],
     e: &Node,
     op: Aggregate,
     domain: &Domain,
     env: &mut Vec<i32>,
     points: &mut Vec<i32>,
 ) -> Result<Outcome, CellError>
-    ensures value { IfOk result (λ o. C.intact cells.old → o ≡ condensed op (map (λ x. val (C.cells cells.old) (only_tree e.now) env.old.items x) (box_points domain.now))) }
+    ensures value { IfOk result (λ o. C.intact cells.old → o ≡ condensed op (map (λ x. val (C.cells cells.old) (renamed coverages.now (only_tree e.now)) env.old.items x) (box_points domain.now))) }
     ensures scope { OnOk result (env.new.items ≡ env.old.items) }
     ensures place { OnOk result (points.new.items ≡ points.old.items) }
     ensures same { C.cells cells.new ≡ C.cells cells.old }
@@ -223,7 +233,7 @@ fn reduce<C: Cells>(
     let top = points.len();
     for place in 0..domain.points() {
         push_point(points, domain, place)?;
-        let o = eval(cells, e, 0, env, points, top)?;
+        let o = eval(cells, coverages, e, 0, env, points, top)?;
         points.truncate(top);
         running.add(o);
     }
@@ -237,6 +247,16 @@ fn put_in(list: &mut Vec<i32>, at: usize, z: i32) -> Result<(), AllocError>
 {
     list.insert(at, z)?;
     Ok(())
+}
+
+/// The coverage that a variable stands for.
+fn coverage_at(coverages: &[usize], variable: usize) -> usize
+    ensures { result ≡ slice_index_or coverages.now variable 0 }
+{
+    match coverages.get(variable) {
+        Some(coverage) => *coverage,
+        None => 0,
+    }
 }
 
 /// The number that an iterator is bound to.

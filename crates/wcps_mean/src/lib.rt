@@ -2,7 +2,6 @@
 //! evaluator.
 #![tactic(auto)]
 
-mod aggregate;
 mod answer;
 mod cell;
 mod cells;
@@ -13,7 +12,6 @@ mod points;
 mod product;
 mod running;
 
-pub use aggregate::{Aggregate, of_condenser, of_reduction};
 pub use answer::{EvalError, cell_of, eval_plain, run_length};
 pub use cell::{Outcome, PointFault, is_set, operate, operate_both};
 pub use cells::{CellError, Cells};

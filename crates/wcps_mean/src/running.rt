@@ -5,9 +5,9 @@ ghost use Rattle.wcps_mean.specs.Cells.{is_true};
 ghost use Rattle.wcps_mean.specs.Condensers.{combined, total, floor_of};
 ghost use Rattle.wcps_mean.specs.Best.{greatest_of, least_of, top_of, bottom_of};
 
-use crate::aggregate::Aggregate;
 use crate::cell::{Outcome, PointFault, is_set, range_test, truth_value};
 use crate::product::Product;
+use wcps_text::Aggregate;
 
 /// What is kept of the outcomes so far: at most 2^24 of them, the points of a box.
 #[derive(Drop, Debug)]

@@ -14,18 +14,17 @@ use Rattle.wcps_text.specs.declared.token.Symbol.{Symbol}
 use Rattle.wcps_text.specs.declared.token.Symbol.TheVariants as signs
 use Rattle.wcps_text.specs.declared.token.Keyword.{Keyword}
 use Rattle.wcps_text.specs.declared.token.Keyword.TheVariants as words
-use Rattle.wcps_text.specs.declared.tree.UnaryOp.{UnaryOp}
-use Rattle.wcps_text.specs.declared.tree.BinaryOp.{BinaryOp}
-use Rattle.wcps_text.specs.declared.tree.BinaryOp.TheVariants as binaries
-use Rattle.wcps_text.specs.declared.tree.CondenseOp.{CondenseOp}
-use Rattle.wcps_text.specs.declared.tree.CondenseOp.TheVariants as condensers
+use Rattle.wcps_text.specs.declared.operator.UnaryOperator.{UnaryOperator}
+use Rattle.wcps_text.specs.declared.operator.BinaryOperator.{BinaryOperator}
+use Rattle.wcps_text.specs.declared.operator.BinaryOperator.TheVariants as binaries
+use Rattle.wcps_text.specs.declared.operator.Aggregate.{Aggregate}
 use Rattle.wcps_text.specs.declared.tree.ListItem.{ListItem}
 use Rattle.wcps_text.specs.declared.tree.ListItem.TheVariants as list_items
 use Rattle.wcps_text.specs.Token.{Tok, name, word, sign}
 use Rattle.wcps_text.specs.Tree.{bounds}
-use Rattle.wcps_text.specs.Grammar.{Prefixes, negate, plus, not, binary_token, rank_of, condense_token, truth_word, SpellsInt, unsigned, positive, negative, SpellsItem, int_item, truth_item, SpellsVariable, plain_name, dollar_name, IsFormat, csv_word, csv_quoted, text_csv_quoted}
-use Rattle.wcps_text.proofs.Ranks.{rank_least}
+use Rattle.wcps_text.specs.Grammar.{Prefixes, negate, plus, not, binary_token, rank_of, Condenses, by_sum, by_product, by_greatest, by_least, by_every, by_any, truth_word, SpellsInt, unsigned, positive, negative, SpellsItem, int_item, truth_item, SpellsVariable, plain_name, dollar_name, IsFormat, csv_word, csv_quoted, text_csv_quoted}
 use Rattle.wcps_parse.specs.Front.{Reading, sign_at, word_at, name_at, variable_at, int_at, bounds_at, truth_at, item_at, prefix_at, operator, binary_at, condenser_at, postfix_at, format_at}
+use Rattle.wcps_parse.proofs.Words.{operator_ranked}
 
 pub sign_again : (s : Symbol) (rest : List Tok) → sign_at s (sign s ∷ rest) ≡ Some rest
 unfolding sign_at
@@ -68,47 +67,48 @@ unfolding item_at
 item_again (int_item s) = rw (int_again s) refl
 item_again (truth_item {b = b} {rest = rest}) = rw (truth_no_int b rest, truth_again b rest) refl
 
-pub prefix_again : {op : UnaryOp} {t : Tok} (rest : List Tok) → Prefixes op t → prefix_at (t ∷ rest) ≡ Some (op, rest)
+pub prefix_again : {op : UnaryOperator} {t : Tok} (rest : List Tok) → Prefixes op t → prefix_at (t ∷ rest) ≡ Some (op, rest)
 unfolding prefix_at
 prefix_again rest negate = refl
 prefix_again rest plus = refl
 prefix_again rest not = refl
 
-operator_again : (op : BinaryOp) → operator (binary_token op) ≡ Some op
-operator_again binaries.Multiply = refl
-operator_again binaries.Divide = refl
-operator_again binaries.Add = refl
-operator_again binaries.Subtract = refl
-operator_again binaries.Less = refl
-operator_again binaries.LessEqual = refl
-operator_again binaries.Greater = refl
-operator_again binaries.GreaterEqual = refl
-operator_again binaries.Equal = refl
-operator_again binaries.NotEqual = refl
-operator_again binaries.And = refl
-operator_again binaries.Or = refl
-operator_again binaries.Xor = refl
+operator_again : (op : BinaryOperator) → 0 < rank_of op → operator (binary_token op) ≡ Some op
+operator_again binaries.Multiply ranked = refl
+operator_again binaries.Divide ranked = refl
+operator_again binaries.Add ranked = refl
+operator_again binaries.Subtract ranked = refl
+operator_again binaries.Less ranked = refl
+operator_again binaries.LessEqual ranked = refl
+operator_again binaries.Greater ranked = refl
+operator_again binaries.GreaterEqual ranked = refl
+operator_again binaries.Equal ranked = refl
+operator_again binaries.NotEqual ranked = refl
+operator_again binaries.And ranked = refl
+operator_again binaries.Or ranked = refl
+operator_again binaries.Xor ranked = refl
+operator_again binaries.Bit ranked = absurd (omega arith)
 
-pub binary_again : (op : BinaryOp) (r : ℕ) (rest : List Tok) → rank_of op ≤ r → binary_at r (binary_token op ∷ rest) ≡ Some (op, rest)
+pub binary_again : (op : BinaryOperator) (r : ℕ) (rest : List Tok) → 0 < rank_of op → rank_of op ≤ r → binary_at r (binary_token op ∷ rest) ≡ Some (op, rest)
 unfolding binary_at
-binary_again op r rest le = rw (operator_again op, le-leb (rank_of op) r le) refl
+binary_again op r rest ranked le = rw (operator_again op ranked, le-leb (rank_of op) r le) refl
 
-pub binary_other : (op : BinaryOp) (r : ℕ) (rest : List Tok) → r < rank_of op → binary_at r (binary_token op ∷ rest) ≡ None
+pub binary_other : (op : BinaryOperator) (r : ℕ) (rest : List Tok) → r < rank_of op → binary_at r (binary_token op ∷ rest) ≡ None
 unfolding binary_at
-binary_other op r rest lt = rw (operator_again op, lt-leb (rank_of op) r lt) refl
+binary_other op r rest lt = rw (operator_again op (omega (arith, lt)), lt-leb (rank_of op) r lt) refl
 
 some_is_not_none : {A : Type 0} (b : Bool) (x : A) → b ≡ true → cond b (Some x) None ≡ None → ⊥
 some_is_not_none true x f e = absurd cc
 some_is_not_none false x f e = absurd cc
 
 -- the operator, if it is of at most that rank
-abbrev ranked : ℕ → List Tok → BinaryOp → Reading BinaryOp
+abbrev ranked : ℕ → List Tok → BinaryOperator → Reading BinaryOperator
 ranked r ts op = cond (leb (rank_of op) r) (Some (op, ts)) None
 
-quiet_guard : (op : BinaryOp) (q r : ℕ) (ts : List Tok) → q ≤ r → ranked r ts op ≡ None → ranked q ts op ≡ None
+quiet_guard : (op : BinaryOperator) (q r : ℕ) (ts : List Tok) → q ≤ r → ranked r ts op ≡ None → ranked q ts op ≡ None
 quiet_guard op q r ts le e = ⊎_elim (λ h. absurd (some_is_not_none (leb (rank_of op) r) (op, ts) (le-leb (rank_of op) r (omega (arith, h.1))) e)) (λ h. rw h.0 refl) (leb_tells (rank_of op) q)
 
-quiet_operator : (o : Option BinaryOp) (q r : ℕ) (ts : List Tok) → q ≤ r → option_and_then (ranked r ts) o ≡ None → option_and_then (ranked q ts) o ≡ None
+quiet_operator : (o : Option BinaryOperator) (q r : ℕ) (ts : List Tok) → q ≤ r → option_and_then (ranked r ts) o ≡ None → option_and_then (ranked q ts) o ≡ None
 quiet_operator None q r ts le e = refl
 quiet_operator (Some op) q r ts le e = quiet_guard op q r ts le e
 
@@ -126,20 +126,20 @@ quiet_none r t ts e = rw e refl
 pub quiet_zero : (ts : List Tok) → binary_at 0 ts ≡ None
 unfolding binary_at
 quiet_zero [] = refl
-quiet_zero (t ∷ ts) = none (operator t)
+quiet_zero (t ∷ ts) = none (operator t) (operator_ranked t)
   where
-    none : (o : Option BinaryOp) → option_and_then (ranked 0 ts) o ≡ None
-    none None = refl
-    none (Some op) = rw (lt-leb (rank_of op) 0 (rank_least op)) refl
+    none : (o : Option BinaryOperator) → ((op : BinaryOperator) → o ≡ Some op → 0 < rank_of op) → option_and_then (ranked 0 ts) o ≡ None
+    none None h = refl
+    none (Some op) h = rw (lt-leb (rank_of op) 0 (h op refl)) refl
 
-pub condenser_again : (op : CondenseOp) (rest : List Tok) → condenser_at (condense_token op ∷ rest) ≡ Some (op, rest)
+pub condenser_again : {op : Aggregate} {t : Tok} (rest : List Tok) → Condenses op t → condenser_at (t ∷ rest) ≡ Some (op, rest)
 unfolding condenser_at
-condenser_again condensers.Add rest = refl
-condenser_again condensers.Multiply rest = refl
-condenser_again condensers.Max rest = refl
-condenser_again condensers.Min rest = refl
-condenser_again condensers.And rest = refl
-condenser_again condensers.Or rest = refl
+condenser_again rest by_sum = refl
+condenser_again rest by_product = refl
+condenser_again rest by_greatest = refl
+condenser_again rest by_least = refl
+condenser_again rest by_every = refl
+condenser_again rest by_any = refl
 
 pub format_again : (t : Tok) (rest : List Tok) → IsFormat t → format_at (t ∷ rest) ≡ Some rest
 unfolding format_at
@@ -192,7 +192,7 @@ pub stops_where : (rest : List Tok) → Stops (word words.Where ∷ rest)
 unfolding postfix_at
 stops_where rest = record { quiet = λ r. quiet_none r (word words.Where) rest refl; no_postfix = refl }
 
-pub no_postfix_binary : (op : BinaryOp) (rest : List Tok) → postfix_at (binary_token op ∷ rest) ≡ None
+pub no_postfix_binary : (op : BinaryOperator) (rest : List Tok) → postfix_at (binary_token op ∷ rest) ≡ None
 unfolding postfix_at
 no_postfix_binary binaries.Multiply rest = refl
 no_postfix_binary binaries.Divide rest = refl
@@ -207,3 +207,4 @@ no_postfix_binary binaries.NotEqual rest = refl
 no_postfix_binary binaries.And rest = refl
 no_postfix_binary binaries.Or rest = refl
 no_postfix_binary binaries.Xor rest = refl
+no_postfix_binary binaries.Bit rest = refl

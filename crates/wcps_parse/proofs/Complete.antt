@@ -1,17 +1,18 @@
 -- What is spelled is read.
 use Rattle.std.proofs.Common.{◌≡◌, ℕ, zero, suc, ◌-◌, ◌≤◌, Bool, true, false, List, [], ◌∷◌, Some, None, refl, sym, ap, subst, ◌∙◌, arith}
 use Rattle.wcps_text.specs.declared.token.Symbol.TheVariants as signs
+use Rattle.wcps_text.specs.declared.token.Keyword.{Keyword}
 use Rattle.wcps_text.specs.declared.token.Keyword.TheVariants as words
-use Rattle.wcps_text.specs.declared.tree.UnaryOp.{UnaryOp}
-use Rattle.wcps_text.specs.declared.tree.UnaryOp.TheVariants as unaries
-use Rattle.wcps_text.specs.declared.tree.BinaryOp.{BinaryOp}
-use Rattle.wcps_text.specs.declared.tree.ReduceOp.{ReduceOp}
-use Rattle.wcps_text.specs.declared.tree.ReduceOp.TheVariants as reducers
+use Rattle.wcps_text.specs.declared.operator.UnaryOperator.{UnaryOperator}
+use Rattle.wcps_text.specs.declared.operator.UnaryOperator.TheVariants as unaries
+use Rattle.wcps_text.specs.declared.operator.BinaryOperator.{BinaryOperator}
+use Rattle.wcps_text.specs.declared.operator.BinaryOperator.TheVariants as binaries
+use Rattle.wcps_text.specs.declared.operator.Aggregate.{Aggregate}
 use Rattle.wcps_text.specs.Token.{Tok, number, name, word, sign}
 use Rattle.wcps_text.specs.Tree as tree
 use Rattle.wcps_text.specs.Tree.{Tree, Parts, Subs, PlaceTree, trim, at, IntervalTree, Iters, Condition}
 use Rattle.wcps_text.specs.Grammar as grammar
-use Rattle.wcps_text.specs.Grammar.{Prefixes, binary_token, rank_of, truth_word, reduce_word, condense_token, max_rank, Openness, closed, open_ended, SpellsVariable, plain_name, dollar_name, Spells, SpellsInParens, SpellsPost, SpellsPart, SpellsParts, SpellsSub, SpellsSubs, SpellsPlace, SpellsInterval, SpellsIter, SpellsIters, SpellsCondition}
+use Rattle.wcps_text.specs.Grammar.{Prefixes, binary_token, rank_of, truth_word, Reduces, to_count, to_any, to_every, to_sum, to_average, to_least, to_greatest, max_rank, Openness, closed, open_ended, SpellsVariable, plain_name, dollar_name, Spells, SpellsInParens, SpellsPost, SpellsPart, SpellsParts, SpellsSub, SpellsSubs, SpellsPlace, SpellsInterval, SpellsIter, SpellsIters, SpellsCondition}
 use Rattle.wcps_parse.specs.declared.front.Postfix.TheVariants as postfixes
 use Rattle.wcps_parse.specs.Comes.{Comes}
 use Rattle.wcps_parse.specs.Front.{Reading, sign_at, word_at, prefix_at, binary_at, postfix_at, Begin, with_number, with_truth, with_variable, with_paren, with_brace, with_abs, with_bit, with_reduce, with_coverage, with_condense, start_at}
@@ -52,7 +53,7 @@ follows_less o q rest c = record { below = below_less q rest c.below; ends = c.e
 follows_open : (o : Openness) (rest : List Tok) → CanFollow open_ended 0 rest → CanFollow o max_rank rest
 follows_open o rest c = record { below = quiet_less 4 max_rank rest (omega arith) c.ends; ends = ends_any o rest c.ends; no_postfix = c.no_postfix }
 
-before_operator : (op : BinaryOp) (q : ℕ) (rest : List Tok) → rank_of op ≡ suc q → CanFollow closed (suc q) (binary_token op ∷ rest)
+before_operator : (op : BinaryOperator) (q : ℕ) (rest : List Tok) → rank_of op ≡ suc q → CanFollow closed (suc q) (binary_token op ∷ rest)
 before_operator op q rest e = record { below = binary_other op q rest (omega (arith, e)); ends = tt; no_postfix = no_postfix_binary op rest }
 
 truth_no_prefix : (b : Bool) (rest : List Tok) → prefix_at (word (truth_word b) ∷ rest) ≡ None
@@ -60,15 +61,15 @@ unfolding prefix_at
 truth_no_prefix true rest = refl
 truth_no_prefix false rest = refl
 
-reduce_no_prefix : (op : ReduceOp) (rest : List Tok) → prefix_at (word (reduce_word op) ∷ rest) ≡ None
+reduce_no_prefix : {op : Aggregate} {w : Keyword} (rest : List Tok) → Reduces op w → prefix_at (word w ∷ rest) ≡ None
 unfolding prefix_at
-reduce_no_prefix reducers.Count rest = refl
-reduce_no_prefix reducers.Some rest = refl
-reduce_no_prefix reducers.All rest = refl
-reduce_no_prefix reducers.Add rest = refl
-reduce_no_prefix reducers.Avg rest = refl
-reduce_no_prefix reducers.Min rest = refl
-reduce_no_prefix reducers.Max rest = refl
+reduce_no_prefix rest to_count = refl
+reduce_no_prefix rest to_any = refl
+reduce_no_prefix rest to_every = refl
+reduce_no_prefix rest to_sum = refl
+reduce_no_prefix rest to_average = refl
+reduce_no_prefix rest to_least = refl
+reduce_no_prefix rest to_greatest = refl
 
 parens_no_prefix : {ts rest : List Tok} {e : Tree} → SpellsInParens ts e rest → prefix_at ts ≡ None
 unfolding prefix_at
@@ -84,7 +85,7 @@ post_no_prefix (grammar.variable dollar_name) = refl
 post_no_prefix (grammar.grouped s) = parens_no_prefix s
 post_no_prefix (grammar.abs s) = refl
 post_no_prefix (grammar.bit s t) = refl
-post_no_prefix (grammar.reduce {ts = ts} op s) = reduce_no_prefix op ts
+post_no_prefix (grammar.reduce {ts = ts} r s) = reduce_no_prefix ts r
 post_no_prefix (grammar.parts s) = refl
 post_no_prefix (grammar.value_list is xs) = refl
 post_no_prefix (grammar.field s) = post_no_prefix s
@@ -105,15 +106,15 @@ unfolding start_at
 truth_starts true rest = refl
 truth_starts false rest = refl
 
-reduce_starts : (op : ReduceOp) (rest : List Tok) → start_at (word (reduce_word op) ∷ rest) ≡ Some (with_reduce op, rest)
+reduce_starts : {op : Aggregate} {w : Keyword} (rest : List Tok) → Reduces op w → start_at (word w ∷ rest) ≡ Some (with_reduce op, rest)
 unfolding start_at
-reduce_starts reducers.Count rest = refl
-reduce_starts reducers.Some rest = refl
-reduce_starts reducers.All rest = refl
-reduce_starts reducers.Add rest = refl
-reduce_starts reducers.Avg rest = refl
-reduce_starts reducers.Min rest = refl
-reduce_starts reducers.Max rest = refl
+reduce_starts rest to_count = refl
+reduce_starts rest to_any = refl
+reduce_starts rest to_every = refl
+reduce_starts rest to_sum = refl
+reduce_starts rest to_average = refl
+reduce_starts rest to_least = refl
+reduce_starts rest to_greatest = refl
 
 -- an expression without operators before it, as the code goes on with it
 abbrev Posts : List Tok → Tree → List Tok → Type 0
@@ -144,17 +145,17 @@ grouped_posts ts rest e c = subst (λ (us : List Tok). Posts us e rest) (sym c.f
 in_parens_comes : (ts rest : List Tok) (e : Tree) → ParensCome ts e rest → Comes (λ n m. in_parens (level n) ts) (Some (e, rest))
 in_parens_comes ts rest e c = subst (λ (us : List Tok). Comes (λ n m. in_parens (level n) us) (Some (e, rest))) (sym c.front) (in_parens_whole c.mid rest e c.inside)
 
-abs_posts : (ts rest : List Tok) (e : Tree) → ParensCome ts e rest → Posts (word words.Abs ∷ ts) (tree.unary unaries.Abs e) rest
+abs_posts : (ts rest : List Tok) (e : Tree) → ParensCome ts e rest → Posts (word words.Abs ∷ ts) (tree.unary unaries.Absolute e) rest
 unfolding begun start_at
-abs_posts ts rest e c = post_whole (word words.Abs ∷ ts) ts rest with_abs (tree.unary unaries.Abs e) refl (comes_then _ (in_parens_comes ts rest e c) (comes_now _))
+abs_posts ts rest e c = post_whole (word words.Abs ∷ ts) ts rest with_abs (tree.unary unaries.Absolute e) refl (comes_then _ (in_parens_comes ts rest e c) (comes_now _))
 
-reduce_posts : (op : ReduceOp) (ts rest : List Tok) (e : Tree) → ParensCome ts e rest → Posts (word (reduce_word op) ∷ ts) (tree.reduce op e) rest
+reduce_posts : (op : Aggregate) (w : Keyword) (ts rest : List Tok) (e : Tree) → Reduces op w → ParensCome ts e rest → Posts (word w ∷ ts) (tree.reduce op e) rest
 unfolding begun
-reduce_posts op ts rest e c = post_whole (word (reduce_word op) ∷ ts) ts rest (with_reduce op) (tree.reduce op e) (reduce_starts op ts) (comes_then _ (in_parens_comes ts rest e c) (comes_now _))
+reduce_posts op w ts rest e r c = post_whole (word w ∷ ts) ts rest (with_reduce op) (tree.reduce op e) (reduce_starts ts r) (comes_then _ (in_parens_comes ts rest e c) (comes_now _))
 
-bit_posts : (ts mid rest : List Tok) (a b : Tree) → Comes (λ n m. level n max_rank ts) (Some (a, sign signs.Comma ∷ mid)) → Comes (λ n m. level n max_rank mid) (Some (b, sign signs.RightParen ∷ rest)) → Posts (word words.Bit ∷ sign signs.LeftParen ∷ ts) (tree.bit a b) rest
+bit_posts : (ts mid rest : List Tok) (a b : Tree) → Comes (λ n m. level n max_rank ts) (Some (a, sign signs.Comma ∷ mid)) → Comes (λ n m. level n max_rank mid) (Some (b, sign signs.RightParen ∷ rest)) → Posts (word words.Bit ∷ sign signs.LeftParen ∷ ts) (tree.binary binaries.Bit a b) rest
 unfolding begun start_at
-bit_posts ts mid rest a b c d = post_whole (word words.Bit ∷ sign signs.LeftParen ∷ ts) (sign signs.LeftParen ∷ ts) rest with_bit (tree.bit a b) refl (bit_whole ts mid rest a b c (enclosed_whole mid rest b d))
+bit_posts ts mid rest a b c d = post_whole (word words.Bit ∷ sign signs.LeftParen ∷ ts) (sign signs.LeftParen ∷ ts) rest with_bit (tree.binary binaries.Bit a b) refl (bit_whole ts mid rest a b c (enclosed_whole mid rest b d))
 
 parts_posts : (ts rest : List Tok) (ps : Parts) → PartsCome ts ps (sign signs.RightBrace ∷ rest) → Posts (sign signs.LeftBrace ∷ ts) (tree.parts ps) rest
 unfolding begun start_at parts
@@ -205,18 +206,18 @@ condense_levels : (ts rest : List Tok) (e : Tree) → Comes (λ n m. condense m 
 unfolding begun start_at prefix_at
 condense_levels ts rest e c no_postfix = form_levels (word words.Condense ∷ ts) rest with_condense ts e refl refl c no_postfix
 
-unary_levels : (op : UnaryOp) (t : Tok) (ts rest : List Tok) (e : Tree) → Prefixes op t → Levels 0 ts e rest → Levels 0 (t ∷ ts) (tree.unary op e) rest
+unary_levels : (op : UnaryOperator) (t : Tok) (ts rest : List Tok) (e : Tree) → Prefixes op t → Levels 0 ts e rest → Levels 0 (t ∷ ts) (tree.unary op e) rest
 unary_levels op t ts rest e before c =
     operand_levels (t ∷ ts) rest (tree.unary op e) (operand_prefix (t ∷ ts) ts op (Some (e, rest)) (prefix_again ts before) (ended closed 0 ts rest e c (quiet_zero rest)))
 
 tighter_levels : (q : ℕ) (ts rest : List Tok) (e : Tree) → Levels q ts e rest → Levels (suc q) ts e rest
 tighter_levels q ts rest e c r le p h = c r (omega arith) p h
 
-binary_levels : (op : BinaryOp) (q : ℕ) (ts mid rest : List Tok) (a b : Tree) → rank_of op ≡ suc q → Levels (suc q) ts a (binary_token op ∷ mid) → Levels q mid b rest → binary_at q rest ≡ None → Levels (suc q) ts (tree.binary op a b) rest
+binary_levels : (op : BinaryOperator) (q : ℕ) (ts mid rest : List Tok) (a b : Tree) → rank_of op ≡ suc q → Levels (suc q) ts a (binary_token op ∷ mid) → Levels q mid b rest → binary_at q rest ≡ None → Levels (suc q) ts (tree.binary op a b) rest
 binary_levels op q ts mid rest a b rank c d quiet r le p h =
     let same : q ≡ rank_of op - 1 = omega (arith, rank) in
     let right : Comes (λ n m. level n (rank_of op - 1) mid) (Some (b, rest)) = subst (λ (k : ℕ). Comes (λ n m. level n k mid) (Some (b, rest))) same (ended closed q mid rest b d quiet) in
-    c r le p (climb_next r a (binary_token op ∷ mid) mid op (Some (b, rest)) p (binary_again op r mid (omega (arith, rank, le))) right h)
+    c r le p (climb_next r a (binary_token op ∷ mid) mid op (Some (b, rest)) p (binary_again op r mid (omega (arith, rank)) (omega (arith, rank, le))) right h)
 
 domain_interval : (ts rest : List Tok) (i : IntervalTree) → Comes (λ n m. domain (level n) ts) (Some (i, rest)) → IntervalComes (word words.ImageCrsDomain ∷ ts) i rest
 domain_interval ts rest i c = by_domain (no_bounds_word words.ImageCrsDomain ts) (word_again words.ImageCrsDomain ts) c
@@ -239,9 +240,9 @@ mutual
   level_comes (grammar.coverage {o = o} {x = x} {ts = ts} {mid = mid} {rest = rest} {is = is} {e = e} over body) can =
       let inside = ended o max_rank mid rest e (level_comes body (follows_open o rest can)) can.ends in
       coverage_levels (name x ∷ word words.Over ∷ ts) rest (tree.coverage is e) (coverage_whole x ts mid rest is e (iters_come over) inside) can.no_postfix
-  level_comes (grammar.condense {o = o} {ts = ts} {mid = mid} {rest = rest} {is = is} {c = c} {e = e} op tests body) can =
+  level_comes (grammar.condense {o = o} {t = t} {ts = ts} {mid = mid} {rest = rest} {is = is} {c = c} {e = e} {op = op} joins tests body) can =
       let inside = ended o max_rank mid rest e (level_comes body (follows_open o rest can)) can.ends in
-      condense_levels (condense_token op ∷ word words.Over ∷ ts) rest (tree.condense op is c e) (condense_whole op ts mid rest is c e (condition_comes tests mid refl) inside) can.no_postfix
+      condense_levels (t ∷ word words.Over ∷ ts) rest (tree.condense op is c e) (condense_whole op t ts mid rest is c e joins (condition_comes tests mid refl) inside) can.no_postfix
   level_comes (grammar.unary {t = t} {ts = ts} {rest = rest} {e = e} {op = op} before s) can = unary_levels op t ts rest e before (level_comes s can)
   level_comes (grammar.tighter {o = o} {r = r} {ts = ts} {rest = rest} {e = e} s) can = tighter_levels r ts rest e (level_comes s (follows_less o r rest can))
   level_comes (grammar.binary {o = o} {r = r} {ts = ts} {mid = mid} {rest = rest} {a = a} {b = b} op rank left right) can =
@@ -262,7 +263,7 @@ mutual
       let comma = stops_comma mid in
       let paren = stops_right_paren rest in
       bit_posts ts mid rest a b (stopped ts (sign signs.Comma ∷ mid) a (level_comes s (follows o max_rank (sign signs.Comma ∷ mid) comma)) comma) (stopped mid (sign signs.RightParen ∷ rest) b (level_comes t (follows q max_rank (sign signs.RightParen ∷ rest) paren)) paren)
-  post_comes (grammar.reduce {ts = ts} {rest = rest} {e = e} op s) = reduce_posts op ts rest e (parens_come s)
+  post_comes (grammar.reduce {w = w} {ts = ts} {rest = rest} {e = e} {op = op} r s) = reduce_posts op w ts rest e r (parens_come s)
   post_comes (grammar.parts {ts = ts} {rest = rest} {ps = ps} s) = parts_posts ts rest ps (parts_come s (stops_right_brace rest))
   post_comes (grammar.value_list {x = x} {ts = ts} {mid = mid} {rest = rest} {is = is} {xs = xs} over items) =
       value_list_posts (name x ∷ word words.Over ∷ ts) rest (tree.value_list is xs) (value_list_whole x (iters_come over) items)

@@ -3,7 +3,7 @@ use Rattle.std.proofs.Common.{◌≡◌, ℕ, zero, suc, ◌-◌, ◌<◌, ◌�
 use Rattle.std.proofs.lemmas.Bool.Decides.{leb_tells}
 use Rattle.std.proofs.Math.Dec.{leb}
 use Rattle.wcps_text.specs.declared.token.Symbol.TheVariants as signs
-use Rattle.wcps_text.specs.declared.tree.BinaryOp.{BinaryOp}
+use Rattle.wcps_text.specs.declared.operator.BinaryOperator.{BinaryOperator}
 use Rattle.wcps_text.specs.Token.{Tok, sign}
 use Rattle.wcps_text.specs.Tree as tree
 use Rattle.wcps_text.specs.Tree.{Tree}
@@ -94,16 +94,16 @@ Below zero ts = Unit {0}
 Below (suc k) ts = binary_at k ts ≡ None
 
 -- the operator at the front is of the rank or a looser one
-reaches : (q : ℕ) (op : BinaryOp) (ts mid : List Tok) → Below q ts → ts ≡ binary_token op ∷ mid → q ≤ rank_of op
-reaches zero op ts mid below e = omega arith
-reaches (suc k) op ts mid below e =
-    ⊎_elim (λ (h : (leb (rank_of op) k ≡ true) × (rank_of op ≤ k)). absurd (none_equal (subst (λ (us : List Tok). binary_at k us ≡ None) e below) (binary_again op k mid h.1)))
+reaches : (q : ℕ) (op : BinaryOperator) (ts mid : List Tok) → 0 < rank_of op → Below q ts → ts ≡ binary_token op ∷ mid → q ≤ rank_of op
+reaches zero op ts mid ranked below e = omega arith
+reaches (suc k) op ts mid ranked below e =
+    ⊎_elim (λ (h : (leb (rank_of op) k ≡ true) × (rank_of op ≤ k)). absurd (none_equal (subst (λ (us : List Tok). binary_at k us ≡ None) e below) (binary_again op k mid ranked h.1)))
     (λ (h : (leb (rank_of op) k ≡ false) × (k < rank_of op)). omega (arith, h.1)) (leb_tells (rank_of op) k)
 
 -- what stands to the left of an operator is closed
-left_closed : (o : Openness) (q : ℕ) (ts0 ts mid : List Tok) (a : Tree) (op : BinaryOp) → Ends o ts → ts ≡ binary_token op ∷ mid → Spells o q ts0 a ts → Spells closed q ts0 a (binary_token op ∷ mid)
-left_closed closed q ts0 ts mid a op ends e s = subst (λ (us : List Tok). Spells closed q ts0 a us) e s
-left_closed open_ended q ts0 ts mid a op ends e s = absurd (none_equal (subst (λ (us : List Tok). binary_at max_rank us ≡ None) e ends) (binary_again op max_rank mid (rank_most op)))
+left_closed : (o : Openness) (q : ℕ) (ts0 ts mid : List Tok) (a : Tree) (op : BinaryOperator) → 0 < rank_of op → Ends o ts → ts ≡ binary_token op ∷ mid → Spells o q ts0 a ts → Spells closed q ts0 a (binary_token op ∷ mid)
+left_closed closed q ts0 ts mid a op ranked ends e s = subst (λ (us : List Tok). Spells closed q ts0 a us) e s
+left_closed open_ended q ts0 ts mid a op ranked ends e s = absurd (none_equal (subst (λ (us : List Tok). binary_at max_rank us ≡ None) e ends) (binary_again op max_rank mid ranked (rank_most op)))
 
 climb_read : (m : ℕ) (l : Reader) → IsSound l → (o : Openness) (q r : ℕ) (ts0 ts rest : List Tok) (a e : Tree) → q ≤ r → Spells o q ts0 a ts → Ends o ts → Below q ts → postfix_at ts ≡ None → climb m l r a ts ≡ Some (e, rest) → IsRead r ts0 e rest
 unfolding climb
@@ -116,11 +116,11 @@ climb_read (suc m) l sound o q r ts0 ts rest a e le s ends below no_postfix h =
     let is = binary_is r ts op.1 op.0 some in
     let b = bind_ok _ _ _ k in
     let right = sound.reads (rank_of op.0 - 1) op.1 b.0.1 b.0.0 b.1 in
-    let left = left_closed o q ts0 ts op.1 a op.0 ends is.at_front s in
-    let high = raised closed q (rank_of op.0) ts0 (binary_token op.0 ∷ op.1) a (reaches q op.0 ts op.1 below is.at_front) left in
-    let first : Spells closed (suc (rank_of op.0 - 1)) ts0 a (binary_token op.0 ∷ op.1) = subst (λ (k : ℕ). Spells closed k ts0 a (binary_token op.0 ∷ op.1)) (rank_suc op.0) high in
-    let joined : Spells right.openness (suc (rank_of op.0 - 1)) ts0 (tree.binary op.0 a b.0.0) b.0.1 = grammar.binary op.0 (rank_suc op.0) first right.spelled in
-    climb_read m l sound right.openness (suc (rank_of op.0 - 1)) r ts0 b.0.1 rest (tree.binary op.0 a b.0.0) e (omega (arith, is.of_rank, rank_suc op.0)) joined right.ends right.quiet right.no_postfix b.2)
+    let left = left_closed o q ts0 ts op.1 a op.0 is.ranked ends is.at_front s in
+    let high = raised closed q (rank_of op.0) ts0 (binary_token op.0 ∷ op.1) a (reaches q op.0 ts op.1 is.ranked below is.at_front) left in
+    let first : Spells closed (suc (rank_of op.0 - 1)) ts0 a (binary_token op.0 ∷ op.1) = subst (λ (k : ℕ). Spells closed k ts0 a (binary_token op.0 ∷ op.1)) (rank_suc op.0 is.ranked) high in
+    let joined : Spells right.openness (suc (rank_of op.0 - 1)) ts0 (tree.binary op.0 a b.0.0) b.0.1 = grammar.binary op.0 (rank_suc op.0 is.ranked) first right.spelled in
+    climb_read m l sound right.openness (suc (rank_of op.0 - 1)) r ts0 b.0.1 rest (tree.binary op.0 a b.0.0) e (omega (arith, is.of_rank, rank_suc op.0 is.ranked)) joined right.ends right.quiet right.no_postfix b.2)
 
 expression_read : (m : ℕ) (l : Reader) → IsSound l → (r : ℕ) (ts rest : List Tok) (e : Tree) → expression m l r ts ≡ Some (e, rest) → IsRead r ts e rest
 unfolding expression

@@ -5,7 +5,7 @@ use Rattle.wcps_text.specs.declared.token.Kind.TheVariants as kinds
 use Rattle.wcps_text.specs.declared.token.Symbol.TheVariants as signs
 use Rattle.wcps_text.specs.declared.token.Token.{Token}
 use Rattle.wcps_text.specs.Token.{Tok, tok, tok_at, toks}
-use Rattle.wcps_text.specs.Limits.{deepest, depth_behind}
+use Rattle.wcps_text.specs.Limits.{max_depth, deepest, depth_behind}
 use Rattle.wcps_parse.specs.Marks.{Opens}
 
 pub deepest_least : (ts : List Tok) (d : ℕ) → d ≤ deepest d ts
@@ -18,7 +18,7 @@ opened (kinds.Symbol signs.LeftBracket) text d o = refl
 opened (kinds.Symbol signs.LeftBrace) text d o = refl
 opened _ text d o = absurd o
 
-pub overflows : (ts : List Token) (i : ℕ) (t : Token) → t ≡ get_or ts i t → i < length ts → Opens t.kind → 512 < deepest 512 (toks (drop i ts))
+pub overflows : (ts : List Token) (i : ℕ) (t : Token) → t ≡ get_or ts i t → i < length ts → Opens t.kind → max_depth < deepest max_depth (toks (drop i ts))
 overflows ts i t e lt o =
-    let least = deepest_least (toks (drop (suc i) ts)) (depth_behind 512 (tok t)) in
-    rw (drop-cons ts i t lt, ← e) (omega (arith, least, opened t.kind t.text.now 512 o))
+    let least = deepest_least (toks (drop (suc i) ts)) (depth_behind max_depth (tok t)) in
+    rw (drop-cons ts i t lt, ← e) (omega (arith, least, opened t.kind t.text.now max_depth o))

@@ -2,13 +2,14 @@
 use Rattle.std.proofs.Common.{◌≡◌, ℕ, ◌⊎◌, inl, inr, List, ◌∷◌, Some, None, sym, ap, subst, ◌∙◌}
 use Rattle.wcps_text.specs.declared.token.Symbol.TheVariants as signs
 use Rattle.wcps_text.specs.declared.token.Keyword.TheVariants as words
-use Rattle.wcps_text.specs.declared.tree.UnaryOp.TheVariants as unaries
+use Rattle.wcps_text.specs.declared.operator.UnaryOperator.TheVariants as unaries
+use Rattle.wcps_text.specs.declared.operator.BinaryOperator.TheVariants as binaries
 use Rattle.wcps_text.specs.declared.tree.ListItem.{ListItem}
 use Rattle.wcps_text.specs.Token.{Tok, name, word, sign}
 use Rattle.wcps_text.specs.Tree as tree
 use Rattle.wcps_text.specs.Tree.{Tree, PlaceTree, trim, at, IntervalTree, bounds, Iters, Condition, always, only}
 use Rattle.wcps_text.specs.Grammar as grammar
-use Rattle.wcps_text.specs.Grammar.{truth_word, reduce_word, condense_token, max_rank, Openness, closed, open_ended, Spells, SpellsInParens, SpellsPost, SpellsPart, SpellsParts, SpellsSub, SpellsSubs, SpellsPlace, SpellsInterval, SpellsIter, SpellsIters, SpellsItems, SpellsCondition}
+use Rattle.wcps_text.specs.Grammar.{truth_word, max_rank, Openness, closed, open_ended, Spells, SpellsInParens, SpellsPost, SpellsPart, SpellsParts, SpellsSub, SpellsSubs, SpellsPlace, SpellsInterval, SpellsIter, SpellsIters, SpellsItems, SpellsCondition}
 use Rattle.wcps_parse.specs.Front.{word_at, item_at, binary_at, postfix_at, Begin, with_number, with_truth, with_variable, with_paren, with_brace, with_abs, with_bit, with_reduce, with_coverage, with_condense}
 use Rattle.wcps_parse.specs.Reading.{Reader, NamedTree, NamedPlace, NamedInterval, parts_from, subs_from, iters_from, enclosed, in_parens, bit, part_at, parts, fields, domain, place, interval, sub_at, subs, iter_at, iters, items, listed, coverage, condition, condense, begun}
 use Rattle.wcps_parse.proofs.Options.{bind_ok, choose_ok, found_is}
@@ -62,8 +63,8 @@ bit_read l sound ts rest e h =
     let left = sound.reads max_rank start.0 a.0.1 a.0.0 a.1 in
     let right = enclosed_read l sound mid.0 b.0.1 b.0.0 b.1 in
     let first : Spells left.openness max_rank start.0 a.0.0 (sign signs.Comma ∷ mid.0) = subst (λ (us : List Tok). Spells left.openness max_rank start.0 a.0.0 us) (sign_is _ _ _ mid.1) left.spelled in
-    subst (λ (p : Tree × List Tok). SpellsPost (word words.Bit ∷ ts) p.0 p.1) (found_is (tree.bit a.0.0 b.0.0, b.0.1) (e, rest) b.2)
-    (subst (λ (us : List Tok). SpellsPost (word words.Bit ∷ us) (tree.bit a.0.0 b.0.0) b.0.1) (sym (sign_is _ _ _ start.1)) (grammar.bit first right.spelled))
+    subst (λ (p : Tree × List Tok). SpellsPost (word words.Bit ∷ ts) p.0 p.1) (found_is (tree.binary binaries.Bit a.0.0 b.0.0, b.0.1) (e, rest) b.2)
+    (subst (λ (us : List Tok). SpellsPost (word words.Bit ∷ us) (tree.binary binaries.Bit a.0.0 b.0.0) b.0.1) (sym (sign_is _ _ _ start.1)) (grammar.bit first right.spelled))
 
 part_read : (l : Reader) → IsSound l → (ts rest : List Tok) (p : NamedTree) → part_at l ts ≡ Some (p, rest) → IsPart ts p rest
 unfolding part_at
@@ -231,9 +232,10 @@ condense_read m l sound ts rest e h =
     let inside = sound.reads max_rank using_at.0 body.0.1 body.0.0 body.1 in
     let tested : SpellsCondition start.0 (iters_from is.0.0) c.0.0 (word words.Using ∷ using_at.0) =
     subst (λ (us : List Tok). SpellsCondition start.0 (iters_from is.0.0) c.0.0 us) (word_is _ _ _ using_at.1) (condition_read l sound start.0 is.0.1 c.0.1 (iters_from is.0.0) c.0.0 (iters_read m l sound start.0 is.0.1 is.0.0 is.1) c.1) in
-    let front : ts ≡ condense_token op.0.0 ∷ word words.Over ∷ start.0 = condenser_is _ _ _ op.1 ∙ ap (λ (us : List Tok). condense_token op.0.0 ∷ us) (word_is _ _ _ start.1) in
+    let found = condenser_is _ _ _ op.1 in
+    let front : ts ≡ found.token ∷ word words.Over ∷ start.0 = found.at_front ∙ ap (λ (us : List Tok). found.token ∷ us) (word_is _ _ _ start.1) in
     let s : Spells open_ended 0 (word words.Condense ∷ ts) (tree.condense op.0.0 (iters_from is.0.0) c.0.0 body.0.0) body.0.1 =
-    subst (λ (us : List Tok). Spells open_ended 0 (word words.Condense ∷ us) (tree.condense op.0.0 (iters_from is.0.0) c.0.0 body.0.0) body.0.1) (sym front) (grammar.condense op.0.0 tested inside.spelled) in
+    subst (λ (us : List Tok). Spells open_ended 0 (word words.Condense ∷ us) (tree.condense op.0.0 (iters_from is.0.0) c.0.0 body.0.0) body.0.1) (sym front) (grammar.condense found.joins tested inside.spelled) in
     subst (λ (p : Tree × List Tok). IsOpen (word words.Condense ∷ ts) p.0 p.1) (found_is (tree.condense op.0.0 (iters_from is.0.0) c.0.0 body.0.0, body.0.1) (e, rest) body.2)
     (record { spelled = s; quiet = inside.quiet; no_postfix = inside.no_postfix })
 
@@ -250,12 +252,12 @@ begun_read m l sound with_paren ts0 ts rest e front h =
 begun_read m l sound with_brace ts0 ts rest e front h = inl (subst (λ (us : List Tok). SpellsPost us e rest) (sym front) (fields_read m l sound ts rest e h))
 begun_read m l sound with_abs ts0 ts rest e front h =
     let x = bind_ok _ _ _ h in
-    subst (λ (p : Tree × List Tok). IsPrim ts0 p.0 p.1) (found_is (tree.unary unaries.Abs x.0.0, x.0.1) (e, rest) x.2)
-    (inl (subst (λ (us : List Tok). SpellsPost us (tree.unary unaries.Abs x.0.0) x.0.1) (sym front) (grammar.abs (in_parens_read l sound ts x.0.1 x.0.0 x.1))))
+    subst (λ (p : Tree × List Tok). IsPrim ts0 p.0 p.1) (found_is (tree.unary unaries.Absolute x.0.0, x.0.1) (e, rest) x.2)
+    (inl (subst (λ (us : List Tok). SpellsPost us (tree.unary unaries.Absolute x.0.0) x.0.1) (sym front) (grammar.abs (in_parens_read l sound ts x.0.1 x.0.0 x.1))))
 begun_read m l sound with_bit ts0 ts rest e front h = inl (subst (λ (us : List Tok). SpellsPost us e rest) (sym front) (bit_read l sound ts rest e h))
 begun_read m l sound (with_reduce op) ts0 ts rest e front h =
     let x = bind_ok _ _ _ h in
     subst (λ (p : Tree × List Tok). IsPrim ts0 p.0 p.1) (found_is (tree.reduce op x.0.0, x.0.1) (e, rest) x.2)
-    (inl (subst (λ (us : List Tok). SpellsPost us (tree.reduce op x.0.0) x.0.1) (sym front) (grammar.reduce op (in_parens_read l sound ts x.0.1 x.0.0 x.1))))
+    (inl (subst (λ (us : List Tok). SpellsPost us (tree.reduce op x.0.0) x.0.1) (sym front.at_front) (grammar.reduce front.reduces (in_parens_read l sound ts x.0.1 x.0.0 x.1))))
 begun_read m l sound with_coverage ts0 ts rest e front h = subst (λ (us : List Tok). IsPrim us e rest) (sym front) (coverage_read m l sound ts rest e h)
 begun_read m l sound with_condense ts0 ts rest e front h = inr (subst (λ (us : List Tok). IsOpen us e rest) (sym front) (condense_read m l sound ts rest e h))

@@ -12,7 +12,8 @@ use Rattle.wcps_text.specs.declared.token.Keyword.TheVariants as words
 use Rattle.wcps_text.specs.declared.error.LexError.{LexError}
 use Rattle.wcps_text.specs.declared.error.LexError.TheVariants as errors
 use Rattle.wcps_text.specs.Token.{Tok, number, name, dollar, quoted, word, sign}
-use Rattle.wcps_text.specs.Lexing.{is_space, begins_name, decimal, keyword_text, single, double, is_name, is_digits, Reads, numeral, large_numeral, plain, reserved, long_plain, marked, long_marked, text_between, one_byte, two_bytes, IsLongest, Piece, Lexed, at_end, past_space, past_token, Refused, behind_space, behind_token, no_token, no_form}
+use Rattle.wcps_text.specs.Limits.{max_name}
+use Rattle.wcps_text.specs.Lexing.{is_space, begins_name, decimal, keyword_text, single, double, is_word, is_digits, Reads, numeral, large_numeral, plain, reserved, long_plain, marked, long_marked, text_between, one_byte, two_bytes, IsLongest, Piece, Lexed, at_end, past_space, past_token, Refused, behind_space, behind_token, no_token, no_form}
 use Rattle.wcps_text.proofs.Fronts.{ahead, behind, true_false}
 
 -- ---- what bytes of the form of a token are
@@ -126,8 +127,8 @@ symbol_at (b ∷ c ∷ cs) = symbol_of (double b)
 -- what bytes of a kind are
 abbrev meant : ℕ → List ℕ → Result Tok LexError
 meant zero w = cond (nat_lt (decimal w) (2 ^ 63)) (Ok (number (decimal w))) (Err errors.NumberTooLarge)
-meant (suc zero) w = cond (nat_le (length w) 64) (named w (keyword_in all_words (map to_ascii_lowercase w))) (Err errors.BadToken)
-meant (suc (suc zero)) w = cond (nat_le (length w) 64) (Ok (dollar w)) (Err errors.BadToken)
+meant (suc zero) w = cond (nat_le (length w) max_name) (named w (keyword_in all_words (map to_ascii_lowercase w))) (Err errors.BadToken)
+meant (suc (suc zero)) w = cond (nat_le (length w) max_name) (Ok (dollar w)) (Err errors.BadToken)
 meant (suc (suc (suc zero))) w = Ok (quoted w)
 meant (suc (suc (suc (suc k)))) w = symbol_at w
 
@@ -143,14 +144,14 @@ reads-meant w r (numeral (is_digits {d} {ds} begin more) small) =
     meant-as (d ∷ ds) 0 _ (digit-kind d begin) (below (decimal (d ∷ ds)) (2 ^ 63) _ _ small)
 reads-meant w r (large_numeral (is_digits {d} {ds} begin more) large) =
     meant-as (d ∷ ds) 0 _ (digit-kind d begin) (not-below (decimal (d ∷ ds)) (2 ^ 63) _ _ large)
-reads-meant w r (plain (is_name {c} {cs} begin more) short free) =
-    meant-as (c ∷ cs) 1 _ (letter-kind c begin) (at-most (length (c ∷ cs)) 64 _ _ short ∙ ap (named (c ∷ cs)) (no-word all_words (map to_ascii_lowercase (c ∷ cs)) free))
-reads-meant w r (reserved {k} (is_name {c} {cs} begin more) short same) =
-    meant-as (c ∷ cs) 1 _ (letter-kind c begin) (at-most (length (c ∷ cs)) 64 _ _ short ∙ ap (named (c ∷ cs)) (ap (keyword_in all_words) same ∙ own-word k))
-reads-meant w r (long_plain (is_name {c} {cs} begin more) long) =
-    meant-as (c ∷ cs) 1 _ (letter-kind c begin) (above (length (c ∷ cs)) 64 _ _ long)
-reads-meant w r (marked {w = v} is short) = meant-as (36 ∷ v) 2 _ refl (at-most (length (36 ∷ v)) 64 _ _ (omega (arith, short)))
-reads-meant w r (long_marked {w = v} is long) = meant-as (36 ∷ v) 2 _ refl (above (length (36 ∷ v)) 64 _ _ (omega (arith, long)))
+reads-meant w r (plain (is_word {c} {cs} begin more) short free) =
+    meant-as (c ∷ cs) 1 _ (letter-kind c begin) (at-most (length (c ∷ cs)) max_name _ _ short ∙ ap (named (c ∷ cs)) (no-word all_words (map to_ascii_lowercase (c ∷ cs)) free))
+reads-meant w r (reserved {k} (is_word {c} {cs} begin more) short same) =
+    meant-as (c ∷ cs) 1 _ (letter-kind c begin) (at-most (length (c ∷ cs)) max_name _ _ short ∙ ap (named (c ∷ cs)) (ap (keyword_in all_words) same ∙ own-word k))
+reads-meant w r (long_plain (is_word {c} {cs} begin more) long) =
+    meant-as (c ∷ cs) 1 _ (letter-kind c begin) (above (length (c ∷ cs)) max_name _ _ long)
+reads-meant w r (marked {w = v} is short) = meant-as (36 ∷ v) 2 _ refl (at-most (length (36 ∷ v)) max_name _ _ (omega (arith, short)))
+reads-meant w r (long_marked {w = v} is long) = meant-as (36 ∷ v) 2 _ refl (above (length (36 ∷ v)) max_name _ _ (omega (arith, long)))
 reads-meant w r (text_between cs all same) = meant-as w 3 _ (ap kind_of same) refl
 reads-meant w r (one_byte {b} {s} e) = meant-as (b ∷ []) 4 _ (single-kind b s e) (ap symbol_of e)
 reads-meant w r (two_bytes {b} {s} e) = meant-as (b ∷ 61 ∷ []) 4 _ (double-kind b s e) (ap symbol_of e)
@@ -170,9 +171,9 @@ record Front (w : List ℕ) : Type 0 where
 front-of : (w : List ℕ) (r : Result Tok LexError) → Reads w r → Front w
 front-of w r (numeral (is_digits {d} {ds} begin more) small) = record { byte = d; more = ds; is = refl; dense = digit-dense d begin }
 front-of w r (large_numeral (is_digits {d} {ds} begin more) large) = record { byte = d; more = ds; is = refl; dense = digit-dense d begin }
-front-of w r (plain (is_name {c} {cs} begin more) short free) = record { byte = c; more = cs; is = refl; dense = letter-dense c begin }
-front-of w r (reserved (is_name {c} {cs} begin more) short same) = record { byte = c; more = cs; is = refl; dense = letter-dense c begin }
-front-of w r (long_plain (is_name {c} {cs} begin more) long) = record { byte = c; more = cs; is = refl; dense = letter-dense c begin }
+front-of w r (plain (is_word {c} {cs} begin more) short free) = record { byte = c; more = cs; is = refl; dense = letter-dense c begin }
+front-of w r (reserved (is_word {c} {cs} begin more) short same) = record { byte = c; more = cs; is = refl; dense = letter-dense c begin }
+front-of w r (long_plain (is_word {c} {cs} begin more) long) = record { byte = c; more = cs; is = refl; dense = letter-dense c begin }
 front-of w r (marked {w = v} is short) = record { byte = 36; more = v; is = refl; dense = refl }
 front-of w r (long_marked {w = v} is long) = record { byte = 36; more = v; is = refl; dense = refl }
 front-of w r (text_between cs all same) = record { byte = 34; more = cs ++ 34 ∷ []; is = same; dense = refl }

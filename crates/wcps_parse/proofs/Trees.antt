@@ -1,6 +1,6 @@
 -- What a tree shows whose variant has a list, and how high it is.
 use Rattle.std.proofs.Common.{◌≡◌, ℕ, List, [], ◌∷◌, map, max, Vec, Box, Option, Global, refl, sym, ap, subst, ◌∙◌}
-use Rattle.wcps_text.specs.declared.tree.CondenseOp.{CondenseOp}
+use Rattle.wcps_text.specs.declared.operator.Aggregate.{Aggregate}
 use Rattle.wcps_text.specs.declared.tree.ListItem.{ListItem}
 use Rattle.wcps_text.specs.declared.tree.Expr as exprs
 use Rattle.wcps_text.specs.declared.tree.Expr.{Expr}
@@ -52,7 +52,7 @@ value_list_shown v w = view-ValueList v w ∙ ap (λ (is : Iters). value_list is
 pub coverage_shown : (v : Vec Iter Global) (b : Box Expr Global) → view (exprs.Coverage v b) ≡ coverage (iters_from (iters_view v)) (view b.value)
 coverage_shown v b = view-Coverage v b ∙ ap (λ (is : Iters). coverage is (view b.value)) (iters_named v.items)
 
-pub condense_shown : (op : CondenseOp) (v : Vec Iter Global) (o : Option (Box Expr Global)) (b : Box Expr Global) → view (exprs.Condense op v o b) ≡ condense op (iters_from (iters_view v)) (condition_of o) (view b.value)
+pub condense_shown : (op : Aggregate) (v : Vec Iter Global) (o : Option (Box Expr Global)) (b : Box Expr Global) → view (exprs.Condense op v o b) ≡ condense op (iters_from (iters_view v)) (condition_of o) (view b.value)
 condense_shown op v o b = view-Condense op v o b ∙ ap (λ (is : Iters). condense op is (condition_of o) (view b.value)) (iters_named v.items)
 
 pub value_list_fits : (g : Grown (Vec Iter Global)) (v : Vec Iter Global) (h : ℕ) (w : Vec ListItem Global) (is : List NamedInterval) → g ≡ Fits v h → Fit iters_view (highest iter_height) g is
@@ -61,7 +61,7 @@ value_list_fits g v h w is e fit =
     let f : Fit iters_view (highest iter_height) (Fits v h) is = subst (λ (k : Grown (Vec Iter Global)). Fit iters_view (highest iter_height) k is) e fit in
     (value_list_shown v w ∙ ap (λ (js : List NamedInterval). value_list (iters_from js) w.items) f.0, f.1 ∙ sym (iters_high is))
 
-pub condense_fits : (op : CondenseOp) (gi : Grown (Vec Iter Global)) (gc : Grown (Option (Box Expr Global))) (gb : Grown Expr) (v : Vec Iter Global) (o : Option (Box Expr Global)) (x : Box Expr Global) (b : Expr) (i j k : ℕ) (is : List NamedInterval) (c : Condition) (e : Tree)
+pub condense_fits : (op : Aggregate) (gi : Grown (Vec Iter Global)) (gc : Grown (Option (Box Expr Global))) (gb : Grown Expr) (v : Vec Iter Global) (o : Option (Box Expr Global)) (x : Box Expr Global) (b : Expr) (i j k : ℕ) (is : List NamedInterval) (c : Condition) (e : Tree)
     → gi ≡ Fits v i → gc ≡ Fits o j → gb ≡ Fits b k → x.value ≡ b → Fit iters_view (highest iter_height) gi is → Fit condition_of condition_height gc c → Fit view height gb e
     → (view (exprs.Condense op v o x) ≡ condense op (iters_from is) c e) × (i ≡ iters_height (iters_from is)) × (j ≡ condition_height c) × (k ≡ height e)
 condense_fits op gi gc gb v o x b i j k is c e ei ec eb ex fi fc fb =

@@ -2,8 +2,8 @@
 use Rattle.std.proofs.Common.{◌≡◌, ℕ, suc, ◌-◌, List, [], ◌∷◌, ◌++◌, Some, None, refl, ap, subst, ◌∙◌}
 use Rattle.wcps_text.specs.declared.token.Symbol.{Symbol}
 use Rattle.wcps_text.specs.declared.token.Symbol.TheVariants as signs
-use Rattle.wcps_text.specs.declared.tree.UnaryOp.{UnaryOp}
-use Rattle.wcps_text.specs.declared.tree.BinaryOp.{BinaryOp}
+use Rattle.wcps_text.specs.declared.operator.UnaryOperator.{UnaryOperator}
+use Rattle.wcps_text.specs.declared.operator.BinaryOperator.{BinaryOperator}
 use Rattle.wcps_text.specs.Token.{Tok}
 use Rattle.wcps_text.specs.Tree as tree
 use Rattle.wcps_text.specs.Tree.{Tree}
@@ -36,7 +36,7 @@ pub climb_end : (r : ℕ) (a : Tree) (ts : List Tok) → binary_at r ts ≡ None
 unfolding climb
 climb_end r a ts e = comes_suc (rw e (comes_now _))
 
-pub climb_next : (r : ℕ) (a : Tree) (ts mid : List Tok) (op : BinaryOp) (o p : Reading Tree) → binary_at r ts ≡ Some (op, mid) → Comes (λ n m. level n (rank_of op - 1) mid) o
+pub climb_next : (r : ℕ) (a : Tree) (ts mid : List Tok) (op : BinaryOperator) (o p : Reading Tree) → binary_at r ts ≡ Some (op, mid) → Comes (λ n m. level n (rank_of op - 1) mid) o
     → Comes (λ n m. o >>= λ b. climb m (level n) r (tree.binary op a b.0) b.1) p → Comes (λ n m. climb m (level n) r a ts) p
 unfolding climb
 climb_next r a ts mid op o p e c d = comes_suc (rw e (comes_then _ c d))
@@ -90,7 +90,7 @@ pub operand_post : (ts : List Tok) (o : Reading Tree) → prefix_at ts ≡ None 
 unfolding operand
 operand_post ts o e c = rw e c
 
-pub operand_prefix : (ts mid : List Tok) (op : UnaryOp) (o : Reading Tree) → prefix_at ts ≡ Some (op, mid) → Comes (λ n m. level n 0 mid) o → Comes (λ n m. operand m (level n) ts) (o >>= λ e. Some (tree.unary op e.0, e.1))
+pub operand_prefix : (ts mid : List Tok) (op : UnaryOperator) (o : Reading Tree) → prefix_at ts ≡ Some (op, mid) → Comes (λ n m. level n 0 mid) o → Comes (λ n m. operand m (level n) ts) (o >>= λ e. Some (tree.unary op e.0, e.1))
 unfolding operand
 operand_prefix ts mid op o e c = rw e (comes_then _ c (comes_now _))
 
@@ -103,7 +103,7 @@ pub level_operand : (ts : List Tok) (o : Reading Tree) → Comes (λ n m. operan
 level_operand ts o c = level_first 0 ts o o c (climb_none o)
 
 -- what was read, under operators
-abbrev pub under : List UnaryOp → Reading Tree → Reading Tree
+abbrev pub under : List UnaryOperator → Reading Tree → Reading Tree
 under ops None = None
 under ops (Some x) = Some (wrapped ops x.0, x.1)
 
@@ -111,11 +111,11 @@ under_none : (o : Reading Tree) → o ≡ under [] o
 under_none None = refl
 under_none (Some x) = refl
 
-under_next : (op : UnaryOp) (ops : List UnaryOp) (o : Reading Tree) → (under ops o >>= λ (e : Tree × List Tok). Some (tree.unary op e.0, e.1)) ≡ under (op ∷ ops) o
+under_next : (op : UnaryOperator) (ops : List UnaryOperator) (o : Reading Tree) → (under ops o >>= λ (e : Tree × List Tok). Some (tree.unary op e.0, e.1)) ≡ under (op ∷ ops) o
 under_next op ops None = refl
 under_next op ops (Some x) = refl
 
-pub operand_under : {ops : List UnaryOp} {ts rest : List Tok} (o : Reading Tree) → IsBehind ops rest ts → Comes (λ n m. post m (level n) rest) o → Comes (λ n m. operand m (level n) ts) (under ops o)
+pub operand_under : {ops : List UnaryOperator} {ts rest : List Tok} (o : Reading Tree) → IsBehind ops rest ts → Comes (λ n m. post m (level n) rest) o → Comes (λ n m. operand m (level n) ts) (under ops o)
 operand_under o (none {ts = ts} e) c = subst (λ (p : Reading Tree). Comes (λ n m. operand m (level n) ts) p) (under_none o) (operand_post ts o e c)
 operand_under o (next {op = op} {ops = ops} {ts = ts} {mid = mid} e more) c =
     subst (λ (p : Reading Tree). Comes (λ n m. operand m (level n) ts) p) (under_next op ops o)

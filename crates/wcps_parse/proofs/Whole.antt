@@ -4,13 +4,14 @@ use Rattle.wcps_text.specs.declared.token.Symbol.{Symbol}
 use Rattle.wcps_text.specs.declared.token.Symbol.TheVariants as signs
 use Rattle.wcps_text.specs.declared.token.Keyword.{Keyword}
 use Rattle.wcps_text.specs.declared.token.Keyword.TheVariants as words
-use Rattle.wcps_text.specs.declared.tree.UnaryOp.TheVariants as unaries
-use Rattle.wcps_text.specs.declared.tree.CondenseOp.{CondenseOp}
+use Rattle.wcps_text.specs.declared.operator.UnaryOperator.TheVariants as unaries
+use Rattle.wcps_text.specs.declared.operator.BinaryOperator.TheVariants as binaries
+use Rattle.wcps_text.specs.declared.operator.Aggregate.{Aggregate}
 use Rattle.wcps_text.specs.declared.tree.ListItem.{ListItem}
 use Rattle.wcps_text.specs.Token.{Tok, number, name, word, sign}
 use Rattle.wcps_text.specs.Tree as tree
 use Rattle.wcps_text.specs.Tree.{Tree, Parts, Subs, PlaceTree, trim, at, IntervalTree, bounds, Iters, Condition, always, only}
-use Rattle.wcps_text.specs.Grammar.{condense_token, max_rank, SpellsInt, unsigned, positive, negative, SpellsItems, last_item, more_items, SpellsVariable}
+use Rattle.wcps_text.specs.Grammar.{Condenses, max_rank, SpellsInt, unsigned, positive, negative, SpellsItems, last_item, more_items, SpellsVariable}
 use Rattle.wcps_parse.specs.Comes.{Comes}
 use Rattle.wcps_parse.specs.Front.{Reading, ◌>>=◌, sign_at, word_at, int_at, bounds_at, item_at, prefix_at, postfix_at, Begin, with_number, start_at}
 use Rattle.wcps_parse.specs.Reading.{NamedTree, NamedPlace, NamedInterval, parts_from, subs_from, iters_from, more, separated, enclosed, in_parens, bit, part_at, parts, fields, domain, place, interval, sub_at, iter_at, iters, items, listed, coverage, condition, condense, begun, behind, post, operand, level}
@@ -70,7 +71,7 @@ pub in_parens_whole : (ts rest : List Tok) (e : Tree) → Comes (λ n m. enclose
 unfolding in_parens
 in_parens_whole ts rest e c = rw sign_again c
 
-pub bit_whole : (ts mid rest : List Tok) (a b : Tree) → Comes (λ n m. level n max_rank ts) (Some (a, sign signs.Comma ∷ mid)) → Comes (λ n m. enclosed (level n) mid) (Some (b, rest)) → Comes (λ n m. bit (level n) (sign signs.LeftParen ∷ ts)) (Some (tree.bit a b, rest))
+pub bit_whole : (ts mid rest : List Tok) (a b : Tree) → Comes (λ n m. level n max_rank ts) (Some (a, sign signs.Comma ∷ mid)) → Comes (λ n m. enclosed (level n) mid) (Some (b, rest)) → Comes (λ n m. bit (level n) (sign signs.LeftParen ∷ ts)) (Some (tree.binary binaries.Bit a b, rest))
 unfolding bit
 bit_whole ts mid rest a b c d = rw sign_again (comes_then _ c (rw sign_again (comes_then _ d (comes_now _))))
 
@@ -186,12 +187,12 @@ pub record ConditionComes (ts : List Tok) (is : Iters) (c : Condition) (rest : L
   pub ends : sign_at signs.Comma mid ≡ None
   pub tested : Comes (λ n m. condition (level n) mid) (Some (c, rest))
 
-pub condense_whole : (op : CondenseOp) (ts mid rest : List Tok) (is : Iters) (c : Condition) (e : Tree) → ConditionComes ts is c (word words.Using ∷ mid) → Comes (λ n m. level n max_rank mid) (Some (e, rest))
-    → Comes (λ n m. condense m (level n) (condense_token op ∷ word words.Over ∷ ts)) (Some (tree.condense op is c e, rest))
+pub condense_whole : (op : Aggregate) (t : Tok) (ts mid rest : List Tok) (is : Iters) (c : Condition) (e : Tree) → Condenses op t → ConditionComes ts is c (word words.Using ∷ mid) → Comes (λ n m. level n max_rank mid) (Some (e, rest))
+    → Comes (λ n m. condense m (level n) (t ∷ word words.Over ∷ ts)) (Some (tree.condense op is c e, rest))
 unfolding condense
-condense_whole op ts mid rest is c e d b =
-    subst (λ (js : Iters). Comes (λ n m. condense m (level n) (condense_token op ∷ word words.Over ∷ ts)) (Some (tree.condense op js c e, rest))) d.iterators.same
-    (rw (condenser_again, word_again) (comes_then _ (iters_whole d.iterators d.ends) (comes_then _ d.tested (rw word_again (comes_then _ b (comes_now _))))))
+condense_whole op t ts mid rest is c e joins d b =
+    subst (λ (js : Iters). Comes (λ n m. condense m (level n) (t ∷ word words.Over ∷ ts)) (Some (tree.condense op js c e, rest))) d.iterators.same
+    (rw (condenser_again (word words.Over ∷ ts) joins, word_again) (comes_then _ (iters_whole d.iterators d.ends) (comes_then _ d.tested (rw word_again (comes_then _ b (comes_now _))))))
 
 -- an operand without operators before it
 pub post_whole : (ts mid rest : List Tok) (b : Begin) (e : Tree) → start_at ts ≡ Some (b, mid) → Comes (λ n m. begun m (level n) b mid) (Some (e, rest)) → (p : Reading Tree) → Comes (λ n m. behind m (level n) e rest) p → Comes (λ n m. post m (level n) ts) p

@@ -1,5 +1,5 @@
 -- What the tokens at the front are, where something was found there.
-use Rattle.std.proofs.Common.{◌≡◌, ℕ, ℤ, ◌≤◌, ◌⊎◌, inl, inr, ⊎_elim, Bool, true, false, ◌||◌, List, [], ◌∷◌, Some, refl, ap, subst, ◌∙◌}
+use Rattle.std.proofs.Common.{◌≡◌, ℕ, ℤ, ◌≤◌, ◌⊎◌, inl, inr, ⊎_elim, Bool, true, false, ◌||◌, List, [], ◌∷◌, Some, refl, sym, ap, subst, ◌∙◌, ◌<◌, arith}
 use Rattle.std.proofs.lemmas.Bool.{leb-true}
 use Rattle.std.proofs.lemmas.Option.{cond_some}
 use Rattle.std.proofs.lemmas.Slice.Eq.{bytes_eq-Decides}
@@ -10,18 +10,17 @@ use Rattle.wcps_text.specs.declared.token.Symbol.{Symbol}
 use Rattle.wcps_text.specs.declared.token.Symbol.TheVariants as signs
 use Rattle.wcps_text.specs.declared.token.Keyword.{Keyword}
 use Rattle.wcps_text.specs.declared.token.Keyword.TheVariants as words
-use Rattle.wcps_text.specs.declared.tree.UnaryOp.{UnaryOp}
-use Rattle.wcps_text.specs.declared.tree.UnaryOp.TheVariants as unaries
-use Rattle.wcps_text.specs.declared.tree.BinaryOp.{BinaryOp}
-use Rattle.wcps_text.specs.declared.tree.BinaryOp.TheVariants as binaries
-use Rattle.wcps_text.specs.declared.tree.ReduceOp.TheVariants as reducers
-use Rattle.wcps_text.specs.declared.tree.CondenseOp.{CondenseOp}
-use Rattle.wcps_text.specs.declared.tree.CondenseOp.TheVariants as condensers
+use Rattle.wcps_text.specs.declared.operator.UnaryOperator.{UnaryOperator}
+use Rattle.wcps_text.specs.declared.operator.UnaryOperator.TheVariants as unaries
+use Rattle.wcps_text.specs.declared.operator.BinaryOperator.{BinaryOperator}
+use Rattle.wcps_text.specs.declared.operator.BinaryOperator.TheVariants as binaries
+use Rattle.wcps_text.specs.declared.operator.Aggregate.TheVariants as aggregates
+use Rattle.wcps_text.specs.declared.operator.Aggregate.{Aggregate}
 use Rattle.wcps_text.specs.declared.tree.ListItem.{ListItem}
 use Rattle.wcps_text.specs.declared.tree.ListItem.TheVariants as list_items
 use Rattle.wcps_text.specs.Token.{Tok, number, name, dollar, quoted, word, sign}
 use Rattle.wcps_text.specs.Tree.{IntervalTree}
-use Rattle.wcps_text.specs.Grammar.{Prefixes, negate, plus, not, binary_token, rank_of, reduce_word, condense_token, truth_word, SpellsInt, unsigned, positive, negative, SpellsItem, int_item, truth_item, SpellsVariable, plain_name, dollar_name, SpellsInterval, between, IsFormat, csv_word, csv_quoted, text_csv_quoted}
+use Rattle.wcps_text.specs.Grammar.{Prefixes, negate, plus, not, binary_token, rank_of, Reduces, to_count, to_any, to_every, to_sum, to_average, to_least, to_greatest, Condenses, by_sum, by_product, by_greatest, by_least, by_every, by_any, truth_word, SpellsInt, unsigned, positive, negative, SpellsItem, int_item, truth_item, SpellsVariable, plain_name, dollar_name, SpellsInterval, between, IsFormat, csv_word, csv_quoted, text_csv_quoted}
 use Rattle.wcps_parse.specs.declared.front.Postfix.{Postfix}
 use Rattle.wcps_parse.specs.declared.front.Postfix.TheVariants as postfixes
 use Rattle.wcps_parse.specs.Front.{sign_at, word_at, name_at, variable_at, int_at, bounds_at, truth_at, item_at, prefix_at, operator, binary_at, condenser_at, postfix_at, Begin, with_number, with_truth, with_variable, with_paren, with_brace, with_abs, with_bit, with_reduce, with_coverage, with_condense, start_at, is_csv, format_at}
@@ -80,19 +79,19 @@ item_is ts rest x e = choose_ok _ _ _ _ e
     (λ none h. truth_is ts rest x h)
     (λ z some h. subst (λ (p : ListItem × List Tok). SpellsItem ts p.0 p.1) (found_is (list_items.Int z.0, z.1) (x, rest) h) (int_item (int_is _ _ _ some)))
 
-pub record IsPrefix (ts : List Tok) (op : UnaryOp) (rest : List Tok) : Type 0 where
+pub record IsPrefix (ts : List Tok) (op : UnaryOperator) (rest : List Tok) : Type 0 where
   pub token : Tok
   pub at_front : ts ≡ token ∷ rest
   pub before : Prefixes op token
 
-pub prefix_is : (ts rest : List Tok) (op : UnaryOp) → prefix_at ts ≡ Some (op, rest) → IsPrefix ts op rest
+pub prefix_is : (ts rest : List Tok) (op : UnaryOperator) → prefix_at ts ≡ Some (op, rest) → IsPrefix ts op rest
 unfolding prefix_at
-prefix_is (sign signs.Minus ∷ ts) rest op e = subst (λ (p : UnaryOp × List Tok). IsPrefix (sign signs.Minus ∷ ts) p.0 p.1) (found_is (unaries.Negate, ts) (op, rest) e) (record { token = sign signs.Minus; at_front = refl; before = negate })
-prefix_is (sign signs.Plus ∷ ts) rest op e = subst (λ (p : UnaryOp × List Tok). IsPrefix (sign signs.Plus ∷ ts) p.0 p.1) (found_is (unaries.Plus, ts) (op, rest) e) (record { token = sign signs.Plus; at_front = refl; before = plus })
-prefix_is (word words.Not ∷ ts) rest op e = subst (λ (p : UnaryOp × List Tok). IsPrefix (word words.Not ∷ ts) p.0 p.1) (found_is (unaries.Not, ts) (op, rest) e) (record { token = word words.Not; at_front = refl; before = not })
+prefix_is (sign signs.Minus ∷ ts) rest op e = subst (λ (p : UnaryOperator × List Tok). IsPrefix (sign signs.Minus ∷ ts) p.0 p.1) (found_is (unaries.Negate, ts) (op, rest) e) (record { token = sign signs.Minus; at_front = refl; before = negate })
+prefix_is (sign signs.Plus ∷ ts) rest op e = subst (λ (p : UnaryOperator × List Tok). IsPrefix (sign signs.Plus ∷ ts) p.0 p.1) (found_is (unaries.Plus, ts) (op, rest) e) (record { token = sign signs.Plus; at_front = refl; before = plus })
+prefix_is (word words.Not ∷ ts) rest op e = subst (λ (p : UnaryOperator × List Tok). IsPrefix (word words.Not ∷ ts) p.0 p.1) (found_is (unaries.Not, ts) (op, rest) e) (record { token = word words.Not; at_front = refl; before = not })
 prefix_is _ rest op e = absurd cc
 
-operator_is : (t : Tok) (op : BinaryOp) → operator t ≡ Some op → t ≡ binary_token op
+operator_is : (t : Tok) (op : BinaryOperator) → operator t ≡ Some op → t ≡ binary_token op
 operator_is (sign signs.Star) op e = ap binary_token (found_is binaries.Multiply op e)
 operator_is (sign signs.Slash) op e = ap binary_token (found_is binaries.Divide op e)
 operator_is (sign signs.Plus) op e = ap binary_token (found_is binaries.Add op e)
@@ -108,27 +107,53 @@ operator_is (word words.Or) op e = ap binary_token (found_is binaries.Or op e)
 operator_is (word words.Xor) op e = ap binary_token (found_is binaries.Xor op e)
 operator_is _ op e = absurd cc
 
-pub record IsOperator (r : ℕ) (ts : List Tok) (op : BinaryOp) (rest : List Tok) : Type 0 where
+between_ranked : (op : BinaryOperator) → operator (binary_token op) ≡ Some op → 0 < rank_of op
+between_ranked binaries.Multiply e = omega arith
+between_ranked binaries.Divide e = omega arith
+between_ranked binaries.Add e = omega arith
+between_ranked binaries.Subtract e = omega arith
+between_ranked binaries.Less e = omega arith
+between_ranked binaries.LessEqual e = omega arith
+between_ranked binaries.Greater e = omega arith
+between_ranked binaries.GreaterEqual e = omega arith
+between_ranked binaries.Equal e = omega arith
+between_ranked binaries.NotEqual e = omega arith
+between_ranked binaries.And e = omega arith
+between_ranked binaries.Or e = omega arith
+between_ranked binaries.Xor e = omega arith
+between_ranked binaries.Bit e = absurd cc
+
+-- what stands between operands has a rank
+pub operator_ranked : (t : Tok) (op : BinaryOperator) → operator t ≡ Some op → 0 < rank_of op
+operator_ranked t op e = between_ranked op (ap operator (sym (operator_is t op e)) ∙ e)
+
+pub record IsOperator (r : ℕ) (ts : List Tok) (op : BinaryOperator) (rest : List Tok) : Type 0 where
   pub at_front : ts ≡ binary_token op ∷ rest
+  pub ranked : 0 < rank_of op
   pub of_rank : rank_of op ≤ r
 
-pub binary_is : (r : ℕ) (ts rest : List Tok) (op : BinaryOp) → binary_at r ts ≡ Some (op, rest) → IsOperator r ts op rest
+pub binary_is : (r : ℕ) (ts rest : List Tok) (op : BinaryOperator) → binary_at r ts ≡ Some (op, rest) → IsOperator r ts op rest
 unfolding binary_at
 binary_is r [] rest op e = absurd cc
 binary_is r (t ∷ ts) rest op e =
     let o = bind_ok _ _ _ e in
     let g = cond_some _ _ _ o.2 in
     let at : t ≡ binary_token o.0 = operator_is t o.0 o.1 in
-    subst (λ (p : BinaryOp × List Tok). IsOperator r (t ∷ ts) p.0 p.1) g.1 (record { at_front = ap (λ (u : Tok). u ∷ ts) at; of_rank = leb-true _ _ g.0 })
+    subst (λ (p : BinaryOperator × List Tok). IsOperator r (t ∷ ts) p.0 p.1) g.1 (record { at_front = ap (λ (u : Tok). u ∷ ts) at; ranked = operator_ranked t o.0 o.1; of_rank = leb-true _ _ g.0 })
 
-pub condenser_is : (ts rest : List Tok) (op : CondenseOp) → condenser_at ts ≡ Some (op, rest) → ts ≡ condense_token op ∷ rest
+pub record IsCondenser (ts : List Tok) (op : Aggregate) (rest : List Tok) : Type 0 where
+  pub token : Tok
+  pub at_front : ts ≡ token ∷ rest
+  pub joins : Condenses op token
+
+pub condenser_is : (ts rest : List Tok) (op : Aggregate) → condenser_at ts ≡ Some (op, rest) → IsCondenser ts op rest
 unfolding condenser_at
-condenser_is (sign signs.Plus ∷ ts) rest op e = ap (λ (p : CondenseOp × List Tok). condense_token p.0 ∷ p.1) (found_is (condensers.Add, ts) (op, rest) e)
-condenser_is (sign signs.Star ∷ ts) rest op e = ap (λ (p : CondenseOp × List Tok). condense_token p.0 ∷ p.1) (found_is (condensers.Multiply, ts) (op, rest) e)
-condenser_is (word words.Max ∷ ts) rest op e = ap (λ (p : CondenseOp × List Tok). condense_token p.0 ∷ p.1) (found_is (condensers.Max, ts) (op, rest) e)
-condenser_is (word words.Min ∷ ts) rest op e = ap (λ (p : CondenseOp × List Tok). condense_token p.0 ∷ p.1) (found_is (condensers.Min, ts) (op, rest) e)
-condenser_is (word words.And ∷ ts) rest op e = ap (λ (p : CondenseOp × List Tok). condense_token p.0 ∷ p.1) (found_is (condensers.And, ts) (op, rest) e)
-condenser_is (word words.Or ∷ ts) rest op e = ap (λ (p : CondenseOp × List Tok). condense_token p.0 ∷ p.1) (found_is (condensers.Or, ts) (op, rest) e)
+condenser_is (sign signs.Plus ∷ ts) rest op e = subst (λ (p : Aggregate × List Tok). IsCondenser (sign signs.Plus ∷ ts) p.0 p.1) (found_is (aggregates.Sum, ts) (op, rest) e) (record { token = sign signs.Plus; at_front = refl; joins = by_sum })
+condenser_is (sign signs.Star ∷ ts) rest op e = subst (λ (p : Aggregate × List Tok). IsCondenser (sign signs.Star ∷ ts) p.0 p.1) (found_is (aggregates.Product, ts) (op, rest) e) (record { token = sign signs.Star; at_front = refl; joins = by_product })
+condenser_is (word words.Max ∷ ts) rest op e = subst (λ (p : Aggregate × List Tok). IsCondenser (word words.Max ∷ ts) p.0 p.1) (found_is (aggregates.Greatest, ts) (op, rest) e) (record { token = word words.Max; at_front = refl; joins = by_greatest })
+condenser_is (word words.Min ∷ ts) rest op e = subst (λ (p : Aggregate × List Tok). IsCondenser (word words.Min ∷ ts) p.0 p.1) (found_is (aggregates.Least, ts) (op, rest) e) (record { token = word words.Min; at_front = refl; joins = by_least })
+condenser_is (word words.And ∷ ts) rest op e = subst (λ (p : Aggregate × List Tok). IsCondenser (word words.And ∷ ts) p.0 p.1) (found_is (aggregates.Every, ts) (op, rest) e) (record { token = word words.And; at_front = refl; joins = by_every })
+condenser_is (word words.Or ∷ ts) rest op e = subst (λ (p : Aggregate × List Tok). IsCondenser (word words.Or ∷ ts) p.0 p.1) (found_is (aggregates.Any, ts) (op, rest) e) (record { token = word words.Or; at_front = refl; joins = by_any })
 condenser_is _ rest op e = absurd cc
 
 abbrev pub postfix_sign : Postfix → Symbol
@@ -141,6 +166,11 @@ postfix_is (sign signs.Dot ∷ ts) rest k e = ap (λ (p : Postfix × List Tok). 
 postfix_is (sign signs.LeftBracket ∷ ts) rest k e = ap (λ (p : Postfix × List Tok). sign (postfix_sign p.0) ∷ p.1) (found_is (postfixes.Brackets, ts) (k, rest) e)
 postfix_is _ rest k e = absurd cc
 
+pub record IsReduction (ts : List Tok) (op : Aggregate) (rest : List Tok) : Type 0 where
+  pub reducer : Keyword
+  pub at_front : ts ≡ word reducer ∷ rest
+  pub reduces : Reduces op reducer
+
 -- how an expression begins, in tokens
 abbrev pub Begins : List Tok → Begin → List Tok → Type 0
 Begins ts (with_number n) rest = ts ≡ number n ∷ rest
@@ -150,7 +180,7 @@ Begins ts with_paren rest = ts ≡ sign signs.LeftParen ∷ rest
 Begins ts with_brace rest = ts ≡ sign signs.LeftBrace ∷ rest
 Begins ts with_abs rest = ts ≡ word words.Abs ∷ rest
 Begins ts with_bit rest = ts ≡ word words.Bit ∷ rest
-Begins ts (with_reduce op) rest = ts ≡ word (reduce_word op) ∷ rest
+Begins ts (with_reduce op) rest = IsReduction ts op rest
 Begins ts with_coverage rest = ts ≡ word words.Coverage ∷ rest
 Begins ts with_condense rest = ts ≡ word words.Condense ∷ rest
 
@@ -165,13 +195,13 @@ start_is (word words.True ∷ ts) rest b e = subst (λ (p : Begin × List Tok). 
 start_is (word words.False ∷ ts) rest b e = subst (λ (p : Begin × List Tok). Begins (word words.False ∷ ts) p.0 p.1) (found_is (with_truth false, ts) (b, rest) e) refl
 start_is (word words.Abs ∷ ts) rest b e = subst (λ (p : Begin × List Tok). Begins (word words.Abs ∷ ts) p.0 p.1) (found_is (with_abs, ts) (b, rest) e) refl
 start_is (word words.Bit ∷ ts) rest b e = subst (λ (p : Begin × List Tok). Begins (word words.Bit ∷ ts) p.0 p.1) (found_is (with_bit, ts) (b, rest) e) refl
-start_is (word words.Count ∷ ts) rest b e = subst (λ (p : Begin × List Tok). Begins (word words.Count ∷ ts) p.0 p.1) (found_is (with_reduce reducers.Count, ts) (b, rest) e) refl
-start_is (word words.Some ∷ ts) rest b e = subst (λ (p : Begin × List Tok). Begins (word words.Some ∷ ts) p.0 p.1) (found_is (with_reduce reducers.Some, ts) (b, rest) e) refl
-start_is (word words.All ∷ ts) rest b e = subst (λ (p : Begin × List Tok). Begins (word words.All ∷ ts) p.0 p.1) (found_is (with_reduce reducers.All, ts) (b, rest) e) refl
-start_is (word words.Add ∷ ts) rest b e = subst (λ (p : Begin × List Tok). Begins (word words.Add ∷ ts) p.0 p.1) (found_is (with_reduce reducers.Add, ts) (b, rest) e) refl
-start_is (word words.Avg ∷ ts) rest b e = subst (λ (p : Begin × List Tok). Begins (word words.Avg ∷ ts) p.0 p.1) (found_is (with_reduce reducers.Avg, ts) (b, rest) e) refl
-start_is (word words.Min ∷ ts) rest b e = subst (λ (p : Begin × List Tok). Begins (word words.Min ∷ ts) p.0 p.1) (found_is (with_reduce reducers.Min, ts) (b, rest) e) refl
-start_is (word words.Max ∷ ts) rest b e = subst (λ (p : Begin × List Tok). Begins (word words.Max ∷ ts) p.0 p.1) (found_is (with_reduce reducers.Max, ts) (b, rest) e) refl
+start_is (word words.Count ∷ ts) rest b e = subst (λ (p : Begin × List Tok). Begins (word words.Count ∷ ts) p.0 p.1) (found_is (with_reduce aggregates.Count, ts) (b, rest) e) (record { reducer = words.Count; at_front = refl; reduces = to_count })
+start_is (word words.Some ∷ ts) rest b e = subst (λ (p : Begin × List Tok). Begins (word words.Some ∷ ts) p.0 p.1) (found_is (with_reduce aggregates.Any, ts) (b, rest) e) (record { reducer = words.Some; at_front = refl; reduces = to_any })
+start_is (word words.All ∷ ts) rest b e = subst (λ (p : Begin × List Tok). Begins (word words.All ∷ ts) p.0 p.1) (found_is (with_reduce aggregates.Every, ts) (b, rest) e) (record { reducer = words.All; at_front = refl; reduces = to_every })
+start_is (word words.Add ∷ ts) rest b e = subst (λ (p : Begin × List Tok). Begins (word words.Add ∷ ts) p.0 p.1) (found_is (with_reduce aggregates.Sum, ts) (b, rest) e) (record { reducer = words.Add; at_front = refl; reduces = to_sum })
+start_is (word words.Avg ∷ ts) rest b e = subst (λ (p : Begin × List Tok). Begins (word words.Avg ∷ ts) p.0 p.1) (found_is (with_reduce aggregates.Average, ts) (b, rest) e) (record { reducer = words.Avg; at_front = refl; reduces = to_average })
+start_is (word words.Min ∷ ts) rest b e = subst (λ (p : Begin × List Tok). Begins (word words.Min ∷ ts) p.0 p.1) (found_is (with_reduce aggregates.Least, ts) (b, rest) e) (record { reducer = words.Min; at_front = refl; reduces = to_least })
+start_is (word words.Max ∷ ts) rest b e = subst (λ (p : Begin × List Tok). Begins (word words.Max ∷ ts) p.0 p.1) (found_is (with_reduce aggregates.Greatest, ts) (b, rest) e) (record { reducer = words.Max; at_front = refl; reduces = to_greatest })
 start_is (word words.Coverage ∷ ts) rest b e = subst (λ (p : Begin × List Tok). Begins (word words.Coverage ∷ ts) p.0 p.1) (found_is (with_coverage, ts) (b, rest) e) refl
 start_is (word words.Condense ∷ ts) rest b e = subst (λ (p : Begin × List Tok). Begins (word words.Condense ∷ ts) p.0 p.1) (found_is (with_condense, ts) (b, rest) e) refl
 start_is _ rest b e = absurd cc

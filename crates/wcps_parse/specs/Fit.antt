@@ -1,6 +1,7 @@
 -- What code keeps of a thing that was read, and what its result says of reading.
 use Rattle.std.specs.Prelude.{◌≡◌, ℕ, ◌<◌, ◌≤◌, max, List, [], ◌∷◌, Option, Some, None, Result, Ok, Err}
 use Rattle.wcps_text.specs.Token.{Tok}
+use Rattle.wcps_text.specs.Limits.{max_height}
 use Rattle.wcps_parse.specs.declared.error.ParseError.{ParseError}
 use Rattle.wcps_parse.specs.declared.error.ParseError.TheVariants.{BadSyntax, TooDeep, NoMemory}
 use Rattle.wcps_parse.specs.declared.grown.Grown.{Grown}
@@ -8,10 +9,10 @@ use Rattle.wcps_parse.specs.declared.grown.Grown.TheVariants.{Fits, High}
 use Rattle.wcps_parse.specs.Comes.{Comes}
 use Rattle.wcps_parse.specs.Front.{Reading}
 
--- the thing itself and its height, if that is at most 64, and else only that it is higher
+-- the thing itself and its height, if that is no more than it may be, and else only that it is more
 abbrev pub Fit : {T M : Type 0} → (T → M) → (M → ℕ) → Grown T → M → Type 0
-Fit view height (Fits x h) m = (view x ≡ m) × (h ≡ height m) × (h ≤ 64)
-Fit view height High m = 64 < height m
+Fit view height (Fits x h) m = (view x ≡ m) × (h ≡ height m) × (h ≤ max_height)
+Fit view height High m = max_height < height m
 
 -- the height of the highest
 abbrev pub highest : {M : Type 0} → (M → ℕ) → List M → ℕ

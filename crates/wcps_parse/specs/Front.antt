@@ -9,14 +9,12 @@ use Rattle.wcps_text.specs.declared.token.Symbol.{Symbol}
 use Rattle.wcps_text.specs.declared.token.Symbol.TheVariants as signs
 use Rattle.wcps_text.specs.declared.token.Keyword.{Keyword}
 use Rattle.wcps_text.specs.declared.token.Keyword.TheVariants as words
-use Rattle.wcps_text.specs.declared.tree.UnaryOp.{UnaryOp}
-use Rattle.wcps_text.specs.declared.tree.UnaryOp.TheVariants as unaries
-use Rattle.wcps_text.specs.declared.tree.BinaryOp.{BinaryOp}
-use Rattle.wcps_text.specs.declared.tree.BinaryOp.TheVariants as binaries
-use Rattle.wcps_text.specs.declared.tree.ReduceOp.{ReduceOp}
-use Rattle.wcps_text.specs.declared.tree.ReduceOp.TheVariants as reducers
-use Rattle.wcps_text.specs.declared.tree.CondenseOp.{CondenseOp}
-use Rattle.wcps_text.specs.declared.tree.CondenseOp.TheVariants as condensers
+use Rattle.wcps_text.specs.declared.operator.UnaryOperator.{UnaryOperator}
+use Rattle.wcps_text.specs.declared.operator.UnaryOperator.TheVariants as unaries
+use Rattle.wcps_text.specs.declared.operator.BinaryOperator.{BinaryOperator}
+use Rattle.wcps_text.specs.declared.operator.BinaryOperator.TheVariants as binaries
+use Rattle.wcps_text.specs.declared.operator.Aggregate.{Aggregate}
+use Rattle.wcps_text.specs.declared.operator.Aggregate.TheVariants as aggregates
 use Rattle.wcps_text.specs.declared.tree.ListItem.{ListItem}
 use Rattle.wcps_text.specs.declared.tree.ListItem.TheVariants as list_items
 use Rattle.wcps_text.specs.Token.{Tok, number, name, dollar, quoted, word, sign}
@@ -79,13 +77,13 @@ truth_at _ = None
 unfoldable pub item_at : List Tok → Reading ListItem
 item_at ts = choose (int_at ts) (truth_at ts) (λ z. Some (list_items.Int z.0, z.1))
 
-unfoldable pub prefix_at : List Tok → Reading UnaryOp
+unfoldable pub prefix_at : List Tok → Reading UnaryOperator
 prefix_at (sign signs.Minus ∷ ts) = Some (unaries.Negate, ts)
 prefix_at (sign signs.Plus ∷ ts) = Some (unaries.Plus, ts)
 prefix_at (word words.Not ∷ ts) = Some (unaries.Not, ts)
 prefix_at _ = None
 
-abbrev pub operator : Tok → Option BinaryOp
+abbrev pub operator : Tok → Option BinaryOperator
 operator (sign signs.Star) = Some binaries.Multiply
 operator (sign signs.Slash) = Some binaries.Divide
 operator (sign signs.Plus) = Some binaries.Add
@@ -102,17 +100,17 @@ operator (word words.Xor) = Some binaries.Xor
 operator _ = None
 
 -- an operator of at most that rank
-unfoldable pub binary_at : ℕ → List Tok → Reading BinaryOp
+unfoldable pub binary_at : ℕ → List Tok → Reading BinaryOperator
 binary_at r [] = None
 binary_at r (t ∷ ts) = operator t >>= λ op. if nat_le (rank_of op) r then Some (op, ts) else None
 
-unfoldable pub condenser_at : List Tok → Reading CondenseOp
-condenser_at (sign signs.Plus ∷ ts) = Some (condensers.Add, ts)
-condenser_at (sign signs.Star ∷ ts) = Some (condensers.Multiply, ts)
-condenser_at (word words.Max ∷ ts) = Some (condensers.Max, ts)
-condenser_at (word words.Min ∷ ts) = Some (condensers.Min, ts)
-condenser_at (word words.And ∷ ts) = Some (condensers.And, ts)
-condenser_at (word words.Or ∷ ts) = Some (condensers.Or, ts)
+unfoldable pub condenser_at : List Tok → Reading Aggregate
+condenser_at (sign signs.Plus ∷ ts) = Some (aggregates.Sum, ts)
+condenser_at (sign signs.Star ∷ ts) = Some (aggregates.Product, ts)
+condenser_at (word words.Max ∷ ts) = Some (aggregates.Greatest, ts)
+condenser_at (word words.Min ∷ ts) = Some (aggregates.Least, ts)
+condenser_at (word words.And ∷ ts) = Some (aggregates.Every, ts)
+condenser_at (word words.Or ∷ ts) = Some (aggregates.Any, ts)
 condenser_at _ = None
 
 unfoldable pub postfix_at : List Tok → Reading Postfix
@@ -129,7 +127,7 @@ pub data Begin : Type 0 where
   with_brace : Begin
   with_abs : Begin
   with_bit : Begin
-  with_reduce : ReduceOp → Begin
+  with_reduce : Aggregate → Begin
   with_coverage : Begin
   with_condense : Begin
 
@@ -155,13 +153,13 @@ start_at (word words.True ∷ ts) = Some (with_truth true, ts)
 start_at (word words.False ∷ ts) = Some (with_truth false, ts)
 start_at (word words.Abs ∷ ts) = Some (with_abs, ts)
 start_at (word words.Bit ∷ ts) = Some (with_bit, ts)
-start_at (word words.Count ∷ ts) = Some (with_reduce reducers.Count, ts)
-start_at (word words.Some ∷ ts) = Some (with_reduce reducers.Some, ts)
-start_at (word words.All ∷ ts) = Some (with_reduce reducers.All, ts)
-start_at (word words.Add ∷ ts) = Some (with_reduce reducers.Add, ts)
-start_at (word words.Avg ∷ ts) = Some (with_reduce reducers.Avg, ts)
-start_at (word words.Min ∷ ts) = Some (with_reduce reducers.Min, ts)
-start_at (word words.Max ∷ ts) = Some (with_reduce reducers.Max, ts)
+start_at (word words.Count ∷ ts) = Some (with_reduce aggregates.Count, ts)
+start_at (word words.Some ∷ ts) = Some (with_reduce aggregates.Any, ts)
+start_at (word words.All ∷ ts) = Some (with_reduce aggregates.Every, ts)
+start_at (word words.Add ∷ ts) = Some (with_reduce aggregates.Sum, ts)
+start_at (word words.Avg ∷ ts) = Some (with_reduce aggregates.Average, ts)
+start_at (word words.Min ∷ ts) = Some (with_reduce aggregates.Least, ts)
+start_at (word words.Max ∷ ts) = Some (with_reduce aggregates.Greatest, ts)
 start_at (word words.Coverage ∷ ts) = Some (with_coverage, ts)
 start_at (word words.Condense ∷ ts) = Some (with_condense, ts)
 start_at _ = None

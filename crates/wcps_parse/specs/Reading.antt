@@ -4,7 +4,8 @@ use Rattle.std.specs.Prelude.{ℕ, zero, suc, ◌-◌, List, [], ◌∷◌, ◌+
 use Rattle.wcps_text.specs.declared.token.Symbol.{Symbol}
 use Rattle.wcps_text.specs.declared.token.Symbol.TheVariants as signs
 use Rattle.wcps_text.specs.declared.token.Keyword.TheVariants as words
-use Rattle.wcps_text.specs.declared.tree.UnaryOp.TheVariants as unaries
+use Rattle.wcps_text.specs.declared.operator.UnaryOperator.TheVariants as unaries
+use Rattle.wcps_text.specs.declared.operator.BinaryOperator.TheVariants as binaries
 use Rattle.wcps_text.specs.declared.tree.ListItem.{ListItem}
 use Rattle.wcps_text.specs.Token.{Tok}
 use Rattle.wcps_text.specs.Tree as tree
@@ -57,7 +58,7 @@ in_parens l ts = sign_at signs.LeftParen ts >>= λ mid. enclosed l mid
 unfoldable pub bit : Reader → List Tok → Reading Tree
 bit l ts =
     sign_at signs.LeftParen ts >>= λ start. l max_rank start >>= λ a. sign_at signs.Comma a.1 >>= λ mid. enclosed l mid >>= λ b.
-    Some (tree.bit a.0 b.0, b.1)
+    Some (tree.binary binaries.Bit a.0 b.0, b.1)
 
 unfoldable pub part_at : Reader → List Tok → Reading NamedTree
 part_at l ts = name_at ts >>= λ x. sign_at signs.Colon x.1 >>= λ mid. l max_rank mid >>= λ e. Some ((x.0, e.0), e.1)
@@ -130,7 +131,7 @@ begun m l (with_truth b) ts = Some (tree.truth b, ts)
 begun m l (with_variable x) ts = Some (tree.variable x, ts)
 begun m l with_paren ts = enclosed l ts
 begun m l with_brace ts = fields m l ts
-begun m l with_abs ts = in_parens l ts >>= λ e. Some (tree.unary unaries.Abs e.0, e.1)
+begun m l with_abs ts = in_parens l ts >>= λ e. Some (tree.unary unaries.Absolute e.0, e.1)
 begun m l with_bit ts = bit l ts
 begun m l (with_reduce op) ts = in_parens l ts >>= λ e. Some (tree.reduce op e.0, e.1)
 begun m l with_coverage ts = coverage m l ts

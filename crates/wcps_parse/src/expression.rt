@@ -18,7 +18,8 @@ use crate::grown;
 use crate::grown::Grown;
 use std::alloc::{AllocError, Global};
 use wcps_text::{
-    Expr, Interval, Iter, Keyword, ListItem, Part, Place, QueryName, Sub, Symbol, Token, UnaryOp,
+    BinaryOperator, Expr, Interval, Iter, Keyword, ListItem, Part, Place, QueryName, Sub, Symbol,
+    Token, UnaryOperator,
 };
 
 /// The rank of the loosest operators.
@@ -50,7 +51,7 @@ pub fn level<'t, 'a>(
 fn prefixes<'t, 'a>(
     alloc: Global,
     tokens: &'t [Token<'a>],
-) -> Result<(Vec<UnaryOp>, &'t [Token<'a>]), AllocError>
+) -> Result<(Vec<UnaryOperator>, &'t [Token<'a>]), AllocError>
     ensures exact { IfOk result (λ x. IsBehind x.0.items (toks x.1.now) (toks tokens.now)) }
     ensures shorter { IfOk result (λ x. length x.1.now ≤ length tokens.now) }
 {
@@ -145,7 +146,7 @@ fn prim<'t, 'a>(
         Start::Brace => record(alloc, rest),
         Start::Abs => {
             let (value, rest) = in_parens(alloc, rest)?;
-            Ok((grown::unary(alloc, UnaryOp::Abs, value)?, rest))
+            Ok((grown::unary(alloc, UnaryOperator::Absolute, value)?, rest))
         }
         Start::Bit => bit(alloc, rest),
         Start::Reduce(op) => {
@@ -205,7 +206,8 @@ fn bit<'t, 'a>(
         return Err(ParseError::BadSyntax);
     };
     let (place, rest) = enclosed(alloc, rest)?;
-    Ok((grown::bit(alloc, value, place)?, rest))
+    let whole = grown::binary(alloc, BinaryOperator::Bit, value, place)?;
+    Ok((whole, rest))
 }
 
 /// What follows an opening brace.

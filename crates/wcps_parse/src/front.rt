@@ -8,8 +8,8 @@ ghost use Rattle.wcps_text.specs.Limits.{interval_height};
 ghost use Rattle.wcps_parse.specs.Front.{sign_at, word_at, name_at, variable_at, literal_at, int_at, bounds_at, item_at, prefix_at, operator, binary_at, condenser_at, postfix_at, begin_of, start_at, is_csv, format_at};
 
 use wcps_text::{
-    BinaryOp, CondenseOp, Interval, Keyword, Kind, ListItem, Literal, ReduceOp, Symbol, Token,
-    UnaryOp,
+    Aggregate, BinaryOperator, Interval, Keyword, Kind, ListItem, Literal, Symbol, Token,
+    UnaryOperator,
 };
 
 /// How an expression without an operator before it begins.
@@ -21,7 +21,7 @@ pub enum Start<'a> {
     Brace,
     Abs,
     Bit,
-    Reduce(ReduceOp),
+    Reduce(Aggregate),
     Coverage,
     Condense,
 }
@@ -150,63 +150,69 @@ pub fn item_at<'t, 'a>(tokens: &'t [Token<'a>]) -> Option<(ListItem, &'t [Token<
 
 /// An operator that stands before its operand.
 #[tactic(auto, unfolding(crate::specs::Front::prefix_at))]
-pub fn prefix_at<'t, 'a>(tokens: &'t [Token<'a>]) -> Option<(UnaryOp, &'t [Token<'a>])>
+pub fn prefix_at<'t, 'a>(tokens: &'t [Token<'a>]) -> Option<(UnaryOperator, &'t [Token<'a>])>
     ensures value { prefix_at (toks tokens.now) ≡ option_map (λ x. (x.0, toks x.1.now)) result }
     ensures shorter { IfSome result (λ x. length x.1.now < length tokens.now) }
 {
     let (first, rest) = tokens.split_first()?;
     match first.kind {
-        Kind::Symbol(Symbol::Minus) => Some((UnaryOp::Negate, rest)),
-        Kind::Symbol(Symbol::Plus) => Some((UnaryOp::Plus, rest)),
-        Kind::Keyword(Keyword::Not) => Some((UnaryOp::Not, rest)),
+        Kind::Symbol(Symbol::Minus) => Some((UnaryOperator::Negate, rest)),
+        Kind::Symbol(Symbol::Plus) => Some((UnaryOperator::Plus, rest)),
+        Kind::Keyword(Keyword::Not) => Some((UnaryOperator::Not, rest)),
         _ => None,
     }
 }
 
-/// How loosely an operator binds: `* /`, then `+ -`, then comparisons, then `and`, then `or xor`.
-pub fn rank_of(op: BinaryOp) -> u8
-    ensures value { result ≡ rank_of op }
-    ensures some { 0 < result }
+/// How loosely an operator binds: `* /`, then `+ -`, then comparisons, then `and`, then `or xor`; 0 if it is no operator
+/// between operands.
+pub fn rank_of(op: BinaryOperator) -> u8
+    ensures { result ≡ rank_of op }
 {
     match op {
-        BinaryOp::Multiply | BinaryOp::Divide => 1,
-        BinaryOp::Add | BinaryOp::Subtract => 2,
-        BinaryOp::Less
-        | BinaryOp::LessEqual
-        | BinaryOp::Greater
-        | BinaryOp::GreaterEqual
-        | BinaryOp::Equal
-        | BinaryOp::NotEqual => 3,
-        BinaryOp::And => 4,
-        BinaryOp::Or | BinaryOp::Xor => 5,
+        BinaryOperator::Multiply | BinaryOperator::Divide => 1,
+        BinaryOperator::Add | BinaryOperator::Subtract => 2,
+        BinaryOperator::Less
+        | BinaryOperator::LessEqual
+        | BinaryOperator::Greater
+        | BinaryOperator::GreaterEqual
+        | BinaryOperator::Equal
+        | BinaryOperator::NotEqual => 3,
+        BinaryOperator::And => 4,
+        BinaryOperator::Or | BinaryOperator::Xor => 5,
+        BinaryOperator::Bit => 0,
     }
 }
 
-fn operator_of(kind: Kind) -> Option<BinaryOp>
-    ensures { (text : List ℕ) → operator (tok_at kind text) ≡ result }
+fn operator_of(kind: Kind) -> Option<BinaryOperator>
+    ensures value { (text : List ℕ) → operator (tok_at kind text) ≡ result }
+    ensures ranked { IfSome result (λ op. 0 < rank_of op) }
 {
     match kind {
-        Kind::Symbol(Symbol::Star) => Some(BinaryOp::Multiply),
-        Kind::Symbol(Symbol::Slash) => Some(BinaryOp::Divide),
-        Kind::Symbol(Symbol::Plus) => Some(BinaryOp::Add),
-        Kind::Symbol(Symbol::Minus) => Some(BinaryOp::Subtract),
-        Kind::Symbol(Symbol::Less) => Some(BinaryOp::Less),
-        Kind::Symbol(Symbol::LessEqual) => Some(BinaryOp::LessEqual),
-        Kind::Symbol(Symbol::Greater) => Some(BinaryOp::Greater),
-        Kind::Symbol(Symbol::GreaterEqual) => Some(BinaryOp::GreaterEqual),
-        Kind::Symbol(Symbol::Equal) => Some(BinaryOp::Equal),
-        Kind::Symbol(Symbol::NotEqual) => Some(BinaryOp::NotEqual),
-        Kind::Keyword(Keyword::And) => Some(BinaryOp::And),
-        Kind::Keyword(Keyword::Or) => Some(BinaryOp::Or),
-        Kind::Keyword(Keyword::Xor) => Some(BinaryOp::Xor),
+        Kind::Symbol(Symbol::Star) => Some(BinaryOperator::Multiply),
+        Kind::Symbol(Symbol::Slash) => Some(BinaryOperator::Divide),
+        Kind::Symbol(Symbol::Plus) => Some(BinaryOperator::Add),
+        Kind::Symbol(Symbol::Minus) => Some(BinaryOperator::Subtract),
+        Kind::Symbol(Symbol::Less) => Some(BinaryOperator::Less),
+        Kind::Symbol(Symbol::LessEqual) => Some(BinaryOperator::LessEqual),
+        Kind::Symbol(Symbol::Greater) => Some(BinaryOperator::Greater),
+        Kind::Symbol(Symbol::GreaterEqual) => Some(BinaryOperator::GreaterEqual),
+        Kind::Symbol(Symbol::Equal) => Some(BinaryOperator::Equal),
+        Kind::Symbol(Symbol::NotEqual) => Some(BinaryOperator::NotEqual),
+        Kind::Keyword(Keyword::And) => Some(BinaryOperator::And),
+        Kind::Keyword(Keyword::Or) => Some(BinaryOperator::Or),
+        Kind::Keyword(Keyword::Xor) => Some(BinaryOperator::Xor),
         _ => None,
     }
 }
 
 /// An operator that binds at most as loosely as the rank says.
 #[tactic(auto, unfolding(crate::specs::Front::binary_at))]
-pub fn binary_at<'t, 'a>(rank: u8, tokens: &'t [Token<'a>]) -> Option<(BinaryOp, &'t [Token<'a>])>
+pub fn binary_at<'t, 'a>(
+    rank: u8,
+    tokens: &'t [Token<'a>],
+) -> Option<(BinaryOperator, &'t [Token<'a>])>
     ensures value { binary_at rank (toks tokens.now) ≡ option_map (λ x. (x.0, toks x.1.now)) result }
+    ensures ranked { IfSome result (λ x. 0 < rank_of x.0) }
     ensures shorter { IfSome result (λ x. length x.1.now < length tokens.now) }
 {
     let (first, rest) = tokens.split_first()?;
@@ -220,18 +226,18 @@ pub fn binary_at<'t, 'a>(rank: u8, tokens: &'t [Token<'a>]) -> Option<(BinaryOp,
 
 /// What a condenser joins its values by.
 #[tactic(auto, unfolding(crate::specs::Front::condenser_at))]
-pub fn condenser_at<'t, 'a>(tokens: &'t [Token<'a>]) -> Option<(CondenseOp, &'t [Token<'a>])>
+pub fn condenser_at<'t, 'a>(tokens: &'t [Token<'a>]) -> Option<(Aggregate, &'t [Token<'a>])>
     ensures value { condenser_at (toks tokens.now) ≡ option_map (λ x. (x.0, toks x.1.now)) result }
     ensures shorter { IfSome result (λ x. length x.1.now < length tokens.now) }
 {
     let (first, rest) = tokens.split_first()?;
     match first.kind {
-        Kind::Symbol(Symbol::Plus) => Some((CondenseOp::Add, rest)),
-        Kind::Symbol(Symbol::Star) => Some((CondenseOp::Multiply, rest)),
-        Kind::Keyword(Keyword::Max) => Some((CondenseOp::Max, rest)),
-        Kind::Keyword(Keyword::Min) => Some((CondenseOp::Min, rest)),
-        Kind::Keyword(Keyword::And) => Some((CondenseOp::And, rest)),
-        Kind::Keyword(Keyword::Or) => Some((CondenseOp::Or, rest)),
+        Kind::Symbol(Symbol::Plus) => Some((Aggregate::Sum, rest)),
+        Kind::Symbol(Symbol::Star) => Some((Aggregate::Product, rest)),
+        Kind::Keyword(Keyword::Max) => Some((Aggregate::Greatest, rest)),
+        Kind::Keyword(Keyword::Min) => Some((Aggregate::Least, rest)),
+        Kind::Keyword(Keyword::And) => Some((Aggregate::Every, rest)),
+        Kind::Keyword(Keyword::Or) => Some((Aggregate::Any, rest)),
         _ => None,
     }
 }
@@ -266,13 +272,13 @@ pub fn start_at<'t, 'a>(tokens: &'t [Token<'a>]) -> Option<(Start<'a>, &'t [Toke
         Kind::Keyword(Keyword::False) => Some((Start::Truth(false), rest)),
         Kind::Keyword(Keyword::Abs) => Some((Start::Abs, rest)),
         Kind::Keyword(Keyword::Bit) => Some((Start::Bit, rest)),
-        Kind::Keyword(Keyword::Count) => Some((Start::Reduce(ReduceOp::Count), rest)),
-        Kind::Keyword(Keyword::Some) => Some((Start::Reduce(ReduceOp::Some), rest)),
-        Kind::Keyword(Keyword::All) => Some((Start::Reduce(ReduceOp::All), rest)),
-        Kind::Keyword(Keyword::Add) => Some((Start::Reduce(ReduceOp::Add), rest)),
-        Kind::Keyword(Keyword::Avg) => Some((Start::Reduce(ReduceOp::Avg), rest)),
-        Kind::Keyword(Keyword::Min) => Some((Start::Reduce(ReduceOp::Min), rest)),
-        Kind::Keyword(Keyword::Max) => Some((Start::Reduce(ReduceOp::Max), rest)),
+        Kind::Keyword(Keyword::Count) => Some((Start::Reduce(Aggregate::Count), rest)),
+        Kind::Keyword(Keyword::Some) => Some((Start::Reduce(Aggregate::Any), rest)),
+        Kind::Keyword(Keyword::All) => Some((Start::Reduce(Aggregate::Every), rest)),
+        Kind::Keyword(Keyword::Add) => Some((Start::Reduce(Aggregate::Sum), rest)),
+        Kind::Keyword(Keyword::Avg) => Some((Start::Reduce(Aggregate::Average), rest)),
+        Kind::Keyword(Keyword::Min) => Some((Start::Reduce(Aggregate::Least), rest)),
+        Kind::Keyword(Keyword::Max) => Some((Start::Reduce(Aggregate::Greatest), rest)),
         Kind::Keyword(Keyword::Coverage) => Some((Start::Coverage, rest)),
         Kind::Keyword(Keyword::Condense) => Some((Start::Condense, rest)),
         _ => None,

@@ -6,7 +6,7 @@
 ghost use Rattle.std.specs.Prelude.{◌≡◌, ◌≤◌, ◌<◌, ◌+◌, ◌++◌, ◌∷◌, List, [], ℕ, max, IfOk, IfSome, Option, None, map};
 ghost use Rattle.wcps_text.specs.Tree as tree;
 ghost use Rattle.wcps_text.specs.Tree.{Tree, PlaceTree, IntervalTree, Condition, ItemTree, view, view_place, view_interval, condition_of, bindings_of, item_view, query_view};
-ghost use Rattle.wcps_text.specs.Limits.{height, place_height, interval_height, condition_height, item_height, query_height};
+ghost use Rattle.wcps_text.specs.Limits.{max_height, height, place_height, interval_height, condition_height, item_height, query_height};
 ghost use Rattle.wcps_parse.specs.Reading.{NamedTree, NamedPlace, NamedInterval, parts_from, subs_from, iters_from};
 ghost use Rattle.wcps_parse.specs.Fit.{Fit, highest};
 ghost use Rattle.wcps_parse.specs.Prefixes.{wrapped};
@@ -14,12 +14,12 @@ ghost use Rattle.wcps_parse.specs.Views.{part_view, sub_view, iter_view, parts_v
 
 use std::alloc::{AllocError, Global};
 use wcps_text::{
-    BinaryOp, Binding, CondenseOp, Expr, Interval, Item, Iter, ListItem, Part, Place, Query,
-    QueryName, ReduceOp, Sub, UnaryOp,
+    Aggregate, BinaryOperator, Binding, Expr, Interval, Item, Iter, ListItem, Part, Place, Query,
+    QueryName, Sub, UnaryOperator,
 };
 
-/// The greatest height of a query's tree.
-pub const MAX_HEIGHT: u8 = 64;
+/// The greatest height of a query's tree: `max_height`.
+const MAX_HEIGHT: u8 = 64;
 
 /// What was read: a thing and how high it is, or only that it is too high.
 #[derive(Drop)]
@@ -30,8 +30,8 @@ pub enum Grown<T> {
 
 /// The height of what stands on parts of that height, if it is not too high.
 fn above(height: u8) -> Option<u8>
-    ensures some { IfSome result (λ h. (h ≡ height + 1) × (h ≤ 64)) }
-    ensures none { result ≡ None → 64 ≤ height }
+    ensures some { IfSome result (λ h. (h ≡ height + 1) × (h ≤ max_height)) }
+    ensures none { result ≡ None → max_height ≤ height }
 {
     if height < MAX_HEIGHT {
         Some(height + 1)
@@ -74,7 +74,11 @@ pub fn push_iter(list: Grown<Vec<Iter>>, one: Grown<Iter>) -> Result<Grown<Vec<I
 }
 
 /// `op e`
-pub fn unary(alloc: Global, op: UnaryOp, operand: Grown<Expr>) -> Result<Grown<Expr>, AllocError>
+pub fn unary(
+    alloc: Global,
+    op: UnaryOperator,
+    operand: Grown<Expr>,
+) -> Result<Grown<Expr>, AllocError>
     ensures { IfOk result (λ g. (e : Tree) → Fit view height operand e → Fit view height g (tree.unary op e)) }
 {
     let Grown::Fits(operand, height) = operand else {
@@ -90,7 +94,7 @@ pub fn unary(alloc: Global, op: UnaryOp, operand: Grown<Expr>) -> Result<Grown<E
 /// The operators before the operand, the first one outermost.
 pub fn prefixed(
     alloc: Global,
-    mut ops: Vec<UnaryOp>,
+    mut ops: Vec<UnaryOperator>,
     operand: Grown<Expr>,
 ) -> Result<Grown<Expr>, AllocError>
     ensures { IfOk result (λ g. (e : Tree) → Fit view height operand e → Fit view height g (wrapped ops.items e)) }
@@ -102,10 +106,10 @@ pub fn prefixed(
     Ok(whole)
 }
 
-/// `a op b`
+/// `a op b`, or `bit(a, b)`
 pub fn binary(
     alloc: Global,
-    op: BinaryOp,
+    op: BinaryOperator,
     left: Grown<Expr>,
     right: Grown<Expr>,
 ) -> Result<Grown<Expr>, AllocError>
@@ -121,22 +125,8 @@ pub fn binary(
     Ok(Grown::Fits(tree, height))
 }
 
-/// `bit(a, b)`
-pub fn bit(alloc: Global, left: Grown<Expr>, right: Grown<Expr>) -> Result<Grown<Expr>, AllocError>
-    ensures { IfOk result (λ g. (a b : Tree) → Fit view height left a → Fit view height right b → Fit view height g (tree.bit a b)) }
-{
-    let (Grown::Fits(left, one), Grown::Fits(right, other)) = (left, right) else {
-        return Ok(Grown::High);
-    };
-    let Some(height) = above(one.max(other)) else {
-        return Ok(Grown::High);
-    };
-    let tree = Expr::Bit(Box::new(alloc, left)?, Box::new(alloc, right)?);
-    Ok(Grown::Fits(tree, height))
-}
-
 /// A reduction of a value.
-pub fn reduce(alloc: Global, op: ReduceOp, operand: Grown<Expr>) -> Result<Grown<Expr>, AllocError>
+pub fn reduce(alloc: Global, op: Aggregate, operand: Grown<Expr>) -> Result<Grown<Expr>, AllocError>
     ensures { IfOk result (λ g. (e : Tree) → Fit view height operand e → Fit view height g (tree.reduce op e)) }
 {
     let Grown::Fits(operand, height) = operand else {
@@ -232,7 +222,7 @@ pub fn coverage(
 #[tactic(auto, using(crate::proofs::Trees::iters_high))]
 pub fn condense(
     alloc: Global,
-    op: CondenseOp,
+    op: Aggregate,
     iterators: Grown<Vec<Iter>>,
     condition: Grown<Option<Box<Expr>>>,
     body: Grown<Expr>,

@@ -1,26 +1,28 @@
-//! How deep a query may be before its syntax is looked at: 512 brackets open at once, and 256 of the words
+//! How deep a query may be before its syntax is looked at: so many brackets open at once, and so many of the words
 //! `condense` and `coverage`. So reading, which goes down at brackets and at these words, stays on the stack.
 
 ghost use Rattle.std.specs.Prelude.{◌≤◌, ◌<◌, ◌↔◌, ◌⊎◌, IsTrue};
 ghost use Rattle.wcps_text.specs.Token.{toks};
-ghost use Rattle.wcps_text.specs.Limits.{deepest, forms};
+ghost use Rattle.wcps_text.specs.Limits.{max_depth, max_forms, deepest, forms};
 ghost use Rattle.wcps_parse.specs.Marks.{Opens, Closes, BeginsForm};
 
 use wcps_text::{Keyword, Kind, Symbol, Token};
 
+/// The most brackets that may be open at once: `max_depth`.
 const MAX_DEPTH: u16 = 512;
 
+/// The most words `condense` and `coverage`: `max_forms`.
 const MAX_FORMS: u16 = 256;
 
 /// Whether more brackets are open at once, or more forms stand among the tokens, than a query may have.
 pub fn is_too_deep(tokens: &[Token]) -> bool
-    ensures { IsTrue result ↔ ((512 < deepest 0 (toks tokens.now)) ⊎ (256 < forms (toks tokens.now))) }
+    ensures { IsTrue result ↔ ((max_depth < deepest 0 (toks tokens.now)) ⊎ (max_forms < forms (toks tokens.now))) }
 {
     has_deep_brackets(tokens) || has_many_forms(tokens)
 }
 
 fn has_deep_brackets(tokens: &[Token]) -> bool
-    ensures { IsTrue result ↔ (512 < deepest 0 (toks tokens.now)) }
+    ensures { IsTrue result ↔ (max_depth < deepest 0 (toks tokens.now)) }
 {
     let mut depth: u16 = 0;
     for token in tokens {
@@ -37,7 +39,7 @@ fn has_deep_brackets(tokens: &[Token]) -> bool
 }
 
 fn has_many_forms(tokens: &[Token]) -> bool
-    ensures { IsTrue result ↔ (256 < forms (toks tokens.now)) }
+    ensures { IsTrue result ↔ (max_forms < forms (toks tokens.now)) }
 {
     let mut count: u16 = 0;
     for token in tokens {

@@ -5,7 +5,7 @@ ghost use Rattle.wcps_text.specs.declared.error.LexError.{LexError};
 ghost use Rattle.wcps_text.specs.Token.{Tok, toks};
 ghost use Rattle.wcps_text.specs.Lexing.{Piece, Lexed, Refused};
 ghost use Rattle.wcps_text.specs.Tree.{QueryTree, condition_of, binding_view, bindings_of, item_view, query_view};
-ghost use Rattle.wcps_text.specs.Limits.{condition_height, item_height, query_height};
+ghost use Rattle.wcps_text.specs.Limits.{max_height, condition_height, item_height, query_height};
 ghost use Rattle.wcps_text.specs.Grammar.{IsSpelled};
 ghost use Rattle.wcps_parse.specs.Reading.{level, names, binding_at, bindings, encoded, item, query};
 ghost use Rattle.wcps_parse.specs.Fit.{Fit, Gives, Reads, ReadsAll};
@@ -23,13 +23,13 @@ use wcps_text::{Binding, Item, Keyword, Query, QueryName, Symbol, Token};
 
 /// The query that the tokens spell, all of them.
 ///
-/// More than 512 brackets open at once, or more than 256 words `condense` and `coverage`, are `TooDeep`; then tokens
-/// that spell no query are `BadSyntax`; then a query with an expression higher than 64 is `TooDeep`.
+/// More brackets open at once, or more words `condense` and `coverage`, than there may be are `TooDeep`; then tokens
+/// that spell no query are `BadSyntax`; then a query with an expression that is too high is `TooDeep`.
 pub fn parse(alloc: Global, tokens: &[Token]) -> Result<Query, ParseError>
     ensures within { IfOk result (λ q. IsWithinLimits (toks tokens.now)) }
     ensures spelled { IfOk result (λ q. IsSpelled (toks tokens.now) (query_view q)) }
     ensures only { IfOk result (λ q. (p : QueryTree) → IsSpelled (toks tokens.now) p → p ≡ query_view q) }
-    ensures low { IfOk result (λ q. query_height (query_view q) ≤ 64) }
+    ensures low { IfOk result (λ q. query_height (query_view q) ≤ max_height) }
     ensures syntax { IfErr result (λ e. e ≡ BadSyntax → IsWithinLimits (toks tokens.now)) }
     ensures no_query { IfErr result (λ e. e ≡ BadSyntax → (p : QueryTree) → IsSpelled (toks tokens.now) p → ⊥) }
     ensures deep { IfErr result (λ e. e ≡ TooDeep → IsTooDeep (toks tokens.now)) }

@@ -5,21 +5,22 @@ use Rattle.std.specs.Char.{to_ascii_lowercase}
 use Rattle.wcps_text.specs.declared.token.Symbol.TheVariants as signs
 use Rattle.wcps_text.specs.declared.token.Keyword.{Keyword}
 use Rattle.wcps_text.specs.declared.token.Keyword.TheVariants as words
-use Rattle.wcps_text.specs.declared.tree.UnaryOp.{UnaryOp}
-use Rattle.wcps_text.specs.declared.tree.UnaryOp.TheVariants as unaries
-use Rattle.wcps_text.specs.declared.tree.BinaryOp.{BinaryOp}
-use Rattle.wcps_text.specs.declared.tree.BinaryOp.TheVariants as binaries
-use Rattle.wcps_text.specs.declared.tree.CondenseOp.{CondenseOp}
-use Rattle.wcps_text.specs.declared.tree.CondenseOp.TheVariants as condensers
+use Rattle.wcps_text.specs.declared.operator.UnaryOperator.{UnaryOperator}
+use Rattle.wcps_text.specs.declared.operator.UnaryOperator.TheVariants as unaries
+use Rattle.wcps_text.specs.declared.operator.BinaryOperator.{BinaryOperator}
+use Rattle.wcps_text.specs.declared.operator.BinaryOperator.TheVariants as binaries
+use Rattle.wcps_text.specs.declared.operator.Aggregate.{Aggregate}
+use Rattle.wcps_text.specs.declared.operator.Aggregate.TheVariants as aggregates
 use Rattle.wcps_text.specs.declared.tree.ListItem.{ListItem}
 use Rattle.wcps_text.specs.declared.tree.ListItem.TheVariants as list_items
 use Rattle.wcps_text.specs.Token.{Tok, number, name, word, sign}
 use Rattle.wcps_text.specs.Tree as tree
 use Rattle.wcps_text.specs.Tree.{Tree, Parts, no_parts, part, Subs, no_subs, sub, PlaceTree, trim, at, IntervalTree, bounds, domain, Iters, no_iters, iter, Condition, always, only, BindingTree, ItemTree, encode, plain, QueryTree}
-use Rattle.wcps_text.specs.Lexing.{keyword_text, IsWritten, is_name, plain as plain_form}
-use Rattle.wcps_text.specs.Grammar.{Prefixes, negate, plus, not, binary_token, condense_token, truth_word, rank_of, max_rank, Openness, closed, open_ended, SpellsInt, unsigned, positive, negative, SpellsItem, int_item, truth_item, SpellsItems, last_item, more_items, SpellsVariable, plain_name, dollar_name, Spells, post, coverage, condense, unary, tighter, binary, SpellsInParens, parens, SpellsPost, literal, truth, variable, grouped, abs, bit, reduce, parts, value_list, field, brackets, named, SpellsParts, last_part, more_parts, of_axis, SpellsSubs, last_sub, more_subs, SpellsPlace, trimmed, position, SpellsInterval, between, domain_of, iterator, SpellsIters, last_iter, more_iters, SpellsCondition, unconditional, conditional, SpellsNames, last_name, more_names, stands_for, SpellsBindings, last_binding, more_bindings, csv_word, SpellsReturn, encoded, unencoded, SpellsEnd, for_all, for_some, IsSpelled, query}
+use Rattle.wcps_text.specs.Lexing.{keyword_text, IsWritten, is_word, plain as plain_form}
+use Rattle.wcps_text.specs.Grammar.{Prefixes, negate, plus, not, binary_token, truth_word, Reduces, to_count, to_any, to_every, to_sum, to_average, to_least, to_greatest, Condenses, by_sum, by_product, by_greatest, by_least, by_every, by_any, rank_of, max_rank, Openness, closed, open_ended, SpellsInt, unsigned, positive, negative, SpellsItem, int_item, truth_item, SpellsItems, last_item, more_items, SpellsVariable, plain_name, dollar_name, Spells, post, coverage, condense, unary, tighter, binary, SpellsInParens, parens, SpellsPost, literal, truth, variable, grouped, abs, bit, reduce, parts, value_list, field, brackets, named, SpellsParts, last_part, more_parts, of_axis, SpellsSubs, last_sub, more_subs, SpellsPlace, trimmed, position, SpellsInterval, between, domain_of, iterator, SpellsIters, last_iter, more_iters, SpellsCondition, unconditional, conditional, SpellsNames, last_name, more_names, stands_for, SpellsBindings, last_binding, more_bindings, csv_word, SpellsReturn, encoded, unencoded, SpellsEnd, for_all, for_some, IsSpelled, query}
 use Rattle.wcps_text.proofs.Ranks.{rank_most, rank_suc, raised}
-use Rattle.wcps_print.specs.Printing.{name_token, int_tokens, unary_token, items_tokens, expr_tokens, parts_tokens, subs_tokens, place_tokens, interval_tokens, iters_tokens, condition_tokens, names_tokens, bindings_tokens, item_tokens, query_tokens}
+use Rattle.wcps_print.specs.Printing.{name_token, int_tokens, unary_token, between_tokens, reduce_token, condense_token, items_tokens, expr_tokens, parts_tokens, subs_tokens, place_tokens, interval_tokens, iters_tokens, condition_tokens, names_tokens, bindings_tokens, item_tokens, query_tokens}
+use Rattle.wcps_print.proofs.Operators.{between as between_same}
 use Rattle.wcps_print.proofs.Written.{Proper, Written, Each, name_as_name, dollar_as_dollar}
 
 -- what an expression is printed as spells it, before any rest
@@ -33,13 +34,13 @@ loosest : {o : Openness} {ts rest : List Tok} {e : Tree} → Spells o 0 ts e res
 loosest s = raised _ 0 max_rank _ _ _ (omega arith) s
 
 -- an operator between two operands in parentheses
-between_operands : {ts mid rest : List Tok} {a b : Tree} (op : BinaryOp) → Spells closed 0 ts a (binary_token op ∷ mid) → Spells closed 0 mid b rest → Spells closed max_rank ts (tree.binary op a b) rest
-between_operands {ts} {mid} {rest} {a} {b} op sa sb =
+between_operands : {ts mid rest : List Tok} {a b : Tree} (op : BinaryOperator) → 0 < rank_of op → Spells closed 0 ts a (binary_token op ∷ mid) → Spells closed 0 mid b rest → Spells closed max_rank ts (tree.binary op a b) rest
+between_operands {ts} {mid} {rest} {a} {b} op ranked sa sb =
     let r = rank_of op - 1 in
-    let joined : Spells closed (suc r) ts (tree.binary op a b) rest = binary op (rank_suc op) (raised closed 0 (suc r) ts (binary_token op ∷ mid) a (omega arith) sa) (raised closed 0 r mid rest b (omega arith) sb) in
-    raised closed (suc r) max_rank ts rest (tree.binary op a b) (omega (arith, rank_suc op, rank_most op)) joined
+    let joined : Spells closed (suc r) ts (tree.binary op a b) rest = binary op (rank_suc op ranked) (raised closed 0 (suc r) ts (binary_token op ∷ mid) a (omega arith) sa) (raised closed 0 r mid rest b (omega arith) sb) in
+    raised closed (suc r) max_rank ts rest (tree.binary op a b) (omega (arith, rank_suc op ranked, rank_most op)) joined
 
-written_binary : (op : BinaryOp) → Written (binary_token op)
+written_binary : (op : BinaryOperator) → Written (binary_token op)
 written_binary binaries.Multiply = tt
 written_binary binaries.Divide = tt
 written_binary binaries.Add = tt
@@ -53,14 +54,44 @@ written_binary binaries.NotEqual = tt
 written_binary binaries.And = tt
 written_binary binaries.Or = tt
 written_binary binaries.Xor = tt
+written_binary binaries.Bit = tt
 
-written_condense : (op : CondenseOp) → Written (condense_token op)
-written_condense condensers.Add = tt
-written_condense condensers.Multiply = tt
-written_condense condensers.Max = tt
-written_condense condensers.Min = tt
-written_condense condensers.And = tt
-written_condense condensers.Or = tt
+written_condense : (op : Aggregate) → Written (condense_token op)
+written_condense aggregates.Sum = tt
+written_condense aggregates.Product = tt
+written_condense aggregates.Greatest = tt
+written_condense aggregates.Least = tt
+written_condense aggregates.Every = tt
+written_condense aggregates.Any = tt
+written_condense aggregates.Count = tt
+written_condense aggregates.Average = tt
+
+condense_same : {op : Aggregate} {t : Tok} → Condenses op t → condense_token op ≡ t
+condense_same by_sum = refl
+condense_same by_product = refl
+condense_same by_greatest = refl
+condense_same by_least = refl
+condense_same by_every = refl
+condense_same by_any = refl
+
+written_reduce : (op : Aggregate) → Written (reduce_token op)
+written_reduce aggregates.Sum = tt
+written_reduce aggregates.Product = tt
+written_reduce aggregates.Greatest = tt
+written_reduce aggregates.Least = tt
+written_reduce aggregates.Every = tt
+written_reduce aggregates.Any = tt
+written_reduce aggregates.Count = tt
+written_reduce aggregates.Average = tt
+
+reduce_same : {op : Aggregate} {w : Keyword} → Reduces op w → reduce_token op ≡ word w
+reduce_same to_count = refl
+reduce_same to_any = refl
+reduce_same to_every = refl
+reduce_same to_sum = refl
+reduce_same to_average = refl
+reduce_same to_least = refl
+reduce_same to_greatest = refl
 
 no_keyword : (k : Keyword) → IsWritten k (codes "c") → ⊥
 no_keyword k same = short k (ap length same)
@@ -97,7 +128,7 @@ no_keyword k same = short k (ap length same)
     short words.ImageCrsDomain e = omega arith
 
 any_name : Written (name (codes "c"))
-any_name = plain_form (is_name refl tt) (omega arith) no_keyword
+any_name = plain_form (is_word refl tt) (omega arith) no_keyword
 
 -- a name without `$` is printed as one
 pub record AgainName (x : List ℕ) : Type 0 where
@@ -230,7 +261,7 @@ operand a rest = post (grouped (in_parens a rest))
 written_operand : {e : Tree} → Again e → (rest : List Tok) → Each Written rest → Each Written (sign signs.LeftParen ∷ expr_tokens e (sign signs.RightParen ∷ rest))
 written_operand a rest w = (tt, a.written (sign signs.RightParen ∷ rest) (tt, w))
 
-unary_again : {e : Tree} (op : UnaryOp) → Prefixes op (unary_token op) → Written (unary_token op) → Again e → Again (tree.unary op e)
+unary_again : {e : Tree} (op : UnaryOperator) → Prefixes op (unary_token op) → Written (unary_token op) → Again e → Again (tree.unary op e)
 unfolding expr_tokens
 unary_again op prefix token a = record {
   openness = closed;
@@ -238,12 +269,22 @@ unary_again op prefix token a = record {
   written = λ rest w. (token, written_operand a rest w);
 }
 
-binary_again : {a b : Tree} (op : BinaryOp) → Again a → Again b → Again (tree.binary op a b)
+binary_again : {a b : Tree} (op : BinaryOperator) → 0 < rank_of op → Again a → Again b → Again (tree.binary op a b)
 unfolding expr_tokens
-binary_again {a} {b} op x y = record {
+binary_again {a} {b} op ranked x y =
+    let same : (rest : List Tok) → between_tokens op (expr_tokens a) (expr_tokens b) rest ≡ expr_tokens (tree.binary op a b) rest = λ rest. between_same op (expr_tokens a) (expr_tokens b) rest ranked in
+    record {
+      openness = closed;
+      spelled = λ rest. subst (λ (ts : List Tok). Spells closed max_rank ts (tree.binary op a b) rest) (same rest) (between_operands op ranked (operand x (binary_token op ∷ sign signs.LeftParen ∷ expr_tokens b (sign signs.RightParen ∷ rest))) (operand y rest));
+      written = λ rest w. subst (λ (ts : List Tok). Each Written ts) (same rest) (written_operand x _ (written_binary op, written_operand y rest w));
+    }
+
+reduce_again : {e : Tree} {op : Aggregate} {w : Keyword} → Reduces op w → Again e → Again (tree.reduce op e)
+unfolding expr_tokens
+reduce_again {e} {op} r a = record {
   openness = closed;
-  spelled = λ rest. between_operands op (operand x (binary_token op ∷ sign signs.LeftParen ∷ expr_tokens b (sign signs.RightParen ∷ rest))) (operand y rest);
-  written = λ rest w. written_operand x _ (written_binary op, written_operand y rest w);
+  spelled = λ rest. rw (reduce_same r) (loosest (post (reduce r (in_parens a rest))));
+  written = λ rest w. (written_reduce op, written_operand a rest w);
 }
 
 mutual
@@ -261,12 +302,12 @@ mutual
         },
         b.1,
       )
-  again (condense op sc s) p =
+  again (condense {op} joins sc s) p =
       let c = again_condition sc p.1.1.1 in
       let b = again s c.1.1 in (
         record {
           openness = open_ended;
-          spelled = λ rest. loosest (condense op (c.0.spelled _) (loosest (operand b.0 rest)));
+          spelled = λ rest. rw (condense_same joins) (loosest (condense joins (c.0.spelled _) (loosest (operand b.0 rest))));
           written = λ rest w. (tt, (written_condense op, (tt, c.0.written _ (tt, written_operand b.0 rest w))));
         },
         b.1,
@@ -278,7 +319,7 @@ mutual
   again (binary op same sa sb) p =
       let a = again sa p in
       let b = again sb a.1.1 in
-      (binary_again op a.0 b.0, b.1)
+      (binary_again op (omega (arith, same)) a.0 b.0, b.1)
 
   again_parens : {ts rest : List Tok} {e : Tree} → SpellsInParens ts e rest → Each Proper ts → Again e × Each Proper rest
   again_parens (parens s) p = let a = again s p.1 in (a.0, a.1.1)
@@ -303,9 +344,7 @@ mutual
         },
         b.1.1,
       )
-  again_post (reduce op s) p =
-      let a = again_parens s p.1 in
-      (record { openness = closed; spelled = λ rest. loosest (post (reduce op (in_parens a.0 rest))); written = λ rest w. (tt, written_operand a.0 rest w) }, a.1)
+  again_post (reduce r s) p = let a = again_parens s p.1 in (reduce_again r a.0, a.1)
   again_post (parts s) p =
       let a = again_parts s p.1 in
       (record { openness = closed; spelled = λ rest. loosest (post (parts (a.0.spelled _))); written = λ rest w. (tt, a.0.written _ (tt, w)) }, a.1.1)

@@ -11,7 +11,8 @@ use Rattle.wcps_text.specs.declared.token.Keyword.{Keyword}
 use Rattle.wcps_text.specs.declared.token.Keyword.TheVariants as words
 use Rattle.wcps_text.specs.declared.error.LexError.{LexError}
 use Rattle.wcps_text.specs.Token.{Tok, number, name, dollar, quoted, word, sign}
-use Rattle.wcps_text.specs.Lexing.{begins_name, continues_name, Every, decimal, decimal_from, keyword_text, symbol_text, single, double, IsName, is_name, IsDigits, is_digits, Reads, numeral, large_numeral, plain, reserved, long_plain, marked, long_marked, text_between, one_byte, two_bytes, IsLongest, Piece, Lexed, at_end, past_space, past_token, tokens_of}
+use Rattle.wcps_text.specs.Limits.{max_name}
+use Rattle.wcps_text.specs.Lexing.{begins_name, continues_name, Every, decimal, decimal_from, keyword_text, symbol_text, single, double, IsWord, is_word, IsDigits, is_digits, Reads, numeral, large_numeral, plain, reserved, long_plain, marked, long_marked, text_between, one_byte, two_bytes, IsLongest, Piece, Lexed, at_end, past_space, past_token, tokens_of}
 use Rattle.wcps_text.proofs.Fronts.{ahead, behind, digit_low, letter_low}
 use Rattle.wcps_print.specs.Printing.{bytes_of, text_of}
 use Rattle.wcps_print.proofs.Written.{Written, Each}
@@ -49,36 +50,36 @@ more_digits n ds le t =
 number_text : (n : ℕ) → n < 2 ^ 64 → IsText n (decimal_text n)
 number_text n lt = decimal_by_steps IsText one_digit more_digits n lt
 
-word_text : (k : Keyword) → IsName (keyword_text k) × (length (keyword_text k) ≤ 64)
-word_text words.For = (is_name refl (refl, (refl, tt)), omega arith)
-word_text words.In = (is_name refl (refl, tt), omega arith)
-word_text words.Where = (is_name refl (refl, (refl, (refl, (refl, tt)))), omega arith)
-word_text words.Return = (is_name refl (refl, (refl, (refl, (refl, (refl, tt))))), omega arith)
-word_text words.Encode = (is_name refl (refl, (refl, (refl, (refl, (refl, tt))))), omega arith)
-word_text words.Csv = (is_name refl (refl, (refl, tt)), omega arith)
-word_text words.Coverage = (is_name refl (refl, (refl, (refl, (refl, (refl, (refl, (refl, tt))))))), omega arith)
-word_text words.Over = (is_name refl (refl, (refl, (refl, tt))), omega arith)
-word_text words.Values = (is_name refl (refl, (refl, (refl, (refl, (refl, tt))))), omega arith)
-word_text words.Value = (is_name refl (refl, (refl, (refl, (refl, tt)))), omega arith)
-word_text words.List = (is_name refl (refl, (refl, (refl, tt))), omega arith)
-word_text words.Condense = (is_name refl (refl, (refl, (refl, (refl, (refl, (refl, (refl, tt))))))), omega arith)
-word_text words.Using = (is_name refl (refl, (refl, (refl, (refl, tt)))), omega arith)
-word_text words.And = (is_name refl (refl, (refl, tt)), omega arith)
-word_text words.Or = (is_name refl (refl, tt), omega arith)
-word_text words.Xor = (is_name refl (refl, (refl, tt)), omega arith)
-word_text words.Not = (is_name refl (refl, (refl, tt)), omega arith)
-word_text words.Abs = (is_name refl (refl, (refl, tt)), omega arith)
-word_text words.Bit = (is_name refl (refl, (refl, tt)), omega arith)
-word_text words.True = (is_name refl (refl, (refl, (refl, tt))), omega arith)
-word_text words.False = (is_name refl (refl, (refl, (refl, (refl, tt)))), omega arith)
-word_text words.Count = (is_name refl (refl, (refl, (refl, (refl, tt)))), omega arith)
-word_text words.Some = (is_name refl (refl, (refl, (refl, tt))), omega arith)
-word_text words.All = (is_name refl (refl, (refl, tt)), omega arith)
-word_text words.Add = (is_name refl (refl, (refl, tt)), omega arith)
-word_text words.Avg = (is_name refl (refl, (refl, tt)), omega arith)
-word_text words.Min = (is_name refl (refl, (refl, tt)), omega arith)
-word_text words.Max = (is_name refl (refl, (refl, tt)), omega arith)
-word_text words.ImageCrsDomain = (is_name refl (refl, (refl, (refl, (refl, (refl, (refl, (refl, (refl, (refl, (refl, (refl, (refl, (refl, tt))))))))))))), omega arith)
+word_text : (k : Keyword) → IsWord (keyword_text k) × (length (keyword_text k) ≤ max_name)
+word_text words.For = (is_word refl (refl, (refl, tt)), omega arith)
+word_text words.In = (is_word refl (refl, tt), omega arith)
+word_text words.Where = (is_word refl (refl, (refl, (refl, (refl, tt)))), omega arith)
+word_text words.Return = (is_word refl (refl, (refl, (refl, (refl, (refl, tt))))), omega arith)
+word_text words.Encode = (is_word refl (refl, (refl, (refl, (refl, (refl, tt))))), omega arith)
+word_text words.Csv = (is_word refl (refl, (refl, tt)), omega arith)
+word_text words.Coverage = (is_word refl (refl, (refl, (refl, (refl, (refl, (refl, (refl, tt))))))), omega arith)
+word_text words.Over = (is_word refl (refl, (refl, (refl, tt))), omega arith)
+word_text words.Values = (is_word refl (refl, (refl, (refl, (refl, (refl, tt))))), omega arith)
+word_text words.Value = (is_word refl (refl, (refl, (refl, (refl, tt)))), omega arith)
+word_text words.List = (is_word refl (refl, (refl, (refl, tt))), omega arith)
+word_text words.Condense = (is_word refl (refl, (refl, (refl, (refl, (refl, (refl, (refl, tt))))))), omega arith)
+word_text words.Using = (is_word refl (refl, (refl, (refl, (refl, tt)))), omega arith)
+word_text words.And = (is_word refl (refl, (refl, tt)), omega arith)
+word_text words.Or = (is_word refl (refl, tt), omega arith)
+word_text words.Xor = (is_word refl (refl, (refl, tt)), omega arith)
+word_text words.Not = (is_word refl (refl, (refl, tt)), omega arith)
+word_text words.Abs = (is_word refl (refl, (refl, tt)), omega arith)
+word_text words.Bit = (is_word refl (refl, (refl, tt)), omega arith)
+word_text words.True = (is_word refl (refl, (refl, (refl, tt))), omega arith)
+word_text words.False = (is_word refl (refl, (refl, (refl, (refl, tt)))), omega arith)
+word_text words.Count = (is_word refl (refl, (refl, (refl, (refl, tt)))), omega arith)
+word_text words.Some = (is_word refl (refl, (refl, (refl, tt))), omega arith)
+word_text words.All = (is_word refl (refl, (refl, tt)), omega arith)
+word_text words.Add = (is_word refl (refl, (refl, tt)), omega arith)
+word_text words.Avg = (is_word refl (refl, (refl, tt)), omega arith)
+word_text words.Min = (is_word refl (refl, (refl, tt)), omega arith)
+word_text words.Max = (is_word refl (refl, (refl, tt)), omega arith)
+word_text words.ImageCrsDomain = (is_word refl (refl, (refl, (refl, (refl, (refl, (refl, (refl, (refl, (refl, (refl, (refl, (refl, (refl, tt))))))))))))), omega arith)
 
 sign_text : (s : Symbol) → Reads (symbol_text s) (Ok (sign s))
 sign_text signs.LeftParen = one_byte refl
@@ -138,8 +139,8 @@ double_dense : (b : ℕ) (s : Symbol) → double b ≡ Some s → dense b ≡ tr
 double_dense b s e =
     ⊎_elim (λ same. absurd (none-some s (subst (λ (c : ℕ). double c ≡ Some s) same.1 e))) (λ other. rw other.0 refl) (eqb_tells b 32)
 
-name_dense : {w : List ℕ} → IsName w → Every dense w
-name_dense (is_name {c} {cs} begin more) = (letter_dense c begin, every_dense continues_name cs continued_dense more)
+name_dense : {w : List ℕ} → IsWord w → Every dense w
+name_dense (is_word {c} {cs} begin more) = (letter_dense c begin, every_dense continues_name cs continued_dense more)
 
 digits_dense : {w : List ℕ} → IsDigits w → Every dense w
 digits_dense (is_digits {d} {ds} begin more) = (digit_dense d begin, every_dense is_ascii_digit ds digit_dense more)
@@ -162,8 +163,8 @@ record Begins (w : List ℕ) : Type 0 where
   some : 0 < length w
   unquoted : get_or w 0 0 ≢ 34
 
-name_begins : {w : List ℕ} → IsName w → Begins w
-name_begins (is_name {c} {cs} begin more) = record { some = omega arith; unquoted = λ same. absurd (omega (arith, letter_low c begin)) }
+name_begins : {w : List ℕ} → IsWord w → Begins w
+name_begins (is_word {c} {cs} begin more) = record { some = omega arith; unquoted = λ same. absurd (omega (arith, letter_low c begin)) }
 
 digits_begin : {w : List ℕ} → IsDigits w → Begins w
 digits_begin (is_digits {d} {ds} begin more) = record { some = omega arith; unquoted = λ same. absurd (omega (arith, digit_low d begin)) }

@@ -1,20 +1,21 @@
 -- A printed query opens few brackets at once: at most three for each level of its tree, and one more.
-use Rattle.std.proofs.Common.{◌≡◌, ℕ, ◌+◌, suc, ◌-◌, ◌*◌, ◌≤◌, Bool, true, false, List, [], ◌∷◌, cond, ◌==◌, ℤ, pos, negsuc, refl, arith, get_or, subst, sym}
+use Rattle.std.proofs.Common.{◌≡◌, ℕ, ◌+◌, suc, ◌-◌, ◌*◌, ◌≤◌, Bool, true, false, List, [], ◌∷◌, cond, ◌==◌, ℤ, pos, negsuc, refl, arith, get_or, subst, sym, ◌<◌, ⊎_elim}
 use Rattle.wcps_text.specs.declared.token.Symbol.TheVariants as signs
-use Rattle.wcps_text.specs.declared.tree.UnaryOp.{UnaryOp}
-use Rattle.wcps_text.specs.declared.tree.UnaryOp.TheVariants as unaries
-use Rattle.wcps_text.specs.declared.tree.BinaryOp.{BinaryOp}
-use Rattle.wcps_text.specs.declared.tree.BinaryOp.TheVariants as binaries
-use Rattle.wcps_text.specs.declared.tree.CondenseOp.{CondenseOp}
-use Rattle.wcps_text.specs.declared.tree.CondenseOp.TheVariants as condensers
+use Rattle.wcps_text.specs.declared.operator.UnaryOperator.{UnaryOperator}
+use Rattle.wcps_text.specs.declared.operator.UnaryOperator.TheVariants as unaries
+use Rattle.wcps_text.specs.declared.operator.BinaryOperator.{BinaryOperator}
+use Rattle.wcps_text.specs.declared.operator.BinaryOperator.TheVariants as binaries
+use Rattle.wcps_text.specs.declared.operator.Aggregate.{Aggregate}
+use Rattle.wcps_text.specs.declared.operator.Aggregate.TheVariants as aggregates
 use Rattle.wcps_text.specs.declared.tree.ListItem.{ListItem}
 use Rattle.wcps_text.specs.declared.tree.ListItem.TheVariants as list_items
 use Rattle.wcps_text.specs.Token.{Tok, number, name, dollar, word, sign}
 use Rattle.wcps_text.specs.Tree as tree
 use Rattle.wcps_text.specs.Tree.{Tree, Parts, no_parts, part, Subs, no_subs, sub, PlaceTree, trim, at, IntervalTree, bounds, domain, Iters, no_iters, iter, Condition, always, only, BindingTree, ItemTree, encode, plain, QueryTree}
 use Rattle.wcps_text.specs.Limits.{depth_behind, deepest, height, parts_height, subs_height, place_height, interval_height, iters_height, condition_height, item_height, query_height}
-use Rattle.wcps_text.specs.Grammar.{binary_token, condense_token, reduce_word, truth_word}
-use Rattle.wcps_print.specs.Printing.{name_token, int_tokens, unary_token, items_tokens, expr_tokens, parts_tokens, subs_tokens, place_tokens, interval_tokens, iters_tokens, condition_tokens, names_tokens, bindings_tokens, item_tokens, query_tokens}
+use Rattle.wcps_text.specs.Grammar.{rank_of, binary_token, truth_word}
+use Rattle.wcps_print.specs.Printing.{name_token, int_tokens, unary_token, between_tokens, bit_tokens, binary_tokens, reduce_token, condense_token, items_tokens, expr_tokens, parts_tokens, subs_tokens, place_tokens, interval_tokens, iters_tokens, condition_tokens, names_tokens, bindings_tokens, item_tokens, query_tokens}
+use Rattle.wcps_print.proofs.Operators.{bit_or_between, between}
 
 -- at most m brackets are open at once, where d are open at the front
 unfoldable Within : ℕ → ℕ → List Tok → Type 0
@@ -48,7 +49,7 @@ flat-name d x = either (get_or x 0 0 == 36) d x
     either true d x = refl
     either false d x = refl
 
-flat-binary : (d : ℕ) (op : BinaryOp) → depth_behind d (binary_token op) ≡ d
+flat-binary : (d : ℕ) (op : BinaryOperator) → depth_behind d (binary_token op) ≡ d
 flat-binary d binaries.Multiply = refl
 flat-binary d binaries.Divide = refl
 flat-binary d binaries.Add = refl
@@ -62,20 +63,33 @@ flat-binary d binaries.NotEqual = refl
 flat-binary d binaries.And = refl
 flat-binary d binaries.Or = refl
 flat-binary d binaries.Xor = refl
+flat-binary d binaries.Bit = refl
 
-flat-condense : (d : ℕ) (op : CondenseOp) → depth_behind d (condense_token op) ≡ d
-flat-condense d condensers.Add = refl
-flat-condense d condensers.Multiply = refl
-flat-condense d condensers.Max = refl
-flat-condense d condensers.Min = refl
-flat-condense d condensers.And = refl
-flat-condense d condensers.Or = refl
+flat-condense : (d : ℕ) (op : Aggregate) → depth_behind d (condense_token op) ≡ d
+flat-condense d aggregates.Sum = refl
+flat-condense d aggregates.Product = refl
+flat-condense d aggregates.Greatest = refl
+flat-condense d aggregates.Least = refl
+flat-condense d aggregates.Every = refl
+flat-condense d aggregates.Any = refl
+flat-condense d aggregates.Count = refl
+flat-condense d aggregates.Average = refl
 
-flat-unary : (d : ℕ) (op : UnaryOp) → depth_behind d (unary_token op) ≡ d
+flat-reduce : (d : ℕ) (op : Aggregate) → depth_behind d (reduce_token op) ≡ d
+flat-reduce d aggregates.Sum = refl
+flat-reduce d aggregates.Product = refl
+flat-reduce d aggregates.Greatest = refl
+flat-reduce d aggregates.Least = refl
+flat-reduce d aggregates.Every = refl
+flat-reduce d aggregates.Any = refl
+flat-reduce d aggregates.Count = refl
+flat-reduce d aggregates.Average = refl
+
+flat-unary : (d : ℕ) (op : UnaryOperator) → depth_behind d (unary_token op) ≡ d
 flat-unary d unaries.Negate = refl
 flat-unary d unaries.Plus = refl
 flat-unary d unaries.Not = refl
-flat-unary d unaries.Abs = refl
+flat-unary d unaries.Absolute = refl
 
 int-within : (m d : ℕ) (z : ℤ) (rest : List Tok) → d ≤ m → Within m d rest → Within m d (int_tokens z rest)
 int-within m d (pos n) rest le h = flat m d (number n) rest refl le h
@@ -95,6 +109,25 @@ grouped : (m d : ℕ) (e : Tree) (rest : List Tok) → d + 1 ≤ m → Within m 
 grouped m d e rest le h inner =
     opened m d (sign signs.LeftParen) (expr_tokens e (sign signs.RightParen ∷ rest)) refl (omega (arith, le)) (inner (sign signs.RightParen ∷ rest) (closed m d (sign signs.RightParen) rest refl le h))
 
+-- an operand
+abbrev Fits : ℕ → ℕ → (List Tok → List Tok) → Type 0
+Fits m d a = (after : List Tok) → Within m (d + 1) after → Within m (d + 1) (a after)
+
+-- an operator between two operands in parentheses
+between_two : (m d : ℕ) (op : BinaryOperator) (a b : List Tok → List Tok) (rest : List Tok) → d + 1 ≤ m → Within m d rest → Fits m d a → Fits m d b → Within m d (between_tokens op a b rest)
+between_two m d op a b rest le h left right =
+    opened m d _ _ refl (omega (arith, le)) (left _ (closed m d _ _ refl le
+    (flat m d (binary_token op) _ (flat-binary d op) (omega (arith, le)) (opened m d _ _ refl (omega (arith, le)) (right _ (closed m d _ rest refl le h))))))
+
+bit : (m d : ℕ) (a b : List Tok → List Tok) (rest : List Tok) → d + 1 ≤ m → Within m d rest → Fits m d a → Fits m d b → Within m d (bit_tokens a b rest)
+bit m d a b rest le h left right =
+    flat m d _ _ refl (omega (arith, le)) (opened m d _ _ refl (omega (arith, le)) (left _ (flat m (d + 1) _ _ refl le (right _ (closed m d _ rest refl le h)))))
+
+binary : (m d : ℕ) (op : BinaryOperator) (a b : List Tok → List Tok) (rest : List Tok) → d + 1 ≤ m → Within m d rest → Fits m d a → Fits m d b → Within m d (binary_tokens op a b rest)
+binary m d op a b rest le h left right =
+    ⊎_elim (λ (e : op ≡ binaries.Bit). subst (λ (o : BinaryOperator). Within m d (binary_tokens o a b rest)) (sym e) (bit m d a b rest le h left right))
+    (λ (ranked : 0 < rank_of op). subst (λ (ts : List Tok). Within m d ts) (between op a b rest ranked) (between_two m d op a b rest le h left right)) (bit_or_between op)
+
 mutual
   unfolding expr_tokens
 
@@ -103,12 +136,8 @@ mutual
   expr-within m d (tree.truth b) rest le h = flat m d (word (truth_word b)) rest refl (omega (arith, le)) h
   expr-within m d (tree.variable x) rest le h = flat m d (name_token x) rest (flat-name d x) (omega (arith, le)) h
   expr-within m d (tree.unary op e) rest le h = flat m d (unary_token op) _ (flat-unary d op) (omega (arith, le)) (grouped m d e rest (omega (arith, le)) h (λ r k. expr-within m (d + 1) e r (omega (arith, le)) k))
-  expr-within m d (tree.binary op a b) rest le h =
-      grouped m d a _ (omega (arith, le)) (flat m d (binary_token op) _ (flat-binary d op) (omega (arith, le)) (grouped m d b rest (omega (arith, le)) h (λ r k. expr-within m (d + 1) b r (omega (arith, le)) k))) (λ r k. expr-within m (d + 1) a r (omega (arith, le)) k)
-  expr-within m d (tree.bit a b) rest le h =
-      flat m d _ _ refl (omega (arith, le)) (opened m d _ _ refl (omega (arith, le))
-      (expr-within m (d + 1) a _ (omega (arith, le)) (flat m (d + 1) _ _ refl (omega (arith, le)) (expr-within m (d + 1) b _ (omega (arith, le)) (closed m d _ rest refl (omega (arith, le)) h)))))
-  expr-within m d (tree.reduce op e) rest le h = flat m d (word (reduce_word op)) _ refl (omega (arith, le)) (grouped m d e rest (omega (arith, le)) h (λ r k. expr-within m (d + 1) e r (omega (arith, le)) k))
+  expr-within m d (tree.binary op a b) rest le h = binary m d op (expr_tokens a) (expr_tokens b) rest (omega (arith, le)) h (λ r k. expr-within m (d + 1) a r (omega (arith, le)) k) (λ r k. expr-within m (d + 1) b r (omega (arith, le)) k)
+  expr-within m d (tree.reduce op e) rest le h = flat m d (reduce_token op) _ (flat-reduce d op) (omega (arith, le)) (grouped m d e rest (omega (arith, le)) h (λ r k. expr-within m (d + 1) e r (omega (arith, le)) k))
   expr-within m d (tree.parts ps) rest le h =
       opened m d _ _ refl (omega (arith, le)) (parts-within m (d + 1) true ps _ (omega (arith, le)) (closed m d _ rest refl (omega (arith, le)) h))
   expr-within m d (tree.value_list is xs) rest le h =

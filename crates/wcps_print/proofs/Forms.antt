@@ -1,18 +1,16 @@
 -- All tokens that spell a query have as many words `condense` and `coverage` as its tree has such forms.
 use Rattle.std.proofs.Common.{◌≡◌, ℕ, ◌+◌, Bool, true, false, List, refl, arith, ℤ}
-use Rattle.wcps_text.specs.declared.tree.UnaryOp.{UnaryOp}
-use Rattle.wcps_text.specs.declared.tree.BinaryOp.{BinaryOp}
-use Rattle.wcps_text.specs.declared.tree.BinaryOp.TheVariants as binaries
-use Rattle.wcps_text.specs.declared.tree.CondenseOp.{CondenseOp}
-use Rattle.wcps_text.specs.declared.tree.CondenseOp.TheVariants as condensers
-use Rattle.wcps_text.specs.declared.tree.ReduceOp.{ReduceOp}
-use Rattle.wcps_text.specs.declared.tree.ReduceOp.TheVariants as reductions
+use Rattle.wcps_text.specs.declared.token.Keyword.{Keyword}
+use Rattle.wcps_text.specs.declared.operator.UnaryOperator.{UnaryOperator}
+use Rattle.wcps_text.specs.declared.operator.BinaryOperator.{BinaryOperator}
+use Rattle.wcps_text.specs.declared.operator.BinaryOperator.TheVariants as binaries
+use Rattle.wcps_text.specs.declared.operator.Aggregate.{Aggregate}
 use Rattle.wcps_text.specs.declared.tree.ListItem.{ListItem}
 use Rattle.wcps_text.specs.Token.{Tok, word}
 use Rattle.wcps_text.specs.Tree as tree
 use Rattle.wcps_text.specs.Tree.{Tree, Parts, no_parts, part, Subs, no_subs, sub, PlaceTree, trim, at, IntervalTree, bounds, domain, Iters, no_iters, iter, Condition, always, only, BindingTree, ItemTree, encode, plain, QueryTree}
 use Rattle.wcps_text.specs.Limits.{form_words, forms}
-use Rattle.wcps_text.specs.Grammar.{Prefixes, negate, plus, not, binary_token, condense_token, reduce_word, truth_word, Openness, SpellsInt, unsigned, positive, negative, SpellsItem, int_item, truth_item, SpellsItems, last_item, more_items, SpellsVariable, plain_name, dollar_name, Spells, post, coverage, condense, unary, tighter, binary, SpellsInParens, parens, SpellsPost, literal, truth, variable, grouped, abs, bit, reduce, parts, value_list, field, brackets, SpellsPart, named, SpellsParts, last_part, more_parts, SpellsSub, of_axis, SpellsSubs, last_sub, more_subs, SpellsPlace, trimmed, position, SpellsInterval, between, domain_of, SpellsIter, iterator, SpellsIters, last_iter, more_iters, SpellsCondition, unconditional, conditional, SpellsNames, last_name, more_names, SpellsBinding, stands_for, SpellsBindings, last_binding, more_bindings, IsFormat, csv_word, csv_quoted, text_csv_quoted, SpellsReturn, encoded, unencoded, SpellsEnd, for_all, for_some, IsSpelled, query}
+use Rattle.wcps_text.specs.Grammar.{Prefixes, negate, plus, not, binary_token, Reduces, to_count, to_any, to_every, to_sum, to_average, to_least, to_greatest, Condenses, by_sum, by_product, by_greatest, by_least, by_every, by_any, truth_word, Openness, SpellsInt, unsigned, positive, negative, SpellsItem, int_item, truth_item, SpellsItems, last_item, more_items, SpellsVariable, plain_name, dollar_name, Spells, post, coverage, condense, unary, tighter, binary, SpellsInParens, parens, SpellsPost, literal, truth, variable, grouped, abs, bit, reduce, parts, value_list, field, brackets, SpellsPart, named, SpellsParts, last_part, more_parts, SpellsSub, of_axis, SpellsSubs, last_sub, more_subs, SpellsPlace, trimmed, position, SpellsInterval, between, domain_of, SpellsIter, iterator, SpellsIters, last_iter, more_iters, SpellsCondition, unconditional, conditional, SpellsNames, last_name, more_names, SpellsBinding, stands_for, SpellsBindings, last_binding, more_bindings, IsFormat, csv_word, csv_quoted, text_csv_quoted, SpellsReturn, encoded, unencoded, SpellsEnd, for_all, for_some, IsSpelled, query}
 
 -- how many such forms a tree has
 abbrev mutual
@@ -22,7 +20,6 @@ abbrev mutual
   tree_forms (tree.variable x) = 0
   tree_forms (tree.unary op e) = tree_forms e
   tree_forms (tree.binary op a b) = tree_forms a + tree_forms b
-  tree_forms (tree.bit a b) = tree_forms a + tree_forms b
   tree_forms (tree.reduce op e) = tree_forms e
   tree_forms (tree.parts ps) = parts_forms ps
   tree_forms (tree.value_list is xs) = 1 + iters_forms is
@@ -66,24 +63,24 @@ truth-none : (b : Bool) → form_words (word (truth_word b)) ≡ 0
 truth-none true = refl
 truth-none false = refl
 
-reduce-none : (op : ReduceOp) → form_words (word (reduce_word op)) ≡ 0
-reduce-none reductions.Count = refl
-reduce-none reductions.Some = refl
-reduce-none reductions.All = refl
-reduce-none reductions.Add = refl
-reduce-none reductions.Avg = refl
-reduce-none reductions.Min = refl
-reduce-none reductions.Max = refl
+reduce-none : {op : Aggregate} {w : Keyword} → Reduces op w → form_words (word w) ≡ 0
+reduce-none to_count = refl
+reduce-none to_any = refl
+reduce-none to_every = refl
+reduce-none to_sum = refl
+reduce-none to_average = refl
+reduce-none to_least = refl
+reduce-none to_greatest = refl
 
-condense-none : (op : CondenseOp) → form_words (condense_token op) ≡ 0
-condense-none condensers.Add = refl
-condense-none condensers.Multiply = refl
-condense-none condensers.Max = refl
-condense-none condensers.Min = refl
-condense-none condensers.And = refl
-condense-none condensers.Or = refl
+condense-none : {op : Aggregate} {t : Tok} → Condenses op t → form_words t ≡ 0
+condense-none by_sum = refl
+condense-none by_product = refl
+condense-none by_greatest = refl
+condense-none by_least = refl
+condense-none by_every = refl
+condense-none by_any = refl
 
-binary-none : (op : BinaryOp) → form_words (binary_token op) ≡ 0
+binary-none : (op : BinaryOperator) → form_words (binary_token op) ≡ 0
 binary-none binaries.Multiply = refl
 binary-none binaries.Divide = refl
 binary-none binaries.Add = refl
@@ -97,8 +94,9 @@ binary-none binaries.NotEqual = refl
 binary-none binaries.And = refl
 binary-none binaries.Or = refl
 binary-none binaries.Xor = refl
+binary-none binaries.Bit = refl
 
-prefix-none : {op : UnaryOp} {t : Tok} → Prefixes op t → form_words t ≡ 0
+prefix-none : {op : UnaryOperator} {t : Tok} → Prefixes op t → form_words t ≡ 0
 prefix-none negate = refl
 prefix-none plus = refl
 prefix-none not = refl
@@ -129,7 +127,7 @@ mutual
   forms-of : {o : Openness} {r : ℕ} {ts rest : List Tok} {e : Tree} → Spells o r ts e rest → forms ts ≡ tree_forms e + forms rest
   forms-of (post s) = forms-post s
   forms-of (coverage si s) = omega (arith, forms-iters si, forms-of s)
-  forms-of (condense op sc s) = omega (arith, condense-none op, forms-condition sc, forms-of s)
+  forms-of (condense joins sc s) = omega (arith, condense-none joins, forms-condition sc, forms-of s)
   forms-of (unary p s) = omega (arith, prefix-none p, forms-of s)
   forms-of (tighter s) = forms-of s
   forms-of (binary op r a b) = omega (arith, binary-none op, forms-of a, forms-of b)
@@ -144,7 +142,7 @@ mutual
   forms-post (grouped s) = forms-parens s
   forms-post (abs s) = omega (arith, forms-parens s)
   forms-post (bit a b) = omega (arith, forms-of a, forms-of b)
-  forms-post (reduce op s) = omega (arith, reduce-none op, forms-parens s)
+  forms-post (reduce r s) = omega (arith, reduce-none r, forms-parens s)
   forms-post (parts s) = omega (arith, forms-parts s)
   forms-post (value_list si sx) = omega (arith, forms-iters si, items-forms sx)
   forms-post (field s) = omega (arith, forms-post s)

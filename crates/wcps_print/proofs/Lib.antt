@@ -2,6 +2,7 @@ pub mod Written
 pub mod Again
 pub mod Puts
 pub mod Cuts
+pub mod Operators
 pub mod Views
 pub mod Forms
 pub mod Depths

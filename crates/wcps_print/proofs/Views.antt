@@ -1,13 +1,15 @@
 -- What expressions show, and the tokens of each form.
 use Rattle.std.proofs.Common.{◌≡◌, ℕ, ◌+◌, ◌<◌, ◌≤◌, ℤ, Bool, true, false, List, [], ◌∷◌, length, get_or, drop, Vec, Box, Option, Some, None, Global, refl, sym, ap, ◌∙◌}
 use Rattle.std.proofs.lemmas.List.{drop_more, drop_all}
+use denote.Enum.Bare.{sameb, same_true}
+use Rattle.wcps_text.specs.contracts.operator.BinaryOperator as binary_operator
 use Rattle.wcps_text.specs.declared.token.Literal.{Literal}
 use Rattle.wcps_text.specs.declared.token.Symbol.TheVariants as signs
 use Rattle.wcps_text.specs.declared.token.Keyword.TheVariants as words
-use Rattle.wcps_text.specs.declared.tree.UnaryOp.{UnaryOp}
-use Rattle.wcps_text.specs.declared.tree.BinaryOp.{BinaryOp}
-use Rattle.wcps_text.specs.declared.tree.ReduceOp.{ReduceOp}
-use Rattle.wcps_text.specs.declared.tree.CondenseOp.{CondenseOp}
+use Rattle.wcps_text.specs.declared.operator.UnaryOperator.{UnaryOperator}
+use Rattle.wcps_text.specs.declared.operator.BinaryOperator.{BinaryOperator}
+use Rattle.wcps_text.specs.declared.operator.BinaryOperator.TheVariants as binaries
+use Rattle.wcps_text.specs.declared.operator.Aggregate.{Aggregate}
 use Rattle.wcps_text.specs.declared.tree.ListItem.{ListItem}
 use Rattle.wcps_text.specs.declared.tree.ListItem.TheVariants as list_items
 use Rattle.wcps_text.specs.declared.tree.Interval.{Interval}
@@ -25,9 +27,10 @@ use Rattle.wcps_text.specs.declared.tree.Sub.{Sub}
 use Rattle.wcps_text.specs.declared.tree.Iter.{Iter}
 use Rattle.wcps_text.specs.Token.{Tok, number, word, sign}
 use Rattle.wcps_text.specs.Tree.{Tree, unary, parts, value_list, brackets, coverage, condense, Parts, Iters, view, view_place, view_interval, parts_of, subs_of, iters_of, condition_of, item_view, bindings_of, query_view}
-use Rattle.wcps_text.specs.Grammar.{binary_token, condense_token, reduce_word, truth_word}
+use Rattle.wcps_text.specs.Grammar.{truth_word}
 use Rattle.wcps_text.proofs.Views.{view-Record, view-Brackets, view-ValueList, view-Coverage, view-Condense}
-use Rattle.wcps_print.specs.Printing.{name_token, int_tokens, unary_token, separator, items_tokens, head_tokens, expr_tokens, parts_tokens, subs_tokens, place_tokens, interval_tokens, iters_tokens, condition_tokens, names_tokens, bindings_tokens, item_tokens, query_tokens}
+use Rattle.wcps_print.specs.Printing.{name_token, int_tokens, unary_token, between_tokens, bit_tokens, reduce_token, condense_token, separator, items_tokens, head_tokens, expr_tokens, parts_tokens, subs_tokens, place_tokens, interval_tokens, iters_tokens, condition_tokens, names_tokens, bindings_tokens, item_tokens, query_tokens}
+use Rattle.wcps_print.proofs.Operators.{between, ranked_if_not_bit}
 
 pub number_of : (e : Expr) (n : Literal) → e ≡ exprs.Number n → (rest : List Tok) → number n.value ∷ rest ≡ expr_tokens (view e) rest
 unfolding expr_tokens
@@ -41,15 +44,17 @@ pub variable_of : (e : Expr) (x : List ℕ) → e ≡ exprs.Variable x → (rest
 unfolding expr_tokens
 variable_of e x is rest = rw is refl
 
-pub binary_of : (e x y : Expr) (op : BinaryOp) (a b : Box Expr Global) → e ≡ exprs.Binary op a b → x ≡ a.value → y ≡ b.value → (rest : List Tok) → sign signs.LeftParen ∷ expr_tokens (view x) (sign signs.RightParen ∷ binary_token op ∷ sign signs.LeftParen ∷ expr_tokens (view y) (sign signs.RightParen ∷ rest)) ≡ expr_tokens (view e) rest
+pub binary_of : (e x y : Expr) (op : BinaryOperator) (a b : Box Expr Global) → e ≡ exprs.Binary op a b → x ≡ a.value → y ≡ b.value → false ≡ sameb binary_operator.the_type op binaries.Bit
+    → (rest : List Tok) → between_tokens op (expr_tokens (view x)) (expr_tokens (view y)) rest ≡ expr_tokens (view e) rest
 unfolding expr_tokens
-binary_of e x y op a b is left right rest = rw (is, left, right) refl
+binary_of e x y op a b is left right other rest = rw (is, left, right) (between op (expr_tokens (view a.value)) (expr_tokens (view b.value)) rest (ranked_if_not_bit op (sym other)))
 
-pub bit_of : (e x y : Expr) (a b : Box Expr Global) → e ≡ exprs.Bit a b → x ≡ a.value → y ≡ b.value → (rest : List Tok) → word words.Bit ∷ sign signs.LeftParen ∷ expr_tokens (view x) (sign signs.Comma ∷ expr_tokens (view y) (sign signs.RightParen ∷ rest)) ≡ expr_tokens (view e) rest
+pub bit_of : (e x y : Expr) (op : BinaryOperator) (a b : Box Expr Global) → e ≡ exprs.Binary op a b → x ≡ a.value → y ≡ b.value → true ≡ sameb binary_operator.the_type op binaries.Bit
+    → (rest : List Tok) → bit_tokens (expr_tokens (view x)) (expr_tokens (view y)) rest ≡ expr_tokens (view e) rest
 unfolding expr_tokens
-bit_of e x y a b is left right rest = rw (is, left, right) refl
+bit_of e x y op a b is left right same rest = rw (is, left, right) (rw (same_true binary_operator.the_type tt op binaries.Bit (sym same)) refl)
 
-pub reduce_of : (e x : Expr) (op : ReduceOp) (a : Box Expr Global) → e ≡ exprs.Reduce op a → x ≡ a.value → (rest : List Tok) → word (reduce_word op) ∷ sign signs.LeftParen ∷ expr_tokens (view x) (sign signs.RightParen ∷ rest) ≡ expr_tokens (view e) rest
+pub reduce_of : (e x : Expr) (op : Aggregate) (a : Box Expr Global) → e ≡ exprs.Reduce op a → x ≡ a.value → (rest : List Tok) → reduce_token op ∷ sign signs.LeftParen ∷ expr_tokens (view x) (sign signs.RightParen ∷ rest) ≡ expr_tokens (view e) rest
 unfolding expr_tokens
 reduce_of e x op a is same rest = rw (is, same) refl
 
@@ -71,7 +76,7 @@ brackets_tree e x a ss v is same equal = ap (λ (y : Expr). brackets (view y) (s
 coverage_tree : (e x : Expr) (a : Box Expr Global) (its : List Iter) (v : Vec Iter Global) → e ≡ exprs.Coverage v a → x ≡ a.value → its ≡ v.items → coverage (iters_of its) (view x) ≡ view e
 coverage_tree e x a its v is same equal = ap (λ (y : Expr). coverage (iters_of its) (view y)) same ∙ ap (λ (js : List Iter). coverage (iters_of js) (view a.value)) equal ∙ sym (view-Coverage v a) ∙ ap view (sym is)
 
-condense_tree : (e x : Expr) (op : CondenseOp) (a : Box Expr Global) (o : Option (Box Expr Global)) (its : List Iter) (v : Vec Iter Global) → e ≡ exprs.Condense op v o a → x ≡ a.value → its ≡ v.items → condense op (iters_of its) (condition_of o) (view x) ≡ view e
+condense_tree : (e x : Expr) (op : Aggregate) (a : Box Expr Global) (o : Option (Box Expr Global)) (its : List Iter) (v : Vec Iter Global) → e ≡ exprs.Condense op v o a → x ≡ a.value → its ≡ v.items → condense op (iters_of its) (condition_of o) (view x) ≡ view e
 condense_tree e x op a o its v is same equal = ap (λ (y : Expr). condense op (iters_of its) (condition_of o) (view y)) same ∙ ap (λ (js : List Iter). condense op (iters_of js) (condition_of o) (view a.value)) equal ∙ sym (view-Condense op v o a) ∙ ap view (sym is)
 
 pub brackets_of : (e x : Expr) (a : Box Expr Global) (ss : List Sub) (v : Vec Sub Global) → e ≡ exprs.Brackets a v → x ≡ a.value → ss ≡ v.items → (rest : List Tok) → sign signs.LeftParen ∷ expr_tokens (view x) (sign signs.RightParen ∷ sign signs.LeftBracket ∷ subs_tokens true (subs_of ss) (sign signs.RightBracket ∷ rest)) ≡ expr_tokens (view e) rest
@@ -82,11 +87,11 @@ pub coverage_of : (e x : Expr) (a : Box Expr Global) (its : List Iter) (v : Vec 
 unfolding expr_tokens
 coverage_of e x a its v is same equal rest = ap (λ (t : Tree). expr_tokens t rest) (coverage_tree e x a its v is same equal)
 
-pub condense_of : (e x : Expr) (op : CondenseOp) (a : Box Expr Global) (o : Option (Box Expr Global)) (its : List Iter) (v : Vec Iter Global) → e ≡ exprs.Condense op v o a → x ≡ a.value → its ≡ v.items → (rest : List Tok) → word words.Condense ∷ condense_token op ∷ word words.Over ∷ iters_tokens true (iters_of its) (condition_tokens (condition_of o) (word words.Using ∷ sign signs.LeftParen ∷ expr_tokens (view x) (sign signs.RightParen ∷ rest))) ≡ expr_tokens (view e) rest
+pub condense_of : (e x : Expr) (op : Aggregate) (a : Box Expr Global) (o : Option (Box Expr Global)) (its : List Iter) (v : Vec Iter Global) → e ≡ exprs.Condense op v o a → x ≡ a.value → its ≡ v.items → (rest : List Tok) → word words.Condense ∷ condense_token op ∷ word words.Over ∷ iters_tokens true (iters_of its) (condition_tokens (condition_of o) (word words.Using ∷ sign signs.LeftParen ∷ expr_tokens (view x) (sign signs.RightParen ∷ rest))) ≡ expr_tokens (view e) rest
 unfolding expr_tokens
 condense_of e x op a o its v is same equal rest = ap (λ (t : Tree). expr_tokens t rest) (condense_tree e x op a o its v is same equal)
 
-pub unary_of : (op : UnaryOp) (e : Tree) → (rest : List Tok) → unary_token op ∷ sign signs.LeftParen ∷ expr_tokens e (sign signs.RightParen ∷ rest) ≡ expr_tokens (unary op e) rest
+pub unary_of : (op : UnaryOperator) (e : Tree) → (rest : List Tok) → unary_token op ∷ sign signs.LeftParen ∷ expr_tokens e (sign signs.RightParen ∷ rest) ≡ expr_tokens (unary op e) rest
 unfolding expr_tokens
 unary_of op e rest = refl
 

@@ -2,7 +2,7 @@
 use Rattle.std.proofs.Common.{◌≡◌, ◌≤◌, ◌++◌, ℕ, List, [], append-nil, sym, ◌∙◌, subst, ap, arith}
 use Rattle.wcps_text.specs.Token.{Tok}
 use Rattle.wcps_text.specs.Tree.{QueryTree}
-use Rattle.wcps_text.specs.Limits.{deepest, forms}
+use Rattle.wcps_text.specs.Limits.{max_depth, max_forms, deepest, forms}
 use Rattle.wcps_text.specs.Grammar.{IsSpelled}
 use Rattle.wcps_print.specs.Printing.{text_of, query_tokens}
 use Rattle.wcps_print.specs.Printed.{IsTextOf, IsTextWithin}
@@ -27,13 +27,13 @@ within_again : (q : QueryTree) (text : List ℕ) → IsTextWithin text q → IsT
 within_again q text h =
     let again = again_query h.spelled (proper_lexed h.lexed) in
     let pieces = cut (query_tokens q) 0 again.written in
-    let few : forms (query_tokens q) ≤ 256 = omega (arith, same-forms again.spelled h.spelled, h.words) in
+    let few : forms (query_tokens q) ≤ max_forms = omega (arith, same-forms again.spelled h.spelled, h.words) in
     record {
       pieces = pieces.pieces;
       lexed = pieces.lexed;
       spelled = subst (λ (ts : List Tok). IsSpelled ts q) (sym pieces.same) again.spelled;
-      brackets = subst (λ (ts : List Tok). deepest 0 ts ≤ 512) (sym pieces.same) (query-within 512 q (omega (arith, h.low)));
-      words = subst (λ (ts : List Tok). forms ts ≤ 256) (sym pieces.same) few;
+      brackets = subst (λ (ts : List Tok). deepest 0 ts ≤ max_depth) (sym pieces.same) (query-within max_depth q (omega (arith, h.low)));
+      words = subst (λ (ts : List Tok). forms ts ≤ max_forms) (sym pieces.same) few;
       low = h.low;
     }
 

@@ -2,7 +2,7 @@
 use Rattle.std.proofs.Common.{◌≡◌, ℕ, ◌^◌, ◌<◌, List, [], ◌∷◌, get_or, Ok, refl, arith, ⊎_elim}
 use Rattle.std.proofs.lemmas.Bool.Decides.{eqb_tells}
 use Rattle.wcps_text.specs.Token.{Tok, number, name, dollar, quoted, word, sign}
-use Rattle.wcps_text.specs.Lexing.{is_name, Reads, numeral, plain, reserved, marked, text_between, one_byte, two_bytes, Piece, Lexed, at_end, past_space, past_token, tokens_of}
+use Rattle.wcps_text.specs.Lexing.{is_word, Reads, numeral, plain, reserved, marked, text_between, one_byte, two_bytes, Piece, Lexed, at_end, past_space, past_token, tokens_of}
 use Rattle.wcps_text.proofs.Fronts.{letter_low}
 use Rattle.wcps_print.specs.Printing.{name_token}
 
@@ -43,7 +43,7 @@ proper_lexed (past_space blank h) = proper_lexed h
 proper_lexed (past_token longest h) = (proper_read longest.reads, proper_lexed h)
 
 name_first : {w x : List ℕ} → Reads w (Ok (name x)) → get_or x 0 0 ≡ 36 → ⊥
-name_first (plain (is_name {c} {cs} begin more) short free) e = omega (arith, letter_low c begin)
+name_first (plain (is_word {c} {cs} begin more) short free) e = omega (arith, letter_low c begin)
 
 dollar_first : {w x : List ℕ} → Reads w (Ok (dollar x)) → get_or x 0 0 ≡ 36
 dollar_first (marked is short) = refl

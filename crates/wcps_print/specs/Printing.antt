@@ -3,15 +3,19 @@ use Rattle.std.specs.Prelude.{◌≡◌, ℕ, suc, ℤ, pos, negsuc, List, [], �
 use Rattle.wcps_text.specs.declared.token.Symbol.{Symbol}
 use Rattle.wcps_text.specs.declared.token.Symbol.TheVariants as signs
 use Rattle.wcps_text.specs.declared.token.Keyword.TheVariants as words
-use Rattle.wcps_text.specs.declared.tree.UnaryOp.{UnaryOp}
-use Rattle.wcps_text.specs.declared.tree.UnaryOp.TheVariants as unaries
+use Rattle.wcps_text.specs.declared.operator.UnaryOperator.{UnaryOperator}
+use Rattle.wcps_text.specs.declared.operator.UnaryOperator.TheVariants as unaries
+use Rattle.wcps_text.specs.declared.operator.BinaryOperator.{BinaryOperator}
+use Rattle.wcps_text.specs.declared.operator.BinaryOperator.TheVariants as binaries
+use Rattle.wcps_text.specs.declared.operator.Aggregate.{Aggregate}
+use Rattle.wcps_text.specs.declared.operator.Aggregate.TheVariants as aggregates
 use Rattle.wcps_text.specs.declared.tree.ListItem.{ListItem}
 use Rattle.wcps_text.specs.declared.tree.ListItem.TheVariants as list_items
 use Rattle.wcps_text.specs.Token.{Tok, number, name, dollar, quoted, word, sign}
 use Rattle.wcps_text.specs.Tree as tree
 use Rattle.wcps_text.specs.Tree.{Tree, Parts, no_parts, part, Subs, no_subs, sub, PlaceTree, trim, at, IntervalTree, bounds, domain, Iters, no_iters, iter, Condition, always, only, BindingTree, ItemTree, encode, plain, QueryTree}
 use Rattle.wcps_text.specs.Lexing.{keyword_text, symbol_text}
-use Rattle.wcps_text.specs.Grammar.{binary_token, condense_token, reduce_word, truth_word}
+use Rattle.wcps_text.specs.Grammar.{binary_token, truth_word}
 
 -- the bytes of a token
 abbrev pub bytes_of : Tok → List ℕ
@@ -40,11 +44,44 @@ abbrev pub int_tokens : ℤ → List Tok → List Tok
 int_tokens (pos n) rest = number n ∷ rest
 int_tokens (negsuc n) rest = sign signs.Minus ∷ number (suc n) ∷ rest
 
-abbrev pub unary_token : UnaryOp → Tok
+abbrev pub unary_token : UnaryOperator → Tok
 unary_token unaries.Negate = sign signs.Minus
 unary_token unaries.Plus = sign signs.Plus
 unary_token unaries.Not = word words.Not
-unary_token unaries.Abs = word words.Abs
+unary_token unaries.Absolute = word words.Abs
+
+-- an operator between two operands in parentheses
+abbrev pub between_tokens : BinaryOperator → (List Tok → List Tok) → (List Tok → List Tok) → List Tok → List Tok
+between_tokens op a b rest = sign signs.LeftParen ∷ a (sign signs.RightParen ∷ binary_token op ∷ sign signs.LeftParen ∷ b (sign signs.RightParen ∷ rest))
+
+abbrev pub bit_tokens : (List Tok → List Tok) → (List Tok → List Tok) → List Tok → List Tok
+bit_tokens a b rest = word words.Bit ∷ sign signs.LeftParen ∷ a (sign signs.Comma ∷ b (sign signs.RightParen ∷ rest))
+
+abbrev pub binary_tokens : BinaryOperator → (List Tok → List Tok) → (List Tok → List Tok) → List Tok → List Tok
+binary_tokens binaries.Bit a b rest = bit_tokens a b rest
+binary_tokens op a b rest = between_tokens op a b rest
+
+-- a reduction's word; a product has none, and no query is spelled with it, so any token serves
+abbrev pub reduce_token : Aggregate → Tok
+reduce_token aggregates.Sum = word words.Add
+reduce_token aggregates.Product = sign signs.Star
+reduce_token aggregates.Greatest = word words.Max
+reduce_token aggregates.Least = word words.Min
+reduce_token aggregates.Every = word words.All
+reduce_token aggregates.Any = word words.Some
+reduce_token aggregates.Count = word words.Count
+reduce_token aggregates.Average = word words.Avg
+
+-- what a condenser joins its values by; a count and an average have no token there, so any one serves
+abbrev pub condense_token : Aggregate → Tok
+condense_token aggregates.Sum = sign signs.Plus
+condense_token aggregates.Product = sign signs.Star
+condense_token aggregates.Greatest = word words.Max
+condense_token aggregates.Least = word words.Min
+condense_token aggregates.Every = word words.And
+condense_token aggregates.Any = word words.Or
+condense_token aggregates.Count = word words.Count
+condense_token aggregates.Average = word words.Avg
 
 -- before all things of a list but the first
 abbrev pub separator : Bool → Symbol → List Tok → List Tok
@@ -67,9 +104,8 @@ unfoldable mutual
   expr_tokens (tree.truth b) rest = word (truth_word b) ∷ rest
   expr_tokens (tree.variable x) rest = name_token x ∷ rest
   expr_tokens (tree.unary op e) rest = unary_token op ∷ sign signs.LeftParen ∷ expr_tokens e (sign signs.RightParen ∷ rest)
-  expr_tokens (tree.binary op a b) rest = sign signs.LeftParen ∷ expr_tokens a (sign signs.RightParen ∷ binary_token op ∷ sign signs.LeftParen ∷ expr_tokens b (sign signs.RightParen ∷ rest))
-  expr_tokens (tree.bit a b) rest = word words.Bit ∷ sign signs.LeftParen ∷ expr_tokens a (sign signs.Comma ∷ expr_tokens b (sign signs.RightParen ∷ rest))
-  expr_tokens (tree.reduce op e) rest = word (reduce_word op) ∷ sign signs.LeftParen ∷ expr_tokens e (sign signs.RightParen ∷ rest)
+  expr_tokens (tree.binary op a b) rest = binary_tokens op (expr_tokens a) (expr_tokens b) rest
+  expr_tokens (tree.reduce op e) rest = reduce_token op ∷ sign signs.LeftParen ∷ expr_tokens e (sign signs.RightParen ∷ rest)
   expr_tokens (tree.parts ps) rest = sign signs.LeftBrace ∷ parts_tokens true ps (sign signs.RightBrace ∷ rest)
   expr_tokens (tree.value_list is xs) rest = head_tokens (iters_tokens true is (word words.Value ∷ word words.List ∷ sign signs.Less ∷ items_tokens true xs (sign signs.Greater ∷ rest)))
   expr_tokens (tree.field e x) rest = sign signs.LeftParen ∷ expr_tokens e (sign signs.RightParen ∷ sign signs.Dot ∷ name_token x ∷ rest)

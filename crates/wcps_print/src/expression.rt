@@ -12,7 +12,10 @@ use crate::words::{
     put_separator, put_symbol, put_truth, put_unary_op, put_word,
 };
 use std::alloc::AllocError;
-use wcps_text::{Expr, Interval, Iter, Keyword, ListItem, Part, Place, Sub, Symbol, UnaryOp};
+use wcps_text::{
+    BinaryOperator, Expr, Interval, Iter, Keyword, ListItem, Part, Place, Sub, Symbol,
+    UnaryOperator,
+};
 
 /// An expression.
 #[cycle(printing)]
@@ -25,17 +28,17 @@ pub fn put_expr(out: &mut String, expr: &Expr) -> Result<(), AllocError>
         Expr::Variable(name) => put_name(out, name),
         Expr::Unary(op, operand) => put_unary(out, *op, operand),
         Expr::Binary(op, left, right) => {
+            if *op == BinaryOperator::Bit {
+                put_word(out, Keyword::Bit)?;
+                put_symbol(out, Symbol::LeftParen)?;
+                put_expr(out, left)?;
+                put_symbol(out, Symbol::Comma)?;
+                put_expr(out, right)?;
+                return put_symbol(out, Symbol::RightParen);
+            }
             put_grouped(out, left)?;
             put_binary(out, *op)?;
             put_grouped(out, right)
-        }
-        Expr::Bit(value, place) => {
-            put_word(out, Keyword::Bit)?;
-            put_symbol(out, Symbol::LeftParen)?;
-            put_expr(out, value)?;
-            put_symbol(out, Symbol::Comma)?;
-            put_expr(out, place)?;
-            put_symbol(out, Symbol::RightParen)
         }
         Expr::Reduce(op, value) => {
             put_reduce(out, *op)?;
@@ -99,7 +102,7 @@ pub fn put_condition(out: &mut String, condition: &Option<Box<Expr>>) -> Result<
 }
 
 #[cycle(printing)]
-fn put_unary(out: &mut String, op: UnaryOp, operand: &Expr) -> Result<(), AllocError>
+fn put_unary(out: &mut String, op: UnaryOperator, operand: &Expr) -> Result<(), AllocError>
     ensures { OnOk result (Puts (string_bytes out.old) (expr_tokens (tree.unary op (view operand.now))) (string_bytes out.new)) }
 {
     put_unary_op(out, op)?;

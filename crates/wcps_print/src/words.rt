@@ -1,14 +1,14 @@
 //! Single tokens, a space behind each: so the text is cut into just these tokens again.
 
 ghost use Rattle.std.specs.Prelude.{◌≡◌, ◌++◌, ◌∷◌, ◌<◌, ◌^◌, [], codes, string_bytes, OnOk};
-ghost use Rattle.wcps_text.specs.Grammar.{binary_token, condense_token, reduce_word, truth_word};
+ghost use Rattle.wcps_text.specs.Grammar.{binary_token, truth_word};
 ghost use Rattle.wcps_text.specs.Token as tokens;
 ghost use Rattle.wcps_text.specs.Token.{sign, word};
-ghost use Rattle.wcps_print.specs.Printing.{int_tokens, name_token, separator, unary_token, Puts};
+ghost use Rattle.wcps_print.specs.Printing.{int_tokens, name_token, separator, unary_token, reduce_token, condense_token, Puts};
 
 use itoa::Buffer;
 use std::alloc::AllocError;
-use wcps_text::{BinaryOp, CondenseOp, Keyword, QueryName, ReduceOp, Symbol, UnaryOp};
+use wcps_text::{Aggregate, BinaryOperator, Keyword, QueryName, Symbol, UnaryOperator};
 
 fn put(out: &mut String, text: &str) -> Result<(), AllocError>
     ensures { OnOk result (string_bytes out.new ≡ string_bytes out.old ++ text.now ++ 32 ∷ []) }
@@ -86,63 +86,67 @@ pub fn put_truth(out: &mut String, truth: bool) -> Result<(), AllocError>
 }
 
 /// An operator before its operand.
-pub fn put_unary_op(out: &mut String, op: UnaryOp) -> Result<(), AllocError>
+pub fn put_unary_op(out: &mut String, op: UnaryOperator) -> Result<(), AllocError>
     ensures { OnOk result (Puts (string_bytes out.old) (λ rest. unary_token op ∷ rest) (string_bytes out.new)) }
 {
     match op {
-        UnaryOp::Negate => put_symbol(out, Symbol::Minus),
-        UnaryOp::Plus => put_symbol(out, Symbol::Plus),
-        UnaryOp::Not => put_word(out, Keyword::Not),
-        UnaryOp::Abs => put_word(out, Keyword::Abs),
+        UnaryOperator::Negate => put_symbol(out, Symbol::Minus),
+        UnaryOperator::Plus => put_symbol(out, Symbol::Plus),
+        UnaryOperator::Not => put_word(out, Keyword::Not),
+        UnaryOperator::Absolute => put_word(out, Keyword::Abs),
     }
 }
 
-/// An operator between its operands.
-pub fn put_binary(out: &mut String, op: BinaryOp) -> Result<(), AllocError>
+/// The token of an operator on two operands.
+pub fn put_binary(out: &mut String, op: BinaryOperator) -> Result<(), AllocError>
     ensures { OnOk result (Puts (string_bytes out.old) (λ rest. binary_token op ∷ rest) (string_bytes out.new)) }
 {
     match op {
-        BinaryOp::Multiply => put_symbol(out, Symbol::Star),
-        BinaryOp::Divide => put_symbol(out, Symbol::Slash),
-        BinaryOp::Add => put_symbol(out, Symbol::Plus),
-        BinaryOp::Subtract => put_symbol(out, Symbol::Minus),
-        BinaryOp::Less => put_symbol(out, Symbol::Less),
-        BinaryOp::LessEqual => put_symbol(out, Symbol::LessEqual),
-        BinaryOp::Greater => put_symbol(out, Symbol::Greater),
-        BinaryOp::GreaterEqual => put_symbol(out, Symbol::GreaterEqual),
-        BinaryOp::Equal => put_symbol(out, Symbol::Equal),
-        BinaryOp::NotEqual => put_symbol(out, Symbol::NotEqual),
-        BinaryOp::And => put_word(out, Keyword::And),
-        BinaryOp::Or => put_word(out, Keyword::Or),
-        BinaryOp::Xor => put_word(out, Keyword::Xor),
+        BinaryOperator::Multiply => put_symbol(out, Symbol::Star),
+        BinaryOperator::Divide => put_symbol(out, Symbol::Slash),
+        BinaryOperator::Add => put_symbol(out, Symbol::Plus),
+        BinaryOperator::Subtract => put_symbol(out, Symbol::Minus),
+        BinaryOperator::Less => put_symbol(out, Symbol::Less),
+        BinaryOperator::LessEqual => put_symbol(out, Symbol::LessEqual),
+        BinaryOperator::Greater => put_symbol(out, Symbol::Greater),
+        BinaryOperator::GreaterEqual => put_symbol(out, Symbol::GreaterEqual),
+        BinaryOperator::Equal => put_symbol(out, Symbol::Equal),
+        BinaryOperator::NotEqual => put_symbol(out, Symbol::NotEqual),
+        BinaryOperator::And => put_word(out, Keyword::And),
+        BinaryOperator::Or => put_word(out, Keyword::Or),
+        BinaryOperator::Xor => put_word(out, Keyword::Xor),
+        BinaryOperator::Bit => put_word(out, Keyword::Bit),
     }
 }
 
-/// A reduction's word.
-pub fn put_reduce(out: &mut String, op: ReduceOp) -> Result<(), AllocError>
-    ensures { OnOk result (Puts (string_bytes out.old) (λ rest. word (reduce_word op) ∷ rest) (string_bytes out.new)) }
+/// A reduction's word. No query is spelled with a product of all values: its sign stands there.
+pub fn put_reduce(out: &mut String, op: Aggregate) -> Result<(), AllocError>
+    ensures { OnOk result (Puts (string_bytes out.old) (λ rest. reduce_token op ∷ rest) (string_bytes out.new)) }
 {
     match op {
-        ReduceOp::Count => put_word(out, Keyword::Count),
-        ReduceOp::Some => put_word(out, Keyword::Some),
-        ReduceOp::All => put_word(out, Keyword::All),
-        ReduceOp::Add => put_word(out, Keyword::Add),
-        ReduceOp::Avg => put_word(out, Keyword::Avg),
-        ReduceOp::Min => put_word(out, Keyword::Min),
-        ReduceOp::Max => put_word(out, Keyword::Max),
+        Aggregate::Sum => put_word(out, Keyword::Add),
+        Aggregate::Product => put_symbol(out, Symbol::Star),
+        Aggregate::Greatest => put_word(out, Keyword::Max),
+        Aggregate::Least => put_word(out, Keyword::Min),
+        Aggregate::Every => put_word(out, Keyword::All),
+        Aggregate::Any => put_word(out, Keyword::Some),
+        Aggregate::Count => put_word(out, Keyword::Count),
+        Aggregate::Average => put_word(out, Keyword::Avg),
     }
 }
 
-/// What a condenser joins its values by.
-pub fn put_condense(out: &mut String, op: CondenseOp) -> Result<(), AllocError>
+/// What a condenser joins its values by. No query is spelled with a count or an average there: their words stand there.
+pub fn put_condense(out: &mut String, op: Aggregate) -> Result<(), AllocError>
     ensures { OnOk result (Puts (string_bytes out.old) (λ rest. condense_token op ∷ rest) (string_bytes out.new)) }
 {
     match op {
-        CondenseOp::Add => put_symbol(out, Symbol::Plus),
-        CondenseOp::Multiply => put_symbol(out, Symbol::Star),
-        CondenseOp::Max => put_word(out, Keyword::Max),
-        CondenseOp::Min => put_word(out, Keyword::Min),
-        CondenseOp::And => put_word(out, Keyword::And),
-        CondenseOp::Or => put_word(out, Keyword::Or),
+        Aggregate::Sum => put_symbol(out, Symbol::Plus),
+        Aggregate::Product => put_symbol(out, Symbol::Star),
+        Aggregate::Greatest => put_word(out, Keyword::Max),
+        Aggregate::Least => put_word(out, Keyword::Min),
+        Aggregate::Every => put_word(out, Keyword::And),
+        Aggregate::Any => put_word(out, Keyword::Or),
+        Aggregate::Count => put_word(out, Keyword::Count),
+        Aggregate::Average => put_word(out, Keyword::Avg),
     }
 }

@@ -8,7 +8,7 @@ use Rattle.wcps_text.specs.declared.token.Symbol.{Symbol}
 use Rattle.wcps_text.specs.declared.error.LexError.{LexError}
 use Rattle.wcps_text.specs.declared.error.LexError.TheVariants as errors
 use Rattle.wcps_text.specs.Token.{Tok, number, quoted, sign}
-use Rattle.wcps_text.specs.Lexing.{is_space, begins_name, continues_name, is_quotable, Every, decimal, single, double, IsName, is_name, IsDigits, is_digits, Reads, numeral, large_numeral, plain, reserved, long_plain, marked, long_marked, text_between, one_byte, two_bytes, IsLongest, Refused, no_form}
+use Rattle.wcps_text.specs.Lexing.{is_space, begins_name, continues_name, is_quotable, Every, decimal, single, double, IsWord, is_word, IsDigits, is_digits, Reads, numeral, large_numeral, plain, reserved, long_plain, marked, long_marked, text_between, one_byte, two_bytes, IsLongest, Refused, no_form}
 use Rattle.wcps_text.specs.Runs.{Stops}
 
 pub ahead : {A : Type 0} {a b : A} {xs ys : List A} → a ∷ xs ≡ b ∷ ys → a ≡ b
@@ -56,11 +56,11 @@ pub record AtMost (b : ℕ) (bs : List ℕ) (n : ℕ) : Type 0 where
   pub ones : (s : Symbol) → single b ≡ Some s → 1 ≤ n
   pub twos : (s : Symbol) (us : List ℕ) → double b ≡ Some s → bs ≡ 61 ∷ us → 2 ≤ n
 
-name_fits : {b n : ℕ} {bs : List ℕ} → AtMost b bs n → (v us : List ℕ) → IsName v → b ∷ bs ≡ v ++ us → length v ≤ n
-name_fits m v us (is_name {c} {cs} begin more) e = m.letters (rw (ahead e) begin) cs us more (behind e)
+name_fits : {b n : ℕ} {bs : List ℕ} → AtMost b bs n → (v us : List ℕ) → IsWord v → b ∷ bs ≡ v ++ us → length v ≤ n
+name_fits m v us (is_word {c} {cs} begin more) e = m.letters (rw (ahead e) begin) cs us more (behind e)
 
-dollar_fits : {b n : ℕ} {bs : List ℕ} → AtMost b bs n → (v us : List ℕ) → IsName v → b ∷ bs ≡ 36 ∷ (v ++ us) → suc (length v) ≤ n
-dollar_fits m v us (is_name {c} {cs} begin more) e = m.dollars (ahead e) c cs us begin more (behind e)
+dollar_fits : {b n : ℕ} {bs : List ℕ} → AtMost b bs n → (v us : List ℕ) → IsWord v → b ∷ bs ≡ 36 ∷ (v ++ us) → suc (length v) ≤ n
+dollar_fits m v us (is_word {c} {cs} begin more) e = m.dollars (ahead e) c cs us begin more (behind e)
 
 digits_fit : {b n : ℕ} {bs : List ℕ} → AtMost b bs n → (v us : List ℕ) → IsDigits v → b ∷ bs ≡ v ++ us → length v ≤ n
 digits_fit m v us (is_digits {d} {ds} begin more) e = m.digits (rw (ahead e) begin) ds us more (behind e)
@@ -144,11 +144,11 @@ pub numeral_at : (ds : List ℕ) (v : ℕ) → v ≡ decimal ds → v < 2 ^ 63 �
 numeral_at ds v same small is = subst (λ (n : ℕ). Reads ds (Ok (number n))) (sym same) (numeral is (subst (λ (n : ℕ). n < 2 ^ 63) same small))
 
 pub name_front : (bytes : List ℕ) (m k : ℕ) (r : Result Tok LexError) → 0 < length bytes → begins_name (get_or bytes 0 0) ≡ true → IsRun continues_name (drop 1 bytes) m → k ≡ suc m
-    → (IsName (take k bytes) → length (take k bytes) ≡ k → Reads (take k bytes) r) → IsLongest (take k bytes) r (drop k bytes) bytes
+    → (IsWord (take k bytes) → length (take k bytes) ≡ k → Reads (take k bytes) r) → IsLongest (take k bytes) r (drop k bytes) bytes
 name_front [] m k r some h run same reads = absurd (omega arith)
 name_front (b ∷ bs) m k r some h run same reads =
-    subst (λ (n : ℕ). (IsName (take n (b ∷ bs)) → length (take n (b ∷ bs)) ≡ n → Reads (take n (b ∷ bs)) r) → IsLongest (take n (b ∷ bs)) r (drop n (b ∷ bs)) (b ∷ bs)) (sym same)
-    (λ form. longest b (suc m) bs r (omega (arith, run.within)) (form (is_name h run.front) (ap suc (length-take-le m bs run.within))) (letter_most b m bs h run.stops)) reads
+    subst (λ (n : ℕ). (IsWord (take n (b ∷ bs)) → length (take n (b ∷ bs)) ≡ n → Reads (take n (b ∷ bs)) r) → IsLongest (take n (b ∷ bs)) r (drop n (b ∷ bs)) (b ∷ bs)) (sym same)
+    (λ form. longest b (suc m) bs r (omega (arith, run.within)) (form (is_word h run.front) (ap suc (length-take-le m bs run.within))) (letter_most b m bs h run.stops)) reads
 
 continues_from_begins : (c : ℕ) → begins_name c ≡ true → continues_name c ≡ true
 continues_from_begins c h = grind (arith, nat_tests)
@@ -164,25 +164,25 @@ dollar_most m bs s = record {
 }
 
 -- a run that begins with the first byte of a name is a name
-run_name : (bs : List ℕ) (m : ℕ) → begins_name (get_or bs 0 0) ≡ true → IsRun continues_name bs m → IsName (take m bs)
+run_name : (bs : List ℕ) (m : ℕ) → begins_name (get_or bs 0 0) ≡ true → IsRun continues_name bs m → IsWord (take m bs)
 run_name [] m h run = absurd cc
 run_name (c ∷ cs) zero h run = absurd (true_false (continues_from_begins c h) run.stops)
-run_name (c ∷ cs) (suc m) h run = is_name h run.front.1
+run_name (c ∷ cs) (suc m) h run = is_word h run.front.1
 
 pub dollar_front : (bytes : List ℕ) (m k : ℕ) (r : Result Tok LexError) → get_or bytes 0 0 ≡ 36 → begins_name (get_or (drop 1 bytes) 0 0) ≡ true → IsRun continues_name (drop 1 bytes) m → k ≡ suc m
-    → ((w : List ℕ) → take k bytes ≡ 36 ∷ w → IsName w → suc (length w) ≡ k → Reads (36 ∷ w) r) → IsLongest (take k bytes) r (drop k bytes) bytes
+    → ((w : List ℕ) → take k bytes ≡ 36 ∷ w → IsWord w → suc (length w) ≡ k → Reads (36 ∷ w) r) → IsLongest (take k bytes) r (drop k bytes) bytes
 dollar_front [] m k r first h run same reads = absurd cc
 dollar_front (b ∷ bs) m k r first h run same reads =
-    subst (λ (n : ℕ). ((w : List ℕ) → take n (b ∷ bs) ≡ 36 ∷ w → IsName w → suc (length w) ≡ n → Reads (36 ∷ w) r) → IsLongest (take n (b ∷ bs)) r (drop n (b ∷ bs)) (b ∷ bs)) (sym same)
-    (subst (λ (a : ℕ). ((w : List ℕ) → take (suc m) (a ∷ bs) ≡ 36 ∷ w → IsName w → suc (length w) ≡ suc m → Reads (36 ∷ w) r) → IsLongest (take (suc m) (a ∷ bs)) r (drop (suc m) (a ∷ bs)) (a ∷ bs)) (sym first)
+    subst (λ (n : ℕ). ((w : List ℕ) → take n (b ∷ bs) ≡ 36 ∷ w → IsWord w → suc (length w) ≡ n → Reads (36 ∷ w) r) → IsLongest (take n (b ∷ bs)) r (drop n (b ∷ bs)) (b ∷ bs)) (sym same)
+    (subst (λ (a : ℕ). ((w : List ℕ) → take (suc m) (a ∷ bs) ≡ 36 ∷ w → IsWord w → suc (length w) ≡ suc m → Reads (36 ∷ w) r) → IsLongest (take (suc m) (a ∷ bs)) r (drop (suc m) (a ∷ bs)) (a ∷ bs)) (sym first)
     (λ form. longest 36 (suc m) bs r (omega (arith, run.within)) (form (take m bs) refl (run_name bs m h run) (ap suc (length-take-le m bs run.within))) (dollar_most m bs run.stops))) reads
 
 reads_some : (v : List ℕ) (q : Result Tok LexError) → Reads v q → 0 < length v
 reads_some v q (numeral (is_digits begin more) small) = omega arith
 reads_some v q (large_numeral (is_digits begin more) large) = omega arith
-reads_some v q (plain (is_name begin more) short free) = omega arith
-reads_some v q (reserved (is_name begin more) short same) = omega arith
-reads_some v q (long_plain (is_name begin more) long) = omega arith
+reads_some v q (plain (is_word begin more) short free) = omega arith
+reads_some v q (reserved (is_word begin more) short same) = omega arith
+reads_some v q (long_plain (is_word begin more) long) = omega arith
 reads_some v q (marked is short) = omega arith
 reads_some v q (long_marked is long) = omega arith
 reads_some v q (text_between cs all same) = rw same (omega arith)

@@ -2,28 +2,13 @@
 use Rattle.std.proofs.Common.{◌≡◌, ℕ, zero, suc, ◌-◌, ◌<◌, ◌≤◌, ⊎_elim, true, false, List, subst, arith}
 use Rattle.std.proofs.Math.Dec.{leb}
 use Rattle.std.proofs.lemmas.Bool.Decides.{leb_tells}
-use Rattle.wcps_text.specs.declared.tree.BinaryOp.{BinaryOp}
-use Rattle.wcps_text.specs.declared.tree.BinaryOp.TheVariants as binaries
+use Rattle.wcps_text.specs.declared.operator.BinaryOperator.{BinaryOperator}
+use Rattle.wcps_text.specs.declared.operator.BinaryOperator.TheVariants as binaries
 use Rattle.wcps_text.specs.Token.{Tok}
 use Rattle.wcps_text.specs.Tree.{Tree}
 use Rattle.wcps_text.specs.Grammar.{rank_of, max_rank, Openness, Spells, tighter}
 
-pub rank_least : (op : BinaryOp) → 0 < rank_of op
-rank_least binaries.Multiply = omega arith
-rank_least binaries.Divide = omega arith
-rank_least binaries.Add = omega arith
-rank_least binaries.Subtract = omega arith
-rank_least binaries.Less = omega arith
-rank_least binaries.LessEqual = omega arith
-rank_least binaries.Greater = omega arith
-rank_least binaries.GreaterEqual = omega arith
-rank_least binaries.Equal = omega arith
-rank_least binaries.NotEqual = omega arith
-rank_least binaries.And = omega arith
-rank_least binaries.Or = omega arith
-rank_least binaries.Xor = omega arith
-
-pub rank_most : (op : BinaryOp) → rank_of op ≤ max_rank
+pub rank_most : (op : BinaryOperator) → rank_of op ≤ max_rank
 rank_most binaries.Multiply = omega arith
 rank_most binaries.Divide = omega arith
 rank_most binaries.Add = omega arith
@@ -37,9 +22,10 @@ rank_most binaries.NotEqual = omega arith
 rank_most binaries.And = omega arith
 rank_most binaries.Or = omega arith
 rank_most binaries.Xor = omega arith
+rank_most binaries.Bit = omega arith
 
-pub rank_suc : (op : BinaryOp) → rank_of op ≡ suc (rank_of op - 1)
-rank_suc op = omega (arith, rank_least op)
+pub rank_suc : (op : BinaryOperator) → 0 < rank_of op → rank_of op ≡ suc (rank_of op - 1)
+rank_suc op some = omega (arith, some)
 
 pub raised : (o : Openness) (q r : ℕ) (ts rest : List Tok) (e : Tree) → q ≤ r → Spells o q ts e rest → Spells o r ts e rest
 raised o zero zero ts rest e le s = s

@@ -1,6 +1,6 @@
 -- What a tree shows whose variant has a list.
 use Rattle.std.proofs.Common.{◌≡◌, Vec, Box, Option, Some, None, Global, refl, ap, ◌∙◌}
-use Rattle.wcps_text.specs.declared.tree.CondenseOp.{CondenseOp}
+use Rattle.wcps_text.specs.declared.operator.Aggregate.{Aggregate}
 use Rattle.wcps_text.specs.declared.tree.ListItem.{ListItem}
 use Rattle.wcps_text.specs.declared.tree.Expr as exprs
 use Rattle.wcps_text.specs.declared.tree.Expr.{Expr, Record', ValueList', Brackets', Coverage', Condense', Row_of-Part, end_of-Part, more_of-Part, items-the_row-Part, Row_of-Sub, end_of-Sub, more_of-Sub, items-the_row-Sub, Row_of-Iter, end_of-Iter, more_of-Iter, items-the_row-Iter}
@@ -56,7 +56,7 @@ view-Coverage v b =
     let row = iters_row (exprs.Coverage v b) in
     ap (λ is. coverage is (view b.value)) (iters_are row.0 row.1 ∙ ap iters_of (exprs.items_hidden-the_row-Iter-1 v))
 
-pub view-Condense : (op : CondenseOp) (v : Vec Iter Global) (o : Option (Box Expr Global)) (b : Box Expr Global) → view (exprs.Condense op v o b) ≡ condense op (iters_of v.items) (condition_of o) (view b.value)
+pub view-Condense : (op : Aggregate) (v : Vec Iter Global) (o : Option (Box Expr Global)) (b : Box Expr Global) → view (exprs.Condense op v o b) ≡ condense op (iters_of v.items) (condition_of o) (view b.value)
 view-Condense op v None b =
     let row = iters_row (exprs.Condense op v None b) in
     ap (λ is. condense op is always (view b.value)) (iters_are row.0 row.1 ∙ ap iters_of (exprs.items_hidden-the_row-Iter-1 v))

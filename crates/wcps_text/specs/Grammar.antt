@@ -3,14 +3,12 @@ use Rattle.std.specs.Prelude.{◌≡◌, ℕ, suc, ℤ, pos, ◌-ℤ◌, List, [
 use Rattle.wcps_text.specs.declared.token.Symbol.TheVariants as signs
 use Rattle.wcps_text.specs.declared.token.Keyword.{Keyword}
 use Rattle.wcps_text.specs.declared.token.Keyword.TheVariants as words
-use Rattle.wcps_text.specs.declared.tree.UnaryOp.{UnaryOp}
-use Rattle.wcps_text.specs.declared.tree.UnaryOp.TheVariants as unaries
-use Rattle.wcps_text.specs.declared.tree.BinaryOp.{BinaryOp}
-use Rattle.wcps_text.specs.declared.tree.BinaryOp.TheVariants as binaries
-use Rattle.wcps_text.specs.declared.tree.ReduceOp.{ReduceOp}
-use Rattle.wcps_text.specs.declared.tree.ReduceOp.TheVariants as reducers
-use Rattle.wcps_text.specs.declared.tree.CondenseOp.{CondenseOp}
-use Rattle.wcps_text.specs.declared.tree.CondenseOp.TheVariants as condensers
+use Rattle.wcps_text.specs.declared.operator.UnaryOperator.{UnaryOperator}
+use Rattle.wcps_text.specs.declared.operator.UnaryOperator.TheVariants as unaries
+use Rattle.wcps_text.specs.declared.operator.BinaryOperator.{BinaryOperator}
+use Rattle.wcps_text.specs.declared.operator.BinaryOperator.TheVariants as binaries
+use Rattle.wcps_text.specs.declared.operator.Aggregate.{Aggregate}
+use Rattle.wcps_text.specs.declared.operator.Aggregate.TheVariants as aggregates
 use Rattle.wcps_text.specs.declared.tree.ListItem.{ListItem}
 use Rattle.wcps_text.specs.declared.tree.ListItem.TheVariants as list_items
 use Rattle.std.specs.Char.{to_ascii_lowercase}
@@ -19,12 +17,13 @@ use Rattle.wcps_text.specs.Tree as tree
 use Rattle.wcps_text.specs.Tree.{Tree, Parts, no_parts, Subs, no_subs, sub, PlaceTree, trim, at, IntervalTree, bounds, domain, Iters, no_iters, iter, Condition, always, only, BindingTree, ItemTree, QueryTree}
 
 -- an operator before its operand
-pub data Prefixes : UnaryOp → Tok → Type 0 where
+pub data Prefixes : UnaryOperator → Tok → Type 0 where
   negate : Prefixes unaries.Negate (sign signs.Minus)
   plus : Prefixes unaries.Plus (sign signs.Plus)
   not : Prefixes unaries.Not (word words.Not)
 
-abbrev pub binary_token : BinaryOp → Tok
+-- the token of an operator; all but `bit` stand between their operands
+abbrev pub binary_token : BinaryOperator → Tok
 binary_token binaries.Multiply = sign signs.Star
 binary_token binaries.Divide = sign signs.Slash
 binary_token binaries.Add = sign signs.Plus
@@ -38,9 +37,11 @@ binary_token binaries.NotEqual = sign signs.NotEqual
 binary_token binaries.And = word words.And
 binary_token binaries.Or = word words.Or
 binary_token binaries.Xor = word words.Xor
+binary_token binaries.Bit = word words.Bit
 
--- how loosely an operator binds: `* /`, then `+ -`, then comparisons, then `and`, then `or xor`
-abbrev pub rank_of : BinaryOp → ℕ
+-- how loosely an operator binds: `* /`, then `+ -`, then comparisons, then `and`, then `or xor`; 0 if it is no operator
+-- between operands
+abbrev pub rank_of : BinaryOperator → ℕ
 rank_of binaries.Multiply = 1
 rank_of binaries.Divide = 1
 rank_of binaries.Add = 2
@@ -54,27 +55,30 @@ rank_of binaries.NotEqual = 3
 rank_of binaries.And = 4
 rank_of binaries.Or = 5
 rank_of binaries.Xor = 5
+rank_of binaries.Bit = 0
 
 -- the loosest
 abbrev pub max_rank : ℕ
 max_rank = 5
 
-abbrev pub reduce_word : ReduceOp → Keyword
-reduce_word reducers.Count = words.Count
-reduce_word reducers.Some = words.Some
-reduce_word reducers.All = words.All
-reduce_word reducers.Add = words.Add
-reduce_word reducers.Avg = words.Avg
-reduce_word reducers.Min = words.Min
-reduce_word reducers.Max = words.Max
+-- the word that makes one value of all values of a coverage
+pub data Reduces : Aggregate → Keyword → Type 0 where
+  to_count : Reduces aggregates.Count words.Count
+  to_any : Reduces aggregates.Any words.Some
+  to_every : Reduces aggregates.Every words.All
+  to_sum : Reduces aggregates.Sum words.Add
+  to_average : Reduces aggregates.Average words.Avg
+  to_least : Reduces aggregates.Least words.Min
+  to_greatest : Reduces aggregates.Greatest words.Max
 
-abbrev pub condense_token : CondenseOp → Tok
-condense_token condensers.Add = sign signs.Plus
-condense_token condensers.Multiply = sign signs.Star
-condense_token condensers.Max = word words.Max
-condense_token condensers.Min = word words.Min
-condense_token condensers.And = word words.And
-condense_token condensers.Or = word words.Or
+-- what a condenser joins its values by
+pub data Condenses : Aggregate → Tok → Type 0 where
+  by_sum : Condenses aggregates.Sum (sign signs.Plus)
+  by_product : Condenses aggregates.Product (sign signs.Star)
+  by_greatest : Condenses aggregates.Greatest (word words.Max)
+  by_least : Condenses aggregates.Least (word words.Min)
+  by_every : Condenses aggregates.Every (word words.And)
+  by_any : Condenses aggregates.Any (word words.Or)
 
 abbrev pub truth_word : Bool → Keyword
 truth_word true = words.True
@@ -112,14 +116,14 @@ mutual
     coverage : {o : Openness} {x : List ℕ} {ts mid rest : List Tok} {is : Iters} {e : Tree}
         → SpellsIters ts is (word words.Values ∷ mid) → Spells o max_rank mid e rest
         → Spells open_ended 0 (word words.Coverage ∷ name x ∷ word words.Over ∷ ts) (tree.coverage is e) rest
-    condense : {o : Openness} {ts mid rest : List Tok} {is : Iters} {c : Condition} {e : Tree} (op : CondenseOp)
+    condense : {o : Openness} {t : Tok} {ts mid rest : List Tok} {is : Iters} {c : Condition} {e : Tree} {op : Aggregate} → Condenses op t
         → SpellsCondition ts is c (word words.Using ∷ mid) → Spells o max_rank mid e rest
-        → Spells open_ended 0 (word words.Condense ∷ condense_token op ∷ word words.Over ∷ ts) (tree.condense op is c e) rest
+        → Spells open_ended 0 (word words.Condense ∷ t ∷ word words.Over ∷ ts) (tree.condense op is c e) rest
     -- what is built by an operator is open where its last operand is
-    unary : {o : Openness} {t : Tok} {ts rest : List Tok} {e : Tree} {op : UnaryOp} → Prefixes op t → Spells o 0 ts e rest → Spells o 0 (t ∷ ts) (tree.unary op e) rest
+    unary : {o : Openness} {t : Tok} {ts rest : List Tok} {e : Tree} {op : UnaryOperator} → Prefixes op t → Spells o 0 ts e rest → Spells o 0 (t ∷ ts) (tree.unary op e) rest
     tighter : {o : Openness} {r : ℕ} {ts rest : List Tok} {e : Tree} → Spells o r ts e rest → Spells o (suc r) ts e rest
     -- operators of one rank group to the left, and nothing open stands to the left of one
-    binary : {o : Openness} {r : ℕ} {ts mid rest : List Tok} {a b : Tree} (op : BinaryOp) → rank_of op ≡ suc r
+    binary : {o : Openness} {r : ℕ} {ts mid rest : List Tok} {a b : Tree} (op : BinaryOperator) → rank_of op ≡ suc r
         → Spells closed (suc r) ts a (binary_token op ∷ mid) → Spells o r mid b rest → Spells o (suc r) ts (tree.binary op a b) rest
 
   -- an expression in parentheses, which leave no node
@@ -131,10 +135,10 @@ mutual
     truth : {b : Bool} {rest : List Tok} → SpellsPost (word (truth_word b) ∷ rest) (tree.truth b) rest
     variable : {ts rest : List Tok} {x : List ℕ} → SpellsVariable ts x rest → SpellsPost ts (tree.variable x) rest
     grouped : {ts rest : List Tok} {e : Tree} → SpellsInParens ts e rest → SpellsPost ts e rest
-    abs : {ts rest : List Tok} {e : Tree} → SpellsInParens ts e rest → SpellsPost (word words.Abs ∷ ts) (tree.unary unaries.Abs e) rest
+    abs : {ts rest : List Tok} {e : Tree} → SpellsInParens ts e rest → SpellsPost (word words.Abs ∷ ts) (tree.unary unaries.Absolute e) rest
     bit : {o p : Openness} {ts mid rest : List Tok} {a b : Tree} → Spells o max_rank ts a (sign signs.Comma ∷ mid) → Spells p max_rank mid b (sign signs.RightParen ∷ rest)
-        → SpellsPost (word words.Bit ∷ sign signs.LeftParen ∷ ts) (tree.bit a b) rest
-    reduce : {ts rest : List Tok} {e : Tree} (op : ReduceOp) → SpellsInParens ts e rest → SpellsPost (word (reduce_word op) ∷ ts) (tree.reduce op e) rest
+        → SpellsPost (word words.Bit ∷ sign signs.LeftParen ∷ ts) (tree.binary binaries.Bit a b) rest
+    reduce : {w : Keyword} {ts rest : List Tok} {e : Tree} {op : Aggregate} → Reduces op w → SpellsInParens ts e rest → SpellsPost (word w ∷ ts) (tree.reduce op e) rest
     parts : {ts rest : List Tok} {ps : Parts} → SpellsParts ts ps (sign signs.RightBrace ∷ rest) → SpellsPost (sign signs.LeftBrace ∷ ts) (tree.parts ps) rest
     value_list : {x : List ℕ} {ts mid rest : List Tok} {is : Iters} {xs : List ListItem}
         → SpellsIters ts is (word words.Value ∷ word words.List ∷ sign signs.Less ∷ mid) → SpellsItems mid xs (sign signs.Greater ∷ rest)

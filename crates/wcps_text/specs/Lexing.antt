@@ -9,6 +9,7 @@ use Rattle.wcps_text.specs.declared.token.Token.{Token}
 use Rattle.wcps_text.specs.declared.error.LexError.{LexError}
 use Rattle.wcps_text.specs.declared.error.LexError.TheVariants as errors
 use Rattle.wcps_text.specs.Token.{Tok, number, name, dollar, quoted, word, sign, tok}
+use Rattle.wcps_text.specs.Limits.{max_name}
 
 -- space, tab, CR and LF
 abbrev pub is_space : ℕ → Bool
@@ -107,8 +108,8 @@ symbol_text signs.Star = codes "*"
 symbol_text signs.Slash = codes "/"
 
 -- a letter or `_`, then letters, digits and `_`
-pub data IsName : List ℕ → Type 0 where
-  is_name : {c : ℕ} {cs : List ℕ} → IsTrue (begins_name c) → Every continues_name cs → IsName (c ∷ cs)
+pub data IsWord : List ℕ → Type 0 where
+  is_word : {c : ℕ} {cs : List ℕ} → IsTrue (begins_name c) → Every continues_name cs → IsWord (c ∷ cs)
 
 pub data IsDigits : List ℕ → Type 0 where
   is_digits : {d : ℕ} {ds : List ℕ} → IsTrue (is_ascii_digit d) → Every is_ascii_digit ds → IsDigits (d ∷ ds)
@@ -117,12 +118,12 @@ pub data IsDigits : List ℕ → Type 0 where
 pub data Reads : List ℕ → Result Tok LexError → Type 0 where
   numeral : {ds : List ℕ} → IsDigits ds → decimal ds < 2 ^ 63 → Reads ds (Ok (number (decimal ds)))
   large_numeral : {ds : List ℕ} → IsDigits ds → 2 ^ 63 ≤ decimal ds → Reads ds (Err errors.NumberTooLarge)
-  plain : {w : List ℕ} → IsName w → length w ≤ 64 → ((k : Keyword) → IsWritten k w → ⊥) → Reads w (Ok (name w))
-  reserved : {w : List ℕ} {k : Keyword} → IsName w → length w ≤ 64 → IsWritten k w → Reads w (Ok (word k))
-  long_plain : {w : List ℕ} → IsName w → 64 < length w → Reads w (Err errors.BadToken)
+  plain : {w : List ℕ} → IsWord w → length w ≤ max_name → ((k : Keyword) → IsWritten k w → ⊥) → Reads w (Ok (name w))
+  reserved : {w : List ℕ} {k : Keyword} → IsWord w → length w ≤ max_name → IsWritten k w → Reads w (Ok (word k))
+  long_plain : {w : List ℕ} → IsWord w → max_name < length w → Reads w (Err errors.BadToken)
   -- the `$` counts
-  marked : {w : List ℕ} → IsName w → length w ≤ 63 → Reads (36 ∷ w) (Ok (dollar (36 ∷ w)))
-  long_marked : {w : List ℕ} → IsName w → 63 < length w → Reads (36 ∷ w) (Err errors.BadToken)
+  marked : {w : List ℕ} → IsWord w → length w < max_name → Reads (36 ∷ w) (Ok (dollar (36 ∷ w)))
+  long_marked : {w : List ℕ} → IsWord w → max_name ≤ length w → Reads (36 ∷ w) (Err errors.BadToken)
   text_between : {w : List ℕ} (cs : List ℕ) → Every is_quotable cs → w ≡ 34 ∷ (cs ++ 34 ∷ []) → Reads w (Ok (quoted w))
   one_byte : {b : ℕ} {s : Symbol} → single b ≡ Some s → Reads (b ∷ []) (Ok (sign s))
   two_bytes : {b : ℕ} {s : Symbol} → double b ≡ Some s → Reads (b ∷ 61 ∷ []) (Ok (sign s))

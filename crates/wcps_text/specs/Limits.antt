@@ -1,10 +1,27 @@
--- How deep brackets stand, how many forms may nest, and how high a tree is.
+-- The limits of a query's text, and what they limit: names, how deep brackets stand, how many forms may nest, and how high a
+-- tree is.
 use Rattle.std.specs.Prelude.{ℕ, ◌+◌, ◌-◌, max, List, [], ◌∷◌}
 use Rattle.wcps_text.specs.declared.token.Symbol.TheVariants as signs
 use Rattle.wcps_text.specs.declared.token.Keyword.TheVariants as words
 use Rattle.wcps_text.specs.Token.{Tok, word, sign}
 use Rattle.wcps_text.specs.Tree as tree
 use Rattle.wcps_text.specs.Tree.{Tree, Parts, no_parts, part, Subs, no_subs, sub, PlaceTree, trim, at, IntervalTree, bounds, domain, Iters, no_iters, iter, Condition, always, only, ItemTree, encode, plain, QueryTree}
+
+-- the greatest length of a name in bytes; the `$` of a variable counts
+abbrev pub max_name : ℕ
+max_name = 64
+
+-- the most brackets that may be open at once
+abbrev pub max_depth : ℕ
+max_depth = 512
+
+-- the most words `condense` and `coverage`
+abbrev pub max_forms : ℕ
+max_forms = 256
+
+-- the greatest height of an expression
+abbrev pub max_height : ℕ
+max_height = 64
 
 -- one more at an opening bracket, one less at a closing one, but not below 0
 abbrev pub depth_behind : ℕ → Tok → ℕ
@@ -39,7 +56,6 @@ abbrev mutual
   height (tree.variable x) = 1
   height (tree.unary op e) = height e + 1
   height (tree.binary op a b) = max (height a) (height b) + 1
-  height (tree.bit a b) = max (height a) (height b) + 1
   height (tree.reduce op e) = height e + 1
   height (tree.parts ps) = parts_height ps + 1
   height (tree.value_list is xs) = iters_height is + 1

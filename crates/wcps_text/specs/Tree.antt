@@ -5,16 +5,15 @@ use Rattle.std.specs.Global.{Global}
 use Rattle.wcps_text.specs.declared.tree.Part.{Part}
 use Rattle.wcps_text.specs.declared.tree.Sub.{Sub}
 use Rattle.wcps_text.specs.declared.tree.Iter.{Iter}
-use Rattle.wcps_text.specs.declared.tree.UnaryOp.{UnaryOp}
-use Rattle.wcps_text.specs.declared.tree.BinaryOp.{BinaryOp}
-use Rattle.wcps_text.specs.declared.tree.ReduceOp.{ReduceOp}
-use Rattle.wcps_text.specs.declared.tree.CondenseOp.{CondenseOp}
+use Rattle.wcps_text.specs.declared.operator.UnaryOperator.{UnaryOperator}
+use Rattle.wcps_text.specs.declared.operator.BinaryOperator.{BinaryOperator}
+use Rattle.wcps_text.specs.declared.operator.Aggregate.{Aggregate}
 use Rattle.wcps_text.specs.declared.tree.ListItem.{ListItem}
 use Rattle.wcps_text.specs.declared.tree.Binding.{Binding}
 use Rattle.wcps_text.specs.declared.tree.Item.{Item}
 use Rattle.wcps_text.specs.declared.tree.Item.TheVariants as items
 use Rattle.wcps_text.specs.declared.tree.Query.{Query}
-use Rattle.wcps_text.specs.declared.tree.Expr.{Expr, Number, Truth, Variable, Unary', Binary', Bit', Reduce', Record', ValueList', Field', Brackets', Coverage', Condense', Row_of-Part, end_of-Part, more_of-Part, Row_of-Sub, end_of-Sub, more_of-Sub, Row_of-Iter, end_of-Iter, more_of-Iter, Held-Expr-Condense-2, None', Some'}
+use Rattle.wcps_text.specs.declared.tree.Expr.{Expr, Number, Truth, Variable, Unary', Binary', Reduce', Record', ValueList', Field', Brackets', Coverage', Condense', Row_of-Part, end_of-Part, more_of-Part, Row_of-Sub, end_of-Sub, more_of-Sub, Row_of-Iter, end_of-Iter, more_of-Iter, Held-Expr-Condense-2, None', Some'}
 use Rattle.wcps_text.specs.declared.tree.Place.{Place}
 use Rattle.wcps_text.specs.declared.tree.Place.TheVariants.{Trim, At'}
 use Rattle.wcps_text.specs.declared.tree.Interval.{Interval}
@@ -26,16 +25,15 @@ mutual
     number : ℕ → Tree
     truth : Bool → Tree
     variable : List ℕ → Tree
-    unary : UnaryOp → Tree → Tree
-    binary : BinaryOp → Tree → Tree → Tree
-    bit : Tree → Tree → Tree
-    reduce : ReduceOp → Tree → Tree
+    unary : UnaryOperator → Tree → Tree
+    binary : BinaryOperator → Tree → Tree → Tree
+    reduce : Aggregate → Tree → Tree
     parts : Parts → Tree
     value_list : Iters → List ListItem → Tree
     field : Tree → List ℕ → Tree
     brackets : Tree → Subs → Tree
     coverage : Iters → Tree → Tree
-    condense : CondenseOp → Iters → Condition → Tree → Tree
+    condense : Aggregate → Iters → Condition → Tree → Tree
 
   -- the named parts of `{..}`
   pub data Parts : Type 0 where
@@ -72,7 +70,6 @@ abbrev mutual
   view (Variable x) = variable x
   view (Unary' op p e) = unary op (view e)
   view (Binary' op p a q b) = binary op (view a) (view b)
-  view (Bit' p a q b) = bit (view a) (view b)
   view (Reduce' op p e) = reduce op (view e)
   view (Record' shape all) = parts (view_parts all)
   view (ValueList' shape all items) = value_list (view_iters all) items.items

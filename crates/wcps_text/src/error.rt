@@ -8,7 +8,7 @@ use std::alloc::{AllocError, AllocFailed};
 /// Why a text was not cut into tokens.
 #[derive(Debug, Drop, thiserror::Error)]
 pub enum LexError {
-    /// Bytes that begin no token, a string without its end, or a name of more than 64 bytes.
+    /// Bytes that begin no token, a string without its end, or a name that is too long.
     #[error("no token is written so")]
     BadToken,
     /// A number above 9223372036854775807.

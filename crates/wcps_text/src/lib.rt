@@ -8,6 +8,7 @@ mod keyword;
 mod lexer;
 mod name;
 mod number;
+mod operator;
 mod piece;
 mod runs;
 mod symbol;
@@ -17,8 +18,6 @@ mod tree;
 pub use error::LexError;
 pub use lexer::lex;
 pub use name::QueryName;
+pub use operator::{Aggregate, BinaryOperator, UnaryOperator};
 pub use token::{Keyword, Kind, Literal, Symbol, Token};
-pub use tree::{
-    BinaryOp, Binding, CondenseOp, Expr, Interval, Item, Iter, ListItem, Part, Place, Query,
-    ReduceOp, Sub, UnaryOp,
-};
+pub use tree::{Binding, Expr, Interval, Item, Iter, ListItem, Part, Place, Query, Sub};

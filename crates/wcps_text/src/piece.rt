@@ -13,7 +13,7 @@ use crate::runs::{Class, run};
 use crate::symbol::{double, single};
 use crate::token::{Kind, Symbol};
 
-/// The greatest length of a name in bytes, its `$` among them.
+/// The greatest length of a name in bytes, its `$` among them: `max_name`.
 const MAX_NAME: usize = 64;
 
 /// The token at the front.

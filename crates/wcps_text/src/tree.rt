@@ -1,61 +1,8 @@
 //! Syntax trees. Parentheses leave no node.
 
 use crate::name::QueryName;
+use crate::operator::{Aggregate, BinaryOperator, UnaryOperator};
 use crate::token::Literal;
-
-/// An operator of one operand.
-#[derive(Clone, Copy, Debug, PartialEq, Eq)]
-pub enum UnaryOp {
-    /// `-e`
-    Negate,
-    /// `+e`
-    Plus,
-    /// `not e`
-    Not,
-    /// `abs(e)`
-    Abs,
-}
-
-/// An operator that stands between its two operands.
-#[derive(Clone, Copy, Debug, PartialEq, Eq)]
-pub enum BinaryOp {
-    Multiply,
-    Divide,
-    Add,
-    Subtract,
-    Less,
-    LessEqual,
-    Greater,
-    GreaterEqual,
-    Equal,
-    NotEqual,
-    And,
-    Or,
-    Xor,
-}
-
-/// What makes one value of all values of a coverage.
-#[derive(Clone, Copy, Debug, PartialEq, Eq)]
-pub enum ReduceOp {
-    Count,
-    Some,
-    All,
-    Add,
-    Avg,
-    Min,
-    Max,
-}
-
-/// What a condenser joins its values by.
-#[derive(Clone, Copy, Debug, PartialEq, Eq)]
-pub enum CondenseOp {
-    Add,
-    Multiply,
-    Max,
-    Min,
-    And,
-    Or,
-}
 
 /// A whole query: `for` its bindings, `where` its condition, `return` its item.
 #[derive(Debug, Drop)]
@@ -87,11 +34,11 @@ pub enum Expr {
     Truth(bool),
     /// A name with or without `$`.
     Variable(QueryName),
-    Unary(UnaryOp, Box<Expr>),
-    Binary(BinaryOp, Box<Expr>, Box<Expr>),
-    /// `bit(value, place)`
-    Bit(Box<Expr>, Box<Expr>),
-    Reduce(ReduceOp, Box<Expr>),
+    Unary(UnaryOperator, Box<Expr>),
+    /// `l op r`, or `bit(l, r)`
+    Binary(BinaryOperator, Box<Expr>, Box<Expr>),
+    /// `add(e)` and its kin: all aggregates but `Product` are spelled.
+    Reduce(Aggregate, Box<Expr>),
     /// `{a: e; b: e}`
     Record(Vec<Part>),
     /// `coverage name over iterators value list <items>`. The name has no effect and leaves no node.
@@ -108,9 +55,9 @@ pub enum Expr {
         iterators: Vec<Iter>,
         body: Box<Expr>,
     },
-    /// `condense op over iterators where condition using body`
+    /// `condense op over iterators where condition using body`: all aggregates but `Count` and `Average` are spelled.
     Condense {
-        op: CondenseOp,
+        op: Aggregate,
         iterators: Vec<Iter>,
         condition: Option<Box<Expr>>,
         body: Box<Expr>,

@@ -1,15 +1,13 @@
 -- How many combinations a typed query has.
-use Rattle.std.proofs.Common.{◌≡◌, ℕ, zero, suc, ◌+◌, ◌*◌, ◌≤◌, Bool, true, false, cond, List, [], ◌∷◌, ◌++◌, length, map, refl, sym, subst, arith, ap, ◌∙◌, length-append}
+use Rattle.std.proofs.Common.{◌≡◌, ℕ, zero, suc, ◌+◌, ◌≤◌, cond, List, [], ◌∷◌, ◌++◌, length, subst, arith, length-append}
 use Rattle.std.specs.Prelude.{nat_eq, nat_lt, Ok, Err}
-use Rattle.std.proofs.lemmas.Bool.{eqb-true}
-use Rattle.std.proofs.lemmas.List.{length-map}
 use Rattle.arr_core.specs.declared.signature.Signature.{Signature}
 use Rattle.wcps_text.specs.Tree.{QueryTree}
 use Rattle.wcps_types.specs.declared.refusal.TypeRefusal.TheVariants.{BadSyntax, TooManyCombinations}
 use Rattle.wcps_types.specs.declared.names.Bound.{Bound}
 use Rattle.wcps_types.specs.Typed.{CombinationTree}
 use Rattle.wcps_types.specs.Shapes.{Answer}
-use Rattle.wcps_types.specs.Bindings.{ChoiceTree, combinations, combination_count, max_combinations, few_combinations, bound_to}
+use Rattle.wcps_types.specs.Bindings.{ChoiceTree, combinations, combination_count, max_combinations, few_combinations}
 use Rattle.wcps_types.specs.Queries.{typ_combination, typ_each}
 use Rattle.wcps_types.proofs.Gives.{Gives, gives-then, gives-any}
 use Rattle.wcps_types.proofs.Choices.{length-combinations}

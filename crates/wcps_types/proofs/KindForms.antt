@@ -7,35 +7,25 @@ use Rattle.arr_core.specs.declared.domain.Axis.{Axis}
 use Rattle.arr_core.specs.declared.field.Field.{Field}
 use Rattle.arr_core.specs.declared.signature.Signature.{Signature}
 use Rattle.arr_core.specs.Domains.{count}
-use Rattle.wcps_text.specs.declared.tree.UnaryOp.{UnaryOp}
-use Rattle.wcps_text.specs.declared.tree.UnaryOp.TheVariants as unaries
-use Rattle.wcps_text.specs.declared.tree.BinaryOp.{BinaryOp}
-use Rattle.wcps_text.specs.declared.tree.BinaryOp.TheVariants as binaries
-use Rattle.wcps_text.specs.declared.tree.ReduceOp.{ReduceOp}
-use Rattle.wcps_text.specs.declared.tree.ReduceOp.TheVariants as reductions
-use Rattle.wcps_text.specs.declared.tree.CondenseOp.{CondenseOp}
-use Rattle.wcps_text.specs.declared.tree.CondenseOp.TheVariants as condensers
+use Rattle.wcps_text.specs.declared.operator.UnaryOperator.{UnaryOperator}
+use Rattle.wcps_text.specs.declared.operator.UnaryOperator.TheVariants as unaries
+use Rattle.wcps_text.specs.declared.operator.BinaryOperator.{BinaryOperator}
+use Rattle.wcps_text.specs.declared.operator.BinaryOperator.TheVariants as binaries
+use Rattle.wcps_text.specs.declared.operator.Aggregate.{Aggregate}
+use Rattle.wcps_text.specs.declared.operator.Aggregate.TheVariants as aggregates
 use Rattle.wcps_text.specs.declared.tree.ListItem.{ListItem}
 use Rattle.wcps_text.specs.declared.tree.ListItem.TheVariants.{Int, Truth}
 use Rattle.wcps_types.specs.declared.names.Bound.{Bound}
-use Rattle.wcps_types.specs.declared.typed.Operation1.{Operation1}
-use Rattle.wcps_types.specs.declared.typed.Operation1.TheVariants as ones
-use Rattle.wcps_types.specs.declared.typed.Operation2.{Operation2}
-use Rattle.wcps_types.specs.declared.typed.Operation2.TheVariants as twos
-use Rattle.wcps_types.specs.declared.typed.Condenser.{Condenser}
-use Rattle.wcps_types.specs.declared.typed.Condenser.TheVariants as kinds
-use Rattle.wcps_types.specs.declared.typed.Reduction.{Reduction}
-use Rattle.wcps_types.specs.declared.typed.Reduction.TheVariants as folds
 use Rattle.wcps_types.specs.Typed.{Typed, number, iterator, cell, unary, binary, scalar, select, bracket, slice, array, listed, condense, condense_where, reduce, condense_of}
 use Rattle.wcps_types.specs.Names.{name_place, bound_place, is_name_of, axis_place}
-use Rattle.wcps_types.specs.Shapes.{SlotTree, ShapeTree, FieldOf, ScalarOf, Answer, then_of, is_scalar, unnamed, only_field, without_domain, only_scalar}
+use Rattle.wcps_types.specs.Shapes.{SlotTree, ShapeTree, FieldOf, ScalarOf, Answer, then_of, is_scalar, only_field, without_domain, only_scalar}
 use Rattle.wcps_types.specs.Variables.{is_boolean, cells_from, coverage_at, bound_at, bound_of, iterator_or, variable}
-use Rattle.wcps_types.specs.Operators.{selected, made_of, negated, unary as unary_of, are_same, OperandTrees, joined, combined, numeric, logical, binary as binary_of, bit, reduced_integer, integer_reduction, reduced_boolean, boolean_reduction, reduction}
-use Rattle.wcps_types.specs.Brackets.{BoundsOf, bounds_of, CutTree, BracketTree, trimmed_at, with_trim, integer_tree, position_of, with_position, sliced_slot, cut_between, cut_at, all_cut_out, bracketed_slot, closed}
+use Rattle.wcps_types.specs.Operators.{selected, made_of, negated, unary as unary_of, are_same, OperandTrees, joined, binary_shape, numeric, logical, binary as binary_of, reduced_integer, integer_reduction, reduced_boolean, boolean_reduction, reduction}
+use Rattle.wcps_types.specs.Brackets.{BoundsOf, bounds_of, CutTree, BracketTree, trimmed_at, with_trim, integer_tree, position_of, sliced_slot, cut_between, cut_at, all_cut_out, bracketed_slot, closed}
 use Rattle.wcps_types.specs.Records.{PieceTree, PieceTrees, with_part, finished_part}
-use Rattle.wcps_types.specs.Boxes.{integers_condensed, booleans_condensed, condensed, condition_of, is_truth, item_number, listed_on, has_kind, other_kind, first_is_truth, value_list}
-use Rattle.wcps_types.specs.Kinds.{meets, is_bit, are_kept, kind_of, cell_kind, meets_some, takes1, gives1, takes2, gives2, is_logical, takes_boolean, gives_boolean, HasKind, ConditionIsBoolean}
-use Rattle.wcps_types.proofs.Gives.{Gives, gives-then, gives-cond, gives-any}
+use Rattle.wcps_types.specs.Boxes.{integers_condensed, booleans_condensed, condensed, condition_of, item_number, listed_on, has_kind, first_is_truth, value_list}
+use Rattle.wcps_types.specs.Kinds.{meets, is_bit, are_kept, kind_of, cell_kind, meets_some, takes1, gives1, takes2, gives2, takes_boolean, gives_boolean, HasKind, ConditionIsBoolean}
+use Rattle.wcps_types.proofs.Gives.{Gives, gives-then, gives-cond}
 
 -- each field of a value has its kind
 abbrev pub SlotsHaveKinds : List Signature → List SlotTree → Type 0
@@ -139,15 +129,15 @@ selected-kinds cs x axes (s ∷ more) h =
 
 -- ---- operators
 
-made-kinds : (cs : List Signature) (op : Operation1) (s : ShapeTree) → takes1 op ≡ None → gives1 op ≡ false → ShapeHasKinds cs s → Gives (ShapeHasKinds cs) (then_of (only_field s.domain s.fields) (made_of op))
+made-kinds : (cs : List Signature) (op : UnaryOperator) (s : ShapeTree) → takes1 op ≡ None → gives1 op ≡ false → ShapeHasKinds cs s → Gives (ShapeHasKinds cs) (then_of (only_field s.domain s.fields) (made_of op))
 made-kinds cs op s e g h =
     gives-then (FieldHasKind cs) (ShapeHasKinds cs) (only_field s.domain s.fields) (made_of op) (field-kind cs s.domain s.fields h)
     (λ f k. ((subst (HasKind cs f.tree) (sym e) (any-kind cs f.tree f.boolean k), ap (meets (Some false)) g), tt))
 
-pub unary-kinds : (cs : List Signature) (op : UnaryOp) (s : ShapeTree) → ShapeHasKinds cs s → Gives (ShapeHasKinds cs) (unary_of op s)
-unary-kinds cs unaries.Negate s h = made-kinds cs ones.Negate s refl refl h
-unary-kinds cs unaries.Plus s h = made-kinds cs ones.Plus s refl refl h
-unary-kinds cs unaries.Abs s h = made-kinds cs ones.Absolute s refl refl h
+pub unary-kinds : (cs : List Signature) (op : UnaryOperator) (s : ShapeTree) → ShapeHasKinds cs s → Gives (ShapeHasKinds cs) (unary_of op s)
+unary-kinds cs unaries.Negate s h = made-kinds cs unaries.Negate s refl refl h
+unary-kinds cs unaries.Plus s h = made-kinds cs unaries.Plus s refl refl h
+unary-kinds cs unaries.Absolute s h = made-kinds cs unaries.Absolute s refl refl h
 unary-kinds cs unaries.Not s h =
     gives-then (FieldHasKind cs) (ShapeHasKinds cs) (only_field s.domain s.fields) negated (field-kind cs s.domain s.fields h)
     (λ f k. gives-cond (ShapeHasKinds cs) f.boolean _ _ (λ e. ((of-kind cs f.tree f.boolean true e k, refl), tt)) (λ _. tt))
@@ -162,12 +152,12 @@ joined-kinds cs k l r h i =
     (λ _. gives-cond (OperandsHave cs k) (is_scalar r.domain && not (is_scalar l.domain)) _ _ (λ _. (h, i))
     (λ _. gives-cond (OperandsHave cs k) (are_same l.domain r.domain) _ _ (λ _. (h, i)) (λ _. tt)))
 
-combined-kinds : (cs : List Signature) (op : Operation2) (b : Bool) (l r : FieldOf) → gives2 op ≡ b → HasKind cs l.tree (takes2 op) → HasKind cs r.tree (takes2 op) → Gives (ShapeHasKinds cs) (then_of (joined l r) (combined op b))
+combined-kinds : (cs : List Signature) (op : BinaryOperator) (b : Bool) (l r : FieldOf) → gives2 op ≡ b → HasKind cs l.tree (takes2 op) → HasKind cs r.tree (takes2 op) → Gives (ShapeHasKinds cs) (then_of (joined l r) (binary_shape op b))
 combined-kinds cs op b l r g h i =
-    gives-then (OperandsHave cs (takes2 op)) (ShapeHasKinds cs) (joined l r) (combined op b) (joined-kinds cs (takes2 op) l r h i)
+    gives-then (OperandsHave cs (takes2 op)) (ShapeHasKinds cs) (joined l r) (binary_shape op b) (joined-kinds cs (takes2 op) l r h i)
     (λ o k. ((k.0, k.1, ap (meets (Some b)) g ∙ meets-own b), tt))
 
-numeric-kinds : (cs : List Signature) (op : Operation2) (b : Bool) (l r : ShapeTree) → takes2 op ≡ None → gives2 op ≡ b → ShapeHasKinds cs l → ShapeHasKinds cs r → Gives (ShapeHasKinds cs) (numeric op b l r)
+numeric-kinds : (cs : List Signature) (op : BinaryOperator) (b : Bool) (l r : ShapeTree) → takes2 op ≡ None → gives2 op ≡ b → ShapeHasKinds cs l → ShapeHasKinds cs r → Gives (ShapeHasKinds cs) (numeric op b l r)
 numeric-kinds cs op b l r e g h i =
     gives-then (FieldHasKind cs) (ShapeHasKinds cs) (only_field l.domain l.fields) _ (field-kind cs l.domain l.fields h)
     (λ f p. gives-then (FieldHasKind cs) (ShapeHasKinds cs) (only_field r.domain r.fields) _ (field-kind cs r.domain r.fields i)
@@ -178,7 +168,7 @@ both-true true true e = (refl, refl)
 both-true true false e = absurd (true≢false e)
 both-true false b e = absurd (true≢false e)
 
-logical-kinds : (cs : List Signature) (op : Operation2) (l r : ShapeTree) → takes2 op ≡ Some true → gives2 op ≡ true → ShapeHasKinds cs l → ShapeHasKinds cs r → Gives (ShapeHasKinds cs) (logical op l r)
+logical-kinds : (cs : List Signature) (op : BinaryOperator) (l r : ShapeTree) → takes2 op ≡ Some true → gives2 op ≡ true → ShapeHasKinds cs l → ShapeHasKinds cs r → Gives (ShapeHasKinds cs) (logical op l r)
 logical-kinds cs op l r e g h i =
     gives-then (FieldHasKind cs) (ShapeHasKinds cs) (only_field l.domain l.fields) _ (field-kind cs l.domain l.fields h)
     (λ f p. gives-then (FieldHasKind cs) (ShapeHasKinds cs) (only_field r.domain r.fields) _ (field-kind cs r.domain r.fields i)
@@ -186,64 +176,65 @@ logical-kinds cs op l r e g h i =
     (λ t. let two = both-true f.boolean m.boolean t in
     combined-kinds cs op true f m g (subst (HasKind cs f.tree) (sym e) (of-kind cs f.tree f.boolean true two.0 p)) (subst (HasKind cs m.tree) (sym e) (of-kind cs m.tree m.boolean true two.1 q)))))
 
-pub binary-kinds : (cs : List Signature) (op : BinaryOp) (l r : ShapeTree) → ShapeHasKinds cs l → ShapeHasKinds cs r → Gives (ShapeHasKinds cs) (binary_of op l r)
-binary-kinds cs binaries.Multiply l r h k = numeric-kinds cs twos.Multiply false l r refl refl h k
-binary-kinds cs binaries.Divide l r h k = numeric-kinds cs twos.Divide false l r refl refl h k
-binary-kinds cs binaries.Add l r h k = numeric-kinds cs twos.Add false l r refl refl h k
-binary-kinds cs binaries.Subtract l r h k = numeric-kinds cs twos.Subtract false l r refl refl h k
-binary-kinds cs binaries.Less l r h k = numeric-kinds cs twos.Less true l r refl refl h k
-binary-kinds cs binaries.LessEqual l r h k = numeric-kinds cs twos.LessEqual true l r refl refl h k
-binary-kinds cs binaries.Greater l r h k = numeric-kinds cs twos.Greater true l r refl refl h k
-binary-kinds cs binaries.GreaterEqual l r h k = numeric-kinds cs twos.GreaterEqual true l r refl refl h k
-binary-kinds cs binaries.Equal l r h k = numeric-kinds cs twos.Equal true l r refl refl h k
-binary-kinds cs binaries.NotEqual l r h k = numeric-kinds cs twos.NotEqual true l r refl refl h k
-binary-kinds cs binaries.And l r h k = logical-kinds cs twos.And l r refl refl h k
-binary-kinds cs binaries.Or l r h k = logical-kinds cs twos.Or l r refl refl h k
-binary-kinds cs binaries.Xor l r h k = logical-kinds cs twos.Xor l r refl refl h k
-
-pub bit-kinds : (cs : List Signature) (l r : ShapeTree) → ShapeHasKinds cs l → ShapeHasKinds cs r → Gives (ShapeHasKinds cs) (bit l r)
-bit-kinds cs l r h k = numeric-kinds cs twos.Bit true l r refl refl h k
+pub binary-kinds : (cs : List Signature) (op : BinaryOperator) (l r : ShapeTree) → ShapeHasKinds cs l → ShapeHasKinds cs r → Gives (ShapeHasKinds cs) (binary_of op l r)
+binary-kinds cs binaries.Multiply l r h k = numeric-kinds cs binaries.Multiply false l r refl refl h k
+binary-kinds cs binaries.Divide l r h k = numeric-kinds cs binaries.Divide false l r refl refl h k
+binary-kinds cs binaries.Add l r h k = numeric-kinds cs binaries.Add false l r refl refl h k
+binary-kinds cs binaries.Subtract l r h k = numeric-kinds cs binaries.Subtract false l r refl refl h k
+binary-kinds cs binaries.Less l r h k = numeric-kinds cs binaries.Less true l r refl refl h k
+binary-kinds cs binaries.LessEqual l r h k = numeric-kinds cs binaries.LessEqual true l r refl refl h k
+binary-kinds cs binaries.Greater l r h k = numeric-kinds cs binaries.Greater true l r refl refl h k
+binary-kinds cs binaries.GreaterEqual l r h k = numeric-kinds cs binaries.GreaterEqual true l r refl refl h k
+binary-kinds cs binaries.Equal l r h k = numeric-kinds cs binaries.Equal true l r refl refl h k
+binary-kinds cs binaries.NotEqual l r h k = numeric-kinds cs binaries.NotEqual true l r refl refl h k
+binary-kinds cs binaries.And l r h k = logical-kinds cs binaries.And l r refl refl h k
+binary-kinds cs binaries.Or l r h k = logical-kinds cs binaries.Or l r refl refl h k
+binary-kinds cs binaries.Xor l r h k = logical-kinds cs binaries.Xor l r refl refl h k
+binary-kinds cs binaries.Bit l r h k = numeric-kinds cs binaries.Bit true l r refl refl h k
 
 -- ---- reductions and condensers
 
-integer-kinds : (cs : List Signature) (op : Reduction) (s : ShapeTree) → takes_boolean op ≡ false → gives_boolean op ≡ false → ShapeHasKinds cs s → Gives (ShapeHasKinds cs) (integer_reduction op s)
+integer-kinds : (cs : List Signature) (op : Aggregate) (s : ShapeTree) → takes_boolean op ≡ false → gives_boolean op ≡ false → ShapeHasKinds cs s → Gives (ShapeHasKinds cs) (integer_reduction op s)
 integer-kinds cs op s e g h =
     gives-then (FieldHasKind cs) (ShapeHasKinds cs) (only_field s.domain s.fields) (reduced_integer op) (field-kind cs s.domain s.fields h)
     (λ f k. gives-cond (ShapeHasKinds cs) f.boolean _ _ (λ _. tt) (λ t. ((of-kind cs f.tree f.boolean (takes_boolean op) (t ∙ sym e) k, ap (meets (Some false)) g), tt)))
 
-boolean-kinds : (cs : List Signature) (op : Reduction) (b : Bool) (s : ShapeTree) → takes_boolean op ≡ true → gives_boolean op ≡ b → ShapeHasKinds cs s → Gives (ShapeHasKinds cs) (boolean_reduction op b s)
+boolean-kinds : (cs : List Signature) (op : Aggregate) (b : Bool) (s : ShapeTree) → takes_boolean op ≡ true → gives_boolean op ≡ b → ShapeHasKinds cs s → Gives (ShapeHasKinds cs) (boolean_reduction op b s)
 boolean-kinds cs op b s e g h =
     gives-then (FieldHasKind cs) (ShapeHasKinds cs) (only_field s.domain s.fields) (reduced_boolean op b) (field-kind cs s.domain s.fields h)
     (λ f k. gives-cond (ShapeHasKinds cs) f.boolean _ _ (λ t. ((of-kind cs f.tree f.boolean (takes_boolean op) (t ∙ sym e) k, ap (meets (Some b)) g ∙ meets-own b), tt)) (λ _. tt))
 
-pub reduction-kinds : (cs : List Signature) (op : ReduceOp) (s : ShapeTree) → ShapeHasKinds cs s → Gives (ShapeHasKinds cs) (reduction op s)
-reduction-kinds cs reductions.Count s h = boolean-kinds cs folds.Count false s refl refl h
-reduction-kinds cs reductions.Some s h = boolean-kinds cs folds.Some true s refl refl h
-reduction-kinds cs reductions.All s h = boolean-kinds cs folds.All true s refl refl h
-reduction-kinds cs reductions.Add s h = integer-kinds cs folds.Add s refl refl h
-reduction-kinds cs reductions.Avg s h = integer-kinds cs folds.Avg s refl refl h
-reduction-kinds cs reductions.Min s h = integer-kinds cs folds.Min s refl refl h
-reduction-kinds cs reductions.Max s h = integer-kinds cs folds.Max s refl refl h
+pub reduction-kinds : (cs : List Signature) (op : Aggregate) (s : ShapeTree) → ShapeHasKinds cs s → Gives (ShapeHasKinds cs) (reduction op s)
+reduction-kinds cs aggregates.Count s h = boolean-kinds cs aggregates.Count false s refl refl h
+reduction-kinds cs aggregates.Any s h = boolean-kinds cs aggregates.Any true s refl refl h
+reduction-kinds cs aggregates.Every s h = boolean-kinds cs aggregates.Every true s refl refl h
+reduction-kinds cs aggregates.Sum s h = integer-kinds cs aggregates.Sum s refl refl h
+reduction-kinds cs aggregates.Average s h = integer-kinds cs aggregates.Average s refl refl h
+reduction-kinds cs aggregates.Least s h = integer-kinds cs aggregates.Least s refl refl h
+reduction-kinds cs aggregates.Greatest s h = integer-kinds cs aggregates.Greatest s refl refl h
+reduction-kinds cs aggregates.Product s h = integer-kinds cs aggregates.Product s refl refl h
 
-condenser-kinds : (cs : List Signature) (op : Condenser) (box : List Axis) (c : Option Typed) (e : Typed) (b : Bool) → is_logical op ≡ b → ConditionIsBoolean cs c → HasKind cs e (Some b) → HasKind cs (condense_of op box c e) (Some b)
-condenser-kinds cs op box None e b g h k = (subst (λ x. HasKind cs e (Some x)) (sym g) k, ap (meets (Some b)) g ∙ meets-own b)
-condenser-kinds cs op box (Some c) e b g h k = (h, subst (λ x. HasKind cs e (Some x)) (sym g) k, ap (meets (Some b)) g ∙ meets-own b)
+condenser-kinds : (cs : List Signature) (op : Aggregate) (box : List Axis) (c : Option Typed) (e : Typed) (b : Bool) → gives_boolean op ≡ b → ConditionIsBoolean cs c → HasKind cs e (Some (takes_boolean op)) → HasKind cs (condense_of op box c e) (Some b)
+condenser-kinds cs op box None e b g h k = (k, ap (meets (Some b)) g ∙ meets-own b)
+condenser-kinds cs op box (Some c) e b g h k = (h, k, ap (meets (Some b)) g ∙ meets-own b)
 
-integers-kinds : (cs : List Signature) (op : Condenser) (box : List Axis) (c : Option Typed) (s : ScalarOf) → is_logical op ≡ false → ConditionIsBoolean cs c → ScalarHasKind cs s → Gives (ShapeHasKinds cs) (integers_condensed op box c s)
-integers-kinds cs op box c s g h k =
-    gives-cond (ShapeHasKinds cs) s.boolean _ _ (λ _. tt) (λ t. (condenser-kinds cs op box c s.tree false g h (of-kind cs s.tree s.boolean false t k), tt))
+integers-kinds : (cs : List Signature) (op : Aggregate) (box : List Axis) (c : Option Typed) (s : ScalarOf) → takes_boolean op ≡ false → gives_boolean op ≡ false → ConditionIsBoolean cs c → ScalarHasKind cs s → Gives (ShapeHasKinds cs) (integers_condensed op box c s)
+integers-kinds cs op box c s e g h k =
+    gives-cond (ShapeHasKinds cs) s.boolean _ _ (λ _. tt) (λ t. (condenser-kinds cs op box c s.tree false g h (of-kind cs s.tree s.boolean (takes_boolean op) (t ∙ sym e) k), tt))
 
-booleans-kinds : (cs : List Signature) (op : Condenser) (box : List Axis) (c : Option Typed) (s : ScalarOf) → is_logical op ≡ true → ConditionIsBoolean cs c → ScalarHasKind cs s → Gives (ShapeHasKinds cs) (booleans_condensed op box c s)
-booleans-kinds cs op box c s g h k =
-    gives-cond (ShapeHasKinds cs) s.boolean _ _ (λ t. (condenser-kinds cs op box c s.tree true g h (of-kind cs s.tree s.boolean true t k), tt)) (λ _. tt)
+booleans-kinds : (cs : List Signature) (op : Aggregate) (b : Bool) (box : List Axis) (c : Option Typed) (s : ScalarOf) → takes_boolean op ≡ true → gives_boolean op ≡ b → ConditionIsBoolean cs c → ScalarHasKind cs s → Gives (ShapeHasKinds cs) (booleans_condensed op b box c s)
+booleans-kinds cs op b box c s e g h k =
+    gives-cond (ShapeHasKinds cs) s.boolean _ _ (λ t. (condenser-kinds cs op box c s.tree b g h (of-kind cs s.tree s.boolean (takes_boolean op) (t ∙ sym e) k), tt)) (λ _. tt)
 
-pub condensed-kinds : (cs : List Signature) (op : CondenseOp) (box : List Axis) (c : Option Typed) (s : ScalarOf) → ConditionIsBoolean cs c → ScalarHasKind cs s → Gives (ShapeHasKinds cs) (condensed op box c s)
-condensed-kinds cs condensers.Add box c s h k = integers-kinds cs kinds.Add box c s refl h k
-condensed-kinds cs condensers.Multiply box c s h k = integers-kinds cs kinds.Multiply box c s refl h k
-condensed-kinds cs condensers.Max box c s h k = integers-kinds cs kinds.Max box c s refl h k
-condensed-kinds cs condensers.Min box c s h k = integers-kinds cs kinds.Min box c s refl h k
-condensed-kinds cs condensers.And box c s h k = booleans-kinds cs kinds.And box c s refl h k
-condensed-kinds cs condensers.Or box c s h k = booleans-kinds cs kinds.Or box c s refl h k
+pub condensed-kinds : (cs : List Signature) (op : Aggregate) (box : List Axis) (c : Option Typed) (s : ScalarOf) → ConditionIsBoolean cs c → ScalarHasKind cs s → Gives (ShapeHasKinds cs) (condensed op box c s)
+condensed-kinds cs aggregates.Sum box c s h k = integers-kinds cs aggregates.Sum box c s refl refl h k
+condensed-kinds cs aggregates.Product box c s h k = integers-kinds cs aggregates.Product box c s refl refl h k
+condensed-kinds cs aggregates.Greatest box c s h k = integers-kinds cs aggregates.Greatest box c s refl refl h k
+condensed-kinds cs aggregates.Least box c s h k = integers-kinds cs aggregates.Least box c s refl refl h k
+condensed-kinds cs aggregates.Every box c s h k = booleans-kinds cs aggregates.Every true box c s refl refl h k
+condensed-kinds cs aggregates.Any box c s h k = booleans-kinds cs aggregates.Any true box c s refl refl h k
+condensed-kinds cs aggregates.Count box c s h k = booleans-kinds cs aggregates.Count false box c s refl refl h k
+condensed-kinds cs aggregates.Average box c s h k = integers-kinds cs aggregates.Average box c s refl refl h k
 
 pub condition-kind : (cs : List Signature) (s : ScalarOf) → ScalarHasKind cs s → Gives (λ t. HasKind cs t (Some true)) (condition_of s)
 condition-kind cs s k = gives-cond (λ t. HasKind cs t (Some true)) s.boolean _ _ (λ t. of-kind cs s.tree s.boolean true t k) (λ _. tt)

@@ -18,6 +18,7 @@ pub mod Counted
 pub mod RenamedForms
 pub mod Renamed
 pub mod LikeTrees
+pub mod SameTrees
 pub mod There
 pub mod SharedEfforts
 pub mod TokenNames

@@ -1,9 +1,7 @@
 -- Tests that fail, tests of some element of a list that is mapped, and the rest of a list.
 use Rattle.std.proofs.Common.{◌≡◌, ℕ, ◌+◌, ◌<◌, suc, Bool, true, false, ◌||◌, List, [], ◌∷◌, length, get_or, drop, map, refl, ap, sym, ◌∙◌, add-one}
 use Rattle.std.proofs.Math.Seq.{drop-cons}
-use Rattle.std.specs.Prelude.{Ok}
 use Rattle.wcps_text.specs.declared.tree.Sub.{Sub}
-use Rattle.wcps_types.specs.Shapes.{Answer, then_of}
 use Rattle.std.specs.List.{list_any}
 
 -- a test that is not true is false
@@ -20,7 +18,3 @@ pub drop_sub : (subs : List Sub) (i : ℕ) (x : Sub) → i < length subs → x �
 drop_sub subs i x lt is =
     let f : drop (i + 1) subs ≡ drop (suc i) subs = rw add-one refl in
     drop-cons subs i x lt ∙ ap (λ b. get_or subs i x ∷ b) (sym f) ∙ ap (λ y. y ∷ drop (i + 1) subs) (sym is)
-
--- a check that gave something is followed by the next one
-pub then_ok : {A B : Type 0} (a : Answer A) (x : A) (go : A → Answer B) → a ≡ Ok x → then_of a go ≡ go x
-then_ok a x go h = ap (λ b. then_of b go) h

@@ -21,9 +21,9 @@ use Rattle.wcps_types.specs.Records.{PieceTrees, no_pieces, is_part, with_part}
 use Rattle.wcps_types.specs.Boxes.{IteratorTrees, no_iterators, is_taken, with_iterator, box_of, condition_of, condensed, value_list}
 use Rattle.wcps_types.specs.Variables.{is_boolean, cells_from, coverage_at, bound_at, bound_of, iterator_or}
 use Rattle.wcps_types.specs.Typing.{some_condition, closed_on, array_of, condition_tree, typ, typ_parts, typ_subs, typ_place, typ_interval, typ_iters, typ_condition}
-use Rattle.wcps_types.specs.Queries.{field_of_slot, item_of, plain_item, typ_item, combined, typ_combination}
+use Rattle.wcps_types.specs.Queries.{field_of_slot, item_of, plain_item, typ_item, combination_of, typ_combination}
 use Rattle.wcps_types.specs.Sharing.{AreLike, StandsFor, Stand, own, coverages_in}
-use Rattle.wcps_types.proofs.RenamedForms.{answer_map, ren_slot, ren_shape, ren_field, ren_scalar, ren_pieces, ren_cut, ren_bracket, ren_condition, then-renamed, then-same, then-both, then-other, cond-renamed, field-renamed, scalar-renamed, unary-renamed, binary-renamed, bit-renamed, reduction-renamed, selected-renamed, is-part-renamed, part-renamed, finished-renamed, trim-renamed, position-renamed, closed-renamed, array-renamed, condition-renamed, condensed-renamed, list-renamed}
+use Rattle.wcps_types.proofs.RenamedForms.{answer_map, ren_slot, ren_shape, ren_field, ren_scalar, ren_pieces, ren_cut, ren_bracket, ren_condition, then-renamed, then-same, then-both, then-other, cond-renamed, field-renamed, scalar-renamed, unary-renamed, binary-renamed, reduction-renamed, selected-renamed, is-part-renamed, part-renamed, finished-renamed, trim-renamed, position-renamed, closed-renamed, array-renamed, condition-renamed, condensed-renamed, list-renamed}
 
 -- variables
 cells-renamed : (cs : List ℕ) (v c k : ℕ) (fields : List Field) → get_or cs v 0 ≡ c → cells_from c k fields ≡ map (ren_slot cs) (cells_from v k fields)
@@ -112,10 +112,6 @@ mutual
       let n = coverages_in bound in
       then-renamed (ren_shape n) (ren_shape n) (typ sigs (own 0 bound) scope l) _ _ _ (typ-renamed cs bound sigs h scope l)
       (λ s. then-renamed (ren_shape n) (ren_shape n) (typ sigs (own 0 bound) scope r) _ (operators.binary op s) (operators.binary op (ren_shape n s)) (typ-renamed cs bound sigs h scope r) (λ t. binary-renamed n op s t))
-  typ-renamed cs bound sigs h scope (tree.bit l r) =
-      let n = coverages_in bound in
-      then-renamed (ren_shape n) (ren_shape n) (typ sigs (own 0 bound) scope l) _ _ _ (typ-renamed cs bound sigs h scope l)
-      (λ s. then-renamed (ren_shape n) (ren_shape n) (typ sigs (own 0 bound) scope r) _ (operators.bit s) (operators.bit (ren_shape n s)) (typ-renamed cs bound sigs h scope r) (λ t. bit-renamed n s t))
   typ-renamed cs bound sigs h scope (tree.reduce op e) =
       let n = coverages_in bound in
       then-renamed (ren_shape n) (ren_shape n) (typ sigs (own 0 bound) scope e) _ _ _ (typ-renamed cs bound sigs h scope e) (λ s. reduction-renamed n op s)
@@ -228,4 +224,4 @@ pub combination-renamed : (cs : List Signature) (q : QueryTree) (bound : List Bo
 combination-renamed cs q bound sigs h =
     let n = coverages_in bound in
     then-renamed (ren_condition n) (renamed_combination n) (typ_condition sigs (own 0 bound) [] q.condition) _ _ _ (where-renamed cs bound sigs h [] q.condition)
-    (λ c. then-renamed (renamed_item n) (renamed_combination n) (typ_item sigs (own 0 bound) q.item) _ (combined c) (combined (ren_condition n c)) (item-renamed cs bound sigs h q.item) (λ i. refl))
+    (λ c. then-renamed (renamed_item n) (renamed_combination n) (typ_item sigs (own 0 bound) q.item) _ (combination_of c) (combination_of (ren_condition n c)) (item-renamed cs bound sigs h q.item) (λ i. refl))

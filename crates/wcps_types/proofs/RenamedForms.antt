@@ -6,29 +6,19 @@ use Rattle.std.specs.Str.{bytes_eq}
 use Rattle.std.proofs.lemmas.List.{map-append}
 use Rattle.arr_core.specs.Domains.{count}
 use Rattle.arr_core.specs.declared.domain.Axis.{Axis}
-use Rattle.wcps_text.specs.declared.tree.UnaryOp.{UnaryOp}
-use Rattle.wcps_text.specs.declared.tree.UnaryOp.TheVariants as unaries
-use Rattle.wcps_text.specs.declared.tree.BinaryOp.{BinaryOp}
-use Rattle.wcps_text.specs.declared.tree.BinaryOp.TheVariants as binaries
-use Rattle.wcps_text.specs.declared.tree.ReduceOp.{ReduceOp}
-use Rattle.wcps_text.specs.declared.tree.ReduceOp.TheVariants as reductions
-use Rattle.wcps_text.specs.declared.tree.CondenseOp.{CondenseOp}
-use Rattle.wcps_text.specs.declared.tree.CondenseOp.TheVariants as condensers
+use Rattle.wcps_text.specs.declared.operator.UnaryOperator.{UnaryOperator}
+use Rattle.wcps_text.specs.declared.operator.UnaryOperator.TheVariants as unaries
+use Rattle.wcps_text.specs.declared.operator.BinaryOperator.{BinaryOperator}
+use Rattle.wcps_text.specs.declared.operator.BinaryOperator.TheVariants as binaries
+use Rattle.wcps_text.specs.declared.operator.Aggregate.{Aggregate}
+use Rattle.wcps_text.specs.declared.operator.Aggregate.TheVariants as aggregates
 use Rattle.wcps_text.specs.declared.tree.ListItem.{ListItem}
-use Rattle.wcps_types.specs.declared.typed.Operation1.{Operation1}
-use Rattle.wcps_types.specs.declared.typed.Operation1.TheVariants as ones
-use Rattle.wcps_types.specs.declared.typed.Operation2.{Operation2}
-use Rattle.wcps_types.specs.declared.typed.Operation2.TheVariants as twos
-use Rattle.wcps_types.specs.declared.typed.Reduction.{Reduction}
-use Rattle.wcps_types.specs.declared.typed.Reduction.TheVariants as kinds
-use Rattle.wcps_types.specs.declared.typed.Condenser.{Condenser}
-use Rattle.wcps_types.specs.declared.typed.Condenser.TheVariants as folds
 use Rattle.wcps_types.specs.Typed as typed
 use Rattle.wcps_types.specs.Typed.{Typed, condense_of}
 use Rattle.wcps_types.specs.Renamed.{renamed}
 use Rattle.wcps_types.specs.Names.{axis_place}
 use Rattle.wcps_types.specs.Shapes.{SlotTree, ShapeTree, FieldOf, ScalarOf, Answer, then_of, is_scalar, unnamed, only_field, without_domain, only_scalar}
-use Rattle.wcps_types.specs.Operators.{selected, made_of, negated, unary, are_same, OperandTrees, joined, combined, numeric, logical, binary, bit, reduced_integer, integer_reduction, reduced_boolean, boolean_reduction, reduction}
+use Rattle.wcps_types.specs.Operators.{selected, made_of, negated, unary, are_same, OperandTrees, joined, binary_shape, numeric, logical, binary, reduced_integer, integer_reduction, reduced_boolean, boolean_reduction, reduction}
 use Rattle.wcps_types.specs.Brackets.{BoundsOf, CutTree, BracketTree, bounds_of, trimmed_at, with_trim, integer_tree, position_of, sliced_slot, cut_between, cut_at, cut_out, all_cut_out, bracketed_slot, bracketed, closed}
 use Rattle.wcps_types.specs.Records.{PieceTree, PieceTrees, is_part, with_part, finished_part, finished}
 use Rattle.wcps_types.specs.Boxes.{array_on, condition_of, integers_condensed, booleans_condensed, condensed, first_is_truth, has_kind, listed_on, value_list}
@@ -108,13 +98,13 @@ scalar-renamed cs s =
     (then-renamed (ren_field cs) (ren_scalar cs) (only_field s.domain s.fields) _ without_domain without_domain (field-renamed cs s.domain s.fields) (λ f. refl)) refl
 
 -- operators
-made-renamed : (cs : List ℕ) (op : Operation1) (e : ShapeTree) → then_of (only_field e.domain (map (ren_slot cs) e.fields)) (made_of op) ≡ answer_map (ren_shape cs) (then_of (only_field e.domain e.fields) (made_of op))
+made-renamed : (cs : List ℕ) (op : UnaryOperator) (e : ShapeTree) → then_of (only_field e.domain (map (ren_slot cs) e.fields)) (made_of op) ≡ answer_map (ren_shape cs) (then_of (only_field e.domain e.fields) (made_of op))
 made-renamed cs op e = then-renamed (ren_field cs) (ren_shape cs) (only_field e.domain e.fields) _ (made_of op) (made_of op) (field-renamed cs e.domain e.fields) (λ f. refl)
 
-pub unary-renamed : (cs : List ℕ) (op : UnaryOp) (e : ShapeTree) → unary op (ren_shape cs e) ≡ answer_map (ren_shape cs) (unary op e)
-unary-renamed cs unaries.Negate e = made-renamed cs ones.Negate e
-unary-renamed cs unaries.Plus e = made-renamed cs ones.Plus e
-unary-renamed cs unaries.Abs e = made-renamed cs ones.Absolute e
+pub unary-renamed : (cs : List ℕ) (op : UnaryOperator) (e : ShapeTree) → unary op (ren_shape cs e) ≡ answer_map (ren_shape cs) (unary op e)
+unary-renamed cs unaries.Negate e = made-renamed cs unaries.Negate e
+unary-renamed cs unaries.Plus e = made-renamed cs unaries.Plus e
+unary-renamed cs unaries.Absolute e = made-renamed cs unaries.Absolute e
 unary-renamed cs unaries.Not e =
     then-renamed (ren_field cs) (ren_shape cs) (only_field e.domain e.fields) _ negated negated (field-renamed cs e.domain e.fields)
     (λ f. cond-renamed (ren_shape cs) f.boolean _ _ _ _ refl refl)
@@ -125,60 +115,59 @@ joined-renamed cs l r =
     (cond-renamed (ren_operands cs) (is_scalar r.domain && not (is_scalar l.domain)) _ _ _ _ refl
     (cond-renamed (ren_operands cs) (are_same l.domain r.domain) _ _ _ _ refl refl))
 
-combined-renamed : (cs : List ℕ) (op : Operation2) (boolean : Bool) (l r : FieldOf)
-    → then_of (joined (ren_field cs l) (ren_field cs r)) (combined op boolean) ≡ answer_map (ren_shape cs) (then_of (joined l r) (combined op boolean))
+combined-renamed : (cs : List ℕ) (op : BinaryOperator) (boolean : Bool) (l r : FieldOf)
+    → then_of (joined (ren_field cs l) (ren_field cs r)) (binary_shape op boolean) ≡ answer_map (ren_shape cs) (then_of (joined l r) (binary_shape op boolean))
 combined-renamed cs op boolean l r =
-    then-renamed (ren_operands cs) (ren_shape cs) (joined l r) _ (combined op boolean) (combined op boolean) (joined-renamed cs l r) (λ o. refl)
+    then-renamed (ren_operands cs) (ren_shape cs) (joined l r) _ (binary_shape op boolean) (binary_shape op boolean) (joined-renamed cs l r) (λ o. refl)
 
-numeric-renamed : (cs : List ℕ) (op : Operation2) (boolean : Bool) (l r : ShapeTree) → numeric op boolean (ren_shape cs l) (ren_shape cs r) ≡ answer_map (ren_shape cs) (numeric op boolean l r)
+numeric-renamed : (cs : List ℕ) (op : BinaryOperator) (boolean : Bool) (l r : ShapeTree) → numeric op boolean (ren_shape cs l) (ren_shape cs r) ≡ answer_map (ren_shape cs) (numeric op boolean l r)
 numeric-renamed cs op boolean l r =
     then-renamed (ren_field cs) (ren_shape cs) (only_field l.domain l.fields) _ _ _ (field-renamed cs l.domain l.fields)
-    (λ f. then-renamed (ren_field cs) (ren_shape cs) (only_field r.domain r.fields) _ (λ (g : FieldOf). then_of (joined f g) (combined op boolean)) (λ (g : FieldOf). then_of (joined (ren_field cs f) g) (combined op boolean))
+    (λ f. then-renamed (ren_field cs) (ren_shape cs) (only_field r.domain r.fields) _ (λ (g : FieldOf). then_of (joined f g) (binary_shape op boolean)) (λ (g : FieldOf). then_of (joined (ren_field cs f) g) (binary_shape op boolean))
     (field-renamed cs r.domain r.fields) (λ g. combined-renamed cs op boolean f g))
 
-logical-renamed : (cs : List ℕ) (op : Operation2) (l r : ShapeTree) → logical op (ren_shape cs l) (ren_shape cs r) ≡ answer_map (ren_shape cs) (logical op l r)
+logical-renamed : (cs : List ℕ) (op : BinaryOperator) (l r : ShapeTree) → logical op (ren_shape cs l) (ren_shape cs r) ≡ answer_map (ren_shape cs) (logical op l r)
 logical-renamed cs op l r =
     then-renamed (ren_field cs) (ren_shape cs) (only_field l.domain l.fields) _ _ _ (field-renamed cs l.domain l.fields)
-    (λ f. then-renamed (ren_field cs) (ren_shape cs) (only_field r.domain r.fields) _ (λ (g : FieldOf). cond (not f.boolean || not g.boolean) (Err _) (then_of (joined f g) (combined op true)))
-    (λ (g : FieldOf). cond (not f.boolean || not g.boolean) (Err _) (then_of (joined (ren_field cs f) g) (combined op true)))
+    (λ f. then-renamed (ren_field cs) (ren_shape cs) (only_field r.domain r.fields) _ (λ (g : FieldOf). cond (not f.boolean || not g.boolean) (Err _) (then_of (joined f g) (binary_shape op true)))
+    (λ (g : FieldOf). cond (not f.boolean || not g.boolean) (Err _) (then_of (joined (ren_field cs f) g) (binary_shape op true)))
     (field-renamed cs r.domain r.fields) (λ g. cond-renamed (ren_shape cs) (not f.boolean || not g.boolean) _ _ _ _ refl (combined-renamed cs op true f g)))
 
-pub binary-renamed : (cs : List ℕ) (op : BinaryOp) (l r : ShapeTree) → binary op (ren_shape cs l) (ren_shape cs r) ≡ answer_map (ren_shape cs) (binary op l r)
-binary-renamed cs binaries.Multiply l r = numeric-renamed cs twos.Multiply false l r
-binary-renamed cs binaries.Divide l r = numeric-renamed cs twos.Divide false l r
-binary-renamed cs binaries.Add l r = numeric-renamed cs twos.Add false l r
-binary-renamed cs binaries.Subtract l r = numeric-renamed cs twos.Subtract false l r
-binary-renamed cs binaries.Less l r = numeric-renamed cs twos.Less true l r
-binary-renamed cs binaries.LessEqual l r = numeric-renamed cs twos.LessEqual true l r
-binary-renamed cs binaries.Greater l r = numeric-renamed cs twos.Greater true l r
-binary-renamed cs binaries.GreaterEqual l r = numeric-renamed cs twos.GreaterEqual true l r
-binary-renamed cs binaries.Equal l r = numeric-renamed cs twos.Equal true l r
-binary-renamed cs binaries.NotEqual l r = numeric-renamed cs twos.NotEqual true l r
-binary-renamed cs binaries.And l r = logical-renamed cs twos.And l r
-binary-renamed cs binaries.Or l r = logical-renamed cs twos.Or l r
-binary-renamed cs binaries.Xor l r = logical-renamed cs twos.Xor l r
+pub binary-renamed : (cs : List ℕ) (op : BinaryOperator) (l r : ShapeTree) → binary op (ren_shape cs l) (ren_shape cs r) ≡ answer_map (ren_shape cs) (binary op l r)
+binary-renamed cs binaries.Multiply l r = numeric-renamed cs binaries.Multiply false l r
+binary-renamed cs binaries.Divide l r = numeric-renamed cs binaries.Divide false l r
+binary-renamed cs binaries.Add l r = numeric-renamed cs binaries.Add false l r
+binary-renamed cs binaries.Subtract l r = numeric-renamed cs binaries.Subtract false l r
+binary-renamed cs binaries.Less l r = numeric-renamed cs binaries.Less true l r
+binary-renamed cs binaries.LessEqual l r = numeric-renamed cs binaries.LessEqual true l r
+binary-renamed cs binaries.Greater l r = numeric-renamed cs binaries.Greater true l r
+binary-renamed cs binaries.GreaterEqual l r = numeric-renamed cs binaries.GreaterEqual true l r
+binary-renamed cs binaries.Equal l r = numeric-renamed cs binaries.Equal true l r
+binary-renamed cs binaries.NotEqual l r = numeric-renamed cs binaries.NotEqual true l r
+binary-renamed cs binaries.And l r = logical-renamed cs binaries.And l r
+binary-renamed cs binaries.Or l r = logical-renamed cs binaries.Or l r
+binary-renamed cs binaries.Xor l r = logical-renamed cs binaries.Xor l r
+binary-renamed cs binaries.Bit l r = numeric-renamed cs binaries.Bit true l r
 
-pub bit-renamed : (cs : List ℕ) (l r : ShapeTree) → bit (ren_shape cs l) (ren_shape cs r) ≡ answer_map (ren_shape cs) (bit l r)
-bit-renamed cs l r = numeric-renamed cs twos.Bit true l r
-
-integers-renamed : (cs : List ℕ) (op : Reduction) (e : ShapeTree) → integer_reduction op (ren_shape cs e) ≡ answer_map (ren_shape cs) (integer_reduction op e)
+integers-renamed : (cs : List ℕ) (op : Aggregate) (e : ShapeTree) → integer_reduction op (ren_shape cs e) ≡ answer_map (ren_shape cs) (integer_reduction op e)
 integers-renamed cs op e =
     then-renamed (ren_field cs) (ren_shape cs) (only_field e.domain e.fields) _ (reduced_integer op) (reduced_integer op) (field-renamed cs e.domain e.fields)
     (λ f. cond-renamed (ren_shape cs) f.boolean _ _ _ _ refl refl)
 
-booleans-renamed : (cs : List ℕ) (op : Reduction) (boolean : Bool) (e : ShapeTree) → boolean_reduction op boolean (ren_shape cs e) ≡ answer_map (ren_shape cs) (boolean_reduction op boolean e)
+booleans-renamed : (cs : List ℕ) (op : Aggregate) (boolean : Bool) (e : ShapeTree) → boolean_reduction op boolean (ren_shape cs e) ≡ answer_map (ren_shape cs) (boolean_reduction op boolean e)
 booleans-renamed cs op boolean e =
     then-renamed (ren_field cs) (ren_shape cs) (only_field e.domain e.fields) _ (reduced_boolean op boolean) (reduced_boolean op boolean) (field-renamed cs e.domain e.fields)
     (λ f. cond-renamed (ren_shape cs) f.boolean _ _ _ _ refl refl)
 
-pub reduction-renamed : (cs : List ℕ) (op : ReduceOp) (e : ShapeTree) → reduction op (ren_shape cs e) ≡ answer_map (ren_shape cs) (reduction op e)
-reduction-renamed cs reductions.Count e = booleans-renamed cs kinds.Count false e
-reduction-renamed cs reductions.Some e = booleans-renamed cs kinds.Some true e
-reduction-renamed cs reductions.All e = booleans-renamed cs kinds.All true e
-reduction-renamed cs reductions.Add e = integers-renamed cs kinds.Add e
-reduction-renamed cs reductions.Avg e = integers-renamed cs kinds.Avg e
-reduction-renamed cs reductions.Min e = integers-renamed cs kinds.Min e
-reduction-renamed cs reductions.Max e = integers-renamed cs kinds.Max e
+pub reduction-renamed : (cs : List ℕ) (op : Aggregate) (e : ShapeTree) → reduction op (ren_shape cs e) ≡ answer_map (ren_shape cs) (reduction op e)
+reduction-renamed cs aggregates.Count e = booleans-renamed cs aggregates.Count false e
+reduction-renamed cs aggregates.Any e = booleans-renamed cs aggregates.Any true e
+reduction-renamed cs aggregates.Every e = booleans-renamed cs aggregates.Every true e
+reduction-renamed cs aggregates.Sum e = integers-renamed cs aggregates.Sum e
+reduction-renamed cs aggregates.Average e = integers-renamed cs aggregates.Average e
+reduction-renamed cs aggregates.Least e = integers-renamed cs aggregates.Least e
+reduction-renamed cs aggregates.Greatest e = integers-renamed cs aggregates.Greatest e
+reduction-renamed cs aggregates.Product e = integers-renamed cs aggregates.Product e
 
 pub selected-renamed : (cs : List ℕ) (x : List ℕ) (axes : List Axis) (slots : List SlotTree) → selected x axes (map (ren_slot cs) slots) ≡ answer_map (ren_shape cs) (selected x axes slots)
 selected-renamed cs x axes [] = refl
@@ -253,25 +242,27 @@ array-renamed cs box s = then-renamed (ren_scalar cs) (ren_shape cs) (only_scala
 pub condition-renamed : (cs : List ℕ) (t : ScalarOf) → condition_of (ren_scalar cs t) ≡ answer_map (renamed cs) (condition_of t)
 condition-renamed cs t = cond-renamed (renamed cs) t.boolean _ _ _ _ refl refl
 
-condense-renamed : (cs : List ℕ) (op : Condenser) (box : List Axis) (c : Option Typed) (t : Typed) → condense_of op box (ren_condition cs c) (renamed cs t) ≡ renamed cs (condense_of op box c t)
+condense-renamed : (cs : List ℕ) (op : Aggregate) (box : List Axis) (c : Option Typed) (t : Typed) → condense_of op box (ren_condition cs c) (renamed cs t) ≡ renamed cs (condense_of op box c t)
 condense-renamed cs op box None t = refl
 condense-renamed cs op box (Some c) t = refl
 
-integers-condensed : (cs : List ℕ) (op : Condenser) (box : List Axis) (c : Option Typed) (t : ScalarOf) → integers_condensed op box (ren_condition cs c) (ren_scalar cs t) ≡ answer_map (ren_shape cs) (integers_condensed op box c t)
+integers-condensed : (cs : List ℕ) (op : Aggregate) (box : List Axis) (c : Option Typed) (t : ScalarOf) → integers_condensed op box (ren_condition cs c) (ren_scalar cs t) ≡ answer_map (ren_shape cs) (integers_condensed op box c t)
 integers-condensed cs op box c t =
     cond-renamed (ren_shape cs) t.boolean _ (Ok (unnamed [] false (condense_of op box c t.tree))) _ _ refl (ap (λ (u : Typed). Ok (unnamed [] false u)) (condense-renamed cs op box c t.tree))
 
-booleans-condensed : (cs : List ℕ) (op : Condenser) (box : List Axis) (c : Option Typed) (t : ScalarOf) → booleans_condensed op box (ren_condition cs c) (ren_scalar cs t) ≡ answer_map (ren_shape cs) (booleans_condensed op box c t)
-booleans-condensed cs op box c t =
-    cond-renamed (ren_shape cs) t.boolean (Ok (unnamed [] true (condense_of op box c t.tree))) _ _ _ (ap (λ (u : Typed). Ok (unnamed [] true u)) (condense-renamed cs op box c t.tree)) refl
+booleans-condensed : (cs : List ℕ) (op : Aggregate) (boolean : Bool) (box : List Axis) (c : Option Typed) (t : ScalarOf) → booleans_condensed op boolean box (ren_condition cs c) (ren_scalar cs t) ≡ answer_map (ren_shape cs) (booleans_condensed op boolean box c t)
+booleans-condensed cs op boolean box c t =
+    cond-renamed (ren_shape cs) t.boolean (Ok (unnamed [] boolean (condense_of op box c t.tree))) _ _ _ (ap (λ (u : Typed). Ok (unnamed [] boolean u)) (condense-renamed cs op box c t.tree)) refl
 
-pub condensed-renamed : (cs : List ℕ) (op : CondenseOp) (box : List Axis) (c : Option Typed) (t : ScalarOf) → condensed op box (ren_condition cs c) (ren_scalar cs t) ≡ answer_map (ren_shape cs) (condensed op box c t)
-condensed-renamed cs condensers.Add box c t = integers-condensed cs folds.Add box c t
-condensed-renamed cs condensers.Multiply box c t = integers-condensed cs folds.Multiply box c t
-condensed-renamed cs condensers.Max box c t = integers-condensed cs folds.Max box c t
-condensed-renamed cs condensers.Min box c t = integers-condensed cs folds.Min box c t
-condensed-renamed cs condensers.And box c t = booleans-condensed cs folds.And box c t
-condensed-renamed cs condensers.Or box c t = booleans-condensed cs folds.Or box c t
+pub condensed-renamed : (cs : List ℕ) (op : Aggregate) (box : List Axis) (c : Option Typed) (t : ScalarOf) → condensed op box (ren_condition cs c) (ren_scalar cs t) ≡ answer_map (ren_shape cs) (condensed op box c t)
+condensed-renamed cs aggregates.Sum box c t = integers-condensed cs aggregates.Sum box c t
+condensed-renamed cs aggregates.Product box c t = integers-condensed cs aggregates.Product box c t
+condensed-renamed cs aggregates.Greatest box c t = integers-condensed cs aggregates.Greatest box c t
+condensed-renamed cs aggregates.Least box c t = integers-condensed cs aggregates.Least box c t
+condensed-renamed cs aggregates.Every box c t = booleans-condensed cs aggregates.Every true box c t
+condensed-renamed cs aggregates.Any box c t = booleans-condensed cs aggregates.Any true box c t
+condensed-renamed cs aggregates.Count box c t = booleans-condensed cs aggregates.Count false box c t
+condensed-renamed cs aggregates.Average box c t = integers-condensed cs aggregates.Average box c t
 
 pub list-renamed : (cs : List ℕ) (box : List Axis) (items : List ListItem) → value_list box items ≡ answer_map (ren_shape cs) (value_list box items)
 list-renamed cs box items =

@@ -4,14 +4,12 @@ use Rattle.std.specs.Prelude.{ℤ, pos, negsuc, Ok, Err, codes, replicate}
 use Rattle.arr_core.specs.Names.{is_name, is_keyword}
 use Rattle.arr_core.specs.declared.signature.Signature.{Signature}
 use Rattle.arr_core.specs.declared.cell.FieldType.TheVariants as kinds
-use Rattle.wcps_text.specs.declared.tree.UnaryOp.TheVariants as unaries
-use Rattle.wcps_text.specs.declared.tree.BinaryOp.TheVariants as binaries
-use Rattle.wcps_text.specs.declared.tree.ReduceOp.TheVariants as reductions
-use Rattle.wcps_text.specs.declared.tree.CondenseOp.TheVariants as condensers
+use Rattle.wcps_text.specs.declared.operator.UnaryOperator.TheVariants as unaries
+use Rattle.wcps_text.specs.declared.operator.BinaryOperator.TheVariants as binaries
+use Rattle.wcps_text.specs.declared.operator.Aggregate.TheVariants as aggregates
 use Rattle.wcps_text.specs.declared.tree.ListItem.TheVariants.{Int, Truth}
 use Rattle.wcps_text.specs.Tree.{Tree, number, variable, unary, binary, reduce, parts, value_list, field, brackets, coverage, condense, no_parts, part, no_subs, sub, trim, at, bounds, domain, Iters, no_iters, iter, always, ItemTree, encode, plain, BindingTree}
 use Rattle.wcps_types.specs.declared.refusal.TypeRefusal.TheVariants.{NoSuchCoverage, UnknownName, NameTaken, NoSuchField, NoSuchAxis, AxisTwice, DomainMismatch, TrimOutside, NeedsScalar, NeedsBoolean, NeedsInteger, NeedsOneField, ListLength, MustEncode, BadInterval, TooMuchWork, ResultTooLarge, TooManyCombinations}
-use Rattle.wcps_types.specs.declared.typed.Condenser.TheVariants as kept
 use Rattle.wcps_types.specs.Typed as typed
 use Rattle.wcps_types.specs.Typed.{TypedTree}
 use Rattle.wcps_types.specs.Shapes.{Answer, then_of}
@@ -49,7 +47,7 @@ over v hi = iter v x (bounds (pos 0) hi) no_iters
 
 -- `condense + over $i x(0:16777215) using condense + over $j x(0:hi) using 1`
 abbrev nested : ℤ → Tree
-nested hi = condense condensers.Add (over (codes "$i") (pos 16777215)) always (condense condensers.Add (over (codes "$j") hi) always (number 1))
+nested hi = condense aggregates.Sum (over (codes "$i") (pos 16777215)) always (condense aggregates.Sum (over (codes "$j") hi) always (number 1))
 
 -- for c in (k)
 no_such_coverage : typ_query (lai ∷ []) (record { bindings = bound_to (codes "k" ∷ []) ∷ []; condition = always; item = plain (number 1) }) ≡ Err NoSuchCoverage
@@ -63,7 +61,7 @@ too_many_combinations : typ_query (lai ∷ []) (record { bindings = bound_to (re
 too_many_combinations = refl
 
 -- max(d)
-unknown_name : returned (plain (reduce reductions.Max (variable (codes "d")))) ≡ Err UnknownName
+unknown_name : returned (plain (reduce aggregates.Greatest (variable (codes "d")))) ≡ Err UnknownName
 unknown_name = refl
 
 -- {a: c; a: c}
@@ -106,7 +104,7 @@ needs_boolean : encoded (unary unaries.Not c) ≡ Err NeedsBoolean
 needs_boolean = refl
 
 -- add(c > 0)
-needs_integer : encoded (reduce reductions.Add (binary binaries.Greater c (number 0))) ≡ Err NeedsInteger
+needs_integer : encoded (reduce aggregates.Sum (binary binaries.Greater c (number 0))) ≡ Err NeedsInteger
 needs_integer = refl
 
 -- {a: c; b: c} + 1
@@ -153,7 +151,7 @@ unfolding is_name is_keyword
 much_work = refl
 
 -- add(c)
-work_of_a_sum : then_of (returned (plain (reduce reductions.Add c))) work_in ≡ Ok 101
+work_of_a_sum : then_of (returned (plain (reduce aggregates.Sum c))) work_in ≡ Ok 101
 work_of_a_sum = refl
 
 -- {a: c; b: c}, two fields at 100 points
@@ -170,5 +168,5 @@ unfolding is_name is_keyword
 work_of_an_array = refl
 
 -- condense + over $i x(0:9) where .. using ..
-work_of_a_condition : work_of (typed.condense_where kept.Add (record { name = x; lo = pos 0; hi = pos 9 } ∷ []) (typed.number (pos 1)) (typed.number (pos 1))) ≡ 21
+work_of_a_condition : work_of (typed.condense_where aggregates.Sum (record { name = x; lo = pos 0; hi = pos 9 } ∷ []) (typed.number (pos 1)) (typed.number (pos 1))) ≡ 21
 work_of_a_condition = refl

@@ -14,7 +14,7 @@ use Rattle.wcps_types.specs.Boxes.{IteratorTrees, no_iterators, is_taken, axis_o
 use Rattle.wcps_types.specs.Typing.{some_condition, closed_on, array_of, condition_tree, typ, typ_parts, typ_subs, typ_place, typ_interval, typ_iters, typ_condition}
 use Rattle.wcps_types.specs.WellTyped.{IsTyped, ConditionIsTyped}
 use Rattle.wcps_types.proofs.Gives.{Gives, gives-then, gives-cond, gives-any}
-use Rattle.wcps_types.proofs.TypedForms.{ShapeIsTyped, FieldIsTyped, ScalarIsTyped, variable-typed, field-typed, scalar-typed, selected-typed, unary-typed, binary-typed, bit-typed, reduction-typed, array-typed, condition-typed, condensed-typed, list-typed}
+use Rattle.wcps_types.proofs.TypedForms.{ShapeIsTyped, FieldIsTyped, ScalarIsTyped, variable-typed, field-typed, scalar-typed, selected-typed, unary-typed, binary-typed, reduction-typed, array-typed, condition-typed, condensed-typed, list-typed}
 use Rattle.wcps_types.proofs.TypedBrackets.{BracketIsTyped, opened-typed, trim-typed, position-typed, cut-typed, closed-typed, RecordIsTyped, part-typed, record-typed}
 
 -- as many variables as axes
@@ -56,9 +56,6 @@ mutual
   typ-typed cs bound names scope l (tree.binary op x y) =
       gives-then (ShapeIsTyped cs scope) (ShapeIsTyped cs scope) (typ cs bound names x) _ (typ-typed cs bound names scope l x)
       (λ s h. gives-then (ShapeIsTyped cs scope) (ShapeIsTyped cs scope) (typ cs bound names y) _ (typ-typed cs bound names scope l y) (λ t k. binary-typed cs scope op s t h k))
-  typ-typed cs bound names scope l (tree.bit x y) =
-      gives-then (ShapeIsTyped cs scope) (ShapeIsTyped cs scope) (typ cs bound names x) _ (typ-typed cs bound names scope l x)
-      (λ s h. gives-then (ShapeIsTyped cs scope) (ShapeIsTyped cs scope) (typ cs bound names y) _ (typ-typed cs bound names scope l y) (λ t k. bit-typed cs scope s t h k))
   typ-typed cs bound names scope l (tree.reduce op e) =
       gives-then (ShapeIsTyped cs scope) (ShapeIsTyped cs scope) (typ cs bound names e) _ (typ-typed cs bound names scope l e) (λ s h. reduction-typed cs scope op s h)
   typ-typed cs bound names scope l (tree.parts ps) = parts-typed cs bound names scope l no_pieces tt ps

@@ -1,21 +1,21 @@
 -- What is typed has its kinds.
-use Rattle.std.proofs.Common.{◌≡◌, ℕ, List, [], ◌∷◌, ◌++◌, map, Bool, true, false, not, refl, subst, Some}
-use Rattle.std.specs.Prelude.{is_some, Ok, pos}
+use Rattle.std.proofs.Common.{◌≡◌, ℕ, List, [], ◌∷◌, ◌++◌, map, true, false, not, refl, subst, Some}
+use Rattle.std.specs.Prelude.{Ok}
 use Rattle.arr_core.specs.declared.domain.Axis.{Axis}
 use Rattle.arr_core.specs.declared.signature.Signature.{Signature}
 use Rattle.wcps_text.specs.Tree as tree
 use Rattle.wcps_text.specs.Tree.{Tree, Parts, no_parts, part, Subs, no_subs, sub, PlaceTree, trim, at, Condition, always, only, QueryTree, encode, plain}
 use Rattle.wcps_types.specs.declared.names.Bound.{Bound}
-use Rattle.wcps_types.specs.Typed.{Typed, ItemTree, CombinationTree}
+use Rattle.wcps_types.specs.Typed.{ItemTree, CombinationTree}
 use Rattle.wcps_types.specs.Shapes.{SlotTree, ShapeTree, is_scalar, then_of, only_field, only_scalar}
-use Rattle.wcps_types.specs.Brackets.{BoundsOf, BracketTree, opened, place_to_cut, position_of, with_position}
+use Rattle.wcps_types.specs.Brackets.{BoundsOf, BracketTree, opened, place_to_cut, position_of}
 use Rattle.wcps_types.specs.Records.{PieceTrees, no_pieces, is_part, with_part}
-use Rattle.wcps_types.specs.Boxes.{IteratorTrees, no_iterators, box_of, array_on, condition_of, condensed, value_list}
+use Rattle.wcps_types.specs.Boxes.{IteratorTrees, no_iterators, box_of, array_on, condition_of}
 use Rattle.wcps_types.specs.Typing.{some_condition, closed_on, array_of, condition_tree, typ, typ_parts, typ_subs, typ_place, typ_interval, typ_iters, typ_condition}
-use Rattle.wcps_types.specs.Queries.{field_of_slot, item_of, plain_item, typ_item, combined, typ_combination, typ_each}
+use Rattle.wcps_types.specs.Queries.{field_of_slot, item_of, plain_item, typ_item, combination_of, typ_combination, typ_each}
 use Rattle.wcps_types.specs.Kinds.{HasKind, FieldsHaveKinds, ConditionIsBoolean, CombinationHasKinds, HaveKinds}
 use Rattle.wcps_types.proofs.Gives.{Gives, gives-then, gives-cond, gives-any}
-use Rattle.wcps_types.proofs.KindForms.{SlotsHaveKinds, ShapeHasKinds, FieldHasKind, ScalarHasKind, variable-kinds, truth-kind, field-kind, scalar-kind, selected-kinds, unary-kinds, binary-kinds, bit-kinds, reduction-kinds, condensed-kinds, condition-kind, list-kinds, RecordHasKinds, part-kinds, finished-kinds, BracketHasKinds, cuts-last, trim-kinds, position-kind, closed-kinds}
+use Rattle.wcps_types.proofs.KindForms.{SlotsHaveKinds, ShapeHasKinds, FieldHasKind, ScalarHasKind, variable-kinds, truth-kind, field-kind, scalar-kind, selected-kinds, unary-kinds, binary-kinds, reduction-kinds, condensed-kinds, condition-kind, list-kinds, RecordHasKinds, part-kinds, finished-kinds, BracketHasKinds, cuts-last, trim-kinds, position-kind, closed-kinds}
 
 where-boolean : (cs : List Signature) (s : ShapeTree) → ShapeHasKinds cs s → Gives (ConditionIsBoolean cs) (condition_tree s)
 where-boolean cs s h =
@@ -35,9 +35,6 @@ mutual
   typ-kinds cs bound scope (tree.binary op l r) =
       gives-then (ShapeHasKinds cs) (ShapeHasKinds cs) (typ cs bound scope l) _ (typ-kinds cs bound scope l)
       (λ s h. gives-then (ShapeHasKinds cs) (ShapeHasKinds cs) (typ cs bound scope r) _ (typ-kinds cs bound scope r) (λ t k. binary-kinds cs op s t h k))
-  typ-kinds cs bound scope (tree.bit l r) =
-      gives-then (ShapeHasKinds cs) (ShapeHasKinds cs) (typ cs bound scope l) _ (typ-kinds cs bound scope l)
-      (λ s h. gives-then (ShapeHasKinds cs) (ShapeHasKinds cs) (typ cs bound scope r) _ (typ-kinds cs bound scope r) (λ t k. bit-kinds cs s t h k))
   typ-kinds cs bound scope (tree.reduce op e) =
       gives-then (ShapeHasKinds cs) (ShapeHasKinds cs) (typ cs bound scope e) _ (typ-kinds cs bound scope e) (λ s h. reduction-kinds cs op s h)
   typ-kinds cs bound scope (tree.parts ps) = parts-kinds cs bound scope no_pieces tt ps
@@ -108,7 +105,7 @@ item-kinds cs bound (plain e) =
 combination-kinds : (cs : List Signature) (q : QueryTree) (bound : List Bound) → Gives (CombinationHasKinds cs) (typ_combination cs q bound)
 combination-kinds cs q bound =
     gives-then (ConditionIsBoolean cs) (CombinationHasKinds cs) (typ_condition cs bound [] q.condition) _ (condition-kinds cs bound [] q.condition)
-    (λ c h. gives-then (ItemHasKinds cs) (CombinationHasKinds cs) (typ_item cs bound q.item) (combined c) (item-kinds cs bound q.item) (λ i k. (h, k)))
+    (λ c h. gives-then (ItemHasKinds cs) (CombinationHasKinds cs) (typ_item cs bound q.item) (combination_of c) (item-kinds cs bound q.item) (λ i k. (h, k)))
 
 kinds-last : (cs : List Signature) (done : List CombinationTree) (c : CombinationTree) → HaveKinds cs done → CombinationHasKinds cs c → HaveKinds cs (done ++ c ∷ [])
 kinds-last cs [] c h k = (k, tt)

@@ -9,7 +9,7 @@ use Rattle.wcps_types.specs.declared.names.Bound.{Bound}
 use Rattle.wcps_types.specs.Typed.{ItemTree, CombinationTree}
 use Rattle.wcps_types.specs.Shapes.{SlotTree, ShapeTree, is_scalar}
 use Rattle.wcps_types.specs.Typing.{typ, typ_condition}
-use Rattle.wcps_types.specs.Queries.{field_of_slot, item_of, plain_item, typ_item, combined, typ_combination, typ_each}
+use Rattle.wcps_types.specs.Queries.{field_of_slot, item_of, plain_item, typ_item, combination_of, typ_combination, typ_each}
 use Rattle.wcps_types.specs.WellTyped.{FieldsAreTyped, ConditionIsTyped, CombinationIsTyped, AreTyped}
 use Rattle.wcps_types.proofs.Gives.{Gives, gives-then, gives-cond}
 use Rattle.wcps_types.proofs.TypedForms.{SlotsAreTyped, ShapeIsTyped}
@@ -35,7 +35,7 @@ item-typed cs bound (plain e) =
 combination-typed : (cs : List Signature) (q : QueryTree) (bound : List Bound) → Gives (CombinationIsTyped cs) (typ_combination cs q bound)
 combination-typed cs q bound =
     gives-then (ConditionIsTyped cs []) (CombinationIsTyped cs) (typ_condition cs bound [] q.condition) _ (only-where cs bound [] [] refl q.condition)
-    (λ c h. gives-then (ItemIsTyped cs) (CombinationIsTyped cs) (typ_item cs bound q.item) (combined c) (item-typed cs bound q.item) (λ i k. (h, k)))
+    (λ c h. gives-then (ItemIsTyped cs) (CombinationIsTyped cs) (typ_item cs bound q.item) (combination_of c) (item-typed cs bound q.item) (λ i k. (h, k)))
 
 typed-last : (cs : List Signature) (done : List CombinationTree) (c : CombinationTree) → AreTyped cs done → CombinationIsTyped cs c → AreTyped cs (done ++ c ∷ [])
 typed-last cs [] c h k = (k, tt)

@@ -9,7 +9,7 @@ use Rattle.arr_core.specs.declared.signature.Signature.{Signature}
 use Rattle.wcps_text.specs.Tree.{BindingTree}
 use Rattle.wcps_types.specs.Names.{coverage_place}
 use Rattle.wcps_types.specs.Shapes.{Answer, then_of}
-use Rattle.wcps_types.specs.Bindings.{ChoiceTree, BindingTrees, Placed, PlacedAll, no_bindings, signature_at, found, added, place_or, resolved, resolved_all, is_bound, with_binding, bound_from, combination_count, combination_at}
+use Rattle.wcps_types.specs.Bindings.{ChoiceTree, BindingTrees, Placed, PlacedAll, no_bindings, signature_at, known_signature, added, place_or, resolved, resolved_all, is_bound, with_binding, bound_from, combination_count, combination_at}
 use Rattle.wcps_types.specs.Sharing.{coverages_in, AreBelow, ChoicesAreBelow}
 use Rattle.wcps_types.proofs.Gives.{Gives, gives-then, gives-cond}
 use Rattle.wcps_types.proofs.Choices.{right_positive}
@@ -48,7 +48,7 @@ placed-there cs name None (Err f) e = tt
 placed-there cs name None (Ok s) e = (omega (arith, length-append cs (s ∷ [])), omega (arith, length-append cs (s ∷ [])))
 
 resolved-there : (signatures cs : List Signature) (name : List ℕ) → Gives (OneThere cs) (resolved signatures cs name)
-resolved-there signatures cs name = placed-there cs name (coverage_place name cs) (found (signature_at (coverage_place name signatures) signatures)) refl
+resolved-there signatures cs name = placed-there cs name (coverage_place name cs) (known_signature (signature_at (coverage_place name signatures) signatures)) refl
 
 all-there : (signatures cs : List Signature) (start : ℕ) (places : List ℕ) (names : List (List ℕ)) → AreBelow (length cs) places → start ≤ length cs
     → Gives (λ (p : PlacedAll). AreBelow (length p.coverages) p.places × (start ≤ length p.coverages)) (resolved_all signatures cs places names)

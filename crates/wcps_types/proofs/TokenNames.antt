@@ -11,7 +11,7 @@ use Rattle.arr_core.specs.Names.{keywords, is_keyword, is_spelled, goes_on_name}
 use Rattle.wcps_text.specs.declared.token.Keyword.{Keyword}
 use Rattle.wcps_text.specs.declared.token.Keyword.TheVariants as words
 use Rattle.wcps_text.specs.Token.{name}
-use Rattle.wcps_text.specs.Lexing.{begins_name, continues_name, Every, keyword_text, IsWritten, IsName, is_name, Reads, plain}
+use Rattle.wcps_text.specs.Lexing.{begins_name, continues_name, Every, keyword_text, IsWritten, is_word, Reads, plain}
 
 both : (a b : Bool) → a && b ≡ true → (a ≡ true) × (b ≡ true)
 both true b h = (refl, h)
@@ -117,11 +117,11 @@ token-of-name (b ∷ rest) h =
     let p = both (is_spelled (b ∷ rest) && nat_le (length (b ∷ rest)) 64) (not (is_keyword (b ∷ rest))) h in
     let q = both (is_spelled (b ∷ rest)) (nat_le (length (b ∷ rest)) 64) p.0 in
     let s = both (begins_name b) (list_all goes_on_name rest) q.0 in
-    plain (is_name s.0 (every rest s.1)) (short-of (length (b ∷ rest)) q.1) (keyword-free (b ∷ rest) (denied (is_keyword (b ∷ rest)) p.1))
+    plain (is_word s.0 (every rest s.1)) (short-of (length (b ∷ rest)) q.1) (keyword-free (b ∷ rest) (denied (is_keyword (b ∷ rest)) p.1))
 
 of-reads : (w x : List ℕ) → Reads w (Ok (name x)) → names.IsName w
 unfolding names.is_name
-of-reads w x (plain (is_name {c} {cs} begin more) short free) =
+of-reads w x (plain (is_word {c} {cs} begin more) short free) =
     together (is_spelled (c ∷ cs) && nat_le (length (c ∷ cs)) 64) (not (is_keyword (c ∷ cs)))
     (together (is_spelled (c ∷ cs)) (nat_le (length (c ∷ cs)) 64) (together (begins_name c) (list_all goes_on_name cs) begin (all-of cs more)) (of-short (length (c ∷ cs)) short))
     (ap not (free-keyword (c ∷ cs) free))

@@ -11,29 +11,19 @@ use Rattle.arr_core.specs.declared.domain.Axis.{Axis}
 use Rattle.arr_core.specs.declared.field.Field.{Field}
 use Rattle.arr_core.specs.declared.signature.Signature.{Signature}
 use Rattle.arr_core.specs.Domains.{count}
-use Rattle.wcps_text.specs.declared.tree.UnaryOp.{UnaryOp}
-use Rattle.wcps_text.specs.declared.tree.UnaryOp.TheVariants as unaries
-use Rattle.wcps_text.specs.declared.tree.BinaryOp.{BinaryOp}
-use Rattle.wcps_text.specs.declared.tree.BinaryOp.TheVariants as binaries
-use Rattle.wcps_text.specs.declared.tree.ReduceOp.{ReduceOp}
-use Rattle.wcps_text.specs.declared.tree.ReduceOp.TheVariants as reductions
-use Rattle.wcps_text.specs.declared.tree.CondenseOp.{CondenseOp}
-use Rattle.wcps_text.specs.declared.tree.CondenseOp.TheVariants as condensers
+use Rattle.wcps_text.specs.declared.operator.UnaryOperator.{UnaryOperator}
+use Rattle.wcps_text.specs.declared.operator.UnaryOperator.TheVariants as unaries
+use Rattle.wcps_text.specs.declared.operator.BinaryOperator.{BinaryOperator}
+use Rattle.wcps_text.specs.declared.operator.BinaryOperator.TheVariants as binaries
+use Rattle.wcps_text.specs.declared.operator.Aggregate.{Aggregate}
+use Rattle.wcps_text.specs.declared.operator.Aggregate.TheVariants as aggregates
 use Rattle.wcps_text.specs.declared.tree.ListItem.{ListItem}
 use Rattle.wcps_types.specs.declared.names.Bound.{Bound}
-use Rattle.wcps_types.specs.declared.typed.Operation1.{Operation1}
-use Rattle.wcps_types.specs.declared.typed.Operation1.TheVariants as ones
-use Rattle.wcps_types.specs.declared.typed.Operation2.{Operation2}
-use Rattle.wcps_types.specs.declared.typed.Operation2.TheVariants as twos
-use Rattle.wcps_types.specs.declared.typed.Condenser.{Condenser}
-use Rattle.wcps_types.specs.declared.typed.Condenser.TheVariants as kinds
-use Rattle.wcps_types.specs.declared.typed.Reduction.{Reduction}
-use Rattle.wcps_types.specs.declared.typed.Reduction.TheVariants as folds
 use Rattle.wcps_types.specs.Typed.{Typed, condense_of}
 use Rattle.wcps_types.specs.Names.{name_place, bound_place, is_name_of}
 use Rattle.wcps_types.specs.Shapes.{SlotTree, ShapeTree, FieldOf, ScalarOf, Answer, then_of, only_field, only_scalar}
 use Rattle.wcps_types.specs.Variables.{cells_from, coverage_at, bound_at, bound_of, iterator_or, variable}
-use Rattle.wcps_types.specs.Operators.{selected, made_of, negated, unary, is_same_axis, are_same, OperandTrees, joined, combined, numeric, logical, binary, bit, reduced_integer, integer_reduction, reduced_boolean, boolean_reduction, reduction}
+use Rattle.wcps_types.specs.Operators.{selected, made_of, negated, unary, is_same_axis, are_same, OperandTrees, joined, binary_shape, numeric, logical, binary, reduced_integer, integer_reduction, reduced_boolean, boolean_reduction, reduction}
 use Rattle.wcps_types.specs.Boxes.{array_on, condition_of, integers_condensed, booleans_condensed, condensed, item_number, listed_on, has_kind, first_is_truth, value_list}
 use Rattle.wcps_types.specs.WellTyped.{LieWithin, HasCells, IsTyped, ConditionIsTyped}
 use Rattle.wcps_types.proofs.Gives.{Gives, gives-then, gives-cond}
@@ -113,13 +103,13 @@ selected-typed cs scope name dom (s ∷ slots) h =
 
 -- ---- operators
 
-made-typed : (cs : List Signature) (scope : List Axis) (op : Operation1) (s : ShapeTree) → ShapeIsTyped cs scope s → Gives (ShapeIsTyped cs scope) (then_of (only_field s.domain s.fields) (made_of op))
+made-typed : (cs : List Signature) (scope : List Axis) (op : UnaryOperator) (s : ShapeTree) → ShapeIsTyped cs scope s → Gives (ShapeIsTyped cs scope) (then_of (only_field s.domain s.fields) (made_of op))
 made-typed cs scope op s h = gives-then (FieldIsTyped cs scope) (ShapeIsTyped cs scope) (only_field s.domain s.fields) (made_of op) (field-typed cs scope s.domain s.fields h) (λ f k. (k, tt))
 
-pub unary-typed : (cs : List Signature) (scope : List Axis) (op : UnaryOp) (s : ShapeTree) → ShapeIsTyped cs scope s → Gives (ShapeIsTyped cs scope) (unary op s)
-unary-typed cs scope unaries.Negate s h = made-typed cs scope ones.Negate s h
-unary-typed cs scope unaries.Plus s h = made-typed cs scope ones.Plus s h
-unary-typed cs scope unaries.Abs s h = made-typed cs scope ones.Absolute s h
+pub unary-typed : (cs : List Signature) (scope : List Axis) (op : UnaryOperator) (s : ShapeTree) → ShapeIsTyped cs scope s → Gives (ShapeIsTyped cs scope) (unary op s)
+unary-typed cs scope unaries.Negate s h = made-typed cs scope unaries.Negate s h
+unary-typed cs scope unaries.Plus s h = made-typed cs scope unaries.Plus s h
+unary-typed cs scope unaries.Absolute s h = made-typed cs scope unaries.Absolute s h
 unary-typed cs scope unaries.Not s h =
     gives-then (FieldIsTyped cs scope) (ShapeIsTyped cs scope) (only_field s.domain s.fields) negated (field-typed cs scope s.domain s.fields h)
     (λ f k. gives-cond (ShapeIsTyped cs scope) f.boolean _ _ (λ _. (k, tt)) (λ _. tt))
@@ -165,57 +155,56 @@ joined-typed cs scope (a ∷ left) [] lb rb l r h k = (h, k)
 joined-typed cs scope (a ∷ left) (b ∷ right) lb rb l r h k =
     gives-cond (OperandsAreTyped cs scope) (are_same (a ∷ left) (b ∷ right)) _ _ (λ e. (h, typed-narrow cs r scope scope (b ∷ right) (a ∷ left) refl (within-same (a ∷ left) (b ∷ right) e) k)) (λ _. tt)
 
-combined-typed : (cs : List Signature) (scope : List Axis) (op : Operation2) (boolean : Bool) (f g : FieldOf) → FieldIsTyped cs scope f → FieldIsTyped cs scope g → Gives (ShapeIsTyped cs scope) (then_of (joined f g) (combined op boolean))
+combined-typed : (cs : List Signature) (scope : List Axis) (op : BinaryOperator) (boolean : Bool) (f g : FieldOf) → FieldIsTyped cs scope f → FieldIsTyped cs scope g → Gives (ShapeIsTyped cs scope) (then_of (joined f g) (binary_shape op boolean))
 combined-typed cs scope op boolean f g h k =
-    gives-then (OperandsAreTyped cs scope) (ShapeIsTyped cs scope) (joined f g) (combined op boolean) (joined-typed cs scope f.domain g.domain f.boolean g.boolean f.tree g.tree h k) (λ o p. (p, tt))
+    gives-then (OperandsAreTyped cs scope) (ShapeIsTyped cs scope) (joined f g) (binary_shape op boolean) (joined-typed cs scope f.domain g.domain f.boolean g.boolean f.tree g.tree h k) (λ o p. (p, tt))
 
-numeric-typed : (cs : List Signature) (scope : List Axis) (op : Operation2) (boolean : Bool) (l r : ShapeTree) → ShapeIsTyped cs scope l → ShapeIsTyped cs scope r → Gives (ShapeIsTyped cs scope) (numeric op boolean l r)
+numeric-typed : (cs : List Signature) (scope : List Axis) (op : BinaryOperator) (boolean : Bool) (l r : ShapeTree) → ShapeIsTyped cs scope l → ShapeIsTyped cs scope r → Gives (ShapeIsTyped cs scope) (numeric op boolean l r)
 numeric-typed cs scope op boolean l r h k =
     gives-then (FieldIsTyped cs scope) (ShapeIsTyped cs scope) (only_field l.domain l.fields) _ (field-typed cs scope l.domain l.fields h)
     (λ f p. gives-then (FieldIsTyped cs scope) (ShapeIsTyped cs scope) (only_field r.domain r.fields) _ (field-typed cs scope r.domain r.fields k) (λ g q. combined-typed cs scope op boolean f g p q))
 
-logical-typed : (cs : List Signature) (scope : List Axis) (op : Operation2) (l r : ShapeTree) → ShapeIsTyped cs scope l → ShapeIsTyped cs scope r → Gives (ShapeIsTyped cs scope) (logical op l r)
+logical-typed : (cs : List Signature) (scope : List Axis) (op : BinaryOperator) (l r : ShapeTree) → ShapeIsTyped cs scope l → ShapeIsTyped cs scope r → Gives (ShapeIsTyped cs scope) (logical op l r)
 logical-typed cs scope op l r h k =
     gives-then (FieldIsTyped cs scope) (ShapeIsTyped cs scope) (only_field l.domain l.fields) _ (field-typed cs scope l.domain l.fields h)
     (λ f p. gives-then (FieldIsTyped cs scope) (ShapeIsTyped cs scope) (only_field r.domain r.fields) _ (field-typed cs scope r.domain r.fields k)
     (λ g q. gives-cond (ShapeIsTyped cs scope) (not f.boolean || not g.boolean) _ _ (λ _. tt) (λ _. combined-typed cs scope op true f g p q)))
 
-pub binary-typed : (cs : List Signature) (scope : List Axis) (op : BinaryOp) (l r : ShapeTree) → ShapeIsTyped cs scope l → ShapeIsTyped cs scope r → Gives (ShapeIsTyped cs scope) (binary op l r)
-binary-typed cs scope binaries.Multiply l r h k = numeric-typed cs scope twos.Multiply false l r h k
-binary-typed cs scope binaries.Divide l r h k = numeric-typed cs scope twos.Divide false l r h k
-binary-typed cs scope binaries.Add l r h k = numeric-typed cs scope twos.Add false l r h k
-binary-typed cs scope binaries.Subtract l r h k = numeric-typed cs scope twos.Subtract false l r h k
-binary-typed cs scope binaries.Less l r h k = numeric-typed cs scope twos.Less true l r h k
-binary-typed cs scope binaries.LessEqual l r h k = numeric-typed cs scope twos.LessEqual true l r h k
-binary-typed cs scope binaries.Greater l r h k = numeric-typed cs scope twos.Greater true l r h k
-binary-typed cs scope binaries.GreaterEqual l r h k = numeric-typed cs scope twos.GreaterEqual true l r h k
-binary-typed cs scope binaries.Equal l r h k = numeric-typed cs scope twos.Equal true l r h k
-binary-typed cs scope binaries.NotEqual l r h k = numeric-typed cs scope twos.NotEqual true l r h k
-binary-typed cs scope binaries.And l r h k = logical-typed cs scope twos.And l r h k
-binary-typed cs scope binaries.Or l r h k = logical-typed cs scope twos.Or l r h k
-binary-typed cs scope binaries.Xor l r h k = logical-typed cs scope twos.Xor l r h k
+pub binary-typed : (cs : List Signature) (scope : List Axis) (op : BinaryOperator) (l r : ShapeTree) → ShapeIsTyped cs scope l → ShapeIsTyped cs scope r → Gives (ShapeIsTyped cs scope) (binary op l r)
+binary-typed cs scope binaries.Multiply l r h k = numeric-typed cs scope binaries.Multiply false l r h k
+binary-typed cs scope binaries.Divide l r h k = numeric-typed cs scope binaries.Divide false l r h k
+binary-typed cs scope binaries.Add l r h k = numeric-typed cs scope binaries.Add false l r h k
+binary-typed cs scope binaries.Subtract l r h k = numeric-typed cs scope binaries.Subtract false l r h k
+binary-typed cs scope binaries.Less l r h k = numeric-typed cs scope binaries.Less true l r h k
+binary-typed cs scope binaries.LessEqual l r h k = numeric-typed cs scope binaries.LessEqual true l r h k
+binary-typed cs scope binaries.Greater l r h k = numeric-typed cs scope binaries.Greater true l r h k
+binary-typed cs scope binaries.GreaterEqual l r h k = numeric-typed cs scope binaries.GreaterEqual true l r h k
+binary-typed cs scope binaries.Equal l r h k = numeric-typed cs scope binaries.Equal true l r h k
+binary-typed cs scope binaries.NotEqual l r h k = numeric-typed cs scope binaries.NotEqual true l r h k
+binary-typed cs scope binaries.And l r h k = logical-typed cs scope binaries.And l r h k
+binary-typed cs scope binaries.Or l r h k = logical-typed cs scope binaries.Or l r h k
+binary-typed cs scope binaries.Xor l r h k = logical-typed cs scope binaries.Xor l r h k
+binary-typed cs scope binaries.Bit l r h k = numeric-typed cs scope binaries.Bit true l r h k
 
-pub bit-typed : (cs : List Signature) (scope : List Axis) (l r : ShapeTree) → ShapeIsTyped cs scope l → ShapeIsTyped cs scope r → Gives (ShapeIsTyped cs scope) (bit l r)
-bit-typed cs scope l r h k = numeric-typed cs scope twos.Bit true l r h k
-
-integers-typed : (cs : List Signature) (scope : List Axis) (op : Reduction) (s : ShapeTree) → ShapeIsTyped cs scope s → Gives (ShapeIsTyped cs scope) (integer_reduction op s)
+integers-typed : (cs : List Signature) (scope : List Axis) (op : Aggregate) (s : ShapeTree) → ShapeIsTyped cs scope s → Gives (ShapeIsTyped cs scope) (integer_reduction op s)
 integers-typed cs scope op s h =
     gives-then (FieldIsTyped cs scope) (ShapeIsTyped cs scope) (only_field s.domain s.fields) (reduced_integer op) (field-typed cs scope s.domain s.fields h)
     (λ f k. gives-cond (ShapeIsTyped cs scope) f.boolean _ _ (λ _. tt) (λ _. (k, tt)))
 
-booleans-typed : (cs : List Signature) (scope : List Axis) (op : Reduction) (boolean : Bool) (s : ShapeTree) → ShapeIsTyped cs scope s → Gives (ShapeIsTyped cs scope) (boolean_reduction op boolean s)
+booleans-typed : (cs : List Signature) (scope : List Axis) (op : Aggregate) (boolean : Bool) (s : ShapeTree) → ShapeIsTyped cs scope s → Gives (ShapeIsTyped cs scope) (boolean_reduction op boolean s)
 booleans-typed cs scope op boolean s h =
     gives-then (FieldIsTyped cs scope) (ShapeIsTyped cs scope) (only_field s.domain s.fields) (reduced_boolean op boolean) (field-typed cs scope s.domain s.fields h)
     (λ f k. gives-cond (ShapeIsTyped cs scope) f.boolean _ _ (λ _. (k, tt)) (λ _. tt))
 
-pub reduction-typed : (cs : List Signature) (scope : List Axis) (op : ReduceOp) (s : ShapeTree) → ShapeIsTyped cs scope s → Gives (ShapeIsTyped cs scope) (reduction op s)
-reduction-typed cs scope reductions.Count s h = booleans-typed cs scope folds.Count false s h
-reduction-typed cs scope reductions.Some s h = booleans-typed cs scope folds.Some true s h
-reduction-typed cs scope reductions.All s h = booleans-typed cs scope folds.All true s h
-reduction-typed cs scope reductions.Add s h = integers-typed cs scope folds.Add s h
-reduction-typed cs scope reductions.Avg s h = integers-typed cs scope folds.Avg s h
-reduction-typed cs scope reductions.Min s h = integers-typed cs scope folds.Min s h
-reduction-typed cs scope reductions.Max s h = integers-typed cs scope folds.Max s h
+pub reduction-typed : (cs : List Signature) (scope : List Axis) (op : Aggregate) (s : ShapeTree) → ShapeIsTyped cs scope s → Gives (ShapeIsTyped cs scope) (reduction op s)
+reduction-typed cs scope aggregates.Count s h = booleans-typed cs scope aggregates.Count false s h
+reduction-typed cs scope aggregates.Any s h = booleans-typed cs scope aggregates.Any true s h
+reduction-typed cs scope aggregates.Every s h = booleans-typed cs scope aggregates.Every true s h
+reduction-typed cs scope aggregates.Sum s h = integers-typed cs scope aggregates.Sum s h
+reduction-typed cs scope aggregates.Average s h = integers-typed cs scope aggregates.Average s h
+reduction-typed cs scope aggregates.Least s h = integers-typed cs scope aggregates.Least s h
+reduction-typed cs scope aggregates.Greatest s h = integers-typed cs scope aggregates.Greatest s h
+reduction-typed cs scope aggregates.Product s h = integers-typed cs scope aggregates.Product s h
 
 -- ---- boxes
 
@@ -225,23 +214,25 @@ array-typed cs scope box s h = (h, tt)
 pub condition-typed : (cs : List Signature) (scope : List Axis) (s : ScalarOf) → ScalarIsTyped cs scope s → Gives (λ t. IsTyped cs t scope []) (condition_of s)
 condition-typed cs scope s h = gives-cond (λ t. IsTyped cs t scope []) s.boolean _ _ (λ _. h) (λ _. tt)
 
-condenser-typed : (cs : List Signature) (scope : List Axis) (op : Condenser) (box : List Axis) (c : Option Typed) (e : Typed) → ConditionIsTyped cs (scope ++ box) c → IsTyped cs e (scope ++ box) [] → IsTyped cs (condense_of op box c e) scope []
+condenser-typed : (cs : List Signature) (scope : List Axis) (op : Aggregate) (box : List Axis) (c : Option Typed) (e : Typed) → ConditionIsTyped cs (scope ++ box) c → IsTyped cs e (scope ++ box) [] → IsTyped cs (condense_of op box c e) scope []
 condenser-typed cs scope op box None e h k = k
 condenser-typed cs scope op box (Some c) e h k = (h, k)
 
-integers-condensed : (cs : List Signature) (scope : List Axis) (op : Condenser) (box : List Axis) (c : Option Typed) (s : ScalarOf) → ConditionIsTyped cs (scope ++ box) c → ScalarIsTyped cs (scope ++ box) s → Gives (ShapeIsTyped cs scope) (integers_condensed op box c s)
+integers-condensed : (cs : List Signature) (scope : List Axis) (op : Aggregate) (box : List Axis) (c : Option Typed) (s : ScalarOf) → ConditionIsTyped cs (scope ++ box) c → ScalarIsTyped cs (scope ++ box) s → Gives (ShapeIsTyped cs scope) (integers_condensed op box c s)
 integers-condensed cs scope op box c s h k = gives-cond (ShapeIsTyped cs scope) s.boolean _ _ (λ _. tt) (λ _. (condenser-typed cs scope op box c s.tree h k, tt))
 
-booleans-condensed : (cs : List Signature) (scope : List Axis) (op : Condenser) (box : List Axis) (c : Option Typed) (s : ScalarOf) → ConditionIsTyped cs (scope ++ box) c → ScalarIsTyped cs (scope ++ box) s → Gives (ShapeIsTyped cs scope) (booleans_condensed op box c s)
-booleans-condensed cs scope op box c s h k = gives-cond (ShapeIsTyped cs scope) s.boolean _ _ (λ _. (condenser-typed cs scope op box c s.tree h k, tt)) (λ _. tt)
+booleans-condensed : (cs : List Signature) (scope : List Axis) (op : Aggregate) (boolean : Bool) (box : List Axis) (c : Option Typed) (s : ScalarOf) → ConditionIsTyped cs (scope ++ box) c → ScalarIsTyped cs (scope ++ box) s → Gives (ShapeIsTyped cs scope) (booleans_condensed op boolean box c s)
+booleans-condensed cs scope op boolean box c s h k = gives-cond (ShapeIsTyped cs scope) s.boolean _ _ (λ _. (condenser-typed cs scope op box c s.tree h k, tt)) (λ _. tt)
 
-pub condensed-typed : (cs : List Signature) (scope : List Axis) (op : CondenseOp) (box : List Axis) (c : Option Typed) (s : ScalarOf) → ConditionIsTyped cs (scope ++ box) c → ScalarIsTyped cs (scope ++ box) s → Gives (ShapeIsTyped cs scope) (condensed op box c s)
-condensed-typed cs scope condensers.Add box c s h k = integers-condensed cs scope kinds.Add box c s h k
-condensed-typed cs scope condensers.Multiply box c s h k = integers-condensed cs scope kinds.Multiply box c s h k
-condensed-typed cs scope condensers.Max box c s h k = integers-condensed cs scope kinds.Max box c s h k
-condensed-typed cs scope condensers.Min box c s h k = integers-condensed cs scope kinds.Min box c s h k
-condensed-typed cs scope condensers.And box c s h k = booleans-condensed cs scope kinds.And box c s h k
-condensed-typed cs scope condensers.Or box c s h k = booleans-condensed cs scope kinds.Or box c s h k
+pub condensed-typed : (cs : List Signature) (scope : List Axis) (op : Aggregate) (box : List Axis) (c : Option Typed) (s : ScalarOf) → ConditionIsTyped cs (scope ++ box) c → ScalarIsTyped cs (scope ++ box) s → Gives (ShapeIsTyped cs scope) (condensed op box c s)
+condensed-typed cs scope aggregates.Sum box c s h k = integers-condensed cs scope aggregates.Sum box c s h k
+condensed-typed cs scope aggregates.Product box c s h k = integers-condensed cs scope aggregates.Product box c s h k
+condensed-typed cs scope aggregates.Greatest box c s h k = integers-condensed cs scope aggregates.Greatest box c s h k
+condensed-typed cs scope aggregates.Least box c s h k = integers-condensed cs scope aggregates.Least box c s h k
+condensed-typed cs scope aggregates.Every box c s h k = booleans-condensed cs scope aggregates.Every true box c s h k
+condensed-typed cs scope aggregates.Any box c s h k = booleans-condensed cs scope aggregates.Any true box c s h k
+condensed-typed cs scope aggregates.Count box c s h k = booleans-condensed cs scope aggregates.Count false box c s h k
+condensed-typed cs scope aggregates.Average box c s h k = integers-condensed cs scope aggregates.Average box c s h k
 
 listed-typed : (cs : List Signature) (scope box : List Axis) (boolean : Bool) (items : List ListItem) → length items ≡ count box → Gives (ShapeIsTyped cs scope) (listed_on boolean box items)
 listed-typed cs scope box boolean items e =

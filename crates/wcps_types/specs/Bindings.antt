@@ -53,9 +53,9 @@ abbrev pub signature_at : Option ℕ → List Signature → Option Signature
 signature_at None signatures = None
 signature_at (Some k) signatures = slice_get signatures k
 
-abbrev pub found : Option Signature → Answer Signature
-found None = Err NoSuchCoverage
-found (Some s) = Ok s
+abbrev pub known_signature : Option Signature → Answer Signature
+known_signature None = Err NoSuchCoverage
+known_signature (Some s) = Ok s
 
 abbrev pub added : List Signature → Signature → Answer Placed
 added cs s = Ok (record { coverages = cs ++ s ∷ []; place = length cs })
@@ -66,7 +66,7 @@ place_or None cs a = a
 
 -- a coverage that is named already has its place; another one is added at the end
 abbrev pub resolved : List Signature → List Signature → List ℕ → Answer Placed
-resolved signatures cs name = place_or (coverage_place name cs) cs (then_of (found (signature_at (coverage_place name signatures) signatures)) (added cs))
+resolved signatures cs name = place_or (coverage_place name cs) cs (then_of (known_signature (signature_at (coverage_place name signatures) signatures)) (added cs))
 
 -- names in turn, after those at the places so far
 abbrev pub resolved_all : List Signature → List Signature → List ℕ → List (List ℕ) → Answer PlacedAll

@@ -5,14 +5,12 @@ use Rattle.std.specs.Str.{bytes_eq}
 use Rattle.arr_core.specs.declared.domain.Axis.{Axis}
 use Rattle.arr_core.specs.Domains.{count, names_of}
 use Rattle.arr_core.specs.Names.{is_name}
-use Rattle.wcps_text.specs.declared.tree.CondenseOp.{CondenseOp}
-use Rattle.wcps_text.specs.declared.tree.CondenseOp.TheVariants as condensers
+use Rattle.wcps_text.specs.declared.operator.Aggregate.{Aggregate}
+use Rattle.wcps_text.specs.declared.operator.Aggregate.TheVariants as aggregates
 use Rattle.wcps_text.specs.declared.tree.ListItem.{ListItem}
 use Rattle.wcps_text.specs.declared.tree.ListItem.TheVariants.{Int, Truth}
 use Rattle.wcps_types.specs.declared.refusal.TypeRefusal.{TypeRefusal}
 use Rattle.wcps_types.specs.declared.refusal.TypeRefusal.TheVariants.{NoSuchAxis, BadInterval, NeedsBoolean, NeedsInteger, ListLength}
-use Rattle.wcps_types.specs.declared.typed.Condenser.{Condenser}
-use Rattle.wcps_types.specs.declared.typed.Condenser.TheVariants as kinds
 use Rattle.wcps_types.specs.declared.names.Bound.{Bound}
 use Rattle.wcps_types.specs.declared.boxes.Iterators.{Iterators}
 use Rattle.wcps_types.specs.Typed.{Typed, array, listed, condense_of}
@@ -71,20 +69,22 @@ array_on box s = Ok (unnamed box s.boolean (array s.tree))
 abbrev pub condition_of : ScalarOf → Answer Typed
 condition_of s = cond s.boolean (Ok s.tree) (Err NeedsBoolean)
 
-abbrev pub integers_condensed : Condenser → List Axis → Option Typed → ScalarOf → Answer ShapeTree
+abbrev pub integers_condensed : Aggregate → List Axis → Option Typed → ScalarOf → Answer ShapeTree
 integers_condensed op box c s = cond s.boolean (Err NeedsInteger) (Ok (unnamed [] false (condense_of op box c s.tree)))
 
-abbrev pub booleans_condensed : Condenser → List Axis → Option Typed → ScalarOf → Answer ShapeTree
-booleans_condensed op box c s = cond s.boolean (Ok (unnamed [] true (condense_of op box c s.tree))) (Err NeedsBoolean)
+abbrev pub booleans_condensed : Aggregate → Bool → List Axis → Option Typed → ScalarOf → Answer ShapeTree
+booleans_condensed op boolean box c s = cond s.boolean (Ok (unnamed [] boolean (condense_of op box c s.tree))) (Err NeedsBoolean)
 
 -- `condense`: `+ * max min` of integers, `and or` of Booleans
-abbrev pub condensed : CondenseOp → List Axis → Option Typed → ScalarOf → Answer ShapeTree
-condensed condensers.Add box c s = integers_condensed kinds.Add box c s
-condensed condensers.Multiply box c s = integers_condensed kinds.Multiply box c s
-condensed condensers.Max box c s = integers_condensed kinds.Max box c s
-condensed condensers.Min box c s = integers_condensed kinds.Min box c s
-condensed condensers.And box c s = booleans_condensed kinds.And box c s
-condensed condensers.Or box c s = booleans_condensed kinds.Or box c s
+abbrev pub condensed : Aggregate → List Axis → Option Typed → ScalarOf → Answer ShapeTree
+condensed aggregates.Sum box c s = integers_condensed aggregates.Sum box c s
+condensed aggregates.Product box c s = integers_condensed aggregates.Product box c s
+condensed aggregates.Greatest box c s = integers_condensed aggregates.Greatest box c s
+condensed aggregates.Least box c s = integers_condensed aggregates.Least box c s
+condensed aggregates.Every box c s = booleans_condensed aggregates.Every true box c s
+condensed aggregates.Any box c s = booleans_condensed aggregates.Any true box c s
+condensed aggregates.Count box c s = booleans_condensed aggregates.Count false box c s
+condensed aggregates.Average box c s = integers_condensed aggregates.Average box c s
 
 abbrev pub is_truth : ListItem → Bool
 is_truth (Int z) = false

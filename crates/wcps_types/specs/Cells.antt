@@ -14,4 +14,4 @@ max_cells = 1048576
 
 -- the number where it is allowed, else one more than is allowed
 abbrev pub capped_cells : ℕ → ℕ
-capped_cells n = min n 1048577
+capped_cells n = min n (max_cells + 1)

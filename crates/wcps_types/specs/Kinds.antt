@@ -1,17 +1,15 @@
 -- Kinds: which trees give Booleans, as 0 or 1, and which integers.
-use Rattle.std.specs.Prelude.{◌≡◌, ℕ, ℤ, pos, List, [], ◌∷◌, map, Bool, true, false, not, ◌||◌, Option, Some, None, option_map, slice_get}
+use Rattle.std.specs.Prelude.{◌≡◌, ℕ, ℤ, pos, List, [], ◌∷◌, Bool, true, false, not, ◌||◌, Option, Some, None, option_map, slice_get}
 use Rattle.std.specs.List.{list_all}
 use Rattle.std.specs.Ordering.{int_eq}
 use Rattle.arr_core.specs.declared.field.Field.{Field}
 use Rattle.arr_core.specs.declared.signature.Signature.{Signature}
-use Rattle.wcps_types.specs.declared.typed.Operation1.{Operation1}
-use Rattle.wcps_types.specs.declared.typed.Operation1.TheVariants as ones
-use Rattle.wcps_types.specs.declared.typed.Operation2.{Operation2}
-use Rattle.wcps_types.specs.declared.typed.Operation2.TheVariants as twos
-use Rattle.wcps_types.specs.declared.typed.Condenser.{Condenser}
-use Rattle.wcps_types.specs.declared.typed.Condenser.TheVariants as condensers
-use Rattle.wcps_types.specs.declared.typed.Reduction.{Reduction}
-use Rattle.wcps_types.specs.declared.typed.Reduction.TheVariants as reductions
+use Rattle.wcps_text.specs.declared.operator.UnaryOperator.{UnaryOperator}
+use Rattle.wcps_text.specs.declared.operator.UnaryOperator.TheVariants as unaries
+use Rattle.wcps_text.specs.declared.operator.BinaryOperator.{BinaryOperator}
+use Rattle.wcps_text.specs.declared.operator.BinaryOperator.TheVariants as binaries
+use Rattle.wcps_text.specs.declared.operator.Aggregate.{Aggregate}
+use Rattle.wcps_text.specs.declared.operator.Aggregate.TheVariants as aggregates
 use Rattle.wcps_types.specs.Typed.{Typed, number, iterator, cell, unary, binary, scalar, select, bracket, slice, array, listed, condense, condense_where, reduce, FieldTree, CombinationTree}
 use Rattle.wcps_types.specs.Variables.{is_boolean}
 
@@ -44,79 +42,72 @@ meets_some asked None = false
 meets_some asked (Some b) = meets asked b
 
 -- what an operation takes
-abbrev pub takes1 : Operation1 → Option Bool
-takes1 ones.Negate = None
-takes1 ones.Plus = None
-takes1 ones.Absolute = None
-takes1 ones.Not = Some true
+abbrev pub takes1 : UnaryOperator → Option Bool
+takes1 unaries.Negate = None
+takes1 unaries.Plus = None
+takes1 unaries.Absolute = None
+takes1 unaries.Not = Some true
 
 -- whether it gives a Boolean
-abbrev pub gives1 : Operation1 → Bool
-gives1 ones.Negate = false
-gives1 ones.Plus = false
-gives1 ones.Absolute = false
-gives1 ones.Not = true
+abbrev pub gives1 : UnaryOperator → Bool
+gives1 unaries.Negate = false
+gives1 unaries.Plus = false
+gives1 unaries.Absolute = false
+gives1 unaries.Not = true
 
-abbrev pub takes2 : Operation2 → Option Bool
-takes2 twos.Multiply = None
-takes2 twos.Divide = None
-takes2 twos.Add = None
-takes2 twos.Subtract = None
-takes2 twos.Less = None
-takes2 twos.LessEqual = None
-takes2 twos.Greater = None
-takes2 twos.GreaterEqual = None
-takes2 twos.Equal = None
-takes2 twos.NotEqual = None
-takes2 twos.And = Some true
-takes2 twos.Or = Some true
-takes2 twos.Xor = Some true
-takes2 twos.Bit = None
+abbrev pub takes2 : BinaryOperator → Option Bool
+takes2 binaries.Multiply = None
+takes2 binaries.Divide = None
+takes2 binaries.Add = None
+takes2 binaries.Subtract = None
+takes2 binaries.Less = None
+takes2 binaries.LessEqual = None
+takes2 binaries.Greater = None
+takes2 binaries.GreaterEqual = None
+takes2 binaries.Equal = None
+takes2 binaries.NotEqual = None
+takes2 binaries.And = Some true
+takes2 binaries.Or = Some true
+takes2 binaries.Xor = Some true
+takes2 binaries.Bit = None
 
-abbrev pub gives2 : Operation2 → Bool
-gives2 twos.Multiply = false
-gives2 twos.Divide = false
-gives2 twos.Add = false
-gives2 twos.Subtract = false
-gives2 twos.Less = true
-gives2 twos.LessEqual = true
-gives2 twos.Greater = true
-gives2 twos.GreaterEqual = true
-gives2 twos.Equal = true
-gives2 twos.NotEqual = true
-gives2 twos.And = true
-gives2 twos.Or = true
-gives2 twos.Xor = true
-gives2 twos.Bit = true
+abbrev pub gives2 : BinaryOperator → Bool
+gives2 binaries.Multiply = false
+gives2 binaries.Divide = false
+gives2 binaries.Add = false
+gives2 binaries.Subtract = false
+gives2 binaries.Less = true
+gives2 binaries.LessEqual = true
+gives2 binaries.Greater = true
+gives2 binaries.GreaterEqual = true
+gives2 binaries.Equal = true
+gives2 binaries.NotEqual = true
+gives2 binaries.And = true
+gives2 binaries.Or = true
+gives2 binaries.Xor = true
+gives2 binaries.Bit = true
 
--- whether a condenser takes and gives Booleans
-abbrev pub is_logical : Condenser → Bool
-is_logical condensers.Add = false
-is_logical condensers.Multiply = false
-is_logical condensers.Max = false
-is_logical condensers.Min = false
-is_logical condensers.And = true
-is_logical condensers.Or = true
-
--- whether a reduction takes Booleans
-abbrev pub takes_boolean : Reduction → Bool
-takes_boolean reductions.Count = true
-takes_boolean reductions.Some = true
-takes_boolean reductions.All = true
-takes_boolean reductions.Add = false
-takes_boolean reductions.Avg = false
-takes_boolean reductions.Min = false
-takes_boolean reductions.Max = false
+-- whether an aggregate takes Booleans
+abbrev pub takes_boolean : Aggregate → Bool
+takes_boolean aggregates.Sum = false
+takes_boolean aggregates.Product = false
+takes_boolean aggregates.Greatest = false
+takes_boolean aggregates.Least = false
+takes_boolean aggregates.Every = true
+takes_boolean aggregates.Any = true
+takes_boolean aggregates.Count = true
+takes_boolean aggregates.Average = false
 
 -- whether it gives one
-abbrev pub gives_boolean : Reduction → Bool
-gives_boolean reductions.Count = false
-gives_boolean reductions.Some = true
-gives_boolean reductions.All = true
-gives_boolean reductions.Add = false
-gives_boolean reductions.Avg = false
-gives_boolean reductions.Min = false
-gives_boolean reductions.Max = false
+abbrev pub gives_boolean : Aggregate → Bool
+gives_boolean aggregates.Sum = false
+gives_boolean aggregates.Product = false
+gives_boolean aggregates.Greatest = false
+gives_boolean aggregates.Least = false
+gives_boolean aggregates.Every = true
+gives_boolean aggregates.Any = true
+gives_boolean aggregates.Count = false
+gives_boolean aggregates.Average = false
 
 -- A tree gives what is asked, and so do its parts: a number kept for a Boolean is 0 or 1, a cell has the kind of its
 -- field, an operation takes and gives its own, a position is an integer and a condition a Boolean.
@@ -132,8 +123,8 @@ HasKind cs (bracket e) k = HasKind cs e k
 HasKind cs (slice e axis lo hi position) k = HasKind cs e k × HasKind cs position (Some false)
 HasKind cs (array e) k = HasKind cs e k
 HasKind cs (listed box items) k = are_kept k items ≡ true
-HasKind cs (condense op box e) k = HasKind cs e (Some (is_logical op)) × (meets k (is_logical op) ≡ true)
-HasKind cs (condense_where op box c e) k = HasKind cs c (Some true) × HasKind cs e (Some (is_logical op)) × (meets k (is_logical op) ≡ true)
+HasKind cs (condense op box e) k = HasKind cs e (Some (takes_boolean op)) × (meets k (gives_boolean op) ≡ true)
+HasKind cs (condense_where op box c e) k = HasKind cs c (Some true) × HasKind cs e (Some (takes_boolean op)) × (meets k (gives_boolean op) ≡ true)
 HasKind cs (reduce op box e) k = HasKind cs e (Some (takes_boolean op)) × (meets k (gives_boolean op) ≡ true)
 
 -- each field of an item has its kind

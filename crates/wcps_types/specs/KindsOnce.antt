@@ -3,7 +3,7 @@ use Rattle.std.specs.Prelude.{List, [], ◌∷◌, Bool, true, false, Option, So
 use Rattle.std.specs.Coded.{×_prop, Unit-prop, Coded-set, coded_bool}
 use Rattle.arr_core.specs.declared.signature.Signature.{Signature}
 use Rattle.wcps_types.specs.Typed.{Typed, number, iterator, cell, unary, binary, scalar, select, bracket, slice, array, listed, condense, condense_where, reduce, FieldTree, CombinationTree}
-use Rattle.wcps_types.specs.Kinds.{meets, meets_some, are_kept, cell_kind, takes1, gives1, takes2, gives2, is_logical, takes_boolean, gives_boolean, HasKind, FieldsHaveKinds, ConditionIsBoolean, HaveKinds}
+use Rattle.wcps_types.specs.Kinds.{meets, meets_some, are_kept, cell_kind, takes1, gives1, takes2, gives2, takes_boolean, gives_boolean, HasKind, FieldsHaveKinds, ConditionIsBoolean, HaveKinds}
 
 HasKind-prop : (cs : List Signature) (t : Typed) (k : Option Bool) → IsProp (HasKind cs t k)
 HasKind-prop cs (number z) k = Coded-set coded_bool (are_kept k (z ∷ [])) true
@@ -17,9 +17,9 @@ HasKind-prop cs (bracket e) k = HasKind-prop cs e k
 HasKind-prop cs (slice e axis lo hi position) k = ×_prop (HasKind-prop cs e k) (HasKind-prop cs position (Some false))
 HasKind-prop cs (array e) k = HasKind-prop cs e k
 HasKind-prop cs (listed box items) k = Coded-set coded_bool (are_kept k items) true
-HasKind-prop cs (condense op box e) k = ×_prop (HasKind-prop cs e (Some (is_logical op))) (Coded-set coded_bool (meets k (is_logical op)) true)
+HasKind-prop cs (condense op box e) k = ×_prop (HasKind-prop cs e (Some (takes_boolean op))) (Coded-set coded_bool (meets k (gives_boolean op)) true)
 HasKind-prop cs (condense_where op box c e) k =
-    Prim.hlevel (HasKind-prop cs c (Some true), HasKind-prop cs e (Some (is_logical op)), Coded-set coded_bool (meets k (is_logical op)) true)
+    Prim.hlevel (HasKind-prop cs c (Some true), HasKind-prop cs e (Some (takes_boolean op)), Coded-set coded_bool (meets k (gives_boolean op)) true)
 HasKind-prop cs (reduce op box e) k = ×_prop (HasKind-prop cs e (Some (takes_boolean op))) (Coded-set coded_bool (meets k (gives_boolean op)) true)
 
 FieldsHaveKinds-prop : (cs : List Signature) (fields : List FieldTree) → IsProp (FieldsHaveKinds cs fields)

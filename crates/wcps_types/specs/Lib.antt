@@ -3,9 +3,8 @@ pub mod WellTyped
 pub mod WellTypedOnce
 pub mod Kinds
 pub mod KindsOnce
-pub mod TypedQueries
 pub mod Renamed
-pub mod SharedQueries
+pub mod TypedQueries
 pub mod Names
 pub mod Shapes
 pub mod Operators

@@ -3,19 +3,13 @@ use Rattle.std.specs.Prelude.{ℕ, List, [], ◌∷◌, Bool, true, false, cond,
 use Rattle.std.specs.Ordering.{int_eq}
 use Rattle.std.specs.Str.{bytes_eq}
 use Rattle.arr_core.specs.declared.domain.Axis.{Axis}
-use Rattle.wcps_text.specs.declared.tree.UnaryOp.{UnaryOp}
-use Rattle.wcps_text.specs.declared.tree.UnaryOp.TheVariants as unaries
-use Rattle.wcps_text.specs.declared.tree.BinaryOp.{BinaryOp}
-use Rattle.wcps_text.specs.declared.tree.BinaryOp.TheVariants as binaries
-use Rattle.wcps_text.specs.declared.tree.ReduceOp.{ReduceOp}
-use Rattle.wcps_text.specs.declared.tree.ReduceOp.TheVariants as reductions
+use Rattle.wcps_text.specs.declared.operator.UnaryOperator.{UnaryOperator}
+use Rattle.wcps_text.specs.declared.operator.UnaryOperator.TheVariants as unaries
+use Rattle.wcps_text.specs.declared.operator.BinaryOperator.{BinaryOperator}
+use Rattle.wcps_text.specs.declared.operator.BinaryOperator.TheVariants as binaries
+use Rattle.wcps_text.specs.declared.operator.Aggregate.{Aggregate}
+use Rattle.wcps_text.specs.declared.operator.Aggregate.TheVariants as aggregates
 use Rattle.wcps_types.specs.declared.refusal.TypeRefusal.TheVariants.{NoSuchField, DomainMismatch, NeedsBoolean, NeedsInteger}
-use Rattle.wcps_types.specs.declared.typed.Operation1.{Operation1}
-use Rattle.wcps_types.specs.declared.typed.Operation1.TheVariants as ones
-use Rattle.wcps_types.specs.declared.typed.Operation2.{Operation2}
-use Rattle.wcps_types.specs.declared.typed.Operation2.TheVariants as twos
-use Rattle.wcps_types.specs.declared.typed.Reduction.{Reduction}
-use Rattle.wcps_types.specs.declared.typed.Reduction.TheVariants as kinds
 use Rattle.wcps_types.specs.declared.operators.Operands.{Operands}
 use Rattle.wcps_types.specs.Typed as typed
 use Rattle.wcps_types.specs.Typed.{Typed, only_tree}
@@ -32,17 +26,17 @@ selected name axes [] = Err NoSuchField
 selected name axes (s ∷ more) = cond (is_name_of name s.name) (Ok (one_selected axes s)) (selected name axes more)
 
 -- the integer that an operation makes of a field
-abbrev pub made_of : Operation1 → FieldOf → Answer ShapeTree
+abbrev pub made_of : UnaryOperator → FieldOf → Answer ShapeTree
 made_of op f = Ok (unnamed f.domain false (typed.unary op f.tree))
 
 abbrev pub negated : FieldOf → Answer ShapeTree
-negated f = cond f.boolean (Ok (unnamed f.domain true (typed.unary ones.Not f.tree))) (Err NeedsBoolean)
+negated f = cond f.boolean (Ok (unnamed f.domain true (typed.unary unaries.Not f.tree))) (Err NeedsBoolean)
 
 -- `-`, `+` and `abs` give an integer; `not` needs a Boolean and gives one
-abbrev pub unary : UnaryOp → ShapeTree → Answer ShapeTree
-unary unaries.Negate e = then_of (only_field e.domain e.fields) (made_of ones.Negate)
-unary unaries.Plus e = then_of (only_field e.domain e.fields) (made_of ones.Plus)
-unary unaries.Abs e = then_of (only_field e.domain e.fields) (made_of ones.Absolute)
+abbrev pub unary : UnaryOperator → ShapeTree → Answer ShapeTree
+unary unaries.Negate e = then_of (only_field e.domain e.fields) (made_of unaries.Negate)
+unary unaries.Plus e = then_of (only_field e.domain e.fields) (made_of unaries.Plus)
+unary unaries.Absolute e = then_of (only_field e.domain e.fields) (made_of unaries.Absolute)
 unary unaries.Not e = then_of (only_field e.domain e.fields) negated
 
 -- the same name and bounds
@@ -71,59 +65,58 @@ joined l r =
     (cond (is_scalar r.domain && not (is_scalar l.domain)) (Ok (record { domain = l.domain; left = l.tree; right = typed.scalar r.tree }))
     (cond (are_same l.domain r.domain) (Ok (record { domain = l.domain; left = l.tree; right = r.tree })) (Err DomainMismatch)))
 
-abbrev pub combined : Operation2 → Bool → OperandTrees → Answer ShapeTree
-combined op boolean o = Ok (unnamed o.domain boolean (typed.binary op o.left o.right))
+abbrev pub binary_shape : BinaryOperator → Bool → OperandTrees → Answer ShapeTree
+binary_shape op boolean o = Ok (unnamed o.domain boolean (typed.binary op o.left o.right))
 
 -- an operation on numbers, where a Boolean counts as 0 or 1: one field each, then the domains
-abbrev pub numeric : Operation2 → Bool → ShapeTree → ShapeTree → Answer ShapeTree
+abbrev pub numeric : BinaryOperator → Bool → ShapeTree → ShapeTree → Answer ShapeTree
 numeric op boolean l r =
-    then_of (only_field l.domain l.fields) (λ (f : FieldOf). then_of (only_field r.domain r.fields) (λ (g : FieldOf). then_of (joined f g) (combined op boolean)))
+    then_of (only_field l.domain l.fields) (λ (f : FieldOf). then_of (only_field r.domain r.fields) (λ (g : FieldOf). then_of (joined f g) (binary_shape op boolean)))
 
 -- an operation on Booleans: one field each, then the kinds, then the domains
-abbrev pub logical : Operation2 → ShapeTree → ShapeTree → Answer ShapeTree
+abbrev pub logical : BinaryOperator → ShapeTree → ShapeTree → Answer ShapeTree
 logical op l r =
     then_of (only_field l.domain l.fields)
-    (λ (f : FieldOf). then_of (only_field r.domain r.fields) (λ (g : FieldOf). cond (not f.boolean || not g.boolean) (Err NeedsBoolean) (then_of (joined f g) (combined op true))))
+    (λ (f : FieldOf). then_of (only_field r.domain r.fields) (λ (g : FieldOf). cond (not f.boolean || not g.boolean) (Err NeedsBoolean) (then_of (joined f g) (binary_shape op true))))
 
 -- arithmetic gives integers, comparisons and logic Booleans
-abbrev pub binary : BinaryOp → ShapeTree → ShapeTree → Answer ShapeTree
-binary binaries.Multiply l r = numeric twos.Multiply false l r
-binary binaries.Divide l r = numeric twos.Divide false l r
-binary binaries.Add l r = numeric twos.Add false l r
-binary binaries.Subtract l r = numeric twos.Subtract false l r
-binary binaries.Less l r = numeric twos.Less true l r
-binary binaries.LessEqual l r = numeric twos.LessEqual true l r
-binary binaries.Greater l r = numeric twos.Greater true l r
-binary binaries.GreaterEqual l r = numeric twos.GreaterEqual true l r
-binary binaries.Equal l r = numeric twos.Equal true l r
-binary binaries.NotEqual l r = numeric twos.NotEqual true l r
-binary binaries.And l r = logical twos.And l r
-binary binaries.Or l r = logical twos.Or l r
-binary binaries.Xor l r = logical twos.Xor l r
+abbrev pub binary : BinaryOperator → ShapeTree → ShapeTree → Answer ShapeTree
+binary binaries.Multiply l r = numeric binaries.Multiply false l r
+binary binaries.Divide l r = numeric binaries.Divide false l r
+binary binaries.Add l r = numeric binaries.Add false l r
+binary binaries.Subtract l r = numeric binaries.Subtract false l r
+binary binaries.Less l r = numeric binaries.Less true l r
+binary binaries.LessEqual l r = numeric binaries.LessEqual true l r
+binary binaries.Greater l r = numeric binaries.Greater true l r
+binary binaries.GreaterEqual l r = numeric binaries.GreaterEqual true l r
+binary binaries.Equal l r = numeric binaries.Equal true l r
+binary binaries.NotEqual l r = numeric binaries.NotEqual true l r
+binary binaries.And l r = logical binaries.And l r
+binary binaries.Or l r = logical binaries.Or l r
+binary binaries.Xor l r = logical binaries.Xor l r
+binary binaries.Bit l r = numeric binaries.Bit true l r
 
-abbrev pub bit : ShapeTree → ShapeTree → Answer ShapeTree
-bit l r = numeric twos.Bit true l r
-
-abbrev pub reduced_integer : Reduction → FieldOf → Answer ShapeTree
+abbrev pub reduced_integer : Aggregate → FieldOf → Answer ShapeTree
 reduced_integer op f = cond f.boolean (Err NeedsInteger) (Ok (unnamed [] false (typed.reduce op f.domain f.tree)))
 
 -- of integers
-abbrev pub integer_reduction : Reduction → ShapeTree → Answer ShapeTree
+abbrev pub integer_reduction : Aggregate → ShapeTree → Answer ShapeTree
 integer_reduction op e = then_of (only_field e.domain e.fields) (reduced_integer op)
 
-abbrev pub reduced_boolean : Reduction → Bool → FieldOf → Answer ShapeTree
+abbrev pub reduced_boolean : Aggregate → Bool → FieldOf → Answer ShapeTree
 reduced_boolean op boolean f = cond f.boolean (Ok (unnamed [] boolean (typed.reduce op f.domain f.tree))) (Err NeedsBoolean)
 
 -- of Booleans
-abbrev pub boolean_reduction : Reduction → Bool → ShapeTree → Answer ShapeTree
+abbrev pub boolean_reduction : Aggregate → Bool → ShapeTree → Answer ShapeTree
 boolean_reduction op boolean e = then_of (only_field e.domain e.fields) (reduced_boolean op boolean)
 
 -- a reduction gives a scalar: `some` and `all` a Boolean, the others an integer
-abbrev pub reduction : ReduceOp → ShapeTree → Answer ShapeTree
-reduction reductions.Count e = boolean_reduction kinds.Count false e
-reduction reductions.Some e = boolean_reduction kinds.Some true e
-reduction reductions.All e = boolean_reduction kinds.All true e
-reduction reductions.Add e = integer_reduction kinds.Add e
-reduction reductions.Avg e = integer_reduction kinds.Avg e
-reduction reductions.Min e = integer_reduction kinds.Min e
-reduction reductions.Max e = integer_reduction kinds.Max e
+abbrev pub reduction : Aggregate → ShapeTree → Answer ShapeTree
+reduction aggregates.Sum e = integer_reduction aggregates.Sum e
+reduction aggregates.Product e = integer_reduction aggregates.Product e
+reduction aggregates.Greatest e = integer_reduction aggregates.Greatest e
+reduction aggregates.Least e = integer_reduction aggregates.Least e
+reduction aggregates.Every e = boolean_reduction aggregates.Every true e
+reduction aggregates.Any e = boolean_reduction aggregates.Any true e
+reduction aggregates.Count e = boolean_reduction aggregates.Count false e
+reduction aggregates.Average e = integer_reduction aggregates.Average e

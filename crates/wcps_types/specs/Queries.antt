@@ -31,12 +31,12 @@ abbrev pub typ_item : List Signature → List Bound → tree.ItemTree → Answer
 typ_item cs bound (encode e) = then_of (typ cs bound [] e) item_of
 typ_item cs bound (plain e) = then_of (typ cs bound [] e) plain_item
 
-abbrev pub combined : Option Typed → ItemTree → Answer CombinationTree
-combined c i = Ok (record { condition = c; item = i })
+abbrev pub combination_of : Option Typed → ItemTree → Answer CombinationTree
+combination_of c i = Ok (record { condition = c; item = i })
 
 -- with one choice of coverages: the `where`, then the item
 abbrev pub typ_combination : List Signature → QueryTree → List Bound → Answer CombinationTree
-typ_combination cs q bound = then_of (typ_condition cs bound [] q.condition) (λ (c : Option Typed). then_of (typ_item cs bound q.item) (combined c))
+typ_combination cs q bound = then_of (typ_condition cs bound [] q.condition) (λ (c : Option Typed). then_of (typ_item cs bound q.item) (combination_of c))
 
 -- with one choice after the other, behind those that are done
 abbrev pub typ_each : List Signature → QueryTree → List CombinationTree → List (List Bound) → Answer (List CombinationTree)

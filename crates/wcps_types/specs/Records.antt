@@ -5,7 +5,7 @@ use Rattle.std.specs.Str.{bytes_eq}
 use Rattle.arr_core.specs.declared.domain.Axis.{Axis}
 use Rattle.wcps_types.specs.declared.refusal.TypeRefusal.TheVariants.{DomainMismatch}
 use Rattle.wcps_types.specs.declared.records.Piece.{Piece}
-use Rattle.wcps_types.specs.declared.records.Pieces.{Pieces}
+use Rattle.wcps_types.specs.declared.pieces.Pieces.{Pieces}
 use Rattle.wcps_types.specs.Typed.{Typed, scalar, only_tree}
 use Rattle.wcps_types.specs.Shapes.{SlotTree, ShapeTree, FieldOf, Answer, is_scalar}
 use Rattle.wcps_types.specs.Operators.{are_same}

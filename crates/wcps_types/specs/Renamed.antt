@@ -1,8 +1,8 @@
 -- Trees over the variables of a `for` list as trees over coverages, and combinations that share them.
 use Rattle.std.specs.Prelude.{ℕ, pos, List, [], map, get_or, Option, Some, None, option_map, slice_get}
-use Rattle.wcps_types.specs.declared.typed.Combination.{Combination}
-use Rattle.wcps_types.specs.declared.shared.SharedCombination.{SharedCombination}
-use Rattle.wcps_types.specs.Typed.{Typed, number, iterator, cell, unary, binary, scalar, select, bracket, slice, array, listed, condense, condense_where, reduce, FieldTree, ItemTree, CombinationTree, combination_view}
+use Rattle.wcps_types.specs.declared.typed.Tree.{Tree}
+use Rattle.wcps_types.specs.declared.typed_query.Combination.{Combination}
+use Rattle.wcps_types.specs.Typed.{Typed, number, iterator, cell, unary, binary, scalar, select, bracket, slice, array, listed, condense, condense_where, reduce, FieldTree, ItemTree, CombinationTree, tree_view}
 
 -- the tree over coverages: each variable exchanged for the coverage that it stands for
 abbrev pub renamed : List ℕ → Typed → Typed
@@ -31,10 +31,10 @@ abbrev pub renamed_combination : List ℕ → CombinationTree → CombinationTre
 renamed_combination cs c = record { condition = option_map (renamed cs) c.condition; item = renamed_item cs c.item }
 
 -- a tree over the coverages `cs`; without a tree, which is so in no query, nothing is returned: its condition is false
-abbrev pub over : List ℕ → Option Combination → CombinationTree
-over cs (Some t) = renamed_combination cs (combination_view t)
+abbrev pub over : List ℕ → Option Tree → CombinationTree
+over cs (Some t) = renamed_combination cs (tree_view t)
 over cs None = record { condition = Some (number (pos 0)); item = record { domain = []; fields = [] } }
 
 -- a combination: its tree over its coverages
-abbrev pub shared_view : List Combination → SharedCombination → CombinationTree
-shared_view trees c = over c.coverages.items (slice_get trees c.tree)
+abbrev pub combination_view : List Tree → Combination → CombinationTree
+combination_view trees c = over c.coverages.items (slice_get trees c.tree)

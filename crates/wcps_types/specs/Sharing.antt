@@ -3,9 +3,9 @@ use Rattle.std.specs.Prelude.{◌≡◌, ℕ, suc, ◌<◌, List, [], ◌∷◌,
 use Rattle.arr_core.specs.declared.signature.Signature.{Signature}
 use Rattle.wcps_text.specs.Tree.{QueryTree}
 use Rattle.wcps_types.specs.declared.names.Bound.{Bound}
-use Rattle.wcps_types.specs.declared.typed.Combination.{Combination}
-use Rattle.wcps_types.specs.declared.shared.SharedCombination.{SharedCombination}
-use Rattle.wcps_types.specs.Typed.{combination_view}
+use Rattle.wcps_types.specs.declared.typed.Tree.{Tree}
+use Rattle.wcps_types.specs.declared.typed_query.Combination.{Combination}
+use Rattle.wcps_types.specs.Typed.{tree_view}
 use Rattle.wcps_types.specs.Bindings.{ChoiceTree, bound_to}
 use Rattle.wcps_types.specs.Queries.{typ_combination}
 
@@ -61,7 +61,7 @@ ChoicesAreBelow n [] = Unit {0}
 ChoicesAreBelow n (c ∷ choices) = AreBelow n c.coverages × ChoicesAreBelow n choices
 
 -- each combination has one of so many trees
-abbrev pub HaveTrees : ℕ → List SharedCombination → Type 0
+abbrev pub HaveTrees : ℕ → List Combination → Type 0
 HaveTrees n [] = Unit {0}
 HaveTrees n (c ∷ more) = (c.tree < n) × HaveTrees n more
 
@@ -78,19 +78,19 @@ Alike cs [] (b ∷ others) = ⊥
 Alike cs (a ∷ places) [] = ⊥
 
 -- the first ones are still there
-abbrev pub Grows : List Combination → List Combination → Type 0
+abbrev pub Grows : List Tree → List Tree → Type 0
 Grows old new = (k : ℕ) → k < length old → slice_get new k ≡ slice_get old k
 
 -- the tree is that of the query over its variables, each with the signature of the coverage at its place
-abbrev pub HasTree : List Signature → QueryTree → List Bound → List ℕ → Option Combination → Type 0
+abbrev pub HasTree : List Signature → QueryTree → List Bound → List ℕ → Option Tree → Type 0
 HasTree cs q variables places None = ⊥
-HasTree cs q variables places (Some t) = typ_combination (signatures_at cs places) q variables ≡ Ok (combination_view t)
+HasTree cs q variables places (Some t) = typ_combination (signatures_at cs places) q variables ≡ Ok (tree_view t)
 
 -- a combination has its tree
-abbrev pub IsMade : List Signature → QueryTree → List Bound → List Combination → SharedCombination → Type 0
+abbrev pub IsMade : List Signature → QueryTree → List Bound → List Tree → Combination → Type 0
 IsMade cs q variables trees c = HasTree cs q variables c.coverages.items (slice_get trees c.tree)
 
 -- each one has
-abbrev pub AreMade : List Signature → QueryTree → List Bound → List Combination → List SharedCombination → Type 0
+abbrev pub AreMade : List Signature → QueryTree → List Bound → List Tree → List Combination → Type 0
 AreMade cs q variables trees [] = Unit {0}
 AreMade cs q variables trees (c ∷ more) = IsMade cs q variables trees c × AreMade cs q variables trees more

@@ -1,15 +1,14 @@
 -- Typed trees as values alone, without where they lie in memory.
-use Rattle.std.specs.Prelude.{ℕ, zero, suc, ℤ, pos, List, [], ◌∷◌, map, Bool, Option, Some, None, option_map}
+use Rattle.std.specs.Prelude.{ℕ, zero, suc, ℤ, pos, List, [], ◌∷◌, Bool, Option, Some, None, option_map}
 use Rattle.arr_core.specs.declared.domain.Axis.{Axis}
 use Rattle.arr_core.specs.declared.signature.Signature.{Signature}
-use Rattle.wcps_types.specs.declared.typed.Operation1.{Operation1}
-use Rattle.wcps_types.specs.declared.typed.Operation2.{Operation2}
-use Rattle.wcps_types.specs.declared.typed.Condenser.{Condenser}
-use Rattle.wcps_types.specs.declared.typed.Reduction.{Reduction}
+use Rattle.wcps_text.specs.declared.operator.UnaryOperator.{UnaryOperator}
+use Rattle.wcps_text.specs.declared.operator.BinaryOperator.{BinaryOperator}
+use Rattle.wcps_text.specs.declared.operator.Aggregate.{Aggregate}
 use Rattle.wcps_types.specs.declared.typed.Node.{Node, Row_of-Node, end_of-Node, more_of-Node}
 use Rattle.wcps_types.specs.declared.typed.Node.TheVariants as nodes
 use Rattle.wcps_types.specs.declared.typed.TypedItem.{TypedItem}
-use Rattle.wcps_types.specs.declared.typed.Combination.{Combination}
+use Rattle.wcps_types.specs.declared.typed.Tree.{Tree}
 
 -- What gives one field of a value at each point of its domain, under the iterators in scope; see `Node`.
 pub data Typed : Type 0 where
@@ -17,8 +16,8 @@ pub data Typed : Type 0 where
   iterator : ℕ → Typed
   -- the coverage's place and the field's place in it
   cell : ℕ → ℕ → Typed
-  unary : Operation1 → Typed → Typed
-  binary : Operation2 → Typed → Typed → Typed
+  unary : UnaryOperator → Typed → Typed
+  binary : BinaryOperator → Typed → Typed → Typed
   scalar : Typed → Typed
   select : Typed → Typed
   bracket : Typed → Typed
@@ -26,13 +25,13 @@ pub data Typed : Type 0 where
   slice : Typed → ℕ → ℤ → ℤ → Typed → Typed
   array : Typed → Typed
   listed : List Axis → List ℤ → Typed
-  condense : Condenser → List Axis → Typed → Typed
+  condense : Aggregate → List Axis → Typed → Typed
   -- the condition, then the body
-  condense_where : Condenser → List Axis → Typed → Typed → Typed
-  reduce : Reduction → List Axis → Typed → Typed
+  condense_where : Aggregate → List Axis → Typed → Typed → Typed
+  reduce : Aggregate → List Axis → Typed → Typed
 
 -- a condenser, with or without a condition
-abbrev pub condense_of : Condenser → List Axis → Option Typed → Typed → Typed
+abbrev pub condense_of : Aggregate → List Axis → Option Typed → Typed → Typed
 condense_of op box None e = condense op box e
 condense_of op box (Some c) e = condense_where op box c e
 
@@ -93,5 +92,5 @@ fields_view e k (boolean ∷ more) = record { boolean = boolean; tree = field_tr
 abbrev pub item_view : TypedItem → ItemTree
 item_view i = record { domain = i.domain; fields = fields_view i.node 0 i.booleans.items }
 
-abbrev pub combination_view : Combination → CombinationTree
-combination_view c = record { condition = option_map only_tree c.condition; item = item_view c.item }
+abbrev pub tree_view : Tree → CombinationTree
+tree_view c = record { condition = option_map only_tree c.condition; item = item_view c.item }

@@ -37,7 +37,6 @@ abbrev mutual
   typ cs bound scope (tree.variable x) = variable cs bound scope x
   typ cs bound scope (tree.unary op e) = then_of (typ cs bound scope e) (operators.unary op)
   typ cs bound scope (tree.binary op l r) = then_of (typ cs bound scope l) (λ (s : ShapeTree). then_of (typ cs bound scope r) (operators.binary op s))
-  typ cs bound scope (tree.bit l r) = then_of (typ cs bound scope l) (λ (s : ShapeTree). then_of (typ cs bound scope r) (operators.bit s))
   typ cs bound scope (tree.reduce op e) = then_of (typ cs bound scope e) (operators.reduction op)
   typ cs bound scope (tree.parts ps) = typ_parts cs bound scope no_pieces ps
   -- the iterators, then the box, then the list

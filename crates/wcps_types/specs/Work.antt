@@ -44,4 +44,4 @@ max_work = 4294967296
 
 -- the number where it is allowed, else one more than is allowed
 abbrev pub capped : ℕ → ℕ
-capped n = min n 4294967297
+capped n = min n (max_work + 1)

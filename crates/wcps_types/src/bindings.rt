@@ -7,7 +7,7 @@ ghost use Rattle.wcps_text.specs.Tree.{binding_view, bindings_of};
 ghost use Rattle.wcps_types.specs.declared.bindings.Choice.{Choice};
 ghost use Rattle.wcps_types.specs.Names.{coverage_place};
 ghost use Rattle.wcps_types.specs.Shapes.{Says};
-ghost use Rattle.wcps_types.specs.Bindings.{placed_view, placed_all_view, choice_view, bindings_view, no_bindings, signature_at, found, resolved, resolved_all, is_bound, with_binding, bound_from, combination_count, few_combinations, combination_at};
+ghost use Rattle.wcps_types.specs.Bindings.{placed_view, placed_all_view, choice_view, bindings_view, no_bindings, signature_at, known_signature, resolved, resolved_all, is_bound, with_binding, bound_from, combination_count, few_combinations, combination_at};
 
 use crate::names::{Bound, coverage_place, is_same};
 use crate::refusal::{CheckError, TypeRefusal};
@@ -32,6 +32,9 @@ pub struct Bindings {
 /// How many combinations a query may have.
 pub const MAX_COMBINATIONS: u64 = 64;
 
+/// One more than that, at which counting stops.
+const TOO_MANY: u64 = MAX_COMBINATIONS + 1;
+
 /// A signature of one's own.
 pub fn copied(alloc: Global, signature: &Signature) -> Result<Signature, AllocError>
     ensures { IfOk result (λ s. s ≡ signature.now) }
@@ -48,7 +51,7 @@ pub fn copied(alloc: Global, signature: &Signature) -> Result<Signature, AllocEr
 
 /// A copy of the signature of a coverage.
 fn found(alloc: Global, signatures: &[Signature], name: &QueryName) -> Result<Signature, CheckError>
-    ensures { Says (λ s. s) result (found (signature_at (coverage_place name.now signatures.now) signatures.now)) }
+    ensures { Says (λ s. s) result (known_signature (signature_at (coverage_place name.now signatures.now) signatures.now)) }
 {
     match coverage_place(signatures, name) {
         None => Err(CheckError::Refused(TypeRefusal::NoSuchCoverage)),
@@ -182,8 +185,8 @@ pub fn combination_count(choices: &[Choice]) -> Result<u64, CheckError>
 {
     let mut count: u64 = 1;
     for choice in choices {
-        let factor = (choice.coverages.len() as u64).min(65);
-        count = (count * factor).min(65);
+        let factor = (choice.coverages.len() as u64).min(TOO_MANY);
+        count = (count * factor).min(TOO_MANY);
     }
     if count == 0 {
         return Err(CheckError::Refused(TypeRefusal::BadSyntax));

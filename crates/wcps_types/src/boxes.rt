@@ -13,10 +13,10 @@ use crate::names::{Bound, bound_place, name_place};
 use crate::nodes::{array_node, condense_node};
 use crate::refusal::{CheckError, TypeRefusal};
 use crate::shape::{OneScalar, Shape, unnamed, unnamed_scalar};
-use crate::typed::{Condenser, Node};
+use crate::typed::Node;
 use arr_core::{Axis, Domain, Name, NameError};
 use std::alloc::{AllocError, Global};
-use wcps_text::{CondenseOp, ListItem, QueryName};
+use wcps_text::{Aggregate, ListItem, QueryName};
 
 /// Iterators so far: their variables, and the axes that they go over.
 #[derive(Debug, Drop)]
@@ -88,7 +88,7 @@ pub fn with_iterator(
 }
 
 /// The iterators in scope and those of a list, innermost last.
-pub fn inner_scope(
+fn inner_scope(
     alloc: Global,
     scope: &[QueryName],
     variables: &[QueryName],
@@ -115,6 +115,25 @@ pub fn box_of(axes: Vec<Axis>) -> Result<Domain, CheckError>
     }
 }
 
+/// A box, and the iterators in scope of what stands over it.
+#[derive(Debug, Drop)]
+pub struct Opened {
+    pub domain: Domain,
+    pub scope: Vec<QueryName>,
+}
+
+/// The box of iterators, and the scope in which they are the innermost.
+#[inline(never)]
+pub fn opened_box(alloc: Global, scope: &[QueryName], over: Iterators) -> Result<Opened, CheckError>
+    ensures said { Says (λ o. o.domain) result (box_of over.axes.items) }
+    ensures scope { IfOk result (λ o. o.scope.items ≡ scope.now ++ over.variables.items) }
+{
+    let Iterators { variables, axes } = over;
+    let domain = box_of(axes)?;
+    let scope = inner_scope(alloc, scope, &variables)?;
+    Ok(Opened { domain, scope })
+}
+
 /// `coverage .. values` of a scalar.
 pub fn array(alloc: Global, domain: Domain, body: OneScalar) -> Result<Shape, CheckError>
     ensures { Says shape_view result (array_on domain (scalar_of_view body)) }
@@ -137,7 +156,7 @@ pub fn condition_of(condition: OneScalar) -> Result<Node, CheckError>
 /// `condense`.
 pub fn condensed(
     alloc: Global,
-    op: CondenseOp,
+    op: Aggregate,
     domain: Domain,
     condition: Option<Node>,
     body: OneScalar,
@@ -145,24 +164,21 @@ pub fn condensed(
     ensures { Says shape_view result (condensed op domain (option_map only_tree condition) (scalar_of_view body)) }
 {
     match op {
-        CondenseOp::Add => integers_condensed(alloc, Condenser::Add, domain, condition, body),
-        CondenseOp::Multiply => integers_condensed(
-            alloc,
-            Condenser::Multiply,
-            domain,
-            condition,
-            body,
+        Aggregate::Sum
+        | Aggregate::Product
+        | Aggregate::Greatest
+        | Aggregate::Least
+        | Aggregate::Average => integers_condensed(alloc, op, domain, condition, body),
+        Aggregate::Every | Aggregate::Any => booleans_condensed(
+            alloc, op, true, domain, condition, body,
         ),
-        CondenseOp::Max => integers_condensed(alloc, Condenser::Max, domain, condition, body),
-        CondenseOp::Min => integers_condensed(alloc, Condenser::Min, domain, condition, body),
-        CondenseOp::And => booleans_condensed(alloc, Condenser::And, domain, condition, body),
-        CondenseOp::Or => booleans_condensed(alloc, Condenser::Or, domain, condition, body),
+        Aggregate::Count => booleans_condensed(alloc, op, false, domain, condition, body),
     }
 }
 
 fn integers_condensed(
     alloc: Global,
-    op: Condenser,
+    op: Aggregate,
     domain: Domain,
     condition: Option<Node>,
     body: OneScalar,
@@ -179,19 +195,20 @@ fn integers_condensed(
 
 fn booleans_condensed(
     alloc: Global,
-    op: Condenser,
+    op: Aggregate,
+    gives_boolean: bool,
     domain: Domain,
     condition: Option<Node>,
     body: OneScalar,
 ) -> Result<Shape, CheckError>
-    ensures { Says shape_view result (booleans_condensed op domain (option_map only_tree condition) (scalar_of_view body)) }
+    ensures { Says shape_view result (booleans_condensed op gives_boolean domain (option_map only_tree condition) (scalar_of_view body)) }
 {
     let OneScalar { boolean, node } = body;
     if !boolean {
         return Err(CheckError::Refused(TypeRefusal::NeedsBoolean));
     }
     let node = condense_node(alloc, op, domain, condition, node)?;
-    Ok(unnamed_scalar(alloc, true, node)?)
+    Ok(unnamed_scalar(alloc, gives_boolean, node)?)
 }
 
 /// Whether an item is a Boolean.

@@ -1,12 +1,12 @@
 //! Work: how many steps an evaluation takes at most, from domains alone.
 
 ghost use Rattle.std.specs.Prelude.{◌≡◌, ◌≤◌, ◌+◌, ◌*◌, ◌^◌, map, [], ◌∷◌};
-ghost use Rattle.wcps_types.specs.Typed.{field_tree, fields_view, item_view, combination_view};
-ghost use Rattle.wcps_types.specs.Renamed.{shared_view};
+ghost use Rattle.wcps_types.specs.Typed.{field_tree, fields_view, item_view, tree_view};
+ghost use Rattle.wcps_types.specs.Renamed.{combination_view};
 ghost use Rattle.wcps_types.specs.Work.{work_of, fields_work, item_work, condition_work, query_work, max_work, capped};
 
-use crate::shared::SharedCombination;
-use crate::typed::{Combination, Node, TypedItem, TypedQuery};
+use crate::typed::{Node, Tree, TypedItem};
+use crate::typed_query::{Combination, TypedQuery};
 
 /// How much work is allowed.
 pub const MAX_WORK: u64 = 4_294_967_296;
@@ -16,8 +16,8 @@ const TOO_MUCH: u64 = MAX_WORK + 1;
 
 /// The sum, or `TOO_MUCH` where it is more.
 fn plus(a: u64, b: u64) -> u64
-    requires left { a ≤ 4294967297 }
-    requires right { b ≤ 4294967297 }
+    requires left { a ≤ max_work + 1 }
+    requires right { b ≤ max_work + 1 }
     ensures { result ≡ capped (a + b) }
 {
     (a + b).min(TOO_MUCH)
@@ -26,7 +26,7 @@ fn plus(a: u64, b: u64) -> u64
 /// `points` times the work, or `TOO_MUCH` where it is more.
 fn times(points: u64, work: u64) -> u64
     requires points { points ≤ 2 ^ 24 }
-    requires work { work ≤ 4294967297 }
+    requires work { work ≤ max_work + 1 }
     ensures { result ≡ capped (points * work) }
 {
     (points * work).min(TOO_MUCH)
@@ -144,53 +144,42 @@ fn item_work(item: &TypedItem) -> u64
     )
 }
 
-/// The work of a combination.
-fn combination_work(combination: &Combination) -> u64
-    ensures { result ≡ capped (query_work (combination_view combination.now ∷ [])) }
+/// The work of a tree.
+fn tree_work(tree: &Tree) -> u64
+    ensures { result ≡ capped (query_work (tree_view tree.now ∷ [])) }
 {
-    let condition = match &combination.condition {
+    let condition = match &tree.condition {
         None => 0,
         Some(c) => node_work(c, 0),
     };
-    plus(condition, item_work(&combination.item))
+    plus(condition, item_work(&tree.item))
 }
 
-/// The work of all combinations, or one more than `MAX_WORK` where it is more.
-pub fn combinations_work(combinations: &[Combination]) -> u64
-    ensures { result ≡ capped (query_work (map combination_view combinations.now)) }
-{
-    let mut total = 0;
-    for combination in combinations {
-        total = plus(total, combination_work(combination));
-    }
-    total
-}
-
-/// The work of a combination that shares its tree.
-fn work_of_shared(trees: &[Combination], combination: &SharedCombination) -> u64
-    ensures { result ≡ capped (query_work (shared_view trees.now combination.now ∷ [])) }
+/// The work of a combination.
+fn combination_work(trees: &[Tree], combination: &Combination) -> u64
+    ensures { result ≡ capped (query_work (combination_view trees.now combination.now ∷ [])) }
 {
     match trees.get(combination.tree) {
         None => 1,
-        Some(tree) => combination_work(tree),
+        Some(tree) => tree_work(tree),
     }
 }
 
-/// The work of all combinations that share trees, or one more than `MAX_WORK` where it is more.
-pub fn shared_work(trees: &[Combination], combinations: &[SharedCombination]) -> u64
-    ensures { result ≡ capped (query_work (map (shared_view trees.now) combinations.now)) }
+/// The work of all combinations, or one more than `MAX_WORK` where it is more.
+pub fn combinations_work(trees: &[Tree], combinations: &[Combination]) -> u64
+    ensures { result ≡ capped (query_work (map (combination_view trees.now) combinations.now)) }
 {
     let mut total = 0;
     for combination in combinations {
-        total = plus(total, work_of_shared(trees, combination));
+        total = plus(total, combination_work(trees, combination));
     }
     total
 }
 
 /// The work of a typed query.
 pub fn work(query: &TypedQuery) -> u64
-    ensures value { result ≡ query_work (map combination_view query.now.combinations.items) }
+    ensures value { result ≡ query_work (map (combination_view query.now.trees.items) query.now.combinations.items) }
     ensures little { result ≤ max_work }
 {
-    combinations_work(query.combinations())
+    combinations_work(query.trees(), query.combinations())
 }

@@ -1,19 +1,21 @@
 //! Expressions: parts from left to right, then the form's own checks. Each call is given the coverages of the query, the
 //! variables of its `for` list, and the variables of the iterators in scope, outermost first.
 
-ghost use Rattle.std.specs.Prelude.{◌≡◌};
+ghost use Rattle.std.specs.Prelude.{◌≡◌, [], Ok};
 ghost use Rattle.std.specs.Option.{option_map};
+ghost use Rattle.wcps_text.specs.Tree as tree;
 ghost use Rattle.wcps_text.specs.Tree.{view, view_place, view_interval, parts_of, subs_of, iters_of, condition_of};
-ghost use Rattle.wcps_types.specs.Typed.{only_tree};
-ghost use Rattle.wcps_types.specs.Shapes.{Says, then_of, shape_view};
+ghost use Rattle.wcps_types.specs.Typed.{only_tree, number};
+ghost use Rattle.wcps_types.specs.Shapes.{Says, then_of, shape_view, only_scalar, unnamed};
 ghost use Rattle.wcps_types.specs.Brackets.{bounds_view, bracket_view, opened, place_to_cut};
+ghost use Rattle.wcps_types.specs.Operators as operators;
 ghost use Rattle.wcps_types.specs.Records.{no_pieces};
-ghost use Rattle.wcps_types.specs.Boxes.{iterators_view, no_iterators};
-ghost use Rattle.wcps_types.specs.Typing.{typ, typ_parts, typ_subs, typ_place, typ_interval, typ_iters, typ_condition};
+ghost use Rattle.wcps_types.specs.Boxes.{iterators_view, no_iterators, condensed};
+ghost use Rattle.wcps_types.specs.Typing.{typ, typ_parts, typ_subs, typ_place, typ_interval, typ_iters, typ_condition, closed_on, array_of};
 
 use crate::bounds::Bounds;
 use crate::boxes::{
-    Iterators, array, box_of, condensed, condition_of, inner_scope, is_taken, value_list,
+    Iterators, Opened, array, box_of, condensed, condition_of, is_taken, opened_box, value_list,
     with_iterator,
 };
 use crate::brackets::{
@@ -21,17 +23,22 @@ use crate::brackets::{
     written_bounds,
 };
 use crate::names::{Bound, axis_place};
-use crate::operators::{binary, bit, reduction, selected, unary};
-use crate::records::{Pieces, finished, is_part, with_part};
+use crate::operators::{binary, reduction, selected, unary};
+use crate::pieces::Pieces;
+use crate::records::{finished, is_part, with_part};
 use crate::refusal::{CheckError, TypeRefusal};
 use crate::shape::{Shape, only_field, only_scalar, unnamed_scalar};
 use crate::typed::Node;
 use crate::variables::variable;
 use arr_core::{Domain, Signature};
 use std::alloc::Global;
-use wcps_text::{Expr, Interval, Iter, Part, Place, QueryName, Sub};
+use wcps_text::{
+    Aggregate, BinaryOperator, Expr, Interval, Iter, ListItem, Part, Place, QueryName, Sub,
+    UnaryOperator,
+};
 
-/// The shape of an expression, or its first refusal.
+/// The shape of an expression, or its first refusal. What a form does stands in a function of its own, so that a number
+/// in a chain takes no room for the locals of all forms.
 #[cycle(expression)]
 pub fn expression(
     alloc: Global,
@@ -43,54 +50,28 @@ pub fn expression(
     ensures { Says shape_view result (typ coverages.now bound.now scope.now (view e.now)) }
 {
     match e {
-        Expr::Number(n) => Ok(unnamed_scalar(alloc, false, Node::Number(n.value as i64))?),
-        Expr::Truth(b) => Ok(unnamed_scalar(alloc, true, Node::Number(i64::from(*b)))?),
+        Expr::Number(n) => constant(alloc, false, n.value as i64),
+        Expr::Truth(b) => constant(alloc, true, i64::from(*b)),
         Expr::Variable(name) => variable(alloc, coverages, bound, scope, name),
-        Expr::Unary(op, a) => {
-            let a = expression(alloc, coverages, bound, scope, a)?;
-            unary(alloc, *op, a)
-        }
+        Expr::Unary(op, a) => operation(alloc, coverages, bound, scope, *op, a),
         Expr::Binary(op, l, r) => {
             let l = expression(alloc, coverages, bound, scope, l)?;
-            let r = expression(alloc, coverages, bound, scope, r)?;
-            binary(alloc, *op, l, r)
+            operation_on_two(alloc, coverages, bound, scope, *op, l, r)
         }
-        Expr::Bit(value, place) => {
-            let value = expression(alloc, coverages, bound, scope, value)?;
-            let place = expression(alloc, coverages, bound, scope, place)?;
-            bit(alloc, value, place)
-        }
-        Expr::Reduce(op, a) => {
-            let a = expression(alloc, coverages, bound, scope, a)?;
-            reduction(alloc, *op, a)
-        }
+        Expr::Reduce(op, a) => reduced(alloc, coverages, bound, scope, *op, a),
         Expr::Record(parts) => record(alloc, coverages, bound, scope, parts),
         Expr::ValueList { iterators, items } => {
-            let over = iterator_list(alloc, coverages, bound, scope, iterators)?;
-            let domain = box_of(over.axes)?;
-            value_list(alloc, domain, items)
+            listed(alloc, coverages, bound, scope, iterators, items)
         }
-        Expr::Field(a, name) => {
-            let a = expression(alloc, coverages, bound, scope, a)?;
-            selected(alloc, a, name)
-        }
+        Expr::Field(a, name) => field_of(alloc, coverages, bound, scope, a, name),
         Expr::Brackets(a, subs) => {
-            let Shape {
-                domain,
-                labels,
-                node,
-            } = expression(alloc, coverages, bound, scope, a)?;
-            let bracket = subscripts(alloc, coverages, bound, scope, domain, subs)?;
-            Ok(closed_bracket(alloc, bracket, labels, node)?)
+            let a = expression(alloc, coverages, bound, scope, a)?;
+            bracketed(alloc, coverages, bound, scope, a, subs)
         }
         Expr::Coverage { iterators, body } => {
-            let Iterators { variables, axes } = iterator_list(
-                alloc, coverages, bound, scope, iterators,
-            )?;
-            let domain = box_of(axes)?;
-            let inner = inner_scope(alloc, scope, &variables)?;
-            let body = expression(alloc, coverages, bound, &inner, body)?;
-            array(alloc, domain, only_scalar(body)?)
+            let over = iterator_list(alloc, coverages, bound, scope, iterators)?;
+            let over = opened_box(alloc, scope, over)?;
+            constructed(alloc, coverages, bound, over, body)
         }
         Expr::Condense {
             op,
@@ -98,16 +79,165 @@ pub fn expression(
             condition,
             body,
         } => {
-            let Iterators { variables, axes } = iterator_list(
-                alloc, coverages, bound, scope, iterators,
-            )?;
-            let domain = box_of(axes)?;
-            let inner = inner_scope(alloc, scope, &variables)?;
-            let condition = condition_node(alloc, coverages, bound, &inner, condition)?;
-            let body = expression(alloc, coverages, bound, &inner, body)?;
-            condensed(alloc, *op, domain, condition, only_scalar(body)?)
+            let over = iterator_list(alloc, coverages, bound, scope, iterators)?;
+            let over = opened_box(alloc, scope, over)?;
+            let condition = condition_node(alloc, coverages, bound, &over.scope, condition)?;
+            condensed_over(alloc, coverages, bound, *op, over, condition, body)
         }
     }
+}
+
+/// A constant.
+#[inline(never)]
+fn constant(alloc: Global, boolean: bool, value: i64) -> Result<Shape, CheckError>
+    ensures { Says shape_view result (Ok (unnamed [] boolean (number value))) }
+{
+    Ok(unnamed_scalar(alloc, boolean, Node::Number(value))?)
+}
+
+/// An operator on one operand.
+#[cycle(expression)]
+#[inline(never)]
+fn operation(
+    alloc: Global,
+    coverages: &[Signature],
+    bound: &[Bound],
+    scope: &[QueryName],
+    op: UnaryOperator,
+    a: &Expr,
+) -> Result<Shape, CheckError>
+    ensures { Says shape_view result (typ coverages.now bound.now scope.now (tree.unary op (view a.now))) }
+{
+    let a = expression(alloc, coverages, bound, scope, a)?;
+    unary(alloc, op, a)
+}
+
+/// An operator on two operands, of which the left one is typed.
+#[cycle(expression)]
+#[inline(never)]
+fn operation_on_two(
+    alloc: Global,
+    coverages: &[Signature],
+    bound: &[Bound],
+    scope: &[QueryName],
+    op: BinaryOperator,
+    l: Shape,
+    r: &Expr,
+) -> Result<Shape, CheckError>
+    ensures { Says shape_view result (then_of (typ coverages.now bound.now scope.now (view r.now)) (operators.binary op (shape_view l))) }
+{
+    let r = expression(alloc, coverages, bound, scope, r)?;
+    binary(alloc, op, l, r)
+}
+
+/// A reduction.
+#[cycle(expression)]
+#[inline(never)]
+fn reduced(
+    alloc: Global,
+    coverages: &[Signature],
+    bound: &[Bound],
+    scope: &[QueryName],
+    op: Aggregate,
+    a: &Expr,
+) -> Result<Shape, CheckError>
+    ensures { Says shape_view result (typ coverages.now bound.now scope.now (tree.reduce op (view a.now))) }
+{
+    let a = expression(alloc, coverages, bound, scope, a)?;
+    reduction(alloc, op, a)
+}
+
+/// One field of a value.
+#[cycle(expression)]
+#[inline(never)]
+fn field_of(
+    alloc: Global,
+    coverages: &[Signature],
+    bound: &[Bound],
+    scope: &[QueryName],
+    a: &Expr,
+    name: &QueryName,
+) -> Result<Shape, CheckError>
+    ensures { Says shape_view result (typ coverages.now bound.now scope.now (tree.field (view a.now) name.now)) }
+{
+    let a = expression(alloc, coverages, bound, scope, a)?;
+    selected(alloc, a, name)
+}
+
+/// A list of values on a box.
+#[cycle(expression)]
+#[inline(never)]
+fn listed(
+    alloc: Global,
+    coverages: &[Signature],
+    bound: &[Bound],
+    scope: &[QueryName],
+    iterators: &[Iter],
+    items: &[ListItem],
+) -> Result<Shape, CheckError>
+    ensures { Says shape_view result (typ coverages.now bound.now scope.now (tree.value_list (iters_of iterators.now) items.now)) }
+{
+    let over = iterator_list(alloc, coverages, bound, scope, iterators)?;
+    let domain = box_of(over.axes)?;
+    value_list(alloc, domain, items)
+}
+
+/// A value with a bracket behind it.
+#[cycle(expression)]
+#[inline(never)]
+fn bracketed(
+    alloc: Global,
+    coverages: &[Signature],
+    bound: &[Bound],
+    scope: &[QueryName],
+    value: Shape,
+    subs: &[Sub],
+) -> Result<Shape, CheckError>
+    ensures { Says shape_view result (then_of (typ_subs coverages.now bound.now scope.now (opened value.domain) (subs_of subs.now)) (closed_on (shape_view value))) }
+{
+    let Shape {
+        domain,
+        labels,
+        node,
+    } = value;
+    let bracket = subscripts(alloc, coverages, bound, scope, domain, subs)?;
+    Ok(closed_bracket(alloc, bracket, labels, node)?)
+}
+
+/// A coverage on a box, whose cells a scalar gives.
+#[cycle(expression)]
+#[inline(never)]
+fn constructed(
+    alloc: Global,
+    coverages: &[Signature],
+    bound: &[Bound],
+    over: Opened,
+    body: &Expr,
+) -> Result<Shape, CheckError>
+    ensures { Says shape_view result (then_of (typ coverages.now bound.now over.scope.items (view body.now)) (array_of over.domain)) }
+{
+    let Opened { domain, scope } = over;
+    let body = expression(alloc, coverages, bound, &scope, body)?;
+    array(alloc, domain, only_scalar(body)?)
+}
+
+/// A condenser over a box.
+#[cycle(expression)]
+#[inline(never)]
+fn condensed_over(
+    alloc: Global,
+    coverages: &[Signature],
+    bound: &[Bound],
+    op: Aggregate,
+    over: Opened,
+    condition: Option<Node>,
+    body: &Expr,
+) -> Result<Shape, CheckError>
+    ensures { Says shape_view result (then_of (typ coverages.now bound.now over.scope.items (view body.now)) (λ s. then_of (only_scalar s) (condensed op over.domain (option_map only_tree condition)))) }
+{
+    let Opened { domain, scope } = over;
+    let body = expression(alloc, coverages, bound, &scope, body)?;
+    condensed(alloc, op, domain, condition, only_scalar(body)?)
 }
 
 /// The tree of a condition, if there is one.
@@ -144,7 +274,7 @@ fn record(
 {
     let mut pieces = Pieces::new(alloc);
     for part in parts {
-        if is_part(&pieces.list, &part.name) {
+        if is_part(&pieces, &part.name) {
             return Err(CheckError::Refused(TypeRefusal::NameTaken));
         }
         let value = expression(alloc, coverages, bound, scope, &part.value)?;

@@ -12,22 +12,21 @@ mod expression;
 mod names;
 mod nodes;
 mod operators;
+mod pieces;
 mod query;
 mod records;
 mod refusal;
+mod same;
 mod shape;
-mod shared;
-mod shared_query;
 mod sharing;
+mod trees;
 mod typed;
+mod typed_query;
 mod variables;
 
 pub use effort::work;
 pub use names::names_are_tokens;
 pub use query::check;
 pub use refusal::{CheckError, TypeRefusal};
-pub use shared::{SharedCombination, SharedQuery};
-pub use shared_query::check_shared;
-pub use typed::{
-    Combination, Condenser, Node, Operation1, Operation2, Reduction, TypedItem, TypedQuery,
-};
+pub use typed::{Node, Tree, TypedItem};
+pub use typed_query::{Combination, TypedQuery};

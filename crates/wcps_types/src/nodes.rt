@@ -7,9 +7,10 @@ ghost use Rattle.wcps_types.specs.Shapes.{labels_view};
 ghost use Rattle.wcps_types.specs.Brackets.{sliced_slot, bracketed_slot};
 ghost use Rattle.std.specs.Option.{option_map};
 
-use crate::typed::{Condenser, Node, Operation1, Operation2, Reduction};
+use crate::typed::Node;
 use arr_core::Domain;
 use std::alloc::{AllocError, Global};
+use wcps_text::{Aggregate, BinaryOperator, UnaryOperator};
 
 /// A node on the heap.
 fn boxed(alloc: Global, node: Node) -> Result<Box<Node>, AllocError>
@@ -20,14 +21,14 @@ fn boxed(alloc: Global, node: Node) -> Result<Box<Node>, AllocError>
 }
 
 /// An operation on one operand.
-pub fn unary_node(alloc: Global, op: Operation1, e: Node) -> Result<Node, AllocError>
+pub fn unary_node(alloc: Global, op: UnaryOperator, e: Node) -> Result<Node, AllocError>
     ensures { IfOk result (λ n. only_tree n ≡ unary op (only_tree e)) }
 {
     Ok(Node::Unary(op, boxed(alloc, e)?))
 }
 
 /// An operation on two operands.
-pub fn binary_node(alloc: Global, op: Operation2, l: Node, r: Node) -> Result<Node, AllocError>
+pub fn binary_node(alloc: Global, op: BinaryOperator, l: Node, r: Node) -> Result<Node, AllocError>
     ensures { IfOk result (λ n. only_tree n ≡ binary op (only_tree l) (only_tree r)) }
 {
     let l = boxed(alloc, l)?;
@@ -90,7 +91,7 @@ pub fn array_node(alloc: Global, e: Node) -> Result<Node, AllocError>
 /// A condenser, with or without a condition.
 pub fn condense_node(
     alloc: Global,
-    op: Condenser,
+    op: Aggregate,
     domain: Domain,
     condition: Option<Node>,
     body: Node,
@@ -115,7 +116,7 @@ pub fn condense_node(
 /// A reduction over a domain.
 pub fn reduce_node(
     alloc: Global,
-    op: Reduction,
+    op: Aggregate,
     domain: Domain,
     body: Node,
 ) -> Result<Node, AllocError>

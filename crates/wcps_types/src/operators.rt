@@ -3,16 +3,16 @@
 ghost use Rattle.std.specs.Prelude.{◌≡◌, [], IfOk, true, false};
 ghost use Rattle.wcps_types.specs.Typed.{only_tree};
 ghost use Rattle.wcps_types.specs.Shapes.{Says, shape_view, slot_of, labels_view, field_of_view};
-ghost use Rattle.wcps_types.specs.Operators.{one_selected, selected, unary, are_same, is_same_axis, operands_view, joined, numeric, logical, binary, bit, integer_reduction, boolean_reduction, reduction};
+ghost use Rattle.wcps_types.specs.Operators.{one_selected, selected, unary, are_same, is_same_axis, operands_view, joined, numeric, logical, binary, integer_reduction, boolean_reduction, reduction};
 
 use crate::names::is_named;
 use crate::nodes::{binary_node, reduce_node, scalar_node, select_node, unary_node};
 use crate::refusal::{CheckError, TypeRefusal};
 use crate::shape::{Label, OneField, Shape, is_scalar, only_field, unnamed, unnamed_scalar};
-use crate::typed::{Node, Operation1, Operation2, Reduction};
+use crate::typed::Node;
 use arr_core::{Axis, Domain};
 use std::alloc::{AllocError, Global};
-use wcps_text::{BinaryOp, QueryName, ReduceOp, UnaryOp};
+use wcps_text::{Aggregate, BinaryOperator, QueryName, UnaryOperator};
 
 /// Two operands on one domain.
 #[derive(Debug, Drop)]
@@ -62,7 +62,7 @@ pub fn selected(alloc: Global, shape: Shape, name: &QueryName) -> Result<Shape, 
 }
 
 /// An operator on one operand: the operation, and whether it gives a Boolean.
-pub fn unary(alloc: Global, op: UnaryOp, operand: Shape) -> Result<Shape, CheckError>
+pub fn unary(alloc: Global, op: UnaryOperator, operand: Shape) -> Result<Shape, CheckError>
     ensures { Says shape_view result (unary op (shape_view operand)) }
 {
     let OneField {
@@ -71,23 +71,15 @@ pub fn unary(alloc: Global, op: UnaryOp, operand: Shape) -> Result<Shape, CheckE
         node,
     } = only_field(operand)?;
     match op {
-        UnaryOp::Negate => {
-            let node = unary_node(alloc, Operation1::Negate, node)?;
+        UnaryOperator::Negate | UnaryOperator::Plus | UnaryOperator::Absolute => {
+            let node = unary_node(alloc, op, node)?;
             Ok(unnamed(alloc, domain, false, node)?)
         }
-        UnaryOp::Plus => {
-            let node = unary_node(alloc, Operation1::Plus, node)?;
-            Ok(unnamed(alloc, domain, false, node)?)
-        }
-        UnaryOp::Abs => {
-            let node = unary_node(alloc, Operation1::Absolute, node)?;
-            Ok(unnamed(alloc, domain, false, node)?)
-        }
-        UnaryOp::Not => {
+        UnaryOperator::Not => {
             if !boolean {
                 return Err(CheckError::Refused(TypeRefusal::NeedsBoolean));
             }
-            let node = unary_node(alloc, Operation1::Not, node)?;
+            let node = unary_node(alloc, op, node)?;
             Ok(unnamed(alloc, domain, true, node)?)
         }
     }
@@ -156,9 +148,10 @@ fn joined(alloc: Global, l: OneField, r: OneField) -> Result<Operands, CheckErro
 }
 
 /// An operation on two numbers, where a Boolean counts as 0 or 1.
+#[inline(never)]
 fn numeric(
     alloc: Global,
-    op: Operation2,
+    op: BinaryOperator,
     gives_boolean: bool,
     l: Shape,
     r: Shape,
@@ -177,7 +170,8 @@ fn numeric(
 }
 
 /// `and`, `or`, `xor`.
-fn logical(alloc: Global, op: Operation2, l: Shape, r: Shape) -> Result<Shape, CheckError>
+#[inline(never)]
+fn logical(alloc: Global, op: BinaryOperator, l: Shape, r: Shape) -> Result<Shape, CheckError>
     ensures { Says shape_view result (logical op (shape_view l) (shape_view r)) }
 {
     let l = only_field(l)?;
@@ -194,36 +188,28 @@ fn logical(alloc: Global, op: Operation2, l: Shape, r: Shape) -> Result<Shape, C
     Ok(unnamed(alloc, domain, true, node)?)
 }
 
-/// An operator between two operands.
-pub fn binary(alloc: Global, op: BinaryOp, l: Shape, r: Shape) -> Result<Shape, CheckError>
+/// An operator on two operands.
+pub fn binary(alloc: Global, op: BinaryOperator, l: Shape, r: Shape) -> Result<Shape, CheckError>
     ensures { Says shape_view result (binary op (shape_view l) (shape_view r)) }
 {
     match op {
-        BinaryOp::Multiply => numeric(alloc, Operation2::Multiply, false, l, r),
-        BinaryOp::Divide => numeric(alloc, Operation2::Divide, false, l, r),
-        BinaryOp::Add => numeric(alloc, Operation2::Add, false, l, r),
-        BinaryOp::Subtract => numeric(alloc, Operation2::Subtract, false, l, r),
-        BinaryOp::Less => numeric(alloc, Operation2::Less, true, l, r),
-        BinaryOp::LessEqual => numeric(alloc, Operation2::LessEqual, true, l, r),
-        BinaryOp::Greater => numeric(alloc, Operation2::Greater, true, l, r),
-        BinaryOp::GreaterEqual => numeric(alloc, Operation2::GreaterEqual, true, l, r),
-        BinaryOp::Equal => numeric(alloc, Operation2::Equal, true, l, r),
-        BinaryOp::NotEqual => numeric(alloc, Operation2::NotEqual, true, l, r),
-        BinaryOp::And => logical(alloc, Operation2::And, l, r),
-        BinaryOp::Or => logical(alloc, Operation2::Or, l, r),
-        BinaryOp::Xor => logical(alloc, Operation2::Xor, l, r),
+        BinaryOperator::Multiply
+        | BinaryOperator::Divide
+        | BinaryOperator::Add
+        | BinaryOperator::Subtract => numeric(alloc, op, false, l, r),
+        BinaryOperator::Less
+        | BinaryOperator::LessEqual
+        | BinaryOperator::Greater
+        | BinaryOperator::GreaterEqual
+        | BinaryOperator::Equal
+        | BinaryOperator::NotEqual
+        | BinaryOperator::Bit => numeric(alloc, op, true, l, r),
+        BinaryOperator::And | BinaryOperator::Or | BinaryOperator::Xor => logical(alloc, op, l, r),
     }
 }
 
-/// `bit(l, r)`.
-pub fn bit(alloc: Global, l: Shape, r: Shape) -> Result<Shape, CheckError>
-    ensures { Says shape_view result (bit (shape_view l) (shape_view r)) }
-{
-    numeric(alloc, Operation2::Bit, true, l, r)
-}
-
 /// A reduction of integers.
-fn integer_reduction(alloc: Global, op: Reduction, operand: Shape) -> Result<Shape, CheckError>
+fn integer_reduction(alloc: Global, op: Aggregate, operand: Shape) -> Result<Shape, CheckError>
     ensures { Says shape_view result (integer_reduction op (shape_view operand)) }
 {
     let OneField {
@@ -241,7 +227,7 @@ fn integer_reduction(alloc: Global, op: Reduction, operand: Shape) -> Result<Sha
 /// A reduction of Booleans.
 fn boolean_reduction(
     alloc: Global,
-    op: Reduction,
+    op: Aggregate,
     gives_boolean: bool,
     operand: Shape,
 ) -> Result<Shape, CheckError>
@@ -260,16 +246,16 @@ fn boolean_reduction(
 }
 
 /// A reduction.
-pub fn reduction(alloc: Global, op: ReduceOp, operand: Shape) -> Result<Shape, CheckError>
+pub fn reduction(alloc: Global, op: Aggregate, operand: Shape) -> Result<Shape, CheckError>
     ensures { Says shape_view result (reduction op (shape_view operand)) }
 {
     match op {
-        ReduceOp::Count => boolean_reduction(alloc, Reduction::Count, false, operand),
-        ReduceOp::Some => boolean_reduction(alloc, Reduction::Some, true, operand),
-        ReduceOp::All => boolean_reduction(alloc, Reduction::All, true, operand),
-        ReduceOp::Add => integer_reduction(alloc, Reduction::Add, operand),
-        ReduceOp::Avg => integer_reduction(alloc, Reduction::Avg, operand),
-        ReduceOp::Min => integer_reduction(alloc, Reduction::Min, operand),
-        ReduceOp::Max => integer_reduction(alloc, Reduction::Max, operand),
+        Aggregate::Sum
+        | Aggregate::Product
+        | Aggregate::Greatest
+        | Aggregate::Least
+        | Aggregate::Average => integer_reduction(alloc, op, operand),
+        Aggregate::Every | Aggregate::Any => boolean_reduction(alloc, op, true, operand),
+        Aggregate::Count => boolean_reduction(alloc, op, false, operand),
     }
 }

@@ -1,100 +1,94 @@
 //! The check of a whole query.
 
-ghost use Rattle.std.specs.Prelude.{◌≡◌, ◌≤◌, [], IfOk, map};
+ghost use Rattle.std.specs.Prelude.{◌≡◌, ◌<◌, ◌≤◌, [], IfOk, OnOk, length, map, option_map, Some, slice_get};
 ghost use Rattle.wcps_types.specs.Cells.{result_cells, max_cells};
 ghost use Rattle.wcps_types.specs.Work.{query_work, max_work};
-ghost use Rattle.wcps_text.specs.Tree.{query_view, item_view as tree_item_view};
-ghost use Rattle.wcps_types.specs.Typed.{item_view, combination_view};
+ghost use Rattle.wcps_text.specs.Tree.{query_view};
+ghost use Rattle.wcps_types.specs.Renamed.{over, combination_view};
+ghost use Rattle.wcps_types.specs.Typed.{tree_view};
 ghost use Rattle.wcps_types.specs.TypedQueries.{query_view as typed_query_view};
-ghost use Rattle.wcps_types.specs.Shapes.{Says, shape_view};
+ghost use Rattle.wcps_types.specs.Shapes.{Says};
 ghost use Rattle.wcps_types.specs.Bindings.{choice_view, combination_count, combinations};
-ghost use Rattle.wcps_types.specs.Queries.{label_boolean, item_of, plain_item, typ_item, typ_combination, typ_each, typ_query};
+ghost use Rattle.wcps_types.specs.Sharing.{own, coverages_in, AreBelow, ChoicesAreBelow, Grows, HasTree, AreMade};
+ghost use Rattle.wcps_types.specs.Queries.{typ_combination, typ_each, typ_query};
 
-use crate::bindings::{Bindings, Choice, combination_at, combination_count, resolve_bindings};
+use crate::bindings::{Choice, combination_at, combination_count, resolve_bindings};
 use crate::cells::{MAX_CELLS, combinations_cells};
 use crate::effort::{MAX_WORK, combinations_work};
-use crate::expression::{condition_node, expression};
 use crate::names::Bound;
 use crate::refusal::{CheckError, TypeRefusal};
-use crate::shape::{Label, Shape, is_scalar};
-use crate::typed::{Combination, TypedItem, TypedQuery};
+use crate::same::place_of_same;
+use crate::sharing::{own_variables, places_of, signatures_of, tree_of_like};
+use crate::trees::tree_of;
+use crate::typed::Tree;
+use crate::typed_query::{Combination, TypedQuery};
 use arr_core::Signature;
 use std::alloc::{AllocError, Global};
-use wcps_text::{Item, Query};
+use wcps_text::Query;
 
-/// Which fields of an item are Boolean.
-fn item_booleans(alloc: Global, labels: &[Label]) -> Result<Vec<bool>, AllocError>
-    ensures { IfOk result (λ v. v.items ≡ map label_boolean labels.now) }
-{
-    let mut booleans = Vec::new(alloc);
-    for label in labels {
-        booleans.push(label.boolean)?;
-    }
-    Ok(booleans)
-}
-
-/// What is returned by a shape.
-#[tactic(auto, using(crate::proofs::Fields::item_fields))]
-fn item_of(alloc: Global, shape: Shape) -> Result<TypedItem, CheckError>
-    ensures { Says item_view result (item_of (shape_view shape)) }
-{
-    let Shape {
-        domain,
-        labels,
-        node,
-    } = shape;
-    let booleans = item_booleans(alloc, &labels)?;
-    Ok(TypedItem {
-        domain,
-        booleans,
-        node,
-    })
-}
-
-/// What is returned by a shape without `encode`: a scalar.
-fn plain_item(alloc: Global, shape: Shape) -> Result<TypedItem, CheckError>
-    ensures { Says item_view result (plain_item (shape_view shape)) }
-{
-    if is_scalar(shape.domain.axes()) {
-        item_of(alloc, shape)
-    } else {
-        Err(CheckError::Refused(TypeRefusal::MustEncode))
-    }
-}
-
-/// What a query returns.
-fn typed_item(
-    alloc: Global,
-    coverages: &[Signature],
-    bound: &[Bound],
-    item: &Item,
-) -> Result<TypedItem, CheckError>
-    ensures { Says item_view result (typ_item coverages.now bound.now (tree_item_view item.now)) }
-{
-    match item {
-        Item::Encode(e) => {
-            let shape = expression(alloc, coverages, bound, &[], e)?;
-            item_of(alloc, shape)
-        }
-        Item::Plain(e) => {
-            let shape = expression(alloc, coverages, bound, &[], e)?;
-            plain_item(alloc, shape)
-        }
-    }
-}
-
-/// The query with one choice of coverages: its `where`, then its item.
-pub fn combination(
+/// The query over the variables of a combination, each with the signature of its coverage.
+fn shared_tree(
     alloc: Global,
     coverages: &[Signature],
     bound: &[Bound],
     query: &Query,
-) -> Result<Combination, CheckError>
-    ensures { Says combination_view result (typ_combination coverages.now (query_view query.now) bound.now) }
+) -> Result<Tree, CheckError>
+    requires there { AreBelow (length coverages.now) (coverages_in bound.now) }
+    ensures said { Says (λ t. over (coverages_in bound.now) (Some t)) result (typ_combination coverages.now (query_view query.now) bound.now) }
+    ensures made { IfOk result (λ t. HasTree coverages.now (query_view query.now) (own 0 bound.now) (coverages_in bound.now) (Some t)) }
 {
-    let condition = condition_node(alloc, coverages, bound, &[], &query.condition)?;
-    let item = typed_item(alloc, coverages, bound, &query.item)?;
-    Ok(Combination { condition, item })
+    let signatures = signatures_of(alloc, coverages, bound)?;
+    let variables = own_variables(alloc, bound)?;
+    tree_of(alloc, &signatures, &variables, query)
+}
+
+/// The place of a tree: of one that is the same, else of this one, now the last.
+fn kept(trees: &mut Vec<Tree>, made: Tree) -> Result<usize, AllocError>
+    ensures same { IfOk result (λ k. option_map tree_view (slice_get trees.new.items k) ≡ Some (tree_view made)) }
+    ensures kept { OnOk result (Grows trees.old.items trees.new.items) }
+    ensures longer { OnOk result (length trees.old.items ≤ length trees.new.items) }
+{
+    if let Some(tree) = place_of_same(trees, &made) {
+        return Ok(tree);
+    }
+    let tree = trees.len();
+    trees.push(made)?;
+    Ok(tree)
+}
+
+/// The place of the tree of a query over coverages: that of a maker whose coverages are like these, else that of the tree
+/// that is made of this combination, which is a maker too.
+fn place_of_tree(
+    alloc: Global,
+    coverages: &[Signature],
+    bound: &[Bound],
+    query: &Query,
+    trees: &mut Vec<Tree>,
+    makers: &mut Vec<Combination>,
+) -> Result<usize, CheckError>
+    requires there { AreBelow (length coverages.now) (coverages_in bound.now) }
+    requires made { AreMade coverages.now (query_view query.now) (own 0 bound.now) trees.old.items makers.old.items }
+    ensures said { Says (λ t. over (coverages_in bound.now) (slice_get trees.new.items t)) result (typ_combination coverages.now (query_view query.now) bound.now) }
+    ensures inside { IfOk result (λ t. t < length trees.new.items) }
+    ensures made { OnOk result (AreMade coverages.now (query_view query.now) (own 0 bound.now) trees.new.items makers.new.items) }
+    ensures kept { OnOk result (Grows trees.old.items trees.new.items) }
+    ensures longer { OnOk result (length trees.old.items ≤ length trees.new.items) }
+{
+    if let Some(tree) = tree_of_like(coverages, makers, bound) {
+        return Ok(tree);
+    }
+    let made = shared_tree(alloc, coverages, bound, query)?;
+    let tree = kept(trees, made)?;
+    let coverages = places_of(alloc, bound)?;
+    makers.push(Combination { tree, coverages })?;
+    Ok(tree)
+}
+
+/// Trees, and combinations that have them.
+#[derive(Debug, Drop)]
+struct Combined {
+    trees: Vec<Tree>,
+    combinations: Vec<Combination>,
 }
 
 /// The query with each choice of coverages in order.
@@ -104,37 +98,49 @@ fn each_combination(
     choices: &[Choice],
     count: u64,
     query: &Query,
-) -> Result<Vec<Combination>, CheckError>
-    requires { count ≡ combination_count (map choice_view choices.now) }
-    ensures { Says (λ v. map combination_view v.items) result (typ_each coverages.now (query_view query.now) [] (combinations (map choice_view choices.now))) }
+) -> Result<Combined, CheckError>
+    requires counted { count ≡ combination_count (map choice_view choices.now) }
+    requires there { ChoicesAreBelow (length coverages.now) (map choice_view choices.now) }
+    ensures { Says (λ all. map (combination_view all.trees.items) all.combinations.items) result (typ_each coverages.now (query_view query.now) [] (combinations (map choice_view choices.now))) }
 {
-    let mut all = Vec::new(alloc);
+    let mut trees = Vec::new(alloc);
+    let mut makers = Vec::new(alloc);
+    let mut combinations = Vec::new(alloc);
     for number in 0..count {
         let bound = combination_at(alloc, choices, count, number)?;
-        all.push(combination(alloc, coverages, &bound, query)?)?;
+        let tree = place_of_tree(alloc, coverages, &bound, query, &mut trees, &mut makers)?;
+        let places = places_of(alloc, &bound)?;
+        combinations.push(Combination {
+            tree,
+            coverages: places,
+        })?;
     }
-    Ok(all)
+    Ok(Combined {
+        trees,
+        combinations,
+    })
 }
 
 /// The typed query, or the first refusal: first the `for` list and the number of combinations, then each combination in
-/// order, then the number of result cells, then the work.
+/// order, then the number of result cells, then the work. It takes memory for as many trees as differ, not as there
+/// are combinations.
 pub fn check(
     alloc: Global,
     signatures: &[Signature],
     query: &Query,
 ) -> Result<TypedQuery, CheckError>
     ensures said { Says typed_query_view result (typ_query signatures.now (query_view query.now)) }
-    ensures few_cells { IfOk result (λ q. result_cells (map combination_view q.combinations.items) ≤ max_cells) }
-    ensures little_work { IfOk result (λ q. query_work (map combination_view q.combinations.items) ≤ max_work) }
+    ensures few_cells { IfOk result (λ q. result_cells (map (combination_view q.trees.items) q.combinations.items) ≤ max_cells) }
+    ensures little_work { IfOk result (λ q. query_work (map (combination_view q.trees.items) q.combinations.items) ≤ max_work) }
 {
-    let Bindings { coverages, choices } = resolve_bindings(alloc, signatures, &query.bindings)?;
-    let count = combination_count(&choices)?;
-    let combinations = each_combination(alloc, &coverages, &choices, count, query)?;
-    if combinations_cells(&combinations) > MAX_CELLS {
+    let bindings = resolve_bindings(alloc, signatures, &query.bindings)?;
+    let count = combination_count(&bindings.choices)?;
+    let all = each_combination(alloc, &bindings.coverages, &bindings.choices, count, query)?;
+    if combinations_cells(&all.trees, &all.combinations) > MAX_CELLS {
         return Err(CheckError::Refused(TypeRefusal::ResultTooLarge));
     }
-    if combinations_work(&combinations) > MAX_WORK {
+    if combinations_work(&all.trees, &all.combinations) > MAX_WORK {
         return Err(CheckError::Refused(TypeRefusal::TooMuchWork));
     }
-    Ok(TypedQuery::new(coverages, combinations))
+    Ok(TypedQuery::new(bindings.coverages, all.trees, all.combinations))
 }

@@ -1,23 +1,22 @@
 //! Several fields in braces.
 
-ghost use Rattle.std.specs.Prelude.{◌≡◌, IfOk, List, map, cond, ◌&&◌};
-ghost use Rattle.std.specs.List.{list_any};
+ghost use Rattle.std.specs.Prelude.{◌≡◌, IfOk, ℕ, List, map, cond, true, ◌&&◌};
 ghost use Rattle.std.specs.Str.{bytes_eq};
-ghost use Rattle.wcps_types.specs.declared.records.Piece.{Piece};
+ghost use Rattle.std.specs.BTreeSet.{contains_text};
 ghost use Rattle.wcps_types.specs.declared.shape.Label.{Label};
 ghost use Rattle.wcps_types.specs.Typed.{only_tree, scalar as scalar_tree};
 ghost use Rattle.wcps_types.specs.Parts.{piece_label, tree_in, with_trees};
 ghost use Rattle.wcps_types.specs.Shapes.{Says, shape_view, labels_view, field_of_view};
 ghost use Rattle.wcps_types.specs.Records.{piece_view, pieces_view, no_pieces, is_part, with_part, finished};
 
-use crate::names::is_same;
 use crate::nodes::scalar_node;
 use crate::operators::are_same;
+use crate::pieces::Pieces;
 use crate::refusal::{CheckError, TypeRefusal};
 use crate::shape::{Label, OneField, Shape, is_scalar, no_axes};
 use crate::typed::Node;
-use arr_core::Domain;
 use std::alloc::{AllocError, Global};
+use std::collections::BTreeSet;
 use wcps_text::QueryName;
 
 /// A part of a record.
@@ -29,13 +28,6 @@ pub struct Piece {
     pub node: Node,
 }
 
-/// The parts so far, and the domain of those that have axes; without axes where none has.
-#[derive(Debug, Drop)]
-pub struct Pieces {
-    pub domain: Domain,
-    pub list: Vec<Piece>,
-}
-
 impl Pieces {
     /// No part yet.
     pub fn new(alloc: Global) -> Pieces
@@ -44,23 +36,29 @@ impl Pieces {
         Pieces {
             domain: no_axes(alloc),
             list: Vec::new(alloc),
+            names: BTreeSet::new(alloc),
         }
     }
 }
 
-/// Whether one of the pieces has that name.
-fn is_piece(list: &[Piece], name: &QueryName) -> bool
-    ensures { result ≡ list_any (λ (p : Piece). bytes_eq p.name name.now) list.now }
+/// Whether a part has that name.
+pub fn is_part(pieces: &Pieces, name: &QueryName) -> bool
+    ensures { result ≡ is_part name.now (map piece_view pieces.now.list.items) }
 {
-    list.iter()
-        .any(|piece| is_same(piece.name.as_str(), name.as_str()))
+    pieces.names.contains(name.as_str())
 }
 
-/// Whether a part has that name.
-pub fn is_part(list: &[Piece], name: &QueryName) -> bool
-    ensures { result ≡ is_part name.now (map piece_view list.now) }
+/// The names with one more.
+fn with_name(
+    alloc: Global,
+    names: BTreeSet<String>,
+    name: &QueryName,
+) -> Result<BTreeSet<String>, AllocError>
+    ensures { IfOk result (λ new. (x : List ℕ) → contains_text new x ≡ cond (bytes_eq name.now x) true (contains_text names x)) }
 {
-    is_piece(list, name)
+    let mut names = names;
+    names.insert(String::from_str(alloc, name.as_str())?)?;
+    Ok(names)
 }
 
 /// The parts with one more.
@@ -75,6 +73,7 @@ pub fn with_part(
     let Pieces {
         domain: before,
         mut list,
+        names,
     } = pieces;
     let OneField {
         domain,
@@ -85,6 +84,7 @@ pub fn with_part(
     if !scalar && !is_scalar(before.axes()) && !are_same(before.axes(), domain.axes()) {
         return Err(CheckError::Refused(TypeRefusal::DomainMismatch));
     }
+    let names = with_name(alloc, names, name)?;
     let name = QueryName::new(alloc, name.as_str())?;
     list.push(Piece {
         name,
@@ -92,14 +92,12 @@ pub fn with_part(
         boolean,
         node,
     })?;
-    if scalar {
-        Ok(Pieces {
-            domain: before,
-            list,
-        })
-    } else {
-        Ok(Pieces { domain, list })
-    }
+    let domain = if scalar { before } else { domain };
+    Ok(Pieces {
+        domain,
+        list,
+        names,
+    })
 }
 
 /// The node of a part; a scalar part beside one with axes is taken at every point.
@@ -159,7 +157,11 @@ fn record_node(nodes: Vec<Node>) -> Node
 pub fn finished(alloc: Global, pieces: Pieces) -> Result<Shape, AllocError>
     ensures { IfOk result (λ s. shape_view s ≡ finished (pieces_view pieces)) }
 {
-    let Pieces { domain, list } = pieces;
+    let Pieces {
+        domain,
+        list,
+        names: _,
+    } = pieces;
     let on_axes = !is_scalar(domain.axes());
     let labels = piece_labels(alloc, &list)?;
     let nodes = piece_nodes(alloc, on_axes, list)?;

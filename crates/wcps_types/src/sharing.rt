@@ -2,14 +2,14 @@
 
 ghost use Rattle.std.specs.Prelude.{◌≡◌, ◌<◌, ◌↔◌, [], ◌++◌, length, IfOk, IfSome, IsTrue, List, Ok, slice_get};
 ghost use Rattle.wcps_text.specs.Tree.{QueryTree};
-ghost use Rattle.wcps_types.specs.declared.typed.Combination.{Combination};
+ghost use Rattle.wcps_types.specs.declared.typed.Tree.{Tree};
 ghost use Rattle.wcps_types.specs.Renamed.{over};
 ghost use Rattle.wcps_types.specs.Queries.{typ_combination};
 ghost use Rattle.wcps_types.specs.Sharing.{own, coverages_in, with_signature, signatures_at, AreLike, AlikeAt, Alike, AreMade};
 
 use crate::bindings::copied;
 use crate::names::Bound;
-use crate::shared::SharedCombination;
+use crate::typed_query::Combination;
 use arr_core::{Field, Signature};
 use std::alloc::{AllocError, Global};
 use wcps_text::QueryName;
@@ -77,11 +77,11 @@ fn are_alike(coverages: &[Signature], bound: &[Bound], places: &[usize]) -> bool
 /// The place of the tree of a maker whose coverages are like those of a combination.
 pub fn tree_of_like(
     coverages: &[Signature],
-    makers: &[SharedCombination],
+    makers: &[Combination],
     bound: &[Bound],
 ) -> Option<usize>
-    ensures typed { (q : QueryTree) (trees : List Combination) → AreMade coverages.now q (own 0 bound.now) trees makers.now → IfSome result (λ t. typ_combination coverages.now q bound.now ≡ Ok (over (coverages_in bound.now) (slice_get trees t))) }
-    ensures inside { (q : QueryTree) (trees : List Combination) → AreMade coverages.now q (own 0 bound.now) trees makers.now → IfSome result (λ t. t < length trees) }
+    ensures typed { (q : QueryTree) (trees : List Tree) → AreMade coverages.now q (own 0 bound.now) trees makers.now → IfSome result (λ t. typ_combination coverages.now q bound.now ≡ Ok (over (coverages_in bound.now) (slice_get trees t))) }
+    ensures inside { (q : QueryTree) (trees : List Tree) → AreMade coverages.now q (own 0 bound.now) trees makers.now → IfSome result (λ t. t < length trees) }
 {
     match makers {
         [] => None,

@@ -4,7 +4,7 @@ use crate::noise::noise;
 use std::alloc::{AllocError, Global};
 use tile_kernel::{Column, MAX_PLACES};
 use wcps_mean::Outcome;
-use wcps_types::Operation2;
+use wcps_text::BinaryOperator;
 
 /// What cells a column has.
 #[derive(Clone, Copy)]
@@ -37,15 +37,15 @@ fn left(data: Data, place: u64) -> i64 {
 }
 
 /// The cell of a right operand: never 0 as a divisor, save for the fault, and of 0 to 63 as the number of a bit.
-fn right(op: Operation2, data: Data, place: u64) -> i64 {
+fn right(op: BinaryOperator, data: Data, place: u64) -> i64 {
     let number = noise(place | 4096);
     match (op, data) {
-        (Operation2::Bit, Data::Faults) if place == 4095 => 64,
-        (Operation2::Divide, Data::Faults) if place == 4095 => 0,
-        (Operation2::Subtract, Data::Faults) if place == 4095 => -2,
-        (Operation2::Bit, _) => (number % 64) as i64,
+        (BinaryOperator::Bit, Data::Faults) if place == 4095 => 64,
+        (BinaryOperator::Divide, Data::Faults) if place == 4095 => 0,
+        (BinaryOperator::Subtract, Data::Faults) if place == 4095 => -2,
+        (BinaryOperator::Bit, _) => (number % 64) as i64,
         (_, Data::Constant) => 3,
-        (Operation2::Divide, _) => signed(data, number) | 1,
+        (BinaryOperator::Divide, _) => signed(data, number) | 1,
         _ => signed(data, number),
     }
 }
@@ -68,7 +68,7 @@ pub fn lefts(alloc: Global, data: Data) -> Result<Column, AllocError> {
 }
 
 /// A column of right operands.
-pub fn rights(alloc: Global, op: Operation2, data: Data) -> Result<Column, AllocError> {
+pub fn rights(alloc: Global, op: BinaryOperator, data: Data) -> Result<Column, AllocError> {
     let mut cells = Vec::new(alloc);
     for place in 0u64..4096 {
         cells.push(right(op, data, place))?;

@@ -10,8 +10,8 @@ use tile_kernel::{
     Accumulator, Column, add_column, fold_column, fold_column_where, operate_column,
     operate_columns,
 };
-use wcps_mean::{Aggregate, Outcome};
-use wcps_types::{Operation1, Operation2};
+use wcps_mean::Outcome;
+use wcps_text::{Aggregate, BinaryOperator, UnaryOperator};
 
 /// A number for an outcome.
 fn number(outcome: Outcome) -> i64 {
@@ -30,7 +30,13 @@ fn picked(column: &Column, round: u32) -> i64 {
     0
 }
 
-fn operated(op: Operation2, left: &Column, right: &Column, out: &mut Column, rounds: u32) -> i64 {
+fn operated(
+    op: BinaryOperator,
+    left: &Column,
+    right: &Column,
+    out: &mut Column,
+    rounds: u32,
+) -> i64 {
     let mut sum: i64 = 0;
     for round in 0..rounds {
         if left.len() == right.len() {
@@ -42,7 +48,7 @@ fn operated(op: Operation2, left: &Column, right: &Column, out: &mut Column, rou
 }
 
 /// An operation on two columns.
-pub fn both(alloc: Global, op: Operation2, data: Data, rounds: u32) -> Result<i64> {
+pub fn both(alloc: Global, op: BinaryOperator, data: Data, rounds: u32) -> Result<i64> {
     let left = lefts(alloc, data)?;
     let right = rights(alloc, op, data)?;
     let mut out = Column::new(alloc)?;
@@ -50,7 +56,7 @@ pub fn both(alloc: Global, op: Operation2, data: Data, rounds: u32) -> Result<i6
 }
 
 /// An operation on a column and the scalar 3.
-pub fn with_scalar(alloc: Global, op: Operation2, data: Data, rounds: u32) -> Result<i64> {
+pub fn with_scalar(alloc: Global, op: BinaryOperator, data: Data, rounds: u32) -> Result<i64> {
     let left = lefts(alloc, data)?;
     let right = scalar(alloc, 3)?;
     let mut out = Column::new(alloc)?;
@@ -58,7 +64,7 @@ pub fn with_scalar(alloc: Global, op: Operation2, data: Data, rounds: u32) -> Re
 }
 
 /// An operation on one column.
-pub fn one(alloc: Global, op: Operation1, data: Data, rounds: u32) -> Result<i64> {
+pub fn one(alloc: Global, op: UnaryOperator, data: Data, rounds: u32) -> Result<i64> {
     let operand = lefts(alloc, data)?;
     let mut out = Column::new(alloc)?;
     let mut sum: i64 = 0;

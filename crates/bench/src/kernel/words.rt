@@ -2,8 +2,7 @@
 
 use crate::kernel::cells::Data;
 use anyhow::{Result, bail};
-use wcps_mean::Aggregate;
-use wcps_types::{Operation1, Operation2};
+use wcps_text::{Aggregate, BinaryOperator, UnaryOperator};
 
 pub fn data(word: &str) -> Result<Data> {
     Ok(match word {
@@ -15,32 +14,32 @@ pub fn data(word: &str) -> Result<Data> {
     })
 }
 
-pub fn operation(word: &str) -> Result<Operation2> {
+pub fn operation(word: &str) -> Result<BinaryOperator> {
     Ok(match word {
-        "*" => Operation2::Multiply,
-        "/" => Operation2::Divide,
-        "+" => Operation2::Add,
-        "-" => Operation2::Subtract,
-        "<" => Operation2::Less,
-        "<=" => Operation2::LessEqual,
-        ">" => Operation2::Greater,
-        ">=" => Operation2::GreaterEqual,
-        "=" => Operation2::Equal,
-        "!=" => Operation2::NotEqual,
-        "and" => Operation2::And,
-        "or" => Operation2::Or,
-        "xor" => Operation2::Xor,
-        "bit" => Operation2::Bit,
+        "*" => BinaryOperator::Multiply,
+        "/" => BinaryOperator::Divide,
+        "+" => BinaryOperator::Add,
+        "-" => BinaryOperator::Subtract,
+        "<" => BinaryOperator::Less,
+        "<=" => BinaryOperator::LessEqual,
+        ">" => BinaryOperator::Greater,
+        ">=" => BinaryOperator::GreaterEqual,
+        "=" => BinaryOperator::Equal,
+        "!=" => BinaryOperator::NotEqual,
+        "and" => BinaryOperator::And,
+        "or" => BinaryOperator::Or,
+        "xor" => BinaryOperator::Xor,
+        "bit" => BinaryOperator::Bit,
         _ => bail!("no operation {word}"),
     })
 }
 
-pub fn operation_on_one(word: &str) -> Result<Operation1> {
+pub fn operation_on_one(word: &str) -> Result<UnaryOperator> {
     Ok(match word {
-        "negate" => Operation1::Negate,
-        "plus" => Operation1::Plus,
-        "not" => Operation1::Not,
-        "abs" => Operation1::Absolute,
+        "negate" => UnaryOperator::Negate,
+        "plus" => UnaryOperator::Plus,
+        "not" => UnaryOperator::Not,
+        "abs" => UnaryOperator::Absolute,
         _ => bail!("no operation {word}"),
     })
 }

@@ -1,3 +1,4 @@
+-- The four bytes are those of the number that they read as, the lowest first.
 use Rattle.std.proofs.Common.{ℕ, sym, ap, ◌∙◌, arith}
 use Rattle.byteorder.specs.Endian.{little_bytes}
 use Rattle.file_bytes.proofs.Numbers.{bytes-number}

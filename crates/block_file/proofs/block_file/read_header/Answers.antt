@@ -1,37 +1,24 @@
 use Rattle.std.proofs.Common.{arith}
 use Rattle.std.proofs.lemmas.Result.{err_from_is_err_and}
-use Rattle.block_file.proofs.Opening.{bytes_store, content_store, content_state, content_header, damaged_header, damaged_length}
-use Rattle.std.proofs.Common.{◌∙◌}
+use Rattle.block_file.proofs.Headers.{starts, refused_header, damaged_length, header_in}
 use Rattle.block_file.proofs.block_file.read_header.Goals as goal
 use Rattle.block_file.proofs.block_file.read_header.Goals.{then-header-length-via-then-header-length, then-header-length-via-else-header-length+then-header-gt-MAX_BLOCKS}
 
-pub returns-in_err-header-clause-no_store : goal.returns-in_err-header-clause-no_store
-returns-in_err-header-clause-no_store g c =
+pub returns-in_err-header-clause-refused : goal.returns-in_err-header-clause-refused
+returns-in_err-header-clause-refused g c =
     let p = err_from_is_err_and c.from_residual-in_err-header.result c.from_residual-in_err-header.ensures.1 in
-    rw (p.1, p.2) (λ is honest store. c.in_err-header.ensures.no_store is (bytes_store _ _ (omega arith) (c.in_ok-read_at.ensures.read honest) store))
+    rw (p.1, p.2) (λ honest. refused_header _ _ _ (starts _ _ (omega arith) (c.in_ok-read_at.ensures.read honest)) c.in_err-header.ensures.refused)
 
-pub returns-in_err-header-clause-left_open : goal.returns-in_err-header-clause-left_open
-returns-in_err-header-clause-left_open g c =
-    let p = err_from_is_err_and c.from_residual-in_err-header.result c.from_residual-in_err-header.ensures.1 in
-    rw (p.1, p.2) (λ is honest.
-    let holds = c.in_ok-read_at.ensures.read honest in
-    let left = c.in_err-header.ensures.left_open is in
-    (content_store _ _ (omega arith) holds left.0, content_state _ _ (omega arith) holds ∙ left.1))
-
-pub returns-in_err-header-clause-damaged : goal.returns-in_err-header-clause-damaged
-returns-in_err-header-clause-damaged g c =
-    let p = err_from_is_err_and c.from_residual-in_err-header.result c.from_residual-in_err-header.ensures.1 in
-    rw (p.1, p.2) (λ is honest.
-    let damaged = c.in_err-header.ensures.damaged is in
-    damaged_header _ _ (omega arith) (c.in_ok-read_at.ensures.read honest) damaged.0 damaged.1 damaged.2)
-
-pub returns-then-header-length-clause-damaged : goal.returns-then-header-length-clause-damaged
-returns-then-header-length-clause-damaged g c = λ _ honest.
-    damaged_length _ c.in_ok-header.header.blocks c.in_ok-header.header.first c.in_ok-header.header.length (content_header _ _ _ _ _ (omega arith) (c.in_ok-read_at.ensures.read honest) c.in_ok-header.ensures.ok)
+pub returns-then-header-length-clause-refused : goal.returns-then-header-length-clause-refused
+returns-then-header-length-clause-refused g c = λ honest.
+    damaged_length _ c.in_ok-header.header.blocks c.in_ok-header.header.first c.in_ok-header.header.length (header_in _ _ _ _ _ _ (starts _ _ (omega arith) (c.in_ok-read_at.ensures.read honest)) c.in_ok-header.ensures.ok)
     (λ whole few. elim c.then-header-length.branch [
-      | then-header-length-via-then-header-length w ↦ let len = c.len-length.ensures honest in let wrong = w.if-header-length.true in omega arith
-      | then-header-length-via-else-header-length+then-header-gt-MAX_BLOCKS w ↦ let more = w.if-header-gt-MAX_BLOCKS.true in omega arith
+      | then-header-length-via-then-header-length w ↦ omega (arith, c.len-length.ensures honest, w.if-header-length.true)
+      | then-header-length-via-else-header-length+then-header-gt-MAX_BLOCKS w ↦ omega (arith, w.if-header-gt-MAX_BLOCKS.true)
     ])
 
 pub returns-clause-header : goal.returns-clause-header
-returns-clause-header g c = λ honest. content_header _ _ _ _ _ (omega arith) (c.in_ok-read_at.ensures.read honest) c.in_ok-header.ensures.ok
+returns-clause-header g c = λ honest. record {
+  is = header_in _ _ _ _ _ _ (starts _ _ (omega arith) (c.in_ok-read_at.ensures.read honest)) c.in_ok-header.ensures.ok;
+  whole = omega (arith, c.len-length.ensures honest);
+}

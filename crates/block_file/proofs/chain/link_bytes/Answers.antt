@@ -4,6 +4,6 @@ use Rattle.block_file.proofs.chain.link_bytes.Goals as goal
 
 pub returns-clause-part : goal.returns-clause-part
 returns-clause-part c = λ j.
-    c.put_u32.ensures.above (4 + j) (omega arith)
+    c.put_number.ensures.above (4 + j) (omega arith)
     ∙ part_among_zeros 4096 4 (4 + length c.args.part.now - 4) j c.copy_from_slice.new.self (omega arith) (omega (arith, ap length c.copy_from_slice.ensures.after))
     ∙ ap (λ (xs : List ℕ). get_or xs j 0) c.copy_from_slice.ensures.after

@@ -1,6 +1,6 @@
-use Rattle.std.proofs.Common.{◌∙◌, ◌-◌, length, arith}
-use Rattle.block_file.proofs.Numbers.{number-cut}
+use Rattle.std.proofs.Common.{sym, ◌∙◌}
+use Rattle.block_file.proofs.Numbers.{number_cut}
 use Rattle.block_file.proofs.header.u64_at.Goals as goal
 
 pub returns : goal.returns
-returns c = c.read_u64.ensures ∙ number-cut c.args.at 8 (length c.args.bytes.now - c.args.at) c.args.bytes.now (omega arith)
+returns c = c.read_u64.ensures ∙ sym (number_cut c.args.at 8 c.args.bytes.now c.requires)

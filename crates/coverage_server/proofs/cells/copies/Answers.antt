@@ -1,3 +1,4 @@
+-- Once each signature has been copied, the list is that of all of them.
 use Rattle.std.proofs.Common.{◌≤◌, length, ◌∙◌, arith}
 use Rattle.std.proofs.lemmas.List.{take_all}
 use Rattle.coverage_server.proofs.cells.copies.Goals as goal

@@ -1,3 +1,4 @@
+-- A name of no coverage adds no byte, and each field of a coverage adds the bytes of its index.
 use Rattle.std.proofs.Common.{◌≡◌, subst}
 use Rattle.std.specs.Prelude.{IsSomeAnd}
 use Rattle.tile_index.specs.Bytes.{index_bytes}

@@ -1,3 +1,4 @@
+-- A job that is there is dropped, and a number of no job is refused.
 use Rattle.coverage_server.proofs.JobLemmas.{cancelled, cancel_absent}
 use Rattle.coverage_server.proofs.jobs.cancel_job.Goals as goal
 

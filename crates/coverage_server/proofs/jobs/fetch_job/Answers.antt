@@ -1,3 +1,4 @@
+-- A finished job tells the text or the fault that is its answer, and a fetch is refused for the desk's reason.
 use Rattle.std.proofs.Common.{subst}
 use Rattle.job_desk.specs.Desks.{IsFetched}
 use Rattle.coverage_server.proofs.JobLemmas.{fetched_text, fetched_fault, fetch_refused_as}

@@ -1,3 +1,4 @@
+-- Each coverage is attached as the next of the catalogue, under a name that none has yet, until all are.
 use Rattle.std.proofs.Common.{◌∙◌, ◌+◌, [], ◌∷◌, ◌++◌, List, Vec, ap, sym, subst, refl, length, arith, Err, append_assoc}
 use Rattle.arr_core.specs.declared.signature.Signature.{Signature}
 use Rattle.std.specs.declared.alloc.Global.{Global}
@@ -37,10 +38,10 @@ pub loop-fields-preserved : goal.loop-fields-preserved
 loop-fields-preserved g c =
     let split = items_split _ _ _ _ _ c.loop-fields.invariant.2 (c.in-Some.ensures.steps.0) in
     let within = place_within _ _ _ _ _ _ _ _ _ c.loop-fields.invariant.0 c.requires.counted split in
-    let content = ap g.B.Blocks.content c.loop-fields.invariant.1 in
+    let content = ap (λ b. (g.B.Blocks.state b).content) c.loop-fields.invariant.1 in
     let attached = next_attached _ _ _ c.in-Some.fields.items _ _ _ _ _ c.index.result.now c.loop-fields.invariant.0 within (rw c.in_ok-signatures.ensures at c.index.ensures)
-    (rw content at c.in_default.ensures.coverages) c.in_default.ensures.indexes c.in_default.ensures.below in (
-      subst (λ (l : List (List Index)). IsAttached (g.B.Blocks.content c.args.cells.now.blocks) c.args.catalogue.now l c.attach.new.self.coverages c.attach.new.self.indexes (c.loop-fields.place + 1))
+    (rw content at c.in_default.ensures.attached.coverages) c.in_default.ensures.attached.indexes c.in_default.ensures.attached.below in (
+      subst (λ (l : List (List Index)). IsAttached (g.B.Blocks.state c.args.cells.now.blocks).content c.args.catalogue.now l c.attach.new.self.coverages c.attach.new.self.indexes (c.loop-fields.place + 1))
           (sym (items_push c.loop-fields.yielded c.in-Some.fields)) attached,
       c.attach.ensures.blocks ∙ c.loop-fields.invariant.1,
       c.loop-fields.invariant.2 ∙ ap (λ (r : List (Vec TileIndex Global)). c.loop-fields.yielded ++ r) (c.in-Some.ensures.steps.0) ∙ sym (append_assoc c.loop-fields.yielded (c.in-Some.fields ∷ []) c.next.new.self.rest.items),
@@ -50,7 +51,7 @@ pub returns-in-Err-clause-refused : goal.returns-in-Err-clause-refused
 returns-in-Err-clause-refused g c =
     let split = items_split _ _ _ _ _ c.loop-fields.invariant.2 (c.in-Some.ensures.steps.0) in
     rw c.attach_fault.ensures
-    (attach_departs _ c.in-Err.fault (λ e tiles. c.in-Err.ensures.damaged (ap Err e)
+    (attach_departs _ c.in-Err.fault (λ e tiles. c.in-Err.ensures.why.for_damage (ap Err e)
     (next_tiles _ _ _ _ _ _ _ _ _ _ c.loop-fields.invariant.0 c.requires.counted split (rw c.in_ok-signatures.ensures at c.index.ensures) tiles)) (λ e. c.in-Err.ensures.no_disk (ap Err e)))
 
 pub returns-clause-coverages : goal.returns-clause-coverages

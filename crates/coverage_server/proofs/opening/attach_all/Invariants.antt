@@ -5,6 +5,5 @@ use Rattle.coverage_server.proofs.opening.attach_all.Given as goal
 
 abbrev pub invariant-loop-fields : goal.invariant-loop-fields
 invariant-loop-fields g l =
-    let B = g.B.Blocks in
-    IsAttached (B.content l.fn.cells.blocks) l.catalogue (items_of l.yielded) l.cells.coverages l.cells.indexes l.place × (l.cells.blocks ≡ l.fn.cells.blocks)
+    IsAttached (g.B.Blocks.state l.fn.cells.blocks).content l.catalogue (items_of l.yielded) l.cells.coverages l.cells.indexes l.place × (l.cells.blocks ≡ l.fn.cells.blocks)
     × (l.fn.indexes.items ≡ l.yielded ++ l.fields-iterator.rest.items)

@@ -1,3 +1,4 @@
+-- Once the name of each coverage has been copied, the names are those of all of them.
 use Rattle.std.proofs.Common.{◌≤◌, length, map, ap, ◌∙◌, arith}
 use Rattle.std.proofs.lemmas.List.{take_all}
 use Rattle.arr_core.specs.declared.signature.Signature.{Signature}

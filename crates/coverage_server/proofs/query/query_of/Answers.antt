@@ -1,3 +1,4 @@
+-- The tokens spell the query within the limits, and a refusal of their syntax or depth is so over each store.
 use Rattle.wcps_text.specs.Token.{toks}
 use Rattle.coverage_server.specs.Asking.{no_query}
 use Rattle.coverage_server.proofs.AskingLemmas.{refused_depth}

@@ -1,3 +1,4 @@
+-- A coverage of a new name and a spelled domain comes into the store, or is refused as the machine has it.
 use Rattle.std.proofs.Common.{rules, ◌≡◌, None, ap, ◌∙◌, subst}
 use Rattle.std.proofs.lemmas.Result.{err_from_is_err_and}
 use Rattle.arr_core.specs.declared.signature.Signature.{Signature}
@@ -34,5 +35,5 @@ returns-clause-answered g c =
     let fields : c.in_ok-fields.fields ≡ u.fields.items = c.in_ok-fields.ensures ∙ c.deref-2.ensures.value in
     let same = signature_alike (record { name = c.in_ok-name.name; domain = c.in_ok-domain.domain; fields = c.in_ok-fields.fields }) u.coverage (axes_of u.intervals.items) u.fields.items c.in_ok-name.ensures domain fields in
     insert_done v c.insert.new.self u.coverage u.intervals.items u.fields.items none spelled
-    (subst (λ (s : Signature). MayInsert (signatures_of v.store) s) same c.in_ok-insert.ensures.may) c.in_ok-reply.reply c.in_ok-reply.ensures.ok
-    (subst (λ (s : Signature). c.insert.new.self.store ≡ inserted s.name s.domain s.fields v.store) same c.in_ok-insert.ensures.inserted)
+    (subst (λ (s : Signature). MayInsert (signatures_of v.store) s) same c.in_ok-insert.ensures.inserted.may) c.in_ok-reply.reply c.in_ok-reply.ensures.ok
+    (subst (λ (s : Signature). c.insert.new.self.store ≡ inserted s.name s.domain s.fields v.store) same c.in_ok-insert.ensures.inserted.inserted)

@@ -1,3 +1,4 @@
+-- The text has the name of each coverage on a line, in the store's order.
 use Rattle.std.proofs.Common.{◌≤◌, ◌++◌, length, refl, ap, ◌∙◌, arith}
 use Rattle.std.specs.Prelude.{codes}
 use Rattle.std.specs.List.{flat_map}

@@ -1,3 +1,4 @@
+-- A box of a field that is there is written or refused as the machine has it, and the failures do not fall.
 use Rattle.std.proofs.Common.{◌≡◌, List, ap, ◌∙◌, subst}
 use Rattle.std.proofs.lemmas.Result.{err_from_is_err_and}
 use Rattle.arr_core.specs.declared.domain.Axis.{Axis}
@@ -8,6 +9,7 @@ use Rattle.coverage_server.specs.Room.{numbers_of}
 use Rattle.coverage_server.specs.Writing.{MayWrite, WriteRefused}
 use Rattle.coverage_server.proofs.ListLemmas.{position_within}
 use Rattle.coverage_server.proofs.MachineLemmas.{at_field}
+use Rattle.coverage_server.proofs.FaultLemmas.{never_fewer}
 use Rattle.coverage_server.proofs.UpdateLemmas.{has_field, busy_refused, area_refused, write_answered, write_done}
 use Rattle.coverage_server.proofs.server.update.Goals as goal
 
@@ -41,7 +43,7 @@ returns-in_err-write-clause-answered g c =
     rw (p.1, p.2)
     (write_answered c.args.busy c.if-busy.false v c.write.new.self u.coverage u.field u.intervals.items (content_view u.content) x.0 x.1 k place spelled c.in_err-write.field-0.0
     (subst (λ (a : List Axis). WriteRefused u.coverage k a (content_view u.content) v c.in_err-write.field-0.0) area c.in_err-write.ensures.refused)
-    c.in_err-write.ensures.disk_fault c.in_err-write.ensures.unchanged)
+    c.in_err-write.ensures.told.told c.in_err-write.ensures.unchanged)
 
 pub returns-clause-answered : goal.returns-clause-answered
 returns-clause-answered g c =
@@ -53,8 +55,8 @@ returns-clause-answered g c =
     let spelled : SpellDomain u.intervals.items = subst SpellDomain c.deref.ensures.value c.in_ok-area.ensures.ok.0 in
     let area : c.in_ok-area.area ≡ axes_of u.intervals.items = c.in_ok-area.ensures.ok.1 ∙ ap axes_of c.deref.ensures.value in
     write_done c.args.busy c.if-busy.false v c.write.new.self u.coverage u.field u.intervals.items (content_view u.content) x.0 x.1 k place spelled c.in_ok-reply.reply c.in_ok-reply.ensures.ok
-    (subst (λ (a : List Axis). MayWrite u.coverage k a (content_view u.content) v.store) area c.in_ok-write.ensures.may)
-    (λ honest. subst (λ (a : List Axis). c.write.new.self.store ≡ updated u.coverage k a (numbers_of a (content_view u.content)) v.store) area (c.in_ok-write.ensures.written honest))
+    (subst (λ (a : List Axis). MayWrite u.coverage k a (content_view u.content) v.store) area c.in_ok-write.ensures.done.may)
+    (λ honest. subst (λ (a : List Axis). c.write.new.self.store ≡ updated u.coverage k a (numbers_of a (content_view u.content)) v.store) area (c.in_ok-write.ensures.done.written honest))
 
 pub returns-then-busy-clause-answered : goal.returns-then-busy-clause-answered
 returns-then-busy-clause-answered g c =
@@ -62,3 +64,9 @@ returns-then-busy-clause-answered g c =
     let x = c.in-Some.ensures in
     let place = at_field u.field c.as_str.result.now x.0 c.in-Some.signature.now c.in-Some-place_of.field c.as_str.ensures.value x.2 c.in-Some-place_of.ensures in
     busy_refused c.args.busy c.args.coverages.now u.coverage u.field u.intervals.items (content_view u.content) x.0 x.1 c.in-Some-place_of.field place c.if-busy.true
+
+pub returns-clause-no_fewer : goal.returns-clause-no_fewer
+returns-clause-no_fewer g c = never_fewer _ _ _ c.write.ensures.told
+
+pub returns-in_err-write-clause-no_fewer : goal.returns-in_err-write-clause-no_fewer
+returns-in_err-write-clause-no_fewer g c = never_fewer _ _ _ c.write.ensures.told

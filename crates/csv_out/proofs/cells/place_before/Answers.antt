@@ -1,3 +1,4 @@
+-- The place before is one field back, else the last field of the point back, else that of a line's last point.
 use Rattle.std.proofs.Common.{arith}
 use Rattle.csv_out.proofs.Places.{before-field, before-point, before-line}
 use Rattle.csv_out.proofs.cells.place_before.Goals as goal

@@ -1,3 +1,4 @@
+-- What is ASCII is UTF-8.
 use Rattle.std.proofs.Common.{rules}
 use Rattle.std.specs.Str.{IsUtf8}
 use Rattle.std.proofs.lemmas.Str.{IsUtf8-from_ascii}

@@ -1,3 +1,4 @@
+-- A few more cells of the item have their text.
 use Rattle.std.proofs.Common.{◌≡◌, ◌-◌, ◌++◌, ◌∙◌, take_all, length-drop, refl, arith, drop}
 use Rattle.std.specs.String.{string_bytes}
 use Rattle.csv_out.specs.Csv.{item_text}

@@ -10,13 +10,15 @@ reading-preserved g c =
     let some : 0 < c.in-Ok.count = omega (arith, c.in-Ok.count-test.1) in (
       room-more c.reading.filled free c.in-Ok.count c.reading.buf c.read_some.new.buf within c.in-Ok.ensures.bound.0,
       λ honest i l.
-          let still : IsTrue (g.F.RawFile.honest c.reading.file) = subst IsTrue (sym c.reading.invariant.4) honest in
+          let still : IsTrue (g.F.RawFile.honest c.reading.file) = subst IsTrue (sym c.reading.invariant.2.same_honest) honest in
           let came : Holds (g.F.RawFile.content c.args.file.now) (c.args.at + c.reading.filled) (take c.in-Ok.count c.read_some.new.buf) =
-          subst (λ z. Holds z (c.args.at + c.reading.filled) (take c.in-Ok.count c.read_some.new.buf)) c.reading.invariant.2
+          subst (λ z. Holds z (c.args.at + c.reading.filled) (take c.in-Ok.count c.read_some.new.buf)) c.reading.invariant.2.same_content
           (c.in-Ok.ensures.read still some) in
           Holds-more _ c.args.at c.reading.filled free c.in-Ok.count c.reading.buf c.read_some.new.buf within c.in-Ok.ensures.bound.0
           (c.reading.invariant.1 honest) came i l,
-      c.in-Ok.ensures.same ∙ c.reading.invariant.2,
-      c.in-Ok.ensures.same_synced ∙ c.reading.invariant.3,
-      c.in-Ok.ensures.honest ∙ c.reading.invariant.4,
+      record {
+        same_content = c.in-Ok.ensures.same.same_content ∙ c.reading.invariant.2.same_content;
+        same_synced = c.in-Ok.ensures.same.same_synced ∙ c.reading.invariant.2.same_synced;
+        same_honest = c.in-Ok.ensures.same.same_honest ∙ c.reading.invariant.2.same_honest;
+      },
     )

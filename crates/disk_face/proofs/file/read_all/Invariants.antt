@@ -1,4 +1,5 @@
 use Rattle.std.proofs.Common.{◌≡◌, ℕ, ◌+◌, ◌-◌, ◌<◌, ◌≤◌, length, slice_index, IsTrue}
+use Rattle.disk_face.specs.Disk.{Unwritten}
 use Rattle.disk_face.proofs.file.read_all.Given as goal
 
 abbrev pub invariant-reading : goal.invariant-reading
@@ -6,9 +7,7 @@ invariant-reading g l =
     (l.filled ≤ length l.buf)
     × (IsTrue (g.F.RawFile.honest l.initial.file) → (i : ℕ) → i < l.filled
     → slice_index (g.F.RawFile.content l.initial.file) (l.at + i) ≡ slice_index l.buf i)
-    × (g.F.RawFile.content l.file ≡ g.F.RawFile.content l.initial.file)
-    × (g.F.RawFile.synced l.file ≡ g.F.RawFile.synced l.initial.file)
-    × (g.F.RawFile.honest l.file ≡ g.F.RawFile.honest l.initial.file)
+    × Unwritten g.F.RawFile.content g.F.RawFile.synced g.F.RawFile.honest l.initial.file l.file
 
 abbrev pub decreases-reading : goal.decreases-reading
 decreases-reading g l = length l.initial.buf - l.filled

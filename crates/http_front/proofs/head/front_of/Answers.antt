@@ -1,3 +1,4 @@
+-- No head stands at the front where none stood there before and no line has ended since.
 use Rattle.std.proofs.Common.{◌≡◌, false, take, drop, sym, ap, ◌∙◌, subst}
 use Rattle.std.proofs.lemmas.List.{take-append-drop, take_rest}
 use Rattle.httparse.specs.Grammar.{HasNoRequest}

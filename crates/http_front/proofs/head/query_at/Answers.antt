@@ -1,3 +1,4 @@
+-- The query part is what stands behind the path and its question mark, which are five bytes.
 use Rattle.std.proofs.Common.{◌≡◌, ◌≤◌, ◌+◌, ◌-◌, true, false, length, drop, Ok, ap, ◌∙◌, sym, arith, rules}
 use Rattle.std.specs.Prelude.{bytes_eq, codes, nat_eq, slice_range}
 use Rattle.std.specs.List.{starts_with}

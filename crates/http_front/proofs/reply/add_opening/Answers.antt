@@ -1,3 +1,4 @@
+-- The parts that are added one after the other are the opening of the reply.
 use Rattle.std.proofs.Common.{◌≡◌, [], refl, sym, subst, ◌∙◌, true}
 use Rattle.std.proofs.KnownBytes.{Appends-nil}
 use Rattle.http_front.specs.Sending.{IsUnderWay}

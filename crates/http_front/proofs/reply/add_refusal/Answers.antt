@@ -1,3 +1,4 @@
+-- A refusal is an opening, which tells the length of the body, and the body, unless that is left out.
 use Rattle.std.proofs.Common.{◌+◌, ◌++◌, List, ℕ, length, subst, ◌∙◌, sym, append-nil}
 use Rattle.std.specs.Prelude.{codes}
 use Rattle.http_front.specs.Sending.{IsUnderWay}

@@ -1,3 +1,4 @@
+-- The phrase of a status is its reason, or nothing where it has none.
 use Rattle.std.proofs.Common.{[], ap, ◌∙◌}
 use Rattle.std.specs.Prelude.{unwrap_or}
 use Rattle.http.specs.StatusCode.{reason_phrase}

@@ -1,3 +1,4 @@
+-- A text that does not begin with a plus sign spells the job's number that it is parsed as, or else none.
 use Rattle.std.proofs.Common.{◌≢◌, get_or, inl, subst, arith}
 use Rattle.std.proofs.lemmas.Bool.Decides.{nat_tests}
 use Rattle.kvp_front.proofs.SpellingLemmas.{Job, job_parsed}

@@ -1,3 +1,4 @@
+-- Each piece before a comma is an item of the list, as is the last piece, and a piece that is none refuses the list.
 use Rattle.std.proofs.Common.{Ok, lit<, sym, ap, ◌∙◌, subst, rules}
 use Rattle.std.proofs.lemmas.Result.{err_from_is_err_and}
 use Rattle.kvp_front.specs.Spelling.{list_in}

@@ -1,3 +1,4 @@
+-- A text with bytes behind its closing bracket spells no interval.
 use Rattle.std.proofs.Common.{◌≡◌, ℕ, List, ◌∷◌, [], length, false, Err, refl, inl}
 use Rattle.std.specs.Prelude.{◌==◌}
 use Rattle.kvp_front.specs.declared.request.RequestError.TheVariants.{BadValue}

@@ -1,3 +1,4 @@
+-- A text spells the signed number that it is parsed as, or else none.
 use Rattle.std.proofs.Common.{Ok, inl, ap, ◌∙◌, sym, subst}
 use Rattle.std.proofs.lemmas.Int.{to_z-of_z}
 use mir.Syntax.{w64}

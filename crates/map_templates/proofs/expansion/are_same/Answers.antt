@@ -1,3 +1,4 @@
+-- Two domains are told to be the same exactly where they have the same axes.
 use Rattle.map_templates.proofs.Same.{told-same}
 use Rattle.map_templates.proofs.expansion.are_same.Goals as goal
 

@@ -1,3 +1,4 @@
+-- The text is a query of the operation that is asked for, and the tree of any operation gives Tomlin's array.
 use Rattle.std.proofs.Common.{◌≡◌, Option, string_bytes, Ok, subst}
 use Rattle.map_templates.specs.declared.template.Template.{Template}
 use Rattle.map_templates.specs.Expansion.{Operation, asked, operation_of, as_text}

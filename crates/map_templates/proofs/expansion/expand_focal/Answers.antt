@@ -1,3 +1,4 @@
+-- On a coverage with two axes the text is that of the focal operation that is asked for.
 use Rattle.std.proofs.Common.{◌≡◌, length, string_bytes, arith}
 use Rattle.map_templates.proofs.Planes.{focal-found}
 use Rattle.map_templates.proofs.expansion.expand_focal.Goals as goal

@@ -1,3 +1,4 @@
+-- The condition is that both moved coordinates stay on their axes.
 use Rattle.std.proofs.Common.{◌∙◌, string_bytes}
 use Rattle.map_templates.specs.Texts.{focal_edges}
 use Rattle.map_templates.proofs.Texts.{ok-same, same2}

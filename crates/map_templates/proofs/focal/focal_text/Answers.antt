@@ -1,3 +1,4 @@
+-- The query is its head, its window, its condition and its value, one behind the other.
 use Rattle.std.proofs.Common.{◌∙◌, string_bytes}
 use Rattle.map_templates.specs.Texts.{four_texts}
 use Rattle.map_templates.proofs.Texts.{ok-same, same4}

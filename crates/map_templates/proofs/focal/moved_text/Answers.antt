@@ -1,3 +1,4 @@
+-- The value is the layer's at the coordinates that are moved on both axes.
 use Rattle.std.proofs.Common.{◌∙◌, string_bytes}
 use Rattle.map_templates.specs.Texts.{focal_value}
 use Rattle.map_templates.proofs.Texts.{ok-same, same3}

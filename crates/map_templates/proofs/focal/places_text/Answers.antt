@@ -1,3 +1,4 @@
+-- The head names the layer's coverage and has an iterator over each of the two axes.
 use Rattle.std.proofs.Common.{◌∙◌, string_bytes}
 use Rattle.map_templates.specs.Texts.{focal_head}
 use Rattle.map_templates.proofs.Texts.{ok-same, same3}

@@ -1,3 +1,4 @@
+-- The window has the summary's operator and an iterator over the offsets on each axis.
 use Rattle.std.proofs.Common.{◌∙◌, string_bytes}
 use Rattle.map_templates.specs.Texts.{focal_window}
 use Rattle.map_templates.proofs.Texts.{ok-same, same3}

@@ -1,3 +1,4 @@
+-- The query binds both coverages, and its value is that of the operation on both layers.
 use Rattle.std.proofs.Common.{◌∙◌, string_bytes}
 use Rattle.map_templates.specs.Texts.{pair_text, local_value}
 use Rattle.map_templates.proofs.Texts.{ok-same, same2, same3}

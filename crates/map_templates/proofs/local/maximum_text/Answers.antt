@@ -1,3 +1,4 @@
+-- The maximum is the sum of both values, each times the test that chooses it.
 use Rattle.std.proofs.Common.{◌∙◌, string_bytes}
 use Rattle.map_templates.specs.Texts.{sum_text}
 use Rattle.map_templates.proofs.Texts.{ok-same, same2}

@@ -1,3 +1,4 @@
+-- The position on the first of several axes stands before those on the others.
 use Rattle.std.proofs.Common.{◌∙◌, ◌≤◌, length, string_bytes, arith}
 use Rattle.map_templates.specs.Texts.{listed_text}
 use Rattle.map_templates.proofs.Texts.{ok-same, same2, more-positions}

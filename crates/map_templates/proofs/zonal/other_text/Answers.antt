@@ -1,3 +1,4 @@
+-- The value is the layer's at the other location.
 use Rattle.std.proofs.Common.{◌∙◌, ap, List, ℕ, codes, string_bytes}
 use Rattle.map_templates.specs.Texts.{zonal_value, located_text}
 use Rattle.map_templates.proofs.Texts.{ok-same}

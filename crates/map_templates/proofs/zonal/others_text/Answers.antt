@@ -1,3 +1,4 @@
+-- The condenser has the summary's operator and iterators over all locations again.
 use Rattle.std.proofs.Common.{◌∙◌, string_bytes}
 use Rattle.map_templates.specs.Texts.{zonal_box}
 use Rattle.map_templates.proofs.Texts.{ok-same, same2}

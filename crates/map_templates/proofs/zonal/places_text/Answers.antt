@@ -1,3 +1,4 @@
+-- The head names both coverages and has an iterator over each axis.
 use Rattle.std.proofs.Common.{◌∙◌, string_bytes}
 use Rattle.map_templates.specs.Texts.{zonal_head}
 use Rattle.map_templates.proofs.Texts.{ok-same, same3}

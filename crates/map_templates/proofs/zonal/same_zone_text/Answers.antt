@@ -1,3 +1,4 @@
+-- The condition is that the zone of the other location is that of the own one.
 use Rattle.std.proofs.Common.{◌∙◌, ap, List, ℕ, codes, string_bytes}
 use Rattle.map_templates.specs.Texts.{zonal_test, located_text}
 use Rattle.map_templates.proofs.Texts.{ok-same, same2}

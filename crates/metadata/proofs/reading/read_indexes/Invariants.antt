@@ -1,9 +1,9 @@
-use Rattle.std.proofs.Common.{map, Vec}
-use Rattle.std.specs.declared.alloc.Global.{Global}
-use Rattle.tile_index.specs.declared.index.TileIndex.{TileIndex}
-use Rattle.metadata.proofs.Counted.{ReadSoFar}
+use Rattle.std.proofs.Common.{take}
+use Rattle.catalogue.proofs.Lists.{ReadSoFar}
+use Rattle.metadata.specs.Metadata.{indexes_bytes, AreCounted, indexes_of}
 use Rattle.metadata.proofs.reading.read_indexes.Given as goal
 
 abbrev pub invariant-loop-signature : goal.invariant-loop-signature
 invariant-loop-signature l =
-    ReadSoFar l.signatures l.signature-index l.initial.bytes (map (λ (v : Vec TileIndex Global). v.items) l.indexes.items) l.bytes
+    ReadSoFar (AreCounted l.signatures) indexes_bytes l.initial.bytes (indexes_of l.indexes.items) l.bytes l.signature-index
+    × AreCounted (take l.signature-index l.signatures) (indexes_of l.indexes.items)

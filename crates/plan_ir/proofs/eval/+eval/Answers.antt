@@ -1,3 +1,4 @@
+-- A read gives the coverage's cell, a table its item, and a fold what its points demand, condensed.
 use Rattle.std.proofs.Common.{rules, ◌≡◌, ◌∙◌, ap, sym, subst, arith, ℤ, pos, List, ◌++◌, take, w64, SFits, slice_index_or}
 use Rattle.std.specs.List.{flat_map}
 use Rattle.std.proofs.lemmas.Int.{to_z-of_z}

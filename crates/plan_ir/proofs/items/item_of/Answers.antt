@@ -1,3 +1,4 @@
+-- One more point has its cells in the item, and the fault of the first point with one is the item's.
 use Rattle.std.proofs.Common.{◌<◌, ◌∙◌, ap, sym, refl, arith, [], ◌++◌, length, get_or, Ok}
 use Rattle.std.proofs.lemmas.Result.{err_from_is_err_and}
 use Rattle.arr_core.specs.Domains.{points}

@@ -1,3 +1,4 @@
+-- A combination gives what its steps give over its coverages, and without steps it gives nothing.
 use Rattle.std.proofs.Common.{sym, subst, append-nil}
 use Rattle.std.specs.Prelude.{option_map}
 use Rattle.wcps_mean.specs.Errors.{PushesCells}

@@ -1,3 +1,4 @@
+-- One more field has its cell, and the fault of the first field with one is that of all of them.
 use Rattle.std.proofs.Common.{rules, ◌≡◌, ◌∙◌, ap, sym, subst, arith, List, [], ◌∷◌, ◌++◌, append_assoc, Result, Ok, w64, SFits}
 use Rattle.std.proofs.lemmas.Int.{to_z-of_z}
 use Rattle.arr_core.specs.declared.cell.Cell.{Cell}

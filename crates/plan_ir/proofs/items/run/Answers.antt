@@ -1,3 +1,4 @@
+-- One more combination has given its item, if any, and the fault of the first one with a fault is the plan's.
 use Rattle.std.proofs.Common.{◌<◌, ◌∙◌, ap, sym, arith, List, length, get_or, Result, Ok}
 use Rattle.std.specs.Prelude.{slice_get, option_map}
 use Rattle.std.proofs.lemmas.Result.{err_from_is_err_and}

@@ -1,3 +1,4 @@
+-- One more pass has its outcome in a register, behind those of the passes before it.
 use Rattle.std.proofs.Common.{◌∙◌, ap, sym, arith, [], ◌∷◌, ◌++◌, map, take}
 use Rattle.std.proofs.lemmas.List.{map_more}
 use Rattle.plan_ir.specs.Bodies.{fold_view}

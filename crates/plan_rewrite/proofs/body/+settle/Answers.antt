@@ -1,3 +1,4 @@
+-- A body that is a fold becomes the settled fold.
 use Rattle.std.proofs.Common.{◌∙◌, ap, sym}
 use Rattle.plan_ir.specs.Bodies.{Tree, body_view, fold_view, fold}
 use Rattle.plan_ir.specs.Plans.{PassTree}

@@ -1,3 +1,4 @@
+-- One more axis has its variable, at the next level.
 use Rattle.std.proofs.Common.{◌≡◌, ◌+◌, ◌∙◌, ap, sym, arith, [], ◌∷◌, ◌++◌, append_assoc, length, take, suc}
 use Rattle.plan_ir.specs.declared.body.Index.TheVariants.{Var}
 use Rattle.plan_ir.specs.Placed.{spans}

@@ -1,3 +1,4 @@
+-- The steps give what the combination answers, are well-formed, and have at most one unit more than its work.
 use Rattle.std.proofs.Common.{◌+◌, ◌≤◌, ◌∙◌, ap, sym, subst}
 use Rattle.std.specs.Prelude.{Some, slice_get}
 use Rattle.wcps_types.specs.Work.{condition_work, item_work}

@@ -1,3 +1,4 @@
+-- The field of a record is the only one of the part at its place, and past all parts it is zero.
 use Rattle.std.proofs.Common.{rules, ◌≡◌, ◌<◌, ◌≤◌, ◌∙◌, ap, length, get_or}
 use Rattle.std.specs.Prelude.{pos}
 use Rattle.wcps_types.specs.declared.typed.Node.{Node}

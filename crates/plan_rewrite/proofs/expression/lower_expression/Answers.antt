@@ -1,3 +1,4 @@
+-- The body gives what the field's tree gives under its iterators at its point, and has its place there.
 use Rattle.std.proofs.Common.{◌∙◌, ◌++◌, ap, sym, subst}
 use Rattle.std.specs.Prelude.{slice_get}
 use Rattle.wcps_types.specs.Typed.{field_tree}

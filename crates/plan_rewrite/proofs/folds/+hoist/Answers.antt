@@ -1,3 +1,4 @@
+-- A body that is a fold leaves what the fold leaves, in its place and among the passes.
 use Rattle.std.proofs.Common.{◌∙◌, ap, sym, length, map}
 use Rattle.plan_ir.specs.Bodies.{Tree, body_view, fold_view}
 use Rattle.plan_ir.specs.Plans.{pass_view}

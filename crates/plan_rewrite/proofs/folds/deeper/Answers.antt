@@ -1,3 +1,4 @@
+-- Behind the intervals that are there comes one for each axis of the domain.
 use Rattle.std.proofs.Common.{◌+◌, ◌∙◌, ap, length, length-append}
 use Rattle.std.proofs.lemmas.List.{length-map}
 use Rattle.plan_ir.specs.Placed.{span, spans}

@@ -1,3 +1,4 @@
+-- There is an interval for each axis of the domain.
 use Rattle.std.proofs.Common.{◌∙◌, ap, length}
 use Rattle.std.proofs.lemmas.List.{length-map}
 use Rattle.plan_ir.specs.Placed.{span}

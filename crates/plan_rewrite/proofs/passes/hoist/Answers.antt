@@ -1,3 +1,4 @@
+-- The hoisted plan gives the same and stays well-formed, and each fold in a body uses a variable from outside it.
 use Rattle.std.proofs.Common.{◌∙◌, ap, sym, subst, map}
 use Rattle.plan_ir.specs.Plans.{PlanTree, steps_view, plan_view}
 use Rattle.plan_ir.specs.Planned.{planned}

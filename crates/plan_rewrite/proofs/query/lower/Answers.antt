@@ -1,6 +1,6 @@
--- The clauses of `lower`, by what the plan of a query means.
+-- The plan gives the query's answer and is well-formed, and the combinations and their work bound its units.
 use Rattle.std.proofs.Common.{◌+◌, ◌*◌, ◌≤◌, ◌∙◌, ap, sym, subst, map, length}
-use Rattle.wcps_types.specs.Renamed.{shared_view}
+use Rattle.wcps_types.specs.Renamed.{combination_view}
 use Rattle.wcps_types.specs.WellTyped.{AreTyped}
 use Rattle.wcps_types.specs.Work.{query_work}
 use Rattle.plan_ir.specs.Plans.{steps_view, choice_view}
@@ -31,7 +31,7 @@ returns-clause-placed c =
     let is = same-plan c.in_ok-coverages.coverages.items q.coverages.items (map steps_view c.in_ok-steps.steps.items) (map lowered_tree trees) (map choice_view c.in_ok-combinations.combinations.items) (lowered_choices trees all)
     (c.in_ok-coverages.ensures ∙ c.coverages.ensures) (c.in_ok-steps.ensures ∙ ap (map lowered_tree) c.trees.ensures)
     (c.in_ok-combinations.ensures ∙ ap (λ t. lowered_choices t c.combinations.result.now) c.trees-2.ensures ∙ ap (lowered_choices trees) c.combinations.ensures.value) in
-    let typed = subst (λ l. AreTyped q.coverages.items (map (shared_view trees) l)) c.combinations.ensures.value c.combinations.ensures.typed in
+    let typed = subst (λ l. AreTyped q.coverages.items (map (combination_view trees) l)) c.combinations.ensures.value c.combinations.ensures.typed in
     subst IsPlan (sym is) (query-placed q.coverages.items trees all typed)
 
 pub returns-clause-units : goal.returns-clause-units
@@ -42,5 +42,5 @@ returns-clause-units c =
     let is = same-plan c.in_ok-coverages.coverages.items q.coverages.items (map steps_view c.in_ok-steps.steps.items) (map lowered_tree trees) (map choice_view c.in_ok-combinations.combinations.items) (lowered_choices trees all)
     (c.in_ok-coverages.ensures ∙ c.coverages.ensures) (c.in_ok-steps.ensures ∙ ap (map lowered_tree) c.trees.ensures)
     (c.in_ok-combinations.ensures ∙ ap (λ t. lowered_choices t c.combinations.result.now) c.trees-2.ensures ∙ ap (lowered_choices trees) c.combinations.ensures.value) in
-    let views = map (shared_view trees) all in
+    let views = map (combination_view trees) all in
     subst (λ p. units p + fold_points p ≤ length views * (2 + query_work views)) (sym is) (query-within q.coverages.items trees all (subst (λ l. 1 ≤ length l) c.combinations.ensures.value c.combinations.ensures.some))

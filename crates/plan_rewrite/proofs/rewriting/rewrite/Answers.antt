@@ -1,4 +1,4 @@
--- The clauses of `rewrite`: a settled and then hoisted plan.
+-- The settled and then hoisted plan gives the same, stays well-formed, and has no more units and points of folds.
 use Rattle.std.proofs.Common.{◌≡◌, ◌+◌, ◌≤◌, ◌∙◌, ap, sym, subst, map}
 use Rattle.plan_ir.specs.Plans.{PlanTree, steps_view, plan_view}
 use Rattle.plan_ir.specs.Planned.{planned}

@@ -1,3 +1,4 @@
+-- The settled plan gives the same and stays well-formed, and none of its binds can give way.
 use Rattle.std.proofs.Common.{◌∙◌, ap, sym, subst, map}
 use Rattle.plan_ir.specs.Plans.{PlanTree, steps_view, plan_view}
 use Rattle.plan_ir.specs.Planned.{planned}

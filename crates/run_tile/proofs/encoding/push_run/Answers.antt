@@ -1,3 +1,4 @@
+-- Behind the bytes come the count of the run and its value, in the width of its type.
 use Rattle.std.proofs.Common.{SFits, w64, to_z-of_z, rules}
 use Rattle.run_tile.proofs.Values.{run-written}
 use Rattle.run_tile.proofs.encoding.push_run.Goals as goal

@@ -1,21 +1,29 @@
 -- A run is written a block at a time.
-use Rattle.std.proofs.Common.{◌≡◌, List, ℤ, ◌+◌, ◌-◌, ◌++◌, take, length, replicate, ap, ◌∙◌, arith, rules}
+use Rattle.std.proofs.Common.{◌≡◌, List, ℕ, ℤ, ◌+◌, ◌-◌, ◌++◌, take, length, replicate, sym, ap, ap₂, ◌∙◌, arith, rules, append_assoc}
 use Rattle.std.proofs.lemmas.Slice.{take-put_mid}
-use Rattle.run_tile.proofs.Blocks.{block-more, block-first}
+use Rattle.std.proofs.lemmas.List.{replicate-append-replicate, take-replicate, take-take, length-take-le}
+use Rattle.std.proofs.Math.Seq.{take-append-add}
 use Rattle.run_tile.proofs.reading.write_run.Goals as goal
 
 pub loop-at-preserved : goal.loop-at-preserved
 loop-at-preserved c =
     let was = c.loop-at.invariant in
-    let filled : c.fill-in-loop-at.new.self ≡ replicate 8 c.args.run.value = search rules in
-    let long = ap length filled in
+    let v = c.args.run.value in
+    let filled : c.fill-in-loop-at.new.self ≡ replicate 8 v = search rules in
+    let put = take-put_mid c.loop-at.at (c.loop-at.at + 8 - c.loop-at.at) c.loop-at.cells c.fill-in-loop-at.new.self (c.loop-at.at + 8) (omega (arith, ap length filled)) (omega arith) in
+    let joined : replicate (c.loop-at.at - c.args.from) v ++ replicate 8 v ≡ replicate (c.loop-at.at + 8 - c.args.from) v = replicate-append-replicate (c.loop-at.at - c.args.from) 8 v ∙ ap (λ (n : ℕ). replicate n v) (omega arith) in
     record {
       begun = omega arith;
       near = omega arith;
-      written = block-more _ _ _ (c.loop-at.at - c.args.from) 8 _ c.args.run.value was.written (take-put_mid c.loop-at.at _ c.loop-at.cells c.fill-in-loop-at.new.self (c.loop-at.at + 8) (omega (arith, long)) (omega arith) ∙ ap (λ (xs : List ℤ). take c.loop-at.at c.loop-at.cells ++ xs) filled) (omega arith);
+      written = put ∙ ap₂ (λ (xs ys : List ℤ). xs ++ ys) was.written filled ∙ append_assoc (take c.args.from c.args.cells.now) _ _ ∙ ap (λ (xs : List ℤ). take c.args.from c.args.cells.now ++ xs) joined;
     }
 
 pub returns : goal.returns
 returns c =
-    let was = c.loop-at.invariant in
-    block-first c.args.cells.now c.loop-at.cells c.args.from c.args.run.count (c.loop-at.at - c.args.from) c.loop-at.at c.args.run.value (omega arith) was.written (omega arith) (omega arith)
+    let front = take c.args.from c.args.cells.now in
+    let count = c.args.run.count in
+    let done = replicate (c.loop-at.at - c.args.from) c.args.run.value in
+    let long = length-take-le c.args.from c.args.cells.now (omega arith) in
+    sym (take-take (c.args.from + count) c.loop-at.at c.loop-at.cells (omega arith)) ∙ ap (take (c.args.from + count)) c.loop-at.invariant.written
+    ∙ ap (λ (n : ℕ). take (n + count) (front ++ done)) (sym long) ∙ take-append-add front done count
+    ∙ ap (λ (xs : List ℤ). front ++ xs) (take-replicate count (c.loop-at.at - c.args.from) c.args.run.value (omega arith))

@@ -1,3 +1,4 @@
+-- Each node of a body gives its column of outcomes, a fold by points or by tiles, and fetches within its bound.
 use Rattle.std.proofs.Common.{◌≡◌, ◌∙◌, ◌+◌, ◌*◌, ◌<◌, ◌≤◌, ℕ, ℤ, List, [], ◌∷◌, ◌++◌, refl, ap, sym, subst, length, map, get_or, take, drop, arith, pos, rules}
 use Rattle.std.specs.Prelude.{replicate, OnOk, Option}
 use Rattle.wcps_mean.specs.declared.cell.Outcome.TheVariants.{Value}

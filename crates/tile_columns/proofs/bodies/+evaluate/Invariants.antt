@@ -1,7 +1,7 @@
 use Rattle.std.proofs.Common.{◌≡◌, ℕ, ◌<◌, ◌≤◌, ◌+◌, ◌*◌, length, take, get_or, []}
 use Rattle.std.specs.List.{flat_map}
 use Rattle.arr_core.specs.Domains.{points, count}
-use Rattle.wcps_mean.specs.declared.aggregate.Aggregate.{Aggregate}
+use Rattle.wcps_text.specs.declared.operator.Aggregate.{Aggregate}
 use Rattle.plan_ir.specs.Bodies.{body_view, condition_view}
 use Rattle.plan_ir.specs.Run.{run}
 use Rattle.plan_ir.specs.Planned.{cells_of}

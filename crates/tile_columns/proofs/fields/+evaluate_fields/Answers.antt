@@ -1,3 +1,4 @@
+-- A bind gives the fields behind it one more variable and settles them; an empty interval leaves them blank.
 use Rattle.std.proofs.Common.{◌≡◌, ◌∙◌, ◌<◌, ◌≤◌, ◌+◌, ◌-◌, ℕ, ℤ, List, [], ap, sym, subst, arith, rules, length, take, drop, map, replicate, pos, SFits, w32}
 use Rattle.std.specs.Prelude.{sum_by, OnOk}
 use Rattle.std.specs.List.{All}

@@ -1,3 +1,4 @@
+-- One more field has zeros, settled by the positions.
 use Rattle.std.proofs.Common.{◌∙◌, ◌∷◌, [], ◌++◌, ap, sym, length, pos}
 use Rattle.std.specs.Prelude.{replicate}
 use Rattle.wcps_mean.specs.declared.cell.Outcome.TheVariants.{Value}

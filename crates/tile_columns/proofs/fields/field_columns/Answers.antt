@@ -1,3 +1,4 @@
+-- One more field has its column, and no more tiles are fetched than the fields so far may.
 use Rattle.std.proofs.Common.{◌≡◌, ◌∙◌, ◌<◌, ◌≤◌, ◌+◌, ℤ, List, [], ◌∷◌, ap, sym, subst, arith, rules, length, length-append, map}
 use Rattle.std.specs.Prelude.{sum_by}
 use Rattle.std.specs.List.{All}

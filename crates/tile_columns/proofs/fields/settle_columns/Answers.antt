@@ -1,3 +1,4 @@
+-- One more column is settled by the positions.
 use Rattle.std.proofs.Common.{◌≡◌, ◌∙◌, ◌<◌, ap, arith, length, get_or, set}
 use Rattle.tile_columns.specs.Fields.{settled_by}
 use Rattle.tile_columns.proofs.Behind.{partly_at, partly_next, length-partly}

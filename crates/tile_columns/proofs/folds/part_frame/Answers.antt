@@ -1,3 +1,4 @@
+-- The variables of the place stand before the coordinates of each point of the box.
 use Rattle.std.proofs.Common.{◌≡◌, ◌∙◌, ◌++◌, List, ℤ, subst, map}
 use Rattle.std.specs.Prelude.{IfOk}
 use Rattle.arr_core.specs.Domains.{points}

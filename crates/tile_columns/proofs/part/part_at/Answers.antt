@@ -1,3 +1,4 @@
+-- The part is the box of the tile with the number.
 use Rattle.std.proofs.Common.{sym, []}
 use Rattle.std.proofs.lemmas.Option.{get_or_from_slice_get}
 use Rattle.arr_core.specs.Tiles.{tile_boxes}

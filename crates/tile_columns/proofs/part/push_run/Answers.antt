@@ -1,3 +1,4 @@
+-- One more place of the run stands at the end.
 use Rattle.tile_columns.proofs.ByRows.{run_more}
 use Rattle.tile_columns.proofs.part.push_run.Goals as goal
 

@@ -1,3 +1,4 @@
+-- With all its tasks listed, none done and room for what they give, a plan is before its first unit.
 use Rattle.std.proofs.Common.{[], arith, refl, ap, ◌∙◌}
 use Rattle.tile_exec.specs.declared.task.Status.TheVariants.{Giving}
 use Rattle.tile_exec.proofs.Beginning.{begun_is}

@@ -1,3 +1,4 @@
+-- The passes of one more combination are listed, and in the end those of all.
 use Rattle.std.proofs.Common.{◌≤◌, [], arith, subst, length, map, get_or}
 use Rattle.std.proofs.lemmas.List.{length-map}
 use Rattle.plan_ir.specs.Plans.{Choice, plan_view, choice_view}

@@ -1,3 +1,4 @@
+-- A condition is one task more, behind those that are listed.
 use Rattle.std.proofs.Common.{◌≡◌, arith, refl, sym, ap, subst, length, option_map}
 use Rattle.std.specs.Prelude.{IsSomeAnd}
 use Rattle.plan_ir.specs.Bodies.{body_view}

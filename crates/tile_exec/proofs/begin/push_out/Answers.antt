@@ -1,3 +1,4 @@
+-- Behind the tasks that are listed comes the condition, if there is one, and then the item.
 use Rattle.std.proofs.Common.{◌≡◌, ◌<◌, ◌++◌, [], ◌∷◌, arith, refl, sym, subst, length, map, option_map}
 use Rattle.std.proofs.lemmas.List.{length-map}
 use Rattle.plan_ir.specs.Bodies.{body_view}

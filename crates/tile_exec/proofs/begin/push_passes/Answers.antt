@@ -1,3 +1,4 @@
+-- One more pass of the combination is listed, and in the end all of them.
 use Rattle.std.proofs.Common.{◌≡◌, ◌≤◌, arith, sym, subst, length, map, refl}
 use Rattle.std.specs.Prelude.{IsSomeAnd}
 use Rattle.std.proofs.lemmas.List.{length-map}

@@ -1,3 +1,4 @@
+-- The steps that the combination names are in the plan, and are those that are given.
 use Rattle.std.proofs.Common.{◌≡◌, arith, sym, ap, ◌∙◌, ◌<◌, subst, length, refl, Some, option_map}
 use Rattle.std.specs.Prelude.{slice_get}
 use Rattle.std.proofs.lemmas.List.{length-map}

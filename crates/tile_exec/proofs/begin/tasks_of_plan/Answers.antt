@@ -1,3 +1,4 @@
+-- The tasks are the passes of all combinations, and behind them their conditions and items.
 use Rattle.std.proofs.Common.{[], sym, subst, refl}
 use Rattle.plan_ir.specs.Plans.{plan_view}
 use Rattle.tile_exec.specs.Tasks.{all_passes}

@@ -1,3 +1,4 @@
+-- The body has its place at each point of the part, and fetches no more tiles there than its bound.
 use Rattle.std.proofs.Common.{sym, ap, ◌∙◌, ◌+◌, ◌≤◌, subst, length, ℤ, List}
 use Rattle.std.specs.Prelude.{All}
 use Rattle.plan_ir.specs.Bodies.{body_view}

@@ -1,3 +1,4 @@
+-- The fields have their place at each point of the part, and fetch no more tiles there than their bounds.
 use Rattle.std.proofs.Common.{sym, ap, ◌∙◌, ◌+◌, ◌≤◌, subst, length, map, ℤ, List}
 use Rattle.std.specs.Prelude.{All, sum_by}
 use Rattle.plan_ir.specs.Placed.{spans}

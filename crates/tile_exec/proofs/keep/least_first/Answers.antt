@@ -1,3 +1,4 @@
+-- Where one tells no fault, or one at a higher place, what the other tells is the first fault of all points.
 use Rattle.std.proofs.Common.{sym, subst, ◌++◌, arith}
 use Rattle.tile_kernel.specs.Told.{IsFirst}
 use Rattle.tile_kernel.proofs.Faults.{right_alone, right_first}

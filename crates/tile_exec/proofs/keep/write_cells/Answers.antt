@@ -1,3 +1,4 @@
+-- One more cell is written at its place, and in the end all of them.
 use Rattle.std.proofs.Common.{◌∙◌, sym, ap, subst, arith, ℕ, pos, ◌<◌, ◌++◌, length, map, take, get_or, [], ◌∷◌}
 use Rattle.std.proofs.lemmas.List.{length-set}
 use Rattle.arr_core.specs.declared.cell.Cell.{Cell}

@@ -1,3 +1,4 @@
+-- With a condition or without, what the tile's points tell is taken in, and no more is fetched than the bound.
 use Rattle.std.proofs.Common.{arith, ◌≡◌, sym, ap, ◌∙◌, subst, length, map, []}
 use Rattle.std.specs.List.{flat_map}
 use Rattle.std.proofs.lemmas.Option.{get_or_from_slice_get}

@@ -1,3 +1,4 @@
+-- A tile of a pass gives what its points tell, and neither it nor one of an item fetches more than its bound.
 use Rattle.std.proofs.Common.{arith, sym, ap, ◌∙◌, ◌+◌, ◌≤◌, subst, length}
 use Rattle.std.specs.Prelude.{slice_get, sum_by}
 use Rattle.arr_core.specs.Tiles.{tile_boxes}

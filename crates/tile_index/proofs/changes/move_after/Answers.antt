@@ -1,36 +1,62 @@
-use Rattle.std.proofs.Common.{◌≡◌, ◌<◌, ◌≤◌, ◌+◌, ℕ, List, [], ◌∷◌, ◌++◌, length, get_or, sym, ap, subst, ◌∙◌, arith, rules, length-append}
-use Rattle.std.specs.List.{AllByRecursion as Each}
+-- The entries are parted at the tile, and every other tile has the entry that it had.
+use Rattle.std.proofs.Common.{◌≡◌, ◌^◌, suc, [], ◌∷◌, ◌++◌, reverse, sym, ap, ◌∙◌, arith, rules, append_assoc}
 use Rattle.std.proofs.lemmas.Grind.{common_steps}
-use Rattle.tile_index.specs.declared.entry.Entry.{Entry}
-use Rattle.tile_index.specs.Index.{IsRising}
-use Rattle.tile_index.proofs.Lists.{Rises, rises_from, rises-front, each-up_to_last, each-weaker, last-append}
-use Rattle.tile_index.proofs.Merging.{moves-more}
+use Rattle.std.proofs.lemmas.List.{reverse-append, nil_from_length}
+use Rattle.tile_index.specs.Index.{found_at}
+use Rattle.tile_index.proofs.Between.{between-last, between-wider, between-append}
+use Rattle.tile_index.proofs.Found.{found-other}
 use Rattle.tile_index.proofs.changes.move_after.Goals as goal
 
-pub returns-then-last-tile-clause-left : goal.returns-then-last-tile-clause-left
-returns-then-last-tile-clause-left c =
-    let moved = c.loop-last.invariant.moved in
-    let low : c.in-Some.last ≤ c.args.tile = c.if-last-tile.true in
-    let same = c.deref.ensures.value in
-    let rises : Rises c.loop-last.entries.items = rises-front c.loop-last.entries.items moved.later (subst (λ (xs : List (ℕ × Entry)). Rises xs) moved.parts (rises_from c.args.entries.now.items c.requires.rising)) in
-    each-weaker (λ x. x.0 ≤ c.in-Some.last) (λ x. x.0 ≤ c.args.tile) (λ x l. omega arith) c.loop-last.entries.items
-    (subst (λ (xs : List (ℕ × Entry)). Each (λ x. x.0 ≤ c.in-Some.last) xs) same
-    (each-up_to_last c.in-Some.last c.deref.result.now (subst (λ (xs : List (ℕ × Entry)). Rises xs) (sym same) rises) c.in-Some.ensures.1))
-
-pub loop-last-preserved : goal.loop-last-preserved
-loop-last-preserved c =
-    let x = c.unwrap-pair.result in
-    let popped : c.loop-last.entries.items ≡ c.pop.new.self.items ++ x ∷ [] = grind (arith, common_steps, c.pop.ensures.items, c.unwrap-pair.ensures) in
-    let pushed : c.push.new.self.items ≡ c.loop-last.moved.items ++ x ∷ [] = grind (arith, common_steps, c.push.ensures.items, c.unwrap.ensures) in
-    let whole : c.deref.result.now ≡ c.pop.new.self.items ++ x ∷ [] = c.deref.ensures.value ∙ popped in
-    let last = c.in-Some.ensures.1 in
-    let place : length c.pop.new.self.items + 1 ≡ length c.deref.result.now = omega (arith, ap length whole, length-append c.pop.new.self.items (x ∷ [])) in
-    let at : x.0 ≡ c.in-Some.last =
-    ap (λ (y : ℕ × Entry). y.0) (sym (ap (λ (xs : List (ℕ × Entry)). get_or xs (length c.pop.new.self.items) x) whole ∙ last-append c.pop.new.self.items x x))
-    ∙ last (length c.pop.new.self.items) x place in
-    let after : c.args.tile < x.0 = omega (arith, at, c.if-last-tile.false) in
+pub returns-then-pair-tile-clause-parted : goal.returns-then-pair-tile-clause-parted
+returns-then-pair-tile-clause-parted c =
+    let old = c.loop-pair.invariant in
+    let x = c.in-Some.pair in
+    let front = c.pop.new.self.items in
+    let last = between-last 0 old.apart.bound front x (rw c.in-Some.ensures.items at old.apart.low) in
+    let pushed : c.push.new.self.items ≡ front ++ x ∷ [] = grind (arith, common_steps, c.push.ensures.items, c.unwrap.ensures) in
     record {
-      moved = moves-more c.args.tile c.args.entries.now.items c.loop-last.entries.items c.pop.new.self.items c.args.moved.now.items c.loop-last.moved.items c.push.new.self.items x c.loop-last.invariant.moved popped pushed after;
-      fewer = search rules;
-      capacity = search rules;
+      before = rw pushed (between-append 0 x.0 c.args.tile front (x ∷ []) last.0 (omega arith, omega arith));
+      after = between-wider (suc c.args.tile) old.apart.bound (2 ^ 32) (2 ^ 32) _ old.apart.above (omega arith) old.apart.high;
+      same = λ t n. rw (pushed, ← c.in-Some.ensures.items) (old.same t n);
+    }
+
+pub loop-pair-preserved-then-pair-tile-2 : goal.loop-pair-preserved-then-pair-tile-2
+loop-pair-preserved-then-pair-tile-2 c =
+    let old = c.loop-pair.invariant in
+    let x = c.in-Some.pair in
+    let front = c.pop.new.self.items in
+    let last = between-last 0 old.apart.bound front x (rw c.in-Some.ensures.items at old.apart.low) in
+    let pushed : c.push-then-pair-tile-2.new.self.items ≡ c.loop-pair.moved.items ++ x ∷ [] = grind (arith, common_steps, c.push-then-pair-tile-2.ensures.items, c.unwrap-then-pair-tile-2.ensures) in
+    let back : reverse c.push-then-pair-tile-2.new.self.items ≡ x ∷ reverse c.loop-pair.moved.items = ap reverse pushed ∙ reverse-append c.loop-pair.moved.items (x ∷ []) in
+    let high = between-wider (suc x.0) old.apart.bound (2 ^ 32) (2 ^ 32) _ last.1 (omega arith) old.apart.high in
+    record {
+      apart = record { bound = x.0; above = omega (arith, c.if-pair-tile.false, c.if-pair-tile-2.true); low = last.0; high = rw back (omega arith, high) };
+      same = λ t n. rw (back, ← append_assoc front (x ∷ []) (reverse c.loop-pair.moved.items), ← c.in-Some.ensures.items) (old.same t n);
+      room = search rules;
+    }
+
+pub loop-pair-preserved : goal.loop-pair-preserved
+loop-pair-preserved c =
+    let old = c.loop-pair.invariant in
+    let x = c.in-Some.pair in
+    let front = c.pop.new.self.items in
+    let back = reverse c.loop-pair.moved.items in
+    let last = between-last 0 old.apart.bound front x (rw c.in-Some.ensures.items at old.apart.low) in
+    let same : x.0 ≡ c.args.tile = c.if-pair-tile-2.false in
+    let whole : c.loop-pair.entries.items ++ back ≡ front ++ x ∷ back = ap (λ es. es ++ back) c.in-Some.ensures.items ∙ append_assoc front (x ∷ []) back in
+    record {
+      apart = record { bound = old.apart.bound; above = old.apart.above; low = between-wider 0 0 x.0 old.apart.bound front (omega arith) (omega arith) last.0; high = old.apart.high };
+      same = λ t n. sym (ap (found_at t) whole ∙ found-other t x front back (λ q. n (q ∙ same))) ∙ old.same t n;
+      room = search rules;
+    }
+
+pub returns-clause-parted : goal.returns-clause-parted
+returns-clause-parted c =
+    let old = c.loop-pair.invariant in
+    let none = nil_from_length c.pop.new.self.items (omega (arith, c.in_default.ensures.cases, c.pop.new.self.ok)) in
+    let empty : c.loop-pair.entries.items ≡ [] = c.in_default.ensures.items ∙ ap (λ es. es ++ []) none in
+    record {
+      before = rw none (omega arith);
+      after = between-wider (suc c.args.tile) old.apart.bound (2 ^ 32) (2 ^ 32) _ old.apart.above (omega arith) old.apart.high;
+      same = λ t n. rw none (rw empty at (old.same t n));
     }

@@ -1,3 +1,4 @@
+-- Bytes that end before the last number are too few for all of them.
 use Rattle.std.proofs.Common.{ap, length, flat_map, arith, length-append}
 use Rattle.tile_index.specs.Bytes.{number_bytes}
 use Rattle.tile_index.proofs.Codes.{length-numbers}
@@ -5,5 +6,4 @@ use Rattle.tile_index.proofs.reading.read_numbers.Goals as goal
 
 pub returns-in_default-clause-damaged : goal.returns-in_default-clause-damaged
 returns-in_default-clause-damaged c _ =
-    let numbers = c.loop.numbers.items in
-    omega (arith, ap length c.loop.invariant.read, length-append (flat_map number_bytes numbers) c.loop.bytes, length-numbers numbers, c.loop.invariant.counted, c.in_default.ensures.read, c.loop-test.true)
+    omega (arith, ap length c.loop.invariant.read, length-append (flat_map number_bytes c.loop.numbers.items) c.loop.bytes, length-numbers c.loop.numbers.items, c.loop.invariant.counted, c.in_default.ensures.read, c.loop-test.true)

@@ -1,4 +1,4 @@
-use Rattle.std.proofs.Common.{◌≡◌, ◌++◌, ℕ, flat_map, take}
+use Rattle.std.proofs.Common.{◌≡◌, ◌++◌, flat_map, take}
 use Rattle.tile_index.specs.Bytes.{number_bytes}
 use Rattle.tile_index.proofs.writing.push_numbers.Given as goal
 

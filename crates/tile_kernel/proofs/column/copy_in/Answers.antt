@@ -1,3 +1,4 @@
+-- The cells that were copied stand at the front of the values.
 use Rattle.std.proofs.Common.{◌∙◌, ap, arith, length, take}
 use Rattle.tile_kernel.proofs.Places.{written_back, copied_all}
 use Rattle.tile_kernel.proofs.column.copy_in.Goals as goal

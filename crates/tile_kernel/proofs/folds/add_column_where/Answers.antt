@@ -1,3 +1,4 @@
+-- One more accumulator has taken in what its outcome adds under its condition, and those behind it are as before.
 use Rattle.std.proofs.Common.{◌≡◌, ◌<◌, ◌≤◌, ◌+◌, ◌≢◌, ◌∙◌, sym, ap, subst, arith, List, ◌++◌, length, get_or, get_or-set_other}
 use Rattle.tile_kernel.specs.declared.accumulator.Accumulator.{Accumulator}
 use Rattle.tile_kernel.specs.Columns.{outcome_at}

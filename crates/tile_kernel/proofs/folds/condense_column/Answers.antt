@@ -1,3 +1,4 @@
+-- With a value at each place, or one at all places, what is kept is that of the places that count.
 use Rattle.std.proofs.Common.{◌∙◌, ap, sym, get_or, pos, rules, SFits, w64, to_z, of_z}
 use Rattle.std.proofs.lemmas.Int.{to_z-of_z}
 use Rattle.wcps_mean.specs.declared.cell.Outcome.TheVariants.{Value}

@@ -1,3 +1,4 @@
+-- The condition's values choose the places, and one value for all of them chooses each place or none.
 use Rattle.std.proofs.Common.{◌≡◌, ◌∙◌, ap, sym, ◌∷◌, [], SFits, w64, rules, cond, true, false, get_or, pos}
 use Rattle.std.specs.Prelude.{replicate}
 use Rattle.std.proofs.lemmas.Int.{to_z-of_z}

@@ -1,3 +1,4 @@
+-- What was condensed in one loop stands for all cells of the column.
 use Rattle.std.proofs.Common.{◌∙◌}
 use Rattle.tile_kernel.proofs.Tellings.{stands_all, length-told_at}
 use Rattle.tile_kernel.proofs.folds.fold_column.Goals as goal

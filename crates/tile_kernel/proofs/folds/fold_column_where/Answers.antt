@@ -1,3 +1,4 @@
+-- What was condensed in one loop stands for what the cells add under the condition, at most one point each.
 use Rattle.std.proofs.Common.{arith}
 use Rattle.tile_kernel.proofs.Tellings.{few_demanded}
 use Rattle.tile_kernel.proofs.folds.fold_column_where.Goals as goal

@@ -1,3 +1,4 @@
+-- One more cell has been taken in, and in the end all of them.
 use Rattle.std.proofs.Common.{◌∙◌, arith, refl}
 use Rattle.tile_kernel.proofs.Tellings.{told_more, told_whole}
 use Rattle.tile_kernel.proofs.folds.fold_each.Goals as goal

@@ -1,3 +1,4 @@
+-- What one more cell adds under its condition has been taken in, and in the end what all of them add.
 use Rattle.std.proofs.Common.{◌∙◌, arith, refl}
 use Rattle.tile_kernel.proofs.Tellings.{demanded_more, demanded_whole}
 use Rattle.tile_kernel.proofs.folds.fold_each_where.Goals as goal

@@ -1,3 +1,4 @@
+-- What was joined is what the condenser keeps of the values of both, one list behind the other.
 use Rattle.std.proofs.Common.{refl, arith}
 use Rattle.std.proofs.lemmas.Int.{ints}
 use Rattle.tile_kernel.proofs.Merges.{keeps_joined}

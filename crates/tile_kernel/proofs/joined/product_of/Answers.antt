@@ -1,3 +1,4 @@
+-- The product of two products stands for the factors of both.
 use Rattle.tile_kernel.proofs.Merges.{product_joined}
 use Rattle.tile_kernel.proofs.joined.product_of.Goals as goal
 

@@ -1,3 +1,4 @@
+-- One more place has the exact result, unless some mark so far is negative.
 use Rattle.std.proofs.Common.{◌<◌, ◌^◌, rules, arith, SFits, w64, of_z}
 use Rattle.tile_kernel.proofs.Signs.{or_left, or_right, below_64}
 use Rattle.tile_kernel.proofs.Places.{written}

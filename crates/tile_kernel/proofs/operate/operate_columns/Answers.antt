@@ -1,3 +1,4 @@
+-- The column is the operation at each place: as one outcome, as values that were tried, or place by place.
 use Rattle.tile_kernel.specs.Columns.{IsRoomy}
 use Rattle.tile_kernel.proofs.Places.{places_are, operated_scalars, operated_values, operated_mixed}
 use Rattle.tile_kernel.proofs.operate.operate_columns.Goals as goal

@@ -1,3 +1,4 @@
+-- One more place has the value and the fault of the operation on both operands there.
 use Rattle.std.proofs.Common.{◌≡◌, ◌∙◌, ap, sym, arith, SFits, w64, rules}
 use Rattle.std.proofs.lemmas.Int.{to_z-of_z}
 use Rattle.wcps_mean.specs.Cells.{operate2}

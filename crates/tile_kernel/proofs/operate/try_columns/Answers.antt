@@ -1,3 +1,4 @@
+-- Where the left operand is values, a trial that succeeds has written the operation's value at each place.
 use Rattle.std.proofs.Common.{◌≡◌, ◌∙◌, ap, arith, sym, length, get_or, pos}
 use Rattle.wcps_mean.specs.declared.cell.Outcome.TheVariants.{Value}
 use Rattle.wcps_mean.specs.Cells.{operate2}

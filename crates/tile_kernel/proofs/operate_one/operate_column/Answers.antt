@@ -1,3 +1,4 @@
+-- The column is the operation on each outcome: as one outcome, as values that were tried, or place by place.
 use Rattle.tile_kernel.specs.Columns.{IsRoomy}
 use Rattle.tile_kernel.proofs.Places.{places_are, operated_one_scalar, operated_one_values, operated_one_mixed}
 use Rattle.tile_kernel.proofs.operate_one.operate_column.Goals as goal

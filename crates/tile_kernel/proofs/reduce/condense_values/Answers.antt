@@ -1,3 +1,4 @@
+-- Every value is true if as many are true as there are values, and some value is if their number is above zero.
 use Rattle.std.proofs.Common.{◌∙◌, sym, ap, nat_eq, nat_lt}
 use Rattle.wcps_mean.specs.Condensers.{trues}
 use Rattle.tile_kernel.specs.Selected.{selected}

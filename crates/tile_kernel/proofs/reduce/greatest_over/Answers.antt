@@ -1,3 +1,4 @@
+-- With one more place the best is the greatest of the values that count, or the lowest number if none does.
 use Rattle.std.proofs.Common.{◌≡◌, ◌+◌, ◌∙◌, ap, sym, subst, rules, SFits, w64, to_z, of_z, cond, negsuc}
 use Rattle.std.proofs.lemmas.Int.{to_z-of_z}
 use Rattle.wcps_mean.specs.Condensers.{larger}

@@ -1,3 +1,4 @@
+-- With one more place the best is the least of the values that count, or the highest number if none does.
 use Rattle.std.proofs.Common.{◌≡◌, ◌+◌, ◌∙◌, ap, sym, subst, rules, SFits, w64, to_z, of_z, cond, pos}
 use Rattle.std.proofs.lemmas.Int.{to_z-of_z}
 use Rattle.wcps_mean.specs.Condensers.{smaller}

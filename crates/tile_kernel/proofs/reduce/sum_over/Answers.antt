@@ -1,3 +1,4 @@
+-- One more value is in the sums of the halves if it counts, and both stay below their bounds.
 use Rattle.std.proofs.Common.{◌≡◌, ◌+◌, ◌*◌, ◌/◌, ◌%◌, ◌≤◌, ◌∙◌, ap, sym, subst, arith, rules, SFits, w64, pos, ◌+ℤ◌, ◌^◌, cond, length, Fits}
 use Rattle.std.proofs.lemmas.Int.{to_z-of_z}
 use Rattle.tile_kernel.specs.Selected.{selected}

@@ -1,3 +1,4 @@
+-- One more place is counted if it counts and is true, and no more values are true than there are values.
 use Rattle.std.proofs.Common.{◌≡◌, ◌≤◌, ◌∙◌, ap, subst, length, arith, rules, SFits, w64, cond}
 use Rattle.std.proofs.lemmas.Int.{to_z-of_z}
 use Rattle.wcps_mean.specs.Cells.{is_true}

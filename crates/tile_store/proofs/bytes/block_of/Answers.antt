@@ -1,3 +1,4 @@
+-- The block holds the bytes that stand at its place, and zeros after the last one.
 use Rattle.std.proofs.Common.{ℕ}
 use Rattle.std.proofs.lemmas.List.{length-replicate}
 use Rattle.tile_store.proofs.Parts.{holds_copied}

@@ -1,15 +1,11 @@
-use Rattle.std.proofs.Common.{◌≡◌, take}
-use Rattle.std.specs.Prelude.{IsTrue}
-use Rattle.std.specs.List.{flat_map}
-use Rattle.block_file.specs.Blocks.{block_at}
+use Rattle.std.proofs.Common.{◌≡◌, take, IsTrue, flat_map}
+use Rattle.block_file.specs.State.{block}
+use Rattle.block_file.specs.Words.{OnlyReads}
 use Rattle.tile_store.proofs.bytes.read_bytes.Given as goal
 
 abbrev pub invariant-loop-k : goal.invariant-loop-k
-invariant-loop-k g l = let B = g.B.Blocks in record {
-  bytes : IsTrue (B.honest l.fn.blocks) → l.bytes.items ≡ flat_map (block_at (B.content l.fn.blocks)) (take l.k-index l.numbers);
-  content : B.content l.blocks ≡ B.content l.fn.blocks;
-  uses : B.uses l.blocks ≡ B.uses l.fn.blocks;
-  free : B.free_blocks l.blocks ≡ B.free_blocks l.fn.blocks;
-  honest : B.honest l.blocks ≡ B.honest l.fn.blocks;
-  failures : B.failures l.blocks ≡ B.failures l.fn.blocks;
+invariant-loop-k g l = let state = g.B.Blocks.state in record {
+  bytes : IsTrue (state l.fn.blocks).honest → l.bytes.items ≡ flat_map (block (state l.fn.blocks)) (take l.k-index l.numbers);
+  frame : OnlyReads (state l.fn.blocks) (state l.blocks);
+  quiet : (state l.blocks).failures ≡ (state l.fn.blocks).failures;
 }

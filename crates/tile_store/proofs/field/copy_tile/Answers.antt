@@ -1,32 +1,26 @@
-use Rattle.std.proofs.Common.{rules, arith, ◌≡◌, ◌∙◌, []}
-use Rattle.std.specs.Prelude.{option_copied}
-use Rattle.std.proofs.lemmas.Grind.{common_steps}
-use Rattle.arr_core.specs.Tiles.{tile_boxes}
-use Rattle.tile_index.specs.Index.{found_at}
-use Rattle.tile_store.proofs.Indexes.{used_found, get_of}
+-- The tile's numbers come to the points in common, and all cells stay in the range of the field's type.
+use Rattle.std.proofs.Common.{◌∙◌}
 use Rattle.arr_core.specs.Cells.{Fits}
-use Rattle.tile_store.specs.Overlays.{cell_at}
-use Rattle.tile_store.proofs.Fitting.{all_overlaid, all_cells}
-use Rattle.tile_store.proofs.Cells.{entry_spells, overlaid_tile}
+use Rattle.tile_store.specs.declared.numbers.Numbers.TheVariants.{Each}
+use Rattle.tile_store.proofs.Fitting.{all_overlaid, number_fits, has_numbers}
+use Rattle.tile_store.proofs.Cells.{tile_numbers, tile_overlaid}
 use Rattle.tile_store.proofs.field.copy_tile.Goals as goal
 
-pub read_tile-requires : goal.read_tile-requires
-read_tile-requires g c = used_found c.args.field.now (g.B.Blocks.uses c.args.blocks.now) c.args.tile _ (rw (← c.field.view_is) c.get.ensures) c.requires.used
+pub overlay-requires-clause-from : goal.overlay-requires-clause-from
+overlay-requires-clause-from g c =
+    rw c.axes-2.ensures.value (has_numbers c.args.field.kind c.in_ok-part.part (Each c.in_ok-read_tile.field-0) (tile_numbers c.args.field c.args.tile _ c.in_ok-part.part c.in_ok-read_tile.field-0 c.in_ok-part.ensures.part c.in_ok-read_tile.ensures.read))
 
-pub returns-in_err-numbers-clause-damaged : goal.returns-in_err-numbers-clause-damaged
-returns-in_err-numbers-clause-damaged g c = λ is honest spelled.
-    let found : option_copied c.get.result ≡ found_at c.args.tile c.args.field.now = rw (← c.field.view_is) c.get.ensures in
-    c.in_err-numbers.ensures.damaged (first_of (search rules, grind (arith, common_steps))) honest (entry_spells c.args.kind c.args.domain.now c.args.field.now _ c.args.tile c.in_ok-part.part _ _ (get_of (tile_boxes c.args.domain.now) c.args.tile c.in_ok-part.part [] c.in_ok-part.ensures.value) found c.cell_count.ensures.count spelled)
-
-pub returns-clause-value : goal.returns-clause-value
-returns-clause-value g c = λ honest.
-    let found : option_copied c.get.result ≡ found_at c.args.tile c.args.field.now = rw (← c.field.view_is) c.get.ensures in
-    overlaid_tile c.args.kind c.args.domain.now c.args.field.now (g.B.Blocks.content c.args.blocks.now) c.args.area.now c.args.tile c.in_ok-part.part _ c.in_ok-numbers.numbers.items c.args.cells.now c.copy_common.new.to c.requires.tile
-    (get_of (tile_boxes c.args.domain.now) c.args.tile c.in_ok-part.part [] c.in_ok-part.ensures.value) found (c.in_ok-numbers.ensures.value honest)
-    (rw (c.axes.ensures.value, c.axes-2.ensures.value, c.deref.ensures.value) at c.copy_common.ensures)
+pub returns-clause-copied : goal.returns-clause-copied
+returns-clause-copied g c =
+    let s = g.B.Blocks.state c.args.blocks.now in
+    record {
+      overlaid = λ honest. tile_overlaid c.args.field c.args.tile s c.args.area.now c.in_ok-part.part c.in_ok-read_tile.field-0 c.args.cells.now c.overlay.new.to c.in_ok-part.ensures.part (c.in_ok-read_tile.ensures.read.numbers honest) (rw (c.axes.ensures.value, c.axes-2.ensures.value) at c.overlay.ensures);
+      spelled = c.in_ok-read_tile.ensures.read.spelled;
+    }
 
 pub returns-clause-fit : goal.returns-clause-fit
 returns-clause-fit g c =
-    all_overlaid (Fits c.args.kind) c.args.area.now c.in_ok-part.part (cell_at c.in_ok-part.part c.in_ok-numbers.numbers.items) c.args.cells.now c.copy_common.new.to c.requires.counted (c.copy_common.auto.to ∙ c.requires.counted) c.axes.ensures.domain.ordered
-    (rw (c.axes.ensures.value, c.axes-2.ensures.value, c.deref.ensures.value) at c.copy_common.ensures)
-    c.requires.fit (all_cells (Fits c.args.kind) c.in_ok-part.part c.in_ok-numbers.numbers.items (c.in_ok-numbers.ensures.counted ∙ c.cell_count.ensures.count) c.in_ok-numbers.ensures.fit)
+    let are = tile_numbers c.args.field c.args.tile _ c.in_ok-part.part c.in_ok-read_tile.field-0 c.in_ok-part.ensures.part c.in_ok-read_tile.ensures.read in
+    all_overlaid (Fits c.args.field.kind) c.args.area.now c.in_ok-part.part _ c.args.cells.now c.overlay.new.to c.requires.counted (c.overlay.auto.to ∙ c.requires.counted) c.axes.ensures.domain.ordered
+    (rw (c.axes.ensures.value, c.axes-2.ensures.value) at c.overlay.ensures)
+    c.requires.fit (λ p inside. number_fits c.args.field.kind c.in_ok-part.part (Each c.in_ok-read_tile.field-0) p are inside)

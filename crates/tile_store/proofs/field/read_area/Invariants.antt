@@ -1,19 +1,18 @@
-use Rattle.std.proofs.Common.{◌≡◌, ℕ, ◌<◌, List, length, get_or, All}
-use Rattle.std.specs.Prelude.{IsTrue, ℤ, pos}
+use Rattle.std.proofs.Common.{◌≡◌, ℕ, ◌<◌, List, length, get_or, All, IsTrue, ℤ, pos}
 use Rattle.arr_core.specs.Cells.{Fits}
 use Rattle.arr_core.specs.Domains.{count, rank_of, IsInside}
-use Rattle.tile_store.specs.Stored.{number_at, tile_box}
+use Rattle.block_file.specs.Words.{OnlyReads}
+use Rattle.tile_store.specs.Reading.{number_in, IsSpelledIn}
+use Rattle.tile_store.specs.Stored.{tile_box}
 use Rattle.tile_store.proofs.field.read_area.Given as goal
 
 abbrev pub invariant-loop-tile : goal.invariant-loop-tile
-invariant-loop-tile g l = let B = g.B.Blocks in record {
-  value : IsTrue (B.honest l.fn.blocks) → (j : ℕ) → j < l.tile-index → (p : List ℤ) → IsInside (tile_box l.domain (get_or l.tiles j 0)) p → IsInside l.area p
-      → get_or l.cells.items (rank_of l.area p) (pos 0) ≡ number_at l.kind l.domain l.field (B.content l.fn.blocks) p;
-  fit : All (Fits l.kind) l.cells.items;
+invariant-loop-tile g l = let state = g.B.Blocks.state in record {
+  numbers : IsTrue (state l.fn.blocks).honest → (j : ℕ) → j < l.tile-index → (p : List ℤ) → IsInside (tile_box l.field.domain.now (get_or l.tiles j 0)) p → IsInside l.area p
+      → get_or l.cells.items (rank_of l.area p) (pos 0) ≡ number_in l.field (state l.fn.blocks) p;
+  spelled : IsTrue (state l.fn.blocks).honest → (j : ℕ) → j < l.tile-index → IsSpelledIn l.field (state l.fn.blocks) (get_or l.tiles j 0);
+  fit : All (Fits l.field.kind) l.cells.items;
   counted : length l.cells.items ≡ count l.area;
-  content : B.content l.blocks ≡ B.content l.fn.blocks;
-  uses : B.uses l.blocks ≡ B.uses l.fn.blocks;
-  free : B.free_blocks l.blocks ≡ B.free_blocks l.fn.blocks;
-  honest : B.honest l.blocks ≡ B.honest l.fn.blocks;
-  failures : B.failures l.blocks ≡ B.failures l.fn.blocks;
+  frame : OnlyReads (state l.fn.blocks) (state l.blocks);
+  quiet : (state l.blocks).failures ≡ (state l.fn.blocks).failures;
 }

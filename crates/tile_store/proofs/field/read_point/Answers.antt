@@ -1,36 +1,38 @@
-use Rattle.std.proofs.Common.{rules, arith, ◌≡◌, ◌∙◌, ap, length, get_or, List, [], ℕ, ◌<◌, subst, w64}
-use Rattle.std.specs.Prelude.{pos, option_copied}
-use Rattle.std.proofs.lemmas.Grind.{common_steps}
-use Rattle.arr_core.specs.declared.domain.Axis.{Axis}
-use Rattle.arr_core.specs.Domains.{IsInside}
-use Rattle.arr_core.specs.Tiles.{tile_boxes}
-use Rattle.tile_index.specs.Index.{found_at}
-use Rattle.tile_store.proofs.Indexes.{used_found, get_of}
-use Rattle.std.proofs.lemmas.List.{get_or_read}
+-- The number at a point is the one that its own tile has there.
+use Rattle.std.proofs.Common.{rules, arith, ◌≡◌, ◌∙◌, ap, sym, length, get_or, List, ℕ, ◌<◌, subst, w64, ℤ, pos}
 use Rattle.std.proofs.lemmas.Int.{to_z-of_z}
-use Rattle.tile_store.proofs.Cells.{entry_spells, number_said}
+use Rattle.std.proofs.lemmas.List.{get_or_read}
+use Rattle.arr_core.specs.declared.domain.Axis.{Axis}
+use Rattle.arr_core.specs.Domains.{points, IsInside, rank_of}
+use Rattle.arr_core.proofs.Grids.{in-no-other}
+use Rattle.tile_store.specs.Reading.{IsSpelledIn, number_in}
+use Rattle.tile_store.specs.Stored.{tile_box, tile_number}
+use Rattle.tile_store.proofs.Cells.{cell_listed}
+use Rattle.tile_store.proofs.Takes.{refuses_as}
 use Rattle.tile_store.proofs.field.read_point.Goals as goal
-
-pub read_tile-requires : goal.read_tile-requires
-read_tile-requires g c = used_found c.args.field.now (g.B.Blocks.uses c.args.blocks.now) c.tile_of-tile.result _ (rw (← c.field.view_is) c.get.ensures) c.requires.used
 
 pub rank-requires : goal.rank-requires
 rank-requires g c =
-    subst (λ (b : List Axis). IsInside b c.args.point.now) (get_of (tile_boxes c.args.domain.now) c.tile_of-tile.result c.in_ok-part.part [] c.in_ok-part.ensures.value) c.tile_of-tile.ensures.inside.1
+    subst (λ (b : List Axis). IsInside b c.args.point.now) c.in_ok-part.ensures.part c.tile_of-tile.ensures.inside.1
 
-pub returns-in_err-cells-clause-damaged : goal.returns-in_err-cells-clause-damaged
-returns-in_err-cells-clause-damaged g c = λ is honest spelled.
-    let found : option_copied c.get.result ≡ found_at c.tile_of-tile.result c.args.field.now = rw (← c.field.view_is) c.get.ensures in
-    c.in_err-cells.ensures.damaged (first_of (search rules, grind (arith, common_steps))) honest (entry_spells c.args.kind c.args.domain.now c.args.field.now _ c.tile_of-tile.result c.in_ok-part.part _ _ (get_of (tile_boxes c.args.domain.now) c.tile_of-tile.result c.in_ok-part.part [] c.in_ok-part.ensures.value) found c.cell_count.ensures.count spelled)
+pub returns-in_err-cells-clause-why : goal.returns-in_err-cells-clause-why
+returns-in_err-cells-clause-why g c =
+    let own : c.tile_of-tile.result ≡ tile_number c.args.field.domain.now c.args.point.now = in-no-other c.args.field.domain.now c.args.point.now c.tile_of-tile.result c.tile_of-tile.ensures.inside in
+    refuses_as (λ x is. search rules) c.in_err-cells.ensures.why (λ damaged honest spelled. damaged honest (rw own spelled)) (λ none. none)
 
-pub returns-clause-value : goal.returns-clause-value
-returns-clause-value g c = λ honest.
-    let found : option_copied c.get.result ≡ found_at c.tile_of-tile.result c.args.field.now = rw (← c.field.view_is) c.get.ensures in
-    let box = get_of (tile_boxes c.args.domain.now) c.tile_of-tile.result c.in_ok-part.part [] c.in_ok-part.ensures.value in
-    let inside : IsInside c.in_ok-part.part c.args.point.now = subst (λ (b : List Axis). IsInside b c.args.point.now) box c.tile_of-tile.ensures.inside.1 in
+pub returns-clause-read : goal.returns-clause-read
+returns-clause-read g c = λ honest.
+    let f = c.args.field in
+    let s = g.B.Blocks.state c.args.blocks.now in
+    let point = c.args.point.now in
+    let tile = c.tile_of-tile.result in
+    let own : tile ≡ tile_number f.domain.now point = in-no-other f.domain.now point tile c.tile_of-tile.ensures.inside in
     let cells = c.in_ok-cells.cells.items in
-    let below : c.rank.result < length cells = omega (arith, c.rank.ensures.below, c.in_ok-cells.ensures.counted, c.cell_count.ensures.points) in
-    to_z-of_z w64 c.index.result.now (search rules)
-    ∙ get_or_read cells c.rank.result c.index.result.now below c.index.ensures (pos 0)
-    ∙ ap (λ (r : ℕ). get_or cells r (pos 0)) c.rank.ensures.computed
-    ∙ number_said c.args.kind c.args.domain.now c.args.field.now (g.B.Blocks.content c.args.blocks.now) c.tile_of-tile.result c.in_ok-part.part _ cells c.args.point.now c.tile_of-tile.ensures.inside.0 box found (c.in_ok-cells.ensures.value honest) inside
+    let below : c.rank.result < length cells = omega (arith, c.rank.ensures.below, ap (λ (b : List Axis). length (points b)) c.in_ok-part.ensures.part, c.in_ok-cells.ensures.read.counted) in (
+      to_z-of_z w64 c.index.result.now (search rules)
+          ∙ get_or_read cells c.rank.result c.index.result.now below c.index.ensures (pos 0)
+          ∙ ap (λ (r : ℕ). get_or cells r (pos 0)) (c.rank.ensures.computed ∙ ap (λ (b : List Axis). rank_of b point) (sym c.in_ok-part.ensures.part))
+          ∙ ap (λ (l : List ℤ). get_or l (rank_of (tile_box f.domain.now tile) point) (pos 0)) (c.in_ok-cells.ensures.read.numbers honest)
+          ∙ cell_listed (tile_box f.domain.now tile) (number_in f s) point c.tile_of-tile.ensures.inside.1,
+      subst (λ (t : ℕ). IsSpelledIn f s t) own (c.in_ok-cells.ensures.read.spelled honest),
+    )

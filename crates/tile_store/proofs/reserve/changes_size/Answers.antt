@@ -1,3 +1,4 @@
+-- What a change gives a tile is an entry.
 use Rattle.std.proofs.Common.{subst, sym, ◌≡◌, ◌∙◌, ℕ, Option, Some}
 use Rattle.tile_index.specs.declared.entry.Entry.{Entry}
 use Rattle.tile_store.proofs.reserve.changes_size.Goals as goal

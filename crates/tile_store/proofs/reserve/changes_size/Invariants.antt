@@ -1,5 +1,4 @@
-use Rattle.std.proofs.Common.{◌≡◌, ◌≤◌, ◌*◌, ℕ, take, Option}
-use Rattle.std.specs.Prelude.{sum_by}
+use Rattle.std.proofs.Common.{◌≡◌, ◌≤◌, ◌*◌, ℕ, take, Option, sum_by}
 use Rattle.tile_index.specs.declared.entry.Entry.{Entry}
 use Rattle.tile_store.specs.Room.{listed_bytes, entry_blocks}
 use Rattle.tile_store.proofs.reserve.changes_size.Given as goal

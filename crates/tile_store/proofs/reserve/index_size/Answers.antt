@@ -1,9 +1,8 @@
-use Rattle.std.proofs.Common.{arith, ap, length, take, ◌≡◌, ◌∙◌, subst, List, ℕ}
-use Rattle.std.specs.Prelude.{sum_by}
-use Rattle.std.proofs.lemmas.List.{take_all}
+-- The bytes of all entries and of their count are those of the index.
+use Rattle.std.proofs.Common.{arith, ap, take, ◌≡◌, ◌∙◌, subst, List, ℕ, sum_by, take_all}
 use Rattle.tile_index.specs.declared.entry.Entry.{Entry}
 use Rattle.tile_index.specs.Entries.{IsEntry}
-use Rattle.tile_store.proofs.Sizes.{pair_bytes, pair_part, pair_entry, index_long}
+use Rattle.tile_store.proofs.Sizes.{pair_bytes, pair_entry, index_long}
 use Rattle.tile_store.proofs.reserve.index_size.Goals as goal
 
 pub entry_size-size-requires : goal.entry_size-size-requires
@@ -11,15 +10,6 @@ entry_size-size-requires c = λ e some.
     let x = c.loop-tile-item.result in
     let same : x.1 ≡ e = cc in
     subst IsEntry same (pair_entry c.as_slice-entries.result.now c.loop-tile._tile-index x (rw c.as_slice-entries.ensures.pairs c.as_slice-entries.ensures.index) c.loop-tile-test.true c.loop-tile-item.is)
-
-pub overflow_add-size : goal.overflow_add-size
-overflow_add-size c = omega (arith, ap length c.as_slice-entries.ensures.pairs, c.as_slice-entries.ensures.index.few)
-
-pub loop-tile-preserved : goal.loop-tile-preserved
-loop-tile-preserved c = record {
-  value = omega (arith, pair_part c.as_slice-entries.result.now c.loop-tile._tile-index c.loop-tile-item.result c.loop-tile-test.true c.loop-tile-item.is);
-  small = omega arith;
-}
 
 pub returns-clause-value : goal.returns-clause-value
 returns-clause-value c =

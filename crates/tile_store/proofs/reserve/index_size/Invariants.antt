@@ -1,5 +1,4 @@
-use Rattle.std.proofs.Common.{◌≡◌, ◌+◌, ◌≤◌, ◌*◌, take}
-use Rattle.std.specs.Prelude.{sum_by}
+use Rattle.std.proofs.Common.{◌≡◌, ◌+◌, ◌≤◌, ◌*◌, take, sum_by}
 use Rattle.tile_store.proofs.Sizes.{pair_bytes}
 use Rattle.tile_store.proofs.reserve.index_size.Given as goal
 

@@ -1,5 +1,4 @@
-use Rattle.std.proofs.Common.{◌≡◌, ◌≤◌, ◌*◌, take}
-use Rattle.std.specs.Prelude.{sum_by}
+use Rattle.std.proofs.Common.{◌≡◌, ◌≤◌, ◌*◌, take, sum_by}
 use Rattle.tile_index.specs.Index.{found_at}
 use Rattle.tile_store.specs.Room.{listed_bytes, entry_blocks}
 use Rattle.tile_store.proofs.reserve.listed_size.Given as goal

@@ -1,108 +1,81 @@
-use Rattle.std.proofs.lemmas.Grind.{common_steps}
-use Rattle.std.proofs.Common.{rules, arith, ◌≡◌, ℕ, ◌<◌, List, Option, Some, take, length, get_or, ap, sym, refl, subst, ◌∙◌}
-use Rattle.std.specs.Prelude.{IsTrue, ℤ, sum_by}
-use Rattle.std.proofs.lemmas.List.Elements.{All-push}
-use Rattle.std.proofs.lemmas.List.Sums.{sum_by_push}
-use Rattle.block_file.specs.Blocks.{block_at}
-use Rattle.tile_index.specs.declared.entry.Entry.{Entry}
-use Rattle.tile_index.specs.Entries.{IsEntry}
-use Rattle.tile_store.specs.Listing.{times}
-use Rattle.tile_store.specs.Numbers.{numbers_in}
-use Rattle.tile_store.specs.Room.{entry_blocks, tile_blocks, cells_after}
-use Rattle.tile_store.specs.Stored.{KeepsListed}
-use Rattle.tile_store.specs.Written.{IsWritten}
-use Rattle.tile_store.proofs.Times.{times-nil}
-use Rattle.tile_store.proofs.Taking.{extends_start, extends_more, taken_used, keeps_more, times_given-push, times_given-nil, tiles_push, still_listed}
-use Rattle.tile_store.proofs.Changing.{all_kept, whole_more, sizes_written, room_tiles, listed_kept}
-use Rattle.tile_store.proofs.Cells.{after_kept}
-use Rattle.tile_store.proofs.Kept.{spelled_kept}
+-- Each tile so far stands in fresh blocks as it is after the write, and the field still has its numbers.
+use Rattle.std.proofs.Common.{rules, arith, ◌≡◌, ℕ, List, take, length, get_or, ap, refl, ◌∙◌, ℤ, sum_by, take_all}
+use Rattle.std.proofs.lemmas.List.Sums.{sum_by_more_le}
+use Rattle.block_file.proofs.Times.{times_none}
+use Rattle.tile_store.specs.Patches.{patched, blocks_after}
+use Rattle.tile_store.specs.Room.{tile_blocks}
+use Rattle.tile_store.proofs.Cells.{after_kept, meets_at}
+use Rattle.tile_store.proofs.Kept.{tile_kept}
+use Rattle.tile_store.specs.Listing.{given}
+use Rattle.tile_store.proofs.Patched.{more_written, keeps_taken, sizes_written}
+use Rattle.tile_store.proofs.Takes.{takes_none, takes_read, reads_same, free_read, refuses_as}
 use Rattle.tile_store.proofs.update.write_tiles.Goals as goal
 
 pub loop-tile-init : goal.loop-tile-init
+unfolding given
 loop-tile-init g c = record {
-  entries = rw c.requires.changes (λ i d h. absurd (omega (arith, h)));
-  written = λ honest. rw c.requires.changes (λ i d h. absurd (omega (arith, h)));
-  whole = λ honest k some. absurd (let none = rw c.requires.taken at some in omega (arith, none, times-nil k));
-  size = rw (c.requires.taken, c.requires.changes) refl;
-  tiles = rw c.requires.changes refl;
-  given = λ k. rw (c.requires.taken, c.requires.changes) (times-nil k ∙ sym (times_given-nil k));
-  extends = rw c.requires.taken (extends_start _);
-  free = omega (arith, ap length c.requires.taken);
-  kept = λ k used whole. refl;
-  header = λ s n f b is. is;
-  honest = refl;
-  failures = refl;
+  written = record {
+    tiles_are = rw c.requires.none.0 refl;
+    entries = rw c.requires.none.0 (λ i d h. absurd (omega (arith, h)));
+    counted = λ k. rw (c.requires.none.0, c.requires.none.1) (times_none k);
+    size = rw (c.requires.none.0, c.requires.none.1) refl;
+    whole = λ honest k some. absurd (let none = rw c.requires.none.1 at some in omega (arith, none, times_none k));
+    written = λ honest. rw c.requires.none.0 (λ i d h. absurd (omega (arith, h)));
+    read = λ honest. rw c.requires.none.0 (λ i d h. absurd (omega (arith, h)));
+  };
+  takes = rw c.requires.none.1 (takes_none _ _ _ (reads_same _));
+  quiet = refl;
 }
 
-pub write_updated-requires-clause-used : goal.write_updated-requires-clause-used
-write_updated-requires-clause-used g c = still_listed c.loop-tile.taken.items (g.B.Blocks.uses c.args.blocks.now) (g.B.Blocks.uses c.loop-tile.blocks) _ c.loop-tile.invariant.extends c.requires.used
+pub cells_after-requires-clause-tile : goal.cells_after-requires-clause-tile
+cells_after-requires-clause-tile g c = (meets_at _ _ _ c.loop-tile.tile-index c.requires.tiles c.loop-tile-test.true).0
 
-pub write_updated-requires-clause-taken : goal.write_updated-requires-clause-taken
-write_updated-requires-clause-taken g c = taken_used c.loop-tile.taken.items (g.B.Blocks.uses c.args.blocks.now) (g.B.Blocks.uses c.loop-tile.blocks) c.loop-tile.invariant.extends
-
-pub returns-in_err-entry-clause-header : goal.returns-in_err-entry-clause-header
-returns-in_err-entry-clause-header g c = λ s n f b is. c.in_err-entry.ensures.header s n f b (c.loop-tile.invariant.header s n f b is)
-
-pub returns-in_err-push-clause-header : goal.returns-in_err-push-clause-header
-returns-in_err-push-clause-header g c = λ s n f b is. c.in_ok-entry.ensures.header s n f b (c.loop-tile.invariant.header s n f b is)
-
-pub returns-in_err-entry-clause-damaged : goal.returns-in_err-entry-clause-damaged
-returns-in_err-entry-clause-damaged g c = λ is honest spelled.
-    let old = g.B.Blocks.content c.args.blocks.now in
-    let now = g.B.Blocks.content c.loop-tile.blocks in
-    let keeps : KeepsListed c.args.index.now old now = listed_kept c.args.index.now (g.B.Blocks.uses c.args.blocks.now) old now c.requires.used (c.requires.whole honest) c.loop-tile.invariant.kept in
-    c.in_err-entry.ensures.damaged (first_of (search rules, grind (arith, common_steps))) (rw c.loop-tile.invariant.honest honest) (spelled_kept c.args.kind c.args.domain.now c.args.index.now old now keeps spelled)
-
-pub returns-in_err-entry-clause-room : goal.returns-in_err-entry-clause-room
-returns-in_err-entry-clause-room g c = λ is honest.
-    let old = g.B.Blocks.content c.args.blocks.now in
-    let now = g.B.Blocks.content c.loop-tile.blocks in
-    let keeps : KeepsListed c.args.index.now old now = listed_kept c.args.index.now (g.B.Blocks.uses c.args.blocks.now) old now c.requires.used (c.requires.whole honest) c.loop-tile.invariant.kept in
-    let numbers = numbers_in c.args.area.now c.args.numbers.now in
-    let cells : ℕ → List ℤ = λ t. cells_after c.args.kind c.args.domain.now c.args.index.now old c.args.area.now numbers t in
-    let blocks : ℕ → ℕ = λ t. tile_blocks c.args.kind (cells t) in
-    let tiles = c.args.tiles.now in
-    let i = c.loop-tile.tile-index in
-    let changes = c.loop-tile.changes.items in
-    let sizes = sizes_written (λ n. n) c.args.kind now cells blocks changes (λ x w. w.size) (c.loop-tile.invariant.written honest) in
-    let done : length c.loop-tile.taken.items ≡ sum_by blocks (take i tiles) = c.loop-tile.invariant.size ∙ sizes ∙ ap (sum_by blocks) c.loop-tile.invariant.tiles in
-    room_tiles blocks tiles i _ _ (length c.loop-tile.taken.items) _ c.loop-tile-test.true c.loop-tile.invariant.free done (c.in_err-entry.ensures.room (first_of (search rules, grind (arith, common_steps))) (rw c.loop-tile.invariant.honest honest)) (ap (tile_blocks c.args.kind) (after_kept c.args.kind c.args.domain.now c.args.index.now old now c.args.area.now numbers _ keeps))
+pub cells_after-requires-clause-used : goal.cells_after-requires-clause-used
+cells_after-requires-clause-used g c = λ k. omega (arith, c.requires.sound.counted k, c.loop-tile.invariant.takes.moves.uses k)
 
 pub loop-tile-preserved : goal.loop-tile-preserved
 loop-tile-preserved g c =
-    let old = g.B.Blocks.content c.args.blocks.now in
-    let now = g.B.Blocks.content c.loop-tile.blocks in
-    let new = g.B.Blocks.content c.write_updated.new.blocks in
-    let uses = g.B.Blocks.uses c.args.blocks.now in
-    let kind = c.args.kind in
-    let index = c.args.index.now in
-    let numbers = numbers_in c.args.area.now c.args.numbers.now in
-    let cells : ℕ → List ℤ = λ t. cells_after kind c.args.domain.now index old c.args.area.now numbers t in
-    let changes = c.loop-tile.changes.items in
-    let taken = c.loop-tile.taken.items in
-    let entry = c.in_ok-entry.entry in
-    let tile = get_or c.args.tiles.now c.loop-tile.tile-index 0 in
-    let items = c.in_ok-push.ensures.items in
-    let once = taken_used taken uses (g.B.Blocks.uses c.loop-tile.blocks) c.loop-tile.invariant.extends in
+    let inv = c.loop-tile.invariant in
     record {
-      entries = rw items (All-push (λ (x : ℕ × Option Entry). (e : Entry) → x.1 ≡ Some e → IsEntry e) changes (tile, entry) c.loop-tile.invariant.entries c.in_ok-entry.ensures.entry);
-      written = λ honest.
-          let now_honest : IsTrue (g.B.Blocks.honest c.loop-tile.blocks) = rw c.loop-tile.invariant.honest honest in
-          let keeps : KeepsListed index old now = listed_kept index uses old now c.requires.used (c.requires.whole honest) c.loop-tile.invariant.kept in
-          let same : (k : ℕ) → 0 < times k taken → block_at new k ≡ block_at now k = λ k some. c.in_ok-entry.ensures.kept k (omega (arith, once k some)) (c.loop-tile.invariant.whole honest k some) in
-          let this : IsWritten kind new entry (cells tile) = subst (λ (list : List ℤ). IsWritten kind new entry list) (after_kept kind c.args.domain.now index old now c.args.area.now numbers tile keeps) (c.in_ok-entry.ensures.written now_honest) in
-          rw items (All-push (λ (x : ℕ × Option Entry). IsWritten kind new x.1 (cells x.0)) changes (tile, entry) (all_kept kind now new cells changes taken c.loop-tile.invariant.given same (c.loop-tile.invariant.written honest)) this);
-      whole = λ honest.
-          let now_honest : IsTrue (g.B.Blocks.honest c.loop-tile.blocks) = rw c.loop-tile.invariant.honest honest in
-          whole_more taken c.write_updated.new.taken.items entry (block_at now) (block_at new) c.in_ok-entry.ensures.added (c.loop-tile.invariant.whole honest)
-          (λ k some. c.in_ok-entry.ensures.kept k (omega (arith, once k some)) (c.loop-tile.invariant.whole honest k some)) (c.in_ok-entry.ensures.whole now_honest);
-      size = rw items (omega (arith, c.in_ok-entry.ensures.size, c.loop-tile.invariant.size, sum_by_push (λ (x : ℕ × Option Entry). entry_blocks x.1) changes (tile, entry)));
-      tiles = tiles_push changes c.push.new.self.items _ entry c.args.tiles.now c.loop-tile.tile-index items c.loop-tile.invariant.tiles refl c.loop-tile-test.true;
-      given = λ k. omega (arith, c.loop-tile.invariant.given k, c.in_ok-entry.ensures.added k, times_given-push k changes c.push.new.self.items _ entry items);
-      extends = extends_more taken c.write_updated.new.taken.items _ (g.B.Blocks.uses c.loop-tile.blocks) _ c.loop-tile.invariant.extends c.in_ok-entry.ensures.extends;
-      free = omega (arith, c.in_ok-entry.ensures.free, c.loop-tile.invariant.free);
-      kept = keeps_more taken uses (g.B.Blocks.uses c.loop-tile.blocks) (block_at old) (block_at now) (block_at new) c.loop-tile.invariant.extends c.loop-tile.invariant.kept c.in_ok-entry.ensures.kept;
-      header = λ s n f b is. c.in_ok-entry.ensures.header s n f b (c.loop-tile.invariant.header s n f b is);
-      honest = c.in_ok-entry.ensures.honest ∙ c.loop-tile.invariant.honest;
-      failures = c.in_ok-entry.ensures.counts.others (λ e. cc) ∙ c.loop-tile.invariant.failures;
+      written = more_written c.args.patch.now _ _ _ _ c.args.field.now c.args.tiles.now c.loop-tile.tile-index c.loop-tile.fresh _ _ _ c.loop-tile-test.true c.requires.sound inv.takes c.in_ok-cells.ensures.frame c.in_ok-entry.ensures.takes inv.written
+          c.in_ok-cells.ensures.after (rw c.deref.ensures.value at c.in_ok-entry.ensures.written) c.in_ok-push.ensures.items;
+      takes = takes_read _ _ _ _ _ _ _ inv.takes c.in_ok-cells.ensures.frame c.in_ok-entry.ensures.takes;
+      quiet = c.in_ok-entry.ensures.told.quiet (λ e. cc) ∙ c.in_ok-cells.ensures.told.quiet (λ e. cc) ∙ inv.quiet;
     }
+
+pub returns-in_err-cells-clause-takes : goal.returns-in_err-cells-clause-takes
+returns-in_err-cells-clause-takes g c = takes_read _ _ _ _ _ _ _ c.loop-tile.invariant.takes c.in_err-cells.ensures.frame (takes_none _ _ _ (reads_same _))
+
+pub returns-in_err-entry-clause-takes : goal.returns-in_err-entry-clause-takes
+returns-in_err-entry-clause-takes g c = takes_read _ _ _ _ _ _ _ c.loop-tile.invariant.takes c.in_ok-cells.ensures.frame c.in_err-entry.ensures.takes
+
+pub returns-in_err-push-clause-takes : goal.returns-in_err-push-clause-takes
+returns-in_err-push-clause-takes g c = takes_read _ _ _ _ _ _ _ c.loop-tile.invariant.takes c.in_ok-cells.ensures.frame c.in_ok-entry.ensures.takes
+
+pub returns-clause-written : goal.returns-clause-written
+returns-clause-written g c = rw (take_all c.loop-tile.tile-index c.args.tiles.now c.loop-tile-test.false) at c.loop-tile.invariant.written
+
+pub returns-in_err-cells-clause-why : goal.returns-in_err-cells-clause-why
+returns-in_err-cells-clause-why g c =
+    let u = c.args.patch.now in
+    let takes = c.loop-tile.invariant.takes in
+    refuses_as (λ x is. search rules) c.in_err-cells.ensures.why (λ cut honest.
+    let kept = keeps_taken u.domain.now c.args.field.now _ _ _ c.requires.sound honest takes in
+    let damaged = cut (rw takes.moves.honest honest) in
+    (_, meets_at _ _ _ c.loop-tile.tile-index c.requires.tiles c.loop-tile-test.true, damaged.0, λ spelled. damaged.1 (tile_kept u.kind u.domain.now c.args.field.now _ _ _ kept spelled))) (λ none. absurd none)
+
+pub returns-in_err-entry-clause-why : goal.returns-in_err-entry-clause-why
+returns-in_err-entry-clause-why g c = refuses_as (λ x is. search rules) c.in_err-entry.ensures.why (λ none. absurd none) (λ lacking honest.
+    let u = c.args.patch.now in
+    let start = g.B.Blocks.state c.args.blocks.now in
+    let now = g.B.Blocks.state c.loop-tile.blocks in
+    let inv = c.loop-tile.invariant in
+    let tiles = c.args.tiles.now in
+    let i = c.loop-tile.tile-index in
+    let blocks : ℕ → ℕ = blocks_after u start c.args.field.now in
+    let kept = keeps_taken u.domain.now c.args.field.now _ start now c.requires.sound honest inv.takes in
+    let less = rw (free_read _ _ c.in_ok-cells.ensures.frame, c.deref.ensures.value) at lacking in
+    let cells = c.in_ok-cells.ensures.after.numbers (rw inv.takes.moves.honest honest) ∙ after_kept u.kind u.domain.now c.args.field.now start.content now.content u.area.now _ (get_or tiles i 0) kept in
+    let done : length c.loop-tile.fresh.blocks.items ≡ sum_by blocks (take i tiles) =
+    inv.written.size ∙ sizes_written (λ n. n) u.kind now.content (patched u start c.args.field.now) c.loop-tile.fresh.changes.items (inv.written.written honest) ∙ ap (sum_by blocks) inv.written.tiles_are in
+    omega (arith, sum_by_more_le blocks tiles i 0 c.loop-tile-test.true, inv.takes.free, done, less, ap (λ (l : List ℤ). tile_blocks u.kind l) cells))

@@ -1,41 +1,39 @@
-use Rattle.std.proofs.Common.{◌<◌, ◌∙◌, ap, sym, refl, arith, [], ◌++◌, length, map, get_or, Ok}
+-- One more point has its cells in the item, in the end all have, and the first fault of a point is the item's.
+use Rattle.std.proofs.Common.{rules, ◌≡◌, ◌<◌, ◌∙◌, ap, sym, refl, arith, [], ◌++◌, length, get_or, Ok}
 use Rattle.std.proofs.lemmas.Result.{err_from_is_err_and}
 use Rattle.arr_core.specs.Domains.{points}
-use Rattle.wcps_types.specs.Typed.{fields_view, item_view}
+use Rattle.wcps_types.specs.Typed.{item_view}
+use Rattle.wcps_types.specs.Renamed.{renamed_item}
 use Rattle.wcps_types.specs.Cells.{max_cells}
-use Rattle.wcps_mean.specs.Answer.{cells_at}
-use Rattle.wcps_mean.proofs.FewCells.{few_products}
+use Rattle.wcps_mean.specs.Answer.{cells_at, item_cells, line_of, field_count}
+use Rattle.wcps_mean.proofs.FewCells.{fields_over, few_products}
 use Rattle.wcps_mean.proofs.Told.{passes-from}
-use Rattle.wcps_mean.proofs.Joins.{turn-more, turn-stop, pushed-ok, tells-on, item-err}
+use Rattle.wcps_mean.proofs.Joins.{turn-more, turn-stop, turns-all, pushed-ok, tells-on, item-err, item-ok}
 use Rattle.wcps_mean.proofs.answer.item_of.Goals as goal
 
 pub returns-in_err-push_cells-clause-fault : goal.returns-in_err-push_cells-clause-fault
 returns-in_err-push_cells-clause-fault g c =
     let inv = c.loop-place.invariant in
     let s = g.C.Cells.cells c.args.cells.now in
-    let fields = fields_view c.args.item.now.node 0 c.args.item.now.booleans.items in
+    let item = renamed_item c.args.coverages.now (item_view c.args.item.now) in
     let box = points c.args.item.now.domain in
     let x = get_or box c.loop-place.place [] in
-    let here = ap (λ s. cells_at s (fields_view c.args.item.now.node 0 c.deref.result.now) c.push_point.new.list.items) inv.same
-    ∙ ap (λ l. cells_at s (fields_view c.args.item.now.node 0 l) c.push_point.new.list.items) c.deref.ensures.value
-    ∙ ap (cells_at s fields) (c.in_ok-push_point.ensures ∙ ap (λ l. l ++ x) inv.spot) in
+    let here = ap (λ s. cells_at s item.fields c.push_point.new.list.items) inv.same ∙ ap (cells_at s item.fields) (c.in_ok-push_point.ensures ∙ ap (λ l. l ++ x) inv.spot) in
     let lt : c.loop-place.place < length box = omega (arith, c.points-place-end.ensures.value) in
     let p = err_from_is_err_and c.from_residual-in_err-push_cells.result c.from_residual-in_err-push_cells.ensures.1 in
     rw (p.1, p.2) (λ h. tells-on _ _ _
-    (λ f e. item-err s (item_view c.args.item.now) f (turn-stop (cells_at s fields) box c.loop-place.place x [] c.loop-place.list.items f lt refl (inv.pushed h) (sym here ∙ e)))
+    (λ f e. item-err s item f (turn-stop (cells_at s item.fields) box c.loop-place.place x [] c.loop-place.list.items f lt refl (inv.pushed h) (sym here ∙ e)))
     (c.in_err-push_cells.ensures.fault (inv.intact h)))
 
 pub loop-place-preserved : goal.loop-place-preserved
 loop-place-preserved g c =
     let inv = c.loop-place.invariant in
     let s = g.C.Cells.cells c.args.cells.now in
-    let fields = fields_view c.args.item.now.node 0 c.args.item.now.booleans.items in
+    let fields = (renamed_item c.args.coverages.now (item_view c.args.item.now)).fields in
     let box = points c.args.item.now.domain in
     let x = get_or box c.loop-place.place [] in
     let lt : c.loop-place.place < length box = omega (arith, c.points-place-end.ensures.value) in
-    let here = ap (λ s. cells_at s (fields_view c.args.item.now.node 0 c.deref.result.now) c.push_point.new.list.items) inv.same
-    ∙ ap (λ l. cells_at s (fields_view c.args.item.now.node 0 l) c.push_point.new.list.items) c.deref.ensures.value
-    ∙ ap (cells_at s fields) (c.in_ok-push_point.ensures ∙ ap (λ l. l ++ x) inv.spot) in
+    let here = ap (λ s. cells_at s fields c.push_point.new.list.items) inv.same ∙ ap (cells_at s fields) (c.in_ok-push_point.ensures ∙ ap (λ l. l ++ x) inv.spot) in
     record {
       same = c.in_ok-push_cells.ensures.same ∙ inv.same;
       kept = c.in_ok-push_cells.ensures.kept ∙ inv.kept;
@@ -55,5 +53,16 @@ returns-in_err-push_cells-clause-reports g c =
 
 pub overflow_mul-count : goal.overflow_mul-count
 overflow_mul-count g c =
-    let few = few_products c.args.item.now.domain c.args.item.now.node c.args.item.now.booleans.items _ _ max_cells c.points.ensures.count c.count_fields-fields.ensures.same c.requires.few_cells in
+    let few = few_products c.args.item.now.domain (length c.args.item.now.booleans.items) _ _ max_cells c.points.ensures.count c.count_fields-fields.ensures.same c.requires.few_cells in
     omega (arith, few)
+
+pub returns-clause-value : goal.returns-clause-value
+returns-clause-value g c h =
+    let inv = c.loop-place.invariant in
+    let s = g.C.Cells.cells c.args.cells.now in
+    let item = renamed_item c.args.coverages.now (item_view c.args.item.now) in
+    let box = points c.args.item.now.domain in
+    let cells : item_cells s item ≡ Ok c.new.result = sym (turns-all (cells_at s item.fields) box c.loop-place.place (omega (arith, c.points-place-end.ensures.value))) ∙ inv.pushed h ∙ ap Ok (sym c.new.ensures) in
+    let line : c.run_length.result ≡ line_of c.args.item.now.domain = search rules in
+    let fields = c.count_fields-fields.ensures.value ∙ ap field_count (sym (fields_over c.args.coverages.now c.args.item.now.node 0 c.args.item.now.booleans.items)) in
+    item-ok s item c.run_length.result c.count_fields-fields.result c.new.result cells line fields

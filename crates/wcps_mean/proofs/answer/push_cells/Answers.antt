@@ -1,13 +1,15 @@
-use Rattle.std.proofs.Common.{rules, ◌≡◌, ◌<◌, ◌≤◌, ◌∙◌, ap, refl, sym, subst, arith, length, get_or, false, List, [], ◌∷◌, ◌++◌, append_assoc, Result, Ok, w64, SFits}
+-- One more field has its cell at the point, and the fault of the first field with one is that of all of them.
+use Rattle.std.proofs.Common.{rules, ◌≡◌, ◌<◌, ◌≤◌, ◌∙◌, ap, refl, sym, subst, arith, length, map, get_or, false, List, [], ◌∷◌, ◌++◌, append_assoc, Result, Ok, w64, SFits}
 use Rattle.std.proofs.lemmas.Int.{to_z-of_z}
 use Rattle.std.proofs.lemmas.Result.{err_from_is_err_and}
 use Rattle.wcps_types.specs.Typed.{FieldTree, field_tree, fields_view}
-use Rattle.wcps_types.proofs.Efforts.{field_places}
+use Rattle.wcps_types.specs.Renamed.{renamed, renamed_field}
+use Rattle.wcps_mean.proofs.FewCells.{fields_over}
 use Rattle.wcps_mean.proofs.ItemFields.{field_at}
 use Rattle.arr_core.specs.declared.cell.Cell.{Cell}
 use Rattle.wcps_mean.specs.declared.cell.PointFault.{PointFault}
 use Rattle.wcps_mean.specs.Meaning.{val}
-use Rattle.wcps_mean.specs.Answer.{joined, given, cell_of}
+use Rattle.wcps_mean.specs.Answer.{given, cell_of}
 use Rattle.wcps_mean.specs.Errors.{PushesCells}
 use Rattle.wcps_mean.proofs.Told.{tells-from}
 use Rattle.wcps_mean.proofs.Joins.{turn-more, turn-stop, turns-all, pushed-ok, ok-pushed}
@@ -18,13 +20,14 @@ returns-in-Fault-clause-fault g c intact =
     let inv = c.loop-field.invariant in
     let s = g.C.Cells.cells c.args.cells.now in
     let p = c.args.points.now.items in
-    let bs = c.args.booleans.now in
+    let bs = c.args.item.now.booleans.items in
+    let cs = c.args.coverages.now in
     let k = c.loop-field.field in
-    let x : FieldTree = record { boolean = get_or bs k false; tree = field_tree c.args.node.now k } in
-    let all = fields_view c.args.node.now 0 bs in
+    let x : FieldTree = record { boolean = get_or bs k false; tree = renamed cs (field_tree c.args.item.now.node k) } in
+    let all = map (renamed_field cs) (fields_view c.args.item.now.node 0 bs) in
     let lt : k < length bs = omega arith in
-    let within : k < length all = omega (arith, lt, field_places c.args.node.now 0 bs) in
-    let is = field_at c.args.node.now bs k (get_or bs k false) false x lt refl in
+    let within : k < length all = omega (arith, lt, fields_over cs c.args.item.now.node 0 bs) in
+    let is = field_at cs c.args.item.now.node bs k (get_or bs k false) false x lt refl in
     let f : FieldTree → Result (List Cell) PointFault = λ t. given (λ z. cell_of t.boolean z ∷ []) (val s t.tree [] p) in
     let o = c.in_ok-o.ensures.value (inv.intact intact)
     ∙ ap (λ s. val s x.tree c.loop-field.env.items c.loop-field.points.items) inv.same
@@ -38,13 +41,14 @@ loop-field-preserved g c =
     let inv = c.loop-field.invariant in
     let s = g.C.Cells.cells c.args.cells.now in
     let p = c.args.points.now.items in
-    let bs = c.args.booleans.now in
+    let bs = c.args.item.now.booleans.items in
+    let cs = c.args.coverages.now in
     let k = c.loop-field.field in
-    let x : FieldTree = record { boolean = get_or bs k false; tree = field_tree c.args.node.now k } in
-    let all = fields_view c.args.node.now 0 bs in
+    let x : FieldTree = record { boolean = get_or bs k false; tree = renamed cs (field_tree c.args.item.now.node k) } in
+    let all = map (renamed_field cs) (fields_view c.args.item.now.node 0 bs) in
     let lt : k < length bs = omega arith in
-    let within : k < length all = omega (arith, lt, field_places c.args.node.now 0 bs) in
-    let is = field_at c.args.node.now bs k (get_or bs k false) false x lt refl in
+    let within : k < length all = omega (arith, lt, fields_over cs c.args.item.now.node 0 bs) in
+    let is = field_at cs c.args.item.now.node bs k (get_or bs k false) false x lt refl in
     let f : FieldTree → Result (List Cell) PointFault = λ t. given (λ z. cell_of t.boolean z ∷ []) (val s t.tree [] p) in
     let o = λ (h : g.C.Cells.intact c.args.cells.now). c.in_ok-o.ensures.value (inv.intact h)
     ∙ ap (λ s. val s x.tree c.loop-field.env.items c.loop-field.points.items) inv.same
@@ -70,11 +74,12 @@ returns-clause-value g c intact =
     let inv = c.loop-field.invariant in
     let s = g.C.Cells.cells c.args.cells.now in
     let p = c.args.points.now.items in
-    let bs = c.args.booleans.now in
-    let all = fields_view c.args.node.now 0 bs in
+    let bs = c.args.item.now.booleans.items in
+    let cs = c.args.coverages.now in
+    let all = map (renamed_field cs) (fields_view c.args.item.now.node 0 bs) in
     let f : FieldTree → Result (List Cell) PointFault = λ t. given (λ z. cell_of t.boolean z ∷ []) (val s t.tree [] p) in
     let le : length bs ≤ c.loop-field.field = omega arith in
-    let past : length all ≤ c.loop-field.field = omega (arith, le, field_places c.args.node.now 0 bs) in
+    let past : length all ≤ c.loop-field.field = omega (arith, le, fields_over cs c.args.item.now.node 0 bs) in
     subst (λ r. PushesCells r c.args.list.now.items c.loop-field.list.items) (turns-all f all c.loop-field.field past) (inv.pushed intact)
 
 pub returns-in_err-o-clause-reports : goal.returns-in_err-o-clause-reports

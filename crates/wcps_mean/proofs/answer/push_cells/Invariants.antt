@@ -1,5 +1,6 @@
 use Rattle.std.proofs.Common.{◌≡◌, [], ◌∷◌, take, map}
-use Rattle.wcps_types.specs.Typed.{FieldTree, fields_view}
+use Rattle.wcps_types.specs.Typed.{FieldTree, item_view}
+use Rattle.wcps_types.specs.Renamed.{renamed_item}
 use Rattle.wcps_mean.specs.Meaning.{val}
 use Rattle.wcps_mean.specs.Answer.{joined, given, cell_of}
 use Rattle.wcps_mean.specs.Errors.{PushesCells}
@@ -13,5 +14,5 @@ invariant-loop-field g l = record {
   failures : g.C.Cells.failures l.cells ≡ g.C.Cells.failures l.fn.cells;
   scope : l.env.items ≡ [];
   place : l.points.items ≡ l.fn.points.items;
-  pushed : g.C.Cells.intact l.fn.cells → PushesCells (joined (map (λ (f : FieldTree). given (λ z. cell_of f.boolean z ∷ []) (val (g.C.Cells.cells l.fn.cells) f.tree [] l.fn.points.items)) (take l.field (fields_view l.node 0 l.booleans)))) l.fn.list.items l.list.items;
+  pushed : g.C.Cells.intact l.fn.cells → PushesCells (joined (map (λ (f : FieldTree). given (λ z. cell_of f.boolean z ∷ []) (val (g.C.Cells.cells l.fn.cells) f.tree [] l.fn.points.items)) (take l.field (renamed_item l.coverages (item_view l.item)).fields))) l.fn.list.items l.list.items;
 }

@@ -1,37 +1,18 @@
-use Rattle.std.proofs.Common.{rules, true, false, ◌≡◌, ◌∙◌, ap, sym, [], ◌∷◌, append-nil, Ok}
-use Rattle.std.proofs.lemmas.Result.{err_from_is_err_and}
-use Rattle.wcps_types.specs.Typed.{item_view, combination_view}
-use Rattle.wcps_mean.specs.Answer.{item_answer}
-use Rattle.wcps_mean.proofs.Joins.{tells-on, ok-pushed, chosen-err, chosen-false, chosen-item, chosen-item-err}
+-- A combination is its tree over its coverages.
+use Rattle.std.proofs.Common.{sym, subst, append-nil}
+use Rattle.wcps_types.specs.Cells.{max_cells}
+use Rattle.wcps_types.specs.Renamed.{over}
+use Rattle.wcps_mean.specs.Answer.{combination_answer}
+use Rattle.wcps_mean.specs.Errors.{PushesCells}
+use Rattle.wcps_mean.proofs.FewCells.{few_in_tree}
 use Rattle.wcps_mean.proofs.answer.push_combination.Goals as goal
 
-pub returns-in_err-gives_item-clause-fault : goal.returns-in_err-gives_item-clause-fault
-returns-in_err-gives_item-clause-fault g c =
-    let s = g.C.Cells.cells c.args.cells.now in
-    let v = combination_view c.args.combination.now in
-    let p = err_from_is_err_and c.from_residual.result c.from_residual.ensures.1 in
-    rw (p.1, p.2) (λ h. tells-on _ _ _ (λ f e. chosen-err s v f e) (c.in_err-gives_item.ensures.fault h))
+pub returns-in-None-clause-value : goal.returns-in-None-clause-value
+returns-in-None-clause-value g c h =
+    let places = c.args.combination.now.coverages.items in
+    subst (λ o. PushesCells (combination_answer (g.C.Cells.cells c.args.cells.now) (over places o)) c.args.items.now.items c.args.items.now.items) c.in-None.ensures (sym (append-nil c.args.items.now.items))
 
-pub returns-then-not-gives_item-clause-value : goal.returns-then-not-gives_item-clause-value
-returns-then-not-gives_item-clause-value g c h =
-    let s = g.C.Cells.cells c.args.cells.now in
-    let v = combination_view c.args.combination.now in
-    let no : c.in_ok-gives_item.gives_item ≡ false = search rules in
-    ok-pushed _ [] _ _ (chosen-false s v (c.in_ok-gives_item.ensures.value h ∙ ap Ok no)) (sym (append-nil _))
-
-pub returns-in_err-item-clause-fault : goal.returns-in_err-item-clause-fault
-returns-in_err-item-clause-fault g c =
-    let s = g.C.Cells.cells c.args.cells.now in
-    let v = combination_view c.args.combination.now in
-    let yes : c.in_ok-gives_item.gives_item ≡ true = search rules in
-    let p = err_from_is_err_and c.from_residual-in_err-item.result c.from_residual-in_err-item.ensures.1 in
-    let same = ap (λ s. item_answer s (item_view c.args.combination.now.item)) c.in_ok-gives_item.ensures.same in
-    rw (p.1, p.2) (λ h. tells-on _ _ _ (λ f e. chosen-item-err s v f (c.in_ok-gives_item.ensures.value h ∙ ap Ok yes) (sym same ∙ e)) (c.in_err-item.ensures.fault (c.in_ok-gives_item.ensures.intact h)))
-
-pub returns-clause-value : goal.returns-clause-value
-returns-clause-value g c h =
-    let s = g.C.Cells.cells c.args.cells.now in
-    let v = combination_view c.args.combination.now in
-    let same = ap (λ s. item_answer s (item_view c.args.combination.now.item)) c.in_ok-gives_item.ensures.same in
-    let yes : c.in_ok-gives_item.gives_item ≡ true = search rules in
-    ok-pushed _ (c.in_ok-item.item ∷ []) _ _ (chosen-item s v c.in_ok-item.item (c.in_ok-gives_item.ensures.value h ∙ ap Ok yes) (sym same ∙ c.in_ok-item.ensures.value (c.in_ok-gives_item.ensures.intact h))) c.in_ok-push.ensures.items
+pub push_tree-requires : goal.push_tree-requires
+push_tree-requires g c = record {
+  few_cells = few_in_tree c.args.combination.now.coverages.items _ c.in-Some.tree.now max_cells c.in-Some.ensures c.requires.few_cells;
+}

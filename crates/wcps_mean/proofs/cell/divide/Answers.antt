@@ -1,3 +1,4 @@
+-- By a divisor other than zero, the quotient is the exact one, tested.
 use Rattle.std.proofs.Common.{arith, w64}
 use Rattle.std.specs.Int.{IsNonZero}
 use Rattle.std.proofs.lemmas.Int.{to_z-of_z}

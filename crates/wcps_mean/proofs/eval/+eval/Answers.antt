@@ -1,3 +1,4 @@
+-- Slices, condensers, reductions and records give what they mean at a point, and report what their parts report.
 use Rattle.std.proofs.Common.{rules, ◌≡◌, ◌<◌, ◌≤◌, ◌+◌, ◌∙◌, ap, sym, refl, subst, arith, List, [], ◌++◌, length, map, take, drop, insert, get_or, ℤ, w32, SFits, to_z, of_z}
 use Rattle.std.specs.List.{flat_map}
 use Rattle.std.proofs.lemmas.Int.{to_z-of_z}
@@ -6,10 +7,10 @@ use Rattle.arr_core.specs.Domains.{points}
 use Rattle.std.specs.Prelude.{pos}
 use Rattle.wcps_types.specs.declared.typed.Node.{Node}
 use Rattle.wcps_types.specs.Typed.{number, field_tree, only_tree}
+use Rattle.wcps_types.specs.Renamed.{renamed}
 use Rattle.wcps_types.proofs.Fields.{record_part, record_none}
 use Rattle.wcps_mean.specs.declared.running.Running.{Running}
 use Rattle.wcps_mean.specs.declared.cell.Outcome.{Outcome}
-use Rattle.wcps_mean.specs.Aggregates.{of_condenser, of_reduction}
 use Rattle.wcps_mean.specs.Condensers.{condensed, demanded}
 use Rattle.wcps_mean.specs.Feeding.{Fed}
 use Rattle.wcps_mean.specs.Meaning.{val}
@@ -24,7 +25,8 @@ pub condense-loop-place-preserved : goal.condense-loop-place-preserved
 condense-loop-place-preserved g t c =
     let inv = c.loop-place.invariant in
     let s = g.C.Cells.cells c.args.cells.now in
-    let e = only_tree c.args.e.now in
+    let cs = c.args.coverages.now in
+    let e = renamed cs (only_tree c.args.e.now) in
     let env = c.args.env.now.items in
     let x = get_or (points c.args.domain.now) c.loop-place.place [] in
     let lt : c.loop-place.place < length (points c.args.domain.now) = omega (arith, c.points-place-end.ensures.value) in
@@ -49,7 +51,8 @@ pub reduce-loop-place-preserved : goal.reduce-loop-place-preserved
 reduce-loop-place-preserved g t c =
     let inv = c.loop-place.invariant in
     let s = g.C.Cells.cells c.args.cells.now in
-    let e = only_tree c.args.e.now in
+    let cs = c.args.coverages.now in
+    let e = renamed cs (only_tree c.args.e.now) in
     let env = c.args.env.now.items in
     let x = get_or (points c.args.domain.now) c.loop-place.place [] in
     let lt : c.loop-place.place < length (points c.args.domain.now) = omega (arith, c.points-place-end.ensures.value) in
@@ -72,20 +75,22 @@ reduce-loop-place-preserved g t c =
 pub eval-returns-in-Err-clause-value : goal.eval-returns-in-Err-clause-value
 eval-returns-in-Err-clause-value g t c h =
     let s = g.C.Cells.cells c.args.cells.now in
+    let cs = c.args.coverages.now in
     let env = c.args.env.now.items in
     let p = drop c.args.base c.args.points.now.items in
     let top : c.len-top-in-Slice.result ≡ length c.args.points.now.items = search rules in
     let lo : SFits w32 c.in-Slice.lo = search rules in
     let hi : SFits w32 c.in-Slice.hi = search rules in
     let x = c.in_ok-x-in-Slice.ensures.value h
-    ∙ ap (λ b. val s (only_tree b) env (drop c.len-top-in-Slice.result c.args.points.now.items)) c.deref-in-Slice.ensures
-    ∙ ap (λ q. val s (only_tree c.in-Slice.position.value) env q) (top-empty c.len-top-in-Slice.result _ _ top refl) in
-    position-fault _ _ _ _ _ _ (λ z. val s (field_tree c.in-Slice.value.value c.args.field) env (insert p c.in-Slice.axis z)) c.in-Err.f x (to_z-of_z w32 c.in-Slice.lo lo) (to_z-of_z w32 c.in-Slice.hi hi) c.in-Err.ensures
-    ∙ ap (λ (b : Node). val s (field_tree b c.args.field) env p) (sym c.in-Slice.is)
+    ∙ ap (λ b. val s (renamed cs (only_tree b)) env (drop c.len-top-in-Slice.result c.args.points.now.items)) c.deref-in-Slice.ensures
+    ∙ ap (λ q. val s (renamed cs (only_tree c.in-Slice.position.value)) env q) (top-empty c.len-top-in-Slice.result _ _ top refl) in
+    position-fault _ _ _ _ _ _ (λ z. val s (renamed cs (field_tree c.in-Slice.value.value c.args.field)) env (insert p c.in-Slice.axis z)) c.in-Err.f x (to_z-of_z w32 c.in-Slice.lo lo) (to_z-of_z w32 c.in-Slice.hi hi) c.in-Err.ensures
+    ∙ ap (λ (b : Node). val s (renamed cs (field_tree b c.args.field)) env p) (sym c.in-Slice.is)
 
 pub eval-returns-in_ok-o-in-Ok-clause-value : goal.eval-returns-in_ok-o-in-Ok-clause-value
 eval-returns-in_ok-o-in-Ok-clause-value g t c h =
     let s = g.C.Cells.cells c.args.cells.now in
+    let cs = c.args.coverages.now in
     let env = c.args.env.now.items in
     let p = drop c.args.base c.args.points.now.items in
     let top : c.len-top-in-Slice.result ≡ length c.args.points.now.items = search rules in
@@ -93,56 +98,58 @@ eval-returns-in_ok-o-in-Ok-clause-value g t c h =
     let hi : SFits w32 c.in-Slice.hi = search rules in
     let fits : SFits w32 c.in-Ok.z = search rules in
     let x = c.in_ok-x-in-Slice.ensures.value h
-    ∙ ap (λ b. val s (only_tree b) env (drop c.len-top-in-Slice.result c.args.points.now.items)) c.deref-in-Slice.ensures
-    ∙ ap (λ q. val s (only_tree c.in-Slice.position.value) env q) (top-empty c.len-top-in-Slice.result _ _ top refl) in
-    let v = field_tree c.in-Slice.value.value c.args.field in
+    ∙ ap (λ b. val s (renamed cs (only_tree b)) env (drop c.len-top-in-Slice.result c.args.points.now.items)) c.deref-in-Slice.ensures
+    ∙ ap (λ q. val s (renamed cs (only_tree c.in-Slice.position.value)) env q) (top-empty c.len-top-in-Slice.result _ _ top refl) in
+    let v = renamed cs (field_tree c.in-Slice.value.value c.args.field) in
     let q = insert (drop c.args.base c.eval-in-Slice.new.points.items) c.in-Slice.axis (to_z w32 (of_z w32 c.in-Ok.z)) in
     let o = c.in_ok-o-in-Ok.ensures.value (c.in_ok-x-in-Slice.ensures.intact h)
-    ∙ ap (λ s. val s (field_tree c.deref-in-Ok.result.now c.args.field) c.eval-in-Slice.new.env.items q) c.in_ok-x-in-Slice.ensures.same
-    ∙ ap (λ b. val s (field_tree b c.args.field) c.eval-in-Slice.new.env.items q) c.deref-in-Ok.ensures
+    ∙ ap (λ s. val s (renamed cs (field_tree c.deref-in-Ok.result.now c.args.field)) c.eval-in-Slice.new.env.items q) c.in_ok-x-in-Slice.ensures.same
+    ∙ ap (λ b. val s (renamed cs (field_tree b c.args.field)) c.eval-in-Slice.new.env.items q) c.deref-in-Ok.ensures
     ∙ ap (λ e. val s v e q) c.in_ok-x-in-Slice.ensures.scope
     ∙ ap (λ l. val s v env (insert (drop c.args.base l) c.in-Slice.axis (to_z w32 (of_z w32 c.in-Ok.z)))) c.in_ok-x-in-Slice.ensures.place
     ∙ ap (λ z. val s v env (insert p c.in-Slice.axis z)) (to_z-of_z w32 c.in-Ok.z fits) in
     o
     ∙ position-value _ _ _ _ _ _ (λ z. val s v env (insert p c.in-Slice.axis z)) c.in-Ok.z x (to_z-of_z w32 c.in-Slice.lo lo) (to_z-of_z w32 c.in-Slice.hi hi) (λ go. c.in-Ok.ensures go)
-    ∙ ap (λ (b : Node). val s (field_tree b c.args.field) env p) (sym c.in-Slice.is)
+    ∙ ap (λ (b : Node). val s (renamed cs (field_tree b c.args.field)) env p) (sym c.in-Slice.is)
 
 pub eval-returns-in_ok-o-in-Condense-clause-value : goal.eval-returns-in_ok-o-in-Condense-clause-value
 eval-returns-in_ok-o-in-Condense-clause-value g t c h =
     let s = g.C.Cells.cells c.args.cells.now in
+    let cs = c.args.coverages.now in
     let env = c.args.env.now.items in
     c.in_ok-o-in-Condense.ensures.value h
-    ∙ ap (λ op. condensed op (map (λ x. val s (only_tree c.deref-in-Condense.result.now) (env ++ x) []) (points c.in-Condense.domain))) c.of_condenser.ensures
-    ∙ ap (λ b. condensed (of_condenser c.in-Condense.op) (map (λ x. val s (only_tree b) (env ++ x) []) (points c.in-Condense.domain))) c.deref-in-Condense.ensures
-    ∙ ap (λ (b : Node). val s (field_tree b c.args.field) env (drop c.args.base c.args.points.now.items)) (sym c.in-Condense.is)
+    ∙ ap (λ b. condensed c.in-Condense.op (map (λ x. val s (renamed cs (only_tree b)) (env ++ x) []) (points c.in-Condense.domain))) c.deref-in-Condense.ensures
+    ∙ ap (λ (b : Node). val s (renamed cs (field_tree b c.args.field)) env (drop c.args.base c.args.points.now.items)) (sym c.in-Condense.is)
 
 pub eval-returns-in_ok-o-in-Reduce-clause-value : goal.eval-returns-in_ok-o-in-Reduce-clause-value
 eval-returns-in_ok-o-in-Reduce-clause-value g t c h =
     let s = g.C.Cells.cells c.args.cells.now in
+    let cs = c.args.coverages.now in
     let env = c.args.env.now.items in
     c.in_ok-o-in-Reduce.ensures.value h
-    ∙ ap (λ op. condensed op (map (λ x. val s (only_tree c.deref-in-Reduce.result.now) env x) (points c.in-Reduce.domain))) c.of_reduction.ensures
-    ∙ ap (λ b. condensed (of_reduction c.in-Reduce.op) (map (λ x. val s (only_tree b) env x) (points c.in-Reduce.domain))) c.deref-in-Reduce.ensures
-    ∙ ap (λ (b : Node). val s (field_tree b c.args.field) env (drop c.args.base c.args.points.now.items)) (sym c.in-Reduce.is)
+    ∙ ap (λ b. condensed c.in-Reduce.op (map (λ x. val s (renamed cs (only_tree b)) env x) (points c.in-Reduce.domain))) c.deref-in-Reduce.ensures
+    ∙ ap (λ (b : Node). val s (renamed cs (field_tree b c.args.field)) env (drop c.args.base c.args.points.now.items)) (sym c.in-Reduce.is)
 
 pub eval-returns-after-loop-place-clause-value : goal.eval-returns-after-loop-place-clause-value
 eval-returns-after-loop-place-clause-value g t c h =
     let inv = c.loop-place.invariant in
     let s = g.C.Cells.cells c.args.cells.now in
+    let cs = c.args.coverages.now in
     let env = c.args.env.now.items in
     let box = points c.in-CondenseWhere.domain in
-    let f : List ℤ → List Outcome = λ x. demanded (val s (only_tree c.in-CondenseWhere.condition.value) (env ++ x) []) (val s (only_tree c.in-CondenseWhere.body.value) (env ++ x) []) in
+    let f : List ℤ → List Outcome = λ x. demanded (val s (renamed cs (only_tree c.in-CondenseWhere.condition.value)) (env ++ x) []) (val s (renamed cs (only_tree c.in-CondenseWhere.body.value)) (env ++ x) []) in
     let all : take c.loop-place.place box ≡ box = take-whole _ box (omega (arith, c.points-place-end.ensures.value)) in
     c.finish.ensures (flat_map f box) (subst (λ ps. Fed c.loop-place.running (flat_map f ps)) all (inv.fed h))
-    ∙ ap (λ op. condensed op (flat_map f box)) (inv.op ∙ c.new-running.ensures.op ∙ c.of_condenser-in-CondenseWhere.ensures)
-    ∙ ap (λ (b : Node). val s (field_tree b c.args.field) env (drop c.args.base c.args.points.now.items)) (sym c.in-CondenseWhere.is)
+    ∙ ap (λ op. condensed op (flat_map f box)) (inv.op ∙ c.new-running.ensures.op)
+    ∙ ap (λ (b : Node). val s (renamed cs (field_tree b c.args.field)) env (drop c.args.base c.args.points.now.items)) (sym c.in-CondenseWhere.is)
 
 pub eval-loop-place-preserved : goal.eval-loop-place-preserved
 eval-loop-place-preserved g t c =
     let inv = c.loop-place.invariant in
     let s = g.C.Cells.cells c.args.cells.now in
-    let ec = only_tree c.in-CondenseWhere.condition.value in
-    let eb = only_tree c.in-CondenseWhere.body.value in
+    let cs = c.args.coverages.now in
+    let ec = renamed cs (only_tree c.in-CondenseWhere.condition.value) in
+    let eb = renamed cs (only_tree c.in-CondenseWhere.body.value) in
     let env = c.args.env.now.items in
     let box = points c.in-CondenseWhere.domain in
     let x = get_or box c.loop-place.place [] in
@@ -153,8 +160,8 @@ eval-loop-place-preserved g t c =
     let none = top-empty c.len-top-in-CondenseWhere.result _ _ top inv.spot in
     let q = drop c.len-top-in-CondenseWhere.result c.loop-place.points.items in
     let condition = λ (h : g.C.Cells.intact c.args.cells.now). c.in_ok-c-in-CondenseWhere.ensures.value (inv.intact h)
-    ∙ ap (λ s. val s (only_tree c.deref-in-loop-place.result.now) c.push_point.new.list.items q) inv.same
-    ∙ ap (λ b. val s (only_tree b) c.push_point.new.list.items q) c.deref-in-loop-place.ensures
+    ∙ ap (λ s. val s (renamed cs (only_tree c.deref-in-loop-place.result.now)) c.push_point.new.list.items q) inv.same
+    ∙ ap (λ b. val s (renamed cs (only_tree b)) c.push_point.new.list.items q) c.deref-in-loop-place.ensures
     ∙ ap (λ l. val s ec l q) inner ∙ ap (λ p. val s ec (env ++ x) p) none in
     let same : g.C.Cells.cells c.if-demands.cells ≡ s = elim c.if-demands.branch [
       | eval-then-demands+in_ok-o-in-CondenseWhere w ↦ ap g.C.Cells.cells w.cells-is ∙ w.in_ok-o-in-CondenseWhere.ensures.same ∙ c.in_ok-c-in-CondenseWhere.ensures.same ∙ inv.same
@@ -195,8 +202,8 @@ eval-loop-place-preserved g t c =
       | eval-then-demands+in_ok-o-in-CondenseWhere w ↦
           (λ h. let l = drop c.len-top-in-CondenseWhere.result c.eval-in-loop-place.new.points.items in
           let o = w.in_ok-o-in-CondenseWhere.ensures.value (c.in_ok-c-in-CondenseWhere.ensures.intact (inv.intact h))
-          ∙ ap (λ s. val s (only_tree w.deref-then-demands.result.now) c.eval-in-loop-place.new.env.items l) (c.in_ok-c-in-CondenseWhere.ensures.same ∙ inv.same)
-          ∙ ap (λ b. val s (only_tree b) c.eval-in-loop-place.new.env.items l) w.deref-then-demands.ensures
+          ∙ ap (λ s. val s (renamed cs (only_tree w.deref-then-demands.result.now)) c.eval-in-loop-place.new.env.items l) (c.in_ok-c-in-CondenseWhere.ensures.same ∙ inv.same)
+          ∙ ap (λ b. val s (renamed cs (only_tree b)) c.eval-in-loop-place.new.env.items l) w.deref-then-demands.ensures
           ∙ ap (λ e. val s eb e l) (c.in_ok-c-in-CondenseWhere.ensures.scope ∙ inner)
           ∙ ap (λ p. val s eb (env ++ x) p) (top-empty c.len-top-in-CondenseWhere.result _ _ top (c.in_ok-c-in-CondenseWhere.ensures.place ∙ inv.spot)) in
           fed-demanded _ _ _ _ _ _ vc vb w.running-is (c.demands.ensures.unchanged w.if-demands.true) (condition h) o (c.demands.ensures.demanded w.if-demands.true) w.add.ensures.fed)

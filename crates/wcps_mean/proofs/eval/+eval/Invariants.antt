@@ -2,6 +2,7 @@ use Rattle.std.proofs.Common.{◌≡◌, ◌≤◌, ◌++◌, [], map, take}
 use Rattle.std.specs.List.{flat_map}
 use Rattle.arr_core.specs.Domains.{points}
 use Rattle.wcps_types.specs.Typed.{only_tree}
+use Rattle.wcps_types.specs.Renamed.{renamed}
 use Rattle.wcps_mean.specs.Condensers.{demanded}
 use Rattle.wcps_mean.specs.Meaning.{val}
 use Rattle.wcps_mean.specs.Feeding.{Fed}
@@ -17,7 +18,7 @@ invariant-condense-loop-place g l = record {
   spot : l.points.items ≡ l.fn.points.items;
   op : l.running.op ≡ l.fn.op;
   counted : l.running.count ≡ l.place;
-  fed : g.C.Cells.intact l.fn.cells → Fed l.running (take l.place (map (λ x. val (g.C.Cells.cells l.fn.cells) (only_tree l.e) (l.fn.env.items ++ x) []) (points l.domain)));
+  fed : g.C.Cells.intact l.fn.cells → Fed l.running (take l.place (map (λ x. val (g.C.Cells.cells l.fn.cells) (renamed l.coverages (only_tree l.e)) (l.fn.env.items ++ x) []) (points l.domain)));
 }
 
 abbrev pub invariant-reduce-loop-place : goal.invariant-reduce-loop-place
@@ -30,7 +31,7 @@ invariant-reduce-loop-place g l = record {
   spot : l.points.items ≡ l.fn.points.items;
   op : l.running.op ≡ l.fn.op;
   counted : l.running.count ≡ l.place;
-  fed : g.C.Cells.intact l.fn.cells → Fed l.running (take l.place (map (λ x. val (g.C.Cells.cells l.fn.cells) (only_tree l.e) l.fn.env.items x) (points l.domain)));
+  fed : g.C.Cells.intact l.fn.cells → Fed l.running (take l.place (map (λ x. val (g.C.Cells.cells l.fn.cells) (renamed l.coverages (only_tree l.e)) l.fn.env.items x) (points l.domain)));
 }
 
 abbrev pub invariant-eval-loop-place : goal.invariant-eval-loop-place
@@ -43,5 +44,5 @@ invariant-eval-loop-place g l = record {
   spot : l.points.items ≡ l.fn.points.items;
   op : l.running.op ≡ l.initial.running.op;
   counted : l.running.count ≤ l.place;
-  fed : g.C.Cells.intact l.fn.cells → Fed l.running (flat_map (λ x. demanded (val (g.C.Cells.cells l.fn.cells) (only_tree l.condition.value) (l.fn.env.items ++ x) []) (val (g.C.Cells.cells l.fn.cells) (only_tree l.body.value) (l.fn.env.items ++ x) [])) (take l.place (points l.domain)));
+  fed : g.C.Cells.intact l.fn.cells → Fed l.running (flat_map (λ x. demanded (val (g.C.Cells.cells l.fn.cells) (renamed l.coverages (only_tree l.condition.value)) (l.fn.env.items ++ x) []) (val (g.C.Cells.cells l.fn.cells) (renamed l.coverages (only_tree l.body.value)) (l.fn.env.items ++ x) [])) (take l.place (points l.domain)));
 }

@@ -1,75 +1,11 @@
--- The tree of a field is read off the node.
-use Rattle.std.proofs.Common.{rules, ◌≡◌, ◌<◌, ◌≤◌, ◌∙◌, [], Option, Some, None, ap, refl, arith, length}
-use Rattle.std.specs.Prelude.{option_map, option_and_then}
-use Rattle.wcps_types.specs.Typed.{field_tree, combination_view}
-use Rattle.wcps_mean.specs.declared.part.Part.{Part}
-use Rattle.wcps_mean.specs.Meaning.{val}
-use Rattle.wcps_mean.specs.Parts.{of_combination, condition_value, body_value}
-use Rattle.wcps_mean.proofs.ItemFields.{item_field, no_item_field}
+-- A combination is its tree over its coverages.
+use Rattle.std.proofs.Common.{◌∙◌, ap}
+use Rattle.wcps_types.specs.Renamed.{over}
+use Rattle.wcps_mean.specs.Parts.{of_combination}
 use Rattle.wcps_mean.proofs.part.part_of.Goals as goal
 
-pub returns-then-f-fields-clause-value : goal.returns-then-f-fields-clause-value
-returns-then-f-fields-clause-value g c =
+pub returns-in-None-clause-value : goal.returns-in-None-clause-value
+returns-in-None-clause-value g c h =
     let s = g.C.Cells.cells c.args.cells.now in
-    let p = c.args.point.now in
-    let i = c.args.combination.now.item in
-    let f = c.in-Field.f in
-    let lt : f < length i.booleans.items = omega (arith, c.len-fields.ensures, i.booleans.ok) in
-    let shown : of_combination s p c.args.part (combination_view c.args.combination.now) ≡ Some (val s (field_tree i.node f) [] p) =
-    ap (λ (q : Part). of_combination s p q (combination_view c.args.combination.now)) c.in-Field.is ∙ ap (option_map (λ t. val s t [] p)) (item_field i.node i.booleans.items f lt) in
-    rw shown (search rules)
-
-pub returns-then-f-fields-2-clause-value : goal.returns-then-f-fields-2-clause-value
-returns-then-f-fields-2-clause-value g c =
-    let s = g.C.Cells.cells c.args.cells.now in
-    let p = c.args.point.now in
-    let i = c.args.combination.now.item in
-    let f = c.in-CondenserCondition.f in
-    let lt : f < length i.booleans.items = omega (arith, c.len-fields.ensures, i.booleans.ok) in
-    let shown : of_combination s p c.args.part (combination_view c.args.combination.now) ≡ condition_value s p (field_tree i.node f) =
-    ap (λ (q : Part). of_combination s p q (combination_view c.args.combination.now)) c.in-CondenserCondition.is ∙ ap (option_and_then (condition_value s p)) (item_field i.node i.booleans.items f lt) in
-    rw shown (search rules)
-
-pub returns-then-f-fields-3-clause-value : goal.returns-then-f-fields-3-clause-value
-returns-then-f-fields-3-clause-value g c =
-    let s = g.C.Cells.cells c.args.cells.now in
-    let p = c.args.point.now in
-    let i = c.args.combination.now.item in
-    let f = c.in-CondenserValue.f in
-    let lt : f < length i.booleans.items = omega (arith, c.len-fields.ensures, i.booleans.ok) in
-    let shown : of_combination s p c.args.part (combination_view c.args.combination.now) ≡ body_value s p (field_tree i.node f) =
-    ap (λ (q : Part). of_combination s p q (combination_view c.args.combination.now)) c.in-CondenserValue.is ∙ ap (option_and_then (body_value s p)) (item_field i.node i.booleans.items f lt) in
-    rw shown (search rules)
-
-pub returns-else-f-fields-clause-value : goal.returns-else-f-fields-clause-value
-returns-else-f-fields-clause-value g c =
-    let s = g.C.Cells.cells c.args.cells.now in
-    let p = c.args.point.now in
-    let i = c.args.combination.now.item in
-    let f = c.in-Field.f in
-    let le : length i.booleans.items ≤ f = omega (arith, c.len-fields.ensures, i.booleans.ok) in
-    let shown : of_combination s p c.args.part (combination_view c.args.combination.now) ≡ None =
-    ap (λ (q : Part). of_combination s p q (combination_view c.args.combination.now)) c.in-Field.is ∙ ap (option_map (λ t. val s t [] p)) (no_item_field i.node i.booleans.items f le) in
-    rw shown (λ h. refl)
-
-pub returns-else-f-fields-2-clause-value : goal.returns-else-f-fields-2-clause-value
-returns-else-f-fields-2-clause-value g c =
-    let s = g.C.Cells.cells c.args.cells.now in
-    let p = c.args.point.now in
-    let i = c.args.combination.now.item in
-    let f = c.in-CondenserCondition.f in
-    let le : length i.booleans.items ≤ f = omega (arith, c.len-fields.ensures, i.booleans.ok) in
-    let shown : of_combination s p c.args.part (combination_view c.args.combination.now) ≡ None =
-    ap (λ (q : Part). of_combination s p q (combination_view c.args.combination.now)) c.in-CondenserCondition.is ∙ ap (option_and_then (condition_value s p)) (no_item_field i.node i.booleans.items f le) in
-    rw shown (λ h. refl)
-
-pub returns-else-f-fields-3-clause-value : goal.returns-else-f-fields-3-clause-value
-returns-else-f-fields-3-clause-value g c =
-    let s = g.C.Cells.cells c.args.cells.now in
-    let p = c.args.point.now in
-    let i = c.args.combination.now.item in
-    let f = c.in-CondenserValue.f in
-    let le : length i.booleans.items ≤ f = omega (arith, c.len-fields.ensures, i.booleans.ok) in
-    let shown : of_combination s p c.args.part (combination_view c.args.combination.now) ≡ None =
-    ap (λ (q : Part). of_combination s p q (combination_view c.args.combination.now)) c.in-CondenserValue.is ∙ ap (option_and_then (body_value s p)) (no_item_field i.node i.booleans.items f le) in
-    rw shown (λ h. refl)
+    let places = c.args.combination.now.coverages.items in
+    c.without_tree.ensures s c.args.point.now places ∙ ap (λ o. of_combination s c.args.point.now c.args.part (over places o)) c.in-None.ensures

@@ -1,3 +1,4 @@
+-- The place divided by the points of the other axes gives the first coordinate, and its remainder the others.
 use Rattle.std.proofs.Common.{rules, ap, ◌∙◌, ◌+ℤ◌, ◌/◌, pos, w32, SFits}
 use Rattle.std.proofs.lemmas.Int.{to_z-of_z}
 use Rattle.wcps_mean.proofs.Ranks.{cut, step, onto}

@@ -1,3 +1,4 @@
+-- The coordinates that are computed for a place are those of the point that stands there.
 use Rattle.std.proofs.Common.{arith, sym, []}
 use Rattle.wcps_mean.proofs.Ranks.{point-there}
 use Rattle.wcps_mean.proofs.points.push_point.Goals as goal

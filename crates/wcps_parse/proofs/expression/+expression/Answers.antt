@@ -1,7 +1,9 @@
+-- What is read as an expression or as a part of one is what the tokens come to, and what is refused comes to nothing.
 use Rattle.std.proofs.Common.{ℕ, ◌-◌, [], ◌∷◌, ◌++◌, Some, None, refl, sym, ap, rules, subst, arith}
 use Rattle.std.proofs.lemmas.Result.{err_from_is_err_and}
 use Rattle.wcps_text.specs.declared.token.Symbol.TheVariants as signs
-use Rattle.wcps_text.specs.declared.tree.UnaryOp.TheVariants as unaries
+use Rattle.wcps_text.specs.declared.operator.UnaryOperator.TheVariants as unaries
+use Rattle.wcps_text.specs.declared.operator.BinaryOperator.TheVariants as binaries
 use Rattle.wcps_text.specs.Tree as tree
 use Rattle.wcps_text.specs.Tree.{Tree, view, view_interval}
 use Rattle.wcps_text.specs.Token.{toks}
@@ -62,8 +64,8 @@ bit-returns-in_err-place-clause-exact t c =
 pub bit-returns-clause-exact : goal.bit-returns-clause-exact
 unfolding bit
 bit-returns-clause-exact t c = record {
-  whole = tree.bit c.in_ok-value.ensures.exact.whole c.in_ok-place.ensures.exact.whole;
-  fit = c.in_ok-bit.ensures c.in_ok-value.ensures.exact.whole c.in_ok-place.ensures.exact.whole c.in_ok-value.ensures.exact.fit c.in_ok-place.ensures.exact.fit;
+  whole = tree.binary binaries.Bit c.in_ok-value.ensures.exact.whole c.in_ok-place.ensures.exact.whole;
+  fit = c.in_ok-whole.ensures c.in_ok-value.ensures.exact.whole c.in_ok-place.ensures.exact.whole c.in_ok-value.ensures.exact.fit c.in_ok-place.ensures.exact.fit;
   comes = rw c.in-Some.ensures.value (comes_then _ c.in_ok-value.ensures.exact.comes (rw c.in-Some-sign_at.ensures.value (comes_then _ c.in_ok-place.ensures.exact.comes (comes_now _))));
 }
 
@@ -450,7 +452,7 @@ level-loop-op-init t c =
 pub level-returns-in_err-right-clause-exact : goal.level-returns-in_err-right-clause-exact
 level-returns-in_err-right-clause-exact t c =
     let p = err_from_is_err_and c.from_residual-in_err-right.result c.from_residual-in_err-right.ensures.1 in
-    rw (p.1, p.2) (fails_then c.in_err-right.field-0.0 c.in_err-right.ensures.exact (λ none. c.loop-op.invariant.going.whole None (climb_next _ _ _ _ _ None None c.in-Some.ensures.value (subst (λ (k : ℕ). Comes (λ n m. level n (k - 1) (toks c.in-Some.after.now)) None) c.rank_of.ensures.value none) (comes_now _))))
+    rw (p.1, p.2) (fails_then c.in_err-right.field-0.0 c.in_err-right.ensures.exact (λ none. c.loop-op.invariant.going.whole None (climb_next _ _ _ _ _ None None c.in-Some.ensures.value (subst (λ (k : ℕ). Comes (λ n m. level n (k - 1) (toks c.in-Some.after.now)) None) c.rank_of.ensures none) (comes_now _))))
 
 pub level-loop-op-preserved : goal.level-loop-op-preserved
 level-loop-op-preserved t c =
@@ -460,7 +462,7 @@ level-loop-op-preserved t c =
       going = record {
         tree = tree.binary c.in-Some.op going.tree right.whole;
         fit = c.in_ok-left-2.ensures going.tree right.whole going.fit right.fit;
-        whole = λ o h. going.whole o (climb_next _ _ _ _ _ _ o c.in-Some.ensures.value (subst (λ (k : ℕ). Comes (λ n m. level n (k - 1) (toks c.in-Some.after.now)) (Some (right.whole, toks c.in_ok-right.after.now))) c.rank_of.ensures.value right.comes) h);
+        whole = λ o h. going.whole o (climb_next _ _ _ _ _ _ o c.in-Some.ensures.value (subst (λ (k : ℕ). Comes (λ n m. level n (k - 1) (toks c.in-Some.after.now)) (Some (right.whole, toks c.in_ok-right.after.now))) c.rank_of.ensures right.comes) h);
       };
       shorter = search rules;
     }
@@ -571,7 +573,7 @@ pub prim-returns-in_ok-unary-in-Abs-clause-exact : goal.prim-returns-in_ok-unary
 unfolding begun
 prim-returns-in_ok-unary-in-Abs-clause-exact t c =
     let value = c.in_ok-value-in-Abs.ensures.exact in
-    record { whole = tree.unary unaries.Abs value.whole; fit = c.in_ok-unary-in-Abs.ensures value.whole value.fit; comes = prim_by _ _ _ with_abs _ c.in-Some.ensures.value (ap begin_of c.in-Abs.is) (comes_then _ value.comes (comes_now _)) }
+    record { whole = tree.unary unaries.Absolute value.whole; fit = c.in_ok-unary-in-Abs.ensures value.whole value.fit; comes = prim_by _ _ _ with_abs _ c.in-Some.ensures.value (ap begin_of c.in-Abs.is) (comes_then _ value.comes (comes_now _)) }
 
 pub prim-returns-in_err-value-in-Reduce-clause-exact : goal.prim-returns-in_err-value-in-Reduce-clause-exact
 unfolding begun

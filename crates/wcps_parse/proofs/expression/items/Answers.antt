@@ -1,3 +1,4 @@
+-- The values read so far, and those behind the semicolons, are what the list comes to.
 use Rattle.std.proofs.Common.{◌≡◌, [], ◌∷◌, ◌++◌, List, Some, None, refl, rules, subst}
 use Rattle.wcps_text.specs.declared.token.Symbol.TheVariants as signs
 use Rattle.wcps_text.specs.declared.tree.ListItem.{ListItem}

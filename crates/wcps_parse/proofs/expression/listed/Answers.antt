@@ -1,3 +1,4 @@
+-- Listed values stand between `value list <` and `>`, and tokens of any other form come to nothing.
 use Rattle.std.proofs.lemmas.Result.{err_from_is_err_and}
 use Rattle.wcps_parse.specs.Reading.{listed}
 use Rattle.wcps_parse.proofs.Coming.{comes_now, comes_then, fails_then}

@@ -1,3 +1,4 @@
+-- The operators that are taken are all that stand before the operand.
 use Rattle.std.proofs.Common.{◌≡◌, ◌+◌, rules, arith, vec_len}
 use Rattle.std.proofs.lemmas.Grind.{common_steps}
 use Rattle.wcps_parse.proofs.Prefixing.{prefixed_more, prefixed_all}

@@ -1,3 +1,4 @@
+-- A condenser that fits is one higher than the highest of its iterators, its condition and its body.
 use Rattle.std.proofs.Common.{arith}
 use Rattle.wcps_parse.proofs.Trees.{condense_fits}
 use Rattle.wcps_parse.proofs.grown.condense.Goals as goal

@@ -1,3 +1,4 @@
+-- A coverage of listed values that fits is one higher than the highest of its iterators.
 use Rattle.std.proofs.Common.{arith}
 use Rattle.wcps_parse.proofs.Trees.{value_list_fits}
 use Rattle.wcps_parse.proofs.grown.value_list.Goals as goal

@@ -1,3 +1,4 @@
+-- One more bracket opened where as many are open as may be makes the tokens too deep.
 use Rattle.std.proofs.Common.{refl}
 use Rattle.wcps_parse.proofs.Scanning.{overflows}
 use Rattle.wcps_parse.proofs.limits.has_deep_brackets.Goals as goal

@@ -1,3 +1,4 @@
+-- A binding is a variable, `in` and names in parentheses, and tokens of any other form come to nothing.
 use Rattle.std.proofs.lemmas.Result.{err_from_is_err_and}
 use Rattle.wcps_parse.specs.Reading.{binding_at}
 use Rattle.wcps_parse.proofs.Coming.{comes_now, comes_then, fails_then}

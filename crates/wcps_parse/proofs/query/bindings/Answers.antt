@@ -1,3 +1,4 @@
+-- The bindings read so far, and those behind the commas, are what the list comes to.
 use Rattle.std.proofs.Common.{◌≡◌, [], ◌∷◌, ◌++◌, List, None, refl, rules, subst}
 use Rattle.std.proofs.lemmas.Result.{err_from_is_err_and}
 use Rattle.wcps_text.specs.declared.token.Symbol.TheVariants as signs

@@ -1,3 +1,4 @@
+-- What is encoded is an expression, with its format in parentheses at the end of the tokens, and else it is refused.
 use Rattle.std.proofs.Common.{◌≡◌, ◌<◌, length, arith}
 use Rattle.std.proofs.lemmas.Result.{err_from_is_err_and}
 use Rattle.wcps_text.specs.Tree as tree

@@ -1,3 +1,4 @@
+-- What a query returns is an encoded or a plain expression, and no token may stand behind it.
 use Rattle.std.proofs.Common.{◌≡◌, ◌<◌, length, arith}
 use Rattle.std.proofs.lemmas.Result.{err_from_is_err_and}
 use Rattle.wcps_text.specs.Tree as tree

@@ -1,3 +1,4 @@
+-- The names read so far, and those behind the commas, are what the list comes to.
 use Rattle.std.proofs.Common.{◌≡◌, ℕ, [], ◌∷◌, ◌++◌, List, Some, None, refl, rules, subst}
 use Rattle.wcps_text.specs.declared.token.Symbol.TheVariants as signs
 use Rattle.wcps_text.specs.Token.{toks}

@@ -1,3 +1,4 @@
+-- No tokens spell two queries.
 use Rattle.wcps_parse.proofs.Queries.{one_spelled}
 use Rattle.wcps_parse.proofs.query.one_query.Goals as goal
 

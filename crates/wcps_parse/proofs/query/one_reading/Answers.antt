@@ -1,3 +1,4 @@
+-- A text has at most one list of tokens and at most one first refusal, and never both.
 use Rattle.wcps_parse.proofs.Texts.{lexed-once, refused-once, not-both}
 use Rattle.wcps_parse.proofs.query.one_reading.Goals as goal
 

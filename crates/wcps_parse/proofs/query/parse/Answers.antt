@@ -1,3 +1,4 @@
+-- A query that is read is the only one spelled, bad syntax means that none is, and one too high is too deep.
 use Rattle.std.proofs.lemmas.Result.{err_from_is_err_and}
 use Rattle.wcps_parse.proofs.Outcomes.{fits_spelled, fits_only, high_deep, bad_none}
 use Rattle.wcps_parse.proofs.query.parse.Goals as goal

@@ -1,3 +1,4 @@
+-- A query is its bindings, its condition and what it returns, in turn, and tokens of any other form come to nothing.
 use Rattle.std.proofs.lemmas.Result.{err_from_is_err_and}
 use Rattle.wcps_text.specs.Tree.{bindings_of}
 use Rattle.wcps_parse.specs.Reading.{query}

@@ -1,3 +1,4 @@
+-- An expression of each form, and each list in it, adds just its own tokens to the text.
 use Rattle.std.proofs.Common.{◌∙◌, rules, arith, w64, SFits}
 use Rattle.std.proofs.lemmas.Grind.{common_steps}
 use Rattle.std.proofs.lemmas.Int.{to_z-of_z}
@@ -27,11 +28,11 @@ put_expr-returns-in-Record t c = last_puts c.put_record.result _ _ _ _ _ c.put_r
 pub put_expr-returns-in-ValueList : goal.put_expr-returns-in-ValueList
 put_expr-returns-in-ValueList t c = last_puts c.put_value_list.result _ _ _ _ _ c.put_value_list.ensures (λ rest. same_text _ (value_list_of c.args.expr.now _ _ c.in-ValueList.iterators c.in-ValueList.items c.in-ValueList.is c.deref-in-ValueList.ensures.value c.deref-in-ValueList-2.ensures.value rest))
 
-pub put_expr-returns-in_ok-put_binary-in-Binary : goal.put_expr-returns-in_ok-put_binary-in-Binary
-put_expr-returns-in_ok-put_binary-in-Binary t c = last_puts c.put_grouped-in-Binary.result _ _ _ _ _ c.put_grouped-in-Binary.ensures (λ rest. c.in_ok-put_binary-in-Binary.ensures _ ∙ (c.in_ok-put_grouped-in-Binary.ensures _ ∙ (same_text _ (binary_of c.args.expr.now _ _ c.in-Binary.op c.in-Binary.left c.in-Binary.right c.in-Binary.is c.deref-in-Binary.ensures c.deref-in-Binary-2.ensures rest))))
+pub put_expr-returns-then-eq : goal.put_expr-returns-then-eq
+put_expr-returns-then-eq t c = last_puts c.put_symbol-then-eq-2.result _ _ _ _ _ c.put_symbol-then-eq-2.ensures (λ rest. c.in_ok-put_expr-in-Binary-2.ensures _ ∙ (c.in_ok-put_symbol-in-Binary-2.ensures _ ∙ (c.in_ok-put_expr-in-Binary.ensures _ ∙ (c.in_ok-put_symbol-in-Binary.ensures _ ∙ (c.in_ok-put_word-in-Binary.ensures _ ∙ (same_text _ (bit_of c.args.expr.now _ _ c.in-Binary.op c.in-Binary.left c.in-Binary.right c.in-Binary.is c.deref-then-eq.ensures c.deref-then-eq-2.ensures c.if-eq.ensures rest)))))))
 
-pub put_expr-returns-in_ok-put_expr-in-Bit-2 : goal.put_expr-returns-in_ok-put_expr-in-Bit-2
-put_expr-returns-in_ok-put_expr-in-Bit-2 t c = last_puts c.put_symbol-in-Bit-2.result _ _ _ _ _ c.put_symbol-in-Bit-2.ensures (λ rest. c.in_ok-put_expr-in-Bit-2.ensures _ ∙ (c.in_ok-put_symbol-in-Bit-2.ensures _ ∙ (c.in_ok-put_expr-in-Bit.ensures _ ∙ (c.in_ok-put_symbol-in-Bit.ensures _ ∙ (c.in_ok-put_word-in-Bit.ensures _ ∙ (same_text _ (bit_of c.args.expr.now _ _ c.in-Bit.value c.in-Bit.place c.in-Bit.is c.deref-in-Bit.ensures c.deref-in-Bit-2.ensures rest)))))))
+pub put_expr-returns-in_ok-put_binary-in-Binary : goal.put_expr-returns-in_ok-put_binary-in-Binary
+put_expr-returns-in_ok-put_binary-in-Binary t c = last_puts c.put_grouped-in-Binary.result _ _ _ _ _ c.put_grouped-in-Binary.ensures (λ rest. c.in_ok-put_binary-in-Binary.ensures _ ∙ (c.in_ok-put_grouped-in-Binary.ensures _ ∙ (same_text _ (binary_of c.args.expr.now _ _ c.in-Binary.op c.in-Binary.left c.in-Binary.right c.in-Binary.is c.deref-in-Binary.ensures c.deref-in-Binary-2.ensures c.if-eq.ensures rest))))
 
 pub put_expr-returns-in_ok-put_grouped-in-Brackets : goal.put_expr-returns-in_ok-put_grouped-in-Brackets
 put_expr-returns-in_ok-put_grouped-in-Brackets t c = last_puts c.put_subs.result _ _ _ _ _ c.put_subs.ensures (λ rest. c.in_ok-put_grouped-in-Brackets.ensures _ ∙ (same_text _ (brackets_of c.args.expr.now _ c.in-Brackets.value _ c.in-Brackets.subs c.in-Brackets.is c.deref-in-Brackets.ensures c.deref-in-Brackets-2.ensures.value rest)))

@@ -1,3 +1,4 @@
+-- A listed value adds its tokens to the text, a number with its sign where it is negative.
 use Rattle.std.proofs.Common.{rules, arith, w64, SFits}
 use Rattle.std.proofs.lemmas.Grind.{common_steps}
 use Rattle.std.proofs.lemmas.Int.{to_z-of_z}

@@ -1,3 +1,4 @@
+-- The listed values stand in order, with a semicolon before each but the first.
 use Rattle.std.proofs.Common.{◌∙◌}
 use Rattle.wcps_print.proofs.Puts.{same_text}
 use Rattle.wcps_print.proofs.Views.{items_end, items_step}

@@ -1,3 +1,4 @@
+-- The printed text spells the query that some text spells, and is within the limits where one such text is.
 use Rattle.wcps_text.specs.Tree.{query_view}
 use Rattle.wcps_print.proofs.Whole.{printed, printed_within}
 use Rattle.wcps_print.proofs.query.print.Goals as goal

@@ -1,3 +1,4 @@
+-- The bindings stand in order, with a comma before each but the first.
 use Rattle.std.proofs.Common.{◌∙◌, ◌∷◌, true, false, ap, drop, ◌+◌}
 use Rattle.wcps_text.specs.declared.token.Symbol.TheVariants as signs
 use Rattle.wcps_text.specs.Token.{sign}

@@ -1,3 +1,4 @@
+-- The word `encode` is followed, in parentheses, by the expression, a comma and the word `csv`.
 use Rattle.std.proofs.Common.{◌∙◌}
 use Rattle.wcps_print.proofs.Puts.{last_puts}
 use Rattle.wcps_print.proofs.query.put_encoded.Goals as goal

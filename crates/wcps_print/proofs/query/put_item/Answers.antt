@@ -1,3 +1,4 @@
+-- What a query returns stands as its expression, alone where it is plain and else in `encode`.
 use Rattle.wcps_print.proofs.Puts.{last_puts, same_text}
 use Rattle.wcps_print.proofs.Views.{plain_of, encode_of}
 use Rattle.wcps_print.proofs.query.put_item.Goals as goal

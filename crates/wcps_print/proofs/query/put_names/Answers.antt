@@ -1,3 +1,4 @@
+-- The names stand in order, with a comma before each but the first.
 use Rattle.std.proofs.Common.{◌∙◌}
 use Rattle.wcps_print.proofs.Puts.{same_text}
 use Rattle.wcps_print.proofs.Views.{names_end, names_step}

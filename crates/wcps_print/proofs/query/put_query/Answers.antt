@@ -1,3 +1,4 @@
+-- A query stands as its bindings, its condition and what it returns, each with the word before it.
 use Rattle.std.proofs.Common.{◌∙◌, []}
 use Rattle.std.specs.String.{string_bytes}
 use Rattle.wcps_text.specs.Tree.{item_view}

@@ -1,3 +1,4 @@
+-- The name that serves for any is one token, `c`.
 use Rattle.std.proofs.Common.{refl, codes}
 use Rattle.wcps_text.specs.Token as tokens
 use Rattle.wcps_print.proofs.Puts.{put_token, on_ok}

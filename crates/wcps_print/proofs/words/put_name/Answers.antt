@@ -1,3 +1,4 @@
+-- A name is one token, with its `$` where it has one.
 use Rattle.std.proofs.Common.{◌∙◌}
 use Rattle.wcps_print.proofs.Puts.{put_token, on_ok, bytes_of_name}
 use Rattle.wcps_print.specs.Printing.{name_token}

@@ -1,3 +1,4 @@
+-- A word of the language is one token.
 use Rattle.wcps_text.specs.Token as tokens
 use Rattle.wcps_print.proofs.Puts.{put_token, on_ok}
 use Rattle.wcps_print.proofs.words.put_word.Goals as goal

@@ -1,3 +1,4 @@
+-- No word of the language that was tried is the name in any case of its letters.
 use Rattle.std.proofs.Common.{◌≡◌, true, false, ⊎_elim}
 use Rattle.wcps_text.specs.declared.token.Keyword.{Keyword}
 use Rattle.wcps_text.specs.Lexing.{IsWritten}

@@ -1,3 +1,4 @@
+-- The tokens so far and those of the rest are the tokens of the text, and what refuses the rest refuses the text.
 use Rattle.std.proofs.Common.{ℕ, ◌+◌, ◌≤◌, List, ◌∷◌, length, take, drop, subst}
 use Rattle.wcps_text.specs.Lexing.{is_space, Every, piece, behind_token}
 use Rattle.wcps_text.specs.Runs.{Stops}

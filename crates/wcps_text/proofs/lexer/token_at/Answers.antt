@@ -1,3 +1,4 @@
+-- The text may be cut behind the token, since the last byte of a token is ASCII.
 use Rattle.std.proofs.Common.{ℕ, List, ◌-◌, ◌<◌, ◌≤◌, length, take, drop, get_or, arith, subst}
 use Rattle.std.proofs.lemmas.Grind.{common_steps}
 use Rattle.wcps_text.proofs.Bytes.{cut_behind}

@@ -1,3 +1,4 @@
+-- Digits that are given up write a number above 9223372036854775807, whatever digits are left.
 use Rattle.std.proofs.Common.{arith}
 use Rattle.wcps_text.proofs.Bytes.{too_large}
 use Rattle.wcps_text.proofs.number.decimal.Goals as goal

@@ -1,3 +1,4 @@
+-- A name or a word of the language is as long as it can be, and one of more than 64 bytes is refused.
 use Rattle.std.proofs.Common.{◌+◌, arith}
 use Rattle.wcps_text.specs.Lexing.{long_plain, reserved, plain, no_token}
 use Rattle.wcps_text.proofs.Fronts.{run_behind, name_front, last_of, letter_high}

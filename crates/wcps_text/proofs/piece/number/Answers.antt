@@ -1,3 +1,4 @@
+-- A number takes all the digits in front, and one that is too large is refused.
 use Rattle.std.proofs.Common.{◌+◌, arith}
 use Rattle.wcps_text.specs.Lexing.{large_numeral, no_token}
 use Rattle.wcps_text.proofs.Fronts.{run_behind, number_front, numeral_at}

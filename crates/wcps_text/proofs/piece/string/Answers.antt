@@ -1,3 +1,4 @@
+-- A string ends at the quote behind what it may hold, and where no quote stands there it is refused.
 use Rattle.std.proofs.Common.{◌≡◌, ◌≢◌, ℕ, suc, ◌+◌, get_or, arith, sym, ◌∙◌, subst}
 use Rattle.wcps_text.proofs.Fronts.{run_behind, text_front, text_refused}
 use Rattle.wcps_text.proofs.piece.string.Goals as goal

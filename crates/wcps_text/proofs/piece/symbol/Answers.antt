@@ -1,3 +1,4 @@
+-- A symbol of two bytes comes before one of a single byte, and bytes that begin neither are refused.
 use Rattle.std.proofs.Common.{get_or, sym, ◌∙◌}
 use Rattle.wcps_text.proofs.Fronts.{IsOther, wide_front, narrow_front, other_refused}
 use Rattle.wcps_text.proofs.piece.symbol.Goals as goal

@@ -1,3 +1,4 @@
+-- A variable is `$` and the longest name behind it, and without a name or above 64 bytes it is refused.
 use Rattle.std.proofs.Common.{◌≡◌, ℕ, ◌+◌, ◌-◌, get_or, arith, sym, ap, ◌∙◌, true, false, subst, List, ◌∷◌, Ok, drop}
 use Rattle.wcps_text.specs.Token.{dollar}
 use Rattle.wcps_text.specs.Lexing.{begins_name, long_marked, marked, no_token, Reads}

@@ -1,3 +1,4 @@
+-- All bytes that were counted are of the class, and the last of them is ASCII.
 use Rattle.std.proofs.Common.{◌≡◌, ◌+◌, ◌-◌, arith, refl}
 use Rattle.wcps_text.proofs.Bytes.{every_more}
 use Rattle.wcps_text.proofs.runs.run.Goals as goal

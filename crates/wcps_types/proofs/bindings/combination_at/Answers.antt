@@ -1,3 +1,4 @@
+-- Each variable stands for the one of its coverages that the number of the combination chooses.
 use Rattle.std.proofs.Common.{◌≡◌, ◌+◌, ◌/◌, ◌%◌, ◌∷◌, ◌++◌, length, drop, map, [], arith, ap, sym, ◌∙◌, append_assoc, rules}
 use Rattle.std.specs.Prelude.{slice_index}
 use Rattle.std.proofs.lemmas.List.{get_or_read}

@@ -1,3 +1,4 @@
+-- A name is bound just where it is the variable of a choice.
 use Rattle.std.proofs.Common.{◌∙◌, sym}
 use Rattle.std.specs.Str.{bytes_eq}
 use Rattle.wcps_types.specs.Bindings.{ChoiceTree, choice_view}

@@ -1,3 +1,4 @@
+-- Axes that make a domain give it, and others are refused.
 use Rattle.std.proofs.Common.{◌≡◌, false, true}
 use Rattle.wcps_types.specs.Boxes.{is_domain}
 use Rattle.wcps_types.proofs.Domains.{Decides-domain}

@@ -1,3 +1,4 @@
+-- To take out the last axis and then those before it is to take out all of them.
 use Rattle.std.proofs.Common.{[], ◌∷◌, map, ap, sym, ◌∙◌}
 use Rattle.std.proofs.lemmas.List.{map-append}
 use Rattle.wcps_types.specs.Shapes.{shape_view}

@@ -1,10 +1,10 @@
 use Rattle.std.proofs.Common.{◌≡◌, ◌+◌, ◌≤◌, map, drop}
-use Rattle.wcps_types.specs.Typed.{combination_view}
-use Rattle.wcps_types.specs.Cells.{result_cells, capped_cells}
+use Rattle.wcps_types.specs.Renamed.{combination_view}
+use Rattle.wcps_types.specs.Cells.{result_cells, max_cells, capped_cells}
 use Rattle.wcps_types.proofs.cells.combinations_cells.Given as goal
 
 abbrev pub invariant-loop-combination : goal.invariant-loop-combination
 invariant-loop-combination l = record {
-  few : l.total ≤ 1048577;
-  counted : capped_cells (l.total + result_cells (map combination_view (drop l.combination-index l.combinations))) ≡ capped_cells (result_cells (map combination_view l.combinations));
+  few : l.total ≤ max_cells + 1;
+  counted : capped_cells (l.total + result_cells (map (combination_view l.trees) (drop l.combination-index l.combinations))) ≡ capped_cells (result_cells (map (combination_view l.trees) l.combinations));
 }

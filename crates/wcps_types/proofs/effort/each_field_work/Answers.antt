@@ -1,3 +1,4 @@
+-- The work of the fields so far and of those still to come is the work of all, or one more than the most.
 use Rattle.std.proofs.Common.{◌≡◌, ◌<◌, ◌+◌, suc, length, drop, arith, ap, ◌∙◌}
 use Rattle.wcps_types.specs.Typed.{fields_view}
 use Rattle.wcps_types.specs.Work.{fields_work, capped}

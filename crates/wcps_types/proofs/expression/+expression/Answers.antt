@@ -1,3 +1,4 @@
+-- Forms with lists have the shape or the first refusal of what their parts are seen as; a bracket's axes are told one at a time.
 use Rattle.std.proofs.Common.{◌≡◌, ◌+◌, ◌++◌, drop, ap, ◌∙◌, sym, rules}
 use Rattle.std.specs.Prelude.{Ok}
 use Rattle.std.specs.Option.{option_map}
@@ -13,63 +14,43 @@ use Rattle.wcps_types.specs.Typing.{typ, typ_subs, typ_iters, typ_condition}
 use Rattle.wcps_types.proofs.Parts.{drop_sub}
 use Rattle.wcps_types.proofs.expression.+expression.Goals as goal
 
-pub expression-returns-in_err-over-in-ValueList : goal.expression-returns-in_err-over-in-ValueList
-expression-returns-in_err-over-in-ValueList t c =
+pub expression-returns-in-Record : goal.expression-returns-in-Record
+expression-returns-in-Record t c =
+    let shown : view c.args.e.now ≡ tree.parts (parts_of c.in-Record.parts.items) = ap (λ (x : Expr). view x) c.in-Record.is ∙ view-Record c.in-Record.parts in
+    rw shown (search rules)
+
+pub expression-returns-in-ValueList : goal.expression-returns-in-ValueList
+expression-returns-in-ValueList t c =
     let shown : view c.args.e.now ≡ tree.value_list (iters_of c.in-ValueList.iterators.items) c.in-ValueList.items.items = ap (λ (x : Expr). view x) c.in-ValueList.is ∙ view-ValueList c.in-ValueList.iterators c.in-ValueList.items in
     rw shown (search rules)
 
-pub expression-returns-in_err-domain-in-ValueList : goal.expression-returns-in_err-domain-in-ValueList
-expression-returns-in_err-domain-in-ValueList t c =
-    let shown : view c.args.e.now ≡ tree.value_list (iters_of c.in-ValueList.iterators.items) c.in-ValueList.items.items = ap (λ (x : Expr). view x) c.in-ValueList.is ∙ view-ValueList c.in-ValueList.iterators c.in-ValueList.items in
-    rw shown (search rules)
-
-pub expression-returns-in_ok-domain-in-ValueList : goal.expression-returns-in_ok-domain-in-ValueList
-expression-returns-in_ok-domain-in-ValueList t c =
-    let shown : view c.args.e.now ≡ tree.value_list (iters_of c.in-ValueList.iterators.items) c.in-ValueList.items.items = ap (λ (x : Expr). view x) c.in-ValueList.is ∙ view-ValueList c.in-ValueList.iterators c.in-ValueList.items in
-    rw shown (search rules)
-
-pub expression-returns-in_err-bracket-in-Brackets : goal.expression-returns-in_err-bracket-in-Brackets
-expression-returns-in_err-bracket-in-Brackets t c =
+pub expression-returns-in_ok-a-in-Brackets : goal.expression-returns-in_ok-a-in-Brackets
+expression-returns-in_ok-a-in-Brackets t c =
     let shown : view c.args.e.now ≡ tree.brackets (view c.in-Brackets.a.value) (subs_of c.in-Brackets.subs.items) = ap (λ (x : Expr). view x) c.in-Brackets.is ∙ view-Brackets c.in-Brackets.a c.in-Brackets.subs in
     rw shown (search rules)
 
-pub expression-returns-in_ok-closed_bracket-in-Brackets : goal.expression-returns-in_ok-closed_bracket-in-Brackets
-expression-returns-in_ok-closed_bracket-in-Brackets t c =
-    let shown : view c.args.e.now ≡ tree.brackets (view c.in-Brackets.a.value) (subs_of c.in-Brackets.subs.items) = ap (λ (x : Expr). view x) c.in-Brackets.is ∙ view-Brackets c.in-Brackets.a c.in-Brackets.subs in
-    rw shown (search rules)
-
-pub expression-returns-in_err-variables-in-Coverage : goal.expression-returns-in_err-variables-in-Coverage
-expression-returns-in_err-variables-in-Coverage t c =
+pub expression-returns-in_err-over-in-Coverage : goal.expression-returns-in_err-over-in-Coverage
+expression-returns-in_err-over-in-Coverage t c =
     let shown : view c.args.e.now ≡ tree.coverage (iters_of c.in-Coverage.iterators.items) (view c.in-Coverage.body.value) = ap (λ (x : Expr). view x) c.in-Coverage.is ∙ view-Coverage c.in-Coverage.iterators c.in-Coverage.body in
     rw shown (search rules)
 
-pub expression-returns-in_err-domain-in-Coverage : goal.expression-returns-in_err-domain-in-Coverage
-expression-returns-in_err-domain-in-Coverage t c =
+pub expression-returns-in_err-over-in-Coverage-2 : goal.expression-returns-in_err-over-in-Coverage-2
+expression-returns-in_err-over-in-Coverage-2 t c =
     let shown : view c.args.e.now ≡ tree.coverage (iters_of c.in-Coverage.iterators.items) (view c.in-Coverage.body.value) = ap (λ (x : Expr). view x) c.in-Coverage.is ∙ view-Coverage c.in-Coverage.iterators c.in-Coverage.body in
     rw shown (search rules)
 
-pub expression-returns-in_err-body-in-Coverage : goal.expression-returns-in_err-body-in-Coverage
-expression-returns-in_err-body-in-Coverage t c =
+pub expression-returns-in_ok-over-in-Coverage-2 : goal.expression-returns-in_ok-over-in-Coverage-2
+expression-returns-in_ok-over-in-Coverage-2 t c =
     let shown : view c.args.e.now ≡ tree.coverage (iters_of c.in-Coverage.iterators.items) (view c.in-Coverage.body.value) = ap (λ (x : Expr). view x) c.in-Coverage.is ∙ view-Coverage c.in-Coverage.iterators c.in-Coverage.body in
     rw shown (search rules)
 
-pub expression-returns-in_err-only_scalar-in-Coverage : goal.expression-returns-in_err-only_scalar-in-Coverage
-expression-returns-in_err-only_scalar-in-Coverage t c =
-    let shown : view c.args.e.now ≡ tree.coverage (iters_of c.in-Coverage.iterators.items) (view c.in-Coverage.body.value) = ap (λ (x : Expr). view x) c.in-Coverage.is ∙ view-Coverage c.in-Coverage.iterators c.in-Coverage.body in
-    rw shown (search rules)
-
-pub expression-returns-in_ok-only_scalar-in-Coverage : goal.expression-returns-in_ok-only_scalar-in-Coverage
-expression-returns-in_ok-only_scalar-in-Coverage t c =
-    let shown : view c.args.e.now ≡ tree.coverage (iters_of c.in-Coverage.iterators.items) (view c.in-Coverage.body.value) = ap (λ (x : Expr). view x) c.in-Coverage.is ∙ view-Coverage c.in-Coverage.iterators c.in-Coverage.body in
-    rw shown (search rules)
-
-pub expression-returns-in_err-variables-in-Condense : goal.expression-returns-in_err-variables-in-Condense
-expression-returns-in_err-variables-in-Condense t c =
+pub expression-returns-in_err-over-in-Condense : goal.expression-returns-in_err-over-in-Condense
+expression-returns-in_err-over-in-Condense t c =
     let shown : view c.args.e.now ≡ tree.condense c.in-Condense.op (iters_of c.in-Condense.iterators.items) (condition_of c.in-Condense.condition) (view c.in-Condense.body.value) = ap (λ (x : Expr). view x) c.in-Condense.is ∙ view-Condense c.in-Condense.op c.in-Condense.iterators c.in-Condense.condition c.in-Condense.body in
     rw shown (search rules)
 
-pub expression-returns-in_err-domain-in-Condense : goal.expression-returns-in_err-domain-in-Condense
-expression-returns-in_err-domain-in-Condense t c =
+pub expression-returns-in_err-over-in-Condense-2 : goal.expression-returns-in_err-over-in-Condense-2
+expression-returns-in_err-over-in-Condense-2 t c =
     let shown : view c.args.e.now ≡ tree.condense c.in-Condense.op (iters_of c.in-Condense.iterators.items) (condition_of c.in-Condense.condition) (view c.in-Condense.body.value) = ap (λ (x : Expr). view x) c.in-Condense.is ∙ view-Condense c.in-Condense.op c.in-Condense.iterators c.in-Condense.condition c.in-Condense.body in
     rw shown (search rules)
 
@@ -78,34 +59,9 @@ expression-returns-in_err-condition-in-Condense t c =
     let shown : view c.args.e.now ≡ tree.condense c.in-Condense.op (iters_of c.in-Condense.iterators.items) (condition_of c.in-Condense.condition) (view c.in-Condense.body.value) = ap (λ (x : Expr). view x) c.in-Condense.is ∙ view-Condense c.in-Condense.op c.in-Condense.iterators c.in-Condense.condition c.in-Condense.body in
     rw shown (search rules)
 
-pub expression-returns-in_err-body-in-Condense : goal.expression-returns-in_err-body-in-Condense
-expression-returns-in_err-body-in-Condense t c =
+pub expression-returns-in_ok-condition-in-Condense : goal.expression-returns-in_ok-condition-in-Condense
+expression-returns-in_ok-condition-in-Condense t c =
     let shown : view c.args.e.now ≡ tree.condense c.in-Condense.op (iters_of c.in-Condense.iterators.items) (condition_of c.in-Condense.condition) (view c.in-Condense.body.value) = ap (λ (x : Expr). view x) c.in-Condense.is ∙ view-Condense c.in-Condense.op c.in-Condense.iterators c.in-Condense.condition c.in-Condense.body in
-    rw shown (search rules)
-
-pub expression-returns-in_err-only_scalar-in-Condense : goal.expression-returns-in_err-only_scalar-in-Condense
-expression-returns-in_err-only_scalar-in-Condense t c =
-    let shown : view c.args.e.now ≡ tree.condense c.in-Condense.op (iters_of c.in-Condense.iterators.items) (condition_of c.in-Condense.condition) (view c.in-Condense.body.value) = ap (λ (x : Expr). view x) c.in-Condense.is ∙ view-Condense c.in-Condense.op c.in-Condense.iterators c.in-Condense.condition c.in-Condense.body in
-    rw shown (search rules)
-
-pub expression-returns-in_ok-only_scalar-in-Condense : goal.expression-returns-in_ok-only_scalar-in-Condense
-expression-returns-in_ok-only_scalar-in-Condense t c =
-    let shown : view c.args.e.now ≡ tree.condense c.in-Condense.op (iters_of c.in-Condense.iterators.items) (condition_of c.in-Condense.condition) (view c.in-Condense.body.value) = ap (λ (x : Expr). view x) c.in-Condense.is ∙ view-Condense c.in-Condense.op c.in-Condense.iterators c.in-Condense.condition c.in-Condense.body in
-    let cs = c.args.coverages.now in
-    let bound = c.args.bound.now in
-    let scope = c.args.scope.now in
-    let names = c.in_ok-variables-in-Condense.variables.items in
-    let axes = c.in_ok-variables-in-Condense.axes.items in
-    let list : typ_iters cs bound scope no_iterators (iters_of c.in-Condense.iterators.items) ≡ Ok (record { variables = names; axes = axes }) = search rules in
-    let box : box_of axes ≡ Ok c.in_ok-domain-in-Condense.domain = search rules in
-    let where_tree : typ_condition cs bound (scope ++ names) (condition_of c.in-Condense.condition) ≡ Ok (option_map only_tree c.in_ok-condition-in-Condense.condition) = search rules in
-    let body : typ cs bound (scope ++ names) (view c.in-Condense.body.value) ≡ Ok (shape_view c.in_ok-body-in-Condense.body) = search rules in
-    let one : only_scalar (shape_view c.in_ok-body-in-Condense.body) ≡ Ok (scalar_of_view c.in_ok-only_scalar-in-Condense.field-0) = search rules in
-    rw (shown, list, box, where_tree, body, one) (search rules)
-
-pub expression-returns-in-Record : goal.expression-returns-in-Record
-expression-returns-in-Record t c =
-    let shown : view c.args.e.now ≡ tree.parts (parts_of c.in-Record.parts.items) = ap (λ (x : Expr). view x) c.in-Record.is ∙ view-Record c.in-Record.parts in
     rw shown (search rules)
 
 pub subscripts-returns-in_err-bracket : goal.subscripts-returns-in_err-bracket

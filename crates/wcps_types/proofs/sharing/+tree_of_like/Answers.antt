@@ -1,3 +1,4 @@
+-- The tree of a maker with like coverages is there, and is what the query comes to over those of the combination.
 use Rattle.std.proofs.Common.{rules}
 use Rattle.wcps_types.specs.Sharing.{Alike, coverages_in}
 use Rattle.wcps_types.proofs.LikeTrees.{made_over, made_inside, made-first, made-rest}

@@ -1,3 +1,4 @@
+-- The signatures so far, and those of the coverages still to come, are the signatures of the combination.
 use Rattle.std.proofs.Common.{◌≡◌, ◌+◌, ◌++◌, [], drop, ap, ◌∙◌, rules}
 use Rattle.std.specs.Prelude.{slice_get}
 use Rattle.wcps_types.specs.Sharing.{with_signature, signatures_at, coverages_in}

@@ -1,13 +1,13 @@
+-- The signature of the coverage at the place comes last, and where no coverage is there nothing comes.
 use Rattle.std.proofs.Common.{rules, ◌≡◌, ◌++◌, ◌∷◌, [], ap, sym, ◌∙◌, append-nil}
 use Rattle.std.specs.Prelude.{slice_get, Some, None}
-use Rattle.std.proofs.lemmas.Option.{slice_get_read}
+use Rattle.std.proofs.lemmas.Option.{slice_get_read, slice_get_past}
 use Rattle.wcps_types.specs.Sharing.{with_signature}
-use Rattle.wcps_types.proofs.LikeTrees.{none-past}
 use Rattle.wcps_types.proofs.sharing.with_signature.Goals as goal
 
 pub returns-in-None : goal.returns-in-None
 returns-in-None c =
-    let none : slice_get c.args.coverages.now c.args.place ≡ None = search (rules, none-past) in
+    let none : slice_get c.args.coverages.now c.args.place ≡ None = search (rules, slice_get_past) in
     rw none (sym (append-nil c.args.signatures.items))
 
 pub returns-in_ok-push-in-Some : goal.returns-in_ok-push-in-Some

@@ -1,19 +1,16 @@
-use Rattle.std.proofs.Common.{ap, arith, length}
-use Rattle.block_file.specs.View.{BlockFileView}
-use Rattle.block_file.proofs.Marks.{takes_same, used_le, all_used}
+use Rattle.std.proofs.Common.{arith}
+use Rattle.std.proofs.lemmas.Result.{err_from_is_err_and}
 use Rattle.block_file.proofs.block_file.BlockFileBlocks.take.Goals as goal
 
-pub overflow_sub-self-inside : goal.overflow_sub-self-inside
-overflow_sub-self-inside g c = omega (arith, used_le c.self.inside.marks.items, c.self.invariant.counted, c.self.invariant.few)
+pub returns-in_err-taken-clause-room : goal.returns-in_err-taken-clause-room
+returns-in_err-taken-clause-room g c =
+    let p = err_from_is_err_and c.from_residual.result c.from_residual.ensures.1 in
+    rw (← c.self.view_is, p.1, p.2) (λ e. cc, λ lt. absurd (omega (arith, c.free.ensures.free)))
 
-pub overflow_sub-len : goal.overflow_sub-len
-overflow_sub-len g c = omega (arith, used_le c.self.inside.marks.items, c.self.invariant.counted, c.len.ensures)
+pub returns-in_err-reserve-clause-room : goal.returns-in_err-reserve-clause-room
+returns-in_err-reserve-clause-room g c =
+    let p = err_from_is_err_and c.from_residual-in_err-reserve.result c.from_residual-in_err-reserve.ensures.1 in
+    rw (← c.self.view_is, p.1, p.2) (λ e. cc, λ lt. absurd (omega (arith, c.free.ensures.free)))
 
-pub returns-clause-takes : goal.returns-clause-takes
-returns-clause-takes g c = rw (← c.self.view_is, ← c.in_ok-reserve.ensures.items) (takes_same _ _ _ _ c.make_list.ensures.uses c.take_all.ensures.takes)
-
-pub returns-clause-grows : goal.returns-clause-grows
-returns-clause-grows g c = λ more k inside.
-    let fits = ap length c.in_ok-reserve.ensures.items in
-    let old = ap (λ (v : BlockFileView). length v.marks) c.self.view_is in
-    all_used c.take_all.new.marks.items k (omega (arith, c.take_all.ensures.grows, c.make_list.ensures.len)) inside
+pub returns-clause-room : goal.returns-clause-room
+returns-clause-room g c = rw (← c.self.view_is) (λ e. cc, λ lt. absurd (omega (arith, c.free.ensures.free)))

@@ -1,19 +1,23 @@
-use Rattle.std.proofs.Common.{sym, arith}
-use Rattle.block_file.proofs.Places.{held_block, kept_blocks}
-use Rattle.block_file.proofs.Headers.{header_torn}
+use Rattle.std.proofs.Common.{sym, refl, arith}
+use Rattle.block_file.proofs.Markings.{is_used}
+use Rattle.block_file.proofs.Places.{held_block, kept_blocks, write_moves}
 use Rattle.block_file.proofs.block_file.BlockFileBlocks.write.Goals as goal
-
-pub returns-in_err-write_at-clause-others : goal.returns-in_err-write_at-clause-others
-returns-in_err-write_at-clause-others g c = rw (← c.self.view_is) (kept_blocks _ _ c.args.k _ (omega arith) c.in_err-write_at.ensures.torn)
 
 pub returns-clause-written : goal.returns-clause-written
 returns-clause-written g c = rw (← c.self.view_is) (λ honest. sym (held_block _ _ c.args.k (omega arith) (c.in_ok-write_at.ensures.written honest).holds))
 
+pub returns-in_err-write_at-clause-others : goal.returns-in_err-write_at-clause-others
+returns-in_err-write_at-clause-others g c = rw (← c.self.view_is) (kept_blocks _ _ c.args.k _ (omega arith) c.in_err-write_at.ensures.torn)
+
 pub returns-clause-others : goal.returns-clause-others
 returns-clause-others g c = rw (← c.self.view_is) (kept_blocks _ _ c.args.k _ (omega arith) c.in_ok-write_at.ensures.torn)
 
-pub returns-in_err-write_at-clause-header : goal.returns-in_err-write_at-clause-header
-returns-in_err-write_at-clause-header g c = rw (← c.self.view_is) (header_torn c.args.k _ _ _ c.in_err-write_at.ensures.torn)
+pub returns-in_err-write_at-clause-frame : goal.returns-in_err-write_at-clause-frame
+returns-in_err-write_at-clause-frame g c =
+    let once = rw (← c.self.view_is) at c.requires in
+    rw (← c.self.view_is) (write_moves _ _ c.args.k _ (omega arith) refl refl c.in_err-write_at.ensures.honest once (is_used c.self.inside.marks c.args.k (omega arith)).above_zero c.in_err-write_at.ensures.torn)
 
-pub returns-clause-header : goal.returns-clause-header
-returns-clause-header g c = rw (← c.self.view_is) (header_torn c.args.k _ _ _ c.in_ok-write_at.ensures.torn)
+pub returns-clause-frame : goal.returns-clause-frame
+returns-clause-frame g c =
+    let once = rw (← c.self.view_is) at c.requires in
+    rw (← c.self.view_is) (write_moves _ _ c.args.k _ (omega arith) refl refl c.in_ok-write_at.ensures.honest once (is_used c.self.inside.marks c.args.k (omega arith)).above_zero c.in_ok-write_at.ensures.torn)

@@ -1,11 +1,7 @@
-use Rattle.std.proofs.Common.{ap, ◌∙◌}
-use Rattle.std.specs.Map.{lookup}
-use Rattle.catalogue.specs.Signatures.{found}
-use Rattle.catalogue.proofs.Held.{lookup-found, has_name}
+-- What stands under a name is the signature with that name.
+use Rattle.std.proofs.Common.{◌∙◌}
+use Rattle.catalogue.proofs.Held.{look-up}
 use Rattle.catalogue.proofs.catalogue.Catalogue.describe.Goals as goal
 
 pub returns : goal.returns
-returns c =
-    let name = c.args.name.now in
-    let entries = c.self.inside.signatures.entries in
-    c.get.ensures.value ∙ ap (λ n. lookup (has_name n) entries) c.as_str.ensures.value ∙ lookup-found name entries c.self.inside.bytes c.self.invariant ∙ ap (found name) c.self.view_is
+returns c = c.get.ensures.value ∙ look-up c.self.invariant c.self.view_is c.as_str.ensures.value

@@ -1,45 +1,31 @@
-use Rattle.std.proofs.Common.{ap, sym, ◌∙◌, subst, arith, Contains}
-use Rattle.std.specs.Map.{lookup, remove_entry}
-use Rattle.catalogue.specs.Signatures.{names_of, without}
-use Rattle.catalogue.proofs.Held.{has_name, lookup-sound, held-removed, view-removed, length-removed, lookup-there, lookup-absent}
+-- The signature with the name is gone with its bytes, and the others keep their order.
+use Rattle.std.proofs.Common.{sym, ap, ◌∙◌, arith, is_some, true≢false}
+use Rattle.catalogue.proofs.Held.{holds, sound, view-removed, length-removed, held-removed}
 use Rattle.catalogue.proofs.catalogue.Catalogue.remove.Goals as goal
 
-pub signature_len-requires-clause-axes : goal.signature_len-requires-clause-axes
-signature_len-requires-clause-axes c =
-    let there = ap (λ n. lookup (has_name n) c.self.inside.signatures.entries) (sym c.as_str.ensures.value) ∙ sym c.in-Some.ensures.value in
-    (lookup-sound c.args.name.now c.self.inside.signatures.entries c.self.inside.bytes c.in-Some.signature c.self.invariant there).domain.some
-
-pub signature_len-requires-clause-fields : goal.signature_len-requires-clause-fields
-signature_len-requires-clause-fields c =
-    let there = ap (λ n. lookup (has_name n) c.self.inside.signatures.entries) (sym c.as_str.ensures.value) ∙ sym c.in-Some.ensures.value in
-    (lookup-sound c.args.name.now c.self.inside.signatures.entries c.self.inside.bytes c.in-Some.signature c.self.invariant there).fields.sound
+pub signature_len-requires : goal.signature_len-requires
+signature_len-requires c =
+    let s = sound c.self.invariant c.self.view_is c.as_str.ensures.value c.in-Some.ensures.value in
+    record { axes = s.domain.some; fields = s.fields.sound }
 
 pub overflow_sub-self : goal.overflow_sub-self
 overflow_sub-self c =
-    let there = ap (λ n. lookup (has_name n) c.self.inside.signatures.entries) (sym c.as_str.ensures.value) ∙ sym c.in-Some.ensures.value in
-    omega (arith, c.signature_len.ensures.value, length-removed c.args.name.now c.self.inside.signatures.entries c.self.inside.bytes c.in-Some.signature c.self.invariant there)
+    omega (arith, length-removed c.self.invariant c.self.view_is c.as_str.ensures.value c.in-Some.ensures.value)
 
 pub invariant_of-self : goal.invariant_of-self
 invariant_of-self c =
-    let entries = c.self.inside.signatures.entries in
-    let there = ap (λ n. lookup (has_name n) entries) (sym c.as_str.ensures.value) ∙ sym c.in-Some.ensures.value in
-    let left = c.in-Some.ensures.entries ∙ ap (λ n. remove_entry (has_name n) entries) c.as_str.ensures.value in
-    held-removed c.args.name.now entries c.shift_remove.new.self.entries c.self.inside.bytes c.signature_len.result c.in-Some.signature c.self.invariant there left c.signature_len.ensures.value
+    rw c.signature_len.ensures.value
+    (held-removed c.self.invariant c.self.view_is c.as_str.ensures.value c.in-Some.ensures.value c.in-Some.ensures.entries)
 
 pub returns-in-Some-clause-removed : goal.returns-in-Some-clause-removed
 returns-in-Some-clause-removed c =
-    let entries = c.self.inside.signatures.entries in
-    let left = c.in-Some.ensures.entries ∙ ap (λ n. remove_entry (has_name n) entries) c.as_str.ensures.value in
-    view-removed c.args.name.now entries c.shift_remove.new.self.entries c.self.inside.bytes c.self.invariant left ∙ ap (without c.args.name.now) c.self.view_is
+    view-removed c.self.invariant c.self.view_is c.as_str.ensures.value c.in-Some.ensures.value c.in-Some.ensures.entries
 
 pub returns-in-Some-clause-held : goal.returns-in-Some-clause-held
 returns-in-Some-clause-held c =
-    let entries = c.self.inside.signatures.entries in
-    let there = ap (λ n. lookup (has_name n) entries) (sym c.as_str.ensures.value) ∙ sym c.in-Some.ensures.value in
-    subst (λ ss. Contains (names_of ss) c.args.name.now) c.self.view_is (lookup-there c.args.name.now entries c.self.inside.bytes c.in-Some.signature c.self.invariant there)
+    (holds c.self.invariant c.self.view_is c.as_str.ensures.value).0 (ap is_some (sym c.in-Some.ensures.value))
 
 pub returns-in-None-clause-absent : goal.returns-in-None-clause-absent
-returns-in-None-clause-absent c =
-    let entries = c.self.inside.signatures.entries in
-    let none = ap (λ n. lookup (has_name n) entries) (sym c.as_str.ensures.value) ∙ sym c.in-None.ensures.value in
-    λ there. lookup-absent c.args.name.now entries c.self.inside.bytes c.self.invariant none (subst (λ ss. Contains (names_of ss) c.args.name.now) (sym c.self.view_is) there)
+returns-in-None-clause-absent c = λ there.
+    true≢false
+    (sym ((holds c.self.invariant c.self.view_is c.as_str.ensures.value).1 there) ∙ ap is_some (sym c.in-None.ensures.value))

@@ -47,4 +47,4 @@ returns-in-Err-clause-reports g c =
     let s = c.index-asked.result.now in
     let at : slice_get asked c.args.coverage ≡ Some s = place_of asked c.args.coverage c.args.field c.args.tile s c.requires c.index-asked.ensures in
     rw c.cell_error.ensures
-    (tile_reports c.args.self.now.coverages c.fetch_tile.new.self asked s c.in-Err.fault (λ P all. all_at P asked c.args.coverage s at all) (λ e. c.in-Err.ensures.damaged (ap Err e)) (λ e. c.in-Err.ensures.no_room (ap Err e)) c.in-Err.ensures.counts)
+    (tile_reports c.args.self.now.coverages c.fetch_tile.new.self asked s c.in-Err.fault (λ P all. all_at P asked c.args.coverage s at all) c.in-Err.ensures.why c.in-Err.ensures.told)

@@ -6,6 +6,7 @@ use Rattle.arr_core.specs.Domains.{points}
 use Rattle.arr_core.specs.Stores.{Coverage, found, value_at}
 use Rattle.arr_core.specs.Tiles.{tile_boxes}
 use Rattle.tile_store.specs.Stored.{tile_box}
+use Rattle.coverage_server.proofs.FreeLemmas.{fetches_ready}
 use Rattle.coverage_server.proofs.TileLemmas.{some_map, some_both, some_out}
 use Rattle.coverage_server.proofs.coverages.Coverages.fetch_tile.Goals as goal
 
@@ -25,7 +26,7 @@ returns-clause-value g c =
     let f = c.args.field in
     let numbers = c.fetch_tile.new.cells.items in
     let read : IsTrue c.args.self.now.honest → IsSomeAnd (found asked.name c.args.self.now.store) (λ (x : Coverage). numbers ≡ map (value_at x f) (points (tile_box x.domain c.args.tile))) =
-    rw (← c.self.view_is) c.in_ok-fetch_tile.ensures.value in
+    rw (← c.self.view_is) c.in_ok-fetch_tile.ensures.read.values in
     λ honest.
     some_both _ {P = λ (x : Coverage). (x.domain ≡ asked.domain) × (f < length x.fields)} {Q = λ (x : Coverage). numbers ≡ map (value_at x f) (points (tile_box x.domain c.args.tile))}
     {R = λ (x : Coverage). (x.domain ≡ asked.domain) × (f < length x.fields) × (numbers ≡ map (value_at x f) (points (tile_box asked.domain c.args.tile)))}
@@ -37,8 +38,14 @@ returns-clause-counted g c =
     let asked = c.args.asked.now in
     let numbers = c.fetch_tile.new.cells.items in
     let read : IsSomeAnd (found asked.name c.args.self.now.store) (λ (x : Coverage). length numbers ≡ length (points (tile_box x.domain c.args.tile))) =
-    rw (← c.self.view_is) c.in_ok-fetch_tile.ensures.counted in
+    rw (← c.self.view_is) c.in_ok-fetch_tile.ensures.read.counted in
     some_out (found asked.name c.args.self.now.store) {P = λ (x : Coverage). length numbers ≡ length (points (tile_box asked.domain c.args.tile))} (λ x h. h)
     (some_both _ {P = λ (x : Coverage). (x.domain ≡ asked.domain) × (c.args.field < length x.fields)} {Q = λ (x : Coverage). length numbers ≡ length (points (tile_box x.domain c.args.tile))}
     {R = λ (x : Coverage). length numbers ≡ length (points (tile_box asked.domain c.args.tile))}
     (λ x h k. k ∙ ap (λ (d : List Axis). length (points (tile_box d c.args.tile))) h.0) held read)
+
+pub invariant_of-self : goal.invariant_of-self
+invariant_of-self g c = fetches_ready c.self.inside.catalogue c.self.inside.cells c.fetch_tile.new.self c.self.invariant c.fetch_tile.ensures.frame
+
+pub invariant_of-self-2 : goal.invariant_of-self-2
+invariant_of-self-2 g c = fetches_ready c.self.inside.catalogue c.self.inside.cells c.fetch_tile.new.self c.self.invariant c.fetch_tile.ensures.frame

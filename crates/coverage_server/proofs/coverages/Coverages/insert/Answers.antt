@@ -1,7 +1,8 @@
+-- A name that the catalogue lacks the cells lack too, and the disk can be closed whether or not the coverage came.
 use Rattle.std.proofs.Common.{List, Contains, sym, subst, ap, ◌∙◌, ◌≡◌, ◌++◌, ◌∷◌, []}
 use Rattle.arr_core.specs.declared.signature.Signature.{Signature}
 use Rattle.catalogue.specs.Signatures.{names_of}
-use Rattle.coverage_server.specs.Views.{signatures_of}
+use Rattle.coverage_server.proofs.FreeLemmas.{IsReady, created_ready, create_refused}
 use Rattle.coverage_server.proofs.StoreLemmas.{fresh_found}
 use Rattle.coverage_server.proofs.WriteLemmas.{taken_out}
 use Rattle.coverage_server.proofs.coverages.Coverages.insert.Goals as goal
@@ -12,14 +13,21 @@ create-requires g c = record {
       (λ k. c.in_default.ensures.ok.fresh (subst (λ (l : List Signature). Contains (names_of l) c.args.signature.name) (sym c.self.invariant.signatures) k));
 }
 
+pub invariant_of-self-in-Ok : goal.invariant_of-self-in-Ok
+invariant_of-self-in-Ok g c =
+    created_ready c.self.inside.catalogue c.insert.new.self c.args.signature c.bytes_len_with-bytes.result c.self.inside.cells c.create.new.self c.self.invariant
+    (c.in_default-insert.ensures.inserted ∙ ap (λ (s : Signature). c.self.inside.catalogue ++ s ∷ []) c.in_ok-listed.ensures) c.bytes_len_with-bytes.ensures c.in-Ok.ensures.created
+    c.create.ensures.blocks
+
 pub invariant_of-self-in-Err-create : goal.invariant_of-self-in-Err-create
 invariant_of-self-in-Err-create g c =
     let mid : c.insert.new.self ≡ c.self.inside.catalogue ++ c.args.signature ∷ [] =
     c.in_default-insert.ensures.inserted ∙ ap (λ (s : Signature). c.self.inside.catalogue ++ s ∷ []) c.in_ok-listed.ensures in
     let out = taken_out c.remove-removed.result c.args.signature c.self.inside.catalogue c.insert.new.self c.remove-removed.new.self mid c.remove-removed.ensures.removed c.remove-removed.ensures.absent
     c.in_default.ensures.ok.fresh in
-    let room = c.self.invariant.room in
-    record {
-      signatures = out ∙ c.self.invariant.signatures ∙ ap signatures_of (sym c.in-Err-create.ensures.refused.0);
-      room = rw (out, c.in-Err-create.ensures.refused.1, c.create.ensures.blocks) room;
-    }
+    rw out (subst (IsReady c.self.inside.catalogue) (sym c.in-Err-create.ensures.same) c.self.invariant)
+
+pub returns-clause-refused : goal.returns-clause-refused
+returns-clause-refused g c =
+    rw (c.device_refusal.ensures, ← c.self.view_is)
+    (create_refused c.self.inside.catalogue c.args.signature _ c.self.inside.cells c.in-Err-create.fault c.self.invariant c.bytes_len_with-bytes.ensures c.in-Err-create.ensures.why c.in-Err-create.ensures.no_disk)

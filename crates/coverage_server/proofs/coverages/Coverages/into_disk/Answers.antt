@@ -1,6 +1,7 @@
+-- Once a closing has been written, the disk below sound coverages holds their store.
 use Rattle.std.proofs.Common.{sym, subst}
 use Rattle.std.specs.Prelude.{IsTrue}
-use Rattle.block_file.specs.View.{BlockFileView}
+use Rattle.block_file.specs.View.{BlockFileView, state_of}
 use Rattle.catalogue.specs.Signatures.{IsCatalogue}
 use Rattle.raster_store.specs.Views.{AreIntact}
 use Rattle.coverage_server.proofs.ClosingLemmas.{holds}
@@ -10,7 +11,7 @@ pub returns-clause-held : goal.returns-clause-held
 returns-clause-held g c =
     rw (c.into_disk.ensures.content, c.into_file.ensures, ← c.self.view_is)
     (λ written sound.
-    holds c.into_blocks.result.content _ c.into_blocks.result.honest c.self.inside.cells.coverages c.self.inside.cells.indexes c.into_blocks.ensures.listed
+    holds (state_of c.into_blocks.result) c.self.inside.cells.coverages c.self.inside.cells.indexes c.into_blocks.ensures.listed
     (subst (λ (b : BlockFileView). IsTrue b.honest) (sym c.into_blocks.ensures.blocks) sound.honest)
-    (subst IsCatalogue c.self.invariant.signatures c.len-catalogue.ensures.catalogue) written
+    (subst IsCatalogue c.self.invariant.signatures c.len-catalogue.ensures.catalogue) c.self.invariant.once (sym (c.self.invariant.counted 0)) written
     (subst (λ (b : BlockFileView). AreIntact b.content c.self.inside.cells.coverages c.self.inside.cells.indexes) (sym c.into_blocks.ensures.blocks) sound.intact))

@@ -1,3 +1,4 @@
+-- The catalogue has the signature of the store's coverage with the name, or neither has the name.
 use Rattle.coverage_server.proofs.WriteLemmas.{finds}
 use Rattle.coverage_server.proofs.coverages.Coverages.signature.Goals as goal
 

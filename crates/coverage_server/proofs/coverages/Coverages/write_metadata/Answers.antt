@@ -1,38 +1,44 @@
-use Rattle.std.proofs.Common.{◌≡◌, sym, subst}
+-- The metadata has room and closes a sound disk's file; faults are told, and want of memory keeps the header.
+use Rattle.std.proofs.Common.{◌≡◌, ◌∙◌, sym, subst}
 use Rattle.std.specs.Prelude.{Bool, IsTrue}
-use Rattle.block_file.specs.View.{free_in}
+use Rattle.block_file.proofs.Headers.{keeps_header}
+use Rattle.block_file.specs.Uses.{uses_of}
+use Rattle.block_file.specs.View.{state_of}
 use Rattle.metadata.specs.Metadata.{metadata_bytes}
 use Rattle.coverage_server.specs.Closing.{bytes_written}
 use Rattle.coverage_server.specs.Views.{ServerView, IsSound, signatures_of}
-use Rattle.coverage_server.proofs.ClosingLemmas.{written_fits, is_written, on_ok, not_counted, counted}
+use Rattle.coverage_server.proofs.ClosingLemmas.{written_fits, is_written, on_ok, close_told}
+use Rattle.coverage_server.proofs.FaultLemmas.{tells_after}
+use Rattle.coverage_server.proofs.FreeLemmas.{stays_ready}
 use Rattle.coverage_server.proofs.coverages.Coverages.write_metadata.Goals as goal
 
 pub write_meta-requires-clause-room : goal.write_meta-requires-clause-room
 write_meta-requires-clause-room g c =
     let is = subst (λ (v : ServerView). c.args.metadata.now ≡ bytes_written v.store v.indexes) (sym c.self.view_is) c.requires in
-    let fits = written_fits c.args.metadata.now c.self.inside.catalogue c.self.inside.cells.coverages c.self.inside.cells.indexes (free_in c.self.inside.cells.blocks.marks) is
+    let fits = written_fits c.args.metadata.now c.self.inside.catalogue c.self.inside.cells.coverages c.self.inside.cells.indexes (uses_of c.self.inside.cells.blocks.marks) is
     c.len-whole.ensures.whole c.len-catalogue.ensures.catalogue c.self.invariant in
     fits.2
 
 pub returns-in-Ok-clause-written : goal.returns-in-Ok-clause-written
 returns-in-Ok-clause-written g c =
     let is = subst (λ (v : ServerView). c.args.metadata.now ≡ bytes_written v.store v.indexes) (sym c.self.view_is) c.requires in
-    let fits = written_fits c.args.metadata.now c.self.inside.catalogue c.self.inside.cells.coverages c.self.inside.cells.indexes (free_in c.self.inside.cells.blocks.marks) is
+    let fits = written_fits c.args.metadata.now c.self.inside.catalogue c.self.inside.cells.coverages c.self.inside.cells.indexes (uses_of c.self.inside.cells.blocks.marks) is
     c.len-whole.ensures.whole c.len-catalogue.ensures.catalogue c.self.invariant in
+    let ready = stays_ready c.self.inside.catalogue c.self.inside.cells c.write_meta.new.self c.self.invariant c.write_meta.ensures.frame in
     rw (← c.self.view_is)
     (on_ok c.write_header.result _ _
     (λ closes (sound : IsSound _).
-    is_written c.in-Ok.first c.write_meta.new.self.blocks.content c.write_header.new.self.content c.args.metadata.now
-    (metadata_bytes (signatures_of c.self.inside.cells.coverages) c.self.inside.cells.indexes) c.write_meta.new.self.indexes c.write_header.new.self.indexes fits.0
-    (c.in-Ok.ensures.chain sound.honest) (closes (subst (λ (b : Bool). IsTrue b) (sym c.in-Ok.ensures.honest) sound.honest)) (c.in-Ok.ensures.unlisted sound.honest)
-    c.write_header.ensures.unchanged.indexes)
+    let honest = subst (λ (b : Bool). IsTrue b) (sym c.write_meta.ensures.frame.moves.honest) sound.honest in
+    is_written c.in-Ok.first (state_of c.write_meta.new.self.blocks) c.write_header.new.self.content c.args.metadata.now
+    (metadata_bytes (signatures_of c.self.inside.cells.coverages) c.self.inside.cells.indexes) c.write_meta.new.self.indexes c.write_header.new.self.indexes honest fits.0
+    c.in-Ok.ensures.chain (closes honest) ready.counted c.write_header.ensures.unchanged.indexes)
     c.write_header.ensures.closes)
 
-pub returns-in-Err-clause-no_memory : goal.returns-in-Err-clause-no_memory
-returns-in-Err-clause-no_memory g c =
-    rw (← c.self.view_is)
-    (λ wants. (c.in-Err.ensures.header, not_counted _ _ c.in-Err.fault c.close_fault.result _ _ c.close_fault.ensures c.in-Err.ensures.counts wants))
+pub returns-in-Ok-clause-told : goal.returns-in-Ok-clause-told
+returns-in-Ok-clause-told g c = rw (← c.self.view_is) (tells_after _ _ _ _ _ (λ e. absurd cc) c.in-Ok.ensures.told c.write_header.ensures.told)
 
-pub returns-in-Err-clause-disk_fault : goal.returns-in-Err-clause-disk_fault
-returns-in-Err-clause-disk_fault g c =
-    rw (← c.self.view_is) (λ told. counted _ _ c.in-Err.fault c.close_fault.result _ _ c.close_fault.ensures c.in-Err.ensures.counts told)
+pub returns-in-Err-clause-told : goal.returns-in-Err-clause-told
+returns-in-Err-clause-told g c = rw (← c.self.view_is) (close_told _ _ c.in-Err.fault c.close_fault.result _ _ c.close_fault.ensures c.in-Err.ensures.told)
+
+pub returns-in-Err-clause-header : goal.returns-in-Err-clause-header
+returns-in-Err-clause-header g c = rw (← c.self.view_is) (λ wants. keeps_header _ _ c.write_meta.ensures.frame.moves.header)

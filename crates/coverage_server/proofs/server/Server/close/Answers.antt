@@ -1,5 +1,6 @@
 -- What is left of a server that is not closed is what its parts leave.
-use Rattle.std.proofs.Common.{Err, ap}
+use Rattle.std.proofs.Common.{Err, ap, ◌∙◌}
+use Rattle.coverage_server.proofs.FaultLemmas.{never_fewer}
 use Rattle.coverage_server.proofs.server.Server.close.Goals as goal
 
 pub returns-in-Err-clause-refused : goal.returns-in-Err-clause-refused
@@ -8,8 +9,8 @@ returns-in-Err-clause-refused g c =
     (record {
       unchanged = c.write_closed.ensures.unchanged;
       sound = c.write_closed.ensures.sound;
-      disk_fault = λ e. c.in-Err.ensures.disk_fault (ap Err e);
-      no_memory = λ e. c.in-Err.ensures.no_memory (ap Err e);
+      disk_fault = λ e. c.write_closed.ensures.told.told (c.in-Err.is ∙ ap Err e);
+      no_memory = λ e. (c.write_closed.ensures.header (c.in-Err.is ∙ ap Err e), c.write_closed.ensures.told.quiet (λ f. absurd cc));
       honest = c.write_closed.ensures.honest;
-      no_fewer = c.write_closed.ensures.no_fewer;
+      no_fewer = never_fewer _ _ _ c.write_closed.ensures.told;
     })

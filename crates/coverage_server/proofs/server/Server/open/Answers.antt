@@ -1,3 +1,4 @@
+-- Where an honest disk holds a store, that is the server's store, and its tiles are intact.
 use Rattle.std.proofs.Common.{◌∙◌, Bool, sym, ap, subst}
 use Rattle.coverage_server.specs.Views.{ServerView, IsSound}
 use Rattle.std.specs.Prelude.{IsTrue}

@@ -1,3 +1,4 @@
+-- The replies are those of one run over the messages that came, and the end tells what failed, if anything did.
 use Rattle.std.proofs.Common.{[], refl, sym, ap, ◌∙◌, arith}
 use Rattle.std.proofs.KnownBytes.{Appends-nil, Consumes-nil}
 use Rattle.stream_face.specs.Faults.{fault_told}

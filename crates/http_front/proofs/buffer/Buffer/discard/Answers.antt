@@ -1,3 +1,4 @@
+-- Without its first bytes the buffer holds what stands behind them.
 use Rattle.std.proofs.Common.{◌≤◌, ◌+◌, ◌-◌, length, drop, ap, ◌∙◌, arith}
 use Rattle.std.proofs.lemmas.List.{length-take}
 use Rattle.http_front.proofs.HeadLemmas.{range_after}

@@ -1,3 +1,4 @@
+-- The bytes that came stand behind those that were held.
 use Rattle.std.proofs.Common.{◌<◌, ◌≤◌, ◌+◌, ◌-◌, ◌++◌, length, take, ap, ◌∙◌, arith}
 use borrow.Rule.Slice.PartMut.{put_mid}
 use Rattle.http_front.proofs.BufferLemmas.{filled_view, front_range, moved_view}

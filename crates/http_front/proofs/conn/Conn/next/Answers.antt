@@ -1,3 +1,4 @@
+-- In what was held and came stands a whole message, or one that never comes, or one that the end cut short.
 use Rattle.std.proofs.Common.{◌≡◌, ◌≢◌, ◌≤◌, false, [], ◌++◌, length, take, refl, ap, subst, subst₂, append_assoc, ◌∙◌, arith, inl, inr, append-nil, sym}
 use Rattle.std.specs.Io.KnownBytes.{Consumes}
 use Rattle.std.proofs.KnownBytes.{Consumes-nil, Consumes-trans}

@@ -1,3 +1,4 @@
+-- Behind its head the message is refused, cut short by the end or a fault, or whole with a body of its length.
 use Rattle.std.proofs.Common.{◌≡◌, ◌||◌, [], true, Ok, Err, refl, sym, ap, ◌∙◌, subst, inl, inr}
 use Rattle.std.specs.Prelude.{◌==◌}
 use Rattle.std.proofs.KnownBytes.{Consumes-nil}

@@ -1,3 +1,4 @@
+-- Bytes that do not fit go out behind what was held back, or a first part of both does where a write fails.
 use Rattle.std.proofs.Common.{◌≡◌, ◌++◌, true, false, sym, subst, rules}
 use Rattle.stream_face.specs.Faults.{Sent}
 use Rattle.stream_face.proofs.SentLemmas.{Sent-after}

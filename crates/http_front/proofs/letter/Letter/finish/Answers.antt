@@ -1,3 +1,4 @@
+-- With what was held back all of the reply has gone out, or a first part of it where a write failed.
 use Rattle.std.proofs.Common.{◌≡◌, true, subst, rules}
 use Rattle.stream_face.specs.Faults.{Sent}
 use Rattle.http_front.proofs.SendingLemmas.{pending_sent}

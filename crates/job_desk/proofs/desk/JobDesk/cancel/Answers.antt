@@ -1,3 +1,4 @@
+-- The job was held, and the desk without it is still one whose numbers rise.
 use Rattle.job_desk.specs.Places.{IsPlace}
 use Rattle.job_desk.proofs.Desks.{desk_remove, is_held}
 use Rattle.job_desk.proofs.desk.JobDesk.cancel.Goals as goal

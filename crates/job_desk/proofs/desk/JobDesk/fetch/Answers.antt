@@ -1,3 +1,4 @@
+-- A job with units left is not ready; one that gives its answer has none, and the desk goes on without it.
 use Rattle.std.proofs.Common.{refl, arith}
 use Rattle.std.proofs.lemmas.Result.{err_from_is_err_and}
 use Rattle.job_desk.specs.Places.{IsPlace}

@@ -1,3 +1,4 @@
+-- Only the job with the number is changed, lowered or held up, and the numbers on the desk still rise.
 use Rattle.std.proofs.lemmas.Result.{err_from_is_err_and}
 use Rattle.job_desk.specs.Places.{IsPlace}
 use Rattle.job_desk.proofs.Desks.{changed, desk_set}

@@ -1,3 +1,4 @@
+-- The new job stands last under the next number, so the numbers on the desk still rise.
 use Rattle.std.proofs.Common.{◌<◌, ◌≤◌, length, refl, arith}
 use Rattle.tile_exec.specs.Standing.{left_of}
 use Rattle.job_desk.proofs.Desks.{desk_push}

@@ -1,8 +1,9 @@
+-- A tile that is found is kept with its cells, and moves to the front.
 use Rattle.std.proofs.Common.{◌≡◌, ◌∙◌, sym, ap, rules}
 use Rattle.std.specs.Map.{lookup}
 use Rattle.std.specs.Prelude.{Some}
 use Rattle.raster_store.specs.Decoded.{entries_of}
-use Rattle.raster_store.proofs.KeptTiles.{is_at, looked_up, promoted_kept}
+use Rattle.raster_store.proofs.Writes.{is_at, looked_up, promoted_kept}
 use Rattle.raster_store.proofs.decoded.DecodedTiles.get.Goals as goal
 
 pub returns-in_default-get-clause-same : goal.returns-in_default-get-clause-same

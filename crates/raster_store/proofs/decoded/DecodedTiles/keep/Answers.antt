@@ -1,6 +1,7 @@
+-- A tile is added, or nothing is.
 use Rattle.std.proofs.Common.{◌≡◌, ◌∙◌, sym, ap, inl}
 use Rattle.raster_store.specs.Decoded.{entries_of}
-use Rattle.raster_store.proofs.KeptTiles.{put_kept}
+use Rattle.raster_store.proofs.Writes.{put_kept}
 use Rattle.raster_store.proofs.decoded.DecodedTiles.keep.Goals as goal
 
 pub returns-in_default-copy_of : goal.returns-in_default-copy_of

@@ -1,36 +1,20 @@
+-- A write of the header leaves all that the coverages list as it was.
 use Rattle.std.proofs.Common.{refl}
-use Rattle.std.specs.Prelude.{IsTrue}
-use Rattle.raster_store.specs.Views.{AreIntact}
-use Rattle.raster_store.specs.Holding.{coverages_of, indexes_of}
-use Rattle.raster_store.proofs.Contents.{coverages_kept, intact_kept}
-use Rattle.raster_store.proofs.Writes.{keeps_others, same_signatures}
+use Rattle.raster_store.proofs.Writes.{decoded_empty, held_kept, keeps_header, same_store}
 use Rattle.raster_store.proofs.store.RasterStore.write_header.Goals as goal
 
-pub returns-clause-coverages : goal.returns-clause-coverages
-returns-clause-coverages g c =
+pub invariant_of-self : goal.invariant_of-self
+invariant_of-self g c =
     let held = c.self.inside.coverages.items in
-    let content = g.B.Blocks.content c.self.inside.blocks in
-    let uses = g.B.Blocks.uses c.self.inside.blocks in
-    let honest = g.B.Blocks.honest c.self.inside.blocks in
-    let content' = g.B.Blocks.content c.write_header.new.self in
-    let kept = λ (sure : IsTrue honest). coverages_kept content content' held (keeps_others content content' uses honest held c.self.invariant.0 sure (c.write_header.ensures.others sure)) in
-    rw (← c.self.view_is) kept
+    let only = c.write_header.ensures.frame in
+    record {
+      is_held = held_kept _ _ held c.self.invariant.is_held (λ k. rw only.uses refl) only.honest (keeps_header _ _ held c.self.invariant.is_held only);
+      decoded = decoded_empty _ _ _ c.clear.new.self c.clear.ensures;
+    }
 
-pub returns-clause-signatures : goal.returns-clause-signatures
-returns-clause-signatures g c =
+pub returns : goal.returns
+returns g c =
     let held = c.self.inside.coverages.items in
-    let content = g.B.Blocks.content c.self.inside.blocks in
-    let uses = g.B.Blocks.uses c.self.inside.blocks in
-    let honest = g.B.Blocks.honest c.self.inside.blocks in
-    let content' = g.B.Blocks.content c.write_header.new.self in
-    rw (← c.self.view_is) (same_signatures content content' held held refl)
-
-pub returns-clause-intact : goal.returns-clause-intact
-returns-clause-intact g c =
-    let held = c.self.inside.coverages.items in
-    let content = g.B.Blocks.content c.self.inside.blocks in
-    let uses = g.B.Blocks.uses c.self.inside.blocks in
-    let honest = g.B.Blocks.honest c.self.inside.blocks in
-    let content' = g.B.Blocks.content c.write_header.new.self in
-    let kept = λ (sure : IsTrue honest) (intact : AreIntact content (coverages_of content held) (indexes_of held)). intact_kept content content' held (keeps_others content content' uses honest held c.self.invariant.0 sure (c.write_header.ensures.others sure)) intact in
-    rw (← c.self.view_is) kept
+    let e = c.write_header.ensures in
+    let all = same_store g.B.Blocks.state c.self.inside.blocks c.write_header.new.self held c.self.inside.fetched (keeps_header _ _ held c.self.invariant.is_held e.frame) in
+    rw (← c.self.view_is) (record { written = e.written; frame = e.frame; same = all.0; intact = all.1; told = e.told })

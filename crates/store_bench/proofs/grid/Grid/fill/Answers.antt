@@ -1,3 +1,4 @@
+-- The only coverage of the store has a field, and so its first one may be filled.
 use Rattle.std.proofs.Common.{◌<◌, length}
 use Rattle.arr_core.specs.declared.signature.Signature.{Signature}
 use Rattle.store_bench.proofs.Alone.{alone}

@@ -1,3 +1,4 @@
+-- The only coverage of the store has a field, and the box lies in its domain.
 use Rattle.std.proofs.Common.{◌<◌, length, rules}
 use Rattle.arr_core.specs.declared.signature.Signature.{Signature}
 use Rattle.arr_core.specs.Domains.{IsBoxOf}

@@ -1,3 +1,4 @@
+-- A task of the plan comes behind those that are listed, and its boxes are counted.
 use Rattle.tile_exec.proofs.Begun.{pushed}
 use Rattle.tile_exec.proofs.begin.Listing.push.Goals as goal
 

@@ -1,3 +1,4 @@
+-- A condition at hand has a unit left, and once it is tested that unit is done.
 use Rattle.std.proofs.Common.{arith, ◌-◌}
 use Rattle.tile_exec.proofs.Keeping.{condition_at, condition_next, some_left, tasks_small}
 use Rattle.tile_exec.proofs.exec.Exec.keep_condition.Goals as goal

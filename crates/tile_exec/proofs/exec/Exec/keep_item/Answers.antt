@@ -1,3 +1,4 @@
+-- Each cell of a tile lies in the item; the tile is kept, and after the last one the item or its fault is given.
 use Rattle.std.proofs.Common.{◌≡◌, arith, ◌-◌, subst, sym, ap, ◌<◌, ◌++◌, length, map, ℕ, List, Some}
 use Rattle.std.specs.Prelude.{slice_get}
 use Rattle.std.specs.List.{All}

@@ -1,3 +1,4 @@
+-- The pass takes in one more tile of its own kind, and after the last one its outcome goes to its register.
 use Rattle.std.proofs.Common.{arith, sym, ◌∙◌, ◌-◌, subst, length}
 use Rattle.tile_kernel.specs.declared.accumulator.Accumulator.{Accumulator}
 use Rattle.tile_kernel.specs.Told.{ComesTo}

@@ -1,3 +1,4 @@
+-- A skipped tile moves on within its item or, as the last one, past it; with no task left only a unit is done.
 use Rattle.std.proofs.Common.{arith, ◌-◌, subst}
 use Rattle.tile_exec.specs.declared.found.Found.TheVariants as found
 use Rattle.tile_exec.specs.Standing.{tasks_left}

@@ -1,3 +1,4 @@
+-- A step leaves the box at hand, if there is one, and fetches no more tiles than the bound of that box.
 use Rattle.std.proofs.Common.{arith, ◌-◌, subst}
 use Rattle.tile_exec.specs.declared.exec.Exec.{Exec}
 use Rattle.tile_exec.specs.Standing.{plan_of, boxes_left}

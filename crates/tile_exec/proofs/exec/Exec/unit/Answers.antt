@@ -1,3 +1,4 @@
+-- The task at hand, if any, has its steps and its registers, and the unit finds what its tile gives.
 use Rattle.std.proofs.Common.{arith, sym, ap, ◌∙◌, ◌+◌, ◌≤◌, subst, length, refl, take, drop, true}
 use Rattle.std.specs.Prelude.{slice_get, sum_by, IsSomeAnd}
 use Rattle.std.proofs.lemmas.Option.{slice_get_read}

@@ -1,15 +1,19 @@
-use Rattle.std.proofs.Common.{arith}
-use Rattle.tile_index.proofs.Merging.{get-found, get-past, get-other}
+-- The entry that the search finds is that of the tile, and where it finds none the tile has none.
+use Rattle.std.proofs.Common.{ℕ, [], Ok, Err, rules}
+use Rattle.std.proofs.lemmas.List.Sorted.{answers_always}
+use Rattle.tile_index.specs.declared.entry.Entry.{Entry}
+use Rattle.tile_index.proofs.Found.{searched}
 use Rattle.tile_index.proofs.index.TileIndex.get.Goals as goal
 
-pub returns-then-place-entries : goal.returns-then-place-entries
-returns-then-place-entries c =
-    get-past c.args.tile c.as_slice-entries.result.now c.args.self.now c.place_of-place.result c.as_slice-entries.ensures.pairs c.if-place-entries.true c.place_of-place.ensures.before
+pub returns-in-Ok : goal.returns-in-Ok
+returns-in-Ok c =
+    let slice = c.as_slice-entries in
+    let found = c.in-Ok.ensures.position (λ pair. pair.0) (answers_always _ _ _ (λ f a r g called. search rules)) in
+    searched c.args.tile slice.result.now c.args.self.now c.index-entries-place.result (Ok c.in-Ok.place) slice.ensures.pairs slice.ensures.index.pairs.rising c.in-Ok.ensures.bound found
 
-pub returns-then-number-tile : goal.returns-then-number-tile
-returns-then-number-tile c =
-    get-found c.args.tile c.as_slice-entries.result.now c.args.self.now c.place_of-place.result c.index-entries-place.result c.as_slice-entries.ensures.pairs (omega (arith, c.place_of-place.ensures.within, c.if-place-entries.false)) c.place_of-place.ensures.before c.index-entries-place.is c.if-number-tile.true
-
-pub returns-else-number-tile : goal.returns-else-number-tile
-returns-else-number-tile c =
-    get-other c.args.tile c.as_slice-entries.result.now c.args.self.now c.place_of-place.result c.index-entries-place.result c.as_slice-entries.ensures.pairs c.as_slice-entries.ensures.index.pairs.rising (omega (arith, c.place_of-place.ensures.within, c.if-place-entries.false)) c.place_of-place.ensures.before c.place_of-place.ensures.from c.index-entries-place.is c.if-number-tile.false
+pub returns-in-Err : goal.returns-in-Err
+returns-in-Err c =
+    let slice = c.as_slice-entries in
+    let none : ℕ × Entry = (0, record { length = 0; blocks = [] }) in
+    let found = c.in-Err.ensures.position (λ pair. pair.0) (answers_always _ _ _ (λ f a r g called. search rules)) in
+    searched c.args.tile slice.result.now c.args.self.now none (Err c.in-Err.field-0) slice.ensures.pairs slice.ensures.index.pairs.rising c.in-Err.ensures.bound found

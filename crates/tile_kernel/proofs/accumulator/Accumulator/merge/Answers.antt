@@ -1,3 +1,4 @@
+-- Two accumulators that were merged stand for the points of both.
 use Rattle.std.proofs.Common.{sym, subst, ◌++◌}
 use Rattle.tile_kernel.specs.Told.{IsFirst}
 use Rattle.tile_kernel.proofs.Faults.{same_fault}

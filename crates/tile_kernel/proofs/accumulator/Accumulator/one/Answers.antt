@@ -1,3 +1,4 @@
+-- The accumulator of one point stands for that point.
 use Rattle.std.proofs.Common.{[]}
 use Rattle.tile_kernel.proofs.Merges.{stands_one}
 use Rattle.tile_kernel.proofs.accumulator.Accumulator.one.Goals as goal

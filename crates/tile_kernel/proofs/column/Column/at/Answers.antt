@@ -1,3 +1,4 @@
+-- Where values and faults are kept, there are both at each place, and they are its outcome.
 use Rattle.std.proofs.Common.{◌≡◌, ◌∙◌, ap, arith, SFits, w64, rules, length}
 use Rattle.std.proofs.lemmas.Int.{to_z-of_z}
 use Rattle.tile_kernel.specs.Columns.{outcome_of}

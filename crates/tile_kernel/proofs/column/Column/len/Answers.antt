@@ -1,3 +1,4 @@
+-- The number of places that is kept is how many outcomes the column has.
 use Rattle.tile_kernel.proofs.Places.{places_are}
 use Rattle.tile_kernel.proofs.column.Column.len.Goals as goal
 

@@ -1,3 +1,4 @@
+-- A product that has not wrapped is the exact one.
 use Rattle.std.proofs.Common.{rules, sym, ap, ◌∙◌, SFits, w64}
 use Rattle.std.proofs.lemmas.Int.{to_z-of_z}
 use Rattle.wcps_mean.specs.declared.cell.Outcome.TheVariants.{Value}

@@ -1,3 +1,4 @@
+-- Where the mark is not negative, the sum has not wrapped.
 use Rattle.std.proofs.Common.{refl, rules, SFits, w64, ◌+◌, ◌%◌, ◌^◌, to_z, of_z}
 use Rattle.tile_kernel.proofs.Signs.{sum_kept}
 use Rattle.tile_kernel.proofs.Results.{ranged_same}

@@ -1,3 +1,4 @@
+-- With a zero the product is zero, else it is its magnitude under its sign, tested.
 use Rattle.std.proofs.Common.{ap, ◌≡◌, ◌∙◌, arith, pos, neg_ℤ, ◌-ℤ◌, to_z, of_z}
 use mir.Syntax.{w128}
 use Rattle.std.proofs.lemmas.Int.{ints}

@@ -1,3 +1,4 @@
+-- One more factor is in the product: as a zero, or else by its sign and its magnitude.
 use Rattle.std.proofs.Common.{refl, ap, ◌∙◌, ◌*◌, arith, nat_abs, w64, of_z}
 use Rattle.std.proofs.lemmas.Int.{ints, to_z-of_z}
 use Rattle.wcps_mean.specs.Cells.{differ}

@@ -1,3 +1,4 @@
+-- A fault is kept where none was there before it, else the earlier one stays.
 use Rattle.std.proofs.Common.{refl, sym, ap, Some}
 use Rattle.wcps_mean.proofs.Feeds.{fed_fault, else_fault, else_kept}
 use Rattle.wcps_mean.proofs.running.Running.add.Goals as goal

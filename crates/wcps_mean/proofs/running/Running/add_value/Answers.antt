@@ -1,3 +1,4 @@
+-- One more value is in what the condenser keeps, whichever its kind.
 use Rattle.std.proofs.Common.{rules, ◌≡◌, refl, ap, ◌∙◌, ◌+◌, Some, cond, arith, w64, SFits, ◌&&◌, ◌||◌}
 use Rattle.std.proofs.lemmas.Int.{ints, to_z-of_z}
 use Rattle.wcps_mean.specs.Cells.{is_true}

@@ -1,3 +1,4 @@
+-- The average of the exact sum over the count is that of all outcomes.
 use Rattle.std.proofs.Common.{rules, ◌∙◌, SFits}
 use mir.Syntax.{w128}
 use Rattle.std.proofs.lemmas.Int.{to_z-of_z}

@@ -1,8 +1,0 @@
-use Rattle.std.proofs.Common.{◌-◌, ◌+◌, arith}
-use Rattle.std.proofs.lemmas.Grind.{common_steps}
-use Rattle.block_file.proofs.Numbers.{number-put}
-use Rattle.block_file.proofs.header.put_u32.Goals as goal
-
-pub returns : goal.returns
-returns c =
-    number-put c.args.at (c.args.at + 4 - c.args.at) 4 c.args.n c.args.bytes.now _ _ (omega arith) (omega arith) (grind (arith, common_steps)) (omega (arith, c.ranges.n.fits)) c.write_u32.ensures

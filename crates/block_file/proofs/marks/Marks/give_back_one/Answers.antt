@@ -1,0 +1,18 @@
+use Rattle.std.proofs.Common.{◌≡◌, get_or, arith}
+use Rattle.std.proofs.lemmas.Grind.{common_steps}
+use Rattle.block_file.proofs.Markings.{is_used, lowered}
+use Rattle.block_file.proofs.marks.Marks.give_back_one.Goals as goal
+
+pub invariant_of-self : goal.invariant_of-self
+invariant_of-self c =
+    let some = rw (← c.self.view_is) at c.requires in
+    let u = is_used c.self.inside.marks.items c.args.k some in
+    let mark : c.index.result.now ≡ get_or c.self.inside.marks.items c.args.k 0 = grind (arith, common_steps, c.index.ensures, (is_used c.self.inside.marks.items c.args.k some).inside) in
+    let min = c.min-self-inside.ensures in
+    lowered _ _ _ _ _ c.args.k _ c.self.invariant some (omega arith) (omega arith) (omega (arith, c.self.invariant.below.above_zero)) (omega arith) (λ lt. absurd (omega arith))
+
+pub invariant_of-self-else-mark-eq0 : goal.invariant_of-self-else-mark-eq0
+invariant_of-self-else-mark-eq0 c =
+    let some = rw (← c.self.view_is) at c.requires in
+    let mark : c.index.result.now ≡ get_or c.self.inside.marks.items c.args.k 0 = grind (arith, common_steps, c.index.ensures, (is_used c.self.inside.marks.items c.args.k some).inside) in
+    lowered _ _ _ _ _ c.args.k _ c.self.invariant some (omega arith) (omega arith) c.self.invariant.below.above_zero (omega arith) (λ lt. omega arith)

@@ -1,0 +1,22 @@
+-- Cells are refused for the box, their count, their type or the device, and the header stays in any case.
+use Rattle.block_file.proofs.Headers.{keeps_header}
+use Rattle.raster_store.specs.Calls.{HasField}
+use Rattle.coverage_server.proofs.WriteLemmas.{put_refused}
+use Rattle.coverage_server.proofs.coverages.Coverages.put.Goals as goal
+use Rattle.coverage_server.proofs.coverages.Coverages.put.Goals.{in-Ok, in-Err}
+
+pub returns-clause-refused : goal.returns-clause-refused
+returns-clause-refused g c =
+    let has : HasField c.args.name.now c.args.field c.self.inside.cells.coverages = rw (← c.self.view_is) at c.requires.field in
+    elim c.match-write_box.branch [
+      | in-Ok w ↦ rw w.result-is tt
+      | in-Err w ↦
+          rw (w.result-is, w.write_refusal.ensures, ← c.self.view_is)
+          (put_refused c.args.name.now c.args.field c.args.area.now _ c.self.inside.catalogue c.self.inside.cells c.self.invariant c.bytes_len-bytes.ensures has c.args.cells.now w.in-Err.fault w.in-Err.ensures.why)
+    ]
+
+pub returns-clause-header : goal.returns-clause-header
+returns-clause-header g c = elim c.match-write_box.branch [
+  | in-Ok w ↦ rw (← c.self.view_is) (keeps_header _ _ w.in-Ok.ensures.done.1.moves.header)
+  | in-Err w ↦ rw (← c.self.view_is) (keeps_header _ _ w.in-Err.ensures.same.moves.header)
+]
