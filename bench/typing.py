@@ -40,6 +40,15 @@ def parts(value, count):
     return "{" + ";".join(f"{letters(n)}:{value}" for n in range(count)) + "}"
 
 
+def within(binders, item):
+    """An item in the scope of four iterators a condenser, $i0 and so on."""
+    scope = ""
+    for place in range(binders):
+        iterators = ",".join(f"$i{4 * place + number} {axis}(0:0)" for number, axis in enumerate("abcd"))
+        scope += f"condense + over {iterators} using "
+    return scope + item
+
+
 def fitted(make):
     """The longest text of that form that fits."""
     few, many = 1, LENGTH
@@ -54,6 +63,7 @@ def fitted(make):
 
 LAI = ["lai"] * 64
 UNLIKE = [f"u{n}" for n in range(64)]
+WIDE = [f"w{n}" for n in range(64)]
 ROWS = [
     ("nothing", ""),
     ("700 parts at a position of 1,400 zeros, 64 times", over(LAI, parts("c", 700) + f"[x({balanced('0', 1400)})]")),
@@ -83,19 +93,18 @@ ROWS = [
             f" return encode({'+'.join(f'w{k}[x(0)]' for k in range(6))}+{balanced(f'v{n - 1}[x(0)]', n)}, csv)"
         ),
     ),
+    ("fields of 64, 64 unlike", fitted(lambda n: over(WIDE, balanced("c.f63", n)))),
+    ("fields of 64 at positions, 64 unlike", fitted(lambda n: over(WIDE, balanced("c[x(0)].f63", n)))),
+    ("200 iterators, then a sum of one, 64 unlike", fitted(lambda n: over(UNLIKE, within(50, balanced("$i199", n))))),
     (
-        "256 iterators, then a sum",
-        fitted(
-            lambda n: over(
-                ["lai"],
-                "".join(
-                    f"condense + over {','.join(f'$i{4 * k + j} {axis}(0:0)' for j, axis in enumerate('abcd'))} using "
-                    for k in range(60)
-                )
-                + balanced("$i239", n),
-            )
-        ),
+        "200 iterators, then condensers, 64 unlike",
+        fitted(lambda n: over(UNLIKE, within(50, balanced("(condense + over $z x(0:0) using 0)", n)))),
     ),
+    (
+        "200 iterators, then cells, 64 unlike",
+        fitted(lambda n: over(UNLIKE, within(50, balanced("c[x($i199),y(0)]", n)))),
+    ),
+    ("240 iterators, then a sum of one", fitted(lambda n: over(["lai"], within(60, balanced("$i239", n))))),
     (
         "many variables, then a sum",
         fitted(lambda n: f"for {','.join(f'v{k} in (lai)' for k in range(n))} return {balanced('1', n)}"),

@@ -6,7 +6,7 @@ use Rattle.std.specs.declared.alloc.Global.{Global}
 use Rattle.std.proofs.lemmas.Bool.{cases_lt}
 use Rattle.std.proofs.lemmas.List.{take_more, take_all, map-append, length_push}
 use Rattle.std.proofs.lemmas.List.Concat.{flat_map-cons}
-use Rattle.std.proofs.lemmas.List.Sums.{sum_by-cons}
+use Rattle.std.proofs.lemmas.List.Sums.{sum_by-cons, sum_by_more}
 use Rattle.arr_core.specs.declared.signature.Signature.{Signature}
 use Rattle.arr_core.specs.Names.{AreDistinct}
 use Rattle.arr_core.specs.Stores.{Store, found}
@@ -49,6 +49,17 @@ times_listed (x ∷ index) k =
     ap (λ (l : List ℕ). times l k) (flat_map-cons (λ (y : ℕ × Entry). y.1.blocks) x index)
     ∙ times_append x.1.blocks (flat_map (λ (y : ℕ × Entry). y.1.blocks) index) k
     ∙ ap (λ (n : ℕ). times x.1.blocks k + n) (times_listed index k) ∙ sym (listed-cons x index k)
+
+-- the fields whose blocks are listed so far: none at first, and then one more
+pub no_field_lists : (k : ℕ) → listed_fields [] k ≡ 0
+unfolding listed_fields
+no_field_lists k = refl
+
+pub one_field_more : (k : ℕ) (fields : List Index) (j : ℕ) (d : Index) → j < length fields → d ≡ get_or fields j d → listed_fields (take (j + 1) fields) k ≡ listed_fields (take j fields) k + listed d k
+unfolding listed_fields
+one_field_more k fields j d h is =
+    let F : Index → ℕ = λ (i : Index). listed i k in
+    omega (arith, sum_by_more F fields j d h, ap F is)
 
 -- one more coverage of those whose blocks are listed
 pub items_more : (indexes : List (Vec TileIndex Global)) (j : ℕ) (d : Vec TileIndex Global) → j < length indexes → items_of (take (j + 1) indexes) ≡ items_of (take j indexes) ++ (get_or indexes j d).items ∷ []

@@ -6,13 +6,16 @@ use disk_face::{FailDisk, MemDisk};
 use std::alloc::Global;
 use test_rows::{Files, refusal, yes};
 
-/// The files that the rows have named, the server that they speak to, and a request that tells its state.
+/// The files that the rows have named, the server that they speak to, a request that tells its state, and sessions.
 #[derive(Drop)]
 pub struct Site {
     pub files: Files,
     pub server: Option<Server<FailDisk>>,
     /// The pairs of a request and the body of its reply.
     pub probe: Option<(String, String)>,
+    /// The streams of a session on devices, and those of the session behind it.
+    pub writes: String,
+    pub later: String,
 }
 
 impl Site {
@@ -21,6 +24,8 @@ impl Site {
             files: Files::new(alloc),
             server: None,
             probe: None,
+            writes: String::new(alloc),
+            later: String::new(alloc),
         }
     }
 

@@ -117,6 +117,9 @@ impl Layer for Site {
                 let (count, words) = rest.split_once(' ').context("no file")?;
                 return self.session_pieces(alloc, count.parse::<usize>()?, words);
             }
+            "writes" => self.writes = String::from_str(alloc, rest)?,
+            "later" => self.later = String::from_str(alloc, rest)?,
+            "devices" => return self.on_devices(alloc, rest),
             "is_closed" => return self.is_closed(alloc, rest),
             "state" => self.keep(alloc, rest)?,
             "ask" => return self.ask(alloc, &bytes(alloc, rest)?),

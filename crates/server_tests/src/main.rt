@@ -1,7 +1,8 @@
 //! Worked values of the server, by its public calls, each a row of standard input: requests and queries with their replies,
-//! streams of bytes with what is written for them, and disks that are opened and closed.
+//! streams of bytes with what is written for them, disks that are opened and closed, and devices that become full.
 #![tactic(auto)]
 
+mod devices;
 mod disks;
 mod layer;
 mod messages;

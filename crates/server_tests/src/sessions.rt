@@ -12,7 +12,7 @@ use test_rows::{bytes, refusal};
 
 /// A stream that is read in two pieces, parted at `first`, and behind them ends or fails.
 #[derive(Drop)]
-struct Input {
+pub struct Input {
     bytes: Vec<u8>,
     taken: usize,
     first: usize,
@@ -35,7 +35,7 @@ impl Read for Input {
 }
 
 /// The connections of streams that stand parted by ` | `; none for `none`. The reader of one behind `!` fails at its end.
-fn connections_of(alloc: Global, streams: &str, first: usize) -> Result<Vec<(Input, Sink)>> {
+pub fn connections_of(alloc: Global, streams: &str, first: usize) -> Result<Vec<(Input, Sink)>> {
     let mut connections = Vec::new(alloc);
     if streams == "none" {
         return Ok(connections);
@@ -59,7 +59,7 @@ fn connections_of(alloc: Global, streams: &str, first: usize) -> Result<Vec<(Inp
 }
 
 /// What was written for the connections, parted by ` | `.
-fn replies_of(alloc: Global, connections: &[(Input, Sink)]) -> Result<String> {
+pub fn replies_of(alloc: Global, connections: &[(Input, Sink)]) -> Result<String> {
     let mut text = String::new(alloc);
     for (place, (_, sink)) in connections.iter().enumerate() {
         if place > 0 {

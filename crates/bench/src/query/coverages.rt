@@ -1,5 +1,5 @@
-//! The coverages over which queries are typed: `lai` with the field v, `wide` with the fields f0 to f63, and u0 to u63,
-//! of which no two have the same signature. Each has the axes x and y.
+//! The coverages over which queries are typed: `lai` with the field v, `wide` with the fields f0 to f63, and, of which no two
+//! have the same domain, u0 to u63 with the field v and w0 to w63 with the fields f0 to f63. Each has the axes x and y.
 
 use anyhow::Result;
 use arr_core::{Axis, Domain, Field, FieldType, Fields, Name, Signature};
@@ -34,21 +34,33 @@ fn coverage(alloc: Global, name: &str, last: i32, fields: Vec<Field>) -> Result<
     })
 }
 
+/// The field v alone.
+fn one_field(alloc: Global) -> Result<Vec<Field>> {
+    let mut fields = Vec::new(alloc);
+    fields.push(field(alloc, "v")?)?;
+    Ok(fields)
+}
+
+/// The fields f0 to f63.
+fn many_fields(alloc: Global) -> Result<Vec<Field>> {
+    let mut fields = Vec::new(alloc);
+    for number in 0..64 {
+        let name = format!(in alloc; "f{number}")?;
+        fields.push(field(alloc, name.as_str())?)?;
+    }
+    Ok(fields)
+}
+
 /// All of them.
 pub fn coverages(alloc: Global) -> Result<Vec<Signature>> {
     let mut list = Vec::new(alloc);
-    let mut wide = Vec::new(alloc);
     for number in 0..64 {
-        let mut own = Vec::new(alloc);
-        own.push(field(alloc, "v")?)?;
         let name = format!(in alloc; "u{number}")?;
-        list.push(coverage(alloc, name.as_str(), 100 + number, own)?)?;
-        let name = format!(in alloc; "f{number}")?;
-        wide.push(field(alloc, name.as_str())?)?;
+        list.push(coverage(alloc, name.as_str(), 100 + number, one_field(alloc)?)?)?;
+        let name = format!(in alloc; "w{number}")?;
+        list.push(coverage(alloc, name.as_str(), 100 + number, many_fields(alloc)?)?)?;
     }
-    list.push(coverage(alloc, "wide", 99, wide)?)?;
-    let mut one = Vec::new(alloc);
-    one.push(field(alloc, "v")?)?;
-    list.push(coverage(alloc, "lai", 99, one)?)?;
+    list.push(coverage(alloc, "wide", 99, many_fields(alloc)?)?)?;
+    list.push(coverage(alloc, "lai", 99, one_field(alloc)?)?)?;
     Ok(list)
 }

@@ -4,18 +4,17 @@ use Rattle.std.proofs.lemmas.List.{take_all}
 use Rattle.block_file.specs.State.{times}
 use Rattle.block_file.proofs.Times.{times_append}
 use Rattle.raster_store.specs.Views.{Index, listed_fields}
-use Rattle.raster_store.proofs.Totals.{listed_fields-more, listed_fields-nil}
-use Rattle.coverage_server.proofs.OpeningLemmas.{times_listed}
+use Rattle.coverage_server.proofs.OpeningLemmas.{times_listed, no_field_lists, one_field_more}
 use Rattle.coverage_server.proofs.opening.push_blocks.Goals as goal
 
 pub loop-index-init : goal.loop-index-init
-loop-index-init c k = omega (arith, listed_fields-nil k)
+loop-index-init c k = omega (arith, no_field_lists k)
 
 pub loop-index-preserved : goal.loop-index-preserved
 loop-index-preserved c k =
     let new = ap (λ (l : List ℕ). times l k) (c.in_ok-extend_from_slice.ensures.items) ∙ times_append c.loop-index.blocks.items c.deref.result.now k in
     let listed = ap (λ (l : List ℕ). times l k) (c.deref.ensures.value ∙ c.in_ok-listed.ensures) ∙ times_listed c.index-item.result k in
-    omega (arith, new, listed, c.loop-index.invariant k, listed_fields-more k c.args.fields.now c.loop-index.index-index c.index-item.result c.loop-index-test.true (c.index-item.is))
+    omega (arith, new, listed, c.loop-index.invariant k, one_field_more k c.args.fields.now c.loop-index.index-index c.index-item.result c.loop-index-test.true (c.index-item.is))
 
 pub returns : goal.returns
 returns c k =
