@@ -130,7 +130,7 @@ patch_field coverages name field area numbers has =
     some_weaker (found name coverages) (λ (c : Coverage). IsBoxOf c.domain area × IsSomeAnd (slice_get c.fields field) fit) (λ (c : Coverage). field < length c.fields) (λ c p. some_within c.fields field fit p.1) has
 
 -- a point of a box is one of the domain
-box_inside : (domain area : List Axis) (p : List ℤ) → IsBoxOf domain area → IsInside area p → IsInside domain p
+pub box_inside : (domain area : List Axis) (p : List ℤ) → IsBoxOf domain area → IsInside area p → IsInside domain p
 box_inside [] [] p b i = i
 box_inside [] (c ∷ area) p b i = absurd b
 box_inside (a ∷ domain) [] p b i = absurd b
