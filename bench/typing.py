@@ -95,16 +95,12 @@ ROWS = [
     ),
     ("fields of 64, 64 unlike", fitted(lambda n: over(WIDE, balanced("c.f63", n)))),
     ("fields of 64 at positions, 64 unlike", fitted(lambda n: over(WIDE, balanced("c[x(0)].f63", n)))),
-    ("200 iterators, then a sum of one, 64 unlike", fitted(lambda n: over(UNLIKE, within(50, balanced("$i199", n))))),
+    ("120 iterators and a sum of the last, 64 unlike", fitted(lambda n: over(UNLIKE, within(30, balanced("$i119", n))))),
+    ("112 iterators and cells at the last, 64 unlike", fitted(lambda n: over(UNLIKE, within(28, balanced("c[x($i111),y(0)]", n))))),
     (
-        "200 iterators, then condensers, 64 unlike",
-        fitted(lambda n: over(UNLIKE, within(50, balanced("(condense + over $z x(0:0) using 0)", n)))),
+        "256 condensers, most within 120 iterators, 64 unlike",
+        over(UNLIKE, within(30, balanced("(condense + over $z x(0:0) using c[x($z),y(0)])", 226))),
     ),
-    (
-        "200 iterators, then cells, 64 unlike",
-        fitted(lambda n: over(UNLIKE, within(50, balanced("c[x($i199),y(0)]", n)))),
-    ),
-    ("240 iterators, then a sum of one", fitted(lambda n: over(["lai"], within(60, balanced("$i239", n))))),
     (
         "many variables, then a sum",
         fitted(lambda n: f"for {','.join(f'v{k} in (lai)' for k in range(n))} return {balanced('1', n)}"),
