@@ -96,7 +96,7 @@ ROWS = [
     ("fields of 64, 64 unlike", fitted(lambda n: over(WIDE, balanced("c.f63", n)))),
     ("fields of 64 at positions, 64 unlike", fitted(lambda n: over(WIDE, balanced("c[x(0)].f63", n)))),
     ("120 iterators and a sum of the last, 64 unlike", fitted(lambda n: over(UNLIKE, within(30, balanced("$i119", n))))),
-    ("112 iterators and cells at the last, 64 unlike", fitted(lambda n: over(UNLIKE, within(28, balanced("c[x($i111),y(0)]", n))))),
+    ("104 iterators and cells at the last, 64 unlike", fitted(lambda n: over(UNLIKE, within(26, balanced("c[x($i103),y(0)]", n))))),
     (
         "256 condensers, most within 120 iterators, 64 unlike",
         over(UNLIKE, within(30, balanced("(condense + over $z x(0:0) using c[x($z),y(0)])", 226))),
