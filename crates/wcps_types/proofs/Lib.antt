@@ -4,6 +4,7 @@ pub mod Caps
 pub mod Applied
 pub mod Domains
 pub mod Parts
+pub mod Places
 pub mod Choices
 pub mod Rows
 pub mod Narrower

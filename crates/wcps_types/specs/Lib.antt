@@ -6,6 +6,7 @@ pub mod KindsOnce
 pub mod Renamed
 pub mod TypedQueries
 pub mod Names
+pub mod Frames
 pub mod Shapes
 pub mod Operators
 pub mod Work

@@ -4,6 +4,7 @@ ghost use Rattle.std.specs.Prelude.{◌≡◌, ◌++◌, IfOk, map};
 ghost use Rattle.std.specs.Option.{option_map};
 ghost use Rattle.std.specs.List.{list_all};
 ghost use Rattle.wcps_types.specs.Typed.{only_tree};
+ghost use Rattle.wcps_types.specs.Frames.{names_in};
 ghost use Rattle.wcps_types.specs.Shapes.{Says, shape_view, scalar_of_view};
 ghost use Rattle.wcps_types.specs.Brackets.{bounds_view};
 ghost use Rattle.wcps_types.specs.Boxes.{iterators_view, no_iterators, is_taken, axis_of, with_iterator, box_of, array_on, condition_of, condensed, integers_condensed, booleans_condensed, is_truth, item_number, first_is_truth, has_kind, other_kind, listed_on, value_list};
@@ -12,6 +13,7 @@ use crate::bounds::Bounds;
 use crate::names::{Bound, bound_place, name_place};
 use crate::nodes::{array_node, condense_node};
 use crate::refusal::{CheckError, TypeRefusal};
+use crate::scope::Scope;
 use crate::shape::{OneScalar, Shape, unnamed, unnamed_scalar};
 use crate::typed::Node;
 use arr_core::{Axis, Domain, Name, NameError};
@@ -38,16 +40,11 @@ impl Iterators {
 }
 
 /// Whether a variable is bound by `for`, by an iterator in scope, or by one before it in its list.
-pub fn is_taken(
-    bound: &[Bound],
-    scope: &[QueryName],
-    before: &[QueryName],
-    name: &QueryName,
-) -> bool
-    ensures { result ≡ is_taken bound.now scope.now before.now name.now }
+pub fn is_taken(bound: &[Bound], scope: &Scope, before: &[QueryName], name: &QueryName) -> bool
+    ensures { result ≡ is_taken bound.now (names_in scope.now.frames) before.now name.now }
 {
     bound_place(bound, name).is_some()
-        || name_place(scope, name).is_some()
+        || scope.place(name).is_some()
         || name_place(before, name).is_some()
 }
 
@@ -87,24 +84,6 @@ pub fn with_iterator(
     Ok(Iterators { variables, axes })
 }
 
-/// The iterators in scope and those of a list, innermost last.
-fn inner_scope(
-    alloc: Global,
-    scope: &[QueryName],
-    variables: &[QueryName],
-) -> Result<Vec<QueryName>, AllocError>
-    ensures { IfOk result (λ v. v.items ≡ scope.now ++ variables.now) }
-{
-    let mut inner = Vec::new(alloc);
-    for name in scope {
-        inner.push(QueryName::new(alloc, name.as_str())?)?;
-    }
-    for name in variables {
-        inner.push(QueryName::new(alloc, name.as_str())?)?;
-    }
-    Ok(inner)
-}
-
 /// The box of the axes.
 pub fn box_of(axes: Vec<Axis>) -> Result<Domain, CheckError>
     ensures { Says (λ d. d) result (box_of axes.items) }
@@ -115,23 +94,22 @@ pub fn box_of(axes: Vec<Axis>) -> Result<Domain, CheckError>
     }
 }
 
-/// A box, and the iterators in scope of what stands over it.
+/// A box, and the variables of its iterators.
 #[derive(Debug, Drop)]
 pub struct Opened {
     pub domain: Domain,
-    pub scope: Vec<QueryName>,
+    pub variables: Vec<QueryName>,
 }
 
-/// The box of iterators, and the scope in which they are the innermost.
+/// The box of iterators.
 #[inline(never)]
-pub fn opened_box(alloc: Global, scope: &[QueryName], over: Iterators) -> Result<Opened, CheckError>
+pub fn opened_box(over: Iterators) -> Result<Opened, CheckError>
     ensures said { Says (λ o. o.domain) result (box_of over.axes.items) }
-    ensures scope { IfOk result (λ o. o.scope.items ≡ scope.now ++ over.variables.items) }
+    ensures variables { IfOk result (λ o. o.variables ≡ over.variables) }
 {
     let Iterators { variables, axes } = over;
     let domain = box_of(axes)?;
-    let scope = inner_scope(alloc, scope, &variables)?;
-    Ok(Opened { domain, scope })
+    Ok(Opened { domain, variables })
 }
 
 /// `coverage .. values` of a scalar.

@@ -1,11 +1,12 @@
 //! Expressions: parts from left to right, then the form's own checks. Each call is given the coverages of the query, the
 //! variables of its `for` list, and the variables of the iterators in scope, outermost first.
 
-ghost use Rattle.std.specs.Prelude.{◌≡◌, [], Ok};
+ghost use Rattle.std.specs.Prelude.{◌≡◌, [], ◌++◌, Ok};
 ghost use Rattle.std.specs.Option.{option_map};
 ghost use Rattle.wcps_text.specs.Tree as tree;
 ghost use Rattle.wcps_text.specs.Tree.{view, view_place, view_interval, parts_of, subs_of, iters_of, condition_of};
 ghost use Rattle.wcps_types.specs.Typed.{only_tree, number};
+ghost use Rattle.wcps_types.specs.Frames.{names_in};
 ghost use Rattle.wcps_types.specs.Shapes.{Says, then_of, shape_view, only_scalar, unnamed};
 ghost use Rattle.wcps_types.specs.Brackets.{bounds_view, bracket_view, opened, place_to_cut};
 ghost use Rattle.wcps_types.specs.Operators as operators;
@@ -27,6 +28,7 @@ use crate::operators::{binary, reduction, selected, unary};
 use crate::pieces::Pieces;
 use crate::records::{finished, is_part, with_part};
 use crate::refusal::{CheckError, TypeRefusal};
+use crate::scope::Scope;
 use crate::shape::{Shape, only_field, only_scalar, unnamed_scalar};
 use crate::typed::Node;
 use crate::variables::variable;
@@ -44,10 +46,10 @@ pub fn expression(
     alloc: Global,
     coverages: &[Signature],
     bound: &[Bound],
-    scope: &[QueryName],
+    scope: &Scope,
     e: &Expr,
 ) -> Result<Shape, CheckError>
-    ensures { Says shape_view result (typ coverages.now bound.now scope.now (view e.now)) }
+    ensures { Says shape_view result (typ coverages.now bound.now (names_in scope.now.frames) (view e.now)) }
 {
     match e {
         Expr::Number(n) => constant(alloc, false, n.value as i64),
@@ -70,8 +72,8 @@ pub fn expression(
         }
         Expr::Coverage { iterators, body } => {
             let over = iterator_list(alloc, coverages, bound, scope, iterators)?;
-            let over = opened_box(alloc, scope, over)?;
-            constructed(alloc, coverages, bound, over, body)
+            let over = opened_box(over)?;
+            constructed(alloc, coverages, bound, scope, over, body)
         }
         Expr::Condense {
             op,
@@ -80,9 +82,9 @@ pub fn expression(
             body,
         } => {
             let over = iterator_list(alloc, coverages, bound, scope, iterators)?;
-            let over = opened_box(alloc, scope, over)?;
-            let condition = condition_node(alloc, coverages, bound, &over.scope, condition)?;
-            condensed_over(alloc, coverages, bound, *op, over, condition, body)
+            let over = opened_box(over)?;
+            let condition = condition_over(alloc, coverages, bound, scope, &over, condition)?;
+            condensed_over(alloc, coverages, bound, scope, *op, over, condition, body)
         }
     }
 }
@@ -102,11 +104,11 @@ fn operation(
     alloc: Global,
     coverages: &[Signature],
     bound: &[Bound],
-    scope: &[QueryName],
+    scope: &Scope,
     op: UnaryOperator,
     a: &Expr,
 ) -> Result<Shape, CheckError>
-    ensures { Says shape_view result (typ coverages.now bound.now scope.now (tree.unary op (view a.now))) }
+    ensures { Says shape_view result (typ coverages.now bound.now (names_in scope.now.frames) (tree.unary op (view a.now))) }
 {
     let a = expression(alloc, coverages, bound, scope, a)?;
     unary(alloc, op, a)
@@ -119,12 +121,12 @@ fn operation_on_two(
     alloc: Global,
     coverages: &[Signature],
     bound: &[Bound],
-    scope: &[QueryName],
+    scope: &Scope,
     op: BinaryOperator,
     l: Shape,
     r: &Expr,
 ) -> Result<Shape, CheckError>
-    ensures { Says shape_view result (then_of (typ coverages.now bound.now scope.now (view r.now)) (operators.binary op (shape_view l))) }
+    ensures { Says shape_view result (then_of (typ coverages.now bound.now (names_in scope.now.frames) (view r.now)) (operators.binary op (shape_view l))) }
 {
     let r = expression(alloc, coverages, bound, scope, r)?;
     binary(alloc, op, l, r)
@@ -137,11 +139,11 @@ fn reduced(
     alloc: Global,
     coverages: &[Signature],
     bound: &[Bound],
-    scope: &[QueryName],
+    scope: &Scope,
     op: Aggregate,
     a: &Expr,
 ) -> Result<Shape, CheckError>
-    ensures { Says shape_view result (typ coverages.now bound.now scope.now (tree.reduce op (view a.now))) }
+    ensures { Says shape_view result (typ coverages.now bound.now (names_in scope.now.frames) (tree.reduce op (view a.now))) }
 {
     let a = expression(alloc, coverages, bound, scope, a)?;
     reduction(alloc, op, a)
@@ -154,11 +156,11 @@ fn field_of(
     alloc: Global,
     coverages: &[Signature],
     bound: &[Bound],
-    scope: &[QueryName],
+    scope: &Scope,
     a: &Expr,
     name: &QueryName,
 ) -> Result<Shape, CheckError>
-    ensures { Says shape_view result (typ coverages.now bound.now scope.now (tree.field (view a.now) name.now)) }
+    ensures { Says shape_view result (typ coverages.now bound.now (names_in scope.now.frames) (tree.field (view a.now) name.now)) }
 {
     let a = expression(alloc, coverages, bound, scope, a)?;
     selected(alloc, a, name)
@@ -171,11 +173,11 @@ fn listed(
     alloc: Global,
     coverages: &[Signature],
     bound: &[Bound],
-    scope: &[QueryName],
+    scope: &Scope,
     iterators: &[Iter],
     items: &[ListItem],
 ) -> Result<Shape, CheckError>
-    ensures { Says shape_view result (typ coverages.now bound.now scope.now (tree.value_list (iters_of iterators.now) items.now)) }
+    ensures { Says shape_view result (typ coverages.now bound.now (names_in scope.now.frames) (tree.value_list (iters_of iterators.now) items.now)) }
 {
     let over = iterator_list(alloc, coverages, bound, scope, iterators)?;
     let domain = box_of(over.axes)?;
@@ -189,11 +191,11 @@ fn bracketed(
     alloc: Global,
     coverages: &[Signature],
     bound: &[Bound],
-    scope: &[QueryName],
+    scope: &Scope,
     value: Shape,
     subs: &[Sub],
 ) -> Result<Shape, CheckError>
-    ensures { Says shape_view result (then_of (typ_subs coverages.now bound.now scope.now (opened value.domain) (subs_of subs.now)) (closed_on (shape_view value))) }
+    ensures { Says shape_view result (then_of (typ_subs coverages.now bound.now (names_in scope.now.frames) (opened value.domain) (subs_of subs.now)) (closed_on (shape_view value))) }
 {
     let Shape {
         domain,
@@ -211,13 +213,15 @@ fn constructed(
     alloc: Global,
     coverages: &[Signature],
     bound: &[Bound],
+    scope: &Scope,
     over: Opened,
     body: &Expr,
 ) -> Result<Shape, CheckError>
-    ensures { Says shape_view result (then_of (typ coverages.now bound.now over.scope.items (view body.now)) (array_of over.domain)) }
+    ensures { Says shape_view result (then_of (typ coverages.now bound.now (names_in scope.now.frames ++ over.variables.items) (view body.now)) (array_of over.domain)) }
 {
-    let Opened { domain, scope } = over;
-    let body = expression(alloc, coverages, bound, &scope, body)?;
+    let Opened { domain, variables } = over;
+    let inner = Scope::within(scope, &variables)?;
+    let body = expression(alloc, coverages, bound, &inner, body)?;
     array(alloc, domain, only_scalar(body)?)
 }
 
@@ -228,16 +232,35 @@ fn condensed_over(
     alloc: Global,
     coverages: &[Signature],
     bound: &[Bound],
+    scope: &Scope,
     op: Aggregate,
     over: Opened,
     condition: Option<Node>,
     body: &Expr,
 ) -> Result<Shape, CheckError>
-    ensures { Says shape_view result (then_of (typ coverages.now bound.now over.scope.items (view body.now)) (λ s. then_of (only_scalar s) (condensed op over.domain (option_map only_tree condition)))) }
+    ensures { Says shape_view result (then_of (typ coverages.now bound.now (names_in scope.now.frames ++ over.variables.items) (view body.now)) (λ s. then_of (only_scalar s) (condensed op over.domain (option_map only_tree condition)))) }
 {
-    let Opened { domain, scope } = over;
-    let body = expression(alloc, coverages, bound, &scope, body)?;
+    let Opened { domain, variables } = over;
+    let inner = Scope::within(scope, &variables)?;
+    let body = expression(alloc, coverages, bound, &inner, body)?;
     condensed(alloc, op, domain, condition, only_scalar(body)?)
+}
+
+/// The tree of the condition of a condenser over a box, if there is one.
+#[cycle(expression)]
+#[inline(never)]
+fn condition_over(
+    alloc: Global,
+    coverages: &[Signature],
+    bound: &[Bound],
+    scope: &Scope,
+    over: &Opened,
+    condition: &Option<Box<Expr>>,
+) -> Result<Option<Node>, CheckError>
+    ensures { Says (option_map only_tree) result (typ_condition coverages.now bound.now (names_in scope.now.frames ++ over.now.variables.items) (condition_of condition.now)) }
+{
+    let inner = Scope::within(&*scope, &over.variables)?;
+    condition_node(alloc, coverages, bound, &inner, condition)
 }
 
 /// The tree of a condition, if there is one.
@@ -246,10 +269,10 @@ pub fn condition_node(
     alloc: Global,
     coverages: &[Signature],
     bound: &[Bound],
-    scope: &[QueryName],
+    scope: &Scope,
     condition: &Option<Box<Expr>>,
 ) -> Result<Option<Node>, CheckError>
-    ensures { Says (option_map only_tree) result (typ_condition coverages.now bound.now scope.now (condition_of condition.now)) }
+    ensures { Says (option_map only_tree) result (typ_condition coverages.now bound.now (names_in scope.now.frames) (condition_of condition.now)) }
 {
     match condition {
         None => Ok(None),
@@ -267,10 +290,10 @@ fn record(
     alloc: Global,
     coverages: &[Signature],
     bound: &[Bound],
-    scope: &[QueryName],
+    scope: &Scope,
     parts: &[Part],
 ) -> Result<Shape, CheckError>
-    ensures { Says shape_view result (typ_parts coverages.now bound.now scope.now no_pieces (parts_of parts.now)) }
+    ensures { Says shape_view result (typ_parts coverages.now bound.now (names_in scope.now.frames) no_pieces (parts_of parts.now)) }
 {
     let mut pieces = Pieces::new(alloc);
     for part in parts {
@@ -289,11 +312,11 @@ fn subscripts(
     alloc: Global,
     coverages: &[Signature],
     bound: &[Bound],
-    scope: &[QueryName],
+    scope: &Scope,
     domain: Domain,
     subs: &[Sub],
 ) -> Result<Bracket, CheckError>
-    ensures { Says bracket_view result (typ_subs coverages.now bound.now scope.now (opened domain) (subs_of subs.now)) }
+    ensures { Says bracket_view result (typ_subs coverages.now bound.now (names_in scope.now.frames) (opened domain) (subs_of subs.now)) }
 {
     let mut bracket = Bracket::new(alloc, domain);
     for sub in subs {
@@ -310,12 +333,12 @@ fn subscript(
     alloc: Global,
     coverages: &[Signature],
     bound: &[Bound],
-    scope: &[QueryName],
+    scope: &Scope,
     bracket: Bracket,
     axis: &QueryName,
     subscript: &Place,
 ) -> Result<Bracket, CheckError>
-    ensures { Says bracket_view result (then_of (place_to_cut axis.now (bracket_view bracket)) (λ k. typ_place coverages.now bound.now scope.now k axis.now (bracket_view bracket) (view_place subscript.now))) }
+    ensures { Says bracket_view result (then_of (place_to_cut axis.now (bracket_view bracket)) (λ k. typ_place coverages.now bound.now (names_in scope.now.frames) k axis.now (bracket_view bracket) (view_place subscript.now))) }
 {
     let place = place_to_cut(&bracket, axis)?;
     match subscript {
@@ -337,10 +360,10 @@ fn interval_bounds(
     alloc: Global,
     coverages: &[Signature],
     bound: &[Bound],
-    scope: &[QueryName],
+    scope: &Scope,
     interval: &Interval,
 ) -> Result<Bounds, CheckError>
-    ensures { Says bounds_view result (typ_interval coverages.now bound.now scope.now (view_interval interval.now)) }
+    ensures { Says bounds_view result (typ_interval coverages.now bound.now (names_in scope.now.frames) (view_interval interval.now)) }
 {
     match interval {
         Interval::Bounds(lo, hi) => written_bounds(*lo, *hi),
@@ -357,10 +380,10 @@ fn iterator_list(
     alloc: Global,
     coverages: &[Signature],
     bound: &[Bound],
-    scope: &[QueryName],
+    scope: &Scope,
     list: &[Iter],
 ) -> Result<Iterators, CheckError>
-    ensures { Says iterators_view result (typ_iters coverages.now bound.now scope.now no_iterators (iters_of list.now)) }
+    ensures { Says iterators_view result (typ_iters coverages.now bound.now (names_in scope.now.frames) no_iterators (iters_of list.now)) }
 {
     let mut iterators = Iterators::new(alloc);
     for iter in list {

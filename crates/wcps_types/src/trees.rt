@@ -9,6 +9,7 @@ ghost use Rattle.wcps_types.specs.Queries.{label_boolean, item_of, plain_item, t
 use crate::expression::{condition_node, expression};
 use crate::names::Bound;
 use crate::refusal::{CheckError, TypeRefusal};
+use crate::scope::Scope;
 use crate::shape::{Label, Shape, is_scalar};
 use crate::typed::{Tree, TypedItem};
 use arr_core::Signature;
@@ -66,11 +67,11 @@ fn typed_item(
 {
     match item {
         Item::Encode(e) => {
-            let shape = expression(alloc, coverages, bound, &[], e)?;
+            let shape = expression(alloc, coverages, bound, &Scope::outermost(), e)?;
             item_of(alloc, shape)
         }
         Item::Plain(e) => {
-            let shape = expression(alloc, coverages, bound, &[], e)?;
+            let shape = expression(alloc, coverages, bound, &Scope::outermost(), e)?;
             plain_item(alloc, shape)
         }
     }
@@ -85,7 +86,13 @@ pub fn tree_of(
 ) -> Result<Tree, CheckError>
     ensures { Says tree_view result (typ_combination coverages.now (query_view query.now) bound.now) }
 {
-    let condition = condition_node(alloc, coverages, bound, &[], &query.condition)?;
+    let condition = condition_node(
+        alloc,
+        coverages,
+        bound,
+        &Scope::outermost(),
+        &query.condition,
+    )?;
     let item = typed_item(alloc, coverages, bound, &query.item)?;
     Ok(Tree { condition, item })
 }

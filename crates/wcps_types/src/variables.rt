@@ -2,11 +2,13 @@
 
 ghost use Rattle.std.specs.Prelude.{◌≡◌, IfOk, map, slice_get};
 ghost use Rattle.wcps_types.specs.declared.typed.Node.TheVariants.{Coverage};
+ghost use Rattle.wcps_types.specs.Frames.{names_in};
 ghost use Rattle.wcps_types.specs.Shapes.{Says, shape_view, labels_view};
 ghost use Rattle.wcps_types.specs.Variables.{is_boolean, label_of, cells_from, coverage_at, bound_at, variable};
 
-use crate::names::{Bound, bound_place, name_place};
+use crate::names::{Bound, bound_place};
 use crate::refusal::{CheckError, TypeRefusal};
+use crate::scope::Scope;
 use crate::shape::{Label, Shape, unnamed_scalar};
 use crate::typed::Node;
 use arr_core::{Field, FieldType, Signature};
@@ -94,12 +96,12 @@ pub fn variable(
     alloc: Global,
     coverages: &[Signature],
     bound: &[Bound],
-    scope: &[QueryName],
+    scope: &Scope,
     name: &QueryName,
 ) -> Result<Shape, CheckError>
-    ensures { Says shape_view result (variable coverages.now bound.now scope.now name.now) }
+    ensures { Says shape_view result (variable coverages.now bound.now (names_in scope.now.frames) name.now) }
 {
-    match name_place(scope, name) {
+    match scope.place(name) {
         Some(level) => Ok(unnamed_scalar(alloc, false, Node::Iterator(level))?),
         None => match bound_place(bound, name) {
             None => Err(CheckError::Refused(TypeRefusal::UnknownName)),

@@ -1,16 +1,13 @@
 -- Forms with lists have the shape or the first refusal of what their parts are seen as; a bracket's axes are told one at a time.
-use Rattle.std.proofs.Common.{◌≡◌, ◌+◌, ◌++◌, drop, ap, ◌∙◌, sym, rules}
-use Rattle.std.specs.Prelude.{Ok}
-use Rattle.std.specs.Option.{option_map}
+use Rattle.std.proofs.Common.{◌≡◌, ◌+◌, drop, ap, ◌∙◌, sym, rules}
 use Rattle.wcps_text.specs.declared.tree.Expr.{Expr}
 use Rattle.wcps_text.specs.Tree as tree
 use Rattle.wcps_text.specs.Tree.{Tree, view, view_place, sub, parts_of, subs_of, iters_of, condition_of}
 use Rattle.wcps_text.proofs.Views.{view-Record, view-Brackets, view-ValueList, view-Coverage, view-Condense}
-use Rattle.wcps_types.specs.Typed.{only_tree}
-use Rattle.wcps_types.specs.Shapes.{Answer, then_of, shape_view, scalar_of_view, only_scalar}
-use Rattle.wcps_types.specs.Boxes.{no_iterators, box_of}
+use Rattle.wcps_types.specs.Shapes.{Answer, then_of}
+use Rattle.wcps_types.specs.Frames.{names_in}
 use Rattle.wcps_types.specs.Brackets.{BracketTree, bracket_view, opened}
-use Rattle.wcps_types.specs.Typing.{typ, typ_subs, typ_iters, typ_condition}
+use Rattle.wcps_types.specs.Typing.{typ_subs}
 use Rattle.wcps_types.proofs.Parts.{drop_sub}
 use Rattle.wcps_types.proofs.expression.+expression.Goals as goal
 
@@ -67,15 +64,15 @@ expression-returns-in_ok-condition-in-Condense t c =
 pub subscripts-returns-in_err-bracket : goal.subscripts-returns-in_err-bracket
 subscripts-returns-in_err-bracket t c =
     let next = drop_sub c.args.subs.now c.loop-sub.sub-index c.sub-item.result c.loop-sub-test.true c.sub-item.is in
-    let inv : typ_subs c.args.coverages.now c.args.bound.now c.args.scope.now (bracket_view c.loop-sub.bracket) (subs_of (drop c.loop-sub.sub-index c.args.subs.now))
-    ≡ typ_subs c.args.coverages.now c.args.bound.now c.args.scope.now (opened c.args.domain) (subs_of c.args.subs.now) = c.loop-sub.invariant in
+    let inv : typ_subs c.args.coverages.now c.args.bound.now (names_in c.args.scope.now.frames) (bracket_view c.loop-sub.bracket) (subs_of (drop c.loop-sub.sub-index c.args.subs.now))
+    ≡ typ_subs c.args.coverages.now c.args.bound.now (names_in c.args.scope.now.frames) (opened c.args.domain) (subs_of c.args.subs.now) = c.loop-sub.invariant in
     rw (← inv, next) (search rules)
 
 pub subscripts-loop-sub-preserved : goal.subscripts-loop-sub-preserved
 subscripts-loop-sub-preserved t c =
     let next = drop_sub c.args.subs.now c.loop-sub.sub-index c.sub-item.result c.loop-sub-test.true c.sub-item.is in
     let rest = subs_of (drop (c.loop-sub.sub-index + 1) c.args.subs.now) in
-    let step : typ_subs c.args.coverages.now c.args.bound.now c.args.scope.now (bracket_view c.loop-sub.bracket) (sub c.sub-item.result.axis (view_place c.sub-item.result.place) rest)
-    ≡ typ_subs c.args.coverages.now c.args.bound.now c.args.scope.now (bracket_view c.in_ok-bracket.bracket) rest =
-    ap (λ (a : Answer BracketTree). then_of a (λ (b : BracketTree). typ_subs c.args.coverages.now c.args.bound.now c.args.scope.now b rest)) c.in_ok-bracket.ensures in
-    sym step ∙ ap (λ subs. typ_subs c.args.coverages.now c.args.bound.now c.args.scope.now (bracket_view c.loop-sub.bracket) (subs_of subs)) (sym next) ∙ c.loop-sub.invariant
+    let step : typ_subs c.args.coverages.now c.args.bound.now (names_in c.args.scope.now.frames) (bracket_view c.loop-sub.bracket) (sub c.sub-item.result.axis (view_place c.sub-item.result.place) rest)
+    ≡ typ_subs c.args.coverages.now c.args.bound.now (names_in c.args.scope.now.frames) (bracket_view c.in_ok-bracket.bracket) rest =
+    ap (λ (a : Answer BracketTree). then_of a (λ (b : BracketTree). typ_subs c.args.coverages.now c.args.bound.now (names_in c.args.scope.now.frames) b rest)) c.in_ok-bracket.ensures in
+    sym step ∙ ap (λ subs. typ_subs c.args.coverages.now c.args.bound.now (names_in c.args.scope.now.frames) (bracket_view c.loop-sub.bracket) (subs_of subs)) (sym next) ∙ c.loop-sub.invariant
