@@ -1,5 +1,6 @@
 -- Variables: iterators and coverages.
-use Rattle.std.specs.Prelude.{ℕ, ◌+◌, List, [], ◌∷◌, Bool, true, false, Option, Some, None, slice_get, Ok, Err}
+use Rattle.std.specs.Prelude.{ℕ, ◌+◌, List, [], ◌∷◌, Bool, true, false, map, Option, Some, None, slice_get, Ok, Err}
+use Rattle.std.specs.Borrow.{Bor}
 use Rattle.arr_core.specs.declared.cell.FieldType.{FieldType}
 use Rattle.arr_core.specs.declared.cell.FieldType.TheVariants as kinds
 use Rattle.arr_core.specs.declared.field.Field.{Field}
@@ -10,6 +11,10 @@ use Rattle.wcps_types.specs.declared.shape.Label.{Label}
 use Rattle.wcps_types.specs.Typed.{iterator, cell}
 use Rattle.wcps_types.specs.Names.{bound_place, name_place}
 use Rattle.wcps_types.specs.Shapes.{SlotTree, ShapeTree, Answer, unnamed}
+
+-- the signatures that references point to
+abbrev pub signatures_in : List (Bor Signature) → List Signature
+signatures_in coverages = map (λ (s : Bor Signature). s.now) coverages
 
 -- a query sees the other types as integers
 abbrev pub is_boolean : FieldType → Bool

@@ -36,7 +36,7 @@ pub const MAX_COMBINATIONS: u64 = 64;
 const TOO_MANY: u64 = MAX_COMBINATIONS + 1;
 
 /// A signature of one's own.
-pub fn copied(alloc: Global, signature: &Signature) -> Result<Signature, AllocError>
+fn copied(alloc: Global, signature: &Signature) -> Result<Signature, AllocError>
     ensures { IfOk result (λ s. s ≡ signature.now) }
 {
     let name = signature.name.copy(alloc)?;

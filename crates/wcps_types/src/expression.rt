@@ -7,6 +7,7 @@ ghost use Rattle.wcps_text.specs.Tree as tree;
 ghost use Rattle.wcps_text.specs.Tree.{view, view_place, view_interval, parts_of, subs_of, iters_of, condition_of};
 ghost use Rattle.wcps_types.specs.Typed.{only_tree, number};
 ghost use Rattle.wcps_types.specs.Frames.{names_in};
+ghost use Rattle.wcps_types.specs.Variables.{signatures_in};
 ghost use Rattle.wcps_types.specs.Shapes.{Says, then_of, shape_view, only_scalar, unnamed};
 ghost use Rattle.wcps_types.specs.Brackets.{bounds_view, bracket_view, opened, place_to_cut};
 ghost use Rattle.wcps_types.specs.Operators as operators;
@@ -44,12 +45,12 @@ use wcps_text::{
 #[cycle(expression)]
 pub fn expression(
     alloc: Global,
-    coverages: &[Signature],
+    coverages: &[&Signature],
     bound: &[Bound],
     scope: &Scope,
     e: &Expr,
 ) -> Result<Shape, CheckError>
-    ensures { Says shape_view result (typ coverages.now bound.now (names_in scope.now.frames) (view e.now)) }
+    ensures { Says shape_view result (typ (signatures_in coverages.now) bound.now (names_in scope.now.frames) (view e.now)) }
 {
     match e {
         Expr::Number(n) => constant(alloc, false, n.value as i64),
@@ -102,13 +103,13 @@ fn constant(alloc: Global, boolean: bool, value: i64) -> Result<Shape, CheckErro
 #[inline(never)]
 fn operation(
     alloc: Global,
-    coverages: &[Signature],
+    coverages: &[&Signature],
     bound: &[Bound],
     scope: &Scope,
     op: UnaryOperator,
     a: &Expr,
 ) -> Result<Shape, CheckError>
-    ensures { Says shape_view result (typ coverages.now bound.now (names_in scope.now.frames) (tree.unary op (view a.now))) }
+    ensures { Says shape_view result (typ (signatures_in coverages.now) bound.now (names_in scope.now.frames) (tree.unary op (view a.now))) }
 {
     let a = expression(alloc, coverages, bound, scope, a)?;
     unary(alloc, op, a)
@@ -119,14 +120,14 @@ fn operation(
 #[inline(never)]
 fn operation_on_two(
     alloc: Global,
-    coverages: &[Signature],
+    coverages: &[&Signature],
     bound: &[Bound],
     scope: &Scope,
     op: BinaryOperator,
     l: Shape,
     r: &Expr,
 ) -> Result<Shape, CheckError>
-    ensures { Says shape_view result (then_of (typ coverages.now bound.now (names_in scope.now.frames) (view r.now)) (operators.binary op (shape_view l))) }
+    ensures { Says shape_view result (then_of (typ (signatures_in coverages.now) bound.now (names_in scope.now.frames) (view r.now)) (operators.binary op (shape_view l))) }
 {
     let r = expression(alloc, coverages, bound, scope, r)?;
     binary(alloc, op, l, r)
@@ -137,13 +138,13 @@ fn operation_on_two(
 #[inline(never)]
 fn reduced(
     alloc: Global,
-    coverages: &[Signature],
+    coverages: &[&Signature],
     bound: &[Bound],
     scope: &Scope,
     op: Aggregate,
     a: &Expr,
 ) -> Result<Shape, CheckError>
-    ensures { Says shape_view result (typ coverages.now bound.now (names_in scope.now.frames) (tree.reduce op (view a.now))) }
+    ensures { Says shape_view result (typ (signatures_in coverages.now) bound.now (names_in scope.now.frames) (tree.reduce op (view a.now))) }
 {
     let a = expression(alloc, coverages, bound, scope, a)?;
     reduction(alloc, op, a)
@@ -154,13 +155,13 @@ fn reduced(
 #[inline(never)]
 fn field_of(
     alloc: Global,
-    coverages: &[Signature],
+    coverages: &[&Signature],
     bound: &[Bound],
     scope: &Scope,
     a: &Expr,
     name: &QueryName,
 ) -> Result<Shape, CheckError>
-    ensures { Says shape_view result (typ coverages.now bound.now (names_in scope.now.frames) (tree.field (view a.now) name.now)) }
+    ensures { Says shape_view result (typ (signatures_in coverages.now) bound.now (names_in scope.now.frames) (tree.field (view a.now) name.now)) }
 {
     let a = expression(alloc, coverages, bound, scope, a)?;
     selected(alloc, a, name)
@@ -171,13 +172,13 @@ fn field_of(
 #[inline(never)]
 fn listed(
     alloc: Global,
-    coverages: &[Signature],
+    coverages: &[&Signature],
     bound: &[Bound],
     scope: &Scope,
     iterators: &[Iter],
     items: &[ListItem],
 ) -> Result<Shape, CheckError>
-    ensures { Says shape_view result (typ coverages.now bound.now (names_in scope.now.frames) (tree.value_list (iters_of iterators.now) items.now)) }
+    ensures { Says shape_view result (typ (signatures_in coverages.now) bound.now (names_in scope.now.frames) (tree.value_list (iters_of iterators.now) items.now)) }
 {
     let over = iterator_list(alloc, coverages, bound, scope, iterators)?;
     let domain = box_of(over.axes)?;
@@ -189,13 +190,13 @@ fn listed(
 #[inline(never)]
 fn bracketed(
     alloc: Global,
-    coverages: &[Signature],
+    coverages: &[&Signature],
     bound: &[Bound],
     scope: &Scope,
     value: Shape,
     subs: &[Sub],
 ) -> Result<Shape, CheckError>
-    ensures { Says shape_view result (then_of (typ_subs coverages.now bound.now (names_in scope.now.frames) (opened value.domain) (subs_of subs.now)) (closed_on (shape_view value))) }
+    ensures { Says shape_view result (then_of (typ_subs (signatures_in coverages.now) bound.now (names_in scope.now.frames) (opened value.domain) (subs_of subs.now)) (closed_on (shape_view value))) }
 {
     let Shape {
         domain,
@@ -211,13 +212,13 @@ fn bracketed(
 #[inline(never)]
 fn constructed(
     alloc: Global,
-    coverages: &[Signature],
+    coverages: &[&Signature],
     bound: &[Bound],
     scope: &Scope,
     over: Opened,
     body: &Expr,
 ) -> Result<Shape, CheckError>
-    ensures { Says shape_view result (then_of (typ coverages.now bound.now (names_in scope.now.frames ++ over.variables.items) (view body.now)) (array_of over.domain)) }
+    ensures { Says shape_view result (then_of (typ (signatures_in coverages.now) bound.now (names_in scope.now.frames ++ over.variables.items) (view body.now)) (array_of over.domain)) }
 {
     let Opened { domain, variables } = over;
     let inner = Scope::within(scope, &variables)?;
@@ -230,7 +231,7 @@ fn constructed(
 #[inline(never)]
 fn condensed_over(
     alloc: Global,
-    coverages: &[Signature],
+    coverages: &[&Signature],
     bound: &[Bound],
     scope: &Scope,
     op: Aggregate,
@@ -238,7 +239,7 @@ fn condensed_over(
     condition: Option<Node>,
     body: &Expr,
 ) -> Result<Shape, CheckError>
-    ensures { Says shape_view result (then_of (typ coverages.now bound.now (names_in scope.now.frames ++ over.variables.items) (view body.now)) (λ s. then_of (only_scalar s) (condensed op over.domain (option_map only_tree condition)))) }
+    ensures { Says shape_view result (then_of (typ (signatures_in coverages.now) bound.now (names_in scope.now.frames ++ over.variables.items) (view body.now)) (λ s. then_of (only_scalar s) (condensed op over.domain (option_map only_tree condition)))) }
 {
     let Opened { domain, variables } = over;
     let inner = Scope::within(scope, &variables)?;
@@ -251,13 +252,13 @@ fn condensed_over(
 #[inline(never)]
 fn condition_over(
     alloc: Global,
-    coverages: &[Signature],
+    coverages: &[&Signature],
     bound: &[Bound],
     scope: &Scope,
     over: &Opened,
     condition: &Option<Box<Expr>>,
 ) -> Result<Option<Node>, CheckError>
-    ensures { Says (option_map only_tree) result (typ_condition coverages.now bound.now (names_in scope.now.frames ++ over.now.variables.items) (condition_of condition.now)) }
+    ensures { Says (option_map only_tree) result (typ_condition (signatures_in coverages.now) bound.now (names_in scope.now.frames ++ over.now.variables.items) (condition_of condition.now)) }
 {
     let inner = Scope::within(&*scope, &over.variables)?;
     condition_node(alloc, coverages, bound, &inner, condition)
@@ -267,12 +268,12 @@ fn condition_over(
 #[cycle(expression)]
 pub fn condition_node(
     alloc: Global,
-    coverages: &[Signature],
+    coverages: &[&Signature],
     bound: &[Bound],
     scope: &Scope,
     condition: &Option<Box<Expr>>,
 ) -> Result<Option<Node>, CheckError>
-    ensures { Says (option_map only_tree) result (typ_condition coverages.now bound.now (names_in scope.now.frames) (condition_of condition.now)) }
+    ensures { Says (option_map only_tree) result (typ_condition (signatures_in coverages.now) bound.now (names_in scope.now.frames) (condition_of condition.now)) }
 {
     match condition {
         None => Ok(None),
@@ -288,12 +289,12 @@ pub fn condition_node(
 #[cycle(expression)]
 fn record(
     alloc: Global,
-    coverages: &[Signature],
+    coverages: &[&Signature],
     bound: &[Bound],
     scope: &Scope,
     parts: &[Part],
 ) -> Result<Shape, CheckError>
-    ensures { Says shape_view result (typ_parts coverages.now bound.now (names_in scope.now.frames) no_pieces (parts_of parts.now)) }
+    ensures { Says shape_view result (typ_parts (signatures_in coverages.now) bound.now (names_in scope.now.frames) no_pieces (parts_of parts.now)) }
 {
     let mut pieces = Pieces::new(alloc);
     for part in parts {
@@ -310,13 +311,13 @@ fn record(
 #[cycle(expression)]
 fn subscripts(
     alloc: Global,
-    coverages: &[Signature],
+    coverages: &[&Signature],
     bound: &[Bound],
     scope: &Scope,
     domain: Domain,
     subs: &[Sub],
 ) -> Result<Bracket, CheckError>
-    ensures { Says bracket_view result (typ_subs coverages.now bound.now (names_in scope.now.frames) (opened domain) (subs_of subs.now)) }
+    ensures { Says bracket_view result (typ_subs (signatures_in coverages.now) bound.now (names_in scope.now.frames) (opened domain) (subs_of subs.now)) }
 {
     let mut bracket = Bracket::new(alloc, domain);
     for sub in subs {
@@ -331,14 +332,14 @@ fn subscripts(
 #[cycle(expression)]
 fn subscript(
     alloc: Global,
-    coverages: &[Signature],
+    coverages: &[&Signature],
     bound: &[Bound],
     scope: &Scope,
     bracket: Bracket,
     axis: &QueryName,
     subscript: &Place,
 ) -> Result<Bracket, CheckError>
-    ensures { Says bracket_view result (then_of (place_to_cut axis.now (bracket_view bracket)) (λ k. typ_place coverages.now bound.now (names_in scope.now.frames) k axis.now (bracket_view bracket) (view_place subscript.now))) }
+    ensures { Says bracket_view result (then_of (place_to_cut axis.now (bracket_view bracket)) (λ k. typ_place (signatures_in coverages.now) bound.now (names_in scope.now.frames) k axis.now (bracket_view bracket) (view_place subscript.now))) }
 {
     let place = place_to_cut(&bracket, axis)?;
     match subscript {
@@ -358,12 +359,12 @@ fn subscript(
 #[cycle(expression)]
 fn interval_bounds(
     alloc: Global,
-    coverages: &[Signature],
+    coverages: &[&Signature],
     bound: &[Bound],
     scope: &Scope,
     interval: &Interval,
 ) -> Result<Bounds, CheckError>
-    ensures { Says bounds_view result (typ_interval coverages.now bound.now (names_in scope.now.frames) (view_interval interval.now)) }
+    ensures { Says bounds_view result (typ_interval (signatures_in coverages.now) bound.now (names_in scope.now.frames) (view_interval interval.now)) }
 {
     match interval {
         Interval::Bounds(lo, hi) => written_bounds(*lo, *hi),
@@ -378,12 +379,12 @@ fn interval_bounds(
 #[cycle(expression)]
 fn iterator_list(
     alloc: Global,
-    coverages: &[Signature],
+    coverages: &[&Signature],
     bound: &[Bound],
     scope: &Scope,
     list: &[Iter],
 ) -> Result<Iterators, CheckError>
-    ensures { Says iterators_view result (typ_iters coverages.now bound.now (names_in scope.now.frames) no_iterators (iters_of list.now)) }
+    ensures { Says iterators_view result (typ_iters (signatures_in coverages.now) bound.now (names_in scope.now.frames) no_iterators (iters_of list.now)) }
 {
     let mut iterators = Iterators::new(alloc);
     for iter in list {

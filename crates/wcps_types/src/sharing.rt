@@ -5,9 +5,9 @@ ghost use Rattle.wcps_text.specs.Tree.{QueryTree};
 ghost use Rattle.wcps_types.specs.declared.typed.Tree.{Tree};
 ghost use Rattle.wcps_types.specs.Renamed.{over};
 ghost use Rattle.wcps_types.specs.Queries.{typ_combination};
+ghost use Rattle.wcps_types.specs.Variables.{signatures_in};
 ghost use Rattle.wcps_types.specs.Sharing.{own, coverages_in, with_signature, signatures_at, AreLike, AlikeAt, Alike, AreMade};
 
-use crate::bindings::copied;
 use crate::names::Bound;
 use crate::typed_query::Combination;
 use arr_core::{Field, Signature};
@@ -95,35 +95,34 @@ pub fn tree_of_like(
 }
 
 /// Signatures, and after them that of the coverage at a place, if it is there.
-fn with_signature(
-    alloc: Global,
-    coverages: &[Signature],
+fn with_signature<'a>(
+    coverages: &'a [Signature],
     place: usize,
-    signatures: Vec<Signature>,
-) -> Result<Vec<Signature>, AllocError>
-    ensures { IfOk result (λ v. v.items ≡ signatures.items ++ with_signature (slice_get coverages.now place) []) }
+    signatures: Vec<&'a Signature>,
+) -> Result<Vec<&'a Signature>, AllocError>
+    ensures { IfOk result (λ v. signatures_in v.items ≡ signatures_in signatures.entry.items ++ with_signature (slice_get coverages.now place) []) }
 {
     match coverages.get(place) {
         None => Ok(signatures),
         Some(signature) => {
             let mut signatures = signatures;
-            signatures.push(copied(alloc, signature)?)?;
+            signatures.push(signature)?;
             Ok(signatures)
         }
     }
 }
 
 /// The signatures of the coverages of a combination, each for one variable.
-pub fn signatures_of(
+pub fn signatures_of<'a>(
     alloc: Global,
-    coverages: &[Signature],
+    coverages: &'a [Signature],
     bound: &[Bound],
-) -> Result<Vec<Signature>, AllocError>
-    ensures { IfOk result (λ v. v.items ≡ signatures_at coverages.now (coverages_in bound.now)) }
+) -> Result<Vec<&'a Signature>, AllocError>
+    ensures { IfOk result (λ v. signatures_in v.items ≡ signatures_at coverages.now (coverages_in bound.now)) }
 {
     let mut signatures = Vec::new(alloc);
     for b in bound {
-        signatures = with_signature(alloc, coverages, b.coverage, signatures)?;
+        signatures = with_signature(coverages, b.coverage, signatures)?;
     }
     Ok(signatures)
 }

@@ -4,6 +4,7 @@ ghost use Rattle.std.specs.Prelude.{◌≡◌, [], IfOk, map};
 ghost use Rattle.wcps_text.specs.Tree.{query_view, item_view as tree_item_view};
 ghost use Rattle.wcps_types.specs.Typed.{item_view, tree_view};
 ghost use Rattle.wcps_types.specs.Shapes.{Says, shape_view};
+ghost use Rattle.wcps_types.specs.Variables.{signatures_in};
 ghost use Rattle.wcps_types.specs.Queries.{label_boolean, item_of, plain_item, typ_item, typ_combination};
 
 use crate::expression::{condition_node, expression};
@@ -59,11 +60,11 @@ fn plain_item(alloc: Global, shape: Shape) -> Result<TypedItem, CheckError>
 /// What a query returns.
 fn typed_item(
     alloc: Global,
-    coverages: &[Signature],
+    coverages: &[&Signature],
     bound: &[Bound],
     item: &Item,
 ) -> Result<TypedItem, CheckError>
-    ensures { Says item_view result (typ_item coverages.now bound.now (tree_item_view item.now)) }
+    ensures { Says item_view result (typ_item (signatures_in coverages.now) bound.now (tree_item_view item.now)) }
 {
     match item {
         Item::Encode(e) => {
@@ -80,11 +81,11 @@ fn typed_item(
 /// The query with one choice of coverages: its `where`, then its item.
 pub fn tree_of(
     alloc: Global,
-    coverages: &[Signature],
+    coverages: &[&Signature],
     bound: &[Bound],
     query: &Query,
 ) -> Result<Tree, CheckError>
-    ensures { Says tree_view result (typ_combination coverages.now (query_view query.now) bound.now) }
+    ensures { Says tree_view result (typ_combination (signatures_in coverages.now) (query_view query.now) bound.now) }
 {
     let condition = condition_node(
         alloc,

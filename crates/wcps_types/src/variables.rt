@@ -4,7 +4,7 @@ ghost use Rattle.std.specs.Prelude.{◌≡◌, IfOk, map, slice_get};
 ghost use Rattle.wcps_types.specs.declared.typed.Node.TheVariants.{Coverage};
 ghost use Rattle.wcps_types.specs.Frames.{names_in};
 ghost use Rattle.wcps_types.specs.Shapes.{Says, shape_view, labels_view};
-ghost use Rattle.wcps_types.specs.Variables.{is_boolean, label_of, cells_from, coverage_at, bound_at, variable};
+ghost use Rattle.wcps_types.specs.Variables.{signatures_in, is_boolean, label_of, cells_from, coverage_at, bound_at, variable};
 
 use crate::names::{Bound, bound_place};
 use crate::refusal::{CheckError, TypeRefusal};
@@ -59,8 +59,12 @@ fn coverage_labels(alloc: Global, place: usize, fields: &[Field]) -> Result<Vec<
 }
 
 /// The shape of the coverage at a place.
-fn coverage_shape(alloc: Global, coverages: &[Signature], place: usize) -> Result<Shape, CheckError>
-    ensures { Says shape_view result (coverage_at place (slice_get coverages.now place)) }
+fn coverage_shape(
+    alloc: Global,
+    coverages: &[&Signature],
+    place: usize,
+) -> Result<Shape, CheckError>
+    ensures { Says shape_view result (coverage_at place (slice_get (signatures_in coverages.now) place)) }
 {
     match coverages.get(place) {
         None => Err(CheckError::Refused(TypeRefusal::UnknownName)),
@@ -79,11 +83,11 @@ fn coverage_shape(alloc: Global, coverages: &[Signature], place: usize) -> Resul
 /// The shape of the variable at a place of the `for` list.
 fn bound_shape(
     alloc: Global,
-    coverages: &[Signature],
+    coverages: &[&Signature],
     bound: &[Bound],
     place: usize,
 ) -> Result<Shape, CheckError>
-    ensures { Says shape_view result (bound_at coverages.now (slice_get bound.now place)) }
+    ensures { Says shape_view result (bound_at (signatures_in coverages.now) (slice_get bound.now place)) }
 {
     match bound.get(place) {
         None => Err(CheckError::Refused(TypeRefusal::UnknownName)),
@@ -94,12 +98,12 @@ fn bound_shape(
 /// An iterator in scope, or a variable of the `for` list.
 pub fn variable(
     alloc: Global,
-    coverages: &[Signature],
+    coverages: &[&Signature],
     bound: &[Bound],
     scope: &Scope,
     name: &QueryName,
 ) -> Result<Shape, CheckError>
-    ensures { Says shape_view result (variable coverages.now bound.now (names_in scope.now.frames) name.now) }
+    ensures { Says shape_view result (variable (signatures_in coverages.now) bound.now (names_in scope.now.frames) name.now) }
 {
     match scope.place(name) {
         Some(level) => Ok(unnamed_scalar(alloc, false, Node::Iterator(level))?),
