@@ -5,13 +5,14 @@ use Rattle.std.specs.Global.{Global}
 use mathlib.Core.Former.{Count}
 use Rattle.arr_core.specs.declared.domain.Axis.{Axis}
 use Rattle.arr_core.specs.declared.field.Field.{Field}
-use Rattle.wcps_types.specs.declared.shape.Label.{Label}
+use Rattle.wcps_types.specs.declared.labels.Label.{Label}
 use Rattle.wcps_types.specs.declared.records.Piece.{Piece}
 use Rattle.wcps_types.specs.declared.typed.Node.{Node, Row_of-Node, end_of-Node, more_of-Node, items-the_row-Node, items_hidden-the_row-Node-0}
 use Rattle.wcps_types.specs.declared.typed.Node.TheVariants as nodes
 use Rattle.wcps_types.specs.Typed.{Typed, number, field_tree, part_tree, only_tree, fields_view}
 use Rattle.wcps_types.specs.Shapes.{slot_of, labels_view, the_boolean, labelled, only_field}
-use Rattle.wcps_types.specs.Variables.{label_of, cells_from}
+use Rattle.wcps_types.specs.Labels.{label_of}
+use Rattle.wcps_types.specs.Variables.{cells_from}
 use Rattle.wcps_types.specs.Brackets.{sliced_slot, bracketed_slot}
 use Rattle.wcps_types.specs.Records.{piece_view, finished_part}
 use Rattle.wcps_types.specs.Parts.{piece_label, tree_in, with_trees}

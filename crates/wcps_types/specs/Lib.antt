@@ -7,6 +7,7 @@ pub mod Renamed
 pub mod TypedQueries
 pub mod Names
 pub mod Frames
+pub mod Labels
 pub mod Shapes
 pub mod Operators
 pub mod Work

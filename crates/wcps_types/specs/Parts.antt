@@ -1,6 +1,6 @@
 -- Labels and trees of the parts of a record.
 use Rattle.std.specs.Prelude.{ℕ, suc, pos, List, [], ◌∷◌, Bool, cond, ◌&&◌, Some, get_or}
-use Rattle.wcps_types.specs.declared.shape.Label.{Label}
+use Rattle.wcps_types.specs.declared.labels.Label.{Label}
 use Rattle.wcps_types.specs.declared.records.Piece.{Piece}
 use Rattle.wcps_types.specs.Typed.{Typed, number, scalar, only_tree}
 use Rattle.wcps_types.specs.Shapes.{SlotTree}

@@ -5,7 +5,7 @@ use Rattle.wcps_text.specs.Tree as tree
 use Rattle.wcps_text.specs.Tree.{QueryTree, encode, plain}
 use Rattle.wcps_types.specs.declared.refusal.TypeRefusal.TheVariants.{MustEncode, TooMuchWork, ResultTooLarge}
 use Rattle.wcps_types.specs.declared.names.Bound.{Bound}
-use Rattle.wcps_types.specs.declared.shape.Label.{Label}
+use Rattle.wcps_types.specs.declared.labels.Label.{Label}
 use Rattle.wcps_types.specs.Typed.{Typed, FieldTree, ItemTree, CombinationTree, TypedTree}
 use Rattle.wcps_types.specs.Shapes.{SlotTree, ShapeTree, Answer, then_of, is_scalar}
 use Rattle.wcps_types.specs.Typing.{typ, typ_condition}

@@ -5,11 +5,12 @@ use Rattle.wcps_types.specs.declared.refusal.TypeRefusal.{TypeRefusal}
 use Rattle.wcps_types.specs.declared.refusal.TypeRefusal.TheVariants.{NeedsScalar, NeedsOneField}
 use Rattle.wcps_types.specs.declared.refusal.CheckError.{CheckError}
 use Rattle.wcps_types.specs.declared.refusal.CheckError.TheVariants.{Refused, NoMemory}
-use Rattle.wcps_types.specs.declared.shape.Label.{Label}
+use Rattle.wcps_types.specs.declared.labels.Label.{Label}
 use Rattle.wcps_types.specs.declared.shape.Shape.{Shape}
 use Rattle.wcps_types.specs.declared.shape.OneField.{OneField}
 use Rattle.wcps_types.specs.declared.shape.OneScalar.{OneScalar}
 use Rattle.wcps_types.specs.declared.typed.Node.{Node}
+use Rattle.wcps_types.specs.Labels.{labels_in}
 use Rattle.wcps_types.specs.Typed.{Typed, field_tree, only_tree}
 
 -- one field: its name if it has one, whether it is Boolean, and its tree
@@ -59,7 +60,7 @@ labels_view e k [] = []
 labels_view e k (l ∷ labels) = slot_of e k l ∷ labels_view e (suc k) labels
 
 abbrev pub shape_view : Shape → ShapeTree
-shape_view s = record { domain = s.domain; fields = labels_view s.node 0 s.labels.items }
+shape_view s = record { domain = s.domain; fields = labels_view s.node 0 (labels_in s.labels) }
 
 abbrev pub field_of_view : OneField → FieldOf
 field_of_view s = record { domain = s.domain; boolean = s.boolean; tree = only_tree s.node }

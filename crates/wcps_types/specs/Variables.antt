@@ -1,32 +1,18 @@
 -- Variables: iterators and coverages.
-use Rattle.std.specs.Prelude.{ℕ, ◌+◌, List, [], ◌∷◌, Bool, true, false, map, Option, Some, None, slice_get, Ok, Err}
+use Rattle.std.specs.Prelude.{ℕ, ◌+◌, List, [], ◌∷◌, false, map, Option, Some, None, slice_get, Ok, Err}
 use Rattle.std.specs.Borrow.{Bor}
-use Rattle.arr_core.specs.declared.cell.FieldType.{FieldType}
-use Rattle.arr_core.specs.declared.cell.FieldType.TheVariants as kinds
 use Rattle.arr_core.specs.declared.field.Field.{Field}
 use Rattle.arr_core.specs.declared.signature.Signature.{Signature}
 use Rattle.wcps_types.specs.declared.refusal.TypeRefusal.TheVariants.{UnknownName}
 use Rattle.wcps_types.specs.declared.names.Bound.{Bound}
-use Rattle.wcps_types.specs.declared.shape.Label.{Label}
 use Rattle.wcps_types.specs.Typed.{iterator, cell}
 use Rattle.wcps_types.specs.Names.{bound_place, name_place}
+pub use Rattle.wcps_types.specs.Labels.{is_boolean, label_of}
 use Rattle.wcps_types.specs.Shapes.{SlotTree, ShapeTree, Answer, unnamed}
 
 -- the signatures that references point to
 abbrev pub signatures_in : List (Bor Signature) → List Signature
 signatures_in coverages = map (λ (s : Bor Signature). s.now) coverages
-
--- a query sees the other types as integers
-abbrev pub is_boolean : FieldType → Bool
-is_boolean kinds.Bool = true
-is_boolean kinds.U8 = false
-is_boolean kinds.I16 = false
-is_boolean kinds.I32 = false
-is_boolean kinds.I64 = false
-
--- the name and the kind of a field
-abbrev pub label_of : Field → Label
-label_of f = record { name = Some f.name; boolean = is_boolean f.kind }
 
 -- the fields of the coverage at place c, from that of place k on
 abbrev pub cells_from : ℕ → ℕ → List Field → List SlotTree

@@ -113,12 +113,12 @@ pub fn opened_box(over: Iterators) -> Result<Opened, CheckError>
 }
 
 /// `coverage .. values` of a scalar.
-pub fn array(alloc: Global, domain: Domain, body: OneScalar) -> Result<Shape, CheckError>
+pub fn array<'a>(alloc: Global, domain: Domain, body: OneScalar) -> Result<Shape<'a>, CheckError>
     ensures { Says shape_view result (array_on domain (scalar_of_view body)) }
 {
     let OneScalar { boolean, node } = body;
     let node = array_node(alloc, node)?;
-    Ok(unnamed(alloc, domain, boolean, node)?)
+    Ok(unnamed(domain, boolean, node))
 }
 
 /// A condition: a Boolean scalar.
@@ -132,13 +132,13 @@ pub fn condition_of(condition: OneScalar) -> Result<Node, CheckError>
 }
 
 /// `condense`.
-pub fn condensed(
+pub fn condensed<'a>(
     alloc: Global,
     op: Aggregate,
     domain: Domain,
     condition: Option<Node>,
     body: OneScalar,
-) -> Result<Shape, CheckError>
+) -> Result<Shape<'a>, CheckError>
     ensures { Says shape_view result (condensed op domain (option_map only_tree condition) (scalar_of_view body)) }
 {
     match op {
@@ -154,13 +154,13 @@ pub fn condensed(
     }
 }
 
-fn integers_condensed(
+fn integers_condensed<'a>(
     alloc: Global,
     op: Aggregate,
     domain: Domain,
     condition: Option<Node>,
     body: OneScalar,
-) -> Result<Shape, CheckError>
+) -> Result<Shape<'a>, CheckError>
     ensures { Says shape_view result (integers_condensed op domain (option_map only_tree condition) (scalar_of_view body)) }
 {
     let OneScalar { boolean, node } = body;
@@ -168,17 +168,17 @@ fn integers_condensed(
         return Err(CheckError::Refused(TypeRefusal::NeedsInteger));
     }
     let node = condense_node(alloc, op, domain, condition, node)?;
-    Ok(unnamed_scalar(alloc, false, node)?)
+    Ok(unnamed_scalar(alloc, false, node))
 }
 
-fn booleans_condensed(
+fn booleans_condensed<'a>(
     alloc: Global,
     op: Aggregate,
     gives_boolean: bool,
     domain: Domain,
     condition: Option<Node>,
     body: OneScalar,
-) -> Result<Shape, CheckError>
+) -> Result<Shape<'a>, CheckError>
     ensures { Says shape_view result (booleans_condensed op gives_boolean domain (option_map only_tree condition) (scalar_of_view body)) }
 {
     let OneScalar { boolean, node } = body;
@@ -186,7 +186,7 @@ fn booleans_condensed(
         return Err(CheckError::Refused(TypeRefusal::NeedsBoolean));
     }
     let node = condense_node(alloc, op, domain, condition, node)?;
-    Ok(unnamed_scalar(alloc, gives_boolean, node)?)
+    Ok(unnamed_scalar(alloc, gives_boolean, node))
 }
 
 /// Whether an item is a Boolean.
@@ -260,7 +260,11 @@ fn are_of_kind(boolean: bool, items: &[ListItem]) -> bool
 }
 
 /// `coverage .. value list`.
-pub fn value_list(alloc: Global, domain: Domain, items: &[ListItem]) -> Result<Shape, CheckError>
+pub fn value_list<'a>(
+    alloc: Global,
+    domain: Domain,
+    items: &[ListItem],
+) -> Result<Shape<'a>, CheckError>
     ensures { Says shape_view result (value_list domain items.now) }
 {
     if items.len() as u64 != domain.points() {
@@ -273,5 +277,5 @@ pub fn value_list(alloc: Global, domain: Domain, items: &[ListItem]) -> Result<S
     let items = item_numbers(alloc, items)?;
     let own = domain.copy(alloc)?;
     let node = Node::List { domain: own, items };
-    Ok(unnamed(alloc, domain, boolean, node)?)
+    Ok(unnamed(domain, boolean, node))
 }

@@ -4,14 +4,16 @@ ghost use Rattle.std.specs.Prelude.{◌≡◌, ◌<◌, ◌≤ℤ◌, IfOk, Some
 ghost use Rattle.std.specs.Option.{option_map};
 ghost use Rattle.arr_core.specs.Domains.{AreOrdered};
 ghost use Rattle.wcps_types.specs.Typed.{only_tree};
+ghost use Rattle.wcps_types.specs.Labels.{labels_in};
 ghost use Rattle.wcps_types.specs.Shapes.{Says, shape_view, labels_view};
 ghost use Rattle.wcps_types.specs.Brackets.{bounds_view, cut_view, bracket_view, written_bounds, bounds_of, bounds_of_axis, opened, place_to_cut, with_trim, position_of, with_position, cut_between, cut_out, all_cut_out, bracketed, closed};
 
 use crate::bounds::Bounds;
+use crate::labels::Labels;
 use crate::names::{axis_place, name_place};
 use crate::nodes::{bracket_node, slice_node};
 use crate::refusal::{CheckError, TypeRefusal};
-use crate::shape::{Label, OneScalar, Shape, only_scalar};
+use crate::shape::{OneScalar, Shape, only_scalar};
 use crate::typed::Node;
 use arr_core::{Axis, Domain};
 use std::alloc::{AllocError, Global};
@@ -150,7 +152,7 @@ pub fn with_trim(
 
 /// A position: an integer scalar.
 pub fn position_of(shape: Shape) -> Result<Node, CheckError>
-    ensures { Says only_tree result (position_of (shape_view shape)) }
+    ensures { Says only_tree result (position_of (shape_view shape.entry)) }
 {
     let OneScalar { boolean, node } = only_scalar(shape)?;
     if boolean {
@@ -184,15 +186,15 @@ pub fn with_position(
 }
 
 /// The shape sliced at a position of the axis at a place: one node, however many fields.
-fn sliced(
+fn sliced<'a>(
     alloc: Global,
-    shape: Shape,
+    shape: Shape<'a>,
     place: usize,
     bounds: Bounds,
     position: Node,
-) -> Result<Shape, AllocError>
+) -> Result<Shape<'a>, AllocError>
     requires { place < length shape.domain }
-    ensures { IfOk result (λ s. shape_view s ≡ cut_between (Some (bounds_view bounds)) place (only_tree position) (shape_view shape)) }
+    ensures { IfOk result (λ s. shape_view s ≡ cut_between (Some (bounds_view bounds)) place (only_tree position) (shape_view shape.entry)) }
 {
     let Shape {
         domain,
@@ -209,8 +211,8 @@ fn sliced(
 }
 
 /// The shape with one axis taken out.
-fn cut_out(alloc: Global, shape: Shape, cut: Cut) -> Result<Shape, AllocError>
-    ensures { IfOk result (λ s. shape_view s ≡ cut_out (cut_view cut) (shape_view shape)) }
+fn cut_out<'a>(alloc: Global, shape: Shape<'a>, cut: Cut) -> Result<Shape<'a>, AllocError>
+    ensures { IfOk result (λ s. shape_view s ≡ cut_out (cut_view cut) (shape_view shape.entry)) }
 {
     let Cut { axis, position } = cut;
     let place = match axis_place(shape.domain.axes(), &axis) {
@@ -225,8 +227,8 @@ fn cut_out(alloc: Global, shape: Shape, cut: Cut) -> Result<Shape, AllocError>
 }
 
 /// The shape with the axes taken out, the last one first, so that the slice of the first one stands outermost.
-fn all_cut_out(alloc: Global, shape: Shape, cuts: Vec<Cut>) -> Result<Shape, AllocError>
-    ensures { IfOk result (λ s. shape_view s ≡ all_cut_out (map cut_view cuts.items) (shape_view shape)) }
+fn all_cut_out<'a>(alloc: Global, shape: Shape<'a>, cuts: Vec<Cut>) -> Result<Shape<'a>, AllocError>
+    ensures { IfOk result (λ s. shape_view s ≡ all_cut_out (map cut_view cuts.items) (shape_view shape.entry)) }
 {
     let mut shape = shape;
     let mut cuts = cuts;
@@ -237,8 +239,8 @@ fn all_cut_out(alloc: Global, shape: Shape, cuts: Vec<Cut>) -> Result<Shape, All
 }
 
 /// The shape in its bracket.
-fn bracketed(alloc: Global, shape: Shape) -> Result<Shape, AllocError>
-    ensures { IfOk result (λ s. shape_view s ≡ bracketed (shape_view shape)) }
+fn bracketed<'a>(alloc: Global, shape: Shape<'a>) -> Result<Shape<'a>, AllocError>
+    ensures { IfOk result (λ s. shape_view s ≡ bracketed (shape_view shape.entry)) }
 {
     let Shape {
         domain,
@@ -254,13 +256,13 @@ fn bracketed(alloc: Global, shape: Shape) -> Result<Shape, AllocError>
 }
 
 /// The shape of a whole bracket on a value with those fields.
-pub fn closed_bracket(
+pub fn closed_bracket<'a>(
     alloc: Global,
     bracket: Bracket,
-    labels: Vec<Label>,
+    labels: Labels<'a>,
     node: Node,
-) -> Result<Shape, AllocError>
-    ensures { IfOk result (λ s. shape_view s ≡ closed (bracket_view bracket) (labels_view node 0 labels.items)) }
+) -> Result<Shape<'a>, AllocError>
+    ensures { IfOk result (λ s. shape_view s ≡ closed (bracket_view bracket) (labels_view node 0 (labels_in labels.entry))) }
 {
     let Bracket {
         domain,

@@ -43,13 +43,13 @@ use wcps_text::{
 /// The shape of an expression, or its first refusal. What a form does stands in a function of its own, so that a number
 /// in a chain takes no room for the locals of all forms.
 #[cycle(expression)]
-pub fn expression(
+pub fn expression<'a>(
     alloc: Global,
-    coverages: &[&Signature],
+    coverages: &[&'a Signature],
     bound: &[Bound],
     scope: &Scope,
     e: &Expr,
-) -> Result<Shape, CheckError>
+) -> Result<Shape<'a>, CheckError>
     ensures { Says shape_view result (typ (signatures_in coverages.now) bound.now (names_in scope.now.frames) (view e.now)) }
 {
     match e {
@@ -92,23 +92,23 @@ pub fn expression(
 
 /// A constant.
 #[inline(never)]
-fn constant(alloc: Global, boolean: bool, value: i64) -> Result<Shape, CheckError>
+fn constant<'a>(alloc: Global, boolean: bool, value: i64) -> Result<Shape<'a>, CheckError>
     ensures { Says shape_view result (Ok (unnamed [] boolean (number value))) }
 {
-    Ok(unnamed_scalar(alloc, boolean, Node::Number(value))?)
+    Ok(unnamed_scalar(alloc, boolean, Node::Number(value)))
 }
 
 /// An operator on one operand.
 #[cycle(expression)]
 #[inline(never)]
-fn operation(
+fn operation<'a>(
     alloc: Global,
-    coverages: &[&Signature],
+    coverages: &[&'a Signature],
     bound: &[Bound],
     scope: &Scope,
     op: UnaryOperator,
     a: &Expr,
-) -> Result<Shape, CheckError>
+) -> Result<Shape<'a>, CheckError>
     ensures { Says shape_view result (typ (signatures_in coverages.now) bound.now (names_in scope.now.frames) (tree.unary op (view a.now))) }
 {
     let a = expression(alloc, coverages, bound, scope, a)?;
@@ -118,16 +118,16 @@ fn operation(
 /// An operator on two operands, of which the left one is typed.
 #[cycle(expression)]
 #[inline(never)]
-fn operation_on_two(
+fn operation_on_two<'a>(
     alloc: Global,
-    coverages: &[&Signature],
+    coverages: &[&'a Signature],
     bound: &[Bound],
     scope: &Scope,
     op: BinaryOperator,
-    l: Shape,
+    l: Shape<'a>,
     r: &Expr,
-) -> Result<Shape, CheckError>
-    ensures { Says shape_view result (then_of (typ (signatures_in coverages.now) bound.now (names_in scope.now.frames) (view r.now)) (operators.binary op (shape_view l))) }
+) -> Result<Shape<'a>, CheckError>
+    ensures { Says shape_view result (then_of (typ (signatures_in coverages.now) bound.now (names_in scope.now.frames) (view r.now)) (operators.binary op (shape_view l.entry))) }
 {
     let r = expression(alloc, coverages, bound, scope, r)?;
     binary(alloc, op, l, r)
@@ -136,14 +136,14 @@ fn operation_on_two(
 /// A reduction.
 #[cycle(expression)]
 #[inline(never)]
-fn reduced(
+fn reduced<'a>(
     alloc: Global,
-    coverages: &[&Signature],
+    coverages: &[&'a Signature],
     bound: &[Bound],
     scope: &Scope,
     op: Aggregate,
     a: &Expr,
-) -> Result<Shape, CheckError>
+) -> Result<Shape<'a>, CheckError>
     ensures { Says shape_view result (typ (signatures_in coverages.now) bound.now (names_in scope.now.frames) (tree.reduce op (view a.now))) }
 {
     let a = expression(alloc, coverages, bound, scope, a)?;
@@ -153,14 +153,14 @@ fn reduced(
 /// One field of a value.
 #[cycle(expression)]
 #[inline(never)]
-fn field_of(
+fn field_of<'a>(
     alloc: Global,
-    coverages: &[&Signature],
+    coverages: &[&'a Signature],
     bound: &[Bound],
     scope: &Scope,
     a: &Expr,
     name: &QueryName,
-) -> Result<Shape, CheckError>
+) -> Result<Shape<'a>, CheckError>
     ensures { Says shape_view result (typ (signatures_in coverages.now) bound.now (names_in scope.now.frames) (tree.field (view a.now) name.now)) }
 {
     let a = expression(alloc, coverages, bound, scope, a)?;
@@ -170,14 +170,14 @@ fn field_of(
 /// A list of values on a box.
 #[cycle(expression)]
 #[inline(never)]
-fn listed(
+fn listed<'a>(
     alloc: Global,
-    coverages: &[&Signature],
+    coverages: &[&'a Signature],
     bound: &[Bound],
     scope: &Scope,
     iterators: &[Iter],
     items: &[ListItem],
-) -> Result<Shape, CheckError>
+) -> Result<Shape<'a>, CheckError>
     ensures { Says shape_view result (typ (signatures_in coverages.now) bound.now (names_in scope.now.frames) (tree.value_list (iters_of iterators.now) items.now)) }
 {
     let over = iterator_list(alloc, coverages, bound, scope, iterators)?;
@@ -188,15 +188,15 @@ fn listed(
 /// A value with a bracket behind it.
 #[cycle(expression)]
 #[inline(never)]
-fn bracketed(
+fn bracketed<'a>(
     alloc: Global,
-    coverages: &[&Signature],
+    coverages: &[&'a Signature],
     bound: &[Bound],
     scope: &Scope,
-    value: Shape,
+    value: Shape<'a>,
     subs: &[Sub],
-) -> Result<Shape, CheckError>
-    ensures { Says shape_view result (then_of (typ_subs (signatures_in coverages.now) bound.now (names_in scope.now.frames) (opened value.domain) (subs_of subs.now)) (closed_on (shape_view value))) }
+) -> Result<Shape<'a>, CheckError>
+    ensures { Says shape_view result (then_of (typ_subs (signatures_in coverages.now) bound.now (names_in scope.now.frames) (opened value.entry.domain) (subs_of subs.now)) (closed_on (shape_view value.entry))) }
 {
     let Shape {
         domain,
@@ -210,14 +210,14 @@ fn bracketed(
 /// A coverage on a box, whose cells a scalar gives.
 #[cycle(expression)]
 #[inline(never)]
-fn constructed(
+fn constructed<'a>(
     alloc: Global,
-    coverages: &[&Signature],
+    coverages: &[&'a Signature],
     bound: &[Bound],
     scope: &Scope,
     over: Opened,
     body: &Expr,
-) -> Result<Shape, CheckError>
+) -> Result<Shape<'a>, CheckError>
     ensures { Says shape_view result (then_of (typ (signatures_in coverages.now) bound.now (names_in scope.now.frames ++ over.variables.items) (view body.now)) (array_of over.domain)) }
 {
     let Opened { domain, variables } = over;
@@ -229,16 +229,16 @@ fn constructed(
 /// A condenser over a box.
 #[cycle(expression)]
 #[inline(never)]
-fn condensed_over(
+fn condensed_over<'a>(
     alloc: Global,
-    coverages: &[&Signature],
+    coverages: &[&'a Signature],
     bound: &[Bound],
     scope: &Scope,
     op: Aggregate,
     over: Opened,
     condition: Option<Node>,
     body: &Expr,
-) -> Result<Shape, CheckError>
+) -> Result<Shape<'a>, CheckError>
     ensures { Says shape_view result (then_of (typ (signatures_in coverages.now) bound.now (names_in scope.now.frames ++ over.variables.items) (view body.now)) (λ s. then_of (only_scalar s) (condensed op over.domain (option_map only_tree condition)))) }
 {
     let Opened { domain, variables } = over;
@@ -287,13 +287,13 @@ pub fn condition_node(
 
 /// The parts of a record.
 #[cycle(expression)]
-fn record(
+fn record<'a>(
     alloc: Global,
-    coverages: &[&Signature],
+    coverages: &[&'a Signature],
     bound: &[Bound],
     scope: &Scope,
     parts: &[Part],
-) -> Result<Shape, CheckError>
+) -> Result<Shape<'a>, CheckError>
     ensures { Says shape_view result (typ_parts (signatures_in coverages.now) bound.now (names_in scope.now.frames) no_pieces (parts_of parts.now)) }
 {
     let mut pieces = Pieces::new(alloc);

@@ -10,6 +10,7 @@ mod cells;
 mod effort;
 mod expression;
 mod frames;
+mod labels;
 mod names;
 mod nodes;
 mod operators;

@@ -7,7 +7,7 @@ ghost use Rattle.wcps_text.specs.Lexing.{Reads};
 ghost use Rattle.wcps_text.specs.Token as token;
 ghost use Rattle.wcps_types.specs.Names.{axis_place, coverage_place, bound_place, name_place, is_name_of};
 
-use crate::shape::Label;
+use crate::labels::Label;
 use arr_core::{Axis, Signature};
 use wcps_text::QueryName;
 

@@ -2,7 +2,7 @@
 
 ghost use Rattle.std.specs.Prelude.{◌≡◌, IfOk, List, map};
 ghost use Rattle.wcps_types.specs.Typed.{field_tree, only_tree, unary, binary, scalar, select, array, condense_of, reduce};
-ghost use Rattle.wcps_types.specs.declared.shape.Label.{Label};
+ghost use Rattle.wcps_types.specs.declared.labels.Label.{Label};
 ghost use Rattle.wcps_types.specs.Shapes.{labels_view};
 ghost use Rattle.wcps_types.specs.Brackets.{sliced_slot, bracketed_slot};
 ghost use Rattle.std.specs.Option.{option_map};

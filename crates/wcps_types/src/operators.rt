@@ -1,17 +1,20 @@
 //! The checks of operators and reductions on operands whose shapes are known, and what they make of them.
 
-ghost use Rattle.std.specs.Prelude.{◌≡◌, [], IfOk, true, false};
+ghost use Rattle.std.specs.Prelude.{◌≡◌, [], IfOk, map, true, false};
 ghost use Rattle.wcps_types.specs.Typed.{only_tree};
+ghost use Rattle.wcps_types.specs.Labels.{label_of, labels_in};
 ghost use Rattle.wcps_types.specs.Shapes.{Says, shape_view, slot_of, labels_view, field_of_view};
 ghost use Rattle.wcps_types.specs.Operators.{one_selected, selected, unary, are_same, is_same_axis, operands_view, joined, numeric, logical, binary, integer_reduction, boolean_reduction, reduction};
 
-use crate::names::is_named;
+use crate::labels::{Label, Labels};
+use crate::names::{is_named, is_same};
 use crate::nodes::{binary_node, reduce_node, scalar_node, select_node, unary_node};
 use crate::refusal::{CheckError, TypeRefusal};
-use crate::shape::{Label, OneField, Shape, is_scalar, only_field, unnamed, unnamed_scalar};
+use crate::shape::{OneField, Shape, is_scalar, only_field, unnamed, unnamed_scalar};
 use crate::typed::Node;
-use arr_core::{Axis, Domain};
+use arr_core::{Axis, Domain, Field};
 use std::alloc::{AllocError, Global};
+use std::slice;
 use wcps_text::{Aggregate, BinaryOperator, QueryName, UnaryOperator};
 
 /// Two operands on one domain.
@@ -23,13 +26,13 @@ pub struct Operands {
 }
 
 /// A shape with the field at one place of a node, selected.
-fn one_selected(
+fn one_selected<'a>(
     alloc: Global,
     domain: Domain,
     node: Node,
     place: usize,
     label: Label,
-) -> Result<Shape, AllocError>
+) -> Result<Shape<'a>, AllocError>
     ensures { IfOk result (λ s. shape_view s ≡ one_selected domain (slot_of node place label)) }
 {
     let node = select_node(alloc, node, place)?;
@@ -37,20 +40,21 @@ fn one_selected(
     labels.push(label)?;
     Ok(Shape {
         domain,
-        labels,
+        labels: Labels::Listed(labels),
         node,
     })
 }
 
-/// The field of that name.
-pub fn selected(alloc: Global, shape: Shape, name: &QueryName) -> Result<Shape, CheckError>
-    ensures { Says shape_view result (selected name.now shape.domain (labels_view shape.node 0 shape.labels.items)) }
+/// The field of that name among some with labels of their own.
+fn label_selected<'a>(
+    alloc: Global,
+    domain: Domain,
+    node: Node,
+    labels: Vec<Label>,
+    name: &QueryName,
+) -> Result<Shape<'a>, CheckError>
+    ensures { Says shape_view result (selected name.now domain (labels_view node 0 labels.items)) }
 {
-    let Shape {
-        domain,
-        labels,
-        node,
-    } = shape;
     let mut place = 0;
     for label in labels {
         if is_named(&label, name) {
@@ -61,9 +65,71 @@ pub fn selected(alloc: Global, shape: Shape, name: &QueryName) -> Result<Shape, 
     Err(CheckError::Refused(TypeRefusal::NoSuchField))
 }
 
+/// A shape with the field of a coverage at one place of a node, selected.
+fn one_field_selected<'a>(
+    alloc: Global,
+    domain: Domain,
+    node: Node,
+    place: usize,
+    field: &'a Field,
+) -> Result<Shape<'a>, AllocError>
+    ensures { IfOk result (λ s. shape_view s ≡ one_selected domain (slot_of node place (label_of field.now))) }
+{
+    let node = select_node(alloc, node, place)?;
+    Ok(Shape {
+        domain,
+        labels: Labels::Fields(slice::from_ref(field)),
+        node,
+    })
+}
+
+/// The field of that name among those of a coverage.
+fn field_selected<'a>(
+    alloc: Global,
+    domain: Domain,
+    node: Node,
+    fields: &'a [Field],
+    name: &QueryName,
+) -> Result<Shape<'a>, CheckError>
+    ensures { Says shape_view result (selected name.now domain (labels_view node 0 (map label_of fields.now))) }
+{
+    let mut place = 0;
+    for field in fields {
+        if is_same(field.name.as_str(), name.as_str()) {
+            return Ok(one_field_selected(alloc, domain, node, place, field)?);
+        }
+        place += 1;
+    }
+    Err(CheckError::Refused(TypeRefusal::NoSuchField))
+}
+
+/// The field of that name.
+pub fn selected<'a>(
+    alloc: Global,
+    shape: Shape<'a>,
+    name: &QueryName,
+) -> Result<Shape<'a>, CheckError>
+    ensures { Says shape_view result (selected name.now shape.entry.domain (labels_view shape.entry.node 0 (labels_in shape.entry.labels))) }
+{
+    let Shape {
+        domain,
+        labels,
+        node,
+    } = shape;
+    match labels {
+        Labels::Unnamed(_) => Err(CheckError::Refused(TypeRefusal::NoSuchField)),
+        Labels::Fields(fields) => field_selected(alloc, domain, node, fields, name),
+        Labels::Listed(list) => label_selected(alloc, domain, node, list, name),
+    }
+}
+
 /// An operator on one operand: the operation, and whether it gives a Boolean.
-pub fn unary(alloc: Global, op: UnaryOperator, operand: Shape) -> Result<Shape, CheckError>
-    ensures { Says shape_view result (unary op (shape_view operand)) }
+pub fn unary<'a>(
+    alloc: Global,
+    op: UnaryOperator,
+    operand: Shape<'a>,
+) -> Result<Shape<'a>, CheckError>
+    ensures { Says shape_view result (unary op (shape_view operand.entry)) }
 {
     let OneField {
         domain,
@@ -73,14 +139,14 @@ pub fn unary(alloc: Global, op: UnaryOperator, operand: Shape) -> Result<Shape, 
     match op {
         UnaryOperator::Negate | UnaryOperator::Plus | UnaryOperator::Absolute => {
             let node = unary_node(alloc, op, node)?;
-            Ok(unnamed(alloc, domain, false, node)?)
+            Ok(unnamed(domain, false, node))
         }
         UnaryOperator::Not => {
             if !boolean {
                 return Err(CheckError::Refused(TypeRefusal::NeedsBoolean));
             }
             let node = unary_node(alloc, op, node)?;
-            Ok(unnamed(alloc, domain, true, node)?)
+            Ok(unnamed(domain, true, node))
         }
     }
 }
@@ -149,14 +215,14 @@ fn joined(alloc: Global, l: OneField, r: OneField) -> Result<Operands, CheckErro
 
 /// An operation on two numbers, where a Boolean counts as 0 or 1.
 #[inline(never)]
-fn numeric(
+fn numeric<'a>(
     alloc: Global,
     op: BinaryOperator,
     gives_boolean: bool,
-    l: Shape,
-    r: Shape,
-) -> Result<Shape, CheckError>
-    ensures { Says shape_view result (numeric op gives_boolean (shape_view l) (shape_view r)) }
+    l: Shape<'a>,
+    r: Shape<'a>,
+) -> Result<Shape<'a>, CheckError>
+    ensures { Says shape_view result (numeric op gives_boolean (shape_view l.entry) (shape_view r.entry)) }
 {
     let l = only_field(l)?;
     let r = only_field(r)?;
@@ -166,13 +232,18 @@ fn numeric(
         right,
     } = joined(alloc, l, r)?;
     let node = binary_node(alloc, op, left, right)?;
-    Ok(unnamed(alloc, domain, gives_boolean, node)?)
+    Ok(unnamed(domain, gives_boolean, node))
 }
 
 /// `and`, `or`, `xor`.
 #[inline(never)]
-fn logical(alloc: Global, op: BinaryOperator, l: Shape, r: Shape) -> Result<Shape, CheckError>
-    ensures { Says shape_view result (logical op (shape_view l) (shape_view r)) }
+fn logical<'a>(
+    alloc: Global,
+    op: BinaryOperator,
+    l: Shape<'a>,
+    r: Shape<'a>,
+) -> Result<Shape<'a>, CheckError>
+    ensures { Says shape_view result (logical op (shape_view l.entry) (shape_view r.entry)) }
 {
     let l = only_field(l)?;
     let r = only_field(r)?;
@@ -185,12 +256,17 @@ fn logical(alloc: Global, op: BinaryOperator, l: Shape, r: Shape) -> Result<Shap
         right,
     } = joined(alloc, l, r)?;
     let node = binary_node(alloc, op, left, right)?;
-    Ok(unnamed(alloc, domain, true, node)?)
+    Ok(unnamed(domain, true, node))
 }
 
 /// An operator on two operands.
-pub fn binary(alloc: Global, op: BinaryOperator, l: Shape, r: Shape) -> Result<Shape, CheckError>
-    ensures { Says shape_view result (binary op (shape_view l) (shape_view r)) }
+pub fn binary<'a>(
+    alloc: Global,
+    op: BinaryOperator,
+    l: Shape<'a>,
+    r: Shape<'a>,
+) -> Result<Shape<'a>, CheckError>
+    ensures { Says shape_view result (binary op (shape_view l.entry) (shape_view r.entry)) }
 {
     match op {
         BinaryOperator::Multiply
@@ -209,8 +285,12 @@ pub fn binary(alloc: Global, op: BinaryOperator, l: Shape, r: Shape) -> Result<S
 }
 
 /// A reduction of integers.
-fn integer_reduction(alloc: Global, op: Aggregate, operand: Shape) -> Result<Shape, CheckError>
-    ensures { Says shape_view result (integer_reduction op (shape_view operand)) }
+fn integer_reduction<'a>(
+    alloc: Global,
+    op: Aggregate,
+    operand: Shape<'a>,
+) -> Result<Shape<'a>, CheckError>
+    ensures { Says shape_view result (integer_reduction op (shape_view operand.entry)) }
 {
     let OneField {
         domain,
@@ -221,17 +301,17 @@ fn integer_reduction(alloc: Global, op: Aggregate, operand: Shape) -> Result<Sha
         return Err(CheckError::Refused(TypeRefusal::NeedsInteger));
     }
     let node = reduce_node(alloc, op, domain, node)?;
-    Ok(unnamed_scalar(alloc, false, node)?)
+    Ok(unnamed_scalar(alloc, false, node))
 }
 
 /// A reduction of Booleans.
-fn boolean_reduction(
+fn boolean_reduction<'a>(
     alloc: Global,
     op: Aggregate,
     gives_boolean: bool,
-    operand: Shape,
-) -> Result<Shape, CheckError>
-    ensures { Says shape_view result (boolean_reduction op gives_boolean (shape_view operand)) }
+    operand: Shape<'a>,
+) -> Result<Shape<'a>, CheckError>
+    ensures { Says shape_view result (boolean_reduction op gives_boolean (shape_view operand.entry)) }
 {
     let OneField {
         domain,
@@ -242,12 +322,16 @@ fn boolean_reduction(
         return Err(CheckError::Refused(TypeRefusal::NeedsBoolean));
     }
     let node = reduce_node(alloc, op, domain, node)?;
-    Ok(unnamed_scalar(alloc, gives_boolean, node)?)
+    Ok(unnamed_scalar(alloc, gives_boolean, node))
 }
 
 /// A reduction.
-pub fn reduction(alloc: Global, op: Aggregate, operand: Shape) -> Result<Shape, CheckError>
-    ensures { Says shape_view result (reduction op (shape_view operand)) }
+pub fn reduction<'a>(
+    alloc: Global,
+    op: Aggregate,
+    operand: Shape<'a>,
+) -> Result<Shape<'a>, CheckError>
+    ensures { Says shape_view result (reduction op (shape_view operand.entry)) }
 {
     match op {
         Aggregate::Sum

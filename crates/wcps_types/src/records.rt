@@ -3,17 +3,18 @@
 ghost use Rattle.std.specs.Prelude.{◌≡◌, IfOk, ℕ, List, map, cond, true, ◌&&◌};
 ghost use Rattle.std.specs.Str.{bytes_eq};
 ghost use Rattle.std.specs.BTreeSet.{contains_text};
-ghost use Rattle.wcps_types.specs.declared.shape.Label.{Label};
+ghost use Rattle.wcps_types.specs.declared.labels.Label.{Label};
 ghost use Rattle.wcps_types.specs.Typed.{only_tree, scalar as scalar_tree};
 ghost use Rattle.wcps_types.specs.Parts.{piece_label, tree_in, with_trees};
 ghost use Rattle.wcps_types.specs.Shapes.{Says, shape_view, labels_view, field_of_view};
 ghost use Rattle.wcps_types.specs.Records.{piece_view, pieces_view, no_pieces, is_part, with_part, finished};
 
+use crate::labels::{Label, Labels};
 use crate::nodes::scalar_node;
 use crate::operators::are_same;
 use crate::pieces::Pieces;
 use crate::refusal::{CheckError, TypeRefusal};
-use crate::shape::{Label, OneField, Shape, is_scalar, no_axes};
+use crate::shape::{OneField, Shape, is_scalar, no_axes};
 use crate::typed::Node;
 use std::alloc::{AllocError, Global};
 use std::collections::BTreeSet;
@@ -154,7 +155,7 @@ fn record_node(nodes: Vec<Node>) -> Node
 
 /// The shape of all parts: one node more, however many fields.
 #[tactic(auto, using(crate::proofs::Fields::finished_fields))]
-pub fn finished(alloc: Global, pieces: Pieces) -> Result<Shape, AllocError>
+pub fn finished<'a>(alloc: Global, pieces: Pieces) -> Result<Shape<'a>, AllocError>
     ensures { IfOk result (λ s. shape_view s ≡ finished (pieces_view pieces)) }
 {
     let Pieces {
@@ -168,7 +169,7 @@ pub fn finished(alloc: Global, pieces: Pieces) -> Result<Shape, AllocError>
     let node = record_node(nodes);
     Ok(Shape {
         domain,
-        labels,
+        labels: Labels::Listed(labels),
         node,
     })
 }

@@ -1,28 +1,22 @@
 //! What an expression is found to be: a domain, the name and the kind of each field, and the node that gives them.
 
-ghost use Rattle.std.specs.Prelude.{◌≡◌, [], IfOk};
+ghost use Rattle.std.specs.Prelude.{◌≡◌, []};
 ghost use Rattle.wcps_types.specs.Typed.{only_tree};
-ghost use Rattle.wcps_types.specs.Shapes.{Says, shape_view, labels_view, field_of_view, scalar_of_view, is_scalar, unnamed, the_boolean, only_field, only_scalar};
+ghost use Rattle.wcps_types.specs.Labels.{labels_in};
+ghost use Rattle.wcps_types.specs.Shapes.{Says, shape_view, labels_view, field_of_view, scalar_of_view, is_scalar, unnamed, only_field, only_scalar};
 
+use crate::labels::{Labels, the_boolean};
 use crate::refusal::{CheckError, TypeRefusal};
 use crate::typed::Node;
 use arr_core::{Axis, Domain};
-use std::alloc::{AllocError, Global};
-use wcps_text::QueryName;
-
-/// One field: its name if it has one, and whether it is Boolean.
-#[derive(Debug, Drop)]
-pub struct Label {
-    pub name: Option<QueryName>,
-    pub boolean: bool,
-}
+use std::alloc::Global;
 
 /// The shape of an expression, which is a scalar where the domain has no axis: its fields in order, and the node that
 /// gives all of them.
 #[derive(Debug, Drop)]
-pub struct Shape {
+pub struct Shape<'a> {
     pub domain: Domain,
-    pub labels: Vec<Label>,
+    pub labels: Labels<'a>,
     pub node: Node,
 }
 
@@ -62,50 +56,27 @@ pub fn is_scalar(axes: &[Axis]) -> bool
 }
 
 /// A shape with one unnamed field.
-pub fn unnamed(
-    alloc: Global,
-    domain: Domain,
-    boolean: bool,
-    node: Node,
-) -> Result<Shape, AllocError>
-    ensures { IfOk result (λ s. shape_view s ≡ unnamed domain boolean (only_tree node)) }
+pub fn unnamed<'a>(domain: Domain, boolean: bool, node: Node) -> Shape<'a>
+    ensures { shape_view result ≡ unnamed domain boolean (only_tree node) }
 {
-    let mut labels = Vec::new(alloc);
-    labels.push(Label {
-        name: None,
-        boolean,
-    })?;
-    Ok(Shape {
+    Shape {
         domain,
-        labels,
+        labels: Labels::Unnamed(boolean),
         node,
-    })
+    }
 }
 
 /// A scalar with one unnamed field.
-pub fn unnamed_scalar(alloc: Global, boolean: bool, node: Node) -> Result<Shape, AllocError>
-    ensures { IfOk result (λ s. shape_view s ≡ unnamed [] boolean (only_tree node)) }
+pub fn unnamed_scalar<'a>(alloc: Global, boolean: bool, node: Node) -> Shape<'a>
+    ensures { shape_view result ≡ unnamed [] boolean (only_tree node) }
 {
-    unnamed(alloc, no_axes(alloc), boolean, node)
-}
-
-/// Whether the only label is Boolean, where there is one alone.
-fn the_boolean(labels: &[Label]) -> Option<bool>
-    ensures { result ≡ the_boolean labels.now }
-{
-    match labels {
-        [] => None,
-        [label, rest @ ..] => match rest {
-            [] => Some(label.boolean),
-            [_, ..] => None,
-        },
-    }
+    unnamed(no_axes(alloc), boolean, node)
 }
 
 /// The only field of a shape.
 #[tactic(auto, using(crate::proofs::Fields::one_field))]
 pub fn only_field(shape: Shape) -> Result<OneField, CheckError>
-    ensures { Says field_of_view result (only_field shape.domain (labels_view shape.node 0 shape.labels.items)) }
+    ensures { Says field_of_view result (only_field shape.entry.domain (labels_view shape.entry.node 0 (labels_in shape.entry.labels))) }
 {
     let Shape {
         domain,
@@ -124,7 +95,7 @@ pub fn only_field(shape: Shape) -> Result<OneField, CheckError>
 
 /// The only field of a scalar: first it must be a scalar, then have one field.
 pub fn only_scalar(shape: Shape) -> Result<OneScalar, CheckError>
-    ensures { Says scalar_of_view result (only_scalar (shape_view shape)) }
+    ensures { Says scalar_of_view result (only_scalar (shape_view shape.entry)) }
 {
     if !is_scalar(shape.domain.axes()) {
         return Err(CheckError::Refused(TypeRefusal::NeedsScalar));

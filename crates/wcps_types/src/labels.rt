@@ -1,0 +1,76 @@
+//! The labels of the fields of a value.
+
+ghost use Rattle.std.specs.Prelude.{◌≡◌, map};
+ghost use Rattle.wcps_types.specs.Labels.{is_boolean, label_of, labels_in};
+ghost use Rattle.wcps_types.specs.Shapes.{the_boolean};
+
+use arr_core::{Field, FieldType};
+use wcps_text::QueryName;
+
+/// One field: its name if it has one, and whether it is Boolean.
+#[derive(Debug, Drop)]
+pub struct Label {
+    pub name: Option<QueryName>,
+    pub boolean: bool,
+}
+
+/// The labels of all fields, in order. Those of a coverage stay in its signature.
+#[derive(Debug, Drop)]
+pub enum Labels<'a> {
+    /// One field without a name, and whether it is Boolean.
+    Unnamed(bool),
+    /// Fields of a coverage.
+    Fields(&'a [Field]),
+    /// Fields with labels of their own.
+    Listed(Vec<Label>),
+}
+
+/// Whether a field of that type is Boolean.
+pub fn is_boolean(kind: FieldType) -> bool
+    ensures { result ≡ is_boolean kind }
+{
+    match kind {
+        FieldType::Bool => true,
+        FieldType::U8 => false,
+        FieldType::I16 => false,
+        FieldType::I32 => false,
+        FieldType::I64 => false,
+    }
+}
+
+/// Whether the only field of a coverage is Boolean, where there is one alone.
+fn only_kind(fields: &[Field]) -> Option<bool>
+    ensures { result ≡ the_boolean (map label_of fields.now) }
+{
+    match fields {
+        [] => None,
+        [field, rest @ ..] => match rest {
+            [] => Some(is_boolean(field.kind)),
+            [_, ..] => None,
+        },
+    }
+}
+
+/// Whether the only label is Boolean, where there is one alone.
+fn only_label(labels: &[Label]) -> Option<bool>
+    ensures { result ≡ the_boolean labels.now }
+{
+    match labels {
+        [] => None,
+        [label, rest @ ..] => match rest {
+            [] => Some(label.boolean),
+            [_, ..] => None,
+        },
+    }
+}
+
+/// Whether the only field is Boolean, where there is one alone.
+pub fn the_boolean(labels: &Labels) -> Option<bool>
+    ensures { result ≡ the_boolean (labels_in labels.now) }
+{
+    match labels {
+        Labels::Unnamed(boolean) => Some(*boolean),
+        Labels::Fields(fields) => only_kind(fields),
+        Labels::Listed(list) => only_label(list),
+    }
+}
