@@ -1,9 +1,9 @@
 //! Coverages whose cells are listed, as a query reads them.
 
-use anyhow::{Context, Result};
+use anyhow::Result;
 use arr_core::{Name, Signature};
 use std::alloc::{AllocError, Global};
-use test_rows::{domain, fields, numbers};
+use test_rows::{cut, domain, fields, numbers};
 use wcps_mean::{CellError, Cells};
 
 /// Named coverages, and for each a list of numbers a field in row-major order. Where a list ends, its last number stands
@@ -14,6 +14,12 @@ pub struct Coverages {
     numbers: Vec<Vec<Vec<i64>>>,
     /// The place of each coverage of the query that is evaluated.
     listed: Vec<usize>,
+}
+
+/// Adds the numbers of a field.
+fn add_field(alloc: Global, lists: &mut Vec<Vec<i64>>, words: &str) -> Result<()> {
+    lists.push(numbers(alloc, words)?)?;
+    Ok(())
 }
 
 impl Coverages {
@@ -27,19 +33,31 @@ impl Coverages {
 
     /// Adds a coverage, as `lai x(0:99) v:i16 7`; between the numbers of two fields stands `;`.
     pub fn add(&mut self, alloc: Global, words: &str) -> Result<()> {
-        let (name, rest) = words.split_once(' ').context("no domain")?;
-        let (axes, rest) = rest.split_once(' ').context("no fields")?;
-        let (list, cells) = rest.split_once(' ').context("no cells")?;
+        let (name, words) = cut(words);
+        let (axes, words) = cut(words);
+        let (list, cells) = cut(words);
+        self.add_signature(alloc, name, axes, list)?;
+        self.add_numbers(alloc, cells)
+    }
+
+    fn add_signature(&mut self, alloc: Global, name: &str, axes: &str, list: &str) -> Result<()> {
+        let name = Name::new(alloc, name)?;
+        let domain = domain(alloc, axes)?;
+        let fields = fields(alloc, list)?;
+        self.signatures.push(Signature {
+            name,
+            domain,
+            fields,
+        })?;
+        Ok(())
+    }
+
+    fn add_numbers(&mut self, alloc: Global, cells: &str) -> Result<()> {
         let mut lists = Vec::new(alloc);
-        for field in cells.split(';') {
-            lists.push(numbers(alloc, field)?)?;
+        for words in cells.split(';') {
+            add_field(alloc, &mut lists, words)?;
         }
         self.numbers.push(lists)?;
-        self.signatures.push(Signature {
-            name: Name::new(alloc, name)?,
-            domain: domain(alloc, axes)?,
-            fields: fields(alloc, list)?,
-        })?;
         Ok(())
     }
 

@@ -3,6 +3,7 @@
 //! push bodies on a stack and take them off again.
 #![tactic(auto)]
 
+mod answers;
 mod coverages;
 mod desk;
 mod layer;

@@ -4,16 +4,16 @@ ghost use Rattle.std.specs.Prelude.{IfOk};
 ghost use Rattle.plan_ir.specs.Plans.{plan_view};
 ghost use Rattle.plan_ir.specs.Placed.{IsPlan};
 
+use crate::answers::{say_items, say_run};
 use crate::coverages::Coverages;
-use crate::words::words_of;
-use anyhow::{Context, Result, bail};
+use crate::words::say_plan;
+use anyhow::{Context, Result};
 use arr_core::Signature;
-use csv_out::csv_text;
-use plan_ir::{Plan, run};
+use plan_ir::Plan;
 use plan_rewrite::{lower, rewrite};
 use std::alloc::Global;
-use test_rows::refusal;
-use wcps_mean::{EvalError, Item, eval_plain};
+use test_rows::Answer;
+use wcps_mean::eval_plain;
 use wcps_parse::parse;
 use wcps_text::{Query, lex};
 use wcps_types::{TypedQuery, check};
@@ -30,54 +30,44 @@ fn typed(alloc: Global, signatures: &[Signature], text: &str) -> Result<TypedQue
     check(alloc, signatures, &query).ok().context("no type")
 }
 
-/// The CSV of items, or their fault.
-fn csv(alloc: Global, items: Result<Vec<Item>, EvalError>) -> Result<String> {
-    match items {
-        Ok(items) => Ok(csv_text(alloc, &items)?),
-        Err(EvalError::Fault(fault)) => refusal(alloc, fault.number()),
-        Err(EvalError::Cells(_)) => bail!("a cell is not known"),
-    }
-}
-
-/// The plain answer, which the lowered and the rewritten plan give too.
-fn agreed(plain: String, lowered: &str, rewritten: &str) -> Result<String> {
-    if lowered != plain.as_str() {
-        bail!("lowered {lowered}");
-    }
-    if rewritten != plain.as_str() {
-        bail!("rewritten {rewritten}");
-    }
-    Ok(plain)
-}
-
 impl Coverages {
+    /// What a query gives, evaluated plainly, lowered, and rewritten: once where the three are one.
+    pub fn say_query(&mut self, alloc: Global, answer: &mut Answer, text: &str) -> Result<()> {
+        let query = typed(alloc, &self.signatures, text)?;
+        self.say_plain(alloc, answer, &query)?;
+        self.compare_plans(alloc, answer, &query)
+    }
+
     /// What a query gives, evaluated plainly.
-    fn plain(&mut self, alloc: Global, text: &str) -> Result<String> {
-        let typed = typed(alloc, &self.signatures, text)?;
-        self.list(typed.coverages())?;
-        let items = eval_plain(alloc, self, &typed);
-        csv(alloc, items)
+    fn say_plain(&mut self, alloc: Global, answer: &mut Answer, query: &TypedQuery) -> Result<()> {
+        self.list(query.coverages())?;
+        let items = eval_plain(alloc, self, query);
+        say_items(alloc, answer, items);
+        Ok(())
     }
 
-    /// What a plan gives.
-    fn run_plan(&mut self, alloc: Global, plan: &Plan) -> Result<String> {
-        let items = run(alloc, self, plan);
-        csv(alloc, items)
-    }
-
-    /// What the plan of a query gives once it is rewritten.
-    fn run_rewritten(&mut self, alloc: Global, plan: Plan) -> Result<String> {
+    /// Compares what the plans of a query give with the answer.
+    fn compare_plans(
+        &mut self,
+        alloc: Global,
+        answer: &mut Answer,
+        query: &TypedQuery,
+    ) -> Result<()> {
+        let plan = lower(alloc, query)?;
+        self.compare(alloc, answer, &plan);
         let plan = rewrite(alloc, plan)?;
-        self.run_plan(alloc, &plan)
+        self.compare(alloc, answer, &plan);
+        Ok(())
     }
 
-    /// What a query gives, evaluated plainly, lowered, and rewritten: the three are one.
-    pub fn queried(&mut self, alloc: Global, text: &str) -> Result<String> {
-        let plain = self.plain(alloc, text)?;
-        let plan = self.lowered(alloc, text)?;
-        let lowered = self.run_plan(alloc, &plan)?;
-        let rewritten = self.run_rewritten(alloc, plan)?;
-        agreed(plain, lowered.as_str(), rewritten.as_str())
+    /// Adds what a plan gives where that is not the answer.
+    fn compare(&mut self, alloc: Global, answer: &mut Answer, plan: &Plan) {
+        let mut other = Answer::new(alloc);
+        say_run(alloc, &mut other, self, plan);
+        if other.as_str() != answer.as_str() {
+            answer.say(" and by a plan ");
+            answer.say(other.as_str());
+        }
     }
 
     /// The plan of a query.
@@ -97,14 +87,14 @@ impl Coverages {
     }
 
     /// The words of a query's plan.
-    pub fn lowered_words(&self, alloc: Global, text: &str) -> Result<String> {
-        let plan = self.lowered(alloc, text)?;
-        Ok(words_of(alloc, &plan)?)
+    pub fn say_lowered(&self, alloc: Global, answer: &mut Answer, text: &str) -> Result<()> {
+        say_plan(alloc, answer, &self.lowered(alloc, text)?);
+        Ok(())
     }
 
     /// The words of a query's plan once it is rewritten.
-    pub fn rewritten_words(&self, alloc: Global, text: &str) -> Result<String> {
-        let plan = self.rewritten(alloc, text)?;
-        Ok(words_of(alloc, &plan)?)
+    pub fn say_rewritten(&self, alloc: Global, answer: &mut Answer, text: &str) -> Result<()> {
+        say_plan(alloc, answer, &self.rewritten(alloc, text)?);
+        Ok(())
     }
 }

@@ -1,65 +1,73 @@
 //! Plans as the words that they are written in.
 
+use crate::answers::say_made;
 use arr_core::{Axis, Domain};
-use plan_ir::{Body, Combination, Fold, Index, Interval, Item, Plan, Steps};
-use std::alloc::{AllocError, Global};
+use plan_ir::{Bind, Body, Combination, Fold, Index, Interval, Plan, Steps};
+use std::alloc::Global;
+use test_rows::Answer;
 use wcps_text::Aggregate;
 
-/// Puts a word at the end of a text.
-fn push_word(text: &mut String, word: &str) -> Result<(), AllocError> {
-    if !text.is_empty() {
-        text.push_str(" ")?;
+/// Begins a word.
+fn begin(answer: &mut Answer, word: &str) {
+    if !answer.as_str().is_empty() {
+        answer.say(" ");
     }
-    text.push_str(word)?;
-    Ok(())
+    answer.say(word);
 }
 
-fn index(alloc: Global, i: Index) -> Result<String, AllocError> {
-    let word = match i {
-        Index::Const(z) => format!(in alloc; "c{z}")?,
-        Index::Var(k) => format!(in alloc; "v{k}")?,
-    };
-    Ok(word)
+/// Separates a part of a list from the part before it.
+fn separate(answer: &mut Answer, place: usize) {
+    if place > 0 {
+        answer.say(",");
+    }
 }
 
-/// Indexes, as `v0,c5`; `-` for none.
-fn indexes(alloc: Global, list: &[Index]) -> Result<String, AllocError> {
-    let mut word = String::new(alloc);
-    for i in list {
-        if !word.is_empty() {
-            word.push_str(",")?;
+fn say_index(answer: &mut Answer, index: Index) {
+    match index {
+        Index::Const(coordinate) => {
+            answer.say("c");
+            answer.integer(i64::from(coordinate));
         }
-        word.push_str(index(alloc, *i)?.as_str())?;
+        Index::Var(level) => {
+            answer.say("v");
+            answer.count(level as u64);
+        }
     }
-    if word.is_empty() {
-        word.push_str("-")?;
-    }
-    Ok(word)
 }
 
-fn axis(alloc: Global, a: &Axis) -> Result<String, AllocError> {
-    let word = format!(in alloc; "{}({}:{})", a.name.as_str(), a.lo, a.hi)?;
-    Ok(word)
+/// Indexes, as `@v0,c5`; `@-` for none.
+fn say_indexes(answer: &mut Answer, indexes: &[Index]) {
+    answer.say(if indexes.is_empty() { "@-" } else { "@" });
+    for (place, index) in indexes.iter().enumerate() {
+        separate(answer, place);
+        say_index(answer, *index);
+    }
+}
+
+/// Bounds, as `0:9`.
+fn say_bounds(answer: &mut Answer, lo: i32, hi: i32) {
+    answer.integer(i64::from(lo));
+    answer.say(":");
+    answer.integer(i64::from(hi));
+}
+
+fn say_axis(answer: &mut Answer, axis: &Axis) {
+    answer.say(axis.name.as_str());
+    answer.say("(");
+    say_bounds(answer, axis.lo, axis.hi);
+    answer.say(")");
 }
 
 /// A domain, as `x(0:1),y(0:2)`; `-` without axes.
-fn axes(alloc: Global, domain: &Domain) -> Result<String, AllocError> {
-    let mut word = String::new(alloc);
-    for a in domain.axes() {
-        if !word.is_empty() {
-            word.push_str(",")?;
-        }
-        word.push_str(axis(alloc, a)?.as_str())?;
+fn say_axes(answer: &mut Answer, domain: &Domain) {
+    let axes = domain.axes();
+    if axes.is_empty() {
+        answer.say("-");
     }
-    if word.is_empty() {
-        word.push_str("-")?;
+    for (place, axis) in axes.iter().enumerate() {
+        separate(answer, place);
+        say_axis(answer, axis);
     }
-    Ok(word)
-}
-
-fn interval(alloc: Global, i: Interval) -> Result<String, AllocError> {
-    let word = format!(in alloc; "{}:{}", i.lo, i.hi)?;
-    Ok(word)
 }
 
 fn aggregate(op: Aggregate) -> &'static str {
@@ -75,155 +83,146 @@ fn aggregate(op: Aggregate) -> &'static str {
     }
 }
 
-/// A read of the first field of the first coverage is `read@v0`, another one `read@1.0@v0`.
-fn read(
-    alloc: Global,
-    coverage: usize,
-    field: usize,
-    list: &[Index],
-) -> Result<String, AllocError> {
-    let at = indexes(alloc, list)?;
-    let word = if coverage == 0 && field == 0 {
-        format!(in alloc; "read@{}", at.as_str())?
-    } else {
-        format!(in alloc; "read@{coverage}.{field}@{}", at.as_str())?
-    };
-    Ok(word)
+fn say_level(answer: &mut Answer, name: &str, level: usize) {
+    begin(answer, name);
+    answer.count(level as u64);
 }
 
-/// Puts the words of a body at the end of a text: the operands, then the operation.
+/// A read of the first field of the first coverage is `read@v0`, another one `read@1.0@v0`.
+fn say_read(answer: &mut Answer, coverage: usize, field: usize, indexes: &[Index]) {
+    begin(answer, "read");
+    if coverage != 0 || field != 0 {
+        answer.say("@");
+        answer.count(coverage as u64);
+        answer.say(".");
+        answer.count(field as u64);
+    }
+    say_indexes(answer, indexes);
+}
+
+fn say_table(answer: &mut Answer, domain: &Domain, indexes: &[Index]) {
+    begin(answer, "table@");
+    say_axes(answer, domain);
+    say_indexes(answer, indexes);
+}
+
+/// A bind, as `bind@0:9`, or one of the item.
+fn say_bind(answer: &mut Answer, name: &str, interval: Interval) {
+    begin(answer, name);
+    say_bounds(answer, interval.lo, interval.hi);
+}
+
+/// The words of a body: the operands, then the operation.
 #[cycle(words)]
-fn push_body(alloc: Global, text: &mut String, e: &Body) -> Result<(), AllocError> {
-    match e {
-        Body::Lit(z) => push_word(text, format!(in alloc; "lit@{z}")?.as_str()),
-        Body::Var(k) => push_word(text, format!(in alloc; "var@{k}")?.as_str()),
-        Body::Reg(k) => push_word(text, format!(in alloc; "reg@{k}")?.as_str()),
-        Body::Op1(op, e) => {
-            push_body(alloc, text, e)?;
-            push_word(text, format!(in alloc; "{op:?}")?.as_str())
+fn say_body(alloc: Global, answer: &mut Answer, body: &Body) {
+    match body {
+        Body::Lit(number) => {
+            begin(answer, "lit@");
+            answer.integer(*number);
         }
-        Body::Op2(op, l, r) => {
-            push_body(alloc, text, l)?;
-            push_body(alloc, text, r)?;
-            push_word(text, format!(in alloc; "{op:?}")?.as_str())
+        Body::Var(level) => say_level(answer, "var@", *level),
+        Body::Reg(place) => say_level(answer, "reg@", *place),
+        Body::Op1(op, operand) => {
+            say_body(alloc, answer, operand);
+            begin(answer, "");
+            say_made(answer, format!(in alloc; "{op:?}"));
+        }
+        Body::Op2(op, left, right) => {
+            say_body(alloc, answer, left);
+            say_body(alloc, answer, right);
+            begin(answer, "");
+            say_made(answer, format!(in alloc; "{op:?}"));
         }
         Body::Read {
             coverage,
             field,
             indexes,
-        } => push_word(text, read(alloc, *coverage, *field, indexes)?.as_str()),
+        } => say_read(answer, *coverage, *field, indexes),
         Body::Table {
             domain,
             items: _,
-            indexes: list,
-        } => {
-            let at = indexes(alloc, list)?;
-            let word = format!(in alloc;
-                "table@{}@{}",
-                axes(alloc, domain)?.as_str(),
-                at.as_str()
-            )?;
-            push_word(text, word.as_str())
-        }
+            indexes,
+        } => say_table(answer, domain, indexes),
         Body::Bind {
             position,
-            interval: i,
+            interval,
             body,
         } => {
-            push_body(alloc, text, position)?;
-            push_body(alloc, text, body)?;
-            let bounds = interval(alloc, *i)?;
-            push_word(
-                text,
-                format!(in alloc; "bind@{}", bounds.as_str())?.as_str(),
-            )
+            say_body(alloc, answer, position);
+            say_body(alloc, answer, body);
+            say_bind(answer, "bind@", *interval);
         }
-        Body::Fold(f) => push_fold(alloc, text, "fold", f),
+        Body::Fold(fold) => say_fold(alloc, answer, "fold", fold),
     }
 }
 
-/// Puts the words of a fold or a pass at the end of a text.
+/// The words of a fold or a pass.
 #[cycle(words)]
-fn push_fold(alloc: Global, text: &mut String, name: &str, f: &Fold) -> Result<(), AllocError> {
-    let domain = axes(alloc, &f.domain)?;
-    let op = aggregate(f.op);
-    match &f.condition {
-        None => {
-            push_body(alloc, text, &f.body)?;
-            push_word(
-                text,
-                format!(in alloc; "{name}@{op}@{}", domain.as_str())?.as_str(),
-            )
-        }
-        Some(c) => {
-            push_body(alloc, text, c)?;
-            push_body(alloc, text, &f.body)?;
-            push_word(
-                text,
-                format!(in alloc; "{name}_where@{op}@{}", domain.as_str())?.as_str(),
-            )
-        }
+fn say_fold(alloc: Global, answer: &mut Answer, name: &str, fold: &Fold) {
+    if let Some(condition) = &fold.condition {
+        say_body(alloc, answer, condition);
+    }
+    say_body(alloc, answer, &fold.body);
+    begin(answer, name);
+    if fold.condition.is_some() {
+        answer.say("_where");
+    }
+    answer.say("@");
+    answer.say(aggregate(fold.op));
+    answer.say("@");
+    say_axes(answer, &fold.domain);
+}
+
+/// A position and the bounds of it, as an item keeps them.
+fn say_bound(alloc: Global, answer: &mut Answer, bind: &Bind) {
+    say_body(alloc, answer, &bind.position);
+    say_bind(answer, "bound@", bind.interval);
+}
+
+/// The condition behind which an item stands, if there is one.
+fn say_condition(alloc: Global, answer: &mut Answer, condition: &Option<Body>) {
+    if let Some(condition) = condition {
+        say_body(alloc, answer, condition);
+        begin(answer, "where");
     }
 }
 
-/// Puts the words of an item at the end of a text: its binds, then its fields.
-fn push_item(alloc: Global, text: &mut String, item: &Item) -> Result<(), AllocError> {
-    for bind in &item.binds {
-        push_body(alloc, text, &bind.position)?;
-        let bounds = interval(alloc, bind.interval)?;
-        push_word(
-            text,
-            format!(in alloc; "bound@{}", bounds.as_str())?.as_str(),
-        )?;
-    }
-    for field in &item.fields {
-        push_body(alloc, text, &field.body)?;
-    }
-    Ok(())
-}
-
-/// Steps: the domain of the item, the passes, the condition behind `where`, if there is one, and the item.
-fn push_steps(alloc: Global, text: &mut String, steps: &Steps) -> Result<(), AllocError> {
-    let domain = axes(alloc, &steps.item.domain)?;
-    push_word(text, domain.as_str())?;
+/// Steps: the domain of the item, the passes, the condition, and the binds and the fields of the item.
+fn say_steps(alloc: Global, answer: &mut Answer, steps: &Steps) {
+    begin(answer, "");
+    say_axes(answer, &steps.item.domain);
     for pass in &steps.passes {
-        push_fold(alloc, text, "pass", pass)?;
+        say_fold(alloc, answer, "pass", pass);
     }
-    if let Some(c) = &steps.condition {
-        push_body(alloc, text, c)?;
-        push_word(text, "where")?;
+    say_condition(alloc, answer, &steps.condition);
+    for bind in &steps.item.binds {
+        say_bound(alloc, answer, bind);
     }
-    push_item(alloc, text, &steps.item)
+    for field in &steps.item.fields {
+        say_body(alloc, answer, &field.body);
+    }
 }
 
 /// A combination, as `0:0,1`: the place of its steps, and its coverages.
-fn combination(alloc: Global, c: &Combination) -> Result<String, AllocError> {
-    let mut word = format!(in alloc; "{}:", c.steps)?;
-    let mut first = true;
-    for coverage in &c.coverages {
-        if !first {
-            word.push_str(",")?;
-        }
-        first = false;
-        let place = format!(in alloc; "{coverage}")?;
-        word.push_str(place.as_str())?;
+fn say_combination(answer: &mut Answer, combination: &Combination) {
+    say_level(answer, "", combination.steps);
+    answer.say(":");
+    for (place, coverage) in combination.coverages.iter().enumerate() {
+        separate(answer, place);
+        answer.count(*coverage as u64);
     }
-    Ok(word)
 }
 
 /// The words of all steps with `;` between them, and behind `|` the combinations.
-pub fn words_of(alloc: Global, plan: &Plan) -> Result<String, AllocError> {
-    let mut text = String::new(alloc);
-    for steps in &plan.steps {
-        if !text.is_empty() {
-            push_word(&mut text, ";")?;
+pub fn say_plan(alloc: Global, answer: &mut Answer, plan: &Plan) {
+    for (place, steps) in plan.steps.iter().enumerate() {
+        if place > 0 {
+            begin(answer, ";");
         }
-        push_steps(alloc, &mut text, steps)?;
+        say_steps(alloc, answer, steps);
     }
-    push_word(&mut text, "|")?;
-    for c in &plan.combinations {
-        let word = combination(alloc, c)?;
-        push_word(&mut text, word.as_str())?;
+    begin(answer, "|");
+    for combination in &plan.combinations {
+        say_combination(answer, combination);
     }
-    Ok(text)
 }
