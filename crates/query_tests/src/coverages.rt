@@ -1,13 +1,15 @@
 //! Coverages whose cells are listed, as a query reads them.
 
-use arr_core::Signature;
+use anyhow::{Result, bail};
+use arr_core::{Name, Signature};
 use std::alloc::{AllocError, Global};
+use test_rows::{cut, domain, fields, numbers};
 use wcps_mean::{CellError, Cells};
 use wcps_types::TypedQuery;
 
 /// What becomes of a cell that is read.
-#[derive(Clone, Copy, PartialEq, Eq)]
-pub enum Device {
+#[derive(Clone, Copy)]
+enum Device {
     Sound,
     Failing,
     Damaged,
@@ -18,12 +20,18 @@ pub enum Device {
 #[derive(Drop)]
 pub struct Coverages {
     pub signatures: Vec<Signature>,
-    pub numbers: Vec<Vec<Vec<i64>>>,
-    pub device: Device,
+    numbers: Vec<Vec<Vec<i64>>>,
+    device: Device,
     /// How many reads have failed.
     pub failures: u64,
     /// The place of each coverage of the query that is evaluated.
     listed: Vec<usize>,
+}
+
+/// Adds the numbers of a field.
+fn add_field(alloc: Global, lists: &mut Vec<Vec<i64>>, words: &str) -> Result<()> {
+    lists.push(numbers(alloc, words)?)?;
+    Ok(())
 }
 
 impl Coverages {
@@ -41,6 +49,47 @@ impl Coverages {
     pub fn clear(&mut self) {
         self.signatures.clear();
         self.numbers.clear();
+    }
+
+    /// Sets what becomes of each cell that is read from now on.
+    pub fn set_device(&mut self, word: &str) -> Result<()> {
+        self.device = match word {
+            "sound" => Device::Sound,
+            "failing" => Device::Failing,
+            "damaged" => Device::Damaged,
+            _ => bail!("no such device"),
+        };
+        Ok(())
+    }
+
+    /// Adds a coverage, as `lai x(0:99) v:i16 7`; between the numbers of two fields stands `;`.
+    pub fn add(&mut self, alloc: Global, words: &str) -> Result<()> {
+        let (name, words) = cut(words);
+        let (axes, words) = cut(words);
+        let (list, cells) = cut(words);
+        self.add_signature(alloc, name, axes, list)?;
+        self.add_numbers(alloc, cells)
+    }
+
+    fn add_signature(&mut self, alloc: Global, name: &str, axes: &str, list: &str) -> Result<()> {
+        let name = Name::new(alloc, name)?;
+        let domain = domain(alloc, axes)?;
+        let fields = fields(alloc, list)?;
+        self.signatures.push(Signature {
+            name,
+            domain,
+            fields,
+        })?;
+        Ok(())
+    }
+
+    fn add_numbers(&mut self, alloc: Global, cells: &str) -> Result<()> {
+        let mut lists = Vec::new(alloc);
+        for words in cells.split(';') {
+            add_field(alloc, &mut lists, words)?;
+        }
+        self.numbers.push(lists)?;
+        Ok(())
     }
 
     /// The place of the coverage with a name.

@@ -2,10 +2,11 @@
 //! and its tree and back, to its type, its answer and its CSV, and from a template of map algebra to its query.
 #![tactic(auto)]
 
+mod answers;
 mod coverages;
 mod layer;
 mod outcomes;
-mod templates;
+mod queries;
 mod texts;
 
 use anyhow::Result;

@@ -1,10 +1,11 @@
-//! Operations, condensers, parts of queries at points, and the text of items.
+//! Operations, condensers, and the text of items.
 
-use anyhow::{Context, Result, bail};
-use csv_out::csv_text;
+use crate::answers::{say_items, say_outcome};
+use anyhow::{Result, bail};
+use arr_core::Cell;
 use std::alloc::Global;
-use test_rows::{cell, refusal};
-use wcps_mean::{CellList, Item, Outcome, Part, PointFault, Running, operate, operate_both};
+use test_rows::{Answer, cell, cut, integer, number};
+use wcps_mean::{CellList, Item, Outcome, PointFault, Running, operate, operate_both};
 use wcps_text::{Aggregate, BinaryOperator, UnaryOperator};
 
 /// A number, or a fault by its name.
@@ -15,18 +16,11 @@ fn outcome(word: &str) -> Result<Outcome> {
         "OutOfDomain" => PointFault::OutOfDomain,
         "EmptyCondense" => PointFault::EmptyCondense,
         "BadBit" => PointFault::BadBit,
-        _ => return Ok(Outcome::Value(word.parse::<i64>()?)),
+        _ => return Ok(Outcome::Value(integer(word)?)),
     }))
 }
 
-pub fn shown(alloc: Global, outcome: Outcome) -> Result<String> {
-    match outcome {
-        Outcome::Value(number) => Ok(format!(in alloc; "{number}")?),
-        Outcome::Fault(fault) => refusal(alloc, fault.number()),
-    }
-}
-
-fn operation(word: &str) -> Result<BinaryOperator> {
+fn binary(word: &str) -> Result<BinaryOperator> {
     Ok(match word {
         "*" => BinaryOperator::Multiply,
         "/" => BinaryOperator::Divide,
@@ -42,33 +36,42 @@ fn operation(word: &str) -> Result<BinaryOperator> {
         "or" => BinaryOperator::Or,
         "xor" => BinaryOperator::Xor,
         "bit" => BinaryOperator::Bit,
-        _ => bail!("no operation {word}"),
+        _ => bail!("no such operation"),
     })
 }
 
-fn operation_on_one(word: &str) -> Result<UnaryOperator> {
+fn unary(word: &str) -> Result<UnaryOperator> {
     Ok(match word {
         "-" => UnaryOperator::Negate,
         "+" => UnaryOperator::Plus,
         "not" => UnaryOperator::Not,
         "abs" => UnaryOperator::Absolute,
-        _ => bail!("no operation {word}"),
+        _ => bail!("no such operation"),
     })
 }
 
+fn operated(word: &str, operand: &str) -> Result<Outcome> {
+    Ok(operate(unary(word)?, outcome(operand)?))
+}
+
+fn both_operated(left: &str, word: &str, right: &str) -> Result<Outcome> {
+    let op = binary(word)?;
+    Ok(operate_both(op, outcome(left)?, outcome(right)?))
+}
+
 /// An operation on two operands, as `-7 / 2`, or on one, as `abs -7`.
-pub fn operated(alloc: Global, words: &str) -> Result<String> {
-    let (first, rest) = words.split_once(' ').context("one word")?;
-    match rest.split_once(' ') {
-        Some((word, right)) => {
-            let right = outcome(right)?;
-            shown(
-                alloc,
-                operate_both(operation(word)?, outcome(first)?, right),
-            )
-        }
-        None => shown(alloc, operate(operation_on_one(first)?, outcome(rest)?)),
-    }
+pub fn say_operated(answer: &mut Answer, words: &str) -> Result<()> {
+    let (first, rest) = cut(words);
+    let (second, third) = cut(rest);
+    say_outcome(
+        answer,
+        if third.is_empty() {
+            operated(first, second)?
+        } else {
+            both_operated(first, second, third)?
+        },
+    );
+    Ok(())
 }
 
 fn aggregate(word: &str) -> Result<Aggregate> {
@@ -81,58 +84,69 @@ fn aggregate(word: &str) -> Result<Aggregate> {
         "any" => Aggregate::Any,
         "count" => Aggregate::Count,
         "average" => Aggregate::Average,
-        _ => bail!("no condenser {word}"),
+        _ => bail!("no such condenser"),
     })
+}
+
+/// Adds an outcome to those that a condenser goes over, of which there are few.
+fn add(running: &mut Running, word: &str) -> Result<()> {
+    let outcome = outcome(word)?;
+    if running.count < 1000 {
+        running.add(outcome);
+    }
+    Ok(())
 }
 
 /// A condenser over outcomes, as `sum 1,2`; `-` for none.
-pub fn condensed(alloc: Global, word: &str, list: &str) -> Result<String> {
+pub fn say_condensed(answer: &mut Answer, words: &str) -> Result<()> {
+    let (word, list) = cut(words);
     let mut running = Running::new(aggregate(word)?);
     if list != "-" {
         for word in list.split(',') {
-            if running.count < 1000 {
-                running.add(outcome(word)?);
-            }
+            add(&mut running, word)?;
         }
     }
-    shown(alloc, running.finish())
+    say_outcome(answer, running.finish());
+    Ok(())
 }
 
-/// The part of a combination that a word names.
-pub fn part(word: &str) -> Result<Part> {
-    let (name, field) = word.split_once(':').unwrap_or((word, "0"));
-    let field = field.parse::<usize>()?;
-    Ok(match name {
-        "where" => Part::Condition,
-        "field" => Part::Field(field),
-        "condenser_where" => Part::CondenserCondition(field),
-        "condenser_using" => Part::CondenserValue(field),
-        _ => bail!("no part {word}"),
-    })
+fn add_cell(cells: &mut Vec<Cell>, word: &str) -> Result<()> {
+    cells.push(cell(word)?)?;
+    Ok(())
 }
 
-/// An item, as `3 1 0,1,2,10,11,12`: the cells of a line, the fields of a cell, and the cells.
-fn item(alloc: Global, text: &str) -> Result<Item> {
-    let (line, rest) = text.split_once(' ').context("no line")?;
-    let (fields, list) = rest.split_once(' ').context("no fields")?;
+/// Cells, as `0,true`.
+fn cells(alloc: Global, list: &str) -> Result<CellList> {
     let mut cells = Vec::new(alloc);
     for word in list.split(',') {
-        cells.push(cell(word)?)?;
+        add_cell(&mut cells, word)?;
     }
-    Ok(Item {
-        line: line.parse::<u64>()?,
-        fields: fields.parse::<u32>()?,
-        cells: CellList::new(cells),
-    })
+    Ok(CellList::new(cells))
+}
+
+/// Adds an item, as `3 1 0,1,2,10,11,12`: the cells of a line, the fields of a cell, and the cells.
+fn add_item(alloc: Global, items: &mut Vec<Item>, words: &str) -> Result<()> {
+    let (line, words) = cut(words);
+    let (fields, list) = cut(words);
+    let line = number(line);
+    let fields = fields.parse::<u32>()?;
+    let cells = cells(alloc, list)?;
+    items.push(Item {
+        line,
+        fields,
+        cells,
+    })?;
+    Ok(())
 }
 
 /// The text of items with `;` between them; `-` for none.
-pub fn csv(alloc: Global, text: &str) -> Result<String> {
+pub fn say_csv(alloc: Global, answer: &mut Answer, text: &str) -> Result<()> {
     let mut items = Vec::new(alloc);
     if text != "-" {
-        for word in text.split(';') {
-            items.push(item(alloc, word)?)?;
+        for words in text.split(';') {
+            add_item(alloc, &mut items, words)?;
         }
     }
-    Ok(csv_text(alloc, &items)?)
+    say_items(alloc, answer, &items);
+    Ok(())
 }

@@ -1,32 +1,14 @@
 //! Texts, their tokens, their trees and their types.
 
-use anyhow::{Context, Result};
+use crate::answers::{NO_MEMORY, check_number, lex_number, parse_number, say_made};
+use anyhow::Result;
 use arr_core::Signature;
 use std::alloc::{AllocError, Global};
-use test_rows::{refusal, yes};
-use wcps_parse::{ParseError, parse};
+use test_rows::{Answer, cut_at};
+use wcps_parse::parse;
 use wcps_print::print;
-use wcps_text::{LexError, Query, Token, lex};
-use wcps_types::{CheckError, TypedQuery, check, work};
-
-/// The number of no memory.
-pub const NO_MEMORY: u16 = 90;
-
-fn lex_number(error: &LexError) -> u16 {
-    match error {
-        LexError::BadToken => 30,
-        LexError::NumberTooLarge => 31,
-        LexError::NoMemory => NO_MEMORY,
-    }
-}
-
-fn parse_number(error: &ParseError) -> u16 {
-    match error {
-        ParseError::BadSyntax => 32,
-        ParseError::TooDeep => 33,
-        ParseError::NoMemory => NO_MEMORY,
-    }
-}
+use wcps_text::{Query, Token, lex};
+use wcps_types::{TypedQuery, check, work};
 
 /// The query of a text, or the number of its refusal.
 fn read(alloc: Global, text: &str) -> Result<Query, u16> {
@@ -39,82 +21,110 @@ fn read(alloc: Global, text: &str) -> Result<Query, u16> {
 /// The typed query of a text, or the number of its refusal.
 pub fn typed(alloc: Global, signatures: &[Signature], text: &str) -> Result<TypedQuery, u16> {
     let query = read(alloc, text)?;
-    match check(alloc, signatures, &query) {
-        Ok(typed) => Ok(typed),
-        Err(CheckError::Refused(refused)) => Err(refused.number()),
-        Err(CheckError::NoMemory) => Err(NO_MEMORY),
+    check(alloc, signatures, &query).map_err(|error| check_number(&error))
+}
+
+/// The place and the bytes of a token, as `0:a`.
+fn say_token(answer: &mut Answer, token: &Token<'_>) {
+    if !answer.as_str().is_empty() {
+        answer.say(" ");
+    }
+    answer.count(token.start as u64);
+    answer.say(":");
+    answer.say(token.text);
+}
+
+fn say_each(answer: &mut Answer, tokens: &[Token<'_>]) {
+    for token in tokens {
+        say_token(answer, token);
     }
 }
 
 /// The place and the bytes of each token, as `0:a 1:<=`.
-fn listed(alloc: Global, tokens: &[Token<'_>]) -> Result<String, AllocError> {
-    let mut list = String::new(alloc);
-    for token in tokens {
-        if !list.is_empty() {
-            list.push_str(" ")?;
-        }
-        let part = format!(in alloc; "{}:{}", token.start, token.text)?;
-        list.push_str(part.as_str())?;
-    }
-    Ok(list)
-}
-
-pub fn tokens(alloc: Global, text: &str) -> Result<String> {
+pub fn say_tokens(alloc: Global, answer: &mut Answer, text: &str) {
     match lex(alloc, text) {
-        Ok(tokens) => Ok(listed(alloc, &tokens)?),
-        Err(error) => refusal(alloc, lex_number(&error)),
+        Ok(tokens) => say_each(answer, &tokens),
+        Err(error) => answer.refusal(lex_number(&error)),
     }
 }
 
 /// Whether a text is a query.
-pub fn parsed(alloc: Global, text: &str) -> Result<String> {
+pub fn say_parsed(alloc: Global, answer: &mut Answer, text: &str) {
     match read(alloc, text) {
-        Ok(_) => Ok(String::from_str(alloc, "ok")?),
-        Err(number) => refusal(alloc, number),
+        Ok(_) => answer.say("ok"),
+        Err(number) => answer.refusal(number),
+    }
+}
+
+/// A query that returns an expression.
+fn returning(alloc: Global, expression: &str) -> Result<String, AllocError> {
+    let text = format!(in alloc; "for c in (lai) return {expression}")?;
+    Ok(text)
+}
+
+/// The tree of what a query returns, or its refusal.
+fn say_item(alloc: Global, answer: &mut Answer, text: &str) {
+    match read(alloc, text) {
+        Ok(query) => say_made(answer, format!(in alloc; "{:?}", query.item)),
+        Err(number) => answer.refusal(number),
     }
 }
 
 /// The tree of what `for c in (lai) return` such an expression returns.
-pub fn tree(alloc: Global, expression: &str) -> Result<String> {
-    let text = format!(in alloc; "for c in (lai) return {expression}")?;
-    match read(alloc, text.as_str()) {
-        Ok(query) => Ok(format!(in alloc; "{:?}", query.item)?),
-        Err(number) => refusal(alloc, number),
+pub fn say_tree(alloc: Global, answer: &mut Answer, expression: &str) -> Result<()> {
+    say_item(alloc, answer, returning(alloc, expression)?.as_str());
+    Ok(())
+}
+
+/// The tree of a query, or its refusal.
+fn say_query(alloc: Global, answer: &mut Answer, text: &str) {
+    match read(alloc, text) {
+        Ok(query) => say_made(answer, format!(in alloc; "{query:?}")),
+        Err(number) => answer.refusal(number),
     }
+}
+
+/// Whether two queries have one tree; both trees where they differ.
+fn compare(alloc: Global, answer: &mut Answer, one: &str, other: &str) {
+    let mut first = Answer::new(alloc);
+    say_query(alloc, &mut first, one);
+    let mut second = Answer::new(alloc);
+    say_query(alloc, &mut second, other);
+    if first.as_str() == second.as_str() {
+        return answer.yes(true);
+    }
+    answer.say(first.as_str());
+    answer.say(" and ");
+    answer.say(second.as_str());
 }
 
 /// Whether two expressions with `|` between them have one tree.
-pub fn alike(alloc: Global, expressions: &str) -> Result<String> {
-    let (one, other) = expressions.split_once(" | ").context("one expression")?;
-    let one = tree(alloc, one)?;
-    let other = tree(alloc, other)?;
-    if one.as_str() == other.as_str() {
-        return yes(alloc, true);
-    }
-    Ok(format!(in alloc; "{one} and {other}")?)
+pub fn say_alike(alloc: Global, answer: &mut Answer, expressions: &str) -> Result<()> {
+    let (one, other) = cut_at(expressions, '|');
+    let one = returning(alloc, one)?;
+    let other = returning(alloc, other)?;
+    compare(alloc, answer, one.as_str(), other.as_str());
+    Ok(())
+}
+
+/// The text that a query is printed as, or its refusal.
+fn printed(alloc: Global, text: &str) -> Result<String, u16> {
+    let query = read(alloc, text)?;
+    print(alloc, &query).map_err(|_| NO_MEMORY)
 }
 
 /// Whether the text that a query is printed as is read as the same query.
-pub fn printed(alloc: Global, text: &str) -> Result<String> {
-    let query = match read(alloc, text) {
-        Ok(query) => query,
-        Err(number) => return refusal(alloc, number),
-    };
-    let printed = print(alloc, &query)?;
-    let tree = format!(in alloc; "{query:?}")?;
-    match read(alloc, printed.as_str()) {
-        Ok(again) => {
-            let tree_again = format!(in alloc; "{again:?}")?;
-            yes(alloc, tree.as_str() == tree_again.as_str())
-        }
-        Err(_) => Ok(printed),
+pub fn say_printed(alloc: Global, answer: &mut Answer, text: &str) {
+    match printed(alloc, text) {
+        Ok(printed) => compare(alloc, answer, text, printed.as_str()),
+        Err(number) => answer.refusal(number),
     }
 }
 
 /// The work of a query, or its refusal.
-pub fn worked(alloc: Global, signatures: &[Signature], text: &str) -> Result<String> {
+pub fn say_work(alloc: Global, answer: &mut Answer, signatures: &[Signature], text: &str) {
     match typed(alloc, signatures, text) {
-        Ok(query) => Ok(format!(in alloc; "{}", work(&query))?),
-        Err(number) => refusal(alloc, number),
+        Ok(query) => answer.count(work(&query)),
+        Err(number) => answer.refusal(number),
     }
 }
