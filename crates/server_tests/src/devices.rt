@@ -1,12 +1,14 @@
 //! Sessions on devices that become full: what they answer, and what the next session finds.
 
 use crate::disks::Site;
-use crate::sessions::{connections_of, replies_of};
+use crate::sessions::{Input, connections_of};
+use crate::streams::Sink;
 use anyhow::{Context, Result};
 use coverage_server::{SessionFault, serve_session};
-use disk_face::{FileDisk, FullFile, MemDisk};
+use disk_face::{Disk, FileDisk, FullFile, MemDisk};
 use std::alloc::Global;
-use test_rows::refusal;
+use std::str;
+use test_rows::{Answer, cut_at, index};
 
 /// How many bytes a block has.
 const BLOCK: usize = 4096;
@@ -16,64 +18,112 @@ fn room_of(blocks: usize, more: usize) -> usize {
     blocks.saturating_mul(BLOCK).saturating_add(more)
 }
 
-/// The bodies of the replies of a text.
-fn bodies_of(alloc: Global, replies: &str) -> Result<String> {
-    let mut text = String::new(alloc);
-    for reply in replies.split("HTTP/1.1 ").skip(1) {
-        let (_, body) = reply.split_once("\r\n\r\n").context("no body")?;
-        text.push_str(body)?;
+/// Adds the bodies of the replies of a text.
+fn say_bodies(answer: &mut Answer, replies: &str) {
+    for reply in replies.split("HTTP/1.1 ") {
+        if let Some((_, body)) = reply.split_once("\r\n\r\n") {
+            answer.say(body);
+        }
     }
-    Ok(text)
+}
+
+/// Adds the bodies of what was written for connections.
+fn say_replies(answer: &mut Answer, connections: &[(Input, Sink)]) {
+    for (_, sink) in connections {
+        match str::from_utf8(sink.text.as_slice()) {
+            Ok(replies) => say_bodies(answer, replies),
+            Err(_) => answer.wrong("a reply is no text"),
+        }
+    }
+}
+
+/// Adds why a session gave no disk.
+fn say_fault<D: Disk>(answer: &mut Answer, fault: &SessionFault<D>) {
+    match fault {
+        SessionFault::NotOpened(_, fault) => answer.refusal(fault.number()),
+        SessionFault::NotClosed(_, fault) => {
+            answer.say("not closed: ");
+            answer.refusal(fault.number());
+        }
+    }
+}
+
+/// Serves the connections on a disk, and adds what was answered. The disk, where the session was closed.
+fn served<D: Disk + Drop>(
+    alloc: Global,
+    disk: D,
+    connections: &mut [(Input, Sink)],
+    answer: &mut Answer,
+) -> Option<D> {
+    let outcome = serve_session(alloc, disk, connections);
+    say_replies(answer, connections);
+    match outcome {
+        Ok(disk) => Some(disk),
+        Err(fault) => {
+            say_fault(answer, &fault);
+            None
+        }
+    }
+}
+
+/// Adds what the next session answers on what a device holds.
+fn served_later(
+    alloc: Global,
+    disk: FileDisk<FullFile>,
+    connections: &mut [(Input, Sink)],
+    answer: &mut Answer,
+) {
+    match disk.into_file() {
+        Ok(file) => {
+            let _disk = served(alloc, MemDisk::new(file.bytes), connections, answer);
+        }
+        Err(_) => answer.wrong("a broken device"),
+    }
+}
+
+/// Adds what a session answers on an empty device of so many bytes, and the next one on what it left.
+fn served_on_device(
+    alloc: Global,
+    room: usize,
+    writes: &mut [(Input, Sink)],
+    later: &mut [(Input, Sink)],
+    answer: &mut Answer,
+) {
+    let bytes = Vec::new(alloc);
+    match FileDisk::new(FullFile { bytes, room }) {
+        Ok(disk) => {
+            if let Some(disk) = served(alloc, disk, writes, answer) {
+                answer.say("closed: ");
+                served_later(alloc, disk, later, answer);
+            }
+        }
+        Err(_) => answer.wrong("no device"),
+    }
 }
 
 impl Site {
-    /// What the next session answers on the bytes of a file.
-    fn asked_later(&self, alloc: Global, bytes: Vec<u8>) -> Result<String> {
-        let mut connections = connections_of(alloc, self.later.as_str(), usize::MAX)?;
-        match serve_session(alloc, MemDisk::new(bytes), connections.as_mut_slice()) {
-            Ok(_) => bodies_of(alloc, replies_of(alloc, connections.as_slice())?.as_str()),
-            Err(SessionFault::NotOpened(_, fault)) => refusal(alloc, fault.number()),
-            Err(SessionFault::NotClosed(_, fault)) => refusal(alloc, fault.number()),
-        }
+    /// What both sessions answer on an empty device of so many bytes.
+    fn on_device(&self, alloc: Global, room: usize) -> Result<Answer> {
+        let mut writes = connections_of(alloc, self.writes.as_str(), usize::MAX)?;
+        let mut later = connections_of(alloc, self.later.as_str(), usize::MAX)?;
+        let mut answer = Answer::new(alloc);
+        served_on_device(alloc, room, &mut writes, &mut later, &mut answer);
+        Ok(answer)
     }
 
-    /// What a session answers on an empty device of so many bytes, and the next one on what it left.
-    fn on_device(&self, alloc: Global, room: usize) -> Result<String> {
-        let bytes = Vec::new(alloc);
-        let disk = FileDisk::new(FullFile { bytes, room })
-            .ok()
-            .context("no device")?;
-        let mut connections = connections_of(alloc, self.writes.as_str(), usize::MAX)?;
-        let outcome = serve_session(alloc, disk, connections.as_mut_slice());
-        let bodies = bodies_of(alloc, replies_of(alloc, connections.as_slice())?.as_str())?;
-        match outcome {
-            Ok(disk) => {
-                let file = disk.into_file().ok().context("a broken device")?;
-                let later = self.asked_later(alloc, file.bytes)?;
-                Ok(format!(in alloc; "{bodies}closed: {later}")?)
-            }
-            Err(SessionFault::NotOpened(_, fault)) => refusal(alloc, fault.number()),
-            Err(SessionFault::NotClosed(_, fault)) => {
-                let told = refusal(alloc, fault.number())?;
-                Ok(format!(in alloc; "{bodies}not closed: {told}")?)
-            }
-        }
-    }
-
-    /// What a session and the next one answer, where it is the same on devices of each number of blocks from `LEAST` up to
-    /// `MOST` and of `MORE` bytes besides, which stand as `LEAST..MOST+MORE`; else what first differs.
+    /// What both sessions answer, where it is the same on devices of each number of blocks from `LEAST` to less than `MOST`
+    /// and of `MORE` bytes besides, which stand as `LEAST..MOST+MORE`; else what first differs.
     pub fn on_devices(&self, alloc: Global, rooms: &str) -> Result<String> {
-        let (blocks, more) = rooms.split_once('+').context("no bytes besides")?;
+        let (blocks, more) = cut_at(rooms, '+');
         let (least, most) = blocks.split_once("..").context("no bounds")?;
-        let more = more.parse::<usize>()?;
-        let first = least.parse::<usize>()?;
-        let expected = self.on_device(alloc, room_of(first, more))?;
-        for blocks in first.saturating_add(1)..most.parse::<usize>()? {
+        let (least, most, more) = (index(least)?, index(most)?, index(more)?);
+        let expected = self.on_device(alloc, room_of(least, more))?;
+        for blocks in least.saturating_add(1)..most {
             let found = self.on_device(alloc, room_of(blocks, more))?;
             if found.as_str() != expected.as_str() {
-                return Ok(format!(in alloc; "with {blocks} blocks {found}")?);
+                return found.into_text();
             }
         }
-        Ok(expected)
+        expected.into_text()
     }
 }

@@ -59,7 +59,7 @@ pub fn connections_of(alloc: Global, streams: &str, first: usize) -> Result<Vec<
 }
 
 /// What was written for the connections, parted by ` | `.
-pub fn replies_of(alloc: Global, connections: &[(Input, Sink)]) -> Result<String> {
+fn replies_of(alloc: Global, connections: &[(Input, Sink)]) -> Result<String> {
     let mut text = String::new(alloc);
     for (place, (_, sink)) in connections.iter().enumerate() {
         if place > 0 {
