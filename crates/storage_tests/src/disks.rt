@@ -1,11 +1,11 @@
 //! Disks in memory, of which one call fails or one read lies, and disks over files.
 
-use crate::words::{DISK_FAULT, counted, cut, number, told};
+use crate::words::DISK_FAULT;
 use anyhow::{Result, bail};
 use disk_face::{Disk, DiskFault, FailDisk, FileDisk, FullFile, MemDisk, StdFile};
 use std::alloc::Global;
 use std::fs;
-use test_rows::{Files, hex, refusal};
+use test_rows::{Answer, Files, cut, number};
 
 /// A disk in memory of which one call fails, and one read gives each byte inverted, and that has no more than `room`
 /// bytes. So of what it reads nothing is said.
@@ -83,50 +83,60 @@ pub enum AnyDisk {
 }
 
 /// `ok`, or that the disk failed.
-pub fn done(alloc: Global, outcome: Result<(), DiskFault>) -> Result<String> {
+pub fn say_done(answer: &mut Answer, outcome: Result<(), DiskFault>) {
     match outcome {
-        Ok(()) => told(alloc, "ok"),
-        Err(DiskFault) => refusal(alloc, DISK_FAULT),
+        Ok(()) => answer.say("ok"),
+        Err(DiskFault) => answer.refusal(DISK_FAULT),
     }
 }
 
 /// So many bytes from a place on, as `2 4`.
-fn read<D: Disk>(alloc: Global, disk: &mut D, words: &str) -> Result<String> {
+fn read<D: Disk>(alloc: Global, answer: &mut Answer, disk: &mut D, words: &str) -> Result<()> {
     let (at, count) = cut(words);
     let mut bytes = vec![in alloc; 0u8; number(count) as usize]?;
     match disk.read_at(number(at), &mut bytes) {
-        Ok(()) => Ok(hex(alloc, &bytes)?),
-        Err(DiskFault) => refusal(alloc, DISK_FAULT),
+        Ok(()) => answer.hex(&bytes),
+        Err(DiskFault) => answer.refusal(DISK_FAULT),
     }
+    Ok(())
 }
 
 /// Writes bytes from a place on, as `5 0x0708`.
-fn write<D: Disk>(alloc: Global, disk: &mut D, files: &Files, words: &str) -> Result<String> {
+fn write<D: Disk>(
+    alloc: Global,
+    answer: &mut Answer,
+    disk: &mut D,
+    files: &Files,
+    words: &str,
+) -> Result<()> {
     let (at, words) = cut(words);
     let bytes = files.bytes(alloc, words)?;
-    done(alloc, disk.write_at(number(at), &bytes))
+    say_done(answer, disk.write_at(number(at), &bytes));
+    Ok(())
 }
 
 /// A call on a disk.
-fn called<D: Disk>(
+fn call<D: Disk>(
     alloc: Global,
+    answer: &mut Answer,
     disk: &mut D,
     files: &Files,
     verb: &str,
     words: &str,
-) -> Result<String> {
+) -> Result<()> {
     match verb {
-        "read" => read(alloc, disk, words),
-        "write" => write(alloc, disk, files, words),
-        "length" => counted(alloc, disk.len()),
-        "sync" => done(alloc, disk.sync()),
-        _ => bail!("no such call"),
+        "read" => read(alloc, answer, disk, words)?,
+        "write" => write(alloc, answer, disk, files, words)?,
+        "length" => answer.count(disk.len()),
+        "sync" => say_done(answer, disk.sync()),
+        _ => answer.wrong("no such call"),
     }
+    Ok(())
 }
 
 impl AnyDisk {
     /// A disk in memory of which a call fails and a read lies, as `2 0 lai`.
-    pub fn test(alloc: Global, files: &Files, words: &str) -> Result<AnyDisk> {
+    fn test(alloc: Global, files: &Files, words: &str) -> Result<AnyDisk> {
         let (fails, rest) = cut(words);
         let (lies, words) = cut(rest);
         let bytes = files.bytes(alloc, words)?;
@@ -135,11 +145,10 @@ impl AnyDisk {
     }
 
     /// A disk in memory that has room for so many bytes, as `8192 lai`.
-    pub fn within(alloc: Global, files: &Files, words: &str) -> Result<AnyDisk> {
+    fn within(alloc: Global, files: &Files, words: &str) -> Result<AnyDisk> {
         let (room, words) = cut(words);
         let bytes = files.bytes(alloc, words)?;
-        let disk = TestDisk::new(bytes, 0, 0, number(room));
-        Ok(AnyDisk::Test(disk))
+        Ok(AnyDisk::Test(TestDisk::new(bytes, 0, 0, number(room))))
     }
 
     /// A disk over a file in memory on a device that has room for so many bytes, as `8 lai`.
@@ -150,28 +159,30 @@ impl AnyDisk {
         Ok(AnyDisk::Full(FileDisk::new(FullFile { bytes, room })?))
     }
 
-    /// A disk, as `memory lai`.
+    /// A disk of a kind, as `memory lai`.
     pub fn new(alloc: Global, files: &Files, kind: &str, words: &str) -> Result<AnyDisk> {
         match kind {
             "memory" => Ok(AnyDisk::Memory(MemDisk::new(files.bytes(alloc, words)?))),
+            "within" => AnyDisk::within(alloc, files, words),
             "full" => AnyDisk::full(alloc, files, words),
             _ => AnyDisk::test(alloc, files, words),
         }
     }
 
     /// A call on the disk.
-    pub fn called(
+    pub fn call(
         &mut self,
         alloc: Global,
+        answer: &mut Answer,
         files: &Files,
         verb: &str,
         words: &str,
-    ) -> Result<String> {
+    ) -> Result<()> {
         match self {
-            AnyDisk::Memory(disk) => called(alloc, disk, files, verb, words),
-            AnyDisk::Test(disk) => called(alloc, disk, files, verb, words),
-            AnyDisk::Full(disk) => called(alloc, disk, files, verb, words),
-            AnyDisk::Real(disk) => called(alloc, disk, files, verb, words),
+            AnyDisk::Memory(disk) => call(alloc, answer, disk, files, verb, words),
+            AnyDisk::Test(disk) => call(alloc, answer, disk, files, verb, words),
+            AnyDisk::Full(disk) => call(alloc, answer, disk, files, verb, words),
+            AnyDisk::Real(disk) => call(alloc, answer, disk, files, verb, words),
         }
     }
 
@@ -187,18 +198,25 @@ impl AnyDisk {
 }
 
 /// Opens a disk over a file of the system into a place for a disk.
-pub fn open_file(rt: &HostRuntime, disk: &mut Option<AnyDisk>, path: &str) -> Result<String> {
+pub fn open_file(
+    rt: &HostRuntime,
+    answer: &mut Answer,
+    disk: &mut Option<AnyDisk>,
+    path: &str,
+) -> Result<()> {
     match FileDisk::open(rt, path) {
         Ok(file) => {
             *disk = Some(AnyDisk::Real(file));
-            told(rt.alloc(), "ok")
+            answer.say("ok");
         }
-        Err(DiskFault) => refusal(rt.alloc(), DISK_FAULT),
+        Err(DiskFault) => answer.refusal(DISK_FAULT),
     }
+    Ok(())
 }
 
 /// Takes a file of the system away.
-pub fn remove_file(rt: &HostRuntime, path: &str) -> Result<String> {
+pub fn remove_file(rt: &HostRuntime, answer: &mut Answer, path: &str) -> Result<()> {
     fs::remove_file(rt, path)?;
-    told(rt.alloc(), "ok")
+    answer.say("ok");
+    Ok(())
 }

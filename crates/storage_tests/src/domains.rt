@@ -1,151 +1,207 @@
 //! Names, cells, fields, domains and tiles.
 
-use crate::words::{counted, cut, joined, number, told};
-use anyhow::{Result, bail};
+use crate::words::say_list;
+use anyhow::Result;
 use arr_core::{Domain, Name, refusal_name};
 use std::alloc::Global;
-use test_rows::{axes, cell, domain, fields, kind, point, refusal, shown, text, yes};
+use test_rows::{
+    Answer, axes, cell, coordinate, cut, domain, fields, kind, number, point, say_domain, text,
+};
 
-/// A name, of which a copy is the same one; `BadName` where the text is none.
-fn name(alloc: Global, written: &str) -> Result<String> {
-    let words = text(alloc, written)?;
-    let Ok(name) = Name::new(alloc, words.as_str()) else {
-        return told(alloc, "BadName");
-    };
-    if !name.is_same(&name.copy(alloc)?) {
-        return told(alloc, "not its copy");
-    }
-    told(alloc, name.as_str())
+const BAD_DOMAIN: u16 = 22;
+
+const BAD_FIELD: u16 = 23;
+
+/// A name, of which a copy is the same one.
+fn say_name(alloc: Global, answer: &mut Answer, name: &Name) -> Result<()> {
+    let copy = name.copy(alloc)?;
+    answer.say(if name.is_same(&copy) {
+        name.as_str()
+    } else {
+        "not its copy"
+    });
+    Ok(())
 }
 
-/// How many points and tiles a domain has, as `4225 points, 4 tiles`, or its refusal.
-fn size(alloc: Global, words: &str) -> Result<String> {
-    let Ok(domain) = Domain::new(axes(alloc, words)?) else {
-        return refusal(alloc, 22);
-    };
-    let points = domain.points();
-    let tiles = domain.tiles();
-    Ok(format!(in alloc; "{points} points, {tiles} tiles")?)
+/// The name of a text; `BadName` where the text is none.
+fn name(alloc: Global, answer: &mut Answer, written: &str) -> Result<()> {
+    let words = text(alloc, written)?;
+    match Name::new(alloc, words.as_str()) {
+        Ok(name) => say_name(alloc, answer, &name)?,
+        Err(_) => answer.say("BadName"),
+    }
+    Ok(())
+}
+
+/// The name of a refusal.
+fn refusal(answer: &mut Answer, word: &str) -> Result<()> {
+    answer.say(refusal_name(word.parse::<u16>()?));
+    Ok(())
+}
+
+/// How many points and tiles a domain has, as `4225 points, 4 tiles`.
+fn say_size(answer: &mut Answer, domain: &Domain) {
+    answer.count(domain.points());
+    answer.say(" points, ");
+    answer.count(domain.tiles());
+    answer.say(" tiles");
+}
+
+/// The size of a domain, or its refusal.
+fn size(alloc: Global, answer: &mut Answer, words: &str) -> Result<()> {
+    match Domain::new(axes(alloc, words)?) {
+        Ok(domain) => say_size(answer, &domain),
+        Err(_) => answer.refusal(BAD_DOMAIN),
+    }
+    Ok(())
 }
 
 /// The place of a point and the number of its tile, as `65 in tile 0`.
-fn rank(alloc: Global, domain: &Domain, words: &str) -> Result<String> {
+fn rank(alloc: Global, answer: &mut Answer, domain: &Domain, words: &str) -> Result<()> {
     let point = point(alloc, words)?;
-    if !domain.contains(&point) {
-        return told(alloc, "outside");
+    if domain.contains(&point) {
+        answer.count(domain.rank(&point));
+        answer.say(" in tile ");
+        answer.count(domain.tile_of(&point));
+    } else {
+        answer.say("outside");
     }
-    let place = domain.rank(&point);
-    let tile = domain.tile_of(&point);
-    Ok(format!(in alloc; "{place} in tile {tile}")?)
+    Ok(())
 }
 
 /// The point at a place.
-fn unrank(alloc: Global, domain: &Domain, place: u64) -> Result<String> {
-    if place >= domain.points() {
-        return told(alloc, "outside");
+fn unrank(alloc: Global, answer: &mut Answer, domain: &Domain, place: u64) -> Result<()> {
+    if place < domain.points() {
+        say_list(alloc, answer, &domain.unrank(alloc, place)?);
+    } else {
+        answer.say("outside");
     }
-    joined(alloc, &domain.unrank(alloc, place)?)
+    Ok(())
 }
 
 /// The box of a tile.
-fn tile_box(alloc: Global, domain: &Domain, tile: u64) -> Result<String> {
-    if tile >= domain.tiles() {
-        return told(alloc, "none");
+fn tile_box(alloc: Global, answer: &mut Answer, domain: &Domain, tile: u64) -> Result<()> {
+    if tile < domain.tiles() {
+        say_domain(answer, &domain.tile_box(alloc, tile)?);
+    } else {
+        answer.say("none");
     }
-    Ok(shown(alloc, &domain.tile_box(alloc, tile)?)?)
+    Ok(())
 }
 
 /// The tiles that a box meets.
-fn meeting(alloc: Global, whole: &Domain, words: &str) -> Result<String> {
+fn meeting(alloc: Global, answer: &mut Answer, whole: &Domain, words: &str) -> Result<()> {
     let area = domain(alloc, words)?;
-    joined(alloc, &whole.tiles_meeting(alloc, &area)?)
+    say_list(alloc, answer, &whole.tiles_meeting(alloc, &area)?);
+    Ok(())
 }
 
 /// The domain with other bounds of an axis, as `0 5 6`.
-fn narrow(alloc: Global, domain: &Domain, words: &str) -> Result<String> {
+fn narrow(alloc: Global, answer: &mut Answer, domain: &Domain, words: &str) -> Result<()> {
     let (axis, bounds) = cut(words);
     let (lo, hi) = cut(bounds);
     let axis = number(axis) as usize;
-    let lo = lo.parse::<i32>().unwrap_or(i32::MAX);
-    let hi = hi.parse::<i32>().unwrap_or(i32::MIN);
-    if !domain.can_narrow(axis, lo, hi) {
-        return told(alloc, "no");
+    let lo = coordinate(lo)?;
+    let hi = coordinate(hi)?;
+    if domain.can_narrow(axis, lo, hi) {
+        say_domain(answer, &domain.narrow(alloc, axis, lo, hi)?);
+    } else {
+        answer.say("no");
     }
-    Ok(shown(alloc, &domain.narrow(alloc, axis, lo, hi)?)?)
+    Ok(())
 }
 
 /// The domain without an axis.
-fn drop_axis(alloc: Global, domain: &Domain, axis: usize) -> Result<String> {
-    if axis >= domain.axes().len() {
-        return told(alloc, "no");
+fn drop_axis(alloc: Global, answer: &mut Answer, domain: &Domain, axis: usize) -> Result<()> {
+    if axis < domain.axes().len() {
+        say_domain(answer, &domain.drop_axis(alloc, axis)?);
+    } else {
+        answer.say("no");
     }
-    Ok(shown(alloc, &domain.drop_axis(alloc, axis)?)?)
+    Ok(())
 }
 
 /// Whether axes are those of a box of a domain.
-fn is_box(alloc: Global, whole: &Domain, words: &str) -> Result<String> {
+fn is_box(alloc: Global, answer: &mut Answer, whole: &Domain, words: &str) -> Result<()> {
     let area = domain(alloc, words)?;
-    yes(alloc, area.is_box_of(whole))
-}
-
-/// Whether fields may be those of a coverage, as `2 fields`, or their refusal.
-fn field_count(alloc: Global, words: &str) -> Result<String> {
-    let fields = fields(alloc, words)?;
-    if !fields.are_fields() {
-        return refusal(alloc, 23);
-    }
-    let count = fields.copy(alloc)?.len();
-    Ok(format!(in alloc; "{count} fields")?)
+    answer.yes(area.is_box_of(whole));
+    Ok(())
 }
 
 /// A place, or `none`.
-fn place(alloc: Global, place: Option<usize>) -> Result<String> {
+fn say_place(answer: &mut Answer, place: Option<usize>) {
     match place {
-        Some(place) => counted(alloc, place as u64),
-        None => told(alloc, "none"),
+        Some(place) => answer.count(place as u64),
+        None => answer.say("none"),
     }
-}
-
-/// The place of a field with a name.
-fn field(alloc: Global, words: &str) -> Result<String> {
-    let (list, name) = cut(words);
-    let fields = fields(alloc, list)?;
-    place(alloc, fields.place_of(name))
-}
-
-/// Whether a field of a type may have a cell.
-fn holds(alloc: Global, words: &str) -> Result<String> {
-    let (type_name, word) = cut(words);
-    let kind = kind(type_name)?;
-    yes(alloc, kind.holds(cell(word)?))
 }
 
 /// A call on a domain.
-fn of_domain(alloc: Global, verb: &str, words: &str) -> Result<String> {
+fn on_domain(
+    alloc: Global,
+    answer: &mut Answer,
+    domain: &Domain,
+    verb: &str,
+    words: &str,
+) -> Result<()> {
+    match verb {
+        "rank" => rank(alloc, answer, domain, words)?,
+        "unrank" => unrank(alloc, answer, domain, number(words))?,
+        "tile_box" => tile_box(alloc, answer, domain, number(words))?,
+        "tiles_meeting" => meeting(alloc, answer, domain, words)?,
+        "narrow" => narrow(alloc, answer, domain, words)?,
+        "drop_axis" => drop_axis(alloc, answer, domain, number(words) as usize)?,
+        "is_box" => is_box(alloc, answer, domain, words)?,
+        "axis" => say_place(answer, domain.place_of(words)),
+        _ => answer.wrong("no such call"),
+    }
+    Ok(())
+}
+
+/// A call on the domain of axes, as `rank x(0:64) 5`.
+fn of_domain(alloc: Global, answer: &mut Answer, verb: &str, words: &str) -> Result<()> {
     let (axes, rest) = cut(words);
     let whole = domain(alloc, axes)?;
-    match verb {
-        "rank" => rank(alloc, &whole, rest),
-        "unrank" => unrank(alloc, &whole, number(rest)),
-        "tile_box" => tile_box(alloc, &whole, number(rest)),
-        "tiles_meeting" => meeting(alloc, &whole, rest),
-        "narrow" => narrow(alloc, &whole, rest),
-        "drop_axis" => drop_axis(alloc, &whole, number(rest) as usize),
-        "is_box" => is_box(alloc, &whole, rest),
-        "axis" => place(alloc, whole.place_of(rest)),
-        _ => bail!("no such call"),
+    on_domain(alloc, answer, &whole, verb, rest)
+}
+
+/// Whether fields may be those of a coverage, as `2 fields`, or their refusal.
+fn field_count(alloc: Global, answer: &mut Answer, words: &str) -> Result<()> {
+    let fields = fields(alloc, words)?;
+    if fields.are_fields() {
+        answer.count(fields.copy(alloc)?.len() as u64);
+        answer.say(" fields");
+    } else {
+        answer.refusal(BAD_FIELD);
     }
+    Ok(())
+}
+
+/// The place of a field with a name.
+fn field(alloc: Global, answer: &mut Answer, words: &str) -> Result<()> {
+    let (list, name) = cut(words);
+    let fields = fields(alloc, list)?;
+    say_place(answer, fields.place_of(name));
+    Ok(())
+}
+
+/// Whether a field of a type may have a cell.
+fn holds(answer: &mut Answer, words: &str) -> Result<()> {
+    let (type_name, word) = cut(words);
+    let kind = kind(type_name)?;
+    answer.yes(kind.holds(cell(word)?));
+    Ok(())
 }
 
 /// A call on a name, a cell, fields or a domain.
-pub fn called(alloc: Global, verb: &str, words: &str) -> Result<String> {
+pub fn call(alloc: Global, answer: &mut Answer, verb: &str, words: &str) -> Result<()> {
     match verb {
-        "name" => name(alloc, words),
-        "refusal" => told(alloc, refusal_name(words.parse::<u16>().unwrap_or(0))),
-        "holds" => holds(alloc, words),
-        "fields" => field_count(alloc, words),
-        "field" => field(alloc, words),
-        "domain" => size(alloc, words),
-        _ => of_domain(alloc, verb, words),
+        "name" => name(alloc, answer, words),
+        "refusal" => refusal(answer, words),
+        "holds" => holds(answer, words),
+        "fields" => field_count(alloc, answer, words),
+        "field" => field(alloc, answer, words),
+        "domain" => size(alloc, answer, words),
+        _ => of_domain(alloc, answer, verb, words),
     }
 }

@@ -6,18 +6,22 @@ mod blocks;
 mod catalogues;
 mod disks;
 mod domains;
+mod file_metadata;
 mod formats;
 mod indexes;
-mod layer;
+mod scripts;
+mod site;
 mod stores;
+mod values;
 mod words;
 
 use anyhow::Result;
-use layer::Site;
+use scripts::Scripts;
+use site::Site;
 use std::process::ExitCode;
 use test_rows::judge;
 
 fn main(rt: HostRuntime) -> Result<ExitCode> {
-    let mut site = Site::new(rt.alloc());
-    judge(&rt, &mut site)
+    let mut scripts = Scripts::new(Site::new(rt.alloc()));
+    judge(&rt, &mut scripts)
 }

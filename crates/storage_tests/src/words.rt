@@ -1,10 +1,10 @@
 //! What the words of a row stand for, and what calls give as text.
 
 use anyhow::Result;
-use arr_core::{Cell, FieldType, Fields, Name, Signature};
+use arr_core::{Cell, Field, FieldType, Name, Signature};
 use std::alloc::{AllocError, Global};
 use std::fmt::Display;
-use test_rows::{cell, domain, fields, shown, text};
+use test_rows::{Answer, cell, cut, domain, fields, integer, say_domain, text};
 
 /// The numbers of refusals that any call on a disk may have.
 pub const NO_MEMORY: u16 = 90;
@@ -15,57 +15,38 @@ pub const NO_ROOM: u16 = 92;
 
 pub const DAMAGED: u16 = 93;
 
-/// A text.
-pub fn told(alloc: Global, text: &str) -> Result<String> {
-    Ok(String::from_str(alloc, text)?)
-}
-
-/// A number.
-pub fn counted(alloc: Global, number: u64) -> Result<String> {
-    Ok(format!(in alloc; "{number}")?)
-}
-
-/// The first word, and the others; none stand for no words.
-pub fn cut(words: &str) -> (&str, &str) {
-    words.split_once(' ').unwrap_or((words, ""))
-}
-
-/// The number of a word, and the last one for a word that is none.
-pub fn number(word: &str) -> u64 {
-    word.parse::<u64>().unwrap_or(u64::MAX)
-}
-
-/// Adds a part to a list of words with a comma between two.
-pub fn add(list: &mut String, part: &str) -> Result<(), AllocError> {
-    if !list.is_empty() {
-        list.push_str(",")?;
+fn say_number<T: Display>(alloc: Global, answer: &mut Answer, number: &T) {
+    match format!(in alloc; "{number}") {
+        Ok(digits) => answer.say(digits.as_str()),
+        Err(_) => answer.wrong("no memory"),
     }
-    list.push_str(part)?;
-    Ok(())
 }
 
 /// Numbers, as `0,-1`; `-` for none.
-pub fn joined<T: Display>(alloc: Global, numbers: &[T]) -> Result<String> {
+pub fn say_list<T: Display>(alloc: Global, answer: &mut Answer, numbers: &[T]) {
     if numbers.is_empty() {
-        return told(alloc, "-");
+        answer.say("-");
     }
-    let mut list = String::new(alloc);
-    for number in numbers {
-        let part = format!(in alloc; "{number}")?;
-        add(&mut list, part.as_str())?;
+    for k in 0..numbers.len() {
+        if k > 0 {
+            answer.say(",");
+        }
+        say_number(alloc, answer, &numbers[k]);
     }
-    Ok(list)
+}
+
+fn add_range(list: &mut Vec<Cell>, start: i64, end: i64) -> Result<(), AllocError> {
+    for number in start..end {
+        list.push(Cell::Int(number))?;
+    }
+    Ok(())
 }
 
 /// Adds the cells of a word: one, or for `0..200` the numbers from 0 to 199.
 fn add_cells(list: &mut Vec<Cell>, word: &str) -> Result<()> {
     match word.split_once("..") {
+        Some((start, end)) => add_range(list, integer(start)?, integer(end)?)?,
         None => list.push(cell(word)?)?,
-        Some((start, end)) => {
-            for number in start.parse::<i64>()?..end.parse::<i64>()? {
-                list.push(Cell::Int(number))?;
-            }
-        }
     }
     Ok(())
 }
@@ -91,23 +72,25 @@ fn kind_name(kind: FieldType) -> &'static str {
 }
 
 /// Fields, as `v:i16,w:bool`.
-fn shown_fields(alloc: Global, fields: &Fields) -> Result<String, AllocError> {
-    let mut list = String::new(alloc);
-    for field in fields.as_slice() {
-        let part = format!(in alloc; "{}:{}", field.name.as_str(), kind_name(field.kind))?;
-        add(&mut list, part.as_str())?;
+fn say_fields(answer: &mut Answer, fields: &[Field]) {
+    for k in 0..fields.len() {
+        answer.say(if k > 0 { "," } else { "" });
+        answer.say(fields[k].name.as_str());
+        answer.say(":");
+        answer.say(kind_name(fields[k].kind));
     }
-    Ok(list)
 }
 
 /// The domain and the fields of a coverage, as `x(0:99) v:i16`; `none` where there is none.
-pub fn described(alloc: Global, signature: Option<&Signature>) -> Result<String> {
-    let Some(signature) = signature else {
-        return told(alloc, "none");
-    };
-    let domain = shown(alloc, &signature.domain)?;
-    let fields = shown_fields(alloc, &signature.fields)?;
-    Ok(format!(in alloc; "{domain} {fields}")?)
+pub fn say_signature(answer: &mut Answer, signature: Option<&Signature>) {
+    match signature {
+        Some(signature) => {
+            say_domain(answer, &signature.domain);
+            answer.say(" ");
+            say_fields(answer, signature.fields.as_slice());
+        }
+        None => answer.say("none"),
+    }
 }
 
 /// A coverage, as `lai x(0:99) v:i16`.
