@@ -1,3 +1,4 @@
+-- Zeros behind the bytes that are there fill the last block, so the file is a whole number of blocks.
 use Rattle.std.proofs.Common.{◌%◌, arith, refl}
 use Rattle.block_file.proofs.Headers.{filled_zeros}
 use Rattle.block_file.proofs.block_file.fill_last_block.Goals as goal

@@ -1,3 +1,4 @@
+-- The first block tells what the header tells, and a file of another length than it tells is damaged.
 use Rattle.std.proofs.Common.{arith}
 use Rattle.std.proofs.lemmas.Result.{err_from_is_err_and}
 use Rattle.block_file.proofs.Headers.{starts, refused_header, damaged_length, header_in}

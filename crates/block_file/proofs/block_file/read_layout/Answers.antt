@@ -1,3 +1,4 @@
+-- What a header and its chain tell is what an opened file has, since the chain is read off the same content.
 use Rattle.block_file.proofs.Headers.{opened_file}
 use Rattle.block_file.proofs.block_file.read_layout.Goals as goal
 

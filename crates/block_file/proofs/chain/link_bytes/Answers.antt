@@ -1,3 +1,4 @@
+-- The number in front leaves the part as it was copied, and the bytes behind the part are zero.
 use Rattle.std.proofs.Common.{◌+◌, ◌-◌, List, ℕ, length, get_or, arith, ap, ◌∙◌}
 use Rattle.block_file.proofs.Numbers.{part_among_zeros}
 use Rattle.block_file.proofs.chain.link_bytes.Goals as goal

@@ -1,3 +1,4 @@
+-- The blocks taken are as many as the metadata fills, each once, so what is written into them is a chain.
 use Rattle.std.proofs.Common.{arith}
 use Rattle.block_file.proofs.Chains.{holds_chain}
 use Rattle.block_file.proofs.chain.write_chain.Goals as goal

@@ -1,3 +1,4 @@
+-- The links written so far stay, since each block is listed once and a write changes that block alone.
 use Rattle.std.proofs.Common.{◌<◌, ◌-◌, ◌*◌, length, get_or, arith, ◌∙◌}
 use Rattle.block_file.proofs.Frames.{moves_more}
 use Rattle.block_file.proofs.Chains.{part_byte, linked_more}

@@ -1,3 +1,4 @@
+-- Behind the magic the bytes are those of a block of zeros.
 use Rattle.std.proofs.Common.{arith}
 use Rattle.std.proofs.lemmas.Grind.{common_steps}
 use Rattle.block_file.proofs.Numbers.{zeros_after}

@@ -1,3 +1,4 @@
+-- Each field stands at its place, since those put after it change no byte of it, and all else is zero.
 use Rattle.std.proofs.Common.{arith}
 use Rattle.block_file.proofs.Headers.{header_made}
 use Rattle.block_file.proofs.header.header_bytes.Goals as goal

@@ -1,3 +1,4 @@
+-- A number written into a part of the bytes stands at that part's place, and all other bytes stay.
 use Rattle.std.proofs.Common.{◌-◌, ◌+◌, arith}
 use Rattle.std.proofs.lemmas.Grind.{common_steps}
 use Rattle.block_file.proofs.Numbers.{number-put}

@@ -1,3 +1,4 @@
+-- The number read from the rest of the bytes is that of the eight at their place.
 use Rattle.std.proofs.Common.{sym, ◌∙◌}
 use Rattle.block_file.proofs.Numbers.{number_cut}
 use Rattle.block_file.proofs.header.u64_at.Goals as goal

@@ -1,3 +1,4 @@
+-- The free blocks passed so far are those taken, lowest first, and none below the place reached is free.
 use Rattle.std.proofs.Common.{arith}
 use Rattle.std.proofs.lemmas.Grind.{common_steps}
 use Rattle.block_file.proofs.Markings.{taken_none, taken_all, taken_more, below_taken, below_more}

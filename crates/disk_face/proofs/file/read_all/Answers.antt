@@ -1,3 +1,4 @@
+-- The bytes filled so far are those of the file at their places, and reading changes nothing in it.
 use Rattle.std.proofs.Common.{◌+◌, ◌-◌, ◌<◌, ◌∙◌, length, take, arith, sym, subst, IsTrue}
 use Rattle.disk_face.specs.Disk.{Holds}
 use Rattle.disk_face.proofs.Parts.{Holds-more, room-more}

@@ -1,3 +1,4 @@
+-- The bytes taken so far are in the file, and of the others the file has at most torn ones at their places.
 use Rattle.std.proofs.Common.{◌+◌, ◌-◌, ◌<◌, ◌≤◌, ◌∙◌, length, take, drop, arith, sym, subst, IsTrue}
 use Rattle.std.proofs.lemmas.List.{length-take}
 use Rattle.disk_face.proofs.Parts.{Written-more, Torn-rest}

@@ -1,3 +1,4 @@
+-- The bytes of a block are those that the disk holds at its place.
 use Rattle.std.proofs.Common.{arith}
 use Rattle.block_file.proofs.Places.{held_block}
 use Rattle.block_file.proofs.block_file.BlockFileBlocks.read.Goals as goal

@@ -1,3 +1,4 @@
+-- Nothing is taken without memory, and there is no room exactly where fewer blocks are free than are asked for.
 use Rattle.std.proofs.Common.{arith}
 use Rattle.std.proofs.lemmas.Result.{err_from_is_err_and}
 use Rattle.block_file.proofs.block_file.BlockFileBlocks.take.Goals as goal

@@ -1,3 +1,4 @@
+-- A write to a block changes the bytes of that block alone, whether it is done or torn.
 use Rattle.std.proofs.Common.{sym, refl, arith}
 use Rattle.block_file.proofs.Markings.{is_used}
 use Rattle.block_file.proofs.Places.{held_block, kept_blocks, write_moves}

@@ -1,3 +1,4 @@
+-- The blocks claimed so far are those listed before, and where one cannot be they are given back.
 use Rattle.std.proofs.Common.{arith}
 use Rattle.block_file.proofs.Markings.{claims_none, claims_more, cannot_claim, unclaimed}
 use Rattle.block_file.proofs.marks.Marks.claim.Goals as goal

@@ -1,3 +1,4 @@
+-- A block without a mark is free, so there is one to count off, and one fewer afterwards.
 use Rattle.std.proofs.Common.{rules, arith}
 use Rattle.block_file.proofs.Markings.{claimed}
 use Rattle.block_file.proofs.marks.Marks.claim_one.Goals as goal

@@ -1,3 +1,4 @@
+-- Each block listed so far has given up a use, so one that is still listed has one left.
 use Rattle.std.proofs.Common.{arith, refl, ◌∙◌}
 use Rattle.block_file.proofs.Markings.{still_used}
 use Rattle.block_file.proofs.Times.{times_none, times_more}

@@ -1,3 +1,4 @@
+-- A block that loses its last use is free, and is then the lowest if it lies below that.
 use Rattle.std.proofs.Common.{◌≡◌, get_or, arith}
 use Rattle.std.proofs.lemmas.Grind.{common_steps}
 use Rattle.block_file.proofs.Markings.{is_used, lowered}

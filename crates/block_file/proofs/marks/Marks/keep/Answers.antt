@@ -1,3 +1,4 @@
+-- A block that holds metadata is as free as it was without a mark.
 use Rattle.std.proofs.Common.{rules, arith}
 use Rattle.block_file.proofs.Markings.{unmarked, marked}
 use Rattle.block_file.proofs.marks.Marks.keep.Goals as goal

@@ -1,3 +1,4 @@
+-- New marks are of blocks past the last, which were free before and are counted as such.
 use Rattle.std.proofs.Common.{◌+◌, arith, rules}
 use Rattle.block_file.proofs.Markings.{free_inside, grown}
 use Rattle.block_file.proofs.marks.Marks.reserve.Goals as goal

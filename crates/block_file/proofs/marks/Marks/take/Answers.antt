@@ -1,3 +1,4 @@
+-- What was picked are the lowest free blocks, so as many fewer are free, and those behind the marks stay.
 use Rattle.std.proofs.Common.{arith, length, drop, take_at}
 use Rattle.block_file.proofs.Markings.{taken_marks}
 use Rattle.block_file.proofs.marks.Marks.take.Goals as goal

@@ -1,3 +1,4 @@
+-- There is room for as many blocks as in the file below.
 use Rattle.page_pool.proofs.page_pool.PagePoolBlocks.take.Goals as goal
 
 pub returns-clause-room : goal.returns-clause-room

@@ -1,3 +1,4 @@
+-- The entry of that block is gone, and the others are those that were there.
 use Rattle.std.proofs.Common.{◌≡◌, ◌∙◌, sym, ap}
 use Rattle.page_pool.specs.Pages.{entries_of}
 use Rattle.page_pool.proofs.Lookups.{forgets_removed}

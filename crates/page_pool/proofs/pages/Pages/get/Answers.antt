@@ -1,3 +1,4 @@
+-- A page that is asked for goes to the front, so each block has the page that it had.
 use Rattle.std.proofs.Common.{◌≡◌, ◌∙◌, sym, ap}
 use Rattle.page_pool.specs.Pages.{entries_of}
 use Rattle.page_pool.proofs.Lookups.{same_promoted}

@@ -1,3 +1,4 @@
+-- The page put in is that of the block, of which there was none, and an entry that gives way only goes.
 use Rattle.std.proofs.Common.{◌≡◌, ◌∙◌, sym, ap}
 use Rattle.page_pool.specs.Pages.{entries_of}
 use Rattle.page_pool.proofs.Lookups.{renews_offered}

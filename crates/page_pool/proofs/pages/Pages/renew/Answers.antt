@@ -1,3 +1,4 @@
+-- The page that is written is the one of that block, and all others stay.
 use Rattle.std.proofs.Common.{◌≡◌, ◌∙◌, sym, ap, refl}
 use Rattle.page_pool.specs.Pages.{entries_of}
 use Rattle.page_pool.proofs.Lookups.{renews_set}

@@ -1,3 +1,4 @@
+-- Fewer places keep some of the entries and add none.
 use Rattle.std.proofs.Common.{◌≡◌, ◌∙◌, sym, ap}
 use Rattle.page_pool.specs.Pages.{entries_of}
 use Rattle.page_pool.proofs.Lookups.{none_added}
