@@ -1,4 +1,4 @@
--- The links so far are those of any chain that the header begins, and a block that cannot be kept refutes each.
+-- The links so far are those of any chain the header begins, and a block that cannot be kept refutes each.
 use Rattle.std.proofs.Common.{length, length-set, refl, ap, sym, arith, ◌∙◌}
 use Rattle.block_file.proofs.Chains.{followed_none, followed_more, refuted}
 use Rattle.block_file.proofs.Markings.{fresh_kept, fresh_of}

@@ -1,4 +1,4 @@
--- The bytes of the rest are those from the place on, so all of the one are zero exactly where all of the other are.
+-- The bytes of the rest are those from the place on, so the ones are all zero exactly where the others are.
 use Rattle.std.proofs.Common.{◌≡◌, ◌-◌, ◌<◌, ◌+◌, ℕ, ◌∙◌, IsTrue, ◌↔◌, length, get_or, arith, rules, sym}
 use Rattle.block_file.proofs.Numbers.{byte-mid, length-mid}
 use borrow.Rule.Slice.PartMut.{mid_of}

@@ -1,4 +1,4 @@
--- Nothing is taken without memory, and there is no room exactly where fewer blocks are free than are asked for.
+-- Want of memory says nothing of room, of which there is none exactly where too few blocks are free.
 use Rattle.std.proofs.Common.{arith}
 use Rattle.std.proofs.lemmas.Result.{err_from_is_err_and}
 use Rattle.block_file.proofs.block_file.BlockFileBlocks.take.Goals as goal

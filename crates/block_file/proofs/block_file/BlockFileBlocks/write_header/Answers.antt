@@ -1,4 +1,4 @@
--- The header alone moves: what fills the last block only makes the file longer, and a failed write tears block 0.
+-- The header alone moves: filling the last block only makes the file longer, and a failed write tears block 0.
 use Rattle.std.proofs.Common.{IsTrue, arith, refl, sym, ◌∙◌}
 use Rattle.block_file.proofs.Headers.{closes, only_extends, only_torn, header_written}
 use Rattle.block_file.proofs.block_file.BlockFileBlocks.write_header.Goals as goal

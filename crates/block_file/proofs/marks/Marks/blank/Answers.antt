@@ -1,4 +1,4 @@
--- Of blank marks only the header's is in use, so all blocks but that one are free.
+-- Of blank marks only the header's is not zero, so all blocks but that one are free.
 use Rattle.std.proofs.Common.{ℕ, List, set, ap}
 use Rattle.block_file.proofs.Markings.{blank_marks}
 use Rattle.block_file.proofs.marks.Marks.blank.Goals as goal

@@ -1,4 +1,4 @@
--- A block that is not among the pages is read below, where nothing moves but what was fetched.
+-- A block that is not among the pages is read below, which changes nothing but the count of failures.
 use Rattle.page_pool.proofs.page_pool.PagePoolBlocks.read.Goals as goal
 
 pub returns-in_err-read-clause-frame : goal.returns-in_err-read-clause-frame
