@@ -1,7 +1,5 @@
-use Rattle.std.proofs.Common.{◌≡◌, take, map}
+use Rattle.std.proofs.Common.{◌-◌, ◌≤◌, length, map, take}
+use Rattle.wcps_types.specs.TypedQueries.{trees_in}
 use Rattle.plan_ir.specs.Plans.{steps_view}
-use Rattle.plan_rewrite.specs.LoweredPlans.{lowered_tree}
+use Rattle.plan_rewrite.specs.LoweredPlans.{AreLowered}
 use Rattle.plan_rewrite.proofs.query.each_lowered.Given as goal
-
-abbrev pub invariant-loop-tree : goal.invariant-loop-tree
-invariant-loop-tree l = map steps_view l.list.items ≡ map lowered_tree (take l.tree-index l.trees)
