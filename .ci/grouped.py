@@ -11,6 +11,7 @@ be proved in that check. Where it is not, nothing is taken from the group, and t
 import functools
 import importlib.machinery
 import importlib.util
+import itertools
 import os
 import re
 import shutil
@@ -211,50 +212,50 @@ def rounds_of(crate, functions, edits):
     return rounds
 
 
-def try_edits(crate, functions, edits):
-    """Tries edits of a crate over the libraries built below it: pairs of whether one is refused, and what to say."""
+def try_round(crate, functions, edits, kept, numbers):
+    """Tries edits of a crate over the libraries built below it and over what earlier checks of it kept: pairs of whether one is refused, and what to say."""
     named = lambda it: f"must-fail {crate.name}/{os.path.basename(it)}"
-    told, alone, most, number = [], [], len(edits), 0
+    told, alone, most = [], [], len(edits)
+    while edits:
+        with tempfile.TemporaryDirectory(prefix="edits-") as room:
+            group = Group(crate, functions, room)
+            for it in edits:
+                if len(group.edits) < most:
+                    group.take(it)
+            is_proved = group.check(kept, next(numbers)) if group.edits else None
+        if is_proved is False:
+            return [*told, (False, f"must-fail {crate.name}: THE CONTROL IS NOT PROVED, so nothing is known of its edits")]
+        refused = group.edits_in(Function.is_open) if is_proved else []
+        told += [(True, f"{named(it)}: refused, as it must be, in a group of {len(group.edits)}") for it in refused]
+        if not refused:
+            # what alone can settle: an edit that cannot be read, one that no group takes, and one that a group of its own does not refuse
+            settled = group.edits_in(Function.is_unread) if is_proved is None and group.edits else []
+            settled = settled or ([*group.edits] or edits if len(group.edits) < 2 else [])
+            alone += settled
+            edits = [it for it in edits if it not in settled]
+            most = most if settled else 1
+        edits = [it for it in edits if it not in refused]
+    return told + [tried_alone(crate, it, kept) for it in alone]
+
+
+def try_edits(crate, tell):
+    """What came of the edits of a crate, told as each round ends. Its rounds run one after the other, each over what those before it have proved."""
+    edits, strays = rt.edits_of(crate)
+    told = [(False, f"must-fail {crate.name}/{os.path.basename(it)}: BAD EDIT: an edit stands right in must-fail/ and ends in .edit") for it in strays]
+    tell(told)
+    functions, numbers = functions_of(crate), itertools.count(1)
     with tempfile.TemporaryDirectory(prefix="edits-kept-") as kept:
-        while edits:
-            number += 1
-            with tempfile.TemporaryDirectory(prefix="edits-") as room:
-                group = Group(crate, functions, room)
-                for it in edits:
-                    if len(group.edits) < most:
-                        group.take(it)
-                is_proved = group.check(kept, number) if group.edits else None
-            if is_proved is False:
-                return [*told, (False, f"must-fail {crate.name}: THE CONTROL IS NOT PROVED, so nothing is known of its edits")]
-            refused = group.edits_in(Function.is_open) if is_proved else []
-            told += [(True, f"{named(it)}: refused, as it must be, in a group of {len(group.edits)}") for it in refused]
-            if not refused:
-                # what alone can settle: an edit that cannot be read, one that no group takes, and one that a group of its own does not refuse
-                settled = group.edits_in(Function.is_unread) if is_proved is None and group.edits else []
-                settled = settled or ([*group.edits] or edits if len(group.edits) < 2 else [])
-                alone += settled
-                edits = [it for it in edits if it not in settled]
-                most = most if settled else 1
-            edits = [it for it in edits if it not in refused]
-        told += [tried_alone(crate, it, kept) for it in alone]
+        for edits_of_round in rounds_of(crate, functions, edits):
+            of_round = try_round(crate, functions, edits_of_round, kept, numbers)
+            tell(of_round)
+            told += of_round
     return told
 
 
 def side_by_side(crates, tell=lambda told: None):
-    """What came of the edits of each crate, by its name, told as each round ends. As many rounds at a time as there are processors and memory."""
+    """What came of the edits of each crate, by its name. As many crates at a time as there are processors and memory."""
     rt.rtlib.guarded()
-    tasks, misplaced = {}, {}
-
-    def call(crate, functions, edits, given, jobs):
-        told = try_edits(crate, functions, edits)
-        tell(told)
-        return told
-
-    for it in crates:
-        edits, strays = rt.edits_of(it)
-        misplaced[it.name] = [(False, f"must-fail {it.name}/{os.path.basename(stray)}: BAD EDIT: an edit stands right in must-fail/ and ends in .edit") for stray in strays]
-        functions = functions_of(it)
-        for number, edits in enumerate(rounds_of(it, functions, edits)):
-            tasks[it.name, "edits", number] = ([], it.count(rb"\n"), rt.need(it), functools.partial(call, it, functions, edits))
+    call = lambda crate, given, jobs: try_edits(crate, tell)
+    tasks = {(it.name, "edits"): ([], it.count(rb"\n"), rt.need(it), functools.partial(call, it)) for it in crates}
     given = rt.in_lanes(tasks) if tasks else {}
-    return {it.name: misplaced[it.name] + [one for key, told in given.items() if key[0] == it.name for one in told] for it in crates}
+    return {name: told for (name, _), told in given.items()}
