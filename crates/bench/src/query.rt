@@ -50,7 +50,7 @@ fn read_once(
             Err(_) => "no query",
             Ok(query) => match reading {
                 Reading::Syntax => "a query",
-                Reading::Types => found(check(alloc, signatures, &query)),
+                Reading::Types => found(check(alloc, signatures, query)),
             },
         },
     }

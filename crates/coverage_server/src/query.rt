@@ -58,8 +58,8 @@ fn query_of(alloc: Global, tokens: &[Token]) -> Result<Query, Refusal>
 }
 
 /// The typed query.
-fn typed_of(alloc: Global, signatures: &[Signature], query: &Query) -> Result<TypedQuery, Refusal>
-    ensures { GivesTyped (typ_query signatures.now (query_view query.now)) result }
+fn typed_of(alloc: Global, signatures: &[Signature], query: Query) -> Result<TypedQuery, Refusal>
+    ensures { GivesTyped (typ_query signatures.now (query_view query)) result }
 {
     match check(alloc, signatures, query) {
         Ok(typed) => Ok(typed),
@@ -119,7 +119,7 @@ pub fn typed_text<D: Disk>(
     let tokens = tokens_of(alloc, text)?;
     let query = query_of(alloc, &tokens)?;
     let signatures = coverages.signatures(alloc)?;
-    let typed = typed_of(alloc, &signatures, &query)?;
+    let typed = typed_of(alloc, &signatures, query)?;
     Ok(typed)
 }
 

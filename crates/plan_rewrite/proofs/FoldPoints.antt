@@ -1,5 +1,5 @@
 -- Rewriting makes no more units than the folds in bodies have points: a fold that becomes a pass takes its points along.
-use Rattle.std.proofs.Common.{◌≡◌, ℕ, zero, suc, ◌+◌, ◌≤◌, List, [], ◌∷◌, ◌++◌, length, map, get_or, refl, sym, ap, ◌∙◌, subst, arith, ℤ, pos, Bool, true, false, cond}
+use Rattle.std.proofs.Common.{◌≡◌, ℕ, ◌+◌, ◌≤◌, List, [], ◌∷◌, ◌++◌, length, map, get_or, refl, sym, ap, ◌∙◌, subst, arith, ℤ, pos, Bool, true, false}
 use Rattle.std.specs.Prelude.{Option, Some, None, slice_get, option_map, sum_by, ◌&&◌}
 use Rattle.std.proofs.lemmas.List.Sums.{sum_by-cons}
 use Rattle.arr_core.specs.declared.domain.Axis.{Axis}
@@ -13,7 +13,7 @@ use Rattle.plan_ir.specs.Plans.{PassTree, BindTree, FieldBody, StepsTree, Choice
 use Rattle.plan_ir.specs.Units.{item_units, steps_units, units}
 use Rattle.plan_ir.proofs.Parts.{slice_get-map}
 use Rattle.plan_rewrite.specs.Settling.{variable, levels, stand_in, bind_or_go, settled}
-use Rattle.plan_rewrite.specs.Settled.{Ground, way, after_bind, ground, kept, kept_binds, settled_pass, settled_field, settled_item, settled_steps, settled_plan}
+use Rattle.plan_rewrite.specs.Settled.{Ground, way, after_bind, ground, kept, kept_binds, settled_pass, settled_field, settled_steps, settled_plan}
 use Rattle.plan_rewrite.specs.Hoisting.{is_from, without, hoisted, pass_without}
 use Rattle.plan_rewrite.specs.HoistedPlans.{Places, with_pass, with_passes, hoisted_condition, hoisted_fields, hoisted_item, hoisted_steps, hoisted_plan}
 use Rattle.plan_rewrite.proofs.HoistedReduced.{fold_or_register}

@@ -1,9 +1,8 @@
 -- Hoisting leaves no bind that would give way where there was none.
 use Rattle.std.proofs.Common.{◌≡◌, ℕ, zero, suc, ◌+◌, ◌-◌, List, [], ◌∷◌, ◌++◌, length, map, refl, sym, ap, ◌∙◌, subst, arith, ℤ, append_assoc, length-append, T, Bool, true, false, cond}
-use Rattle.std.specs.Prelude.{Option, Some, None, slice_get, option_map, option_and_then, int_le, nat_le, ◌&&◌}
+use Rattle.std.specs.Prelude.{Option, Some, None, slice_get, option_and_then, int_le, ◌&&◌}
 use Rattle.std.proofs.lemmas.List.{length-map}
 use Rattle.wcps_mean.specs.Cells.{exact1}
-use Rattle.plan_ir.specs.declared.body.Index.{Index}
 use Rattle.plan_ir.specs.declared.body.Index.TheVariants.{Var}
 use Rattle.plan_ir.specs.declared.body.Interval.{Interval}
 use Rattle.plan_ir.specs.Bodies.{Tree, lit, var, reg, op1, op2, read, table, bind, fold}

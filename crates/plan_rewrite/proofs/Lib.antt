@@ -9,6 +9,7 @@ pub mod LoweredPlans
 pub mod FoldPoints
 pub mod HoistedReduced
 pub mod LoweredWork
+pub mod LoweredQueries
 pub mod Lifts
 pub mod Hoists
 pub mod HoistedSteps

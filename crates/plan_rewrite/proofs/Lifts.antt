@@ -1,7 +1,7 @@
 -- A body that uses none of its first variables means the same without them; more registers change nothing.
-use Rattle.std.proofs.Common.{◌≡◌, ℕ, zero, suc, ◌+◌, ◌-◌, ◌<◌, ◌≤◌, List, [], ◌∷◌, ◌++◌, length, map, get_or, refl, sym, ap, ◌∙◌, subst, arith, ℤ, pos, ◌≤ℤ◌, append_assoc, length-append, T, Bool, true, false}
+use Rattle.std.proofs.Common.{◌≡◌, ℕ, zero, suc, ◌+◌, ◌-◌, ◌<◌, ◌≤◌, List, [], ◌∷◌, ◌++◌, length, map, get_or, refl, sym, ap, ◌∙◌, subst, arith, ℤ, pos, append_assoc, length-append, T, Bool, true, false}
 use Rattle.std.specs.Prelude.{Option, Some, None, slice_get, IsSomeAnd, nat_le, ◌&&◌}
-use Rattle.std.specs.List.{flat_map, list_all}
+use Rattle.std.specs.List.{list_all}
 use Rattle.std.proofs.Math.Facts.{leb_yes}
 use Rattle.std.proofs.lemmas.List.{get_or_append_left}
 use Rattle.arr_core.specs.declared.signature.Signature.{Signature}
@@ -14,8 +14,8 @@ use Rattle.plan_ir.specs.declared.body.Index.{Index}
 use Rattle.plan_ir.specs.declared.body.Index.TheVariants.{Const, Var}
 use Rattle.plan_ir.specs.declared.body.Interval.{Interval}
 use Rattle.plan_ir.specs.Bodies.{Tree, lit, var, reg, op1, op2, read, table, bind, fold}
-use Rattle.plan_ir.specs.Run.{number_at, numbers_at, run}
-use Rattle.plan_ir.specs.Placed.{spans, LiesWithin, LiesIn, Indexes, HasCells, IsPlaced}
+use Rattle.plan_ir.specs.Run.{numbers_at, run}
+use Rattle.plan_ir.specs.Placed.{spans, LiesWithin, Indexes, HasCells, IsPlaced}
 use Rattle.plan_rewrite.specs.Hoisting.{index_from, is_from, index_without, without}
 use Rattle.plan_rewrite.proofs.Scopes.{Lie, points-lie, flat-same}
 use Rattle.plan_rewrite.proofs.Settles.{position-same}

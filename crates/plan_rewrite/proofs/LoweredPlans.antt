@@ -1,7 +1,7 @@
--- A lowered query gives the query's answer, and is well-formed: a tree over the coverages that a combination has means what
--- the tree over variables means with the cells of these coverages.
-use Rattle.std.proofs.Common.{◌≡◌, ℕ, zero, suc, ◌+◌, ◌<◌, ◌≤◌, List, [], ◌∷◌, ◌++◌, length, map, get_or, refl, sym, ap, ◌∙◌, subst, arith, ℤ, pos, Bool, cond, Result, Ok, Err}
-use Rattle.std.specs.Prelude.{Option, Some, None, slice_get, option_map, IsSomeAnd, All, insert}
+-- A tree over the coverages that a combination has means what the tree over variables means with the cells of these coverages,
+-- and so do the steps of the tree, which are well-formed.
+use Rattle.std.proofs.Common.{◌≡◌, ℕ, List, [], ◌∷◌, ◌++◌, length, map, get_or, refl, sym, ap, ◌∙◌, ℤ, pos, Bool, cond, Result, Ok}
+use Rattle.std.specs.Prelude.{Option, Some, None, slice_get, option_map, insert}
 use Rattle.std.specs.List.{flat_map}
 use Rattle.std.proofs.lemmas.List.{length-map}
 use Rattle.arr_core.specs.declared.cell.Cell.{Cell}
@@ -10,12 +10,10 @@ use Rattle.arr_core.specs.declared.signature.Signature.{Signature}
 use Rattle.arr_core.specs.Domains.{points}
 use Rattle.wcps_types.specs.declared.typed.Node.{Node}
 use Rattle.wcps_types.specs.declared.typed.Tree.{Tree}
-use Rattle.wcps_types.specs.declared.typed_query.Combination.{Combination}
 use Rattle.wcps_types.specs.Typed.{Typed, number, iterator, cell, unary, binary, scalar, select, bracket, slice, array, listed, condense, condense_where, reduce, FieldTree, ItemTree, CombinationTree, only_tree, item_view, tree_view}
-use Rattle.wcps_types.specs.Renamed.{renamed, renamed_field, renamed_item, renamed_combination, over, combination_view}
-use Rattle.wcps_types.specs.WellTyped.{FieldsAreTyped, ConditionIsTyped, CombinationIsTyped, AreTyped}
+use Rattle.wcps_types.specs.Renamed.{renamed, renamed_field, renamed_item, renamed_combination}
+use Rattle.wcps_types.specs.WellTyped.{FieldsAreTyped, ConditionIsTyped, CombinationIsTyped}
 use Rattle.wcps_mean.specs.declared.cell.PointFault.{PointFault}
-use Rattle.wcps_mean.specs.declared.cell.Outcome.{Outcome}
 use Rattle.wcps_mean.specs.declared.item.Item.{Item}
 use Rattle.wcps_mean.specs.Cells.{operate1, operate2, at_position, is_true}
 use Rattle.wcps_mean.specs.Condensers.{condensed, demanded}
@@ -24,14 +22,13 @@ use Rattle.wcps_mean.specs.Answer.{then_of, given, joined, cell_of, line_of, fie
 use Rattle.plan_ir.specs.declared.body.Index.{Index}
 use Rattle.plan_ir.specs.declared.body.Index.TheVariants.{Const, Var}
 use Rattle.plan_ir.specs.declared.body.Interval.{Interval}
-use Rattle.plan_ir.specs.Plans.{StepsTree, Choice, PlanTree, signature_of}
-use Rattle.plan_ir.specs.Placed.{spans, IsPlaced, ConditionIsPlaced, FieldsArePlaced, AreSteps, IsChoice, IsPlan}
-use Rattle.plan_ir.specs.Planned.{cells_of, steps_planned, choice_planned, planned}
-use Rattle.plan_ir.proofs.Parts.{slice_get-map}
+use Rattle.plan_ir.specs.Plans.{signature_of}
+use Rattle.plan_ir.specs.Placed.{spans, IsPlaced, ConditionIsPlaced, FieldsArePlaced, AreSteps}
+use Rattle.plan_ir.specs.Planned.{cells_of, steps_planned}
 use Rattle.plan_rewrite.specs.Settling.{variable}
 use Rattle.plan_rewrite.specs.Lowering.{Setting, outermost, at_scalar, at_iterators, at_slice, at_box, at_points, lowered}
-use Rattle.plan_rewrite.specs.LoweredItems.{lowered_field, lowered_scalar, lowered_steps}
-use Rattle.plan_rewrite.specs.LoweredPlans.{lowered_tree, lowered_choice, lowered_choices}
+use Rattle.plan_rewrite.specs.LoweredItems.{lowered_field, lowered_scalar}
+use Rattle.plan_rewrite.specs.LoweredPlans.{lowered_tree}
 use Rattle.plan_rewrite.proofs.Settles.{position-same}
 use Rattle.plan_rewrite.proofs.Lowers.{outer-placed}
 use Rattle.plan_rewrite.proofs.LoweredSteps.{steps-mean, item-placed}
@@ -95,34 +92,8 @@ combination-over c ks s =
     ∙ ap (out_of (chosen s (option_map (renamed ks) c.condition))) (item-over c.item ks s)
 
 -- the steps of a tree, over the coverages of a combination
-tree-means : (t : Tree) (ks : List ℕ) (s : ℕ → ℕ → List ℤ → ℤ) → steps_planned (cells_of s ks) (lowered_tree t) ≡ combination_answer s (renamed_combination ks (tree_view t))
+pub tree-means : (t : Tree) (ks : List ℕ) (s : ℕ → ℕ → List ℤ → ℤ) → steps_planned (cells_of s ks) (lowered_tree t) ≡ combination_answer s (renamed_combination ks (tree_view t))
 tree-means t ks s = steps-mean t.condition t.item (cells_of s ks) ∙ combination-over (tree_view t) ks s
-
--- what the combinations of a plan give, one by one
-abbrev each : (ℕ → ℕ → List ℤ → ℤ) → List Tree → List Choice → List (Result (List Item) PointFault)
-each s trees all = map (λ (c : Choice). choice_planned s c.coverages (slice_get (map lowered_tree trees) c.steps)) all
-
-then-same : (r : Result (List Item) PointFault) → r ≡ then_of r (λ ys. Ok ys)
-then-same (Ok ys) = refl
-then-same (Err f) = refl
-
-one-means : (o : Option Tree) (trees : List Tree) (c : Combination) (rest : List Choice) (s : ℕ → ℕ → List ℤ → ℤ) → slice_get trees c.tree ≡ o
-    → joined (each s trees (lowered_choice o c ++ rest)) ≡ then_of (combination_answer s (over c.coverages.items o)) (λ xs. then_of (joined (each s trees rest)) (λ ys. Ok (xs ++ ys)))
-one-means None trees c rest s e = then-same (joined (each s trees rest))
-one-means (Some t) trees c rest s e =
-    ap (λ r. then_of r (λ xs. then_of (joined (each s trees rest)) (λ ys. Ok (xs ++ ys))))
-    (ap (choice_planned s c.coverages.items) (slice_get-map lowered_tree trees c.tree ∙ ap (option_map lowered_tree) e) ∙ tree-means t c.coverages.items s)
-
-choices-mean : (all : List Combination) (trees : List Tree) (s : ℕ → ℕ → List ℤ → ℤ) → joined (each s trees (lowered_choices trees all)) ≡ joined (map (combination_answer s) (map (combination_view trees) all))
-choices-mean [] trees s = refl
-choices-mean (c ∷ all) trees s =
-    one-means (slice_get trees c.tree) trees c (lowered_choices trees all) s refl
-    ∙ ap (λ (r : Result (List Item) PointFault). then_of (combination_answer s (combination_view trees c)) (λ xs. then_of r (λ ys. Ok (xs ++ ys)))) (choices-mean all trees s)
-
--- the plan gives the answer
-pub query-means : (cs : List Signature) (trees : List Tree) (all : List Combination) (s : ℕ → ℕ → List ℤ → ℤ)
-    → planned s (record { coverages = cs; steps = map lowered_tree trees; combinations = lowered_choices trees all }) ≡ joined (map (combination_answer s) (map (combination_view trees) all))
-query-means cs trees all s = choices-mean all trees s
 
 variable-over : (i : Index) (cs : List Signature) (ks : List ℕ) (regs : ℕ) (scope : List Interval) → IsPlaced (slice_get cs) regs scope (variable i) → IsPlaced (signature_of cs ks) regs scope (variable i)
 variable-over (Const z) cs ks regs scope h = tt
@@ -155,41 +126,9 @@ condition-placed : (o : Option Node) (cs : List Signature) (ks : List ℕ) → C
 condition-placed None cs ks h = tt
 condition-placed (Some e) cs ks h = placed-over (only_tree e) cs ks 0 (outermost [] []) (outer-placed (renamed ks (only_tree e)) [] [] cs 0 h)
 
-tree-placed : (t : Tree) (cs : List Signature) (ks : List ℕ) → CombinationIsTyped cs (renamed_combination ks (tree_view t)) → AreSteps (signature_of cs ks) (lowered_tree t)
+pub tree-placed : (t : Tree) (cs : List Signature) (ks : List ℕ) → CombinationIsTyped cs (renamed_combination ks (tree_view t)) → AreSteps (signature_of cs ks) (lowered_tree t)
 tree-placed t cs ks h = record {
   passes = tt;
   condition = condition-placed t.condition cs ks h.0;
   item = item-placed t.item (signature_of cs ks) (fields-placed (item_view t.item).fields cs ks t.item.domain h.1);
 }
-
-all-more : (P : Choice → Type 0) (x : Choice) (xs : List Choice) → P x → All P xs → All P (x ∷ xs)
-all-more P x xs h a zero d lt = h
-all-more P x xs h a (suc k) d lt = a k d (omega (arith, lt))
-
-abbrev Stands : List Signature → List Tree → Choice → Type 0
-Stands cs trees c = IsSomeAnd (slice_get (map lowered_tree trees) c.steps) (AreSteps (signature_of cs c.coverages))
-
-one-placed : (o : Option Tree) (cs : List Signature) (trees : List Tree) (c : Combination) (rest : List Choice) → slice_get trees c.tree ≡ o → CombinationIsTyped cs (over c.coverages.items o) → All (Stands cs trees) rest
-    → All (Stands cs trees) (lowered_choice o c ++ rest)
-one-placed None cs trees c rest e t h = h
-one-placed (Some b) cs trees c rest e t h =
-    let ks = c.coverages.items in
-    let steps = slice_get-map lowered_tree trees c.tree ∙ ap (option_map lowered_tree) e in
-    all-more (Stands cs trees) (record { steps = c.tree; coverages = ks }) rest (subst (λ o. IsSomeAnd o (AreSteps (signature_of cs ks))) (sym steps) (tree-placed b cs ks t)) h
-
-choices-placed : (all : List Combination) (cs : List Signature) (trees : List Tree) → AreTyped cs (map (combination_view trees) all) → All (Stands cs trees) (lowered_choices trees all)
-choices-placed [] cs trees t = λ k d lt. absurd (omega (arith, lt))
-choices-placed (c ∷ all) cs trees t = one-placed (slice_get trees c.tree) cs trees c (lowered_choices trees all) refl t.0 (choices-placed all cs trees t.1)
-
--- the plan is well-formed
-pub query-placed : (cs : List Signature) (trees : List Tree) (all : List Combination) → AreTyped cs (map (combination_view trees) all)
-    → IsPlan (record { coverages = cs; steps = map lowered_tree trees; combinations = lowered_choices trees all })
-query-placed cs trees all t = choices-placed all cs trees t
-
-abbrev pub plan_of : List Signature → List StepsTree → List Choice → PlanTree
-plan_of cs steps all = record { coverages = cs; steps = steps; combinations = all }
-
--- plans with the same parts
-pub same-plan : (cs ds : List Signature) (steps more : List StepsTree) (all rest : List Choice) → cs ≡ ds → steps ≡ more → all ≡ rest
-    → plan_of cs steps all ≡ plan_of ds more rest
-same-plan cs ds steps more all rest e f g = ap (λ l. plan_of l steps all) e ∙ ap (λ l. plan_of ds l all) f ∙ ap (plan_of ds more) g

@@ -1,28 +1,19 @@
--- The units of a lowered query and the points of its folds are within its work.
-use Rattle.std.proofs.Common.{◌≡◌, ℕ, zero, suc, ◌+◌, ◌*◌, ◌≤◌, List, [], ◌∷◌, ◌++◌, length, map, refl, sym, ap, ◌∙◌, subst, arith, ℤ, pos, get_or, Bool}
-use Rattle.std.specs.Prelude.{Option, Some, None, slice_get, option_map, sum_by}
-use Rattle.std.proofs.lemmas.List.{length-map}
-use Rattle.std.proofs.lemmas.List.Sums.{sum_by-cons}
+-- The units of the steps of a tree and the points of their folds are within its work.
+use Rattle.std.proofs.Common.{◌≡◌, ℕ, zero, suc, ◌+◌, ◌*◌, ◌≤◌, List, [], ◌∷◌, map, sym, ap, subst, arith, ℤ, pos, get_or, Bool}
+use Rattle.std.specs.Prelude.{Option, Some, None, option_map}
 use Rattle.arr_core.specs.declared.domain.Axis.{Axis}
-use Rattle.arr_core.specs.declared.signature.Signature.{Signature}
-use Rattle.arr_core.specs.Domains.{gap, size_of, count}
+use Rattle.arr_core.specs.Domains.{gap, count}
 use Rattle.wcps_types.specs.declared.typed.Node.{Node}
-use Rattle.wcps_types.specs.declared.typed.TypedItem.{TypedItem}
 use Rattle.wcps_types.specs.declared.typed.Tree.{Tree}
-use Rattle.wcps_types.specs.declared.typed_query.Combination.{Combination}
-use Rattle.wcps_types.specs.Typed.{Typed, number, iterator, cell, unary, binary, scalar, select, bracket, slice, array, listed, condense, condense_where, reduce, FieldTree, CombinationTree, only_tree, fields_view, item_view, tree_view}
-use Rattle.wcps_types.specs.Renamed.{renamed_combination, over, combination_view}
-use Rattle.wcps_types.specs.Work.{work_of, fields_work, condition_work, item_work, query_work}
-use Rattle.wcps_types.proofs.SharedEfforts.{work_over}
-use Rattle.plan_ir.specs.declared.body.Index.{Index}
-use Rattle.plan_ir.specs.declared.body.Index.TheVariants.{Const, Var}
-use Rattle.plan_ir.specs.Plans.{FieldBody, StepsTree, Choice, PlanTree}
-use Rattle.plan_ir.specs.Units.{item_units, steps_units, units}
-use Rattle.plan_ir.proofs.Parts.{slice_get-map}
+use Rattle.wcps_types.specs.Typed.{Typed, number, iterator, cell, unary, binary, scalar, select, bracket, slice, array, listed, condense, condense_where, reduce, FieldTree, only_tree, fields_view, item_view, tree_view}
+use Rattle.wcps_types.specs.Work.{work_of, fields_work, condition_work, query_work}
+use Rattle.plan_ir.specs.declared.body.Index.TheVariants.{Const}
+use Rattle.plan_ir.specs.Plans.{FieldBody}
+use Rattle.plan_ir.specs.Units.{item_units}
 use Rattle.plan_rewrite.specs.Lowering.{Setting, outermost, at_scalar, at_iterators, at_slice, at_box, at_points, lowered}
-use Rattle.plan_rewrite.specs.LoweredItems.{Chain, end, bracketed, sliced, chain_of, chain_tree, chain_binds, chain_fields, lowered_field, item_binds, lowered_item, lowered_scalar, lowered_steps}
-use Rattle.plan_rewrite.specs.LoweredPlans.{lowered_tree, lowered_choice, lowered_choices}
-use Rattle.plan_rewrite.specs.FoldPoints.{body_folds, condition_folds, binds_folds, fields_folds, steps_folds, fold_points}
+use Rattle.plan_rewrite.specs.LoweredItems.{Chain, end, bracketed, sliced, chain_of, chain_tree, chain_binds, chain_fields, lowered_field, item_binds, lowered_scalar}
+use Rattle.plan_rewrite.specs.LoweredPlans.{lowered_tree}
+use Rattle.plan_rewrite.specs.FoldPoints.{body_folds, condition_folds, binds_folds, fields_folds}
 use Rattle.plan_rewrite.proofs.FoldPoints.{variable-folds, both_of}
 use Rattle.plan_rewrite.proofs.LoweredItems.{chain_views, chain-views, end-views, no-fields}
 use Rattle.plan_rewrite.proofs.LoweredSteps.{work-some}
@@ -117,55 +108,10 @@ item-within h c box (b ∷ bs) w e =
     let d = sum-product (count box) w (count-some box) (omega (arith, some, e)) in
     omega (arith, a, u, d, e)
 
-tree-within : (t : Tree) → both_of (Some (lowered_tree t)) ≤ 2 + query_work (tree_view t ∷ [])
+pub tree-within : (t : Tree) → both_of (Some (lowered_tree t)) ≤ 2 + query_work (tree_view t ∷ [])
 tree-within t =
     let c = outermost [] t.item.domain in
     let a = condition-within t.condition in
     let w = fields_work (item_view t.item).fields in
     let b = item-within (chain_of t.item.node) c t.item.domain t.item.booleans.items w (ap fields_work (chain-views t.item.node 0 t.item.booleans.items)) in
     omega (arith, a, b)
-
-abbrev units_at : List Tree → Choice → ℕ
-units_at trees c = steps_units (slice_get (map lowered_tree trees) c.steps)
-
-abbrev folds_at : List Tree → Choice → ℕ
-folds_at trees c = steps_folds (slice_get (map lowered_tree trees) c.steps)
-
-abbrev units_in : List Tree → List Choice → ℕ
-units_in trees all = sum_by (units_at trees) all
-
-abbrev folds_in : List Tree → List Choice → ℕ
-folds_in trees all = sum_by (folds_at trees) all
-
-one-within : (o : Option Tree) (trees : List Tree) (c : Combination) (rest : List Choice) (n : ℕ) → slice_get trees c.tree ≡ o → units_in trees rest + folds_in trees rest ≤ n
-    → units_in trees (lowered_choice o c ++ rest) + folds_in trees (lowered_choice o c ++ rest) ≤ (2 + query_work (over c.coverages.items o ∷ [])) + n
-one-within None trees c rest n e h = omega (arith, h)
-one-within (Some t) trees c rest n e h =
-    let a = tree-within t in
-    let is = slice_get-map lowered_tree trees c.tree ∙ ap (option_map lowered_tree) e in
-    let b = subst (λ o. both_of o ≤ 2 + query_work (tree_view t ∷ [])) (sym is) a in
-    let d : query_work (over c.coverages.items (Some t) ∷ []) ≡ query_work (tree_view t ∷ []) = work_over c.coverages.items (tree_view t) in
-    let x : Choice = record { steps = c.tree; coverages = c.coverages.items } in
-    let u : units_in trees (lowered_choice (Some t) c ++ rest) ≡ steps_units (slice_get (map lowered_tree trees) c.tree) + units_in trees rest = sum_by-cons (units_at trees) x rest in
-    let v : folds_in trees (lowered_choice (Some t) c ++ rest) ≡ steps_folds (slice_get (map lowered_tree trees) c.tree) + folds_in trees rest = sum_by-cons (folds_at trees) x rest in
-    omega (arith, h, b, d, u, v)
-
-choices-within : (all : List Combination) (trees : List Tree) → units_in trees (lowered_choices trees all) + folds_in trees (lowered_choices trees all) ≤ 2 * length all + query_work (map (combination_view trees) all)
-choices-within [] trees = omega arith
-choices-within (c ∷ all) trees =
-    let a = choices-within all trees in
-    let b = one-within (slice_get trees c.tree) trees c (lowered_choices trees all) (2 * length all + query_work (map (combination_view trees) all)) refl a in
-    omega (arith, b)
-
-within-product : (n w : ℕ) → 1 ≤ n → 2 * n + w ≤ n * (2 + w)
-within-product zero w h = absurd (omega (arith, h))
-within-product (suc n) w h = let e : suc n * (2 + w) ≡ 2 * suc n + (w + n * w) = grind arith in omega (arith, e)
-
--- the units of a query's plan and the points of its folds
-pub query-within : (cs : List Signature) (trees : List Tree) (all : List Combination) → 1 ≤ length all
-    → units (record { coverages = cs; steps = map lowered_tree trees; combinations = lowered_choices trees all }) + fold_points (record { coverages = cs; steps = map lowered_tree trees; combinations = lowered_choices trees all })
-    ≤ length (map (combination_view trees) all) * (2 + query_work (map (combination_view trees) all))
-query-within cs trees all some =
-    let a = choices-within all trees in
-    let b = within-product (length all) (query_work (map (combination_view trees) all)) some in
-    subst (λ n. units_in trees (lowered_choices trees all) + folds_in trees (lowered_choices trees all) ≤ n * (2 + query_work (map (combination_view trees) all))) (sym (length-map all (combination_view trees))) (omega (arith, a, b))

@@ -1,5 +1,5 @@
 -- Hoisting: a fold that uses no variable from outside it becomes a pass, and its register stands in its place.
-use Rattle.std.specs.Prelude.{ℕ, ◌+◌, ◌-◌, nat_le, ◌&&◌, cond, Bool, true, ℤ, pos, List, [], ◌∷◌, ◌++◌, map, length, slice_index_or}
+use Rattle.std.specs.Prelude.{ℕ, ◌+◌, ◌-◌, nat_le, ◌&&◌, cond, Bool, true, List, [], ◌∷◌, ◌++◌, map, length, slice_index_or}
 use Rattle.std.specs.List.{list_all}
 use Rattle.plan_ir.specs.declared.body.Index.{Index}
 use Rattle.plan_ir.specs.declared.body.Index.TheVariants.{Const, Var}

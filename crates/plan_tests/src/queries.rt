@@ -27,7 +27,7 @@ fn read(alloc: Global, text: &str) -> Result<Query> {
 /// The typed query of a text.
 fn typed(alloc: Global, signatures: &[Signature], text: &str) -> Result<TypedQuery> {
     let query = read(alloc, text)?;
-    check(alloc, signatures, &query).ok().context("no type")
+    check(alloc, signatures, query).ok().context("no type")
 }
 
 impl Coverages {

@@ -21,7 +21,7 @@ fn read(alloc: Global, text: &str) -> Result<Query, u16> {
 /// The typed query of a text, or the number of its refusal.
 pub fn typed(alloc: Global, signatures: &[Signature], text: &str) -> Result<TypedQuery, u16> {
     let query = read(alloc, text)?;
-    check(alloc, signatures, &query).map_err(|error| check_number(&error))
+    check(alloc, signatures, query).map_err(|error| check_number(&error))
 }
 
 /// The place and the bytes of a token, as `0:a`.

@@ -18,12 +18,6 @@ few_in_one view [] k x m lt is h = absurd (omega (arith, lt))
 few_in_one view (c ∷ all) zero x m lt is h = subst (λ y. result_cells (view y ∷ []) ≤ m) (sym is) (omega (arith, h))
 few_in_one view (c ∷ all) (suc k) x m lt is h = few_in_one view all k x m (omega (arith, lt)) is (omega (arith, h))
 
--- of its tree
-pub few_in_tree : (places : List ℕ) (o : Option Tree) (t : Tree) (m : ℕ) → Some t ≡ o → result_cells (over places o ∷ []) ≤ m → result_cells (tree_view t ∷ []) ≤ m
-few_in_tree places o t m is h =
-    let few : result_cells (over places (Some t) ∷ []) ≤ m = subst (λ (p : Option Tree). result_cells (over places p ∷ []) ≤ m) (sym is) h in
-    subst (λ n. n ≤ m) (cells_over places (tree_view t)) few
-
 -- of its item
 pub few_in_item : (t : Tree) (m : ℕ) → result_cells (tree_view t ∷ []) ≤ m → count t.item.domain * length t.item.booleans.items ≤ m
 few_in_item t m h =

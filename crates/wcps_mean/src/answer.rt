@@ -1,11 +1,11 @@
 //! The answer of a query: its items, or the first fault.
 
-ghost use Rattle.std.specs.Prelude.{◌≡◌, ◌<◌, ◌≤◌, ◌*◌, false, get_or, List, [], ◌∷◌, ◌++◌, Ok, Err, Result, IfOk, IfErr, OnOk, MatchResult, length, map, option_map, option_copied, slice_get};
+ghost use Rattle.std.specs.Prelude.{◌≡◌, ◌<◌, ◌≤◌, ◌*◌, false, get_or, List, [], ◌∷◌, ◌++◌, Ok, Err, Result, IfOk, IfErr, OnOk, MatchResult, length, map, option_map};
 ghost use Rattle.arr_core.specs.Domains.{count};
 ghost use Rattle.wcps_types.specs.Cells.{result_cells, max_cells};
 ghost use Rattle.wcps_types.specs.Typed.{only_tree, item_view, tree_view};
 ghost use Rattle.wcps_types.specs.Renamed.{renamed, renamed_item, renamed_combination, combination_view};
-ghost use Rattle.wcps_types.specs.TypedQueries.{query_view};
+ghost use Rattle.wcps_types.specs.TypedQueries.{query_view, trees_in};
 ghost use Rattle.wcps_mean.specs.Answer.{answer, combination_answer, chosen, item_answer, cells_at, cell_of, line_of, field_count};
 ghost use Rattle.wcps_mean.specs.Errors.{TellsFault, PushesCells, PassesOn};
 
@@ -17,7 +17,7 @@ use crate::points::{push_point, size};
 use arr_core::{Axis, Cell};
 use std::alloc::{AllocError, AllocFailed, Global};
 use thiserror::Error;
-use wcps_types::{Combination, Tree, TypedItem, TypedQuery};
+use wcps_types::{Combination, Tree, TypedItem, TypedQuery, tree_at};
 
 /// Why a query has no answer.
 #[derive(Clone, Copy, PartialEq, Eq, Debug, Error)]
@@ -79,10 +79,9 @@ pub fn eval_plain<C: Cells>(
     ensures intact { C.intact cells.old → C.intact cells.new }
     ensures reports { PassesOn result (C.intact cells.old) (C.failures cells.old) (C.failures cells.new) }
 {
-    let trees = query.trees();
     let mut items = Vec::new(alloc);
     for combination in query.combinations() {
-        push_combination(alloc, cells, trees, combination, &mut items)?;
+        push_combination(alloc, cells, query, combination, &mut items)?;
     }
     Ok(items)
 }
@@ -91,32 +90,22 @@ pub fn eval_plain<C: Cells>(
 fn push_combination<C: Cells>(
     alloc: Global,
     cells: &mut C,
-    trees: &[Tree],
+    query: &TypedQuery,
     combination: &Combination,
     items: &mut Vec<Item>,
 ) -> Result<(), EvalError>
-    requires few_cells { result_cells (combination_view trees.now combination.now ∷ []) ≤ max_cells }
-    ensures value { OnOk result (C.intact cells.old → PushesCells (combination_answer (C.cells cells.old) (combination_view trees.now combination.now)) items.old.items items.new.items) }
-    ensures fault { IfErr result (λ e. C.intact cells.old → TellsFault e (combination_answer (C.cells cells.old) (combination_view trees.now combination.now))) }
+    requires few_cells { result_cells (combination_view (trees_in query.now) combination.now ∷ []) ≤ max_cells }
+    ensures value { OnOk result (C.intact cells.old → PushesCells (combination_answer (C.cells cells.old) (combination_view (trees_in query.now) combination.now)) items.old.items items.new.items) }
+    ensures fault { IfErr result (λ e. C.intact cells.old → TellsFault e (combination_answer (C.cells cells.old) (combination_view (trees_in query.now) combination.now))) }
     ensures same { C.cells cells.new ≡ C.cells cells.old }
     ensures kept { C.kept cells.new ≡ C.kept cells.old }
     ensures intact { C.intact cells.old → C.intact cells.new }
     ensures reports { PassesOn result (C.intact cells.old) (C.failures cells.old) (C.failures cells.new) }
 {
-    match tree_at(trees, combination.tree) {
-        None => Ok(()),
-        Some(tree) => {
-            push_tree(alloc, cells, &combination.coverages, tree, items)?;
-            Ok(())
-        }
-    }
-}
-
-/// The tree at a place.
-pub(crate) fn tree_at(trees: &[Tree], k: usize) -> Option<&Tree>
-    ensures { option_copied result ≡ slice_get trees.now k }
-{
-    trees.get(k)
+    let Some(tree) = tree_at(alloc, query, combination.tree)? else {
+        return Ok(());
+    };
+    push_tree(alloc, cells, &combination.coverages, &tree, items)
 }
 
 /// Puts the item of a tree over coverages, if it gives one, at the end of a list.

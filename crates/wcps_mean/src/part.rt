@@ -3,17 +3,16 @@
 ghost use Rattle.std.specs.Prelude.{◌≡◌, ℕ, ℤ, List, [], IfOk, Option, Some, None, option_map};
 ghost use Rattle.wcps_types.specs.Typed.{field_tree, tree_view};
 ghost use Rattle.wcps_types.specs.Renamed.{renamed, renamed_combination, over, combination_view};
-ghost use Rattle.wcps_types.specs.TypedQueries.{query_view};
+ghost use Rattle.wcps_types.specs.TypedQueries.{query_view, trees_in};
 ghost use Rattle.wcps_mean.specs.Meaning.{val};
 ghost use Rattle.wcps_mean.specs.Reports.{Reports};
 ghost use Rattle.wcps_mean.specs.Parts.{part_value, of_combination, condition_value, body_value};
 
-use crate::answer::tree_at;
 use crate::cell::Outcome;
 use crate::cells::{CellError, Cells};
 use crate::eval::eval;
 use std::alloc::Global;
-use wcps_types::{Combination, Node, Tree, TypedQuery};
+use wcps_types::{Combination, Node, Tree, TypedQuery, tree_at};
 
 /// Which part of a combination.
 #[derive(Clone, Copy, PartialEq, Eq, Debug)]
@@ -46,7 +45,7 @@ pub fn value_at<C: Cells>(
     let combinations = query.combinations();
     if combination < combinations.len() {
         let one = &combinations[combination];
-        let o = part_of(alloc, cells, query.trees(), one, part, point)?;
+        let o = part_of(alloc, cells, query, one, part, point)?;
         return Ok(o);
     }
     Ok(None)
@@ -56,24 +55,22 @@ pub fn value_at<C: Cells>(
 fn part_of<C: Cells>(
     alloc: Global,
     cells: &mut C,
-    trees: &[Tree],
+    query: &TypedQuery,
     combination: &Combination,
     part: Part,
     point: &[i32],
 ) -> Result<Option<Outcome>, CellError>
-    ensures value { IfOk result (λ o. C.intact cells.old → o ≡ of_combination (C.cells cells.old) point.now part (combination_view trees.now combination.now)) }
+    ensures value { IfOk result (λ o. C.intact cells.old → o ≡ of_combination (C.cells cells.old) point.now part (combination_view (trees_in query.now) combination.now)) }
     ensures same { C.cells cells.new ≡ C.cells cells.old }
     ensures kept { C.kept cells.new ≡ C.kept cells.old }
     ensures intact { C.intact cells.old → C.intact cells.new }
     ensures reports { Reports result (C.intact cells.old) (C.failures cells.old) (C.failures cells.new) }
 {
-    match tree_at(trees, combination.tree) {
-        None => Ok(without_tree(part)),
-        Some(tree) => {
-            let o = part_over(alloc, cells, &combination.coverages, tree, part, point)?;
-            Ok(o)
-        }
-    }
+    let Some(tree) = tree_at(alloc, query, combination.tree)? else {
+        return Ok(without_tree(part));
+    };
+    let o = part_over(alloc, cells, &combination.coverages, &tree, part, point)?;
+    Ok(o)
 }
 
 /// The outcome of a part where there is no tree, which is so in no query.

@@ -16,6 +16,7 @@ pub mod SoundQueries
 pub mod KindForms
 pub mod SoundKinds
 pub mod Counted
+pub mod Checked
 pub mod RenamedForms
 pub mod Renamed
 pub mod LikeTrees

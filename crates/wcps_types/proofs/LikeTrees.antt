@@ -1,12 +1,15 @@
 -- Combinations of like coverages have one tree.
-use Rattle.std.proofs.Common.{◌≡◌, ℕ, zero, suc, ◌+◌, ◌-◌, ◌<◌, ◌≤◌, get_or, take, drop, List, [], ◌∷◌, ◌++◌, map, length, refl, ap, sym, subst, arith, ◌∙◌, append_assoc, add-one}
-use Rattle.std.specs.Prelude.{Option, Some, None, Result, option_map, slice_get, IfOk, Ok, Err}
-use Rattle.std.proofs.Math.Seq.{take-length, drop-cons}
+use Rattle.std.proofs.Common.{◌≡◌, ℕ, zero, suc, ◌+◌, ◌<◌, ◌≤◌, Bool, true, false, ◌&&◌, get_or, drop, List, [], ◌∷◌, ◌++◌, map, length, refl, ap, sym, subst, arith, ◌∙◌, append_assoc, length-append, add-one, Vec, Global}
+use Rattle.std.specs.Prelude.{Option, Some, None, Result, option_map, slice_get, IsSomeAnd, Ok, Err}
+use Rattle.std.specs.List.{list_all}
+use Rattle.std.proofs.lemmas.List.{map-append, length-map}
+use Rattle.std.proofs.Math.Seq.{drop-cons}
 use Rattle.arr_core.specs.declared.signature.Signature.{Signature}
 use Rattle.wcps_text.specs.Tree.{QueryTree}
 use Rattle.wcps_types.specs.declared.names.Bound.{Bound}
 use Rattle.wcps_types.specs.declared.typed.Tree.{Tree}
 use Rattle.wcps_types.specs.declared.typed_query.Combination.{Combination}
+use Rattle.wcps_types.specs.declared.typed_query.Maker.{Maker}
 use Rattle.wcps_types.specs.Typed.{CombinationTree, tree_view}
 use Rattle.wcps_types.specs.Renamed.{renamed_combination, over, combination_view}
 use Rattle.wcps_types.specs.declared.refusal.CheckError.{CheckError}
@@ -14,7 +17,7 @@ use Rattle.wcps_types.specs.declared.refusal.CheckError.TheVariants.{Refused, No
 use Rattle.wcps_types.specs.Shapes.{Answer, Says}
 use Rattle.wcps_types.specs.Bindings.{ChoiceTree, combination_at, bound_to}
 use Rattle.wcps_types.specs.Queries.{typ_combination}
-use Rattle.wcps_types.specs.Sharing.{own, own_choices, coverages_in, with_signature, signatures_at, Stand, AreBelow, HaveTrees, AlikeAt, Alike, Grows, HasTree, AreMade}
+use Rattle.wcps_types.specs.Sharing.{own, own_choices, coverages_in, with_signature, signatures_at, Stand, AreBelow, HaveTrees, AlikeAt, Alike, Grows, typed_over, is_typed, tree_in, makes, tree_of, trees_of, maker_of, AreCounted, AreMade}
 use Rattle.wcps_types.proofs.RenamedForms.{answer_map}
 use Rattle.wcps_types.proofs.Renamed.{combination-renamed}
 
@@ -31,24 +34,28 @@ stand-alike cs (a ∷ places) [] h = absurd h
 stand-alike cs (a ∷ places) (b ∷ others) h =
     stand-cons cs a places (slice_get cs a) (slice_get cs b) (signatures_at cs others) refl h.0 (stand-alike cs places others h.1)
 
-tree-over : (cs : List Signature) (q : QueryTree) (bound : List Bound) (others : List ℕ) (o : Option Tree) → Alike cs (coverages_in bound) others → HasTree cs q (own 0 bound) others o
-    → typ_combination cs q bound ≡ Ok (over (coverages_in bound) o)
-tree-over cs q bound others None h k = absurd k
-tree-over cs q bound others (Some t) h k =
-    combination-renamed cs q bound (signatures_at cs others) (stand-alike cs (coverages_in bound) others h) ∙ ap (answer_map (renamed_combination (coverages_in bound))) k
+typed-is : (a : Answer CombinationTree) → is_typed a ≡ true → a ≡ Ok (tree_in a)
+typed-is (Ok t) e = refl
+typed-is (Err f) e = absurd (cc)
 
 -- the tree of a maker serves each combination that is like it
-pub made_over : (cs : List Signature) (q : QueryTree) (bound : List Bound) (trees : List Tree) (c : Combination) → Alike cs (coverages_in bound) c.coverages.items
-    → HasTree cs q (own 0 bound) c.coverages.items (slice_get trees c.tree) → typ_combination cs q bound ≡ Ok (over (coverages_in bound) (slice_get trees c.tree))
-made_over cs q bound trees c h k = tree-over cs q bound c.coverages.items (slice_get trees c.tree) h k
+made-over : (cs : List Signature) (q : QueryTree) (bound : List Bound) (m : Maker) → Alike cs (coverages_in bound) m.coverages.items → makes cs q (own 0 bound) m ≡ true
+    → typ_combination cs q bound ≡ Ok (renamed_combination (coverages_in bound) (tree_of cs q (own 0 bound) m))
+made-over cs q bound m h k =
+    combination-renamed cs q bound (signatures_at cs m.coverages.items) (stand-alike cs (coverages_in bound) m.coverages.items h)
+    ∙ ap (answer_map (renamed_combination (coverages_in bound))) (typed-is (typed_over cs q (own 0 bound) m.coverages.items) k)
 
-has-inside : (cs : List Signature) (q : QueryTree) (variables : List Bound) (places : List ℕ) (trees : List Tree) (k : ℕ) → HasTree cs q variables places (slice_get trees k) → k < length trees
-has-inside cs q variables places [] k h = absurd h
-has-inside cs q variables places (t ∷ trees) zero h = omega arith
-has-inside cs q variables places (t ∷ trees) (suc k) h = omega (arith, has-inside cs q variables places trees k h)
+pub like-over : (cs : List Signature) (q : QueryTree) (bound : List Bound) (makers : List Maker) (k : ℕ) → AreMade cs q (own 0 bound) makers
+    → IsSomeAnd (slice_get makers k) (λ (m : Maker). Alike cs (coverages_in bound) m.coverages.items)
+    → typ_combination cs q bound ≡ Ok (over (coverages_in bound) (slice_get (trees_of cs q (own 0 bound) makers) k))
+like-over cs q bound [] k h like = absurd like
+like-over cs q bound (m ∷ makers) zero h like = made-over cs q bound m like h.0
+like-over cs q bound (m ∷ makers) (suc k) h like = like-over cs q bound makers k h.2 like
 
-pub made_inside : (cs : List Signature) (q : QueryTree) (variables : List Bound) (trees : List Tree) (c : Combination) → HasTree cs q variables c.coverages.items (slice_get trees c.tree) → c.tree < length trees
-made_inside cs q variables trees c h = has-inside cs q variables c.coverages.items trees c.tree h
+pub like-inside : (P : Maker → Type 0) (makers : List Maker) (k : ℕ) → IsSomeAnd (slice_get makers k) P → k < length makers
+like-inside P [] k h = absurd h
+like-inside P (m ∷ makers) zero h = omega arith
+like-inside P (m ∷ makers) (suc k) h = omega (arith, like-inside P makers k h)
 
 there-at : (cs : List Signature) (k : ℕ) → k < length cs → AlikeAt (slice_get cs k) (slice_get cs k)
 there-at [] k h = absurd (omega (arith, h))
@@ -59,45 +66,71 @@ pub alike-itself : (cs : List Signature) (places : List ℕ) → AreBelow (lengt
 alike-itself cs [] h = tt
 alike-itself cs (k ∷ places) h = (there-at cs k h.0, alike-itself cs places h.1)
 
--- one tree more
-pub last-tree : (trees : List Tree) (t : Tree) → slice_get (trees ++ t ∷ []) (length trees) ≡ Some t
+-- one maker more
+pub trees-put : (cs : List Signature) (q : QueryTree) (variables : List Bound) (makers : List Maker) (m : Maker)
+    → trees_of cs q variables (makers ++ m ∷ []) ≡ trees_of cs q variables makers ++ tree_of cs q variables m ∷ []
+trees-put cs q variables makers m = map-append (tree_of cs q variables) makers (m ∷ [])
+
+last-tree : (trees : List CombinationTree) (t : CombinationTree) → slice_get (trees ++ t ∷ []) (length trees) ≡ Some t
 last-tree [] t = refl
 last-tree (u ∷ trees) t = last-tree trees t
 
-pub grows-last : (trees : List Tree) (t : Tree) → Grows trees (trees ++ t ∷ [])
+pub tree-put : (cs : List Signature) (q : QueryTree) (variables : List Bound) (makers : List Maker) (places : Vec ℕ Global) (t : CombinationTree) → typed_over cs q variables places.items ≡ Ok t
+    → slice_get (trees_of cs q variables (makers ++ maker_of places t ∷ [])) (length makers) ≡ Some t
+tree-put cs q variables makers places t e =
+    ap (λ (trees : List CombinationTree). slice_get trees (length makers)) (trees-put cs q variables makers (maker_of places t))
+    ∙ ap (slice_get (trees_of cs q variables makers ++ tree_of cs q variables (maker_of places t) ∷ [])) (sym (length-map makers (tree_of cs q variables)))
+    ∙ last-tree (trees_of cs q variables makers) (tree_of cs q variables (maker_of places t))
+    ∙ ap (λ a. Some (tree_in a)) e
+
+grows-last : (trees : List CombinationTree) (t : CombinationTree) (k : ℕ) → k < length trees → slice_get (trees ++ t ∷ []) k ≡ slice_get trees k
 grows-last [] t k h = absurd (omega (arith, h))
 grows-last (u ∷ trees) t zero h = refl
 grows-last (u ∷ trees) t (suc k) h = grows-last trees t k (omega (arith, h))
 
-pub made-grown : (cs : List Signature) (q : QueryTree) (variables : List Bound) (old new : List Tree) (makers : List Combination) → Grows old new → AreMade cs q variables old makers → AreMade cs q variables new makers
-made-grown cs q variables old new [] g h = tt
-made-grown cs q variables old new (c ∷ more) g h =
-    (subst (HasTree cs q variables c.coverages.items) (sym (g c.tree (made_inside cs q variables old c h.0))) h.0, made-grown cs q variables old new more g h.1)
+pub grows-put : (cs : List Signature) (q : QueryTree) (variables : List Bound) (makers : List Maker) (m : Maker) → Grows (trees_of cs q variables makers) (trees_of cs q variables (makers ++ m ∷ []))
+grows-put cs q variables makers m =
+    subst (Grows (trees_of cs q variables makers)) (sym (trees-put cs q variables makers m))
+    (omega (arith, length-append (trees_of cs q variables makers) (tree_of cs q variables m ∷ [])), grows-last (trees_of cs q variables makers) (tree_of cs q variables m))
 
-pub made-last : (cs : List Signature) (q : QueryTree) (variables : List Bound) (trees : List Tree) (makers : List Combination) (c : Combination) → AreMade cs q variables trees makers
-    → HasTree cs q variables c.coverages.items (slice_get trees c.tree) → AreMade cs q variables trees (makers ++ c ∷ [])
-made-last cs q variables trees [] c h k = (k, tt)
-made-last cs q variables trees (d ∷ makers) c h k = (h.0, made-last cs q variables trees makers c h.1 k)
+pub made-put : (cs : List Signature) (q : QueryTree) (variables : List Bound) (makers : List Maker) (places : Vec ℕ Global) (t : CombinationTree) → typed_over cs q variables places.items ≡ Ok t
+    → AreMade cs q variables makers → AreMade cs q variables (makers ++ maker_of places t ∷ [])
+made-put cs q variables [] places t e h = (ap is_typed e, ap (λ a. maker_of places (tree_in a)) (sym e), tt)
+made-put cs q variables (m ∷ makers) places t e h = (h.0, h.1, made-put cs q variables makers places t e h.2)
 
--- a tree that is the same stands for another one
-pub over-same : (places : List ℕ) (o : Option Tree) (t : Tree) → option_map tree_view o ≡ Some (tree_view t) → over places o ≡ over places (Some t)
-over-same places None t e = absurd (cc)
-over-same places (Some u) t e =
-    let is : tree_view u ≡ tree_view t = cc in
-    ap (renamed_combination places) is
+-- what makers tell
+pub counted : (cs : List Signature) (q : QueryTree) (variables : List Bound) (makers : List Maker) → AreMade cs q variables makers → AreCounted (trees_of cs q variables makers) makers
+counted cs q variables [] h = tt
+counted cs q variables (m ∷ makers) h = (h.1, counted cs q variables makers h.2)
 
-pub has-same : (cs : List Signature) (q : QueryTree) (variables : List Bound) (places : List ℕ) (o : Option Tree) (t : Tree) → option_map tree_view o ≡ Some (tree_view t)
-    → HasTree cs q variables places (Some t) → HasTree cs q variables places o
-has-same cs q variables places None t e h = absurd (cc)
-has-same cs q variables places (Some u) t e h =
-    let is : tree_view u ≡ tree_view t = cc in
-    h ∙ ap Ok (sym is)
+pub all-made : (cs : List Signature) (q : QueryTree) (variables : List Bound) (makers : List Maker) → AreMade cs q variables makers → list_all (makes cs q variables) makers ≡ true
+all-made cs q variables [] h = refl
+all-made cs q variables (m ∷ makers) h = rw (h.0) (all-made cs q variables makers h.2)
+
+-- the tree at a place
+pub tree-at : (cs : List Signature) (q : QueryTree) (variables : List Bound) (makers : List Maker) (k : ℕ) (o : Option Maker) → slice_get makers k ≡ o
+    → slice_get (trees_of cs q variables makers) k ≡ option_map (tree_of cs q variables) o
+tree-at cs q variables [] k o e = ap (option_map (tree_of cs q variables)) e
+tree-at cs q variables (m ∷ makers) zero o e = ap (option_map (tree_of cs q variables)) e
+tree-at cs q variables (m ∷ makers) (suc k) o e = tree-at cs q variables makers k o e
+
+both-true : (a b : Bool) → (a && b) ≡ true → (a ≡ true) × (b ≡ true)
+both-true true true e = (refl, refl)
+both-true true false e = absurd (cc)
+both-true false b e = absurd (cc)
+
+pub made-at : (cs : List Signature) (q : QueryTree) (variables : List Bound) (makers : List Maker) (k : ℕ) (m : Maker) → slice_get makers k ≡ Some m → list_all (makes cs q variables) makers ≡ true → makes cs q variables m ≡ true
+made-at cs q variables [] k m e h = absurd (cc)
+made-at cs q variables (d ∷ makers) zero m e h =
+    let is : d ≡ m = cc in
+    subst (λ c. makes cs q variables c ≡ true) is (both-true (makes cs q variables d) (list_all (makes cs q variables) makers) h).0
+made-at cs q variables (d ∷ makers) (suc k) m e h = made-at cs q variables makers k m e (both-true (makes cs q variables d) (list_all (makes cs q variables) makers) h).1
 
 -- combinations keep their trees
-pub views-grown : (old new : List Tree) (all : List Combination) → HaveTrees (length old) all → Grows old new → map (combination_view new) all ≡ map (combination_view old) all
+pub views-grown : (old new : List CombinationTree) (all : List Combination) → HaveTrees (length old) all → Grows old new → map (combination_view new) all ≡ map (combination_view old) all
 views-grown old new [] h g = refl
 views-grown old new (c ∷ more) h g =
-    ap (λ (o : Option Tree). over c.coverages.items o ∷ map (combination_view new) more) (g c.tree h.0)
+    ap (λ (o : Option CombinationTree). over c.coverages.items o ∷ map (combination_view new) more) (g.1 c.tree h.0)
     ∙ ap (λ (rest : List CombinationTree). combination_view old c ∷ rest) (views-grown old new more h.1 g)
 
 pub trees-last : (n m : ℕ) (all : List Combination) (c : Combination) → HaveTrees n all → n ≤ m → c.tree < m → HaveTrees m (all ++ c ∷ [])
@@ -109,44 +142,44 @@ pub own-at : (k : ℕ) (choices : List ChoiceTree) (n : ℕ) → own k (combinat
 own-at k [] n = refl
 own-at k (c ∷ choices) n = ap (λ (more : List Bound). bound_to c.variable k ∷ more) (own-at (suc k) choices _)
 
--- the first maker, and the others
-pub made-first : (cs : List Signature) (q : QueryTree) (variables : List Bound) (trees : List Tree) (makers : List Combination) (c : Combination) → 1 ≤ length makers → c ≡ get_or makers 0 c → AreMade cs q variables trees makers
-    → HasTree cs q variables c.coverages.items (slice_get trees c.tree)
-made-first cs q variables trees [] c some e h = absurd (omega (arith, some))
-made-first cs q variables trees (d ∷ makers) c some e h = rw e h.0
-
-rest-is : (d : Combination) (rest : List Combination) → take (length (d ∷ rest) - 1) (drop 1 (d ∷ rest)) ≡ rest
-rest-is d rest = let e : length (d ∷ rest) - 1 ≡ length rest = omega arith in rw e (take-length rest)
-
-pub made-rest : (cs : List Signature) (q : QueryTree) (variables : List Bound) (trees : List Tree) (makers : List Combination) → 1 ≤ length makers → AreMade cs q variables trees makers
-    → AreMade cs q variables trees (take (length makers - 1) (drop 1 makers))
-made-rest cs q variables trees [] some h = absurd (omega (arith, some))
-made-rest cs q variables trees (d ∷ makers) some h = subst (AreMade cs q variables trees) (sym (rest-is d makers)) h.1
-
 -- what is said over the variables is said over the coverages
 pub says-shared : (cs : List Signature) (q : QueryTree) (bound : List Bound) → AreBelow (length cs) (coverages_in bound) → (r : Result Tree CheckError)
-    → Says tree_view r (typ_combination (signatures_at cs (coverages_in bound)) q (own 0 bound)) → Says (λ t. over (coverages_in bound) (Some t)) r (typ_combination cs q bound)
+    → Says tree_view r (typ_combination (signatures_at cs (coverages_in bound)) q (own 0 bound)) → Says (λ t. renamed_combination (coverages_in bound) (tree_view t)) r (typ_combination cs q bound)
 says-shared cs q bound h (Ok t) e =
     combination-renamed cs q bound (signatures_at cs (coverages_in bound)) (stand-alike cs (coverages_in bound) (coverages_in bound) (alike-itself cs (coverages_in bound) h)) ∙ ap (answer_map (renamed_combination (coverages_in bound))) e
 says-shared cs q bound h (Err (Refused f)) e =
     combination-renamed cs q bound (signatures_at cs (coverages_in bound)) (stand-alike cs (coverages_in bound) (coverages_in bound) (alike-itself cs (coverages_in bound) h)) ∙ ap (answer_map (renamed_combination (coverages_in bound))) e
 says-shared cs q bound h (Err NoMemory) e = tt
 
+-- for variables that are the combination's own
+pub like-of : (cs : List Signature) (q : QueryTree) (bound variables : List Bound) (makers : List Maker) (k : ℕ) → variables ≡ own 0 bound → AreMade cs q variables makers
+    → IsSomeAnd (slice_get makers k) (λ (m : Maker). Alike cs (coverages_in bound) m.coverages.items)
+    → typ_combination cs q bound ≡ Ok (over (coverages_in bound) (slice_get (trees_of cs q variables makers) k))
+like-of cs q bound variables makers k e h like =
+    subst (λ w. typ_combination cs q bound ≡ Ok (over (coverages_in bound) (slice_get (trees_of cs q w makers) k))) (sym e)
+    (like-over cs q bound makers k (subst (λ w. AreMade cs q w makers) e h) like)
+
+pub says-over : (cs : List Signature) (q : QueryTree) (bound variables : List Bound) (places : List ℕ) → variables ≡ own 0 bound → places ≡ coverages_in bound → AreBelow (length cs) (coverages_in bound)
+    → (r : Result Tree CheckError) → Says tree_view r (typed_over cs q variables places) → Says (λ t. renamed_combination (coverages_in bound) (tree_view t)) r (typ_combination cs q bound)
+says-over cs q bound variables places e f h r says =
+    says-shared cs q bound h r (subst (λ ps. Says tree_view r (typed_over cs q (own 0 bound) ps)) f (subst (λ w. Says tree_view r (typed_over cs q w places)) e says))
+
+pub some-inside : (trees : List CombinationTree) (k : ℕ) (t : CombinationTree) → slice_get trees k ≡ Some t → k < length trees
+some-inside [] k t e = absurd (cc)
+some-inside (u ∷ trees) zero t e = omega arith
+some-inside (u ∷ trees) (suc k) t e = omega (arith, some-inside trees k t e)
+
 with-more : (o : Option Signature) (more : List Signature) → with_signature o [] ++ more ≡ with_signature o more
 with-more None more = refl
 with-more (Some s) more = refl
 
 -- one variable more
-pub signature-next : (cs : List Signature) (bound : List Bound) (i : ℕ) (b : Bound) (done : List Signature) → i < length bound → b ≡ get_or bound i b
-    → (done ++ with_signature (slice_get cs b.coverage) []) ++ signatures_at cs (coverages_in (drop (i + 1) bound)) ≡ done ++ signatures_at cs (coverages_in (drop i bound))
-signature-next cs bound i b done lt is =
-    let f : drop (i + 1) bound ≡ drop (suc i) bound = rw add-one refl in
-    let e : drop i bound ≡ b ∷ drop (i + 1) bound = drop-cons bound i b lt ∙ ap (λ c. c ∷ drop (suc i) bound) (sym is) ∙ ap (λ rest. b ∷ rest) (sym f) in
-    let more = signatures_at cs (coverages_in (drop (i + 1) bound)) in
-    let assoc : (done ++ with_signature (slice_get cs b.coverage) []) ++ more ≡ done ++ (with_signature (slice_get cs b.coverage) [] ++ more) = simp append_assoc in
-    assoc ∙ ap (λ rest. done ++ rest) (with-more (slice_get cs b.coverage) more) ∙ ap (λ rest. done ++ signatures_at cs (coverages_in rest)) (sym e)
-
-pub says-made : (a : Answer CombinationTree) (r : Result Tree CheckError) → Says tree_view r a → IfOk r (λ t. a ≡ Ok (tree_view t))
-says-made a (Ok t) e = e
-says-made a (Err (Refused f)) e = tt
-says-made a (Err NoMemory) e = tt
+pub signature-next : (cs : List Signature) (places : List ℕ) (i : ℕ) (done : List Signature) → i < length places
+    → (done ++ with_signature (slice_get cs (get_or places i 0)) []) ++ signatures_at cs (drop (i + 1) places) ≡ done ++ signatures_at cs (drop i places)
+signature-next cs places i done lt =
+    let place = get_or places i 0 in
+    let f : drop (i + 1) places ≡ drop (suc i) places = rw add-one refl in
+    let e : drop i places ≡ place ∷ drop (i + 1) places = drop-cons places i 0 lt ∙ ap (λ rest. place ∷ rest) (sym f) in
+    let more = signatures_at cs (drop (i + 1) places) in
+    let assoc : (done ++ with_signature (slice_get cs place) []) ++ more ≡ done ++ (with_signature (slice_get cs place) [] ++ more) = simp append_assoc in
+    assoc ∙ ap (λ rest. done ++ rest) (with-more (slice_get cs place) more) ∙ ap (λ rest. done ++ signatures_at cs rest) (sym e)

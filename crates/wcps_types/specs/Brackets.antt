@@ -6,7 +6,7 @@ use Rattle.wcps_types.specs.declared.refusal.TypeRefusal.TheVariants.{NoSuchAxis
 use Rattle.wcps_types.specs.declared.bounds.Bounds.{Bounds}
 use Rattle.wcps_types.specs.declared.brackets.Cut.{Cut}
 use Rattle.wcps_types.specs.declared.brackets.Bracket.{Bracket}
-use Rattle.wcps_types.specs.Typed.{Typed, slice, bracket, only_tree}
+use Rattle.wcps_types.specs.Typed.{Typed, slice, bracket, boxed_tree}
 use Rattle.wcps_types.specs.Names.{axis_place, name_place}
 use Rattle.wcps_types.specs.Shapes.{SlotTree, ShapeTree, ScalarOf, Answer, then_of, only_scalar}
 
@@ -30,7 +30,7 @@ abbrev pub bounds_view : Bounds → BoundsOf
 bounds_view b = record { lo = b.lo; hi = b.hi }
 
 abbrev pub cut_view : Cut → CutTree
-cut_view c = record { axis = c.axis; position = only_tree c.position }
+cut_view c = record { axis = c.axis; position = boxed_tree c.position }
 
 abbrev pub bracket_view : Bracket → BracketTree
 bracket_view b = record { domain = b.domain; named = b.named.items; cuts = map cut_view b.cuts.items }

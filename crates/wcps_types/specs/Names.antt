@@ -1,5 +1,5 @@
 -- Looking names up in lists: the place of the first one of that name.
-use Rattle.std.specs.Prelude.{ℕ, List, Option, Some, None, Bool, false, position}
+use Rattle.std.specs.Prelude.{ℕ, List, Option, Some, None, Bool, false, cond, position}
 use Rattle.std.specs.Str.{bytes_eq}
 use Rattle.arr_core.specs.declared.domain.Axis.{Axis}
 use Rattle.arr_core.specs.declared.signature.Signature.{Signature}
@@ -16,6 +16,11 @@ coverage_place name coverages = position (λ (s : Signature). bytes_eq s.name na
 -- the place of the variable of that name
 abbrev pub bound_place : List ℕ → List Bound → Option ℕ
 bound_place name bound = position (λ (b : Bound). bytes_eq b.variable name) bound
+
+-- the place of a name among others and one more behind them, at place n, which has it or has not
+abbrev pub placed_behind : Option ℕ → Bool → ℕ → Option ℕ
+placed_behind (Some k) is_last n = Some k
+placed_behind None is_last n = cond is_last (Some n) None
 
 -- the place of a name among others
 abbrev pub name_place : List ℕ → List (List ℕ) → Option ℕ

@@ -12,7 +12,7 @@ use Rattle.wcps_text.specs.declared.operator.Aggregate.TheVariants as aggregates
 use Rattle.wcps_types.specs.declared.refusal.TypeRefusal.TheVariants.{NoSuchField, DomainMismatch, NeedsBoolean, NeedsInteger}
 use Rattle.wcps_types.specs.declared.operators.Operands.{Operands}
 use Rattle.wcps_types.specs.Typed as typed
-use Rattle.wcps_types.specs.Typed.{Typed, only_tree}
+use Rattle.wcps_types.specs.Typed.{Typed, boxed_tree}
 use Rattle.wcps_types.specs.Names.{is_name_of}
 use Rattle.wcps_types.specs.Shapes.{SlotTree, ShapeTree, FieldOf, Answer, then_of, is_scalar, unnamed, only_field}
 
@@ -56,7 +56,7 @@ pub record OperandTrees : Type 0 where
   pub right : Typed
 
 abbrev pub operands_view : Operands → OperandTrees
-operands_view o = record { domain = o.domain; left = only_tree o.left; right = only_tree o.right }
+operands_view o = record { domain = o.domain; left = boxed_tree o.left; right = boxed_tree o.right }
 
 -- a scalar goes with every point of an operand with axes; two operands with axes have the same domain
 abbrev pub joined : FieldOf → FieldOf → Answer OperandTrees

@@ -1,8 +1,7 @@
 -- Trees over the variables of a `for` list as trees over coverages, and combinations that share them.
 use Rattle.std.specs.Prelude.{ℕ, pos, List, [], map, get_or, Option, Some, None, option_map, slice_get}
-use Rattle.wcps_types.specs.declared.typed.Tree.{Tree}
 use Rattle.wcps_types.specs.declared.typed_query.Combination.{Combination}
-use Rattle.wcps_types.specs.Typed.{Typed, number, iterator, cell, unary, binary, scalar, select, bracket, slice, array, listed, condense, condense_where, reduce, FieldTree, ItemTree, CombinationTree, tree_view}
+use Rattle.wcps_types.specs.Typed.{Typed, number, iterator, cell, unary, binary, scalar, select, bracket, slice, array, listed, condense, condense_where, reduce, FieldTree, ItemTree, CombinationTree}
 
 -- the tree over coverages: each variable exchanged for the coverage that it stands for
 abbrev pub renamed : List ℕ → Typed → Typed
@@ -30,11 +29,15 @@ renamed_item cs i = record { domain = i.domain; fields = map (renamed_field cs) 
 abbrev pub renamed_combination : List ℕ → CombinationTree → CombinationTree
 renamed_combination cs c = record { condition = option_map (renamed cs) c.condition; item = renamed_item cs c.item }
 
--- a tree over the coverages `cs`; without a tree, which is so in no query, nothing is returned: its condition is false
-abbrev pub over : List ℕ → Option Tree → CombinationTree
-over cs (Some t) = renamed_combination cs (tree_view t)
-over cs None = record { condition = Some (number (pos 0)); item = record { domain = []; fields = [] } }
+-- what returns nothing, since its condition is false
+abbrev pub nothing : CombinationTree
+nothing = record { condition = Some (number (pos 0)); item = record { domain = []; fields = [] } }
+
+-- a tree over the coverages `cs`; without a tree, which is so in no query, nothing is returned
+abbrev pub over : List ℕ → Option CombinationTree → CombinationTree
+over cs (Some t) = renamed_combination cs t
+over cs None = nothing
 
 -- a combination: its tree over its coverages
-abbrev pub combination_view : List Tree → Combination → CombinationTree
+abbrev pub combination_view : List CombinationTree → Combination → CombinationTree
 combination_view trees c = over c.coverages.items (slice_get trees c.tree)

@@ -11,7 +11,7 @@ use Rattle.wcps_types.specs.declared.shape.OneField.{OneField}
 use Rattle.wcps_types.specs.declared.shape.OneScalar.{OneScalar}
 use Rattle.wcps_types.specs.declared.typed.Node.{Node}
 use Rattle.wcps_types.specs.Labels.{labels_in}
-use Rattle.wcps_types.specs.Typed.{Typed, field_tree, only_tree}
+use Rattle.wcps_types.specs.Typed.{Typed, field_tree, boxed_tree}
 
 -- one field: its name if it has one, whether it is Boolean, and its tree
 pub record SlotTree : Type 0 where
@@ -60,13 +60,13 @@ labels_view e k [] = []
 labels_view e k (l ∷ labels) = slot_of e k l ∷ labels_view e (suc k) labels
 
 abbrev pub shape_view : Shape → ShapeTree
-shape_view s = record { domain = s.domain; fields = labels_view s.node 0 (labels_in s.labels) }
+shape_view s = record { domain = s.domain; fields = labels_view s.node.value 0 (labels_in s.labels) }
 
 abbrev pub field_of_view : OneField → FieldOf
-field_of_view s = record { domain = s.domain; boolean = s.boolean; tree = only_tree s.node }
+field_of_view s = record { domain = s.domain; boolean = s.boolean; tree = boxed_tree s.node }
 
 abbrev pub scalar_of_view : OneScalar → ScalarOf
-scalar_of_view s = record { boolean = s.boolean; tree = only_tree s.node }
+scalar_of_view s = record { boolean = s.boolean; tree = boxed_tree s.node }
 
 abbrev pub is_scalar : List Axis → Bool
 is_scalar [] = true

@@ -1,11 +1,17 @@
--- Combinations that share a tree: over variables whose coverages have the same domains and fields, a query is typed once.
-use Rattle.std.specs.Prelude.{◌≡◌, ℕ, suc, ◌<◌, List, [], ◌∷◌, map, length, Option, Some, None, slice_get, Ok}
+-- Combinations that share a tree: over variables whose coverages have the same domains and fields, a query has one.
+use Rattle.std.specs.Prelude.{◌≡◌, ℕ, suc, ◌<◌, ◌≤◌, List, [], ◌∷◌, Bool, true, false, map, length, Option, Some, None, slice_get, Ok, Err, Vec}
+use Rattle.std.specs.Global.{Global}
 use Rattle.arr_core.specs.declared.signature.Signature.{Signature}
 use Rattle.wcps_text.specs.Tree.{QueryTree}
 use Rattle.wcps_types.specs.declared.names.Bound.{Bound}
-use Rattle.wcps_types.specs.declared.typed.Tree.{Tree}
 use Rattle.wcps_types.specs.declared.typed_query.Combination.{Combination}
-use Rattle.wcps_types.specs.Typed.{tree_view}
+use Rattle.wcps_types.specs.declared.typed_query.Maker.{Maker}
+use Rattle.wcps_types.specs.declared.query.Latest.{Latest}
+use Rattle.wcps_types.specs.Typed.{CombinationTree, tree_view}
+use Rattle.wcps_types.specs.Renamed.{nothing}
+use Rattle.wcps_types.specs.Shapes.{Answer}
+use Rattle.wcps_types.specs.Cells.{result_cells, capped_cells}
+use Rattle.wcps_types.specs.Work.{query_work, capped}
 use Rattle.wcps_types.specs.Bindings.{ChoiceTree, bound_to}
 use Rattle.wcps_types.specs.Queries.{typ_combination}
 
@@ -77,20 +83,51 @@ Alike cs (a ∷ places) (b ∷ others) = AlikeAt (slice_get cs a) (slice_get cs 
 Alike cs [] (b ∷ others) = ⊥
 Alike cs (a ∷ places) [] = ⊥
 
+-- the query over its variables, each with the signature of the coverage at its place
+abbrev pub typed_over : List Signature → QueryTree → List Bound → List ℕ → Answer CombinationTree
+typed_over cs q variables places = typ_combination (signatures_at cs places) q variables
+
+abbrev pub is_typed : Answer CombinationTree → Bool
+is_typed (Ok t) = true
+is_typed (Err f) = false
+
+abbrev pub tree_in : Answer CombinationTree → CombinationTree
+tree_in (Ok t) = t
+tree_in (Err f) = nothing
+
+-- whether there is a tree over the coverages of a maker
+abbrev pub makes : List Signature → QueryTree → List Bound → Maker → Bool
+makes cs q variables m = is_typed (typed_over cs q variables m.coverages.items)
+
+-- that tree
+abbrev pub tree_of : List Signature → QueryTree → List Bound → Maker → CombinationTree
+tree_of cs q variables m = tree_in (typed_over cs q variables m.coverages.items)
+
+-- the trees of makers
+abbrev pub trees_of : List Signature → QueryTree → List Bound → List Maker → List CombinationTree
+trees_of cs q variables makers = map (tree_of cs q variables) makers
+
 -- the first ones are still there
-abbrev pub Grows : List Tree → List Tree → Type 0
-Grows old new = (k : ℕ) → k < length old → slice_get new k ≡ slice_get old k
+abbrev pub Grows : List CombinationTree → List CombinationTree → Type 0
+Grows old new = (length old ≤ length new) × ((k : ℕ) → k < length old → slice_get new k ≡ slice_get old k)
 
--- the tree is that of the query over its variables, each with the signature of the coverage at its place
-abbrev pub HasTree : List Signature → QueryTree → List Bound → List ℕ → Option Tree → Type 0
-HasTree cs q variables places None = ⊥
-HasTree cs q variables places (Some t) = typ_combination (signatures_at cs places) q variables ≡ Ok (tree_view t)
+-- the maker of a tree over those coverages, with the cells and the work of the tree
+abbrev pub maker_of : Vec ℕ Global → CombinationTree → Maker
+maker_of places t = record { coverages = places; cells = capped_cells (result_cells (t ∷ [])); work = capped (query_work (t ∷ [])) }
 
--- a combination has its tree
-abbrev pub IsMade : List Signature → QueryTree → List Bound → List Tree → Combination → Type 0
-IsMade cs q variables trees c = HasTree cs q variables c.coverages.items (slice_get trees c.tree)
+-- each maker tells the cells and the work of its tree
+abbrev pub AreCounted : List CombinationTree → List Maker → Type 0
+AreCounted [] [] = Unit {0}
+AreCounted (t ∷ trees) (m ∷ makers) = (m ≡ maker_of m.coverages t) × AreCounted trees makers
+AreCounted [] (m ∷ makers) = ⊥
+AreCounted (t ∷ trees) [] = ⊥
 
--- each one has
-abbrev pub AreMade : List Signature → QueryTree → List Bound → List Tree → List Combination → Type 0
-AreMade cs q variables trees [] = Unit {0}
-AreMade cs q variables trees (c ∷ more) = IsMade cs q variables trees c × AreMade cs q variables trees more
+-- each maker has a tree, and tells its cells and its work
+abbrev pub AreMade : List Signature → QueryTree → List Bound → List Maker → Type 0
+AreMade cs q variables [] = Unit {0}
+AreMade cs q variables (m ∷ makers) = (makes cs q variables m ≡ true) × (m ≡ maker_of m.coverages (tree_of cs q variables m)) × AreMade cs q variables makers
+
+-- the tree that is kept is the one at its place
+abbrev pub IsLatest : List CombinationTree → Option Latest → Type 0
+IsLatest trees None = Unit {0}
+IsLatest trees (Some l) = slice_get trees l.place ≡ Some (tree_view l.tree)

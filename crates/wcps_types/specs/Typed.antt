@@ -1,5 +1,6 @@
 -- Typed trees as values alone, without where they lie in memory.
-use Rattle.std.specs.Prelude.{ℕ, zero, suc, ℤ, pos, List, [], ◌∷◌, Bool, Option, Some, None, option_map}
+use Rattle.std.specs.Prelude.{ℕ, zero, suc, ℤ, pos, List, [], ◌∷◌, Bool, Option, Some, None, Box, option_map}
+use Rattle.std.specs.Global.{Global}
 use Rattle.arr_core.specs.declared.domain.Axis.{Axis}
 use Rattle.arr_core.specs.declared.signature.Signature.{Signature}
 use Rattle.wcps_text.specs.declared.operator.UnaryOperator.{UnaryOperator}
@@ -63,6 +64,10 @@ abbrev mutual
 -- the tree of a node with one field
 abbrev pub only_tree : Node → Typed
 only_tree e = field_tree e 0
+
+-- the same of a node in a box
+abbrev pub boxed_tree : Box Node Global → Typed
+boxed_tree b = only_tree b.value
 
 -- one field of an item: whether it is Boolean, and its tree
 pub record FieldTree : Type 0 where

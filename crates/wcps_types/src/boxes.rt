@@ -3,15 +3,16 @@
 ghost use Rattle.std.specs.Prelude.{◌≡◌, ◌++◌, IfOk, map};
 ghost use Rattle.std.specs.Option.{option_map};
 ghost use Rattle.std.specs.List.{list_all};
-ghost use Rattle.wcps_types.specs.Typed.{only_tree};
+ghost use Rattle.wcps_types.specs.Typed.{boxed_tree};
 ghost use Rattle.wcps_types.specs.Frames.{names_in};
 ghost use Rattle.wcps_types.specs.Shapes.{Says, shape_view, scalar_of_view};
 ghost use Rattle.wcps_types.specs.Brackets.{bounds_view};
 ghost use Rattle.wcps_types.specs.Boxes.{iterators_view, no_iterators, is_taken, axis_of, with_iterator, box_of, array_on, condition_of, condensed, integers_condensed, booleans_condensed, is_truth, item_number, first_is_truth, has_kind, other_kind, listed_on, value_list};
 
+use crate::bound::Variables;
 use crate::bounds::Bounds;
-use crate::names::{Bound, bound_place, name_place};
-use crate::nodes::{array_node, condense_node};
+use crate::names::name_place;
+use crate::nodes::{array_node, boxed, condense_node};
 use crate::refusal::{CheckError, TypeRefusal};
 use crate::scope::Scope;
 use crate::shape::{OneScalar, Shape, unnamed, unnamed_scalar};
@@ -40,12 +41,10 @@ impl Iterators {
 }
 
 /// Whether a variable is bound by `for`, by an iterator in scope, or by one before it in its list.
-pub fn is_taken(bound: &[Bound], scope: &Scope, before: &[QueryName], name: &QueryName) -> bool
-    ensures { result ≡ is_taken bound.now (names_in scope.now.frames) before.now name.now }
+pub fn is_taken(bound: &Variables, scope: &Scope, before: &[QueryName], name: &QueryName) -> bool
+    ensures { result ≡ is_taken bound.now.list.items (names_in scope.now.frames) before.now name.now }
 {
-    bound_place(bound, name).is_some()
-        || scope.place(name).is_some()
-        || name_place(before, name).is_some()
+    bound.place(name).is_some() || scope.place(name).is_some() || name_place(before, name).is_some()
 }
 
 /// An axis with those bounds. The grammar spells names alone.
@@ -122,8 +121,8 @@ pub fn array<'a>(alloc: Global, domain: Domain, body: OneScalar) -> Result<Shape
 }
 
 /// A condition: a Boolean scalar.
-pub fn condition_of(condition: OneScalar) -> Result<Node, CheckError>
-    ensures { Says only_tree result (condition_of (scalar_of_view condition)) }
+pub fn condition_of(condition: OneScalar) -> Result<Box<Node>, CheckError>
+    ensures { Says boxed_tree result (condition_of (scalar_of_view condition)) }
 {
     if !condition.boolean {
         return Err(CheckError::Refused(TypeRefusal::NeedsBoolean));
@@ -136,10 +135,10 @@ pub fn condensed<'a>(
     alloc: Global,
     op: Aggregate,
     domain: Domain,
-    condition: Option<Node>,
+    condition: Option<Box<Node>>,
     body: OneScalar,
 ) -> Result<Shape<'a>, CheckError>
-    ensures { Says shape_view result (condensed op domain (option_map only_tree condition) (scalar_of_view body)) }
+    ensures { Says shape_view result (condensed op domain (option_map boxed_tree condition) (scalar_of_view body)) }
 {
     match op {
         Aggregate::Sum
@@ -158,10 +157,10 @@ fn integers_condensed<'a>(
     alloc: Global,
     op: Aggregate,
     domain: Domain,
-    condition: Option<Node>,
+    condition: Option<Box<Node>>,
     body: OneScalar,
 ) -> Result<Shape<'a>, CheckError>
-    ensures { Says shape_view result (integers_condensed op domain (option_map only_tree condition) (scalar_of_view body)) }
+    ensures { Says shape_view result (integers_condensed op domain (option_map boxed_tree condition) (scalar_of_view body)) }
 {
     let OneScalar { boolean, node } = body;
     if boolean {
@@ -176,10 +175,10 @@ fn booleans_condensed<'a>(
     op: Aggregate,
     gives_boolean: bool,
     domain: Domain,
-    condition: Option<Node>,
+    condition: Option<Box<Node>>,
     body: OneScalar,
 ) -> Result<Shape<'a>, CheckError>
-    ensures { Says shape_view result (booleans_condensed op gives_boolean domain (option_map only_tree condition) (scalar_of_view body)) }
+    ensures { Says shape_view result (booleans_condensed op gives_boolean domain (option_map boxed_tree condition) (scalar_of_view body)) }
 {
     let OneScalar { boolean, node } = body;
     if !boolean {
@@ -276,6 +275,6 @@ pub fn value_list<'a>(
     }
     let items = item_numbers(alloc, items)?;
     let own = domain.copy(alloc)?;
-    let node = Node::List { domain: own, items };
+    let node = boxed(alloc, Node::List { domain: own, items })?;
     Ok(unnamed(domain, boolean, node))
 }

@@ -3,7 +3,7 @@
 ghost use Rattle.std.specs.Prelude.{◌≡◌, ◌<◌, ◌≤ℤ◌, IfOk, Some, length, map, slice_get};
 ghost use Rattle.std.specs.Option.{option_map};
 ghost use Rattle.arr_core.specs.Domains.{AreOrdered};
-ghost use Rattle.wcps_types.specs.Typed.{only_tree};
+ghost use Rattle.wcps_types.specs.Typed.{boxed_tree};
 ghost use Rattle.wcps_types.specs.Labels.{labels_in};
 ghost use Rattle.wcps_types.specs.Shapes.{Says, shape_view, labels_view};
 ghost use Rattle.wcps_types.specs.Brackets.{bounds_view, cut_view, bracket_view, written_bounds, bounds_of, bounds_of_axis, opened, place_to_cut, with_trim, position_of, with_position, cut_between, cut_out, all_cut_out, bracketed, closed};
@@ -23,7 +23,7 @@ use wcps_text::QueryName;
 #[derive(Debug, Drop)]
 pub struct Cut {
     pub axis: QueryName,
-    pub position: Node,
+    pub position: Box<Node>,
 }
 
 /// Bounds as they are written.
@@ -151,8 +151,8 @@ pub fn with_trim(
 }
 
 /// A position: an integer scalar.
-pub fn position_of(shape: Shape) -> Result<Node, CheckError>
-    ensures { Says only_tree result (position_of (shape_view shape.entry)) }
+pub fn position_of(shape: Shape) -> Result<Box<Node>, CheckError>
+    ensures { Says boxed_tree result (position_of (shape_view shape.entry)) }
 {
     let OneScalar { boolean, node } = only_scalar(shape)?;
     if boolean {
@@ -166,9 +166,9 @@ pub fn with_position(
     alloc: Global,
     bracket: Bracket,
     name: &QueryName,
-    position: Node,
+    position: Box<Node>,
 ) -> Result<Bracket, AllocError>
-    ensures { IfOk result (λ b. bracket_view b ≡ with_position name.now (only_tree position) (bracket_view bracket)) }
+    ensures { IfOk result (λ b. bracket_view b ≡ with_position name.now (boxed_tree position) (bracket_view bracket)) }
 {
     let Bracket {
         domain,
@@ -191,10 +191,10 @@ fn sliced<'a>(
     shape: Shape<'a>,
     place: usize,
     bounds: Bounds,
-    position: Node,
+    position: Box<Node>,
 ) -> Result<Shape<'a>, AllocError>
     requires { place < length shape.domain }
-    ensures { IfOk result (λ s. shape_view s ≡ cut_between (Some (bounds_view bounds)) place (only_tree position) (shape_view shape.entry)) }
+    ensures { IfOk result (λ s. shape_view s ≡ cut_between (Some (bounds_view bounds)) place (boxed_tree position) (shape_view shape.entry)) }
 {
     let Shape {
         domain,
@@ -260,9 +260,9 @@ pub fn closed_bracket<'a>(
     alloc: Global,
     bracket: Bracket,
     labels: Labels<'a>,
-    node: Node,
+    node: Box<Node>,
 ) -> Result<Shape<'a>, AllocError>
-    ensures { IfOk result (λ s. shape_view s ≡ closed (bracket_view bracket) (labels_view node 0 (labels_in labels.entry))) }
+    ensures { IfOk result (λ s. shape_view s ≡ closed (bracket_view bracket) (labels_view node.value 0 (labels_in labels.entry))) }
 {
     let Bracket {
         domain,

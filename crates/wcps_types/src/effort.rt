@@ -1,12 +1,14 @@
 //! Work: how many steps an evaluation takes at most, from domains alone.
 
-ghost use Rattle.std.specs.Prelude.{◌≡◌, ◌≤◌, ◌+◌, ◌*◌, ◌^◌, map, [], ◌∷◌};
-ghost use Rattle.wcps_types.specs.Typed.{field_tree, fields_view, item_view, tree_view};
+ghost use Rattle.std.specs.Prelude.{◌≡◌, ◌≤◌, ◌+◌, ◌*◌, ◌^◌, List, map, [], ◌∷◌};
+ghost use Rattle.wcps_types.specs.Typed.{CombinationTree, field_tree, fields_view, item_view, tree_view};
 ghost use Rattle.wcps_types.specs.Renamed.{combination_view};
+ghost use Rattle.wcps_types.specs.Sharing.{AreCounted};
+ghost use Rattle.wcps_types.specs.TypedQueries.{query_view};
 ghost use Rattle.wcps_types.specs.Work.{work_of, fields_work, item_work, condition_work, query_work, max_work, capped};
 
 use crate::typed::{Node, Tree, TypedItem};
-use crate::typed_query::{Combination, TypedQuery};
+use crate::typed_query::{Combination, Maker, TypedQuery};
 
 /// How much work is allowed.
 pub const MAX_WORK: u64 = 4_294_967_296;
@@ -145,7 +147,7 @@ fn item_work(item: &TypedItem) -> u64
 }
 
 /// The work of a tree.
-fn tree_work(tree: &Tree) -> u64
+pub fn tree_work(tree: &Tree) -> u64
     ensures { result ≡ capped (query_work (tree_view tree.now ∷ [])) }
 {
     let condition = match &tree.condition {
@@ -156,30 +158,32 @@ fn tree_work(tree: &Tree) -> u64
 }
 
 /// The work of a combination.
-fn combination_work(trees: &[Tree], combination: &Combination) -> u64
-    ensures { result ≡ capped (query_work (combination_view trees.now combination.now ∷ [])) }
+fn combination_work(makers: &[Maker], combination: &Combination) -> u64
+    ensures { (trees : List CombinationTree) → AreCounted trees makers.now → result ≡ capped (query_work (combination_view trees combination.now ∷ [])) }
 {
-    match trees.get(combination.tree) {
+    match makers.get(combination.tree) {
         None => 1,
-        Some(tree) => tree_work(tree),
+        Some(maker) => maker.work,
     }
 }
 
 /// The work of all combinations, or one more than `MAX_WORK` where it is more.
-pub fn combinations_work(trees: &[Tree], combinations: &[Combination]) -> u64
-    ensures { result ≡ capped (query_work (map (combination_view trees.now) combinations.now)) }
+pub fn combinations_work(makers: &[Maker], combinations: &[Combination]) -> u64
+    ensures { (trees : List CombinationTree) → AreCounted trees makers.now → result ≡ capped (query_work (map (combination_view trees) combinations.now)) }
 {
-    let mut total = 0;
+    let mut total: u64 = 0;
     for combination in combinations {
-        total = plus(total, combination_work(trees, combination));
+        total = total
+            .saturating_add(combination_work(makers, combination))
+            .min(TOO_MUCH);
     }
     total
 }
 
 /// The work of a typed query.
 pub fn work(query: &TypedQuery) -> u64
-    ensures value { result ≡ query_work (map (combination_view query.now.trees.items) query.now.combinations.items) }
+    ensures value { result ≡ query_work (query_view query.now).combinations }
     ensures little { result ≤ max_work }
 {
-    combinations_work(query.trees(), query.combinations())
+    query.work
 }

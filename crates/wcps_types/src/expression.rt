@@ -5,7 +5,7 @@ ghost use Rattle.std.specs.Prelude.{◌≡◌, [], ◌++◌, Ok};
 ghost use Rattle.std.specs.Option.{option_map};
 ghost use Rattle.wcps_text.specs.Tree as tree;
 ghost use Rattle.wcps_text.specs.Tree.{view, view_place, view_interval, parts_of, subs_of, iters_of, condition_of};
-ghost use Rattle.wcps_types.specs.Typed.{only_tree, number};
+ghost use Rattle.wcps_types.specs.Typed.{boxed_tree, number};
 ghost use Rattle.wcps_types.specs.Frames.{names_in};
 ghost use Rattle.wcps_types.specs.Variables.{signatures_in};
 ghost use Rattle.wcps_types.specs.Shapes.{Says, then_of, shape_view, only_scalar, unnamed};
@@ -15,6 +15,7 @@ ghost use Rattle.wcps_types.specs.Records.{no_pieces};
 ghost use Rattle.wcps_types.specs.Boxes.{iterators_view, no_iterators, condensed};
 ghost use Rattle.wcps_types.specs.Typing.{typ, typ_parts, typ_subs, typ_place, typ_interval, typ_iters, typ_condition, closed_on, array_of};
 
+use crate::bound::Variables;
 use crate::bounds::Bounds;
 use crate::boxes::{
     Iterators, Opened, array, box_of, condensed, condition_of, is_taken, opened_box, value_list,
@@ -24,7 +25,8 @@ use crate::brackets::{
     Bracket, bounds_of_axis, closed_bracket, place_to_cut, position_of, with_position, with_trim,
     written_bounds,
 };
-use crate::names::{Bound, axis_place};
+use crate::names::axis_place;
+use crate::nodes::boxed;
 use crate::operators::{binary, reduction, selected, unary};
 use crate::pieces::Pieces;
 use crate::records::{finished, is_part, with_part};
@@ -46,11 +48,11 @@ use wcps_text::{
 pub fn expression<'a>(
     alloc: Global,
     coverages: &[&'a Signature],
-    bound: &[Bound],
+    bound: &Variables,
     scope: &Scope,
     e: &Expr,
 ) -> Result<Shape<'a>, CheckError>
-    ensures { Says shape_view result (typ (signatures_in coverages.now) bound.now (names_in scope.now.frames) (view e.now)) }
+    ensures { Says shape_view result (typ (signatures_in coverages.now) bound.now.list.items (names_in scope.now.frames) (view e.now)) }
 {
     match e {
         Expr::Number(n) => constant(alloc, false, n.value as i64),
@@ -95,7 +97,8 @@ pub fn expression<'a>(
 fn constant<'a>(alloc: Global, boolean: bool, value: i64) -> Result<Shape<'a>, CheckError>
     ensures { Says shape_view result (Ok (unnamed [] boolean (number value))) }
 {
-    Ok(unnamed_scalar(alloc, boolean, Node::Number(value)))
+    let node = boxed(alloc, Node::Number(value))?;
+    Ok(unnamed_scalar(alloc, boolean, node))
 }
 
 /// An operator on one operand.
@@ -104,12 +107,12 @@ fn constant<'a>(alloc: Global, boolean: bool, value: i64) -> Result<Shape<'a>, C
 fn operation<'a>(
     alloc: Global,
     coverages: &[&'a Signature],
-    bound: &[Bound],
+    bound: &Variables,
     scope: &Scope,
     op: UnaryOperator,
     a: &Expr,
 ) -> Result<Shape<'a>, CheckError>
-    ensures { Says shape_view result (typ (signatures_in coverages.now) bound.now (names_in scope.now.frames) (tree.unary op (view a.now))) }
+    ensures { Says shape_view result (typ (signatures_in coverages.now) bound.now.list.items (names_in scope.now.frames) (tree.unary op (view a.now))) }
 {
     let a = expression(alloc, coverages, bound, scope, a)?;
     unary(alloc, op, a)
@@ -121,13 +124,13 @@ fn operation<'a>(
 fn operation_on_two<'a>(
     alloc: Global,
     coverages: &[&'a Signature],
-    bound: &[Bound],
+    bound: &Variables,
     scope: &Scope,
     op: BinaryOperator,
     l: Shape<'a>,
     r: &Expr,
 ) -> Result<Shape<'a>, CheckError>
-    ensures { Says shape_view result (then_of (typ (signatures_in coverages.now) bound.now (names_in scope.now.frames) (view r.now)) (operators.binary op (shape_view l.entry))) }
+    ensures { Says shape_view result (then_of (typ (signatures_in coverages.now) bound.now.list.items (names_in scope.now.frames) (view r.now)) (operators.binary op (shape_view l.entry))) }
 {
     let r = expression(alloc, coverages, bound, scope, r)?;
     binary(alloc, op, l, r)
@@ -139,12 +142,12 @@ fn operation_on_two<'a>(
 fn reduced<'a>(
     alloc: Global,
     coverages: &[&'a Signature],
-    bound: &[Bound],
+    bound: &Variables,
     scope: &Scope,
     op: Aggregate,
     a: &Expr,
 ) -> Result<Shape<'a>, CheckError>
-    ensures { Says shape_view result (typ (signatures_in coverages.now) bound.now (names_in scope.now.frames) (tree.reduce op (view a.now))) }
+    ensures { Says shape_view result (typ (signatures_in coverages.now) bound.now.list.items (names_in scope.now.frames) (tree.reduce op (view a.now))) }
 {
     let a = expression(alloc, coverages, bound, scope, a)?;
     reduction(alloc, op, a)
@@ -156,12 +159,12 @@ fn reduced<'a>(
 fn field_of<'a>(
     alloc: Global,
     coverages: &[&'a Signature],
-    bound: &[Bound],
+    bound: &Variables,
     scope: &Scope,
     a: &Expr,
     name: &QueryName,
 ) -> Result<Shape<'a>, CheckError>
-    ensures { Says shape_view result (typ (signatures_in coverages.now) bound.now (names_in scope.now.frames) (tree.field (view a.now) name.now)) }
+    ensures { Says shape_view result (typ (signatures_in coverages.now) bound.now.list.items (names_in scope.now.frames) (tree.field (view a.now) name.now)) }
 {
     let a = expression(alloc, coverages, bound, scope, a)?;
     selected(alloc, a, name)
@@ -173,12 +176,12 @@ fn field_of<'a>(
 fn listed<'a>(
     alloc: Global,
     coverages: &[&'a Signature],
-    bound: &[Bound],
+    bound: &Variables,
     scope: &Scope,
     iterators: &[Iter],
     items: &[ListItem],
 ) -> Result<Shape<'a>, CheckError>
-    ensures { Says shape_view result (typ (signatures_in coverages.now) bound.now (names_in scope.now.frames) (tree.value_list (iters_of iterators.now) items.now)) }
+    ensures { Says shape_view result (typ (signatures_in coverages.now) bound.now.list.items (names_in scope.now.frames) (tree.value_list (iters_of iterators.now) items.now)) }
 {
     let over = iterator_list(alloc, coverages, bound, scope, iterators)?;
     let domain = box_of(over.axes)?;
@@ -191,12 +194,12 @@ fn listed<'a>(
 fn bracketed<'a>(
     alloc: Global,
     coverages: &[&'a Signature],
-    bound: &[Bound],
+    bound: &Variables,
     scope: &Scope,
     value: Shape<'a>,
     subs: &[Sub],
 ) -> Result<Shape<'a>, CheckError>
-    ensures { Says shape_view result (then_of (typ_subs (signatures_in coverages.now) bound.now (names_in scope.now.frames) (opened value.entry.domain) (subs_of subs.now)) (closed_on (shape_view value.entry))) }
+    ensures { Says shape_view result (then_of (typ_subs (signatures_in coverages.now) bound.now.list.items (names_in scope.now.frames) (opened value.entry.domain) (subs_of subs.now)) (closed_on (shape_view value.entry))) }
 {
     let Shape {
         domain,
@@ -213,12 +216,12 @@ fn bracketed<'a>(
 fn constructed<'a>(
     alloc: Global,
     coverages: &[&'a Signature],
-    bound: &[Bound],
+    bound: &Variables,
     scope: &Scope,
     over: Opened,
     body: &Expr,
 ) -> Result<Shape<'a>, CheckError>
-    ensures { Says shape_view result (then_of (typ (signatures_in coverages.now) bound.now (names_in scope.now.frames ++ over.variables.items) (view body.now)) (array_of over.domain)) }
+    ensures { Says shape_view result (then_of (typ (signatures_in coverages.now) bound.now.list.items (names_in scope.now.frames ++ over.variables.items) (view body.now)) (array_of over.domain)) }
 {
     let Opened { domain, variables } = over;
     let inner = Scope::within(scope, &variables)?;
@@ -232,14 +235,14 @@ fn constructed<'a>(
 fn condensed_over<'a>(
     alloc: Global,
     coverages: &[&'a Signature],
-    bound: &[Bound],
+    bound: &Variables,
     scope: &Scope,
     op: Aggregate,
     over: Opened,
-    condition: Option<Node>,
+    condition: Option<Box<Node>>,
     body: &Expr,
 ) -> Result<Shape<'a>, CheckError>
-    ensures { Says shape_view result (then_of (typ (signatures_in coverages.now) bound.now (names_in scope.now.frames ++ over.variables.items) (view body.now)) (λ s. then_of (only_scalar s) (condensed op over.domain (option_map only_tree condition)))) }
+    ensures { Says shape_view result (then_of (typ (signatures_in coverages.now) bound.now.list.items (names_in scope.now.frames ++ over.variables.items) (view body.now)) (λ s. then_of (only_scalar s) (condensed op over.domain (option_map boxed_tree condition)))) }
 {
     let Opened { domain, variables } = over;
     let inner = Scope::within(scope, &variables)?;
@@ -253,12 +256,12 @@ fn condensed_over<'a>(
 fn condition_over(
     alloc: Global,
     coverages: &[&Signature],
-    bound: &[Bound],
+    bound: &Variables,
     scope: &Scope,
     over: &Opened,
     condition: &Option<Box<Expr>>,
-) -> Result<Option<Node>, CheckError>
-    ensures { Says (option_map only_tree) result (typ_condition (signatures_in coverages.now) bound.now (names_in scope.now.frames ++ over.now.variables.items) (condition_of condition.now)) }
+) -> Result<Option<Box<Node>>, CheckError>
+    ensures { Says (option_map boxed_tree) result (typ_condition (signatures_in coverages.now) bound.now.list.items (names_in scope.now.frames ++ over.now.variables.items) (condition_of condition.now)) }
 {
     let inner = Scope::within(&*scope, &over.variables)?;
     condition_node(alloc, coverages, bound, &inner, condition)
@@ -269,11 +272,11 @@ fn condition_over(
 pub fn condition_node(
     alloc: Global,
     coverages: &[&Signature],
-    bound: &[Bound],
+    bound: &Variables,
     scope: &Scope,
     condition: &Option<Box<Expr>>,
-) -> Result<Option<Node>, CheckError>
-    ensures { Says (option_map only_tree) result (typ_condition (signatures_in coverages.now) bound.now (names_in scope.now.frames) (condition_of condition.now)) }
+) -> Result<Option<Box<Node>>, CheckError>
+    ensures { Says (option_map boxed_tree) result (typ_condition (signatures_in coverages.now) bound.now.list.items (names_in scope.now.frames) (condition_of condition.now)) }
 {
     match condition {
         None => Ok(None),
@@ -290,11 +293,11 @@ pub fn condition_node(
 fn record<'a>(
     alloc: Global,
     coverages: &[&'a Signature],
-    bound: &[Bound],
+    bound: &Variables,
     scope: &Scope,
     parts: &[Part],
 ) -> Result<Shape<'a>, CheckError>
-    ensures { Says shape_view result (typ_parts (signatures_in coverages.now) bound.now (names_in scope.now.frames) no_pieces (parts_of parts.now)) }
+    ensures { Says shape_view result (typ_parts (signatures_in coverages.now) bound.now.list.items (names_in scope.now.frames) no_pieces (parts_of parts.now)) }
 {
     let mut pieces = Pieces::new(alloc);
     for part in parts {
@@ -312,12 +315,12 @@ fn record<'a>(
 fn subscripts(
     alloc: Global,
     coverages: &[&Signature],
-    bound: &[Bound],
+    bound: &Variables,
     scope: &Scope,
     domain: Domain,
     subs: &[Sub],
 ) -> Result<Bracket, CheckError>
-    ensures { Says bracket_view result (typ_subs (signatures_in coverages.now) bound.now (names_in scope.now.frames) (opened domain) (subs_of subs.now)) }
+    ensures { Says bracket_view result (typ_subs (signatures_in coverages.now) bound.now.list.items (names_in scope.now.frames) (opened domain) (subs_of subs.now)) }
 {
     let mut bracket = Bracket::new(alloc, domain);
     for sub in subs {
@@ -333,13 +336,13 @@ fn subscripts(
 fn subscript(
     alloc: Global,
     coverages: &[&Signature],
-    bound: &[Bound],
+    bound: &Variables,
     scope: &Scope,
     bracket: Bracket,
     axis: &QueryName,
     subscript: &Place,
 ) -> Result<Bracket, CheckError>
-    ensures { Says bracket_view result (then_of (place_to_cut axis.now (bracket_view bracket)) (λ k. typ_place (signatures_in coverages.now) bound.now (names_in scope.now.frames) k axis.now (bracket_view bracket) (view_place subscript.now))) }
+    ensures { Says bracket_view result (then_of (place_to_cut axis.now (bracket_view bracket)) (λ k. typ_place (signatures_in coverages.now) bound.now.list.items (names_in scope.now.frames) k axis.now (bracket_view bracket) (view_place subscript.now))) }
 {
     let place = place_to_cut(&bracket, axis)?;
     match subscript {
@@ -360,11 +363,11 @@ fn subscript(
 fn interval_bounds(
     alloc: Global,
     coverages: &[&Signature],
-    bound: &[Bound],
+    bound: &Variables,
     scope: &Scope,
     interval: &Interval,
 ) -> Result<Bounds, CheckError>
-    ensures { Says bounds_view result (typ_interval (signatures_in coverages.now) bound.now (names_in scope.now.frames) (view_interval interval.now)) }
+    ensures { Says bounds_view result (typ_interval (signatures_in coverages.now) bound.now.list.items (names_in scope.now.frames) (view_interval interval.now)) }
 {
     match interval {
         Interval::Bounds(lo, hi) => written_bounds(*lo, *hi),
@@ -380,11 +383,11 @@ fn interval_bounds(
 fn iterator_list(
     alloc: Global,
     coverages: &[&Signature],
-    bound: &[Bound],
+    bound: &Variables,
     scope: &Scope,
     list: &[Iter],
 ) -> Result<Iterators, CheckError>
-    ensures { Says iterators_view result (typ_iters (signatures_in coverages.now) bound.now (names_in scope.now.frames) no_iterators (iters_of list.now)) }
+    ensures { Says iterators_view result (typ_iters (signatures_in coverages.now) bound.now.list.items (names_in scope.now.frames) no_iterators (iters_of list.now)) }
 {
     let mut iterators = Iterators::new(alloc);
     for iter in list {

@@ -3,6 +3,7 @@
 #![tactic(auto)]
 
 mod bindings;
+mod bound;
 mod bounds;
 mod boxes;
 mod brackets;
@@ -22,6 +23,7 @@ mod same;
 mod scope;
 mod shape;
 mod sharing;
+mod source;
 mod trees;
 mod typed;
 mod typed_query;
@@ -31,5 +33,6 @@ pub use effort::work;
 pub use names::names_are_tokens;
 pub use query::check;
 pub use refusal::{CheckError, TypeRefusal};
+pub use source::tree_at;
 pub use typed::{Node, Tree, TypedItem};
-pub use typed_query::{Combination, TypedQuery};
+pub use typed_query::{Combination, Maker, TypedQuery};

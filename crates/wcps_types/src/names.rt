@@ -5,7 +5,7 @@ ghost use Rattle.std.specs.Str.{bytes_eq};
 ghost use Rattle.arr_core.specs.Names.{IsName};
 ghost use Rattle.wcps_text.specs.Lexing.{Reads};
 ghost use Rattle.wcps_text.specs.Token as token;
-ghost use Rattle.wcps_types.specs.Names.{axis_place, coverage_place, bound_place, name_place, is_name_of};
+ghost use Rattle.wcps_types.specs.Names.{axis_place, coverage_place, name_place, is_name_of};
 
 use crate::labels::Label;
 use arr_core::{Axis, Signature};
@@ -40,15 +40,6 @@ pub fn coverage_place(coverages: &[Signature], name: &QueryName) -> Option<usize
     coverages
         .iter()
         .position(|coverage| is_same(coverage.name.as_str(), name.as_str()))
-}
-
-/// The place of a variable of the `for` list.
-pub fn bound_place(bound: &[Bound], name: &QueryName) -> Option<usize>
-    ensures { result ≡ bound_place name.now bound.now }
-{
-    bound
-        .iter()
-        .position(|b| is_same(b.variable.as_str(), name.as_str()))
 }
 
 /// The place of a name in a list.

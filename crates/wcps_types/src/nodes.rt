@@ -1,7 +1,7 @@
 //! Making nodes of nodes.
 
 ghost use Rattle.std.specs.Prelude.{◌≡◌, IfOk, List, map};
-ghost use Rattle.wcps_types.specs.Typed.{field_tree, only_tree, unary, binary, scalar, select, array, condense_of, reduce};
+ghost use Rattle.wcps_types.specs.Typed.{field_tree, boxed_tree, unary, binary, scalar, select, array, condense_of, reduce};
 ghost use Rattle.wcps_types.specs.declared.labels.Label.{Label};
 ghost use Rattle.wcps_types.specs.Shapes.{labels_view};
 ghost use Rattle.wcps_types.specs.Brackets.{sliced_slot, bracketed_slot};
@@ -13,7 +13,7 @@ use std::alloc::{AllocError, Global};
 use wcps_text::{Aggregate, BinaryOperator, UnaryOperator};
 
 /// A node on the heap.
-fn boxed(alloc: Global, node: Node) -> Result<Box<Node>, AllocError>
+pub fn boxed(alloc: Global, node: Node) -> Result<Box<Node>, AllocError>
     ensures { IfOk result (λ b. b.value ≡ node) }
 {
     let b = Box::new(alloc, node)?;
@@ -21,71 +21,73 @@ fn boxed(alloc: Global, node: Node) -> Result<Box<Node>, AllocError>
 }
 
 /// An operation on one operand.
-pub fn unary_node(alloc: Global, op: UnaryOperator, e: Node) -> Result<Node, AllocError>
-    ensures { IfOk result (λ n. only_tree n ≡ unary op (only_tree e)) }
+pub fn unary_node(alloc: Global, op: UnaryOperator, e: Box<Node>) -> Result<Box<Node>, AllocError>
+    ensures { IfOk result (λ n. boxed_tree n ≡ unary op (boxed_tree e)) }
 {
-    Ok(Node::Unary(op, boxed(alloc, e)?))
+    boxed(alloc, Node::Unary(op, e))
 }
 
 /// An operation on two operands.
-pub fn binary_node(alloc: Global, op: BinaryOperator, l: Node, r: Node) -> Result<Node, AllocError>
-    ensures { IfOk result (λ n. only_tree n ≡ binary op (only_tree l) (only_tree r)) }
+pub fn binary_node(
+    alloc: Global,
+    op: BinaryOperator,
+    l: Box<Node>,
+    r: Box<Node>,
+) -> Result<Box<Node>, AllocError>
+    ensures { IfOk result (λ n. boxed_tree n ≡ binary op (boxed_tree l) (boxed_tree r)) }
 {
-    let l = boxed(alloc, l)?;
-    let r = boxed(alloc, r)?;
-    Ok(Node::Binary(op, l, r))
+    boxed(alloc, Node::Binary(op, l, r))
 }
 
 /// A scalar beside a value with axes.
-pub fn scalar_node(alloc: Global, e: Node) -> Result<Node, AllocError>
-    ensures { IfOk result (λ n. only_tree n ≡ scalar (only_tree e)) }
+pub fn scalar_node(alloc: Global, e: Box<Node>) -> Result<Box<Node>, AllocError>
+    ensures { IfOk result (λ n. boxed_tree n ≡ scalar (boxed_tree e)) }
 {
-    Ok(Node::Scalar(boxed(alloc, e)?))
+    boxed(alloc, Node::Scalar(e))
 }
 
 /// The field at a place, alone.
-pub fn select_node(alloc: Global, e: Node, field: usize) -> Result<Node, AllocError>
-    ensures { IfOk result (λ n. only_tree n ≡ select (field_tree e field)) }
+pub fn select_node(alloc: Global, e: Box<Node>, field: usize) -> Result<Box<Node>, AllocError>
+    ensures { IfOk result (λ n. boxed_tree n ≡ select (field_tree e.value field)) }
 {
-    Ok(Node::Select(boxed(alloc, e)?, field))
+    boxed(alloc, Node::Select(e, field))
 }
 
 /// A bracket around its slices, for all fields at once.
 #[tactic(auto, using(crate::proofs::Fields::bracket_fields))]
-pub fn bracket_node(alloc: Global, e: Node) -> Result<Node, AllocError>
-    ensures { IfOk result (λ n. (labels : List Label) → labels_view n 0 labels ≡ map bracketed_slot (labels_view e 0 labels)) }
+pub fn bracket_node(alloc: Global, e: Box<Node>) -> Result<Box<Node>, AllocError>
+    ensures { IfOk result (λ n. (labels : List Label) → labels_view n.value 0 labels ≡ map bracketed_slot (labels_view e.value 0 labels)) }
 {
-    Ok(Node::Bracket(boxed(alloc, e)?))
+    boxed(alloc, Node::Bracket(e))
 }
 
 /// A slice at a position, for all fields at once.
 #[tactic(auto, using(crate::proofs::Fields::slice_fields))]
 pub fn slice_node(
     alloc: Global,
-    value: Node,
+    value: Box<Node>,
     axis: usize,
     lo: i32,
     hi: i32,
-    position: Node,
-) -> Result<Node, AllocError>
-    ensures { IfOk result (λ n. (labels : List Label) → labels_view n 0 labels ≡ map (sliced_slot axis lo hi (only_tree position)) (labels_view value 0 labels)) }
+    position: Box<Node>,
+) -> Result<Box<Node>, AllocError>
+    ensures { IfOk result (λ n. (labels : List Label) → labels_view n.value 0 labels ≡ map (sliced_slot axis lo hi (boxed_tree position)) (labels_view value.value 0 labels)) }
 {
-    let value = boxed(alloc, value)?;
-    let position = boxed(alloc, position)?;
-    Ok(Node::Slice {
+    let slice = Node::Slice {
         value,
         axis,
         lo,
         hi,
         position,
-    })
+    };
+    boxed(alloc, slice)
 }
 
 /// A coverage whose cells a scalar gives.
-pub fn array_node(alloc: Global, e: Node) -> Result<Node, AllocError>
-    ensures { IfOk result (λ n. only_tree n ≡ array (only_tree e)) }
+pub fn array_node(alloc: Global, e: Box<Node>) -> Result<Box<Node>, AllocError>
+    ensures { IfOk result (λ n. boxed_tree n ≡ array (boxed_tree e)) }
 {
-    Ok(Node::Array(boxed(alloc, e)?))
+    boxed(alloc, Node::Array(e))
 }
 
 /// A condenser, with or without a condition.
@@ -93,22 +95,21 @@ pub fn condense_node(
     alloc: Global,
     op: Aggregate,
     domain: Domain,
-    condition: Option<Node>,
-    body: Node,
-) -> Result<Node, AllocError>
-    ensures { IfOk result (λ n. only_tree n ≡ condense_of op domain (option_map only_tree condition) (only_tree body)) }
+    condition: Option<Box<Node>>,
+    body: Box<Node>,
+) -> Result<Box<Node>, AllocError>
+    ensures { IfOk result (λ n. boxed_tree n ≡ condense_of op domain (option_map boxed_tree condition) (boxed_tree body)) }
 {
-    let body = boxed(alloc, body)?;
     match condition {
-        None => Ok(Node::Condense { op, domain, body }),
-        Some(c) => {
-            let condition = boxed(alloc, c)?;
-            Ok(Node::CondenseWhere {
+        None => boxed(alloc, Node::Condense { op, domain, body }),
+        Some(condition) => {
+            let condenser = Node::CondenseWhere {
                 op,
                 domain,
                 condition,
                 body,
-            })
+            };
+            boxed(alloc, condenser)
         }
     }
 }
@@ -118,10 +119,9 @@ pub fn reduce_node(
     alloc: Global,
     op: Aggregate,
     domain: Domain,
-    body: Node,
-) -> Result<Node, AllocError>
-    ensures { IfOk result (λ n. only_tree n ≡ reduce op domain (only_tree body)) }
+    body: Box<Node>,
+) -> Result<Box<Node>, AllocError>
+    ensures { IfOk result (λ n. boxed_tree n ≡ reduce op domain (boxed_tree body)) }
 {
-    let body = boxed(alloc, body)?;
-    Ok(Node::Reduce { op, domain, body })
+    boxed(alloc, Node::Reduce { op, domain, body })
 }

@@ -21,19 +21,19 @@ use wcps_text::{Aggregate, BinaryOperator, QueryName, UnaryOperator};
 #[derive(Debug, Drop)]
 pub struct Operands {
     pub domain: Domain,
-    pub left: Node,
-    pub right: Node,
+    pub left: Box<Node>,
+    pub right: Box<Node>,
 }
 
 /// A shape with the field at one place of a node, selected.
 fn one_selected<'a>(
     alloc: Global,
     domain: Domain,
-    node: Node,
+    node: Box<Node>,
     place: usize,
     label: Label,
 ) -> Result<Shape<'a>, AllocError>
-    ensures { IfOk result (λ s. shape_view s ≡ one_selected domain (slot_of node place label)) }
+    ensures { IfOk result (λ s. shape_view s ≡ one_selected domain (slot_of node.value place label)) }
 {
     let node = select_node(alloc, node, place)?;
     let mut labels = Vec::new(alloc);
@@ -49,11 +49,11 @@ fn one_selected<'a>(
 fn label_selected<'a>(
     alloc: Global,
     domain: Domain,
-    node: Node,
+    node: Box<Node>,
     labels: Vec<Label>,
     name: &QueryName,
 ) -> Result<Shape<'a>, CheckError>
-    ensures { Says shape_view result (selected name.now domain (labels_view node 0 labels.items)) }
+    ensures { Says shape_view result (selected name.now domain (labels_view node.value 0 labels.items)) }
 {
     let mut place = 0;
     for label in labels {
@@ -69,11 +69,11 @@ fn label_selected<'a>(
 fn one_field_selected<'a>(
     alloc: Global,
     domain: Domain,
-    node: Node,
+    node: Box<Node>,
     place: usize,
     field: &'a Field,
 ) -> Result<Shape<'a>, AllocError>
-    ensures { IfOk result (λ s. shape_view s ≡ one_selected domain (slot_of node place (label_of field.now))) }
+    ensures { IfOk result (λ s. shape_view s ≡ one_selected domain (slot_of node.value place (label_of field.now))) }
 {
     let node = select_node(alloc, node, place)?;
     Ok(Shape {
@@ -87,11 +87,11 @@ fn one_field_selected<'a>(
 fn field_selected<'a>(
     alloc: Global,
     domain: Domain,
-    node: Node,
+    node: Box<Node>,
     fields: &'a [Field],
     name: &QueryName,
 ) -> Result<Shape<'a>, CheckError>
-    ensures { Says shape_view result (selected name.now domain (labels_view node 0 (map label_of fields.now))) }
+    ensures { Says shape_view result (selected name.now domain (labels_view node.value 0 (map label_of fields.now))) }
 {
     let mut place = 0;
     for field in fields {
@@ -109,7 +109,7 @@ pub fn selected<'a>(
     shape: Shape<'a>,
     name: &QueryName,
 ) -> Result<Shape<'a>, CheckError>
-    ensures { Says shape_view result (selected name.now shape.entry.domain (labels_view shape.entry.node 0 (labels_in shape.entry.labels))) }
+    ensures { Says shape_view result (selected name.now shape.entry.domain (labels_view shape.entry.node.value 0 (labels_in shape.entry.labels))) }
 {
     let Shape {
         domain,

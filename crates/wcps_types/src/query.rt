@@ -1,146 +1,176 @@
 //! The check of a whole query.
 
-ghost use Rattle.std.specs.Prelude.{◌≡◌, ◌<◌, ◌≤◌, [], IfOk, OnOk, length, map, option_map, Some, slice_get};
-ghost use Rattle.wcps_types.specs.Cells.{result_cells, max_cells};
-ghost use Rattle.wcps_types.specs.Work.{query_work, max_work};
+ghost use Rattle.std.specs.Prelude.{◌≡◌, ◌<◌, ◌++◌, ◌∷◌, [], IfOk, IfSome, OnOk, List, length, map, Some, slice_get};
 ghost use Rattle.wcps_text.specs.Tree.{query_view};
+ghost use Rattle.wcps_types.specs.Typed.{CombinationTree, tree_view};
 ghost use Rattle.wcps_types.specs.Renamed.{over, combination_view};
-ghost use Rattle.wcps_types.specs.Typed.{tree_view};
 ghost use Rattle.wcps_types.specs.TypedQueries.{query_view as typed_query_view};
 ghost use Rattle.wcps_types.specs.Shapes.{Says};
 ghost use Rattle.wcps_types.specs.Bindings.{choice_view, combination_count, combinations};
-ghost use Rattle.wcps_types.specs.Sharing.{own, coverages_in, AreBelow, ChoicesAreBelow, Grows, HasTree, AreMade};
+ghost use Rattle.wcps_types.specs.Sharing.{own, own_choices, coverages_in, AreBelow, ChoicesAreBelow, Grows, AreMade, maker_of, trees_of, IsLatest};
 ghost use Rattle.wcps_types.specs.Queries.{typ_combination, typ_each, typ_query};
 
 use crate::bindings::{Choice, combination_at, combination_count, resolve_bindings};
-use crate::cells::{MAX_CELLS, combinations_cells};
-use crate::effort::{MAX_WORK, combinations_work};
+use crate::cells::{MAX_CELLS, combinations_cells, tree_cells};
+use crate::effort::{MAX_WORK, combinations_work, tree_work};
 use crate::names::Bound;
 use crate::refusal::{CheckError, TypeRefusal};
-use crate::same::place_of_same;
-use crate::sharing::{own_variables, places_of, signatures_of, tree_of_like};
-use crate::trees::tree_of;
+use crate::same::is_same_tree;
+use crate::sharing::{own_variables, place_of_like, places_of};
+use crate::source::{Source, typed_over};
 use crate::typed::Tree;
-use crate::typed_query::{Combination, TypedQuery};
+use crate::typed_query::{Combination, Maker, TypedQuery};
 use arr_core::Signature;
 use std::alloc::{AllocError, Global};
 use wcps_text::Query;
 
-/// The query over the variables of a combination, each with the signature of its coverage.
-fn shared_tree(
-    alloc: Global,
-    coverages: &[Signature],
-    bound: &[Bound],
-    query: &Query,
-) -> Result<Tree, CheckError>
-    requires there { AreBelow (length coverages.now) (coverages_in bound.now) }
-    ensures said { Says (λ t. over (coverages_in bound.now) (Some t)) result (typ_combination coverages.now (query_view query.now) bound.now) }
-    ensures made { IfOk result (λ t. HasTree coverages.now (query_view query.now) (own 0 bound.now) (coverages_in bound.now) (Some t)) }
-{
-    let signatures = signatures_of(alloc, coverages, bound)?;
-    let variables = own_variables(alloc, bound)?;
-    tree_of(alloc, &signatures, &variables, query)
+/// The tree that was made last, and its place.
+#[derive(Debug, Drop)]
+struct Latest {
+    place: usize,
+    tree: Tree,
 }
 
-/// The place of a tree: of one that is the same, else of this one, now the last.
-fn kept(trees: &mut Vec<Tree>, made: Tree) -> Result<usize, AllocError>
-    ensures same { IfOk result (λ k. option_map tree_view (slice_get trees.new.items k) ≡ Some (tree_view made)) }
-    ensures kept { OnOk result (Grows trees.old.items trees.new.items) }
-    ensures longer { OnOk result (length trees.old.items ≤ length trees.new.items) }
+/// The makers so far, and of their trees the last one alone.
+#[derive(Debug, Drop)]
+struct Making {
+    makers: Vec<Maker>,
+    latest: Option<Latest>,
+}
+
+/// The place of the tree that was made last, if this one is the same.
+fn place_of_same(latest: &Option<Latest>, tree: &Tree) -> Option<usize>
+    ensures { (trees : List CombinationTree) → IsLatest trees latest.now → IfSome result (λ k. slice_get trees k ≡ Some (tree_view tree.now)) }
 {
-    if let Some(tree) = place_of_same(trees, &made) {
-        return Ok(tree);
+    match latest {
+        None => None,
+        Some(latest) => {
+            if is_same_tree(&latest.tree, tree) {
+                Some(latest.place)
+            } else {
+                None
+            }
+        }
     }
-    let tree = trees.len();
-    trees.push(made)?;
-    Ok(tree)
 }
 
-/// The place of the tree of a query over coverages: that of a maker whose coverages are like these, else that of the tree
-/// that is made of this combination, which is a maker too.
+/// Puts the maker of a tree behind the others, and keeps the tree. Returns its place.
+fn put_maker(making: &mut Making, coverages: Vec<usize>, tree: Tree) -> Result<usize, AllocError>
+    ensures place { IfOk result (λ k. k ≡ length making.old.makers.items) }
+    ensures put { OnOk result (making.new.makers.items ≡ making.old.makers.items ++ maker_of coverages (tree_view tree) ∷ []) }
+    ensures latest { IfOk result (λ k. making.new.latest ≡ Some (record { place = k; tree = tree })) }
+{
+    let place = making.makers.len();
+    let cells = tree_cells(&tree);
+    let work = tree_work(&tree);
+    making.makers.push(Maker {
+        coverages,
+        cells,
+        work,
+    })?;
+    making.latest = Some(Latest { place, tree });
+    Ok(place)
+}
+
+/// The place of the tree of a query over the coverages of a combination: that of a maker whose coverages are like these,
+/// else that of the last tree, if it is the same, else that of the tree that is made of this combination.
 fn place_of_tree(
     alloc: Global,
-    coverages: &[Signature],
+    source: &Source,
     bound: &[Bound],
-    query: &Query,
-    trees: &mut Vec<Tree>,
-    makers: &mut Vec<Combination>,
+    making: &mut Making,
 ) -> Result<usize, CheckError>
-    requires there { AreBelow (length coverages.now) (coverages_in bound.now) }
-    requires made { AreMade coverages.now (query_view query.now) (own 0 bound.now) trees.old.items makers.old.items }
-    ensures said { Says (λ t. over (coverages_in bound.now) (slice_get trees.new.items t)) result (typ_combination coverages.now (query_view query.now) bound.now) }
-    ensures inside { IfOk result (λ t. t < length trees.new.items) }
-    ensures made { OnOk result (AreMade coverages.now (query_view query.now) (own 0 bound.now) trees.new.items makers.new.items) }
-    ensures kept { OnOk result (Grows trees.old.items trees.new.items) }
-    ensures longer { OnOk result (length trees.old.items ≤ length trees.new.items) }
+    requires own { source.now.variables.now.list.items ≡ own 0 bound.now }
+    requires there { AreBelow (length source.now.coverages.now) (coverages_in bound.now) }
+    requires made { AreMade source.now.coverages.now (query_view source.now.query.now) source.now.variables.now.list.items making.old.makers.items }
+    requires latest { IsLatest (trees_of source.now.coverages.now (query_view source.now.query.now) source.now.variables.now.list.items making.old.makers.items) making.old.latest }
+    ensures said { Says (λ k. over (coverages_in bound.now) (slice_get (trees_of source.now.coverages.now (query_view source.now.query.now) source.now.variables.now.list.items making.new.makers.items) k)) result (typ_combination source.now.coverages.now (query_view source.now.query.now) bound.now) }
+    ensures inside { IfOk result (λ k. k < length making.new.makers.items) }
+    ensures made { OnOk result (AreMade source.now.coverages.now (query_view source.now.query.now) source.now.variables.now.list.items making.new.makers.items) }
+    ensures latest { OnOk result (IsLatest (trees_of source.now.coverages.now (query_view source.now.query.now) source.now.variables.now.list.items making.new.makers.items) making.new.latest) }
+    ensures kept { OnOk result (Grows (trees_of source.now.coverages.now (query_view source.now.query.now) source.now.variables.now.list.items making.old.makers.items) (trees_of source.now.coverages.now (query_view source.now.query.now) source.now.variables.now.list.items making.new.makers.items)) }
 {
-    if let Some(tree) = tree_of_like(coverages, makers, bound) {
-        return Ok(tree);
+    if let Some(place) = place_of_like(source.coverages, &making.makers, bound) {
+        return Ok(place);
     }
-    let made = shared_tree(alloc, coverages, bound, query)?;
-    let tree = kept(trees, made)?;
     let coverages = places_of(alloc, bound)?;
-    makers.push(Combination { tree, coverages })?;
-    Ok(tree)
+    let tree = typed_over(alloc, source, &coverages)?;
+    if let Some(place) = place_of_same(&making.latest, &tree) {
+        return Ok(place);
+    }
+    let place = put_maker(making, coverages, tree)?;
+    Ok(place)
 }
 
-/// Trees, and combinations that have them.
+/// The makers of trees, and combinations that have the trees.
 #[derive(Debug, Drop)]
 struct Combined {
-    trees: Vec<Tree>,
+    makers: Vec<Maker>,
     combinations: Vec<Combination>,
 }
 
 /// The query with each choice of coverages in order.
 fn each_combination(
     alloc: Global,
-    coverages: &[Signature],
+    source: &Source,
     choices: &[Choice],
     count: u64,
-    query: &Query,
 ) -> Result<Combined, CheckError>
+    requires own { source.now.variables.now.list.items ≡ own_choices 0 (map choice_view choices.now) }
     requires counted { count ≡ combination_count (map choice_view choices.now) }
-    requires there { ChoicesAreBelow (length coverages.now) (map choice_view choices.now) }
-    ensures { Says (λ all. map (combination_view all.trees.items) all.combinations.items) result (typ_each coverages.now (query_view query.now) [] (combinations (map choice_view choices.now))) }
+    requires there { ChoicesAreBelow (length source.now.coverages.now) (map choice_view choices.now) }
+    ensures said { Says (λ all. map (combination_view (trees_of source.now.coverages.now (query_view source.now.query.now) source.now.variables.now.list.items all.makers.items)) all.combinations.items) result (typ_each source.now.coverages.now (query_view source.now.query.now) [] (combinations (map choice_view choices.now))) }
+    ensures made { IfOk result (λ all. AreMade source.now.coverages.now (query_view source.now.query.now) source.now.variables.now.list.items all.makers.items) }
 {
-    let mut trees = Vec::new(alloc);
-    let mut makers = Vec::new(alloc);
+    let mut making = Making {
+        makers: Vec::new(alloc),
+        latest: None,
+    };
     let mut combinations = Vec::new(alloc);
     for number in 0..count {
         let bound = combination_at(alloc, choices, count, number)?;
-        let tree = place_of_tree(alloc, coverages, &bound, query, &mut trees, &mut makers)?;
-        let places = places_of(alloc, &bound)?;
-        combinations.push(Combination {
-            tree,
-            coverages: places,
-        })?;
+        let tree = place_of_tree(alloc, source, &bound, &mut making)?;
+        let coverages = places_of(alloc, &bound)?;
+        combinations.push(Combination { tree, coverages })?;
     }
     Ok(Combined {
-        trees,
+        makers: making.makers,
         combinations,
     })
 }
 
 /// The typed query, or the first refusal: first the `for` list and the number of combinations, then each combination in
-/// order, then the number of result cells, then the work. It takes memory for as many trees as differ, not as there
-/// are combinations.
+/// order, then the number of result cells, then the work. It takes memory for the text and two trees, however many
+/// combinations there are.
 pub fn check(
     alloc: Global,
     signatures: &[Signature],
-    query: &Query,
+    query: Query,
 ) -> Result<TypedQuery, CheckError>
-    ensures said { Says typed_query_view result (typ_query signatures.now (query_view query.now)) }
-    ensures few_cells { IfOk result (λ q. result_cells (map (combination_view q.trees.items) q.combinations.items) ≤ max_cells) }
-    ensures little_work { IfOk result (λ q. query_work (map (combination_view q.trees.items) q.combinations.items) ≤ max_work) }
+    ensures { Says typed_query_view result (typ_query signatures.now (query_view query)) }
 {
     let bindings = resolve_bindings(alloc, signatures, &query.bindings)?;
     let count = combination_count(&bindings.choices)?;
-    let all = each_combination(alloc, &bindings.coverages, &bindings.choices, count, query)?;
-    if combinations_cells(&all.trees, &all.combinations) > MAX_CELLS {
+    let variables = own_variables(alloc, &bindings.choices)?;
+    let source = Source {
+        coverages: &bindings.coverages,
+        variables: &variables,
+        query: &query,
+    };
+    let all = each_combination(alloc, &source, &bindings.choices, count)?;
+    if combinations_cells(&all.makers, &all.combinations) > MAX_CELLS {
         return Err(CheckError::Refused(TypeRefusal::ResultTooLarge));
     }
-    if combinations_work(&all.trees, &all.combinations) > MAX_WORK {
+    let work = combinations_work(&all.makers, &all.combinations);
+    if work > MAX_WORK {
         return Err(CheckError::Refused(TypeRefusal::TooMuchWork));
     }
-    Ok(TypedQuery::new(bindings.coverages, all.trees, all.combinations))
+    Ok(TypedQuery {
+        coverages: bindings.coverages,
+        variables,
+        query,
+        makers: all.makers,
+        combinations: all.combinations,
+        work,
+    })
 }

@@ -4,13 +4,13 @@ ghost use Rattle.std.specs.Prelude.{◌≡◌, IfOk, ℕ, List, map, cond, true,
 ghost use Rattle.std.specs.Str.{bytes_eq};
 ghost use Rattle.std.specs.BTreeSet.{contains_text};
 ghost use Rattle.wcps_types.specs.declared.labels.Label.{Label};
-ghost use Rattle.wcps_types.specs.Typed.{only_tree, scalar as scalar_tree};
+ghost use Rattle.wcps_types.specs.Typed.{only_tree, boxed_tree, scalar as scalar_tree};
 ghost use Rattle.wcps_types.specs.Parts.{piece_label, tree_in, with_trees};
 ghost use Rattle.wcps_types.specs.Shapes.{Says, shape_view, labels_view, field_of_view};
 ghost use Rattle.wcps_types.specs.Records.{piece_view, pieces_view, no_pieces, is_part, with_part, finished};
 
 use crate::labels::{Label, Labels};
-use crate::nodes::scalar_node;
+use crate::nodes::boxed;
 use crate::operators::are_same;
 use crate::pieces::Pieces;
 use crate::refusal::{CheckError, TypeRefusal};
@@ -26,7 +26,7 @@ pub struct Piece {
     pub name: QueryName,
     pub scalar: bool,
     pub boolean: bool,
-    pub node: Node,
+    pub node: Box<Node>,
 }
 
 impl Pieces {
@@ -102,13 +102,13 @@ pub fn with_part(
 }
 
 /// The node of a part; a scalar part beside one with axes is taken at every point.
-fn part_node(alloc: Global, on_axes: bool, scalar: bool, node: Node) -> Result<Node, AllocError>
-    ensures { IfOk result (λ n. only_tree n ≡ cond (scalar && on_axes) (scalar_tree (only_tree node)) (only_tree node)) }
+fn part_node(on_axes: bool, scalar: bool, node: Box<Node>) -> Node
+    ensures { only_tree result ≡ cond (scalar && on_axes) (scalar_tree (boxed_tree node)) (boxed_tree node) }
 {
     if scalar && on_axes {
-        scalar_node(alloc, node)
+        Node::Scalar(node)
     } else {
-        Ok(node)
+        Box::into_inner(node)
     }
 }
 
@@ -140,7 +140,7 @@ fn piece_nodes(alloc: Global, on_axes: bool, list: Vec<Piece>) -> Result<Vec<Nod
 {
     let mut nodes = Vec::new(alloc);
     for piece in list {
-        nodes.push(part_node(alloc, on_axes, piece.scalar, piece.node)?)?;
+        nodes.push(part_node(on_axes, piece.scalar, piece.node))?;
     }
     Ok(nodes)
 }
@@ -166,7 +166,7 @@ pub fn finished<'a>(alloc: Global, pieces: Pieces) -> Result<Shape<'a>, AllocErr
     let on_axes = !is_scalar(domain.axes());
     let labels = piece_labels(alloc, &list)?;
     let nodes = piece_nodes(alloc, on_axes, list)?;
-    let node = record_node(nodes);
+    let node = boxed(alloc, record_node(nodes))?;
     Ok(Shape {
         domain,
         labels: Labels::Listed(labels),

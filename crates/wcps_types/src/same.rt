@@ -1,6 +1,6 @@
 //! Whether trees are the same.
 
-ghost use Rattle.std.specs.Prelude.{◌≡◌, ◌↔◌, ℕ, IfSome, IsTrue, Some, map, option_map, slice_get};
+ghost use Rattle.std.specs.Prelude.{◌≡◌, ◌↔◌, ℕ, IsTrue, map, option_map};
 ghost use Rattle.wcps_types.specs.Typed.{field_tree, only_tree, item_view, tree_view};
 
 use crate::typed::{Node, Tree, TypedItem};
@@ -173,20 +173,8 @@ fn is_same_item(a: &TypedItem, b: &TypedItem) -> bool
 }
 
 /// Whether two trees are the same.
-fn is_same_tree(a: &Tree, b: &Tree) -> bool
+pub fn is_same_tree(a: &Tree, b: &Tree) -> bool
     ensures { IsTrue result → tree_view a.now ≡ tree_view b.now }
 {
     is_same_condition(&a.condition, &b.condition) && is_same_item(&a.item, &b.item)
-}
-
-/// The place of a tree that is the same.
-pub fn place_of_same(trees: &[Tree], made: &Tree) -> Option<usize>
-    ensures { IfSome result (λ k. option_map tree_view (slice_get trees.now k) ≡ Some (tree_view made.now)) }
-{
-    for k in 0..trees.len() {
-        if is_same_tree(&trees[k], made) {
-            return Some(k);
-        }
-    }
-    None
 }

@@ -1,7 +1,7 @@
 //! What an expression is found to be: a domain, the name and the kind of each field, and the node that gives them.
 
 ghost use Rattle.std.specs.Prelude.{◌≡◌, []};
-ghost use Rattle.wcps_types.specs.Typed.{only_tree};
+ghost use Rattle.wcps_types.specs.Typed.{boxed_tree};
 ghost use Rattle.wcps_types.specs.Labels.{labels_in};
 ghost use Rattle.wcps_types.specs.Shapes.{Says, shape_view, labels_view, field_of_view, scalar_of_view, is_scalar, unnamed, only_field, only_scalar};
 
@@ -17,7 +17,7 @@ use std::alloc::Global;
 pub struct Shape<'a> {
     pub domain: Domain,
     pub labels: Labels<'a>,
-    pub node: Node,
+    pub node: Box<Node>,
 }
 
 /// A shape with one field, whose name no longer matters.
@@ -25,14 +25,14 @@ pub struct Shape<'a> {
 pub struct OneField {
     pub domain: Domain,
     pub boolean: bool,
-    pub node: Node,
+    pub node: Box<Node>,
 }
 
 /// A scalar with one field.
 #[derive(Debug, Drop)]
 pub struct OneScalar {
     pub boolean: bool,
-    pub node: Node,
+    pub node: Box<Node>,
 }
 
 /// The domain without axes.
@@ -56,8 +56,8 @@ pub fn is_scalar(axes: &[Axis]) -> bool
 }
 
 /// A shape with one unnamed field.
-pub fn unnamed<'a>(domain: Domain, boolean: bool, node: Node) -> Shape<'a>
-    ensures { shape_view result ≡ unnamed domain boolean (only_tree node) }
+pub fn unnamed<'a>(domain: Domain, boolean: bool, node: Box<Node>) -> Shape<'a>
+    ensures { shape_view result ≡ unnamed domain boolean (boxed_tree node) }
 {
     Shape {
         domain,
@@ -67,8 +67,8 @@ pub fn unnamed<'a>(domain: Domain, boolean: bool, node: Node) -> Shape<'a>
 }
 
 /// A scalar with one unnamed field.
-pub fn unnamed_scalar<'a>(alloc: Global, boolean: bool, node: Node) -> Shape<'a>
-    ensures { shape_view result ≡ unnamed [] boolean (only_tree node) }
+pub fn unnamed_scalar<'a>(alloc: Global, boolean: bool, node: Box<Node>) -> Shape<'a>
+    ensures { shape_view result ≡ unnamed [] boolean (boxed_tree node) }
 {
     unnamed(no_axes(alloc), boolean, node)
 }
@@ -76,7 +76,7 @@ pub fn unnamed_scalar<'a>(alloc: Global, boolean: bool, node: Node) -> Shape<'a>
 /// The only field of a shape.
 #[tactic(auto, using(crate::proofs::Fields::one_field))]
 pub fn only_field(shape: Shape) -> Result<OneField, CheckError>
-    ensures { Says field_of_view result (only_field shape.entry.domain (labels_view shape.entry.node 0 (labels_in shape.entry.labels))) }
+    ensures { Says field_of_view result (only_field shape.entry.domain (labels_view shape.entry.node.value 0 (labels_in shape.entry.labels))) }
 {
     let Shape {
         domain,

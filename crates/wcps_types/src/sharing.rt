@@ -1,18 +1,16 @@
 //! Combinations of coverages with the same domains and fields have one tree.
 
-ghost use Rattle.std.specs.Prelude.{◌≡◌, ◌<◌, ◌↔◌, [], ◌++◌, length, IfOk, IfSome, IsTrue, List, Ok, slice_get};
-ghost use Rattle.wcps_text.specs.Tree.{QueryTree};
-ghost use Rattle.wcps_types.specs.declared.typed.Tree.{Tree};
-ghost use Rattle.wcps_types.specs.Renamed.{over};
-ghost use Rattle.wcps_types.specs.Queries.{typ_combination};
+ghost use Rattle.std.specs.Prelude.{◌≡◌, ◌↔◌, [], ◌++◌, IfOk, IfSome, IsSomeAnd, IsTrue, map, slice_get};
+ghost use Rattle.wcps_types.specs.Bindings.{choice_view};
 ghost use Rattle.wcps_types.specs.Variables.{signatures_in};
-ghost use Rattle.wcps_types.specs.Sharing.{own, coverages_in, with_signature, signatures_at, AreLike, AlikeAt, Alike, AreMade};
+ghost use Rattle.wcps_types.specs.Sharing.{own_choices, coverages_in, with_signature, signatures_at, AreLike, AlikeAt, Alike};
 
+use crate::bindings::Choice;
+use crate::bound::{Variables, with_variable};
 use crate::names::Bound;
-use crate::typed_query::Combination;
+use crate::typed_query::Maker;
 use arr_core::{Field, Signature};
 use std::alloc::{AllocError, Global};
-use wcps_text::QueryName;
 
 /// Whether two fields have the same name and type.
 fn is_same_field(a: &Field, b: &Field) -> bool
@@ -74,24 +72,16 @@ fn are_alike(coverages: &[Signature], bound: &[Bound], places: &[usize]) -> bool
     }
 }
 
-/// The place of the tree of a maker whose coverages are like those of a combination.
-pub fn tree_of_like(
-    coverages: &[Signature],
-    makers: &[Combination],
-    bound: &[Bound],
-) -> Option<usize>
-    ensures typed { (q : QueryTree) (trees : List Tree) → AreMade coverages.now q (own 0 bound.now) trees makers.now → IfSome result (λ t. typ_combination coverages.now q bound.now ≡ Ok (over (coverages_in bound.now) (slice_get trees t))) }
-    ensures inside { (q : QueryTree) (trees : List Tree) → AreMade coverages.now q (own 0 bound.now) trees makers.now → IfSome result (λ t. t < length trees) }
+/// The place of a maker whose coverages are like those of a combination.
+pub fn place_of_like(coverages: &[Signature], makers: &[Maker], bound: &[Bound]) -> Option<usize>
+    ensures { IfSome result (λ k. IsSomeAnd (slice_get makers.now k) (λ m. Alike coverages.now (coverages_in bound.now) m.coverages.items)) }
 {
-    match makers {
-        [] => None,
-        [maker, more @ ..] => {
-            if are_alike(coverages, bound, &maker.coverages) {
-                return Some(maker.tree);
-            }
-            tree_of_like(coverages, more, bound)
+    for place in 0..makers.len() {
+        if are_alike(coverages, bound, &makers[place].coverages) {
+            return Some(place);
         }
     }
+    None
 }
 
 /// Signatures, and after them that of the coverage at a place, if it is there.
@@ -112,30 +102,29 @@ fn with_signature<'a>(
     }
 }
 
-/// The signatures of the coverages of a combination, each for one variable.
-pub fn signatures_of<'a>(
+/// The signatures of the coverages at those places, each for one variable.
+pub fn signatures_at<'a>(
     alloc: Global,
     coverages: &'a [Signature],
-    bound: &[Bound],
+    places: &[usize],
 ) -> Result<Vec<&'a Signature>, AllocError>
-    ensures { IfOk result (λ v. signatures_in v.items ≡ signatures_at coverages.now (coverages_in bound.now)) }
+    ensures { IfOk result (λ v. signatures_in v.items ≡ signatures_at coverages.now places.now) }
 {
     let mut signatures = Vec::new(alloc);
-    for b in bound {
-        signatures = with_signature(coverages, b.coverage, signatures)?;
+    for place in places {
+        signatures = with_signature(coverages, *place, signatures)?;
     }
     Ok(signatures)
 }
 
-/// The variables of a combination, each with a coverage of its own.
-pub fn own_variables(alloc: Global, bound: &[Bound]) -> Result<Vec<Bound>, AllocError>
-    ensures { IfOk result (λ v. v.items ≡ own 0 bound.now) }
+/// The variables, each with a coverage of its own.
+pub fn own_variables(alloc: Global, choices: &[Choice]) -> Result<Variables, AllocError>
+    ensures { IfOk result (λ v. v.list.items ≡ own_choices 0 (map choice_view choices.now)) }
 {
-    let mut variables = Vec::new(alloc);
-    for b in bound {
-        let variable = QueryName::new(alloc, b.variable.as_str())?;
-        let coverage = variables.len();
-        variables.push(Bound { variable, coverage })?;
+    let mut variables = Variables::new(alloc);
+    for choice in choices {
+        let coverage = variables.list.len();
+        variables = with_variable(alloc, variables, &choice.variable, coverage)?;
     }
     Ok(variables)
 }

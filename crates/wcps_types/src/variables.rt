@@ -7,8 +7,9 @@ ghost use Rattle.wcps_types.specs.Labels.{labels_in};
 ghost use Rattle.wcps_types.specs.Shapes.{Says, shape_view, labels_view};
 ghost use Rattle.wcps_types.specs.Variables.{signatures_in, cells_from, coverage_at, bound_at, variable};
 
+use crate::bound::Variables;
 use crate::labels::Labels;
-use crate::names::{Bound, bound_place};
+use crate::nodes::boxed;
 use crate::refusal::{CheckError, TypeRefusal};
 use crate::scope::Scope;
 use crate::shape::{Shape, unnamed_scalar};
@@ -38,10 +39,11 @@ fn coverage_shape<'a>(
         Some(coverage) => {
             let domain = coverage.domain.copy(alloc)?;
             let labels = coverage_labels(place, coverage.fields.as_slice());
+            let node = boxed(alloc, Node::Coverage(place))?;
             Ok(Shape {
                 domain,
                 labels,
-                node: Node::Coverage(place),
+                node,
             })
         }
     }
@@ -51,12 +53,12 @@ fn coverage_shape<'a>(
 fn bound_shape<'a>(
     alloc: Global,
     coverages: &[&'a Signature],
-    bound: &[Bound],
+    bound: &Variables,
     place: usize,
 ) -> Result<Shape<'a>, CheckError>
-    ensures { Says shape_view result (bound_at (signatures_in coverages.now) (slice_get bound.now place)) }
+    ensures { Says shape_view result (bound_at (signatures_in coverages.now) (slice_get bound.now.list.items place)) }
 {
-    match bound.get(place) {
+    match bound.list.get(place) {
         None => Err(CheckError::Refused(TypeRefusal::UnknownName)),
         Some(b) => coverage_shape(alloc, coverages, b.coverage),
     }
@@ -66,15 +68,18 @@ fn bound_shape<'a>(
 pub fn variable<'a>(
     alloc: Global,
     coverages: &[&'a Signature],
-    bound: &[Bound],
+    bound: &Variables,
     scope: &Scope,
     name: &QueryName,
 ) -> Result<Shape<'a>, CheckError>
-    ensures { Says shape_view result (variable (signatures_in coverages.now) bound.now (names_in scope.now.frames) name.now) }
+    ensures { Says shape_view result (variable (signatures_in coverages.now) bound.now.list.items (names_in scope.now.frames) name.now) }
 {
     match scope.place(name) {
-        Some(level) => Ok(unnamed_scalar(alloc, false, Node::Iterator(level))),
-        None => match bound_place(bound, name) {
+        Some(level) => {
+            let node = boxed(alloc, Node::Iterator(level))?;
+            Ok(unnamed_scalar(alloc, false, node))
+        }
+        None => match bound.place(name) {
             None => Err(CheckError::Refused(TypeRefusal::UnknownName)),
             Some(place) => bound_shape(alloc, coverages, bound, place),
         },

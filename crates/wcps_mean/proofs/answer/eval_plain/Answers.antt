@@ -2,6 +2,7 @@
 use Rattle.std.proofs.Common.{◌<◌, ◌≤◌, ◌∙◌, ap, sym, subst, arith, length, map, get_or, Ok}
 use Rattle.std.proofs.lemmas.Result.{err_from_is_err_and}
 use Rattle.wcps_types.specs.Renamed.{combination_view}
+use Rattle.wcps_types.specs.TypedQueries.{trees_in}
 use Rattle.wcps_types.specs.Cells.{result_cells, max_cells}
 use Rattle.wcps_mean.specs.Answer.{combination_answer, joined}
 use Rattle.wcps_mean.proofs.FewCells.{few_in_one}
@@ -14,15 +15,14 @@ returns-in_err-push_combination-clause-fault g c =
     let inv = c.loop-combination.invariant in
     let s = g.C.Cells.cells c.args.cells.now in
     let all = c.args.query.now.combinations.items in
-    let view = combination_view c.trees-trees.result.now in
+    let view = combination_view (trees_in c.args.query.now) in
     let x = c.combination-item.result in
-    let is = c.combination-item.is ∙ ap (λ l. get_or l c.loop-combination.combination-index x) c.combinations-combination-items.ensures.value in
-    let lt : c.loop-combination.combination-index < length c.args.query.now.combinations.items = omega (arith, ap length c.combinations-combination-items.ensures.value) in
+    let is = c.combination-item.is ∙ ap (λ l. get_or l c.loop-combination.combination-index x) c.combinations-combination-items.ensures in
+    let lt : c.loop-combination.combination-index < length c.args.query.now.combinations.items = omega (arith, ap length c.combinations-combination-items.ensures) in
     let same = ap (λ s. combination_answer s (view x)) inv.same in
     let p = err_from_is_err_and c.from_residual.result c.from_residual.ensures.1 in
     rw (p.1, p.2) (λ h. tells-on _ _ _
-    (λ f e. ap (λ trees. joined (map (combination_answer s) (map (combination_view trees) all))) (sym c.trees-trees.ensures)
-    ∙ ap joined (map-map (combination_answer s) view all)
+    (λ f e. ap joined (map-map (combination_answer s) view all)
     ∙ turn-stop (λ t. combination_answer s (view t)) all c.loop-combination.combination-index x x c.loop-combination.items.items f lt is (inv.pushed h) (sym same ∙ e))
     (c.in_err-push_combination.ensures.fault (inv.intact h)))
 
@@ -31,10 +31,10 @@ loop-combination-preserved g c =
     let inv = c.loop-combination.invariant in
     let s = g.C.Cells.cells c.args.cells.now in
     let all = c.args.query.now.combinations.items in
-    let view = combination_view c.trees-trees.result.now in
+    let view = combination_view (trees_in c.args.query.now) in
     let x = c.combination-item.result in
-    let is = c.combination-item.is ∙ ap (λ l. get_or l c.loop-combination.combination-index x) c.combinations-combination-items.ensures.value in
-    let lt : c.loop-combination.combination-index < length c.args.query.now.combinations.items = omega (arith, ap length c.combinations-combination-items.ensures.value) in
+    let is = c.combination-item.is ∙ ap (λ l. get_or l c.loop-combination.combination-index x) c.combinations-combination-items.ensures in
+    let lt : c.loop-combination.combination-index < length c.args.query.now.combinations.items = omega (arith, ap length c.combinations-combination-items.ensures) in
     let same = ap (λ s. combination_answer s (view x)) inv.same in
     record {
       same = c.in_ok-push_combination.ensures.same ∙ inv.same;
@@ -50,10 +50,9 @@ returns-clause-items g c h =
     let inv = c.loop-combination.invariant in
     let s = g.C.Cells.cells c.args.cells.now in
     let all = c.args.query.now.combinations.items in
-    let view = combination_view c.trees-trees.result.now in
-    ap (λ trees. joined (map (combination_answer s) (map (combination_view trees) all))) (sym c.trees-trees.ensures)
-    ∙ ap joined (map-map (combination_answer s) view all)
-    ∙ sym (turns-all (λ t. combination_answer s (view t)) all c.loop-combination.combination-index (omega (arith, ap length c.combinations-combination-items.ensures.value)))
+    let view = combination_view (trees_in c.args.query.now) in
+    ap joined (map-map (combination_answer s) view all)
+    ∙ sym (turns-all (λ t. combination_answer s (view t)) all c.loop-combination.combination-index (omega (arith, ap length c.combinations-combination-items.ensures)))
     ∙ inv.pushed h
 
 pub returns-in_err-push_combination-clause-reports : goal.returns-in_err-push_combination-clause-reports
@@ -65,8 +64,8 @@ returns-in_err-push_combination-clause-reports g c =
 pub push_combination-requires : goal.push_combination-requires
 push_combination-requires g c =
     let all = c.args.query.now.combinations.items in
-    let view = combination_view c.trees-trees.result.now in
+    let view = combination_view (trees_in c.args.query.now) in
     let x = c.combination-item.result in
-    let is = c.combination-item.is ∙ ap (λ l. get_or l c.loop-combination.combination-index x) c.combinations-combination-items.ensures.value in
-    let lt : c.loop-combination.combination-index < length all = omega (arith, ap length c.combinations-combination-items.ensures.value) in
-    record { few_cells = few_in_one view all c.loop-combination.combination-index x max_cells lt is (subst (λ trees. result_cells (map (combination_view trees) all) ≤ max_cells) (sym c.trees-trees.ensures) c.args.query.now.few_cells) }
+    let is = c.combination-item.is ∙ ap (λ l. get_or l c.loop-combination.combination-index x) c.combinations-combination-items.ensures in
+    let lt : c.loop-combination.combination-index < length all = omega (arith, ap length c.combinations-combination-items.ensures) in
+    record { few_cells = few_in_one view all c.loop-combination.combination-index x max_cells lt is c.args.query.now.few_cells }

@@ -65,15 +65,15 @@ expression-returns-in_ok-condition-in-Condense t c =
 pub subscripts-returns-in_err-bracket : goal.subscripts-returns-in_err-bracket
 subscripts-returns-in_err-bracket t c =
     let next = drop_sub c.args.subs.now c.loop-sub.sub-index c.sub-item.result c.loop-sub-test.true c.sub-item.is in
-    let inv : typ_subs (signatures_in c.args.coverages.now) c.args.bound.now (names_in c.args.scope.now.frames) (bracket_view c.loop-sub.bracket) (subs_of (drop c.loop-sub.sub-index c.args.subs.now))
-    ≡ typ_subs (signatures_in c.args.coverages.now) c.args.bound.now (names_in c.args.scope.now.frames) (opened c.args.domain) (subs_of c.args.subs.now) = c.loop-sub.invariant in
+    let inv : typ_subs (signatures_in c.args.coverages.now) c.args.bound.now.list.items (names_in c.args.scope.now.frames) (bracket_view c.loop-sub.bracket) (subs_of (drop c.loop-sub.sub-index c.args.subs.now))
+    ≡ typ_subs (signatures_in c.args.coverages.now) c.args.bound.now.list.items (names_in c.args.scope.now.frames) (opened c.args.domain) (subs_of c.args.subs.now) = c.loop-sub.invariant in
     rw (← inv, next) (search rules)
 
 pub subscripts-loop-sub-preserved : goal.subscripts-loop-sub-preserved
 subscripts-loop-sub-preserved t c =
     let next = drop_sub c.args.subs.now c.loop-sub.sub-index c.sub-item.result c.loop-sub-test.true c.sub-item.is in
     let rest = subs_of (drop (c.loop-sub.sub-index + 1) c.args.subs.now) in
-    let step : typ_subs (signatures_in c.args.coverages.now) c.args.bound.now (names_in c.args.scope.now.frames) (bracket_view c.loop-sub.bracket) (sub c.sub-item.result.axis (view_place c.sub-item.result.place) rest)
-    ≡ typ_subs (signatures_in c.args.coverages.now) c.args.bound.now (names_in c.args.scope.now.frames) (bracket_view c.in_ok-bracket.bracket) rest =
-    ap (λ (a : Answer BracketTree). then_of a (λ (b : BracketTree). typ_subs (signatures_in c.args.coverages.now) c.args.bound.now (names_in c.args.scope.now.frames) b rest)) c.in_ok-bracket.ensures in
-    sym step ∙ ap (λ subs. typ_subs (signatures_in c.args.coverages.now) c.args.bound.now (names_in c.args.scope.now.frames) (bracket_view c.loop-sub.bracket) (subs_of subs)) (sym next) ∙ c.loop-sub.invariant
+    let step : typ_subs (signatures_in c.args.coverages.now) c.args.bound.now.list.items (names_in c.args.scope.now.frames) (bracket_view c.loop-sub.bracket) (sub c.sub-item.result.axis (view_place c.sub-item.result.place) rest)
+    ≡ typ_subs (signatures_in c.args.coverages.now) c.args.bound.now.list.items (names_in c.args.scope.now.frames) (bracket_view c.in_ok-bracket.bracket) rest =
+    ap (λ (a : Answer BracketTree). then_of a (λ (b : BracketTree). typ_subs (signatures_in c.args.coverages.now) c.args.bound.now.list.items (names_in c.args.scope.now.frames) b rest)) c.in_ok-bracket.ensures in
+    sym step ∙ ap (λ subs. typ_subs (signatures_in c.args.coverages.now) c.args.bound.now.list.items (names_in c.args.scope.now.frames) (bracket_view c.loop-sub.bracket) (subs_of subs)) (sym next) ∙ c.loop-sub.invariant

@@ -6,6 +6,6 @@ use Rattle.wcps_types.proofs.operators.field_selected.Given as goal
 
 abbrev pub invariant-loop-field : goal.invariant-loop-field
 invariant-loop-field l = record {
-  found : selected l.name l.domain (labels_view l.node 0 (map label_of l.fields)) ≡ selected l.name l.domain (labels_view l.node l.place (map label_of (drop l.field-index l.fields)));
+  found : selected l.name l.domain (labels_view l.node.value 0 (map label_of l.fields)) ≡ selected l.name l.domain (labels_view l.node.value l.place (map label_of (drop l.field-index l.fields)));
   counted : l.place ≡ l.field-index;
 }

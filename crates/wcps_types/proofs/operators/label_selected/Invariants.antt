@@ -6,6 +6,6 @@ use Rattle.wcps_types.proofs.operators.label_selected.Given as goal
 
 abbrev pub invariant-loop-label : goal.invariant-loop-label
 invariant-loop-label l = record {
-  found : selected l.name l.domain (labels_view l.node 0 l.fn.labels.items) ≡ selected l.name l.domain (labels_view l.node l.place (into_iter_items l.label-iterator));
+  found : selected l.name l.domain (labels_view l.node.value 0 l.fn.labels.items) ≡ selected l.name l.domain (labels_view l.node.value l.place (into_iter_items l.label-iterator));
   counted : l.place + length (into_iter_items l.label-iterator) ≡ length l.fn.labels.items;
 }

@@ -2,14 +2,15 @@ use Rattle.std.proofs.Common.{◌≡◌, [], map, drop, length}
 use Rattle.wcps_text.specs.Tree.{query_view}
 use Rattle.wcps_types.specs.Renamed.{combination_view}
 use Rattle.wcps_types.specs.Bindings.{choice_view, combinations}
-use Rattle.wcps_types.specs.Sharing.{own_choices, HaveTrees, AreMade}
+use Rattle.wcps_types.specs.Sharing.{HaveTrees, AreMade, IsLatest, trees_of}
 use Rattle.wcps_types.specs.Queries.{typ_each}
 use Rattle.wcps_types.proofs.query.each_combination.Given as goal
 
 abbrev pub invariant-loop-number : goal.invariant-loop-number
 invariant-loop-number l = record {
-  made : AreMade l.coverages (query_view l.query) (own_choices 0 (map choice_view l.choices)) l.trees.items l.makers.items;
-  there : HaveTrees (length l.trees.items) l.combinations.items;
-  each : typ_each l.coverages (query_view l.query) (map (combination_view l.trees.items) l.combinations.items) (drop l.number (combinations (map choice_view l.choices)))
-      ≡ typ_each l.coverages (query_view l.query) [] (combinations (map choice_view l.choices));
+  made : AreMade l.source.coverages.now (query_view l.source.query.now) l.source.variables.now.list.items l.making.makers.items;
+  latest : IsLatest (trees_of l.source.coverages.now (query_view l.source.query.now) l.source.variables.now.list.items l.making.makers.items) l.making.latest;
+  there : HaveTrees (length (trees_of l.source.coverages.now (query_view l.source.query.now) l.source.variables.now.list.items l.making.makers.items)) l.combinations.items;
+  each : typ_each l.source.coverages.now (query_view l.source.query.now) (map (combination_view (trees_of l.source.coverages.now (query_view l.source.query.now) l.source.variables.now.list.items l.making.makers.items)) l.combinations.items) (drop l.number (combinations (map choice_view l.choices)))
+      ≡ typ_each l.source.coverages.now (query_view l.source.query.now) [] (combinations (map choice_view l.choices));
 }

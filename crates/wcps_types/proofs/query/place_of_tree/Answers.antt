@@ -1,44 +1,94 @@
--- The tree at the place that is given is what the combination comes to, and each maker still has its own.
-use Rattle.std.proofs.Common.{◌≡◌, ◌∷◌, ◌++◌, [], rules, subst, ap, ◌∙◌, sym}
-use Rattle.std.specs.Prelude.{Ok, slice_get}
+-- A maker that is like the combination has its tree, a tree like the last one is that one, and any other is put last.
+use Rattle.std.proofs.Common.{rules, ◌≡◌, ◌<◌, length, ap, sym, subst, ◌∙◌, arith}
+use Rattle.std.specs.Prelude.{Ok, Err, Some, IsSomeAnd, slice_get}
+use Rattle.std.proofs.lemmas.List.{length-map}
+use Rattle.std.proofs.lemmas.Result.{err_from_is_err_and}
 use Rattle.wcps_text.specs.Tree.{query_view}
-use Rattle.wcps_types.specs.declared.typed_query.Combination.{Combination}
-use Rattle.wcps_types.specs.Sharing.{own, coverages_in, HasTree, AreMade}
-use Rattle.wcps_types.proofs.LikeTrees.{over-same, has-same, made_inside, made-grown, made-last}
+use Rattle.wcps_types.specs.declared.typed_query.Maker.{Maker}
+use Rattle.wcps_types.specs.Typed.{tree_view}
+use Rattle.wcps_types.specs.Renamed.{over, renamed_combination}
+use Rattle.wcps_types.specs.Sharing.{coverages_in, Alike, maker_of, tree_of, trees_of, typed_over}
+use Rattle.wcps_types.specs.Shapes.{Says}
+use Rattle.wcps_types.specs.Queries.{typ_combination}
+use Rattle.wcps_types.proofs.LikeTrees.{like-of, like-inside, says-over, some-inside, tree-put, made-put, grows-put}
 use Rattle.wcps_types.proofs.query.place_of_tree.Goals as goal
+
+pub returns-in-Some-clause-said : goal.returns-in-Some-clause-said
+returns-in-Some-clause-said c =
+    let s = c.args.source.now in
+    let k = c.in-Some.place in
+    let like : IsSomeAnd (slice_get c.args.making.now.makers.items k) (λ (m : Maker). Alike s.coverages.now (coverages_in c.args.bound.now) m.coverages.items) =
+    subst (λ ms. IsSomeAnd (slice_get ms k) (λ (m : Maker). Alike s.coverages.now (coverages_in c.args.bound.now) m.coverages.items)) c.deref.ensures.value c.in-Some.ensures in
+    like-of s.coverages.now (query_view s.query.now) c.args.bound.now s.variables.now.list.items c.args.making.now.makers.items k c.requires.own c.requires.made like
 
 pub returns-in-Some-clause-inside : goal.returns-in-Some-clause-inside
 returns-in-Some-clause-inside c =
-    let q = query_view c.args.query.now in
-    c.in-Some.ensures.inside q c.args.trees.now.items (subst (AreMade c.args.coverages.now q (own 0 c.args.bound.now) c.args.trees.now.items) (sym c.deref.ensures.value) c.requires.made)
+    let inside : c.in-Some.place < length c.deref.result.now = like-inside _ c.deref.result.now c.in-Some.place c.in-Some.ensures in
+    omega (arith, inside, ap length c.deref.ensures.value)
+
+pub returns-in_err-tree-clause-said : goal.returns-in_err-tree-clause-said
+returns-in_err-tree-clause-said c =
+    let s = c.args.source.now in
+    let bound = c.args.bound.now in
+    let places : c.in_ok-coverages.coverages.items ≡ coverages_in bound = search rules in
+    let says = says-over s.coverages.now (query_view s.query.now) bound s.variables.now.list.items c.in_ok-coverages.coverages.items c.requires.own places c.requires.there (Err c.in_err-tree.field-0.0) (subst (λ ps. Says tree_view (Err c.in_err-tree.field-0.0) (typed_over s.coverages.now (query_view s.query.now) s.variables.now.list.items ps)) c.deref-2.ensures.value c.in_err-tree.ensures) in
+    let p = err_from_is_err_and c.from_residual-in_err-tree.result c.from_residual-in_err-tree.ensures.1 in
+    rw (p.1, p.2) says
+
+pub returns-in-Some-place_of_same-clause-said : goal.returns-in-Some-place_of_same-clause-said
+returns-in-Some-place_of_same-clause-said c =
+    let s = c.args.source.now in
+    let typed : typed_over s.coverages.now (query_view s.query.now) s.variables.now.list.items c.in_ok-coverages.coverages.items ≡ Ok (tree_view c.in_ok-tree.tree) =
+    subst (λ ps. typed_over s.coverages.now (query_view s.query.now) s.variables.now.list.items ps ≡ Ok (tree_view c.in_ok-tree.tree)) c.deref-2.ensures.value c.in_ok-tree.ensures in
+    let bound = c.args.bound.now in
+    let cs = s.coverages.now in
+    let q = query_view s.query.now in
+    let trees = trees_of cs q s.variables.now.list.items c.args.making.now.makers.items in
+    let places : c.in_ok-coverages.coverages.items ≡ coverages_in bound = search rules in
+    let said : typ_combination cs q bound ≡ Ok (renamed_combination (coverages_in bound) (tree_view c.in_ok-tree.tree)) =
+    says-over cs q bound s.variables.now.list.items c.in_ok-coverages.coverages.items c.requires.own places c.requires.there (Ok c.in_ok-tree.tree) typed in
+    let at : slice_get trees c.in-Some-place_of_same.place ≡ Some (tree_view c.in_ok-tree.tree) = c.in-Some-place_of_same.ensures trees c.requires.latest in
+    said ∙ ap (λ o. Ok (over (coverages_in bound) o)) (sym at)
+
+pub returns-in-Some-place_of_same-clause-inside : goal.returns-in-Some-place_of_same-clause-inside
+returns-in-Some-place_of_same-clause-inside c =
+    let s = c.args.source.now in
+    let makers = c.args.making.now.makers.items in
+    let trees = trees_of s.coverages.now (query_view s.query.now) s.variables.now.list.items makers in
+    let at : slice_get trees c.in-Some-place_of_same.place ≡ Some (tree_view c.in_ok-tree.tree) = c.in-Some-place_of_same.ensures trees c.requires.latest in
+    omega (arith, some-inside trees c.in-Some-place_of_same.place (tree_view c.in_ok-tree.tree) at, length-map makers (tree_of s.coverages.now (query_view s.query.now) s.variables.now.list.items))
 
 pub returns-clause-said : goal.returns-clause-said
 returns-clause-said c =
-    c.in_ok-made.ensures.said ∙ ap Ok (sym (over-same (coverages_in c.args.bound.now) (slice_get c.kept.new.trees.items c.in_ok-tree.tree) c.in_ok-made.made c.in_ok-tree.ensures.same))
-
-pub returns-clause-inside : goal.returns-clause-inside
-returns-clause-inside c =
-    let q = query_view c.args.query.now in
-    let places = coverages_in c.args.bound.now in
-    let own_ones = own 0 c.args.bound.now in
-    let new = c.kept.new.trees.items in
-    let x : Combination = record { tree = c.in_ok-tree.tree; coverages = c.in_ok-coverages.coverages } in
-    let is : c.in_ok-coverages.coverages.items ≡ places = search rules in
-    let has : HasTree c.args.coverages.now q own_ones places (slice_get new c.in_ok-tree.tree) =
-    has-same c.args.coverages.now q own_ones places (slice_get new c.in_ok-tree.tree) c.in_ok-made.made c.in_ok-tree.ensures.same c.in_ok-made.ensures.made in
-    made_inside c.args.coverages.now q own_ones new x (subst (λ ps. HasTree c.args.coverages.now q own_ones ps (slice_get new c.in_ok-tree.tree)) (sym is) has)
+    let s = c.args.source.now in
+    let typed : typed_over s.coverages.now (query_view s.query.now) s.variables.now.list.items c.in_ok-coverages.coverages.items ≡ Ok (tree_view c.in_ok-tree.tree) =
+    subst (λ ps. typed_over s.coverages.now (query_view s.query.now) s.variables.now.list.items ps ≡ Ok (tree_view c.in_ok-tree.tree)) c.deref-2.ensures.value c.in_ok-tree.ensures in
+    let bound = c.args.bound.now in
+    let cs = s.coverages.now in
+    let q = query_view s.query.now in
+    let t = tree_view c.in_ok-tree.tree in
+    let places : c.in_ok-coverages.coverages.items ≡ coverages_in bound = search rules in
+    let said : typ_combination cs q bound ≡ Ok (renamed_combination (coverages_in bound) t) =
+    says-over cs q bound s.variables.now.list.items c.in_ok-coverages.coverages.items c.requires.own places c.requires.there (Ok c.in_ok-tree.tree) typed in
+    let at : slice_get (trees_of cs q s.variables.now.list.items c.put_maker.new.making.makers.items) c.in_ok-place.place ≡ Some t =
+    rw (c.in_ok-place.ensures.put, c.in_ok-place.ensures.place) (tree-put cs q s.variables.now.list.items c.args.making.now.makers.items c.in_ok-coverages.coverages t typed) in
+    said ∙ ap (λ o. Ok (over (coverages_in bound) o)) (sym at)
 
 pub returns-clause-made : goal.returns-clause-made
 returns-clause-made c =
-    let cs = c.args.coverages.now in
-    let q = query_view c.args.query.now in
-    let own_ones = own 0 c.args.bound.now in
-    let places = coverages_in c.args.bound.now in
-    let old = c.args.trees.now.items in
-    let new = c.kept.new.trees.items in
-    let x : Combination = record { tree = c.in_ok-tree.tree; coverages = c.in_ok-coverages.coverages } in
-    let put : c.push.new.self.items ≡ c.args.makers.now.items ++ x ∷ [] = search rules in
-    let is : c.in_ok-coverages.coverages.items ≡ places = search rules in
-    let has : HasTree cs q own_ones places (slice_get new x.tree) = has-same cs q own_ones places (slice_get new x.tree) c.in_ok-made.made c.in_ok-tree.ensures.same c.in_ok-made.ensures.made in
-    let here : HasTree cs q own_ones x.coverages.items (slice_get new x.tree) = subst (λ ps. HasTree cs q own_ones ps (slice_get new x.tree)) (sym is) has in
-    subst (AreMade cs q own_ones new) (sym put) (made-last cs q own_ones new c.args.makers.now.items x (made-grown cs q own_ones old new c.args.makers.now.items c.in_ok-tree.ensures.kept c.requires.made) here)
+    let s = c.args.source.now in
+    let typed : typed_over s.coverages.now (query_view s.query.now) s.variables.now.list.items c.in_ok-coverages.coverages.items ≡ Ok (tree_view c.in_ok-tree.tree) =
+    subst (λ ps. typed_over s.coverages.now (query_view s.query.now) s.variables.now.list.items ps ≡ Ok (tree_view c.in_ok-tree.tree)) c.deref-2.ensures.value c.in_ok-tree.ensures in
+    rw (c.in_ok-place.ensures.put) (made-put s.coverages.now (query_view s.query.now) s.variables.now.list.items c.args.making.now.makers.items c.in_ok-coverages.coverages (tree_view c.in_ok-tree.tree) typed c.requires.made)
+
+pub returns-clause-latest : goal.returns-clause-latest
+returns-clause-latest c =
+    let s = c.args.source.now in
+    let typed : typed_over s.coverages.now (query_view s.query.now) s.variables.now.list.items c.in_ok-coverages.coverages.items ≡ Ok (tree_view c.in_ok-tree.tree) =
+    subst (λ ps. typed_over s.coverages.now (query_view s.query.now) s.variables.now.list.items ps ≡ Ok (tree_view c.in_ok-tree.tree)) c.deref-2.ensures.value c.in_ok-tree.ensures in
+    rw (c.in_ok-place.ensures.put, c.in_ok-place.ensures.latest, c.in_ok-place.ensures.place) (tree-put s.coverages.now (query_view s.query.now) s.variables.now.list.items c.args.making.now.makers.items c.in_ok-coverages.coverages (tree_view c.in_ok-tree.tree) typed)
+
+pub returns-clause-kept : goal.returns-clause-kept
+returns-clause-kept c =
+    let s = c.args.source.now in
+    rw (c.in_ok-place.ensures.put) (grows-put s.coverages.now (query_view s.query.now) s.variables.now.list.items c.args.making.now.makers.items (maker_of c.in_ok-coverages.coverages (tree_view c.in_ok-tree.tree)))

@@ -1,0 +1,18 @@
+-- The cells of a combination are what the maker of its tree tells.
+use Rattle.std.proofs.Common.{rules, ◌≡◌, ap, sym, ◌∙◌}
+use Rattle.std.specs.Prelude.{slice_get, Some, None}
+use Rattle.std.proofs.lemmas.Option.{slice_get_read, slice_get_past}
+use Rattle.wcps_types.proofs.SharedEfforts.{cells_told, told_cells}
+use Rattle.wcps_types.proofs.cells.combination_cells.Goals as goal
+
+pub returns-in-None : goal.returns-in-None
+returns-in-None c trees counted =
+    let x = c.args.combination.now in
+    let none : slice_get c.args.makers.now x.tree ≡ None = search (rules, slice_get_past) in
+    sym (ap cells_told none) ∙ told_cells trees c.args.makers.now x.coverages.items x.tree counted
+
+pub returns-in-Some : goal.returns-in-Some
+returns-in-Some c trees counted =
+    let x = c.args.combination.now in
+    let got : slice_get c.args.makers.now x.tree ≡ Some c.in-Some.maker.now = search (rules, slice_get_read) in
+    sym (ap cells_told got) ∙ told_cells trees c.args.makers.now x.coverages.items x.tree counted
