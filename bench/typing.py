@@ -40,11 +40,16 @@ def parts(value, count):
     return "{" + ";".join(f"{letters(n)}:{value}" for n in range(count)) + "}"
 
 
-def within(binders, item):
+def alike(number):
+    """A name of four bytes for each of 260 iterators, all of which end in the same one."""
+    return f"${'abcdefghijklmnopqrstuvwxyz'[number % 26]}{number // 26}z"
+
+
+def within(binders, item, named=lambda number: f"$i{number}"):
     """An item in the scope of four iterators a condenser, $i0 and so on."""
     scope = ""
     for place in range(binders):
-        iterators = ",".join(f"$i{4 * place + number} {axis}(0:0)" for number, axis in enumerate("abcd"))
+        iterators = ",".join(f"{named(4 * place + number)} {axis}(0:0)" for number, axis in enumerate("abcd"))
         scope += f"condense + over {iterators} using "
     return scope + item
 
@@ -64,6 +69,7 @@ def fitted(make):
 LAI = ["lai"] * 64
 UNLIKE = [f"u{n}" for n in range(64)]
 WIDE = [f"w{n}" for n in range(64)]
+LONG = [f"l{n}" for n in range(64)]
 ROWS = [
     ("nothing", ""),
     ("700 parts at a position of 1,400 zeros, 64 times", over(LAI, parts("c", 700) + f"[x({balanced('0', 1400)})]")),
@@ -84,6 +90,8 @@ ROWS = [
     ),
     ("a sum of zeros at a position, 64 unlike", fitted(lambda n: over(UNLIKE, f"c[x({balanced('0', n)})]"))),
     ("cells and zeros on axes, 64 unlike", fitted(lambda n: over(UNLIKE, balanced("(c[x(0)]" + "+0" * 26 + ")", n)))),
+    ("a sum of cells, 64 unlike", fitted(lambda n: over(UNLIKE, balanced("c", n)))),
+    ("a sum of cells over four long axes, 64 unlike", fitted(lambda n: over(LONG, balanced("c", n)))),
     ("cells under minus signs, 64 unlike", fitted(lambda n: over(UNLIKE, balanced("(" + "-" * 26 + "c[x(0)])", n)))),
     ("a sum of reductions, 64 unlike", fitted(lambda n: over(UNLIKE, balanced("add(c)", n)))),
     (
@@ -96,6 +104,10 @@ ROWS = [
     ("fields of 64, 64 unlike", fitted(lambda n: over(WIDE, balanced("c.f63", n)))),
     ("fields of 64 at positions, 64 unlike", fitted(lambda n: over(WIDE, balanced("c[x(0)].f63", n)))),
     ("120 iterators and a sum of the last, 64 unlike", fitted(lambda n: over(UNLIKE, within(30, balanced("$i119", n))))),
+    (
+        "120 iterators named alike and a sum of the last, 64 unlike",
+        fitted(lambda n: over(UNLIKE, within(30, balanced(alike(119), n), alike))),
+    ),
     ("104 iterators and cells at the last, 64 unlike", fitted(lambda n: over(UNLIKE, within(26, balanced("c[x($i103),y(0)]", n))))),
     (
         "256 condensers, most within 120 iterators, 64 unlike",
@@ -120,10 +132,10 @@ def measured(text):
 
 
 def main():
-    print(f"{'query':50} {'found':22} {'bytes':>7} {'seconds':>9} {'MiB':>8}")
+    print(f"{'query':58} {'found':22} {'bytes':>7} {'seconds':>9} {'MiB':>8}")
     for name, text in ROWS:
         taken, memory, found = measured(text)
-        print(f"{name:50} {found:22} {len(text):7} {taken:9.3f} {memory:8.1f}")
+        print(f"{name:58} {found:22} {len(text):7} {taken:9.3f} {memory:8.1f}")
 
 
 main()

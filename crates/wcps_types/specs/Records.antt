@@ -6,7 +6,8 @@ use Rattle.arr_core.specs.declared.domain.Axis.{Axis}
 use Rattle.wcps_types.specs.declared.refusal.TypeRefusal.TheVariants.{DomainMismatch}
 use Rattle.wcps_types.specs.declared.records.Piece.{Piece}
 use Rattle.wcps_types.specs.declared.pieces.Pieces.{Pieces}
-use Rattle.wcps_types.specs.Typed.{Typed, scalar, boxed_tree}
+use Rattle.wcps_types.specs.declared.pieces.NextPiece.{NextPiece}
+use Rattle.wcps_types.specs.Typed.{Typed, scalar, only_tree}
 use Rattle.wcps_types.specs.Shapes.{SlotTree, ShapeTree, FieldOf, Answer, is_scalar}
 use Rattle.wcps_types.specs.Operators.{are_same}
 
@@ -23,10 +24,14 @@ pub record PieceTrees : Type 0 where
   pub pieces : List PieceTree
 
 abbrev pub piece_view : Piece → PieceTree
-piece_view p = record { name = p.name; on_no_axes = p.scalar; boolean = p.boolean; tree = boxed_tree p.node }
+piece_view p = record { name = p.name; on_no_axes = p.scalar; boolean = p.boolean; tree = only_tree p.node }
 
 abbrev pub pieces_view : Pieces → PieceTrees
 pieces_view p = record { domain = p.domain; pieces = map piece_view p.list.items }
+
+-- the parts before the next one
+abbrev pub before_next : NextPiece → PieceTrees
+before_next n = record { domain = n.domain; pieces = map piece_view n.list.items }
 
 -- no part yet
 abbrev pub no_pieces : PieceTrees

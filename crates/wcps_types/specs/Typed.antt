@@ -50,10 +50,10 @@ abbrev mutual
   field_tree (nodes.Bracket' p e) f = bracket (field_tree e f)
   field_tree (nodes.Slice' p e axis lo hi q i) f = slice (field_tree e f) axis lo hi (field_tree i 0)
   field_tree (nodes.Array' p e) f = array (field_tree e 0)
-  field_tree (nodes.List box items) f = listed box items.items
-  field_tree (nodes.Condense' op box p e) f = condense op box (field_tree e 0)
-  field_tree (nodes.CondenseWhere' op box p c q e) f = condense_where op box (field_tree c 0) (field_tree e 0)
-  field_tree (nodes.Reduce' op box p e) f = reduce op box (field_tree e 0)
+  field_tree (nodes.List box items) f = listed box.value items.items
+  field_tree (nodes.Condense' op box p e) f = condense op box.value (field_tree e 0)
+  field_tree (nodes.CondenseWhere' op box p c q e) f = condense_where op box.value (field_tree c 0) (field_tree e 0)
+  field_tree (nodes.Reduce' op box p e) f = reduce op box.value (field_tree e 0)
 
   -- the tree of the only field of the part at place f; no typed query asks for a part that is not there
   pub part_tree : {m : _} → Row_of-Node m → ℕ → Typed

@@ -12,7 +12,7 @@ ghost use Rattle.wcps_types.specs.Boxes.{iterators_view, no_iterators, is_taken,
 use crate::bound::Variables;
 use crate::bounds::Bounds;
 use crate::names::name_place;
-use crate::nodes::{array_node, boxed, condense_node};
+use crate::nodes::{array_node, condense_node, list_node};
 use crate::refusal::{CheckError, TypeRefusal};
 use crate::scope::Scope;
 use crate::shape::{OneScalar, Shape, unnamed, unnamed_scalar};
@@ -275,6 +275,6 @@ pub fn value_list<'a>(
     }
     let items = item_numbers(alloc, items)?;
     let own = domain.copy(alloc)?;
-    let node = boxed(alloc, Node::List { domain: own, items })?;
+    let node = list_node(alloc, own, items)?;
     Ok(unnamed(domain, boolean, node))
 }

@@ -29,7 +29,7 @@ use crate::names::axis_place;
 use crate::nodes::boxed;
 use crate::operators::{binary, reduction, selected, unary};
 use crate::pieces::Pieces;
-use crate::records::{finished, is_part, with_part};
+use crate::records::{finished, with_name, with_part};
 use crate::refusal::{CheckError, TypeRefusal};
 use crate::scope::Scope;
 use crate::shape::{Shape, only_field, only_scalar, unnamed_scalar};
@@ -301,11 +301,11 @@ fn record<'a>(
 {
     let mut pieces = Pieces::new(alloc);
     for part in parts {
-        if is_part(&pieces, &part.name) {
+        let Some(next) = with_name(alloc, pieces, &part.name)? else {
             return Err(CheckError::Refused(TypeRefusal::NameTaken));
-        }
+        };
         let value = expression(alloc, coverages, bound, scope, &part.value)?;
-        pieces = with_part(alloc, pieces, &part.name, only_field(value)?)?;
+        pieces = with_part(next, only_field(value)?)?;
     }
     Ok(finished(alloc, pieces)?)
 }

@@ -1,7 +1,7 @@
 //! Making nodes of nodes.
 
 ghost use Rattle.std.specs.Prelude.{◌≡◌, IfOk, List, map};
-ghost use Rattle.wcps_types.specs.Typed.{field_tree, boxed_tree, unary, binary, scalar, select, array, condense_of, reduce};
+ghost use Rattle.wcps_types.specs.Typed.{field_tree, boxed_tree, unary, binary, scalar, select, array, listed, condense_of, reduce};
 ghost use Rattle.wcps_types.specs.declared.labels.Label.{Label};
 ghost use Rattle.wcps_types.specs.Shapes.{labels_view};
 ghost use Rattle.wcps_types.specs.Brackets.{sliced_slot, bracketed_slot};
@@ -83,6 +83,14 @@ pub fn slice_node(
     boxed(alloc, slice)
 }
 
+/// Items on a domain.
+pub fn list_node(alloc: Global, domain: Domain, items: Vec<i64>) -> Result<Box<Node>, AllocError>
+    ensures { IfOk result (λ n. boxed_tree n ≡ listed domain items.items) }
+{
+    let domain = Box::new(alloc, domain)?;
+    boxed(alloc, Node::List { domain, items })
+}
+
 /// A coverage whose cells a scalar gives.
 pub fn array_node(alloc: Global, e: Box<Node>) -> Result<Box<Node>, AllocError>
     ensures { IfOk result (λ n. boxed_tree n ≡ array (boxed_tree e)) }
@@ -100,6 +108,7 @@ pub fn condense_node(
 ) -> Result<Box<Node>, AllocError>
     ensures { IfOk result (λ n. boxed_tree n ≡ condense_of op domain (option_map boxed_tree condition) (boxed_tree body)) }
 {
+    let domain = Box::new(alloc, domain)?;
     match condition {
         None => boxed(alloc, Node::Condense { op, domain, body }),
         Some(condition) => {
@@ -123,5 +132,6 @@ pub fn reduce_node(
 ) -> Result<Box<Node>, AllocError>
     ensures { IfOk result (λ n. boxed_tree n ≡ reduce op domain (boxed_tree body)) }
 {
+    let domain = Box::new(alloc, domain)?;
     boxed(alloc, Node::Reduce { op, domain, body })
 }

@@ -1,18 +1,18 @@
 //! Several fields in braces.
 
-ghost use Rattle.std.specs.Prelude.{◌≡◌, IfOk, ℕ, List, map, cond, true, ◌&&◌};
+ghost use Rattle.std.specs.Prelude.{◌≡◌, IfOk, OnOk, IfSome, is_some, ℕ, List, map, cond, true, not, ◌&&◌};
 ghost use Rattle.std.specs.Str.{bytes_eq};
 ghost use Rattle.std.specs.BTreeSet.{contains_text};
 ghost use Rattle.wcps_types.specs.declared.labels.Label.{Label};
-ghost use Rattle.wcps_types.specs.Typed.{only_tree, boxed_tree, scalar as scalar_tree};
+ghost use Rattle.wcps_types.specs.Typed.{only_tree, scalar as scalar_tree};
 ghost use Rattle.wcps_types.specs.Parts.{piece_label, tree_in, with_trees};
 ghost use Rattle.wcps_types.specs.Shapes.{Says, shape_view, labels_view, field_of_view};
-ghost use Rattle.wcps_types.specs.Records.{piece_view, pieces_view, no_pieces, is_part, with_part, finished};
+ghost use Rattle.wcps_types.specs.Records.{piece_view, pieces_view, before_next, no_pieces, is_part, with_part, finished};
 
 use crate::labels::{Label, Labels};
 use crate::nodes::boxed;
 use crate::operators::are_same;
-use crate::pieces::Pieces;
+use crate::pieces::{NextPiece, Pieces};
 use crate::refusal::{CheckError, TypeRefusal};
 use crate::shape::{OneField, Shape, is_scalar, no_axes};
 use crate::typed::Node;
@@ -26,7 +26,7 @@ pub struct Piece {
     pub name: QueryName,
     pub scalar: bool,
     pub boolean: bool,
-    pub node: Box<Node>,
+    pub node: Node,
 }
 
 impl Pieces {
@@ -42,40 +42,56 @@ impl Pieces {
     }
 }
 
-/// Whether a part has that name.
-pub fn is_part(pieces: &Pieces, name: &QueryName) -> bool
-    ensures { result ≡ is_part name.now (map piece_view pieces.now.list.items) }
-{
-    pieces.names.contains(name.as_str())
-}
-
-/// The names with one more.
-fn with_name(
+/// Adds a name, and tells whether it is new.
+fn add_name(
     alloc: Global,
-    names: BTreeSet<String>,
+    names: &mut BTreeSet<String>,
     name: &QueryName,
-) -> Result<BTreeSet<String>, AllocError>
-    ensures { IfOk result (λ new. (x : List ℕ) → contains_text new x ≡ cond (bytes_eq name.now x) true (contains_text names x)) }
+) -> Result<bool, AllocError>
+    ensures added { IfOk result (λ new. new ≡ not (contains_text names.old name.now)) }
+    ensures names { OnOk result ((x : List ℕ) → contains_text names.new x ≡ cond (bytes_eq name.now x) true (contains_text names.old x)) }
 {
-    let mut names = names;
-    names.insert(String::from_str(alloc, name.as_str())?)?;
-    Ok(names)
+    let is_new = names.insert(String::from_str(alloc, name.as_str())?)?;
+    Ok(is_new)
 }
 
-/// The parts with one more.
-pub fn with_part(
+/// The parts with a name for the next one, unless one of them has it.
+#[tactic(auto, using(crate::proofs::Parts::has_name))]
+pub fn with_name(
     alloc: Global,
     pieces: Pieces,
     name: &QueryName,
-    value: OneField,
-) -> Result<Pieces, CheckError>
-    ensures { Says pieces_view result (with_part name.now (field_of_view value) (pieces_view pieces)) }
+) -> Result<Option<NextPiece>, AllocError>
+    ensures new { IfOk result (λ next. is_some next ≡ not (is_part name.now (map piece_view pieces.list.items))) }
+    ensures named { IfOk result (λ next. IfSome next (λ n. (n.name ≡ name.now) × (before_next n ≡ pieces_view pieces))) }
 {
     let Pieces {
+        domain,
+        list,
+        mut names,
+    } = pieces;
+    if !add_name(alloc, &mut names, name)? {
+        return Ok(None);
+    }
+    let name = QueryName::new(alloc, name.as_str())?;
+    Ok(Some(NextPiece {
+        domain,
+        list,
+        names,
+        name,
+    }))
+}
+
+/// The parts with one more.
+pub fn with_part(next: NextPiece, value: OneField) -> Result<Pieces, CheckError>
+    ensures { Says pieces_view result (with_part next.name (field_of_view value) (before_next next)) }
+{
+    let NextPiece {
         domain: before,
         mut list,
         names,
-    } = pieces;
+        name,
+    } = next;
     let OneField {
         domain,
         boolean,
@@ -85,13 +101,11 @@ pub fn with_part(
     if !scalar && !is_scalar(before.axes()) && !are_same(before.axes(), domain.axes()) {
         return Err(CheckError::Refused(TypeRefusal::DomainMismatch));
     }
-    let names = with_name(alloc, names, name)?;
-    let name = QueryName::new(alloc, name.as_str())?;
     list.push(Piece {
         name,
         scalar,
         boolean,
-        node,
+        node: Box::into_inner(node),
     })?;
     let domain = if scalar { before } else { domain };
     Ok(Pieces {
@@ -102,13 +116,14 @@ pub fn with_part(
 }
 
 /// The node of a part; a scalar part beside one with axes is taken at every point.
-fn part_node(on_axes: bool, scalar: bool, node: Box<Node>) -> Node
-    ensures { only_tree result ≡ cond (scalar && on_axes) (scalar_tree (boxed_tree node)) (boxed_tree node) }
+fn part_node(alloc: Global, on_axes: bool, scalar: bool, node: Node) -> Result<Node, AllocError>
+    ensures { IfOk result (λ n. only_tree n ≡ cond (scalar && on_axes) (scalar_tree (only_tree node)) (only_tree node)) }
 {
     if scalar && on_axes {
-        Node::Scalar(node)
+        let node = boxed(alloc, node)?;
+        Ok(Node::Scalar(node))
     } else {
-        Box::into_inner(node)
+        Ok(node)
     }
 }
 
@@ -140,7 +155,7 @@ fn piece_nodes(alloc: Global, on_axes: bool, list: Vec<Piece>) -> Result<Vec<Nod
 {
     let mut nodes = Vec::new(alloc);
     for piece in list {
-        nodes.push(part_node(on_axes, piece.scalar, piece.node))?;
+        nodes.push(part_node(alloc, on_axes, piece.scalar, piece.node)?)?;
     }
     Ok(nodes)
 }

@@ -42,26 +42,26 @@ pub enum Node {
     Array(Box<Node>),
     /// `value list`: the item at the place of the point in row-major order.
     List {
-        domain: Domain,
+        domain: Box<Domain>,
         items: Vec<i64>,
     },
     /// `condense .. using body`: of a scalar over the points of a box, whose coordinates are further iterators in it.
     Condense {
         op: Aggregate,
-        domain: Domain,
+        domain: Box<Domain>,
         body: Box<Node>,
     },
     /// `condense .. where condition using body`: the same of the points where the condition is true, a scalar too.
     CondenseWhere {
         op: Aggregate,
-        domain: Domain,
+        domain: Box<Domain>,
         condition: Box<Node>,
         body: Box<Node>,
     },
     /// `add` and its kin: of the values of `body` at all points of its domain.
     Reduce {
         op: Aggregate,
-        domain: Domain,
+        domain: Box<Domain>,
         body: Box<Node>,
     },
 }

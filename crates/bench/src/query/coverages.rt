@@ -1,5 +1,6 @@
 //! The coverages over which queries are typed: `lai` with the field v, `wide` with the fields f0 to f63, and, of which no two
-//! have the same domain, u0 to u63 with the field v and w0 to w63 with the fields f0 to f63. Each has the axes x and y.
+//! have the same domain, u0 to u63 with the field v and w0 to w63 with the fields f0 to f63. Each has the axes x and y. So
+//! have l0 to l63 with the field v, but for two axes more and for names of axes as long as names may be.
 
 use anyhow::Result;
 use arr_core::{Axis, Domain, Field, FieldType, Fields, Name, Signature};
@@ -34,6 +35,25 @@ fn coverage(alloc: Global, name: &str, last: i32, fields: Vec<Field>) -> Result<
     })
 }
 
+/// The last 63 bytes of the names of long axes.
+const TAIL: &str = "aaaaaaaaaaaaaaaaaaaaaaaaaaaaaaaaaaaaaaaaaaaaaaaaaaaaaaaaaaaaaaa";
+
+/// A coverage with four axes with long names, of which the first ends at a coordinate.
+fn long_coverage(alloc: Global, name: &str, last: i32, fields: Vec<Field>) -> Result<Signature> {
+    let name = Name::new(alloc, name)?;
+    let mut axes = Vec::new(alloc);
+    for (first, hi) in [("x", last), ("y", 9), ("z", 1), ("t", 1)] {
+        let axis_name = format!(in alloc; "{first}{TAIL}")?;
+        axes.push(axis(alloc, axis_name.as_str(), hi)?)?;
+    }
+    let domain = Domain::new(axes)?;
+    Ok(Signature {
+        name,
+        domain,
+        fields: Fields::new(fields),
+    })
+}
+
 /// The field v alone.
 fn one_field(alloc: Global) -> Result<Vec<Field>> {
     let mut fields = Vec::new(alloc);
@@ -59,6 +79,8 @@ pub fn coverages(alloc: Global) -> Result<Vec<Signature>> {
         list.push(coverage(alloc, name.as_str(), 100 + number, one_field(alloc)?)?)?;
         let name = format!(in alloc; "w{number}")?;
         list.push(coverage(alloc, name.as_str(), 100 + number, many_fields(alloc)?)?)?;
+        let name = format!(in alloc; "l{number}")?;
+        list.push(long_coverage(alloc, name.as_str(), 100 + number, one_field(alloc)?)?)?;
     }
     list.push(coverage(alloc, "wide", 99, many_fields(alloc)?)?)?;
     list.push(coverage(alloc, "lai", 99, one_field(alloc)?)?)?;

@@ -118,7 +118,8 @@ eval-returns-in_ok-o-in-Condense-clause-value g t c h =
     let cs = c.args.coverages.now in
     let env = c.args.env.now.items in
     c.in_ok-o-in-Condense.ensures.value h
-    ∙ ap (λ b. condensed c.in-Condense.op (map (λ x. val s (renamed cs (only_tree b)) (env ++ x) []) (points c.in-Condense.domain))) c.deref-in-Condense.ensures
+    ∙ ap (λ b. condensed c.in-Condense.op (map (λ x. val s (renamed cs (only_tree b)) (env ++ x) []) (points c.deref-in-Condense-2.result.now))) c.deref-in-Condense.ensures
+    ∙ ap (λ d. condensed c.in-Condense.op (map (λ x. val s (renamed cs (only_tree c.in-Condense.body.value)) (env ++ x) []) (points d))) c.deref-in-Condense-2.ensures
     ∙ ap (λ (b : Node). val s (renamed cs (field_tree b c.args.field)) env (drop c.args.base c.args.points.now.items)) (sym c.in-Condense.is)
 
 pub eval-returns-in_ok-o-in-Reduce-clause-value : goal.eval-returns-in_ok-o-in-Reduce-clause-value
@@ -127,7 +128,8 @@ eval-returns-in_ok-o-in-Reduce-clause-value g t c h =
     let cs = c.args.coverages.now in
     let env = c.args.env.now.items in
     c.in_ok-o-in-Reduce.ensures.value h
-    ∙ ap (λ b. condensed c.in-Reduce.op (map (λ x. val s (renamed cs (only_tree b)) env x) (points c.in-Reduce.domain))) c.deref-in-Reduce.ensures
+    ∙ ap (λ b. condensed c.in-Reduce.op (map (λ x. val s (renamed cs (only_tree b)) env x) (points c.deref-in-Reduce-2.result.now))) c.deref-in-Reduce.ensures
+    ∙ ap (λ d. condensed c.in-Reduce.op (map (λ x. val s (renamed cs (only_tree c.in-Reduce.body.value)) env x) (points d))) c.deref-in-Reduce-2.ensures
     ∙ ap (λ (b : Node). val s (renamed cs (field_tree b c.args.field)) env (drop c.args.base c.args.points.now.items)) (sym c.in-Reduce.is)
 
 pub eval-returns-after-loop-place-clause-value : goal.eval-returns-after-loop-place-clause-value
@@ -136,9 +138,10 @@ eval-returns-after-loop-place-clause-value g t c h =
     let s = g.C.Cells.cells c.args.cells.now in
     let cs = c.args.coverages.now in
     let env = c.args.env.now.items in
-    let box = points c.in-CondenseWhere.domain in
+    let box = points c.in-CondenseWhere.domain.value in
     let f : List ℤ → List Outcome = λ x. demanded (val s (renamed cs (only_tree c.in-CondenseWhere.condition.value)) (env ++ x) []) (val s (renamed cs (only_tree c.in-CondenseWhere.body.value)) (env ++ x) []) in
-    let all : take c.loop-place.place box ≡ box = take-whole _ box (omega (arith, c.points-place-end.ensures.value)) in
+    let counted : c.points-place-end.result ≡ length box = c.points-place-end.ensures.value ∙ ap (λ d. length (points d)) c.deref-in-CondenseWhere.ensures in
+    let all : take c.loop-place.place box ≡ box = take-whole _ box (omega (arith, counted)) in
     c.finish.ensures (flat_map f box) (subst (λ ps. Fed c.loop-place.running (flat_map f ps)) all (inv.fed h))
     ∙ ap (λ op. condensed op (flat_map f box)) (inv.op ∙ c.new-running.ensures.op)
     ∙ ap (λ (b : Node). val s (renamed cs (field_tree b c.args.field)) env (drop c.args.base c.args.points.now.items)) (sym c.in-CondenseWhere.is)
@@ -151,17 +154,19 @@ eval-loop-place-preserved g t c =
     let ec = renamed cs (only_tree c.in-CondenseWhere.condition.value) in
     let eb = renamed cs (only_tree c.in-CondenseWhere.body.value) in
     let env = c.args.env.now.items in
-    let box = points c.in-CondenseWhere.domain in
+    let box = points c.in-CondenseWhere.domain.value in
     let x = get_or box c.loop-place.place [] in
-    let lt : c.loop-place.place < length box = omega (arith, c.points-place-end.ensures.value) in
+    let counted : c.points-place-end.result ≡ length box = c.points-place-end.ensures.value ∙ ap (λ d. length (points d)) c.deref-in-CondenseWhere.ensures in
+    let lt : c.loop-place.place < length box = omega (arith, counted) in
     let depth : c.len-depth.result ≡ length c.args.env.now.items = search rules in
     let top : c.len-top-in-CondenseWhere.result ≡ length c.args.points.now.items = search rules in
-    let inner = c.in_ok-push_point-in-CondenseWhere.ensures ∙ ap (λ l. l ++ x) inv.scope in
+    let inner = c.in_ok-push_point-in-CondenseWhere.ensures
+    ∙ ap (λ d. c.loop-place.env.items ++ get_or (points d) c.loop-place.place []) c.deref-in-loop-place.ensures ∙ ap (λ l. l ++ x) inv.scope in
     let none = top-empty c.len-top-in-CondenseWhere.result _ _ top inv.spot in
     let q = drop c.len-top-in-CondenseWhere.result c.loop-place.points.items in
     let condition = λ (h : g.C.Cells.intact c.args.cells.now). c.in_ok-c-in-CondenseWhere.ensures.value (inv.intact h)
-    ∙ ap (λ s. val s (renamed cs (only_tree c.deref-in-loop-place.result.now)) c.push_point.new.list.items q) inv.same
-    ∙ ap (λ b. val s (renamed cs (only_tree b)) c.push_point.new.list.items q) c.deref-in-loop-place.ensures
+    ∙ ap (λ s. val s (renamed cs (only_tree c.deref-in-loop-place-2.result.now)) c.push_point.new.list.items q) inv.same
+    ∙ ap (λ b. val s (renamed cs (only_tree b)) c.push_point.new.list.items q) c.deref-in-loop-place-2.ensures
     ∙ ap (λ l. val s ec l q) inner ∙ ap (λ p. val s ec (env ++ x) p) none in
     let same : g.C.Cells.cells c.if-demands.cells ≡ s = elim c.if-demands.branch [
       | eval-then-demands+in_ok-o-in-CondenseWhere w ↦ ap g.C.Cells.cells w.cells-is ∙ w.in_ok-o-in-CondenseWhere.ensures.same ∙ c.in_ok-c-in-CondenseWhere.ensures.same ∙ inv.same

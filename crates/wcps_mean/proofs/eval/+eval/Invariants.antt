@@ -44,5 +44,5 @@ invariant-eval-loop-place g l = record {
   spot : l.points.items ≡ l.fn.points.items;
   op : l.running.op ≡ l.initial.running.op;
   counted : l.running.count ≤ l.place;
-  fed : g.C.Cells.intact l.fn.cells → Fed l.running (flat_map (λ x. demanded (val (g.C.Cells.cells l.fn.cells) (renamed l.coverages (only_tree l.condition.value)) (l.fn.env.items ++ x) []) (val (g.C.Cells.cells l.fn.cells) (renamed l.coverages (only_tree l.body.value)) (l.fn.env.items ++ x) [])) (take l.place (points l.domain)));
+  fed : g.C.Cells.intact l.fn.cells → Fed l.running (flat_map (λ x. demanded (val (g.C.Cells.cells l.fn.cells) (renamed l.coverages (only_tree l.condition.value)) (l.fn.env.items ++ x) []) (val (g.C.Cells.cells l.fn.cells) (renamed l.coverages (only_tree l.body.value)) (l.fn.env.items ++ x) [])) (take l.place (points l.domain.value)));
 }
