@@ -8,6 +8,7 @@ pub mod TypedQueries
 pub mod Names
 pub mod Frames
 pub mod Labels
+pub mod Extents
 pub mod Shapes
 pub mod Operators
 pub mod Work

@@ -11,6 +11,7 @@ ghost use Rattle.wcps_types.specs.Boxes.{iterators_view, no_iterators, is_taken,
 
 use crate::bound::Variables;
 use crate::bounds::Bounds;
+use crate::extent::Extent;
 use crate::names::name_place;
 use crate::nodes::{array_node, condense_node, list_node};
 use crate::refusal::{CheckError, TypeRefusal};
@@ -117,7 +118,7 @@ pub fn array<'a>(alloc: Global, domain: Domain, body: OneScalar) -> Result<Shape
 {
     let OneScalar { boolean, node } = body;
     let node = array_node(alloc, node)?;
-    Ok(unnamed(domain, boolean, node))
+    Ok(unnamed(Extent::own(domain), boolean, node))
 }
 
 /// A condition: a Boolean scalar.
@@ -276,5 +277,5 @@ pub fn value_list<'a>(
     let items = item_numbers(alloc, items)?;
     let own = domain.copy(alloc)?;
     let node = list_node(alloc, own, items)?;
-    Ok(unnamed(domain, boolean, node))
+    Ok(unnamed(Extent::own(domain), boolean, node))
 }

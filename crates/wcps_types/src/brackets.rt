@@ -9,6 +9,7 @@ ghost use Rattle.wcps_types.specs.Shapes.{Says, shape_view, labels_view};
 ghost use Rattle.wcps_types.specs.Brackets.{bounds_view, cut_view, bracket_view, written_bounds, bounds_of, bounds_of_axis, opened, place_to_cut, with_trim, position_of, with_position, cut_between, cut_out, all_cut_out, bracketed, closed};
 
 use crate::bounds::Bounds;
+use crate::extent::Extent;
 use crate::labels::Labels;
 use crate::names::{axis_place, name_place};
 use crate::nodes::{bracket_node, slice_node};
@@ -83,16 +84,16 @@ pub fn bounds_of_axis(domain: &Domain, name: &QueryName) -> Result<Bounds, Check
 
 /// A bracket so far: the domain with the axes that are trimmed narrowed, the axes that are named, and the positions.
 #[derive(Debug, Drop)]
-pub struct Bracket {
-    pub domain: Domain,
+pub struct Bracket<'a> {
+    pub domain: Extent<'a>,
     pub named: Vec<QueryName>,
     pub cuts: Vec<Cut>,
 }
 
-impl Bracket {
+impl<'a> Bracket<'a> {
     /// Nothing yet.
-    pub fn new(alloc: Global, domain: Domain) -> Bracket
-        ensures { bracket_view result ≡ opened domain }
+    pub fn new(alloc: Global, domain: Extent<'a>) -> Bracket<'a>
+        ensures { bracket_view result ≡ opened domain.entry }
     {
         Bracket {
             domain,
@@ -119,14 +120,14 @@ pub fn place_to_cut(bracket: &Bracket, axis: &QueryName) -> Result<usize, CheckE
 }
 
 /// The bracket with the axis at a place trimmed, if the bounds are inside it.
-pub fn with_trim(
+pub fn with_trim<'a>(
     alloc: Global,
-    bracket: Bracket,
+    bracket: Bracket<'a>,
     place: usize,
     name: &QueryName,
     bounds: Bounds,
-) -> Result<Bracket, CheckError>
-    ensures { Says bracket_view result (with_trim place name.now (bounds_view bounds) (bracket_view bracket)) }
+) -> Result<Bracket<'a>, CheckError>
+    ensures { Says bracket_view result (with_trim place name.now (bounds_view bounds) (bracket_view bracket.entry)) }
 {
     let Bracket {
         domain,
@@ -141,10 +142,10 @@ pub fn with_trim(
             }
         }
     }
-    let domain = domain.narrow(alloc, place, bounds.lo, bounds.hi)?;
+    let narrow = domain.domain().narrow(alloc, place, bounds.lo, bounds.hi)?;
     named.push(QueryName::new(alloc, name.as_str())?)?;
     Ok(Bracket {
-        domain,
+        domain: Extent::own(narrow),
         named,
         cuts,
     })
@@ -162,13 +163,13 @@ pub fn position_of(shape: Shape) -> Result<Box<Node>, CheckError>
 }
 
 /// The bracket with an axis taken out at a position.
-pub fn with_position(
+pub fn with_position<'a>(
     alloc: Global,
-    bracket: Bracket,
+    bracket: Bracket<'a>,
     name: &QueryName,
     position: Box<Node>,
-) -> Result<Bracket, AllocError>
-    ensures { IfOk result (λ b. bracket_view b ≡ with_position name.now (boxed_tree position) (bracket_view bracket)) }
+) -> Result<Bracket<'a>, AllocError>
+    ensures { IfOk result (λ b. bracket_view b ≡ with_position name.now (boxed_tree position) (bracket_view bracket.entry)) }
 {
     let Bracket {
         domain,
@@ -202,9 +203,9 @@ fn sliced<'a>(
         node,
     } = shape;
     let node = slice_node(alloc, node, place, bounds.lo, bounds.hi, position)?;
-    let domain = domain.drop_axis(alloc, place)?;
+    let fewer = domain.domain().drop_axis(alloc, place)?;
     Ok(Shape {
-        domain,
+        domain: Extent::own(fewer),
         labels,
         node,
     })
@@ -258,11 +259,11 @@ fn bracketed<'a>(alloc: Global, shape: Shape<'a>) -> Result<Shape<'a>, AllocErro
 /// The shape of a whole bracket on a value with those fields.
 pub fn closed_bracket<'a>(
     alloc: Global,
-    bracket: Bracket,
+    bracket: Bracket<'a>,
     labels: Labels<'a>,
     node: Box<Node>,
 ) -> Result<Shape<'a>, AllocError>
-    ensures { IfOk result (λ s. shape_view s ≡ closed (bracket_view bracket) (labels_view node.value 0 (labels_in labels.entry))) }
+    ensures { IfOk result (λ s. shape_view s ≡ closed (bracket_view bracket.entry) (labels_view node.value 0 (labels_in labels.entry))) }
 {
     let Bracket {
         domain,

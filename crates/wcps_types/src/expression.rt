@@ -25,6 +25,7 @@ use crate::brackets::{
     Bracket, bounds_of_axis, closed_bracket, place_to_cut, position_of, with_position, with_trim,
     written_bounds,
 };
+use crate::extent::Extent;
 use crate::names::axis_place;
 use crate::nodes::boxed;
 use crate::operators::{binary, reduction, selected, unary};
@@ -35,7 +36,7 @@ use crate::scope::Scope;
 use crate::shape::{Shape, only_field, only_scalar, unnamed_scalar};
 use crate::typed::Node;
 use crate::variables::variable;
-use arr_core::{Domain, Signature};
+use arr_core::Signature;
 use std::alloc::Global;
 use wcps_text::{
     Aggregate, BinaryOperator, Expr, Interval, Iter, ListItem, Part, Place, QueryName, Sub,
@@ -305,22 +306,22 @@ fn record<'a>(
             return Err(CheckError::Refused(TypeRefusal::NameTaken));
         };
         let value = expression(alloc, coverages, bound, scope, &part.value)?;
-        pieces = with_part(next, only_field(value)?)?;
+        pieces = with_part(alloc, next, only_field(value)?)?;
     }
     Ok(finished(alloc, pieces)?)
 }
 
 /// The axes of a bracket on a domain.
 #[cycle(expression)]
-fn subscripts(
+fn subscripts<'a>(
     alloc: Global,
-    coverages: &[&Signature],
+    coverages: &[&'a Signature],
     bound: &Variables,
     scope: &Scope,
-    domain: Domain,
+    domain: Extent<'a>,
     subs: &[Sub],
-) -> Result<Bracket, CheckError>
-    ensures { Says bracket_view result (typ_subs (signatures_in coverages.now) bound.now.list.items (names_in scope.now.frames) (opened domain) (subs_of subs.now)) }
+) -> Result<Bracket<'a>, CheckError>
+    ensures { Says bracket_view result (typ_subs (signatures_in coverages.now) bound.now.list.items (names_in scope.now.frames) (opened domain.entry) (subs_of subs.now)) }
 {
     let mut bracket = Bracket::new(alloc, domain);
     for sub in subs {
@@ -333,16 +334,16 @@ fn subscripts(
 
 /// A bracket with one axis more: first whether it is there and was not named before.
 #[cycle(expression)]
-fn subscript(
+fn subscript<'a>(
     alloc: Global,
-    coverages: &[&Signature],
+    coverages: &[&'a Signature],
     bound: &Variables,
     scope: &Scope,
-    bracket: Bracket,
+    bracket: Bracket<'a>,
     axis: &QueryName,
     subscript: &Place,
-) -> Result<Bracket, CheckError>
-    ensures { Says bracket_view result (then_of (place_to_cut axis.now (bracket_view bracket)) (λ k. typ_place (signatures_in coverages.now) bound.now.list.items (names_in scope.now.frames) k axis.now (bracket_view bracket) (view_place subscript.now))) }
+) -> Result<Bracket<'a>, CheckError>
+    ensures { Says bracket_view result (then_of (place_to_cut axis.now (bracket_view bracket.entry)) (λ k. typ_place (signatures_in coverages.now) bound.now.list.items (names_in scope.now.frames) k axis.now (bracket_view bracket.entry) (view_place subscript.now))) }
 {
     let place = place_to_cut(&bracket, axis)?;
     match subscript {
@@ -373,7 +374,7 @@ fn interval_bounds(
         Interval::Bounds(lo, hi) => written_bounds(*lo, *hi),
         Interval::Domain(e, axis) => {
             let shape = expression(alloc, coverages, bound, scope, e)?;
-            bounds_of_axis(&shape.domain, axis)
+            bounds_of_axis(shape.domain.domain(), axis)
         }
     }
 }

@@ -10,6 +10,7 @@ mod brackets;
 mod cells;
 mod effort;
 mod expression;
+mod extent;
 mod frames;
 mod labels;
 mod names;

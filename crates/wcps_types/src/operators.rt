@@ -6,21 +6,22 @@ ghost use Rattle.wcps_types.specs.Labels.{label_of, labels_in};
 ghost use Rattle.wcps_types.specs.Shapes.{Says, shape_view, slot_of, labels_view, field_of_view};
 ghost use Rattle.wcps_types.specs.Operators.{one_selected, selected, unary, are_same, is_same_axis, operands_view, joined, numeric, logical, binary, integer_reduction, boolean_reduction, reduction};
 
+use crate::extent::Extent;
 use crate::labels::{Label, Labels};
 use crate::names::{is_named, is_same};
 use crate::nodes::{binary_node, reduce_node, scalar_node, select_node, unary_node};
 use crate::refusal::{CheckError, TypeRefusal};
 use crate::shape::{OneField, Shape, is_scalar, only_field, unnamed, unnamed_scalar};
 use crate::typed::Node;
-use arr_core::{Axis, Domain, Field};
+use arr_core::{Axis, Field};
 use std::alloc::{AllocError, Global};
 use std::slice;
 use wcps_text::{Aggregate, BinaryOperator, QueryName, UnaryOperator};
 
 /// Two operands on one domain.
 #[derive(Debug, Drop)]
-pub struct Operands {
-    pub domain: Domain,
+pub struct Operands<'a> {
+    pub domain: Extent<'a>,
     pub left: Box<Node>,
     pub right: Box<Node>,
 }
@@ -28,12 +29,12 @@ pub struct Operands {
 /// A shape with the field at one place of a node, selected.
 fn one_selected<'a>(
     alloc: Global,
-    domain: Domain,
+    domain: Extent<'a>,
     node: Box<Node>,
     place: usize,
     label: Label,
 ) -> Result<Shape<'a>, AllocError>
-    ensures { IfOk result (λ s. shape_view s ≡ one_selected domain (slot_of node.value place label)) }
+    ensures { IfOk result (λ s. shape_view s ≡ one_selected domain.entry (slot_of node.value place label)) }
 {
     let node = select_node(alloc, node, place)?;
     let mut labels = Vec::new(alloc);
@@ -48,12 +49,12 @@ fn one_selected<'a>(
 /// The field of that name among some with labels of their own.
 fn label_selected<'a>(
     alloc: Global,
-    domain: Domain,
+    domain: Extent<'a>,
     node: Box<Node>,
     labels: Vec<Label>,
     name: &QueryName,
 ) -> Result<Shape<'a>, CheckError>
-    ensures { Says shape_view result (selected name.now domain (labels_view node.value 0 labels.items)) }
+    ensures { Says shape_view result (selected name.now domain.entry (labels_view node.value 0 labels.items)) }
 {
     let mut place = 0;
     for label in labels {
@@ -68,12 +69,12 @@ fn label_selected<'a>(
 /// A shape with the field of a coverage at one place of a node, selected.
 fn one_field_selected<'a>(
     alloc: Global,
-    domain: Domain,
+    domain: Extent<'a>,
     node: Box<Node>,
     place: usize,
     field: &'a Field,
 ) -> Result<Shape<'a>, AllocError>
-    ensures { IfOk result (λ s. shape_view s ≡ one_selected domain (slot_of node.value place (label_of field.now))) }
+    ensures { IfOk result (λ s. shape_view s ≡ one_selected domain.entry (slot_of node.value place (label_of field.now))) }
 {
     let node = select_node(alloc, node, place)?;
     Ok(Shape {
@@ -86,12 +87,12 @@ fn one_field_selected<'a>(
 /// The field of that name among those of a coverage.
 fn field_selected<'a>(
     alloc: Global,
-    domain: Domain,
+    domain: Extent<'a>,
     node: Box<Node>,
     fields: &'a [Field],
     name: &QueryName,
 ) -> Result<Shape<'a>, CheckError>
-    ensures { Says shape_view result (selected name.now domain (labels_view node.value 0 (map label_of fields.now))) }
+    ensures { Says shape_view result (selected name.now domain.entry (labels_view node.value 0 (map label_of fields.now))) }
 {
     let mut place = 0;
     for field in fields {
@@ -172,8 +173,8 @@ pub fn are_same(a: &[Axis], b: &[Axis]) -> bool
 }
 
 /// Two operands with the same domain, or of which one is a scalar.
-fn joined(alloc: Global, l: OneField, r: OneField) -> Result<Operands, CheckError>
-    ensures { Says operands_view result (joined (field_of_view l) (field_of_view r)) }
+fn joined<'a>(alloc: Global, l: OneField<'a>, r: OneField<'a>) -> Result<Operands<'a>, CheckError>
+    ensures { Says operands_view result (joined (field_of_view l.entry) (field_of_view r.entry)) }
 {
     let OneField {
         domain: first,
@@ -300,7 +301,7 @@ fn integer_reduction<'a>(
     if boolean {
         return Err(CheckError::Refused(TypeRefusal::NeedsInteger));
     }
-    let node = reduce_node(alloc, op, domain, node)?;
+    let node = reduce_node(alloc, op, domain.into_domain(alloc)?, node)?;
     Ok(unnamed_scalar(alloc, false, node))
 }
 
@@ -321,7 +322,7 @@ fn boolean_reduction<'a>(
     if !boolean {
         return Err(CheckError::Refused(TypeRefusal::NeedsBoolean));
     }
-    let node = reduce_node(alloc, op, domain, node)?;
+    let node = reduce_node(alloc, op, domain.into_domain(alloc)?, node)?;
     Ok(unnamed_scalar(alloc, gives_boolean, node))
 }
 

@@ -9,6 +9,7 @@ ghost use Rattle.wcps_types.specs.Parts.{piece_label, tree_in, with_trees};
 ghost use Rattle.wcps_types.specs.Shapes.{Says, shape_view, labels_view, field_of_view};
 ghost use Rattle.wcps_types.specs.Records.{piece_view, pieces_view, before_next, no_pieces, is_part, with_part, finished};
 
+use crate::extent::Extent;
 use crate::labels::{Label, Labels};
 use crate::nodes::boxed;
 use crate::operators::are_same;
@@ -83,8 +84,8 @@ pub fn with_name(
 }
 
 /// The parts with one more.
-pub fn with_part(next: NextPiece, value: OneField) -> Result<Pieces, CheckError>
-    ensures { Says pieces_view result (with_part next.name (field_of_view value) (before_next next)) }
+pub fn with_part(alloc: Global, next: NextPiece, value: OneField) -> Result<Pieces, CheckError>
+    ensures { Says pieces_view result (with_part next.name (field_of_view value.entry) (before_next next)) }
 {
     let NextPiece {
         domain: before,
@@ -107,7 +108,11 @@ pub fn with_part(next: NextPiece, value: OneField) -> Result<Pieces, CheckError>
         boolean,
         node: Box::into_inner(node),
     })?;
-    let domain = if scalar { before } else { domain };
+    let domain = if scalar {
+        before
+    } else {
+        domain.into_domain(alloc)?
+    };
     Ok(Pieces {
         domain,
         list,
@@ -183,7 +188,7 @@ pub fn finished<'a>(alloc: Global, pieces: Pieces) -> Result<Shape<'a>, AllocErr
     let nodes = piece_nodes(alloc, on_axes, list)?;
     let node = boxed(alloc, record_node(nodes))?;
     Ok(Shape {
-        domain,
+        domain: Extent::own(domain),
         labels: Labels::Listed(labels),
         node,
     })

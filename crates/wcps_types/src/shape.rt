@@ -5,6 +5,7 @@ ghost use Rattle.wcps_types.specs.Typed.{boxed_tree};
 ghost use Rattle.wcps_types.specs.Labels.{labels_in};
 ghost use Rattle.wcps_types.specs.Shapes.{Says, shape_view, labels_view, field_of_view, scalar_of_view, is_scalar, unnamed, only_field, only_scalar};
 
+use crate::extent::Extent;
 use crate::labels::{Labels, the_boolean};
 use crate::refusal::{CheckError, TypeRefusal};
 use crate::typed::Node;
@@ -15,15 +16,15 @@ use std::alloc::Global;
 /// gives all of them.
 #[derive(Debug, Drop)]
 pub struct Shape<'a> {
-    pub domain: Domain,
+    pub domain: Extent<'a>,
     pub labels: Labels<'a>,
     pub node: Box<Node>,
 }
 
 /// A shape with one field, whose name no longer matters.
 #[derive(Debug, Drop)]
-pub struct OneField {
-    pub domain: Domain,
+pub struct OneField<'a> {
+    pub domain: Extent<'a>,
     pub boolean: bool,
     pub node: Box<Node>,
 }
@@ -56,8 +57,8 @@ pub fn is_scalar(axes: &[Axis]) -> bool
 }
 
 /// A shape with one unnamed field.
-pub fn unnamed<'a>(domain: Domain, boolean: bool, node: Box<Node>) -> Shape<'a>
-    ensures { shape_view result ≡ unnamed domain boolean (boxed_tree node) }
+pub fn unnamed<'a>(domain: Extent<'a>, boolean: bool, node: Box<Node>) -> Shape<'a>
+    ensures { shape_view result ≡ unnamed domain.entry boolean (boxed_tree node) }
 {
     Shape {
         domain,
@@ -70,12 +71,12 @@ pub fn unnamed<'a>(domain: Domain, boolean: bool, node: Box<Node>) -> Shape<'a>
 pub fn unnamed_scalar<'a>(alloc: Global, boolean: bool, node: Box<Node>) -> Shape<'a>
     ensures { shape_view result ≡ unnamed [] boolean (boxed_tree node) }
 {
-    unnamed(no_axes(alloc), boolean, node)
+    unnamed(Extent::own(no_axes(alloc)), boolean, node)
 }
 
 /// The only field of a shape.
 #[tactic(auto, using(crate::proofs::Fields::one_field))]
-pub fn only_field(shape: Shape) -> Result<OneField, CheckError>
+pub fn only_field<'a>(shape: Shape<'a>) -> Result<OneField<'a>, CheckError>
     ensures { Says field_of_view result (only_field shape.entry.domain (labels_view shape.entry.node.value 0 (labels_in shape.entry.labels))) }
 {
     let Shape {

@@ -68,6 +68,7 @@ fn item_of(alloc: Global, shape: Shape) -> Result<TypedItem, CheckError>
         node,
     } = shape;
     let booleans = item_booleans(alloc, &labels)?;
+    let domain = domain.into_domain(alloc)?;
     Ok(TypedItem {
         domain,
         booleans,

@@ -8,6 +8,7 @@ ghost use Rattle.wcps_types.specs.Shapes.{Says, shape_view, labels_view};
 ghost use Rattle.wcps_types.specs.Variables.{signatures_in, cells_from, coverage_at, bound_at, variable};
 
 use crate::bound::Variables;
+use crate::extent::Extent;
 use crate::labels::Labels;
 use crate::nodes::boxed;
 use crate::refusal::{CheckError, TypeRefusal};
@@ -37,7 +38,7 @@ fn coverage_shape<'a>(
     match coverages.get(place) {
         None => Err(CheckError::Refused(TypeRefusal::UnknownName)),
         Some(coverage) => {
-            let domain = coverage.domain.copy(alloc)?;
+            let domain = Extent::lent(&coverage.domain);
             let labels = coverage_labels(place, coverage.fields.as_slice());
             let node = boxed(alloc, Node::Coverage(place))?;
             Ok(Shape {
