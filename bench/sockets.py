@@ -244,6 +244,8 @@ def silent(path):
 
 
 def main():
+    if not os.access(PROGRAM, os.X_OK):
+        sys.exit(f"there is no program {PROGRAM}")
     cases = [early_end, many, goes_away, thousand, pieces, second_run, not_opened, stopped]
     if "--silent" in sys.argv[1:]:
         cases.append(silent)

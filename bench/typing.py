@@ -5,7 +5,8 @@ chain of 65,536 bytes.
 usage: bench/typing.py [the program, else crates/bench/out/bench]
 
 The program cuts the text into tokens, reads them as a query and types it over its own coverages; the figures are those
-of the whole process, which the first row shows without any work. `rt run` in its folder builds it.
+of the whole process, which the first row shows without any work, where it took least of five times. `rt run` in its
+folder builds it.
 """
 import os
 import subprocess
@@ -40,9 +41,14 @@ def parts(value, count):
     return "{" + ";".join(f"{letters(n)}:{value}" for n in range(count)) + "}"
 
 
-def alike(number):
-    """A name of four bytes for each of 260 iterators, all of which end in the same one."""
-    return f"${'abcdefghijklmnopqrstuvwxyz'[number % 26]}{number // 26}z"
+def alike(number, end="z"):
+    """A name of its own for each of 260 iterators, all of which end alike: with four bytes."""
+    return f"${'abcdefghijklmnopqrstuvwxyz'[number % 26]}{number // 26}{end}"
+
+
+def longer(number):
+    """The same with nine bytes."""
+    return alike(number, "zzzzzz")
 
 
 def within(binders, item, named=lambda number: f"$i{number}"):
@@ -108,6 +114,10 @@ ROWS = [
         "120 iterators named alike and a sum of the last, 64 unlike",
         fitted(lambda n: over(UNLIKE, within(30, balanced(alike(119), n), alike))),
     ),
+    (
+        "the same with names of nine bytes, 64 unlike",
+        fitted(lambda n: over(UNLIKE, within(30, balanced(longer(119), n), longer))),
+    ),
     ("104 iterators and cells at the last, 64 unlike", fitted(lambda n: over(UNLIKE, within(26, balanced("c[x($i103),y(0)]", n))))),
     (
         "256 condensers, most within 120 iterators, 64 unlike",
@@ -123,7 +133,7 @@ ROWS = [
 ]
 
 
-def measured(text):
+def one_run(text):
     begun = time.monotonic()
     ran = subprocess.Popen([PROGRAM, "query", "1", "typed", text], stdout=subprocess.PIPE)
     found = ran.stdout.read().decode().strip()
@@ -131,11 +141,16 @@ def measured(text):
     return time.monotonic() - begun, used.ru_maxrss / 1024, found
 
 
+def measured(text):
+    """The run of five that took least."""
+    return min(one_run(text) for _ in range(5))
+
+
 def main():
     print(f"{'query':58} {'found':22} {'bytes':>7} {'seconds':>9} {'MiB':>8}")
     for name, text in ROWS:
         taken, memory, found = measured(text)
-        print(f"{name:58} {found:22} {len(text):7} {taken:9.3f} {memory:8.1f}")
+        print(f"{name:58} {found:22} {len(text):7} {taken:9.3f} {memory:8.1f}", flush=True)
 
 
 main()
