@@ -100,6 +100,13 @@ ROWS = [
     ("a sum of cells over four long axes, 64 unlike", fitted(lambda n: over(LONG, balanced("c", n)))),
     ("cells under minus signs, 64 unlike", fitted(lambda n: over(UNLIKE, balanced("(" + "-" * 26 + "c[x(0)])", n)))),
     ("a sum of reductions, 64 unlike", fitted(lambda n: over(UNLIKE, balanced("add(c)", n)))),
+    ("a sum of records, 64 unlike", fitted(lambda n: over(UNLIKE, balanced("{a:c}.a", n)))),
+    ("a sum of records over four long axes, 64 unlike", fitted(lambda n: over(LONG, balanced("{a:c}.a", n)))),
+    ("a sum of counts over four long axes, 64 unlike", fitted(lambda n: over(LONG, balanced("count(c>0)", n)))),
+    (
+        "a condition of zeros, 64 unlike",
+        fitted(lambda n: f"for c in ({','.join(UNLIKE)}) where {balanced('0', n)}>1 return 1"),
+    ),
     (
         "many variables and their sum, 64 unlike",
         fitted(
