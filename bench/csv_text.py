@@ -66,13 +66,20 @@ int main(int count, char **words) {
 
 def main():
     wanted = sys.argv[1:]
-    print(f"{'2^20 cells':12} {'ns a cell':>10} {'sprintf ns':>11} {'own loop ns':>12} {'to sprintf':>11} {'to the loop':>12}")
+    print(
+        f"{'2^20 cells':12} {'ns a cell':>10} {'sprintf ns':>11} {'own loop ns':>12} {'to sprintf':>11} {'to the loop':>12}"
+    )
     with compiled(LOOPS, "-DPLAIN=0") as library, compiled(LOOPS, "-DPLAIN=1") as plain:
         for pattern in PATTERNS:
             if wanted and pattern not in wanted:
                 continue
-            ours, printed, loop = (time / CELLS * 1e9 for time in one_more([PROGRAM, [library], [plain]], [pattern], 10))
-            print(f"{pattern:12} {ours:10.1f} {printed:11.1f} {loop:12.1f} {ours / printed:11.2f} {ours / loop:12.2f}", flush=True)
+            ours, printed, loop = (
+                time / CELLS * 1e9 for time in one_more([PROGRAM, [library], [plain]], [pattern], 10)
+            )
+            print(
+                f"{pattern:12} {ours:10.1f} {printed:11.1f} {loop:12.1f} {ours / printed:11.2f} {ours / loop:12.2f}",
+                flush=True,
+            )
 
 
 main()

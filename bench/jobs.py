@@ -17,7 +17,7 @@ import time
 
 sys.dont_write_bytecode = True
 TOP = os.path.dirname(os.path.dirname(os.path.abspath(__file__)))
-sys.path[:0] = [f"{TOP}/clients/python", f"{TOP}/tools"]
+sys.path[:0] = [f"{TOP}/clients/python", f"{TOP}/scripts"]
 
 import rasterd
 from served import served
@@ -72,7 +72,10 @@ def figure(name, times):
 def main():
     with served(PROGRAM) as port:
         one(port, lambda it: it.insert("large", {"y": (0, ROWS - 1), "x": (0, COLUMNS - 1)}, {"v": "i16"}))
-        one(port, lambda it: it.write("large", "v", [(y * 31 + x * 7) % 1000 for y in range(ROWS) for x in range(COLUMNS)]))
+        one(
+            port,
+            lambda it: it.write("large", "v", [(y * 31 + x * 7) % 1000 for y in range(ROWS) for x in range(COLUMNS)]),
+        )
         one(port, lambda it: it.insert("small", {"x": (0, 99)}, {"v": "i16"}))
         whole, took = timed(lambda: one(port, lambda it: it.query(QUERY)))
         alone = Other(port)
@@ -95,12 +98,19 @@ def main():
     figure(f"a step of one unit, of {units}", steps)
     figure(f"one of {3 * len(other.waits)} small requests meanwhile", other.waits)
     figure("the answer fetched", [fetched])
-    wrong = [it for it, holds in [
-        ("the job has another number of units", units == UNITS),
-        ("the job's answer is another than the query's", answer == whole),
-        ("a small answer was wrong", not other.wrong),
-        ("a write of what the job reads was not refused as busy", 0 < other.refused and other.refused >= len(other.waits) - 1),
-    ] if not holds]
+    wrong = [
+        it
+        for it, holds in [
+            ("the job has another number of units", units == UNITS),
+            ("the job's answer is another than the query's", answer == whole),
+            ("a small answer was wrong", not other.wrong),
+            (
+                "a write of what the job reads was not refused as busy",
+                0 < other.refused and other.refused >= len(other.waits) - 1,
+            ),
+        ]
+        if not holds
+    ]
     print(*wrong or ["all answers are right"], sep="\n")
     return 1 if wrong else 0
 

@@ -195,8 +195,11 @@ def main():
                 if wanted and not set(wanted) <= set(case):
                     continue
                 ours, plain, best = one_more([PROGRAM, [second], [third]], case)
-                print(f"{' '.join(case):28} {ours * 1e6:8.2f} {plain * 1e6:9.2f} {best * 1e6:9.2f}"
-                      f" {ours / plain:7.2f} {ours / best:7.2f}", flush=True)
+                print(
+                    f"{' '.join(case):28} {ours * 1e6:8.2f} {plain * 1e6:9.2f} {best * 1e6:9.2f}"
+                    f" {ours / plain:7.2f} {ours / best:7.2f}",
+                    flush=True,
+                )
 
 
 main()

@@ -125,7 +125,13 @@ def main():
     with compiled(LOOP) as loop:
         count, total = str(CONNECTIONS + 1), MESSAGES * CONNECTIONS
         for kind, message, body in KINDS:
-            runs = [(served([PROGRAM, "-", "listen", None, count], message), served([loop, None, count, str(body)], message)) for _ in range(7)]
+            runs = [
+                (
+                    served([PROGRAM, "-", "listen", None, count], message),
+                    served([loop, None, count, str(body)], message),
+                )
+                for _ in range(7)
+            ]
             for at, by in enumerate(("clock", "processor")):
                 ours, plain = (min(run[at] for run in column) for column in zip(*runs))
                 print(f"{kind:5}{by:9}{total / ours:20,.0f}{total / plain:20,.0f}{ours / plain:10.2f}")

@@ -1,15 +1,17 @@
 #!/usr/bin/env python3
-"""nginx in front of the built program, by tools/nginx.conf: what it lets through, and requests a second.
+"""nginx in front of the built program, by deploy/nginx.conf: what it lets through, and requests a second.
 
 usage: bench/nginx.py [SECONDS]
 
 Starts, in a fresh folder and on free ports of this machine, a server that writes, four on copies of its closed file, each
-by tools/serve, and nginx with a certificate of its own making and a password. It compares replies over TLS, with and
-without the password, from 64 clients at once, and over a run's end; and then counts for so many seconds (5) how many
-requests of 16 clients are answered where one server reads and where four do. Ends with status 1 where a reply was
-wrong. It needs nginx (`apt-get install nginx`), openssl and curl; `rt run` in crates/rasterd builds the program.
+by deploy/serve, and nginx with a certificate of its own making and a password. It compares replies over TLS, with and
+without the password, from 64 clients at once, and over a run's end; asks 200 jobs by four clients at once, each at the path
+of one server, all four at one path, and at that by address; and then counts for so many seconds (5) how many requests of 16 clients are answered
+where one server reads and where four do. Ends with status 1 where a reply was wrong. It needs nginx (`apt-get install
+nginx`), openssl and curl; `rt run` in crates/rasterd builds the program.
 """
 import base64
+import collections
 import concurrent.futures
 import http.client
 import os
@@ -23,7 +25,12 @@ import sys
 import tempfile
 import time
 
+sys.dont_write_bytecode = True
 TOP = os.path.dirname(os.path.dirname(os.path.abspath(__file__)))
+sys.path.insert(0, f"{TOP}/clients/python")
+
+import rasterd
+
 PROGRAM = os.environ.get("SERVER", f"{TOP}/crates/rasterd/out/rasterd")
 NGINX = shutil.which("nginx") or "/usr/sbin/nginx"
 SIDE = 256
@@ -66,25 +73,41 @@ class Site:
         made = ["openssl", "req", "-x509", "-newkey", "rsa:2048", "-nodes", "-days", "1", "-subj", "/CN=localhost"]
         made += ["-keyout", f"{self.folder}/key.pem", "-out", f"{self.folder}/certificate.pem"]
         subprocess.run(made, check=True, capture_output=True)
-        word = subprocess.run(["openssl", "passwd", "-apr1", "secret"], check=True, capture_output=True, text=True).stdout
+        word = subprocess.run(
+            ["openssl", "passwd", "-apr1", "secret"], check=True, capture_output=True, text=True
+        ).stdout
         with open(f"{self.folder}/passwords", "w") as file:
             file.write(f"editor:{word}")
 
     def serve(self, name, port, count):
-        words = [f"{TOP}/tools/serve", f"{self.folder}/{name}", str(port), str(count)]
-        self.running.append(subprocess.Popen(words, env=dict(os.environ, SERVER=PROGRAM), start_new_session=True))
+        words = [f"{TOP}/deploy/serve", f"{self.folder}/{name}", str(port), str(count)]
+        self.running.append(
+            subprocess.Popen(
+                words,
+                env=dict(os.environ, SERVER=PROGRAM, KEEP="no"),
+                stderr=subprocess.DEVNULL,
+                start_new_session=True,
+            )
+        )
         wait_for(port)
 
     def start_nginx(self, readers):
-        with open(f"{TOP}/tools/nginx.conf") as file:
+        with open(f"{TOP}/deploy/nginx.conf") as file:
             text = file.read()
         entries = "".join(f"        server 127.0.0.1:{port} max_fails=0;\n" for port in readers)
         text = re.sub(r"(        server 127\.0\.0\.1:800[1-4] max_fails=0;\n)+", entries, text)
-        text = text.replace("127.0.0.1:8000", f"127.0.0.1:{self.writer}").replace("listen 443", f"listen 127.0.0.1:{self.front}")
+        for number, port in enumerate(self.readers, 1):
+            text = text.replace(f"127.0.0.1:800{number}/ows", f"127.0.0.1:{port}/ows")
+        text = text.replace("127.0.0.1:8000", f"127.0.0.1:{self.writer}").replace(
+            "listen 443", f"listen 127.0.0.1:{self.front}"
+        )
         text = text.replace("/etc/rasterd", self.folder).replace("/run/nginx.pid", f"{self.folder}/pid")
         text = text.replace("/var/log/nginx", self.folder)
-        places = "".join(f"    {kind}_temp_path {self.folder}/{kind};\n" for kind in ["client_body", "proxy", "fastcgi", "uwsgi", "scgi"])
-        text = text.replace("    access_log off;\n", "    access_log off;\n" + places)
+        places = "".join(
+            f"    {kind}_temp_path {self.folder}/{kind};\n"
+            for kind in ["client_body", "proxy", "fastcgi", "uwsgi", "scgi"]
+        )
+        text = text.replace("http {\n", "http {\n" + places, 1)
         with open(f"{self.folder}/nginx.conf", "w") as file:
             file.write("daemon off;\nuser root;\n" + text)
         words = [NGINX, "-p", self.folder, "-c", f"{self.folder}/nginx.conf", "-e", f"{self.folder}/error.log"]
@@ -101,12 +124,18 @@ class Site:
         ends = [script.wait(60) for script in self.running]
         self.running = []
         if any(ends):
-            raise SystemExit(f"WRONG: tools/serve ended with {ends}")
+            raise SystemExit(f"WRONG: deploy/serve ended with {ends}")
 
-    def client(self):
+    def tls(self):
         context = ssl.create_default_context(cafile=f"{self.folder}/certificate.pem")
         context.check_hostname = False
-        return http.client.HTTPSConnection("127.0.0.1", self.front, timeout=60, context=context)
+        return context
+
+    def client(self):
+        return http.client.HTTPSConnection("127.0.0.1", self.front, timeout=60, context=self.tls())
+
+    def session(self, path):
+        return rasterd.Session(port=self.front, path=path, tls=self.tls())
 
     def ask(self, path, pairs, headers={}, body=None):
         """The status and the body of a reply."""
@@ -147,6 +176,36 @@ def fill(site):
             same(found, (200, "lai\n"))
 
 
+def jobs(site, paths):
+    """What became of 50 jobs of each of some clients at once, each at its path, counted; no two clients ask the same."""
+
+    def one(number, path):
+        told, session = collections.Counter(), site.session(path)
+        for turn in range(50):
+            wanted = f"{SIDE * SIDE + 1000 * number + turn}\n"
+            query = f"for c in (lai) return add(c) + {1000 * number + turn}"
+            try:
+                found = session.run(query, units=4, progress=None)
+                told["right" if found == wanted else "WRONG ANSWER"] += 1
+            except (rasterd.Refused, rasterd.NotUnderstood) as refusal:
+                told[str(refusal)[:40]] += 1
+        return told
+
+    with concurrent.futures.ThreadPoolExecutor(len(paths)) as pool:
+        return dict(sum(pool.map(one, range(len(paths)), paths), collections.Counter()))
+
+
+def logged(site):
+    """The servers that the requests at each path of one server went to, by the lines of the access log."""
+    found = collections.defaultdict(set)
+    with open(f"{site.folder}/rasterd.log") as file:
+        for line in file:
+            words = re.fullmatch(r'\S+ \S+ "POST (/[0-9]/ows) [^"]*" 200 [0-9.]+ (\S+) [0-9.]+\n', line)
+            if words:
+                found[words[1]].add(words[2])
+    return dict(found)
+
+
 def rate(site, seconds):
     """How many requests a second 16 clients have answered."""
     end = time.monotonic() + seconds
@@ -180,6 +239,11 @@ def main():
                 for found in pool.map(lambda _: ask_again(site, "/ows", SUM), range(256)):
                     same(found, (200, f"{SIDE * SIDE}\n"))
             same(site.ask("/other", LIST)[0], 404)
+            same(jobs(site, ["/1/ows", "/2/ows", "/3/ows", "/4/ows"]), {"right": 200})
+            same(jobs(site, ["/2/ows"] * 4), {"right": 200})
+            same(jobs(site, ["/job/ows"] * 4), {"right": 200})
+            print("jobs of four clients at once, at four paths, at one and by address: 600 of 600 right", flush=True)
+            same(logged(site), {f"/{k}/ows": {f"127.0.0.1:{port}"} for k, port in enumerate(site.readers, 1)})
             four = rate(site, seconds)
             site.stop_nginx()
             site.start_nginx(site.readers[:1])
@@ -190,7 +254,9 @@ def main():
                 os.killpg(script.pid, signal.SIGTERM)
         for script in site.running:
             script.wait(60)
-    print(f"sum of {SIDE} x {SIDE} cells over TLS, 16 clients: {one:.0f} requests a second by one server, {four:.0f} by four, {four / one:.2f} times")
+    print(
+        f"sum of {SIDE} x {SIDE} cells over TLS, 16 clients: {one:.0f} requests a second by one server, {four:.0f} by four, {four / one:.2f} times"
+    )
 
 
 if __name__ == "__main__":

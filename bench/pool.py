@@ -3,8 +3,8 @@
 
 usage: bench/pool.py FILE [TIMES, else 9]
 
-The actions are those of crates/store_bench, which `rt run` in its folder builds, on a grid of noise, whose tiles fill
-four blocks each: windows and numbers at twelve places, each asked again and again (again, point); windows and numbers at
+The actions are those of crates/bench, which `rt run` in its folder builds, on a grid of noise, whose tiles fill four
+blocks each: windows and numbers at twelve places, each asked again and again (again, point); windows and numbers at
 scattered places of a grid of 4,096 blocks, and the whole of it (window, cell, read); a number written, and the whole
 written, in a grid of 1,024 blocks (put, values). The figure is what one more round takes of the processor, the least of
 so many runs; the runs with and without a pool take turns. The store is made anew in FILE.
@@ -15,7 +15,7 @@ import subprocess
 import sys
 
 TOP = os.path.dirname(os.path.dirname(os.path.abspath(__file__)))
-PROGRAM = f"{TOP}/crates/store_bench/out/store_bench"
+PROGRAM = [f"{TOP}/crates/bench/out/bench", "store"]
 PAGES = "256"
 # each action, the rows of its grid, and how many rounds are measured
 ACTIONS = [
@@ -33,7 +33,7 @@ def seconds(path, action, side, rounds, pages):
     if os.path.exists(path):
         os.remove(path)
     begun = resource.getrusage(resource.RUSAGE_CHILDREN)
-    subprocess.run([PROGRAM, action, str(side), str(rounds), path] + pages, capture_output=True, check=True)
+    subprocess.run(PROGRAM + [action, str(side), str(rounds), path] + pages, capture_output=True, check=True)
     ended = resource.getrusage(resource.RUSAGE_CHILDREN)
     return ended.ru_utime - begun.ru_utime + ended.ru_stime - begun.ru_stime
 
@@ -57,7 +57,10 @@ def main():
     for action, side, rounds in ACTIONS:
         without, pooled = one_more(path, action, side, rounds, times)
         blocks = (side // 64) ** 2 * 4
-        print(f"{action:8} {blocks:6} {without * 1e6:11.1f} us {pooled * 1e6:11.1f} us {pooled / without:7.2f}", flush=True)
+        print(
+            f"{action:8} {blocks:6} {without * 1e6:11.1f} us {pooled * 1e6:11.1f} us {pooled / without:7.2f}",
+            flush=True,
+        )
     os.remove(path)
 
 

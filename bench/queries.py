@@ -210,7 +210,9 @@ class Session:
 
 
 def write_layer(session, name, cells):
-    session.ask(message(request="InsertCoverage", coverage=name, domain=f"y(0:{SIDE - 1}),x(0:{SIDE - 1})", fields="v:i16"))
+    session.ask(
+        message(request="InsertCoverage", coverage=name, domain=f"y(0:{SIDE - 1}),x(0:{SIDE - 1})", fields="v:i16")
+    )
     for row in range(0, SIDE, ROWS):
         for column in range(0, SIDE, COLUMNS):
             parts = (cells[(row + y) * SIDE + column : (row + y) * SIDE + column + COLUMNS] for y in range(ROWS))
@@ -284,7 +286,10 @@ def main():
                     continue
                 seconds, text = plain[loop]
                 taken = median(session, query, text)
-                print(f"{name:44} {taken * 1e3:10.2f} {seconds * 1e3:9.3f} {taken / seconds:9.1f} {limit or '-':>6}", flush=True)
+                print(
+                    f"{name:44} {taken * 1e3:10.2f} {seconds * 1e3:9.3f} {taken / seconds:9.1f} {limit or '-':>6}",
+                    flush=True,
+                )
 
 
 main()

@@ -6,8 +6,8 @@ usage: bench/sockets.py [--silent]
 Each case starts the program on a port of its own and a file in a fresh folder, makes its connections, and compares the
 bytes that came back and the status with what they have to be: a client that has shut its writing side before it is
 accepted, 200 connections with three messages each, clients that go away in the middle of a reply or reset, 1,001 messages
-on one connection, a message that comes byte by byte, a second run on the same file, a port in use, and tools/serve that is
-stopped. With --silent also a client that says nothing, which is let go after 60 seconds. Every wait has an end. Prints a
+on one connection, a message that comes byte by byte, a second run on the same file, a port in use, deploy/serve that is
+stopped, and a second one on its file. With --silent also a client that says nothing, which is let go after 60 seconds. Every wait has an end. Prints a
 line for each case, and ends with status 1 where one went wrong. `rt run` in crates/rasterd builds the program.
 """
 import os
@@ -55,7 +55,9 @@ class Server:
     def __init__(self, path, count, port=None):
         self.port = port or free_port()
         words = [PROGRAM, path, "listen", str(self.port), str(count)]
-        self.process = subprocess.Popen(words, stdin=subprocess.DEVNULL, stdout=subprocess.DEVNULL, stderr=subprocess.PIPE)
+        self.process = subprocess.Popen(
+            words, stdin=subprocess.DEVNULL, stdout=subprocess.DEVNULL, stderr=subprocess.PIPE
+        )
 
     def connect(self):
         return connect(self.port)
@@ -123,7 +125,10 @@ def many(path):
     server = Server(path, 200)
     for number in range(200):
         name = b"c%d" % number
-        same(server.talk(INSERT % name, FILL % (name, number), post(QUERY % name)), OK + OK + reply(b"%d\n" % number, b"csv"))
+        same(
+            server.talk(INSERT % name, FILL % (name, number), post(QUERY % name)),
+            OK + OK + reply(b"%d\n" % number, b"csv"),
+        )
     same(server.status(), (0, b""))
     server = Server(path, 1)
     names = b"".join(b"c%d\n" % number for number in range(200))
@@ -164,7 +169,7 @@ def pieces(path):
     with server.connect() as client:
         client.setsockopt(socket.IPPROTO_TCP, socket.TCP_NODELAY, 1)
         for place in range(len(LIST)):
-            client.sendall(LIST[place:place + 1])
+            client.sendall(LIST[place : place + 1])
             time.sleep(0.001)
         client.sendall(LIST[:30])
         client.shutdown(socket.SHUT_WR)
@@ -210,23 +215,49 @@ def insert(port, name):
     raise AssertionError("never served")
 
 
-def stopped(path):
-    """tools/serve is stopped: it uses up the connections that are left, and the file is closed."""
-    port = free_port()
+def script(path, port, count):
+    words = [f"{TOP}/deploy/serve", path, str(port), str(count)]
     environment = dict(os.environ, SERVER=PROGRAM)
-    words = [f"{TOP}/tools/serve", path, str(port), "40"]
-    script = subprocess.Popen(words, env=environment, start_new_session=True)
-    try:
-        for number in range(90):
-            same(insert(port, b"c%d" % number), OK)
-        script.send_signal(signal.SIGTERM)
-        same(script.wait(LONGEST), 0)
-    finally:
-        if script.poll() is None:
-            os.killpg(script.pid, signal.SIGKILL)
+    return subprocess.Popen(words, env=environment, stderr=subprocess.PIPE, start_new_session=True)
+
+
+def stopped(path):
+    """deploy/serve is stopped, over the ends of runs and at once whatever is left of one, and the file is closed."""
+    port = free_port()
+    for count, first, last in [(40, 0, 90), (1000000, 90, 95)]:
+        running = script(path, port, count)
+        try:
+            for number in range(first, last):
+                same(insert(port, b"c%d" % number), OK)
+            running.send_signal(signal.SIGTERM)
+            begin = time.monotonic()
+            same(running.wait(LONGEST), 0)
+            if time.monotonic() - begin > 5:
+                raise AssertionError(f"stopped after {time.monotonic() - begin:.1f} s")
+        finally:
+            if running.poll() is None:
+                os.killpg(running.pid, signal.SIGKILL)
+            running.stderr.close()
     server = Server(path, 1)
-    same(server.talk(LIST), reply(b"".join(b"c%d\n" % number for number in range(90))))
+    same(server.talk(LIST), reply(b"".join(b"c%d\n" % number for number in range(95))))
     same(server.status(), (0, b""))
+
+
+def taken(path):
+    """A second deploy/serve on a file is told so, and the first one goes on."""
+    port = free_port()
+    first = script(path, port, 1000)
+    try:
+        same(insert(port, b"lai"), OK)
+        _, said = script(path, free_port(), 1000).communicate(timeout=LONGEST)
+        same(said, b"serve: another serves %s\n" % path.encode())
+        same(insert(port, b"hill"), OK)
+        first.send_signal(signal.SIGTERM)
+        same(first.wait(LONGEST), 0)
+    finally:
+        if first.poll() is None:
+            os.killpg(first.pid, signal.SIGKILL)
+        first.stderr.close()
 
 
 def silent(path):
@@ -246,7 +277,7 @@ def silent(path):
 def main():
     if not os.access(PROGRAM, os.X_OK):
         sys.exit(f"there is no program {PROGRAM}")
-    cases = [early_end, many, goes_away, thousand, pieces, second_run, not_opened, stopped]
+    cases = [early_end, many, goes_away, thousand, pieces, second_run, not_opened, stopped, taken]
     if "--silent" in sys.argv[1:]:
         cases.append(silent)
     wrong = 0

@@ -3,7 +3,7 @@
 
 usage: bench/store.py [SIDE, else 4096 [FILE for the store, else memory]]
 
-The actions are those of crates/store_bench, which `rt run` in its folder builds: the whole grid filled with a number
+The actions are those of crates/bench, which `rt run` in its folder builds: the whole grid filled with a number
 that changes in each round (fill), written with noise (values) and read and added (read), and at scattered places a
 window of 64 x 64 read and added, that crosses the edges of four tiles (window), a cell read (cell), and a cell written
 (put). The figure is the processor time that one more round takes, so that starting, making the noise and what else the
@@ -21,7 +21,7 @@ import sys
 from compiled import figures
 
 TOP = os.path.dirname(os.path.dirname(os.path.abspath(__file__)))
-PROGRAM = f"{TOP}/crates/store_bench/out/store_bench"
+PROGRAM = [f"{TOP}/crates/bench/out/bench", "store"]
 SIDE = int(sys.argv[1]) if len(sys.argv) > 1 else 4096
 FILE = sys.argv[2:3]
 # each action, the cells of a round, and how many rounds are measured
@@ -102,7 +102,7 @@ def seconds(action, rounds):
         if os.path.exists(path):
             os.remove(path)
     begun = resource.getrusage(resource.RUSAGE_CHILDREN)
-    subprocess.run([PROGRAM, action, str(SIDE), str(rounds)] + FILE, capture_output=True, check=True)
+    subprocess.run(PROGRAM + [action, str(SIDE), str(rounds)] + FILE, capture_output=True, check=True)
     ended = resource.getrusage(resource.RUSAGE_CHILDREN)
     return ended.ru_utime - begun.ru_utime + ended.ru_stime - begun.ru_stime
 

@@ -86,10 +86,7 @@ ROWS = [
     ("a sum of zeros, 64 times", fitted(lambda n: over(LAI, balanced("0", n)))),
     ("a sum of zeros, 64 unlike", fitted(lambda n: over(UNLIKE, balanced("0", n)))),
     ("a sum of fields of 64, 64 times", fitted(lambda n: over(["wide"] * 64, balanced("c.f0", n)))),
-    (
-        "nested records, 64 times",
-        fitted(lambda n: over(LAI, "{a:" * 30 + f"{parts('c', n)}.a0" + "}.a" * 30)),
-    ),
+    ("nested records, 64 times", fitted(lambda n: over(LAI, "{a:" * 30 + f"{parts('c', n)}.a0" + "}.a" * 30))),
     (
         "nested records, 64 unlike",
         fitted(lambda n: over(UNLIKE, "{a:" * 30 + f"{parts('c', n)}.a0" + "}.a" * 30 + "[x(0)]")),
@@ -116,7 +113,10 @@ ROWS = [
     ),
     ("fields of 64, 64 unlike", fitted(lambda n: over(WIDE, balanced("c.f63", n)))),
     ("fields of 64 at positions, 64 unlike", fitted(lambda n: over(WIDE, balanced("c[x(0)].f63", n)))),
-    ("120 iterators and a sum of the last, 64 unlike", fitted(lambda n: over(UNLIKE, within(30, balanced("$i119", n))))),
+    (
+        "120 iterators and a sum of the last, 64 unlike",
+        fitted(lambda n: over(UNLIKE, within(30, balanced("$i119", n)))),
+    ),
     (
         "120 iterators named alike and a sum of the last, 64 unlike",
         fitted(lambda n: over(UNLIKE, within(30, balanced(alike(119), n), alike))),
@@ -125,7 +125,10 @@ ROWS = [
         "the same with names of nine bytes, 64 unlike",
         fitted(lambda n: over(UNLIKE, within(30, balanced(longer(119), n), longer))),
     ),
-    ("104 iterators and cells at the last, 64 unlike", fitted(lambda n: over(UNLIKE, within(26, balanced("c[x($i103),y(0)]", n))))),
+    (
+        "104 iterators and cells at the last, 64 unlike",
+        fitted(lambda n: over(UNLIKE, within(26, balanced("c[x($i103),y(0)]", n)))),
+    ),
     (
         "256 condensers, most within 120 iterators, 64 unlike",
         over(UNLIKE, within(30, balanced("(condense + over $z x(0:0) using c[x($z),y(0)])", 226))),
@@ -136,7 +139,16 @@ ROWS = [
     ),
     ("a chain of 1, 64 KiB", fitted(lambda n: "for c in (lai) return 1" + "+1" * n)),
     ("a chain of brackets, 64 KiB", fitted(lambda n: "for c in (lai) return encode(c" + "[x(0:9)]" * n + ",csv)")),
-    ("a value list, 64 KiB", fitted(lambda n: "for c in (lai) return add(coverage m over $i x(1:" + str(n) + ") value list <1" + ";1" * (n - 1) + ">)")),
+    (
+        "a value list, 64 KiB",
+        fitted(
+            lambda n: "for c in (lai) return add(coverage m over $i x(1:"
+            + str(n)
+            + ") value list <1"
+            + ";1" * (n - 1)
+            + ">)"
+        ),
+    ),
 ]
 
 

@@ -13,7 +13,7 @@ import sys
 
 sys.dont_write_bytecode = True
 HERE = os.path.dirname(os.path.abspath(__file__))
-sys.path[:0] = [f"{HERE}/../clients/python", f"{HERE}/../tools"]
+sys.path[:0] = [f"{HERE}/../clients/python", f"{HERE}/../scripts"]
 try:
     import numpy
     from osgeo import gdal
@@ -24,7 +24,14 @@ import data
 import rasterd
 from served import served
 
-COLOURS = {0: (245, 245, 245), 1: (90, 140, 200), 2: (235, 215, 130), 3: (70, 130, 70), 4: (190, 60, 50), 5: (130, 125, 120)}
+COLOURS = {
+    0: (245, 245, 245),
+    1: (90, 140, 200),
+    2: (235, 215, 130),
+    3: (70, 130, 70),
+    4: (190, 60, 50),
+    5: (130, 125, 120),
+}
 
 
 def picture(path, cells, colours=None):
@@ -69,7 +76,9 @@ def area_by_class(session, folder):
         f"coverage a over $d district(1:{data.DISTRICTS}), $k class(1:{len(data.CLASSES)})"
         " values count(c = $k and d = $d), csv)"
     )
-    table("Cells by district and land cover", data.CLASSES, [f"district {k + 1}" for k in range(data.DISTRICTS)], counts)
+    table(
+        "Cells by district and land cover", data.CLASSES, [f"district {k + 1}" for k in range(data.DISTRICTS)], counts
+    )
     classes = session.array("for c in (cover) return encode(c, csv)")
     picture(f"{folder}/cover.png", classes, COLOURS)
     return counts
@@ -98,8 +107,10 @@ def focal(session, folder):
     )
     high = rasterd.arrays_of(session.template("FocalMaximum", "terrain", radius=1))
     low = rasterd.arrays_of(session.template("FocalMinimum", "terrain", radius=1))
-    print(f"Heights from {session.query('for c in (terrain) return min(c)').strip()} to {session.query('for c in (terrain) return max(c)').strip()} m,"
-          f" smoothed from {smoothed.min()} to {smoothed.max()} m; at most {(high - low).max()} m between neighbours")
+    print(
+        f"Heights from {session.query('for c in (terrain) return min(c)').strip()} to {session.query('for c in (terrain) return max(c)').strip()} m,"
+        f" smoothed from {smoothed.min()} to {smoothed.max()} m; at most {(high - low).max()} m between neighbours"
+    )
     picture(f"{folder}/smoothed.png", grey(smoothed))
     picture(f"{folder}/relief.png", grey(high - low))
     return smoothed, high - low
@@ -110,7 +121,12 @@ def main(program, folder=f"{HERE}/pictures"):
     heights = data.terrain()
     classes = data.cover(heights)
     with served(os.path.abspath(program)) as port, rasterd.Session(port=port, timeout=600) as session:
-        for name, cells, kind in [("terrain", heights, "i16"), ("cover", classes, "u8"), ("later", data.later(classes), "u8"), ("district", data.districts(), "u8")]:
+        for name, cells, kind in [
+            ("terrain", heights, "i16"),
+            ("cover", classes, "u8"),
+            ("later", data.later(classes), "u8"),
+            ("district", data.districts(), "u8"),
+        ]:
             load(session, name, cells, kind)
         area_by_class(session, folder)
         change(session, folder)

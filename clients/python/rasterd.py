@@ -1,36 +1,50 @@
 """A client of rasterd, over HTTP/1.1, with the standard library alone; numpy makes arrays of answers where it is there.
 
-    with rasterd.Session(port=8080) as session:
-        session.insert("hill", {"y": (0, 2), "x": (0, 3)}, {"v": "i16"})
-        session.write("hill", "v", [[1, 2, 3, 4], [5, 6, 7, 8], [9, 10, 11, 12]])
-        session.query("for c in (hill) return add(c)")        # '78\n'
-        session.array("for c in (hill) return encode(c[y(0:1)], csv)")
-        session.run("for c in (hill) return max(c)")          # as a job, with a line that shows its progress
+    session = rasterd.Session(port=8080)
+    session.insert("hill", {"y": (0, 2), "x": (0, 3)}, {"v": "i16"})
+    session.write("hill", "v", [[1, 2, 3, 4], [5, 6, 7, 8], [9, 10, 11, 12]])
+    session.query("for c in (hill) return add(c)")        # '78\n'
+    session.array("for c in (hill) return encode(c[y(0:1)], csv)")
+    session.run("for c in (hill) return max(c)")          # as a job, with a line that shows its progress
 
-A refusal is raised as `Refused`, with its number and its name. The server serves one connection at a time: end a session
-as soon as it has done its work, and others are served.
+A refusal is raised as `Refused`, with its number, its name and, where it can be found, what to change. The server serves one
+connection at a time, so a connection ends with each call, and others are served. Many short requests go faster inside a
+`with`, which keeps the connection for them: `with session: ..`.
 """
 
 import contextlib
 import http.client
+import re
+import select
 import sys
+import time
 import urllib.parse
 
-PATH = "/ows"
+# What a body may have, and of that the cells, less some room for the other keys.
+MAX_BODY, MAX_VALUES = 1_048_576, 1_000_000
 
-# What a body may have, by the server's limit of 1,048,576 bytes, less some room for the other keys.
-MAX_VALUES = 1_000_000
+# What a form may have as it is.
+PLAIN = ",:()"
+
+# How long a step of a job is to take, in seconds, and the most units of one: the units after these may be far slower.
+STEP, MOST_UNITS = 0.05, 32
 
 # What a field type holds, both inclusive; a bool holds false and true.
-RANGES = {"u8": (0, 2**8 - 1), "i16": (-(2**15), 2**15 - 1), "i32": (-(2**31), 2**31 - 1), "i64": (-(2**63), 2**63 - 1)}
+RANGES = {
+    "u8": (0, 2**8 - 1),
+    "i16": (-(2**15), 2**15 - 1),
+    "i32": (-(2**31), 2**31 - 1),
+    "i64": (-(2**63), 2**63 - 1),
+}
 
 
 class Refused(Exception):
-    """A request that the server refused: `number` and `name` say why, `status` is that of HTTP."""
+    """A request that the server refused: `number` and `name` say why, `status` is that of HTTP, and `reason` what to change,
+    or None where that was not found."""
 
-    def __init__(self, number, name, status):
-        super().__init__(f"{number} {name}")
-        self.number, self.name, self.status = number, name, status
+    def __init__(self, number, name, status, reason=None):
+        super().__init__(f"{number} {name}: {reason}" if reason else f"{number} {name}")
+        self.number, self.name, self.status, self.reason = number, name, status, reason
 
 
 class NotUnderstood(Exception):
@@ -43,10 +57,30 @@ def interval_list(box):
 
 
 def cell_text(cell):
-    """The text of a cell: `true` or `false` of a Boolean, numpy's too, else the number."""
+    """The text of a cell: `true` or `false` of a Boolean, numpy's too, else the number, which has to be whole."""
     if isinstance(cell, bool) or type(cell).__name__ in ("bool_", "bool"):
         return "true" if cell else "false"
+    if int(cell) != cell:
+        raise ValueError(f"a cell of {cell} is not whole")
     return str(int(cell))
+
+
+def texts_of(cells):
+    """The texts of some cells of an array of numpy, all at once; texts stay as they are."""
+    if not hasattr(cells, "dtype"):
+        return cells
+    if cells.dtype.kind == "b":
+        return ["true" if cell else "false" for cell in cells.tolist()]
+    return list(map(str, cells.tolist()))
+
+
+def longest_of(cells):
+    """The length of the longest text of some cells."""
+    if hasattr(cells, "dtype"):
+        return (
+            max(len(str(int(cell))) for cell in (cells.min(), cells.max())) if cells.dtype.kind != "b" else len("false")
+        )
+    return max(map(len, cells), default=1)
 
 
 def flat(values):
@@ -58,6 +92,13 @@ def flat(values):
             yield value
 
 
+def in_a_row(values):
+    """The cells in row-major order: an array of numpy where they are one of integers or Booleans, else their texts."""
+    if hasattr(values, "dtype") and values.dtype.kind in "iub" and values.size:
+        return values.ravel()
+    return [cell_text(cell) for cell in flat(values)]
+
+
 def parsed_cell(text):
     """The cell of a text: a bool or an int."""
     return text == "true" if text in ("true", "false") else int(text)
@@ -67,7 +108,10 @@ def items_of(csv):
     """The items of an answer: for each a list of lines, of lists of cells, of tuples of fields."""
     if not csv:
         return []
-    return [[[tuple(map(parsed_cell, cell.split(" "))) for cell in line.split(",")] for line in item.splitlines()] for item in csv.split("\n\n")]
+    return [
+        [[tuple(map(parsed_cell, cell.split(" "))) for cell in line.split(",")] for line in item.splitlines()]
+        for item in csv.split("\n\n")
+    ]
 
 
 def print_progress(done, whole):
@@ -76,16 +120,26 @@ def print_progress(done, whole):
 
 
 class Session:
-    """A connection to a server, which is made anew where the server has ended it: it does so after 1,000 messages."""
+    """Requests to one server, at a path of a proxy's where there is one, and over TLS by an `ssl.SSLContext`.
 
-    def __init__(self, host="127.0.0.1", port=8080, timeout=60):
-        self.connection = http.client.HTTPConnection(host, port, timeout=timeout)
+    The connection is kept inside a call and inside a `with`. It is made anew where the server has ended it: it does so after
+    1,000 messages, and after 60 seconds without one."""
+
+    def __init__(self, host="127.0.0.1", port=8080, timeout=60, path="/ows", tls=None):
+        self.path, self.depth = path, 0
+        if tls:
+            self.connection = http.client.HTTPSConnection(host, port, timeout=timeout, context=tls)
+        else:
+            self.connection = http.client.HTTPConnection(host, port, timeout=timeout)
 
     def __enter__(self):
+        self.depth += 1
         return self
 
     def __exit__(self, *_):
-        self.close()
+        self.depth -= 1
+        if not self.depth:
+            self.close()
 
     def close(self):
         """Ends the connection; the next request makes a new one."""
@@ -94,22 +148,53 @@ class Session:
     def request(self, request, **keys):
         """The body of the reply to a request. A key that is None is left out. Nothing is sent twice."""
         pairs = {"request": request} | {key: value for key, value in keys.items() if value is not None}
-        body = urllib.parse.urlencode(pairs).encode()
-        self.connection.request("POST", PATH, body)
-        reply = self.connection.getresponse()
-        text = reply.read().decode()
-        if reply.status == 200:
+        body = urllib.parse.urlencode(pairs, safe=PLAIN).encode()
+        if len(body) > MAX_BODY:
+            # as the server would, which ends the connection before it has read all
+            raise Refused(2, "BodyTooLong", 413, self.reason(2, pairs))
+        status, text = self.sent(body)
+        if status == 200:
             return text
         words = text.split()
         if len(words) != 3 or words[0] != "refused" or not words[1].isdigit():
-            raise NotUnderstood(f"status {reply.status}: {text[:200]!r}")
-        raise Refused(int(words[1]), words[2], reply.status)
+            raise NotUnderstood(f"status {status}: {text[:200]!r}")
+        raise Refused(int(words[1]), words[2], status, self.reason(int(words[1]), pairs))
+
+    def sent(self, body):
+        """The status and the text of the reply to a form."""
+        if self.connection.sock and select.select([self.connection.sock], [], [], 0)[0]:
+            # the server has ended it since the last reply
+            self.close()
+        try:
+            self.connection.request("POST", self.path, body)
+            reply = self.connection.getresponse()
+            found = reply.status, reply.read().decode()
+        except BaseException:
+            # what is left of a reply must not be taken for that of the next request
+            self.close()
+            raise
+        if not self.depth:
+            self.close()
+        return found
+
+    def reason(self, number, pairs):
+        """What to change after a refusal, where the module beside this one finds it."""
+        # advice, which must never stand in the way of the refusal itself
+        with contextlib.suppress(Exception):
+            import rasterd_why
+
+            return rasterd_why.reason(number, pairs, self.describe)
 
     # Coverages
 
     def insert(self, coverage, domain, fields):
         """Makes a coverage of zeros: `domain` maps axes, in order, to their bounds, and `fields` names to types."""
-        self.request("InsertCoverage", coverage=coverage, domain=interval_list(domain), fields=",".join(f"{name}:{kind}" for name, kind in fields.items()))
+        self.request(
+            "InsertCoverage",
+            coverage=coverage,
+            domain=interval_list(domain),
+            fields=",".join(f"{name}:{kind}" for name, kind in fields.items()),
+        )
 
     def delete(self, coverage):
         self.request("DeleteCoverage", coverage=coverage)
@@ -126,24 +211,32 @@ class Session:
 
     def fill(self, coverage, field, cell, box=None):
         """Gives all cells of a box, or of the whole coverage, one value."""
-        self.request("UpdateCoverage", coverage=coverage, field=field, box=interval_list(box or self.describe(coverage)[0]), fill=cell_text(cell))
+        with self:
+            box = interval_list(box or self.describe(coverage)[0])
+            self.request("UpdateCoverage", coverage=coverage, field=field, box=box, fill=cell_text(cell))
 
     def write(self, coverage, field, values, box=None, progress=None):
         """Writes cells in row-major order into a box, or into the whole coverage. What is too long for one request goes in
         several, each of whole rows along the first axis or parts of them; `progress` is called with the cells that are
         written and all that there are. Where a request is refused, the parts before it have been written."""
-        box = box or self.describe(coverage)[0]
-        texts = [cell_text(cell) for cell in flat(values)]
-        points = points_of(box)
-        if len(texts) != points:
-            raise ValueError(f"the box has {points} cells, and {len(texts)} are given")
-        at = 0
-        for part in parts_of(box, widest_part(texts)):
-            count = points_of(part)
-            self.request("UpdateCoverage", coverage=coverage, field=field, box=interval_list(part), values=",".join(texts[at : at + count]))
-            at += count
-            if progress:
-                progress(at, points)
+        with self:
+            box = box or self.describe(coverage)[0]
+            cells, points = in_a_row(values), points_of(box)
+            if len(cells) != points:
+                raise ValueError(f"the box has {points} cells, and {len(cells)} are given")
+            at = 0
+            for part in parts_of(box, max(1, MAX_VALUES // (longest_of(cells) + 1))):
+                count = points_of(part)
+                self.request(
+                    "UpdateCoverage",
+                    coverage=coverage,
+                    field=field,
+                    box=interval_list(part),
+                    values=",".join(texts_of(cells[at : at + count])),
+                )
+                at += count
+                if progress:
+                    progress(at, points)
 
     # Queries
 
@@ -181,23 +274,37 @@ class Session:
         """Ends a job, with units left or without."""
         self.request("CancelJob", job=job)
 
-    def run(self, query, units=100, progress=print_progress):
-        """The answer to a query as a job, so many units a request; others are served between these, as the connection is
-        ended after each. `progress` is called with the units done and all that there are; None is for silence. A job that
-        is not brought to its end is cancelled."""
+    def run(self, query, units=None, progress=print_progress):
+        """The answer to a query as a job, so many units a request, or as many as take some 50 milliseconds, measured as it
+        goes; others are served between these, as the connection is ended after each. `progress` is called with the units done
+        and all that there are; None is for silence. A job that is not brought to its end is cancelled."""
         job, whole = self.submit(query)
+        left, size = whole, units or 1
         try:
-            left = whole
             while left:
                 self.close()
-                left = self.step(job, units)
+                size, start = min(size, left), time.monotonic()
+                left = self.stepped(job, left, size)
+                took = max(time.monotonic() - start, 1e-6)
+                size = units or max(1, min(2 * size, int(size * STEP / took), MOST_UNITS))
                 if progress:
                     progress(whole - left, whole)
-        except BaseException:
-            with contextlib.suppress(Exception):
-                self.cancel(job)
+        except BaseException as fault:
+            if not is_gone(fault):
+                with contextlib.suppress(Refused, OSError, http.client.HTTPException):
+                    self.cancel(job)
             raise
         return self.fetch(job)
+
+    def stepped(self, job, left, units):
+        """The units that a job has left after a step. Another number than is to come is that of another job: then another
+        server answered, or a run of the server has ended, and its jobs with it."""
+        found = self.step(job, units)
+        if found != max(0, left - units):
+            raise NotUnderstood(
+                f"job {job} is another one: a server's jobs end with its run, and are known to it alone"
+            )
+        return found
 
     # Templates
 
@@ -210,19 +317,17 @@ class Session:
         return self.request("ProcessTemplate", template=template, layer=layer, second=second, radius=radius)
 
 
+def is_gone(fault):
+    """Whether a fault says that a job is there no more, or is another's by now: its number may be given anew."""
+    return isinstance(fault, (NotUnderstood, ConnectionError)) or getattr(fault, "number", None) == 70
+
+
 def points_of(box):
     """How many points a box has."""
     points = 1
     for lo, hi in box.values():
         points *= hi - lo + 1
     return points
-
-
-def widest_part(texts):
-    """How many cells a request may have, whichever these are."""
-    longest = max(map(len, texts), default=1)
-    # a comma takes three bytes
-    return max(1, MAX_VALUES // (longest + 3))
 
 
 def parts_of(box, most):
@@ -241,9 +346,15 @@ def arrays_of(csv, shape=None):
     """The one item of an answer as an array of numpy, or a list of them where it has several fields."""
     import numpy
 
-    items = items_of(csv)
-    if len(items) != 1:
-        raise ValueError(f"the answer has {len(items)} items, and an array is made of one")
-    fields = [numpy.array([[cell[k] for cell in line] for line in items[0]]) for k in range(len(items[0][0][0]))]
+    if not csv or "\n\n" in csv:
+        count = csv.count("\n\n") + 1 if csv else 0
+        raise ValueError(f"the answer has {count} items, and an array is made of one")
+    booleans = [it in ("true", "false") for it in re.match(r"[^,\n]*", csv)[0].split(" ")]
+    if any(booleans):
+        csv = csv.replace("true", "1").replace("false", "0")
+    lines = csv.count("\n")
+    cells = numpy.fromstring(csv.rstrip("\n").replace(" ", ",").replace("\n", ","), numpy.int64, sep=",")
+    cells = cells.reshape(lines, -1, len(booleans))
+    fields = [cells[:, :, k].astype(bool) if it else cells[:, :, k] for k, it in enumerate(booleans)]
     shaped = [it.reshape(shape) if shape else it for it in fields]
     return shaped[0] if len(shaped) == 1 else shaped

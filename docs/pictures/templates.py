@@ -104,7 +104,9 @@ def picture(name, before, after):
 
 def main():
     given = rows()
-    local = [(name, "land", None) for name in ("LocalSum", "LocalDifference", "LocalProduct", "LocalMaximum", "LocalMinimum")]
+    local = [
+        (name, "land", None) for name in ("LocalSum", "LocalDifference", "LocalProduct", "LocalMaximum", "LocalMinimum")
+    ]
     focal = [(name, None, "1") for name in ("FocalSum", "FocalMaximum", "FocalMinimum")]
     zonal = [(name, "land", None) for name in ("ZonalSum", "ZonalMaximum", "ZonalMinimum")]
     templates = local + focal + zonal
@@ -115,9 +117,9 @@ def main():
     for name, second, radius in templates:
         keys = {"template": name, "layer": "hill", "second": second, "radius": radius}
         asked.append(("ProcessTemplate", {key: value for key, value in keys.items() if value}))
-    answers = bodies(written + read + asked)[len(written):]
+    answers = bodies(written + read + asked)[len(written) :]
     drawings = {}
-    for (name, second, radius), answer in zip(templates, answers[len(layers):]):
+    for (name, second, radius), answer in zip(templates, answers[len(layers) :]):
         if given[f"process {name} hill {second or '-'} {radius or '-'}"] != answer.replace("\n", "\\n"):
             sys.exit(f"{name} is answered {answer}")
         drawings[name] = (name, grid(answer))

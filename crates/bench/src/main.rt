@@ -1,6 +1,6 @@
 //! Runs a part of the project as often as it is told, to time it from outside.
 //!
-//! Its words are the part, `query`, `tile`, `csv` or `kernel`, and what that part is told. Without words, each line of
+//! Its words are the part, `query`, `tile`, `csv`, `kernel` or `store`, and what that part is told. Without words, each line of
 //! standard input has the words of a run. For each run it prints a line that depends on the results.
 #![tactic(auto)]
 
@@ -8,6 +8,7 @@ mod csv;
 mod kernel;
 mod noise;
 mod query;
+mod store;
 mod tile;
 
 use anyhow::{Result, bail};
@@ -18,13 +19,14 @@ use std::env;
 fn run(rt: &HostRuntime, words: &[String]) -> Result<()> {
     let alloc = rt.alloc();
     let [part, rest @ ..] = words else {
-        bail!("words: query|tile|csv|kernel ..");
+        bail!("words: query|tile|csv|kernel|store ..");
     };
     let line = match part.as_str() {
         "query" => query::run(alloc, rest)?,
         "tile" => tile::run(alloc, rest)?,
         "csv" => csv::run(alloc, rest)?,
         "kernel" => kernel::run(alloc, rest)?,
+        "store" => store::run(rt, rest)?,
         _ => bail!("no part {part}"),
     };
     println!(rt; "{line}")?;

@@ -13,7 +13,7 @@ use Rattle.block_file.proofs.Times.{one_other, one_place, times_at}
 -- the first n blocks of a chain were read, and k is the next
 pub record Followed (block : ℕ → List ℕ) (first n k : ℕ) (marks metadata : List ℕ) : Type 0 where
   pub at : k ≡ link block first n
-  pub each : (i : ℕ) → i < n → (0 < link block first i) × (length (block (link block first i)) ≡ 4096) × (get_or marks (link block first i) 0 ≡ 255)
+  pub each : (i : ℕ) → i < n → (0 < link block first i) × (length (block (link block first i)) ≡ 4096) × (get_or marks (link block first i) 0 ≡ 4294967295)
   pub distinct : (i j : ℕ) → i < n → j < n → link block first i ≡ link block first j → i ≡ j
   pub others : (j : ℕ) → 0 < j → ((i : ℕ) → i < n → link block first i ≢ j) → get_or marks j 0 ≡ 0
   pub bytes : (j : ℕ) → j < length metadata → get_or metadata j 0 ≡ get_or (block (link block first (j / 4092))) (4 + j % 4092) 0
@@ -35,7 +35,7 @@ added_byte block first n k following part j old new at full most read le lt =
     let rest : j % 4092 ≡ j - length old = omega (arith, whole) in
     rw (whole, rest, ← at) (rw there at (read.added (j - length old) (omega (arith, read.size))))
 
-pub followed_more : (block : ℕ → List ℕ) (first n k following part : ℕ) (marks old new : List ℕ) → 0 < k → k < length marks → get_or marks k 0 ≡ 0 → length old ≡ 4092 * n → part ≤ 4092 → Followed block first n k marks old → length (block k) ≡ 4096 → AddsLink (block k) following part old new → Followed block first (n + 1) following (set marks k 255) new
+pub followed_more : (block : ℕ → List ℕ) (first n k following part : ℕ) (marks old new : List ℕ) → 0 < k → k < length marks → get_or marks k 0 ≡ 0 → length old ≡ 4092 * n → part ≤ 4092 → Followed block first n k marks old → length (block k) ≡ 4096 → AddsLink (block k) following part old new → Followed block first (n + 1) following (set marks k 4294967295) new
 unfolding link
 followed_more block first n k following part marks old new above inside unmarked full most so_far whole read =
     let at = so_far.at in
@@ -43,14 +43,14 @@ followed_more block first n k following part marks old new above inside unmarked
     let out : (i : ℕ) → i < n → place i ≢ k = λ i lt e. let same = ap (λ m. get_or marks m 0) e in let marked = (so_far.each i lt).2 in omega arith in
     record {
       at = rw add-one (read.next ∙ ap (next_of block) at);
-      each = below_more (λ i. (0 < place i) × (length (block (place i)) ≡ 4096) × (get_or (set marks k 255) (place i) 0 ≡ 255)) n
-          (λ i lt. let was = so_far.each i lt in (was.0, was.1, get_or-set_other marks k (place i) 255 0 (out i lt) ∙ was.2))
-          (rw (← at) (above, whole, get_or-set_same marks k 255 0 inside));
+      each = below_more (λ i. (0 < place i) × (length (block (place i)) ≡ 4096) × (get_or (set marks k 4294967295) (place i) 0 ≡ 4294967295)) n
+          (λ i lt. let was = so_far.each i lt in (was.0, was.1, get_or-set_other marks k (place i) 4294967295 0 (out i lt) ∙ was.2))
+          (rw (← at) (above, whole, get_or-set_same marks k 4294967295 0 inside));
       distinct = λ i j li lj. below_more (λ i. place i ≡ place j → i ≡ j) n
           (λ i li. below_more (λ j. place i ≡ place j → i ≡ j) n (λ j lj. so_far.distinct i j li lj) (λ same. absurd (out i li (same ∙ sym at))) j lj)
           (below_more (λ j. place n ≡ place j → n ≡ j) n (λ j lj same. absurd (out j lj (sym same ∙ sym at))) (λ same. refl) j lj) i li;
       others = λ j pos outside.
-          get_or-set_other marks k j 255 0 (λ e. outside n (omega arith) (sym at ∙ sym e)) ∙ so_far.others j pos (λ i lt. outside i (omega arith));
+          get_or-set_other marks k j 4294967295 0 (λ e. outside n (omega arith) (sym at ∙ sym e)) ∙ so_far.others j pos (λ i lt. outside i (omega arith));
       bytes = λ j lt. grind (arith, λ (below : j < length old). read.kept j below ∙ so_far.bytes j below, λ (le : length old ≤ j). added_byte block first n k following part j old new at full most read le lt);
     }
 

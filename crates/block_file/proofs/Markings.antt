@@ -5,15 +5,15 @@ use Rattle.std.proofs.lemmas.Bool.Decides.{nat_tests}
 use Rattle.std.proofs.lemmas.Bool.{cases_eq}
 use Rattle.std.proofs.lemmas.List.{get_or_past, get_or-set_same, get_or-set_other, length-replicate}
 use Rattle.block_file.specs.State.{free_up_to, one, times}
-use Rattle.block_file.specs.Uses.{use_count, uses_of, IsFresh, AreMarks, NoneFreeBelow, TakesLowest, CanClaim, Claims}
+use Rattle.block_file.specs.Uses.{use_count, uses_of, IsFresh, AreMarks, NoneFreeBelow, Raises, TakesLowest, CanClaim, Claims}
 use Rattle.block_file.proofs.Free.{free_none, free_same, free_one, free_past, free_zero, free_listed}
 use Rattle.block_file.proofs.Numbers.{get_or-zeros}
 use Rattle.block_file.proofs.Times.{one_same, one_other, times_none, times_push, times_more, times_before}
 
-count_small : (m : ℕ) → m < 255 → use_count m ≡ m
+count_small : (m : ℕ) → m < 4294967295 → use_count m ≡ m
 count_small m lt = grind (arith, nat_tests)
 
-count_some : (m : ℕ) → 0 < use_count m → m < 255
+count_some : (m : ℕ) → 0 < use_count m → m < 4294967295
 count_some m h = grind (arith, nat_tests)
 
 -- the use of a block behind the header
@@ -30,7 +30,7 @@ pub record IsUsed (marks : List ℕ) (k : ℕ) : Type 0 where
   pub above_zero : 0 < k
   pub inside : k < length marks
   pub plain : uses_of marks k ≡ get_or marks k 0
-  pub small : get_or marks k 0 < 255
+  pub small : get_or marks k 0 < 4294967295
 
 pub is_used : (marks : List ℕ) (k : ℕ) → 0 < uses_of marks k → IsUsed marks k
 is_used marks zero h = absurd (omega arith)
@@ -83,8 +83,23 @@ lowered marks free left lowest next k m is h e counts some fewer here =
     let count = count_small m (omega (arith, u.small)) in
     marked marks free left lowest next k m is u.above_zero u.inside (omega (arith, counts, count, h)) some fewer (λ lt. omega (arith, here lt, count))
 
-pub fresh_kept : (marks : List ℕ) (k : ℕ) → 0 < k → k < length marks → IsFresh marks → IsFresh (set marks k 255)
-fresh_kept marks k above inside fresh j = grind (arith, uses_here marks k 255 above inside, uses_others marks k 255 j, fresh j)
+-- a use more of a block in use
+pub raised : (marks : List ℕ) (free lowest k m : ℕ) → AreMarks marks free lowest → 0 < uses_of marks k → m ≡ get_or marks k 0 + 1 → m < 4294967295 → AreMarks (set marks k m) free lowest
+raised marks free lowest k m is h e small =
+    let u = is_used marks k h in
+    let count = count_small m small in
+    marked marks free free lowest lowest k m is u.above_zero u.inside (omega (arith, count, h)) is.below.above_zero (omega arith) (λ lt. omega (arith, count))
+
+pub uses_raised : (marks : List ℕ) (k m : ℕ) → 0 < uses_of marks k → m ≡ get_or marks k 0 + 1 → m < 4294967295 → (j : ℕ) → uses_of (set marks k m) j ≡ uses_of marks j + one k j
+uses_raised marks k m h e small j =
+    let u = is_used marks k h in
+    elim (cases_eq k j) [
+      | inl same ↦ rw (← same) (omega (arith, uses_here marks k m u.above_zero u.inside, count_small m small, u.plain, one_same k))
+      | inr ne ↦ omega (arith, uses_others marks k m j (λ x. ne (sym x)), one_other k j ne)
+    ]
+
+pub fresh_kept : (marks : List ℕ) (k : ℕ) → 0 < k → k < length marks → IsFresh marks → IsFresh (set marks k 4294967295)
+fresh_kept marks k above inside fresh j = grind (arith, uses_here marks k 4294967295 above inside, uses_others marks k 4294967295 j, fresh j)
 
 -- blocks without a mark are in no use
 pub fresh_of : (marks : List ℕ) → ((k : ℕ) → 0 < k → get_or marks k 0 ≡ 0) → IsFresh marks
@@ -258,3 +273,18 @@ claimed marks free lowest k is inside none =
     let less = free_one 1048575 k (uses_of marks) (uses_of (set marks k 1)) u.0 (omega (arith, is.few)) (uses_others marks k 1) in
     let some : 0 < free = omega (arith, is.counted, less, u.1, uses_here marks k 1 u.0 inside) in
     (some, marked marks free (free - 1) lowest lowest k 1 is u.0 inside (omega (arith, u.1)) is.below.above_zero (omega arith) (λ lt. omega arith))
+
+-- uses are counted for the blocks of a list one at a time, and may be taken back
+pub raises_none : (marks : List ℕ) → Raises [] marks marks
+raises_none marks = record { marks = λ k. omega (arith, times_none k); uses = λ k. omega (arith, times_none k); blocks = refl }
+
+pub raises_more : (ks old now new : List ℕ) (i : ℕ) → i < length ks → Raises (take i ks) old now → length new ≡ length now
+    → ((j : ℕ) → get_or new j 0 ≡ get_or now j 0 + one (get_or ks i 0) j) → ((j : ℕ) → uses_of new j ≡ uses_of now j + one (get_or ks i 0) j) → Raises (take (i + 1) ks) old new
+raises_more ks old now new i h r len marks uses = record {
+  marks = λ j. omega (arith, marks j, r.marks j, times_more ks i j h);
+  uses = λ j. omega (arith, uses j, r.uses j, times_more ks i j h);
+  blocks = len ∙ r.blocks;
+}
+
+pub lowers : (ks old now new : List ℕ) → Raises ks old now → length new ≡ length now → ((k : ℕ) → get_or new k 0 + times ks k ≡ get_or now k 0) → new ≡ old
+lowers ks old now new r len given = same_number_lists new old (len ∙ r.blocks) (λ i lt. omega (arith, given i, r.marks i))

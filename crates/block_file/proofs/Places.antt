@@ -1,7 +1,8 @@
 -- Blocks of a content.
-use Rattle.std.proofs.Common.{◌≡◌, ◌≢◌, ℕ, ◌+◌, ◌*◌, ◌<◌, ◌≤◌, ◌⊎◌, inl, inr, suc, List, length, get_or, take, drop, arith, refl, length-drop, mul-le-mul_left, mul-suc}
+use Rattle.std.proofs.Common.{◌≡◌, ◌≢◌, ℕ, ◌+◌, ◌*◌, ◌<◌, ◌≤◌, ◌/◌, ◌%◌, ◌++◌, ◌⊎◌, inl, inr, zero, suc, List, length, get_or, take, drop, flat_map, arith, refl, sym, ap, ◌∙◌, length-drop, mul-le-mul_left, mul-suc, take-add, div-add-mod'}
+use Rattle.std.specs.List.{range_with_len}
 use Rattle.std.proofs.lemmas.Grind.{common_steps, elements, same_number_lists}
-use Rattle.std.proofs.lemmas.List.{same_lists, length-take}
+use Rattle.std.proofs.lemmas.List.{same_lists, length-take, drop-drop}
 use Rattle.std.proofs.lemmas.Bool.{cases_lt}
 use Rattle.disk_face.specs.Disk.{Holds, Torn}
 use Rattle.block_file.specs.State.{BlocksState, block_at, one}
@@ -16,6 +17,29 @@ held n k content bytes len holds =
 pub held_block : (content bytes : List ℕ) (k : ℕ) → length bytes ≡ 4096 → Holds content (4096 * k) bytes → bytes ≡ block_at content k
 unfolding block_at
 held_block content bytes k len holds = held 4096 k content bytes len holds
+
+-- bytes that a content has from a place on are its bytes there
+held_run : (at : ℕ) (content bytes : List ℕ) → Holds content at bytes → bytes ≡ take (length bytes) (drop at content)
+held_run at content bytes holds =
+    same_lists _ _ (grind (arith, common_steps, holds.within)) (λ i d hi. grind (arith, elements, holds.each i, holds.within))
+
+-- neighbouring blocks, one behind the other, are the bytes from the first one's place on
+joined_blocks : (content : List ℕ) (n k : ℕ) → flat_map (block_at content) (range_with_len k n) ≡ take (4096 * n) (drop (4096 * k) content)
+unfolding block_at
+joined_blocks content zero k = refl
+joined_blocks content (suc n) k =
+    let next : 4096 * k + 4096 ≡ 4096 * (k + 1) = omega arith in
+    let size : 4096 + 4096 * n ≡ 4096 * suc n = omega arith in
+    ap (λ l. take 4096 (drop (4096 * k) content) ++ l) (joined_blocks content n (k + 1))
+    ∙ ap (λ l. take 4096 (drop (4096 * k) content) ++ take (4096 * n) l) (ap (λ i. drop i content) (sym next) ∙ sym (drop-drop 4096 (4096 * k) content))
+    ∙ sym (take-add 4096 (4096 * n) (drop (4096 * k) content))
+    ∙ ap (λ i. take i (drop (4096 * k) content)) size
+
+-- bytes that a content has at neighbouring blocks' places are those blocks
+pub held_blocks : (content bytes : List ℕ) (k n : ℕ) → length bytes ≡ n → n % 4096 ≡ 0 → Holds content (4096 * k) bytes → bytes ≡ flat_map (block_at content) (range_with_len k (n / 4096))
+held_blocks content bytes k n long whole holds =
+    let size : length bytes ≡ 4096 * (n / 4096) = omega (arith, div-add-mod' n 4096) in
+    held_run (4096 * k) content bytes holds ∙ ap (λ i. take i (drop (4096 * k) content)) size ∙ sym (joined_blocks content (n / 4096) k)
 
 -- a place of block j is outside block k
 place_apart : (n j k i : ℕ) → j ≢ k → i < n → (n * j + i < n * k) ⊎ (n * k + n ≤ n * j + i)

@@ -1,12 +1,12 @@
--- How often each block of a file is in use, by its mark: a number, or 255 for a free block that holds metadata and may
--- not be claimed. The header has the mark 1.
+-- How often each block of a file is in use, by its mark: a number, or 4294967295 for a free block that holds metadata
+-- and may not be claimed. The header has the mark 1.
 use Rattle.std.specs.Prelude.{◌≡◌, ◌≢◌, ℕ, zero, suc, ◌+◌, ◌<◌, ◌≤◌, nat_lt, if◌then◌else◌, List, length, slice_index}
 use Rattle.block_file.specs.State.{free_up_to, times}
 use Rattle.block_file.specs.Format.{link, chain_blocks}
 
 -- how often a block with this mark is in use
 abbrev pub use_count : ℕ → ℕ
-use_count mark = if nat_lt mark 255 then mark else 0
+use_count mark = if nat_lt mark 4294967295 then mark else 0
 
 -- how often block k is in use; the header is in no use, and neither are blocks past the last
 abbrev pub uses_of : List ℕ → ℕ → ℕ
@@ -20,7 +20,7 @@ IsFresh marks = (k : ℕ) → uses_of marks k ≡ 0
 -- the blocks of a chain that holds so many bytes are marked as metadata, and of the others but the header none is
 -- marked
 pub record MarksChain (block : ℕ → List ℕ) (first size : ℕ) (marks : List ℕ) : Type 0 where
-  pub chain : (i : ℕ) → i < chain_blocks size → slice_index marks (link block first i) ≡ 255
+  pub chain : (i : ℕ) → i < chain_blocks size → slice_index marks (link block first i) ≡ 4294967295
   pub others : (k : ℕ) → 0 < k → ((i : ℕ) → i < chain_blocks size → link block first i ≢ k) → slice_index marks k ≡ 0
 
 -- these blocks may be claimed: each once, inside the file, and neither the header nor claimed nor metadata
@@ -35,6 +35,12 @@ pub record Claims (ks old new : List ℕ) : Type 0 where
   pub could : CanClaim ks old
   pub blocks : length new ≡ length old
   pub marks : (k : ℕ) → slice_index new k ≡ slice_index old k + times ks k
+
+-- these blocks are in use so often more, and no other mark has changed
+pub record Raises (ks old new : List ℕ) : Type 0 where
+  pub marks : (k : ℕ) → slice_index new k ≡ slice_index old k + times ks k
+  pub uses : (k : ℕ) → uses_of new k ≡ uses_of old k + times ks k
+  pub blocks : length new ≡ length old
 
 -- these blocks were the lowest free ones, each of the file's, and are in use once; the others are marked as before
 pub record TakesLowest (ks old new : List ℕ) : Type 0 where

@@ -7,7 +7,7 @@ use Rattle.block_file.specs.Format.{number_at, first_of, IsStoreFile, IsClosed, 
 use Rattle.block_file.specs.Uses.{uses_of, MarksChain}
 
 -- The file's bytes and those that are synced, a mark for each of its blocks, and what is known of the disk.
--- A mark is how often the block is in use, or 255 for a free block that holds metadata and may not be claimed.
+-- A mark is how often the block is in use, or 4294967295 for a free block that holds metadata and may not be claimed.
 pub record BlockFileView : Type 0 where
   pub content : List ℕ
   pub synced : List ℕ

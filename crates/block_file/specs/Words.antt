@@ -42,6 +42,10 @@ pub record AreLowestFree (n : ℕ) (ks : List ℕ) (s : BlocksState) : Type 0 wh
 abbrev pub Covers : BlocksState → (ℕ → ℕ) → Type 0
 Covers s counts = (k : ℕ) → counts k ≤ s.uses k
 
+-- each of these blocks is in use
+abbrev pub AreUsed : List ℕ → BlocksState → Type 0
+AreUsed ks s = (k : ℕ) → 0 < times ks k → 0 < s.uses k
+
 -- Each block but k that was whole holds what it held. A block that a write has not filled may lie in the gap of a later
 -- write.
 abbrev pub OthersKept : ℕ → (ℕ → List ℕ) → (ℕ → List ℕ) → Type 0

@@ -13,7 +13,7 @@ use crate::header::{Header, header_bytes, parse_header};
 use crate::marks::Marks;
 use crate::{BLOCK_BYTES, Blocks, Damaged, MAX_BLOCKS, OpenFault, State, TakeFault};
 use disk_face::{Disk, DiskFault};
-use std::alloc::Global;
+use std::alloc::{AllocError, Global};
 use std::marker::Model;
 
 /// The blocks of a disk.
@@ -124,6 +124,12 @@ impl<D: Disk> Blocks for BlockFile<D> {
         Ok(())
     }
 
+    fn read_run(&mut self, k: u32, bytes: &mut [u8]) -> Result<(), DiskFault> {
+        let from = 4096 * k as u64;
+        self.disk.read_at(from, bytes)?;
+        Ok(())
+    }
+
     fn write(&mut self, k: u32, bytes: &[u8; 4096]) -> Result<(), DiskFault> {
         self.disk.write_at(4096 * k as u64, bytes)?;
         Ok(())
@@ -141,6 +147,17 @@ impl<D: Disk> Blocks for BlockFile<D> {
 
     fn give_back(&mut self, ks: &[u32]) {
         self.marks.give_back(ks);
+    }
+
+    fn hold(&mut self, ks: &[u32]) -> Result<(), AllocError> {
+        if !self.marks.hold(ks) {
+            return Err(AllocError);
+        }
+        Ok(())
+    }
+
+    fn release(&mut self, ks: &[u32]) {
+        self.give_back(ks);
     }
 
     fn free(&self) -> u32 {

@@ -2,10 +2,11 @@
 //! of a closed store file. Block 0 is the header.
 #![tactic(auto)]
 
-ghost use Rattle.std.specs.Prelude.{◌≡◌, ◌*◌, ◌<◌, ◌↔◌, IsTrue, IsErr, OnOk, OnErr, IfOk, IsErrOf};
+ghost use Rattle.std.specs.Prelude.{◌≡◌, ℕ, ◌+◌, ◌*◌, ◌/◌, ◌%◌, ◌<◌, ◌↔◌, length, IsTrue, IsErr, OnOk, OnErr, IfOk, IsErrOf};
+ghost use Rattle.std.specs.List.{flat_map, range_with_len};
 ghost use Rattle.disk_face.specs.Disk.{Torn, Tells};
 ghost use Rattle.block_file.specs.State.{BlocksState, block, free_of, one, times, none};
-ghost use Rattle.block_file.specs.Words.{OnlyReads, Recounts, Moves, AreLowestFree, Covers, OthersKept, OnlyHeader, WritesHeader};
+ghost use Rattle.block_file.specs.Words.{OnlyReads, Recounts, Moves, AreLowestFree, AreUsed, Covers, OthersKept, OnlyHeader, WritesHeader};
 
 mod block_file;
 mod chain;
@@ -18,6 +19,7 @@ pub use chain::write_chain;
 use disk_face::DiskFault;
 pub use fault::{ChainFault, Damaged, OpenFault, TakeFault};
 pub use header::State;
+use std::alloc::AllocError;
 
 /// How many bytes a block has.
 pub const BLOCK_BYTES: usize = 4096;
@@ -37,6 +39,16 @@ pub trait Blocks {
     fn read(&mut self, k: u32, bytes: &mut [u8; 4096]) -> Result<(), DiskFault>
         requires { 0 < (state self.old).uses k }
         ensures value { OnOk result (IsTrue (state self.old).honest → bytes.new ≡ block (state self.old) k) }
+        ensures frame { OnlyReads (state self.old) (state self.new) }
+        ensures told { Tells (IsErr result) (state self.old).failures (state self.new).failures };
+
+    /// What neighbouring blocks hold, from block k on, one behind the other: as many as the bytes have room for. Refused
+    /// only where the disk has counted a failure.
+    fn read_run(&mut self, k: u32, bytes: &mut [u8]) -> Result<(), DiskFault>
+        requires whole { length bytes.old % 4096 ≡ 0 }
+        requires used { (i : ℕ) → 4096 * i < length bytes.old → 0 < (state self.old).uses (k + i) }
+        ensures value { OnOk result (IsTrue (state self.old).honest
+            → bytes.new ≡ flat_map (block (state self.old)) (range_with_len k (length bytes.old / 4096))) }
         ensures frame { OnlyReads (state self.old) (state self.new) }
         ensures told { Tells (IsErr result) (state self.old).failures (state self.new).failures };
 
@@ -61,6 +73,18 @@ pub trait Blocks {
 
     /// Gives up one use of each block listed, as often as it is listed. Takes no memory.
     fn give_back(&mut self, ks: &[u32])
+        requires { Covers (state self.old) (times ks.now) }
+        ensures { Recounts (times ks.now) none (state self.old) (state self.new) };
+
+    /// Counts one use more of each block listed, as often as it is listed: one that is given back meanwhile is free once
+    /// it is released as well. Refused for memory alone; no use is counted then.
+    fn hold(&mut self, ks: &[u32]) -> Result<(), AllocError>
+        requires { AreUsed ks.now (state self.old) }
+        ensures held { OnOk result (Recounts none (times ks.now) (state self.old) (state self.new)) }
+        ensures refused { OnErr result (state self.new ≡ state self.old) };
+
+    /// Gives up one use of each block listed, which was held, as often as it is listed. Takes no memory.
+    fn release(&mut self, ks: &[u32])
         requires { Covers (state self.old) (times ks.now) }
         ensures { Recounts (times ks.now) none (state self.old) (state self.new) };
 

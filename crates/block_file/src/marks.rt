@@ -2,20 +2,20 @@
 ghost use Rattle.std.specs.Prelude.{◌≡◌, ◌≤◌, ◌<◌, ◌+◌, ◌-◌, ◌↔◌, [], ℕ, length, slice_index, slice_set, vec_capacity, IsTrue, IfOk, OnOk, OnErr};
 ghost use Rattle.std.specs.Bool.{OnTrue, OnFalse};
 ghost use Rattle.block_file.specs.State.{free_up_to, one, times};
-ghost use Rattle.block_file.specs.Uses.{use_count, uses_of, CanClaim, Claims, NoneFreeBelow, TakesLowest};
+ghost use Rattle.block_file.specs.Uses.{use_count, uses_of, CanClaim, Claims, NoneFreeBelow, Raises, TakesLowest};
 
 use crate::MAX_BLOCKS;
 use std::alloc::{AllocError, Global};
 use std::marker::Model;
 
 /// How a free block is marked that holds metadata.
-const KEPT: u8 = 255;
+const KEPT: u32 = u32::MAX;
 
-/// A mark for each block of a file: how often it is in use, and once for the header, or `KEPT`. How many blocks are
-/// free, those past the last counted, and a block from 1 on below which none is.
+/// A mark for each block of a file: how often it is in use, and once for the header, or `KEPT`; 4 MiB of marks for a file
+/// of 4 GiB. How many blocks are free, those past the last counted, and a block from 1 on below which none is.
 #[derive(Drop)]
 pub(crate) struct Marks {
-    marks: Vec<u8>,
+    marks: Vec<u32>,
     free: usize,
     lowest: usize,
 }
@@ -39,7 +39,7 @@ impl Marks {
         ensures len { IfOk result (λ marks. length marks ≡ blocks) }
         ensures unmarked { IfOk result (λ marks. (k : ℕ) → 0 < k → slice_index marks k ≡ 0) }
     {
-        let mut marks = vec![in alloc; 0u8; blocks]?;
+        let mut marks = vec![in alloc; 0u32; blocks]?;
         marks[0] = 1;
         Ok(Marks {
             marks,
@@ -71,7 +71,7 @@ impl Marks {
         ensures above_zero { OnTrue result (0 < k) }
         ensures inside { OnTrue result (k < length self.old) }
         ensures unmarked { OnTrue result (slice_index self.old k ≡ 0) }
-        ensures marked { OnTrue result (self.new ≡ slice_set self.old k 255) }
+        ensures marked { OnTrue result (self.new ≡ slice_set self.old k 4294967295) }
         ensures refused { OnFalse result (k < length self.old → slice_index self.old k ≡ 0 → ⊥) }
     {
         let at = k as usize;
@@ -82,7 +82,7 @@ impl Marks {
         true
     }
 
-    /// Sees to marks for n more blocks in use.
+    /// Makes room for the marks of n more blocks in use.
     pub(crate) fn reserve(&mut self, n: usize) -> Result<(), AllocError>
         requires { n ≤ free_up_to 1048575 (uses_of self.old) }
         ensures uses { (k : ℕ) → uses_of self.new k ≡ uses_of self.old k }
@@ -138,6 +138,40 @@ impl Marks {
         }
     }
 
+    /// Counts one use more of a block in use. Says whether it could: the count ends two below the last `u32`, and who holds
+    /// a block so often keeps as many copies of the list that names it, more than a machine has memory for.
+    fn hold_one(&mut self, k: u32) -> bool
+        requires { 0 < uses_of self.old k }
+        ensures marks { OnTrue result ((j : ℕ) → slice_index self.new j ≡ slice_index self.old j + one k j) }
+        ensures uses { OnTrue result ((j : ℕ) → uses_of self.new j ≡ uses_of self.old j + one k j) }
+        ensures same { OnFalse result (self.new ≡ self.old) }
+        ensures len { length self.new ≡ length self.old }
+    {
+        let at = k as usize;
+        let mark = self.marks[at];
+        if mark >= KEPT - 1 {
+            return false;
+        }
+        self.marks[at] = mark + 1;
+        true
+    }
+
+    /// Counts one use more of each block listed, as often as it is listed, or of none, where the count of one of them is at
+    /// its end. Says whether it did. Takes no memory.
+    pub(crate) fn hold(&mut self, ks: &[u32]) -> bool
+        requires { (k : ℕ) → 0 < times ks.now k → 0 < uses_of self.old k }
+        ensures raised { OnTrue result (Raises ks.now self.old self.new) }
+        ensures same { OnFalse result (self.new ≡ self.old) }
+    {
+        for i in 0..ks.len() {
+            if !self.hold_one(ks[i]) {
+                self.give_back(&ks[..i]);
+                return false;
+            }
+        }
+        true
+    }
+
     /// Puts a block in use once. Says whether it could: it is inside the file and was not marked.
     fn claim_one(&mut self, k: u32) -> bool
         ensures above_zero { OnTrue result (0 < k) }
@@ -175,7 +209,7 @@ impl Marks {
 }
 
 /// Whether a block with this mark is free.
-fn is_free(mark: u8) -> bool
+fn is_free(mark: u32) -> bool
     ensures { IsTrue result ↔ (use_count mark ≡ 0) }
 {
     mark == 0 || mark == KEPT
@@ -183,7 +217,7 @@ fn is_free(mark: u8) -> bool
 
 /// Puts the n lowest free blocks in use, and into a list that has room for them. No block below `from` is free; below
 /// what it gives none is then. Takes no memory.
-fn pick(marks: &mut [u8], from: usize, ks: &mut Vec<u32>, n: usize) -> usize
+fn pick(marks: &mut [u32], from: usize, ks: &mut Vec<u32>, n: usize) -> usize
     requires below { NoneFreeBelow from marks.old }
     requires few { length marks.old ≤ 1048576 }
     requires enough { n ≤ free_up_to (length marks.old - 1) (uses_of marks.old) }

@@ -37,7 +37,8 @@ use Rattle.coverage_server.specs.Machine.{Job, State, job_of, with_left, without
 use Rattle.coverage_server.specs.Represents.{StandsAs, AreJobs, Represents}
 use Rattle.coverage_server.specs.Stages.{GivesText, IsTypedText, IsPlanOf, cell_refusal, submit_refusal, step_refusal, fetch_refusal}
 use Rattle.coverage_server.specs.Tiles.{IsHeld, ReadsSound}
-use Rattle.coverage_server.specs.Views.{ServerView, SessionView, IsSound, session}
+use Rattle.coverage_server.specs.Views.{ServerView, SessionView, IsSound, session, still_of}
+use Rattle.coverage_server.proofs.TileLemmas.{reads_still}
 use Rattle.coverage_server.proofs.StandingLemmas.{represents-same}
 
 at_this : {X : Type 0} (o : Option X) (x : X) (P : Type 0) (Q : X → Type 0) → o ≡ Some x → Q x → MatchOption o P Q
@@ -341,11 +342,11 @@ module _ (v w : ServerView) (still : w.store ≡ v.store) (old new : DeskView) (
           next = rw x.desk r.next;
         }
 
-    pub step_failed : (e : CellError) → TellsError e Sound v.failures w.failures → AnsweredIn (StepsJob n units) ⊥ (session v old) (session w new) (Err (cell_refusal e))
+    pub step_failed : (e : CellError) → TellsError e (ReadsSound (still_of v) asked) v.failures w.failures → AnsweredIn (StepsJob n units) ⊥ (session v old) (session w new) (Err (cell_refusal e))
     step_failed cell.NoMemory told = held_up
     step_failed cell.DiskFault told = (omega (arith, told), held_up)
     step_failed cell.Damaged told = λ sound s r.
-        let at = at_job v.store n x.was old.jobs s.jobs r.jobs x.held in told.0 (reads sound x.was at.job same at.stands some_left)
+        let at = at_job v.store n x.was old.jobs s.jobs r.jobs x.held in told.0 (reads_still v asked (reads sound x.was at.job same at.stands some_left))
 
 -- a number of no job
 pub step_absent : (v : ServerView) (old : DeskView) (n units : ℕ) → desks.job_of n old.jobs ≡ None → Moves (StepsJob n units) (session v old) (Refused 70) (session v old)
@@ -427,7 +428,7 @@ plan_shown n cs hs h is e = let x : Some cs ≡ Some (plan_of h.exec).coverages 
 -- why no units were done
 pub step_refused : (v w : ServerView) (still : w.store ≡ v.store) (old new : DeskView) (asked : List Signature) (n units : ℕ) → IsDesk old
     → ((was : Held) → desks.job_of n old.jobs ≡ Some was → asked ≡ (plan_of was.exec).coverages) → (e : StepError)
-    → IsRefusedStep (ReadsSound v asked) (cells_of v.store asked) n units old new e → StepReports (Err e) (ReadsSound v asked) v.failures w.failures
+    → IsRefusedStep (ReadsSound v asked) (cells_of v.store asked) n units old new e → StepReports (Err e) (ReadsSound (still_of v) asked) v.failures w.failures
     → AnsweredIn (StepsJob n units) ⊥ (session v old) (session w new) (Err (step_refusal e))
 step_refused v w still old new asked n units desk same stepping.NoSuchJob x told = λ sound s r.
     (s, represents-same (session v old) (session w new) still x.1 s r, at_nothing (job_of n s.jobs) _ _ (no_job v.store n old.jobs s.jobs r.jobs x.0) (refl, refl))
@@ -449,7 +450,7 @@ submit_failed_as v text old new q typed e r is same x =
 
 pub step_refused_as : (u v w : ServerView) → v ≡ u → (still : w.store ≡ v.store) (old new : DeskView) (asked : List Signature) (n units : ℕ) → IsDesk old
     → ((was : Held) → desks.job_of n old.jobs ≡ Some was → asked ≡ (plan_of was.exec).coverages) → (e : StepError) (r : Refusal) → r ≡ step_refusal e
-    → IsRefusedStep (ReadsSound v asked) (cells_of v.store asked) n units old new e → StepReports (Err e) (ReadsSound v asked) v.failures w.failures
+    → IsRefusedStep (ReadsSound v asked) (cells_of v.store asked) n units old new e → StepReports (Err e) (ReadsSound (still_of v) asked) v.failures w.failures
     → AnsweredIn (StepsJob n units) ⊥ (session u old) (session w new) (Err r)
 step_refused_as u v w at still old new asked n units desk same e r is x told =
     subst (λ (z : ServerView). AnsweredIn (StepsJob n units) ⊥ (session z old) (session w new) (Err r)) at

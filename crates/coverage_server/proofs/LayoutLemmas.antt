@@ -52,7 +52,7 @@ claimed_blocks content size marks blocks indexes chain few counted can k some =
       above_zero = can.above_zero k claimed;
       within = (let inside = can.inside k claimed in omega (arith, few, inside));
       apart = λ i below same.
-          let kept : get_or marks k 0 ≡ 255 = subst (λ (n : ℕ). get_or marks n 0 ≡ 255) same (chain.chain i below) in
+          let kept : get_or marks k 0 ≡ 4294967295 = subst (λ (n : ℕ). get_or marks n 0 ≡ 4294967295) same (chain.chain i below) in
           absurd (omega (arith, kept, unmarked));
     }
 

@@ -7,6 +7,7 @@ pub mod FaultLemmas
 pub mod FreeLemmas
 pub mod InsertLemmas
 pub mod UpdateLemmas
+pub mod DamageLemmas
 pub mod WriteLemmas
 pub mod TileLemmas
 pub mod TypedLemmas

@@ -335,7 +335,7 @@ layout_room metadata marks marks' signatures indexes fresh l claimed enough =
     ]
 
 -- a block that is marked as metadata is in no use
-marked_unused : (marks : List ℕ) (k : ℕ) → get_or marks k 0 ≡ 255 → uses_of marks k ≡ 0
+marked_unused : (marks : List ℕ) (k : ℕ) → get_or marks k 0 ≡ 4294967295 → uses_of marks k ≡ 0
 marked_unused marks zero e = refl
 marked_unused marks (suc k) e = ap use_count e
 
@@ -350,12 +350,12 @@ room_there content metadata marks marks' ks o claims = elim (some_bytes content)
       free_enough 1048575 (chain_blocks (length metadata)) (link (block_at content) (first_of content)) (uses_of marks')
       (λ i below.
       let k : ℕ = link (block_at content) (first_of content) i in
-      let mark : get_or marks k 0 ≡ 255 = (o.marked h).chain i below in
+      let mark : get_or marks k 0 ≡ 4294967295 = (o.marked h).chain i below in
       let unclaimed : times ks k ≡ 0 = elim (cases_lt 0 (times ks k)) [
         | inl some ↦ (let zero : get_or marks k 0 ≡ 0 = claims.could.unmarked k some in absurd (omega (arith, zero, mark)))
         | inr none ↦ omega (arith, none)
       ] in
-      let still : get_or marks' k 0 ≡ 255 = omega (arith, claims.marks k, mark, unclaimed) in
+      let still : get_or marks' k 0 ≡ 4294967295 = omega (arith, claims.marks k, mark, unclaimed) in
       let inside = whole_inside content k (chain.whole i below) in
       let few = closed.few in
       (chain.above_zero i below, omega (arith, inside, few), marked_unused marks' k still)) chain.distinct

@@ -17,7 +17,7 @@ use Rattle.tile_store.specs.Faults.{Refuses}
 use Rattle.disk_face.specs.Disk.{Tells}
 use Rattle.wcps_mean.specs.Reports.{Tells as Reports}
 use Rattle.coverage_server.specs.Tiles.{AreNumbers, IsHeld, IsTileFault, ReadsSound, cell_error}
-use Rattle.coverage_server.specs.Views.{ServerView, IsSound}
+use Rattle.coverage_server.specs.Views.{ServerView, IsSound, still_of}
 use Rattle.coverage_server.proofs.FaultLemmas.{never_fewer}
 
 both : (a b : Bool) → a ≡ true → b ≡ true → (a && b) ≡ true
@@ -96,8 +96,12 @@ some_out (Some x) f h = f x h
 
 -- how a tile that is not read is told
 pub tile_reports : (v w : ServerView) (asked : List Signature) (s : Signature) (fault : Fault) → IsHeldIn asked s → Refuses {T = Unit {0}} (Err fault) (IsTileFault s v) ⊥
-    → Tells (IsErrOf {T = Unit {0}} (Err fault) device.DiskFault) v.failures w.failures → Reports (cell_error fault) (ReadsSound v asked) v.failures w.failures
+    → Tells (IsErrOf {T = Unit {0}} (Err fault) device.DiskFault) v.failures w.failures → Reports (cell_error fault) (ReadsSound (still_of v) asked) v.failures w.failures
 tile_reports v w asked s device.NoMemory at why told = told.quiet (λ e. absurd cc)
 tile_reports v w asked s device.DiskFault at why told = (never_fewer _ _ _ told, let rose = told.told refl in omega (arith, rose))
 tile_reports v w asked s device.NoRoom at why told = absurd (why.for_room refl)
-tile_reports v w asked s device.Damaged at why told = (λ reads. why.for_damage refl reads.sound (at (IsHeld v.store) reads.held), told.quiet (λ e. absurd cc))
+tile_reports v w asked s device.Damaged at why told = (λ reads. why.for_damage refl (still_sound (still_of v) v refl refl refl refl reads.sound) (at (IsHeld v.store) reads.held), told.quiet (λ e. absurd cc))
+
+-- what is read is as sound without the counts
+pub reads_still : (v : ServerView) (asked : List Signature) → ReadsSound v asked → ReadsSound (still_of v) asked
+reads_still v asked reads = record { sound = still_sound v (still_of v) refl refl refl refl reads.sound; held = reads.held }

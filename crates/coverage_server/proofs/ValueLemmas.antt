@@ -18,7 +18,8 @@ use Rattle.wcps_types.specs.Typed.{TypedTree}
 use Rattle.coverage_server.specs.Asking.{QueryAnswer, cells_of, items_answer, evaluated}
 use Rattle.coverage_server.specs.Stages.{GivesValues, FailsReading, IsPlanOf, cell_refusal}
 use Rattle.coverage_server.specs.Tiles.{IsHeld, ReadsSound}
-use Rattle.coverage_server.specs.Views.{ServerView}
+use Rattle.coverage_server.specs.Views.{ServerView, still_of}
+use Rattle.coverage_server.proofs.TileLemmas.{reads_still}
 use Rattle.coverage_server.proofs.JobLemmas.{answer_text, answer_fault}
 
 -- cells that are not known say nothing of the answer
@@ -27,11 +28,11 @@ no_values a cell.NoMemory = tt
 no_values a cell.DiskFault = tt
 no_values a cell.Damaged = tt
 
-pub fails_reading : (v w : ServerView) (asked : List Signature) → All (IsHeld v.store) asked → (e : CellError) → Tells e (ReadsSound v asked) v.failures w.failures
+pub fails_reading : (v w : ServerView) (asked : List Signature) → All (IsHeld v.store) asked → (e : CellError) → Tells e (ReadsSound (still_of v) asked) v.failures w.failures
     → FailsReading v w (cell_refusal e)
 fails_reading v w asked held cell.NoMemory x = tt
 fails_reading v w asked held cell.DiskFault x = omega (arith, x)
-fails_reading v w asked held cell.Damaged x = λ sound. x.0 (record { sound = sound; held = held })
+fails_reading v w asked held cell.Damaged x = λ sound. x.0 (reads_still v asked (record { sound = sound; held = held }))
 
 module _ (store : Store) (q : TypedTree) (plan done : PlanTree) (p : IsPlanOf q plan) (same : done ≡ plan) (asked : List Signature) (reads : asked ≡ plan.coverages) where
   over_store : planned (cells_of store asked) done ≡ answer (cells_of store q.coverages) q

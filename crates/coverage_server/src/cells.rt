@@ -65,6 +65,8 @@ fn cell_error(fault: Fault) -> CellError
 }
 
 impl<D: Disk> Tiles for AskedCells<D> {
+    ghost use Rattle.std.specs.Prelude.{List};
+    ghost use Rattle.arr_core.specs.declared.signature.Signature.{Signature};
     ghost use Rattle.coverage_server.specs.Asking.{cells_of};
     ghost use Rattle.coverage_server.specs.Tiles.{ReadsSound};
     ghost use Rattle.coverage_server.specs.Views.{ServerView, still_of};
@@ -79,9 +81,11 @@ impl<D: Disk> Tiles for AskedCells<D> {
 
     ghost intact = { λ s. ReadsSound s.coverages s.asked.items };
 
-    ghost Kept = { ServerView };
+    ghost Kept = { ServerView × List Signature };
 
-    ghost kept = { λ s. still_of s.coverages };
+    ghost kept = { λ s. (still_of s.coverages, s.asked.items) };
+
+    ghost spelled = { λ k. ReadsSound k.0 k.1 };
 
     fn tile(
         &mut self,

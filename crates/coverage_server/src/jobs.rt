@@ -1,9 +1,10 @@
 //! Jobs: queries that are submitted, done a few units at a time, and fetched.
-ghost use Rattle.std.specs.Prelude.{◌≡◌, ◌+◌, ◌≤◌, ℕ, [], ◌++◌, codes, decimal, length, string_bytes, string_len, string_capacity, IfOk, OnErr};
+ghost use Rattle.std.specs.Prelude.{◌≡◌, ◌+◌, ◌≤◌, ℕ, List, [], ◌++◌, codes, decimal, length, string_bytes, string_len, string_capacity, IfOk, OnErr};
 ghost use Rattle.coverage_server.specs.Answered.{AnsweredIn, IsAnswer};
 ghost use Rattle.coverage_server.specs.Machine.{Submits, StepsJob, Fetches, Cancels};
-ghost use Rattle.coverage_server.specs.Stages.{submit_refusal, step_refusal, fetch_refusal};
+ghost use Rattle.coverage_server.specs.Stages.{IsTypedText, submit_refusal, step_refusal, fetch_refusal};
 ghost use Rattle.coverage_server.specs.Views.{ServerView, session, still_of};
+ghost use Rattle.wcps_types.specs.TypedQueries.{query_view as typed_view};
 
 use crate::arguments::Refusal;
 use crate::cells::AskedCells;
@@ -13,6 +14,7 @@ use http_front::{Reply, refusals};
 use itoa::Buffer;
 use job_desk::{Answer, FetchError, JobDesk, NoSuchJob, StepError, SubmitError};
 use std::alloc::Global;
+use wcps_types::TypedQuery;
 
 /// More bytes than `job 1 left 5` has for any numbers.
 const JOB_ROOM: usize = 96;
@@ -73,6 +75,24 @@ fn fetch_refusal(error: FetchError) -> Refusal
     }
 }
 
+/// A typed query becomes a job. The reply gives its number and how many units it has left; nothing is evaluated.
+fn submit_typed(alloc: Global, desk: &mut JobDesk, typed: &TypedQuery) -> Result<Reply, Refusal>
+    requires some { 1 ≤ length (typed_view typed.now).combinations }
+    ensures answered { (v : ServerView) → (text : List ℕ) → IsTypedText v.store text (typed_view typed.now) → AnsweredIn (Submits text) ⊥ (session v desk.old) (session v desk.new) result }
+    ensures answer { IfOk result IsAnswer }
+{
+    let mut reply = String::with_capacity(alloc, JOB_ROOM)?;
+    let names = names_of(alloc, typed.coverages())?;
+    let plan = plan_of(alloc, typed)?;
+    match desk.submit(plan, names) {
+        Ok((number, left)) => {
+            write_job(&mut reply, number, left);
+            Ok(Reply::Text(reply))
+        }
+        Err(error) => Err(submit_refusal(error)),
+    }
+}
+
 /// A query becomes a job. The reply gives its number and how many units it has left; nothing is evaluated.
 pub fn submit_query<D: Disk>(
     cells: &AskedCells<D>,
@@ -82,18 +102,8 @@ pub fn submit_query<D: Disk>(
     ensures answered { AnsweredIn (Submits text.now) ⊥ (session cells.now.coverages desk.old) (session cells.now.coverages desk.new) result }
     ensures answer { IfOk result IsAnswer }
 {
-    let alloc = cells.alloc;
-    let typed = typed_text(alloc, &cells.coverages, text)?;
-    let names = names_of(alloc, typed.coverages())?;
-    let plan = plan_of(alloc, &typed)?;
-    let mut reply = String::with_capacity(alloc, JOB_ROOM)?;
-    match desk.submit(plan, names) {
-        Ok((number, left)) => {
-            write_job(&mut reply, number, left);
-            Ok(Reply::Text(reply))
-        }
-        Err(error) => Err(submit_refusal(error)),
-    }
+    let typed = typed_text(cells.alloc, &cells.coverages, text)?;
+    submit_typed(cells.alloc, desk, &typed)
 }
 
 /// Units of a job are done. The reply, which is written first, gives how many are left.

@@ -187,6 +187,7 @@ fn attach_all<B: Blocks>(
 ) -> Result<(), OpenFault>
     requires coverages { cells.old.coverages ≡ [] }
     requires indexes { cells.old.indexes ≡ [] }
+    requires unheld { cells.old.snapshots ≡ [] }
     requires counted { AreCounted catalogue.now (items_of indexes.items) }
     requires blocks { (before : List (List Index)) (new : List Index) (after : List (List Index))
         → items_of indexes.items ≡ before ++ new ∷ after → MayAttach (B.state cells.old.blocks) before new }

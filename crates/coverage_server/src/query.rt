@@ -116,9 +116,9 @@ pub fn typed_text<D: Disk>(
     if text.len() > MAX_QUERY {
         return Err(Refusal::Numbered(refusals::BAD_VALUE));
     }
+    let signatures = coverages.signatures(alloc)?;
     let tokens = tokens_of(alloc, text)?;
     let query = query_of(alloc, &tokens)?;
-    let signatures = coverages.signatures(alloc)?;
     let typed = typed_of(alloc, &signatures, query)?;
     Ok(typed)
 }

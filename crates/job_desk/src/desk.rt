@@ -117,7 +117,7 @@ impl JobDesk {
         ensures refused { IfErr result (λ e. IsRefusedStep (S.intact source.old) (S.cells source.old) job units self.old self.new e) }
         ensures same { Leaves (S.cells source.old) (S.cells source.new) (S.coverages source.old) (S.coverages source.new) (S.kept source.old) (S.kept source.new) }
         ensures intact { S.intact source.old → S.intact source.new }
-        ensures reports { StepReports result (S.intact source.old) (S.failures source.old) (S.failures source.new) }
+        ensures reports { StepReports result (S.spelled (S.kept source.old)) (S.failures source.old) (S.failures source.new) }
     {
         let Some(place) = place_of(&self.jobs, job) else {
             return Err(StepError::NoSuchJob);

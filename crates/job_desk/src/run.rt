@@ -23,7 +23,7 @@ pub fn run_down<S: Tiles>(exec: &mut Exec, source: &mut S, left: u64) -> Result<
     ensures rest { left_of exec.old ≤ left → exec.new ≡ exec.old }
     ensures same { Leaves (S.cells source.old) (S.cells source.new) (S.coverages source.old) (S.coverages source.new) (S.kept source.old) (S.kept source.new) }
     ensures intact { S.intact source.old → S.intact source.new }
-    ensures reports { Reports result (S.intact source.old) (S.failures source.old) (S.failures source.new) }
+    ensures reports { Reports result (S.spelled (S.kept source.old)) (S.failures source.old) (S.failures source.new) }
 {
     while exec.left() > left {
         exec.step(source)?;
@@ -45,7 +45,7 @@ pub(crate) fn step_job<S: Tiles>(
     ensures job { IsJob job.new }
     ensures same { Leaves (S.cells source.old) (S.cells source.new) (S.coverages source.old) (S.coverages source.new) (S.kept source.old) (S.kept source.new) }
     ensures intact { S.intact source.old → S.intact source.new }
-    ensures reports { Reports result (S.intact source.old) (S.failures source.old) (S.failures source.new) }
+    ensures reports { Reports result (S.spelled (S.kept source.old)) (S.failures source.old) (S.failures source.new) }
 {
     let left = job.left.saturating_sub(units);
     run_down(&mut job.exec, source, left)?;

@@ -4,7 +4,7 @@ ghost use Rattle.std.specs.Prelude.{◌≡◌};
 use crate::pages::Pages;
 use block_file::{BlockFile, Blocks, State, TakeFault};
 use disk_face::{Disk, DiskFault};
-use std::alloc::Global;
+use std::alloc::{AllocError, Global};
 use std::marker::Model;
 
 /// The blocks of a file, and pages of some of them. Callers see the file below: each write goes to it, and a page is
@@ -67,6 +67,11 @@ impl<D: Disk> Blocks for PagePool<D> {
         Ok(())
     }
 
+    /// Goes past the pages, which are what the file has.
+    fn read_run(&mut self, k: u32, bytes: &mut [u8]) -> Result<(), DiskFault> {
+        self.file.read_run(k, bytes)
+    }
+
     fn write(&mut self, k: u32, bytes: &[u8; 4096]) -> Result<(), DiskFault> {
         match self.file.write(k, bytes) {
             Ok(()) => {
@@ -86,6 +91,14 @@ impl<D: Disk> Blocks for PagePool<D> {
 
     fn give_back(&mut self, ks: &[u32]) {
         self.file.give_back(ks);
+    }
+
+    fn hold(&mut self, ks: &[u32]) -> Result<(), AllocError> {
+        self.file.hold(ks)
+    }
+
+    fn release(&mut self, ks: &[u32]) {
+        self.file.release(ks);
     }
 
     fn free(&self) -> u32 {

@@ -125,9 +125,9 @@ fields-mean axes s regs p (f ∷ fs) e =
 point-lowered : (i : TypedItem) (s : ℕ → ℕ → List ℤ → ℤ) (regs : List Outcome) (p : List ℤ) → length p ≡ length i.domain → cells_at s regs (lowered_item i) p ≡ answer_cells s (item_view i).fields p
 point-lowered i s regs p e =
     let c = outermost [] i.domain in
-    item-cells s regs c (chain_of i.node) p i.booleans.items
-    ∙ ap (λ l. joined (map (field_cell s regs p) (map (lowered_field c) l))) (chain-views i.node 0 i.booleans.items)
-    ∙ ap joined (fields-mean i.domain s regs p (fields_view i.node 0 i.booleans.items) e)
+    item-cells s regs c (chain_of i.node.value) p i.booleans.items
+    ∙ ap (λ l. joined (map (field_cell s regs p) (map (lowered_field c) l))) (chain-views i.node.value 0 i.booleans.items)
+    ∙ ap joined (fields-mean i.domain s regs p (fields_view i.node.value 0 i.booleans.items) e)
 
 views-length : (e : Node) (k : ℕ) (bs : List Bool) → length (fields_view e k bs) ≡ length bs
 views-length e k [] = refl
@@ -145,7 +145,7 @@ item-lowered i s regs =
     (ap joined (map-same (Lie (spans i.domain)) (cells_at s regs (lowered_item i)) (answer_cells s (item_view i).fields) (points i.domain)
     (λ p l. point-lowered i s regs p (lie-length (spans i.domain) p l ∙ length-map i.domain span)) (points-lie i.domain)))
     ∙ ap (λ n. then_of (joined (map (answer_cells s (item_view i).fields) (points i.domain))) (λ cells. Ok (record { line = line_of i.domain; fields = field_count n; cells = cells })))
-    (fields-length (chain_of i.node) (outermost [] i.domain) i.booleans.items ∙ sym (views-length i.node 0 i.booleans.items))
+    (fields-length (chain_of i.node.value) (outermost [] i.domain) i.booleans.items ∙ sym (views-length i.node.value 0 i.booleans.items))
 
 -- the first of the fields that are left
 pub next-field : (c : Setting) (e : Node) (n : ℕ) (bs : List Bool) (j : ℕ) (d : Bool) → j < length bs

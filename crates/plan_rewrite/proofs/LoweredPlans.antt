@@ -1,7 +1,8 @@
 -- A tree over the coverages that a combination has means what the tree over variables means with the cells of these coverages,
 -- and so do the steps of the tree, which are well-formed.
 use Rattle.std.proofs.Common.{◌≡◌, ℕ, List, [], ◌∷◌, ◌++◌, length, map, get_or, refl, sym, ap, ◌∙◌, ℤ, pos, Bool, cond, Result, Ok}
-use Rattle.std.specs.Prelude.{Option, Some, None, slice_get, option_map, insert}
+use Rattle.std.specs.Prelude.{Option, Some, None, slice_get, option_map, insert, Box}
+use Rattle.std.specs.Global.{Global}
 use Rattle.std.specs.List.{flat_map}
 use Rattle.std.proofs.lemmas.List.{length-map}
 use Rattle.arr_core.specs.declared.cell.Cell.{Cell}
@@ -10,7 +11,7 @@ use Rattle.arr_core.specs.declared.signature.Signature.{Signature}
 use Rattle.arr_core.specs.Domains.{points}
 use Rattle.wcps_types.specs.declared.typed.Node.{Node}
 use Rattle.wcps_types.specs.declared.typed.Tree.{Tree}
-use Rattle.wcps_types.specs.Typed.{Typed, number, iterator, cell, unary, binary, scalar, select, bracket, slice, array, listed, condense, condense_where, reduce, FieldTree, ItemTree, CombinationTree, only_tree, item_view, tree_view}
+use Rattle.wcps_types.specs.Typed.{Typed, number, iterator, cell, unary, binary, scalar, select, bracket, slice, array, listed, condense, condense_where, reduce, FieldTree, ItemTree, CombinationTree, boxed_tree, item_view, tree_view}
 use Rattle.wcps_types.specs.Renamed.{renamed, renamed_field, renamed_item, renamed_combination}
 use Rattle.wcps_types.specs.WellTyped.{FieldsAreTyped, ConditionIsTyped, CombinationIsTyped}
 use Rattle.wcps_mean.specs.declared.cell.PointFault.{PointFault}
@@ -27,7 +28,7 @@ use Rattle.plan_ir.specs.Placed.{spans, IsPlaced, ConditionIsPlaced, FieldsArePl
 use Rattle.plan_ir.specs.Planned.{cells_of, steps_planned}
 use Rattle.plan_rewrite.specs.Settling.{variable}
 use Rattle.plan_rewrite.specs.Lowering.{Setting, outermost, at_scalar, at_iterators, at_slice, at_box, at_points, lowered}
-use Rattle.plan_rewrite.specs.LoweredItems.{lowered_field, lowered_scalar}
+use Rattle.plan_rewrite.specs.LoweredItems.{lowered_field, boxed_scalar}
 use Rattle.plan_rewrite.specs.LoweredPlans.{lowered_tree}
 use Rattle.plan_rewrite.proofs.Settles.{position-same}
 use Rattle.plan_rewrite.proofs.Lowers.{outer-placed}
@@ -122,9 +123,9 @@ fields-placed [] cs ks dom h = tt
 fields-placed (f ∷ fs) cs ks dom h =
     (placed-over f.tree cs ks 0 (outermost [] dom) (outer-placed (renamed ks f.tree) [] dom cs 0 h.0), fields-placed fs cs ks dom h.1)
 
-condition-placed : (o : Option Node) (cs : List Signature) (ks : List ℕ) → ConditionIsTyped cs [] (option_map (renamed ks) (option_map only_tree o)) → ConditionIsPlaced (signature_of cs ks) 0 [] (option_map lowered_scalar o)
+condition-placed : (o : Option (Box Node Global)) (cs : List Signature) (ks : List ℕ) → ConditionIsTyped cs [] (option_map (renamed ks) (option_map boxed_tree o)) → ConditionIsPlaced (signature_of cs ks) 0 [] (option_map boxed_scalar o)
 condition-placed None cs ks h = tt
-condition-placed (Some e) cs ks h = placed-over (only_tree e) cs ks 0 (outermost [] []) (outer-placed (renamed ks (only_tree e)) [] [] cs 0 h)
+condition-placed (Some e) cs ks h = placed-over (boxed_tree e) cs ks 0 (outermost [] []) (outer-placed (renamed ks (boxed_tree e)) [] [] cs 0 h)
 
 pub tree-placed : (t : Tree) (cs : List Signature) (ks : List ℕ) → CombinationIsTyped cs (renamed_combination ks (tree_view t)) → AreSteps (signature_of cs ks) (lowered_tree t)
 tree-placed t cs ks h = record {

@@ -1,12 +1,13 @@
 -- Lowered steps give what the condition and the item give, are well-formed, and have no more units than their work and one.
 use Rattle.std.proofs.Common.{◌≡◌, ℕ, zero, suc, ◌+◌, ◌*◌, ◌≤◌, List, [], ◌∷◌, length, map, refl, sym, ap, ◌∙◌, subst, arith, ℤ, Bool, cond, Result, Ok}
-use Rattle.std.specs.Prelude.{Option, Some, None, slice_get, option_map}
+use Rattle.std.specs.Prelude.{Option, Some, None, slice_get, option_map, Box}
+use Rattle.std.specs.Global.{Global}
 use Rattle.arr_core.specs.declared.domain.Axis.{Axis}
 use Rattle.arr_core.specs.declared.signature.Signature.{Signature}
 use Rattle.arr_core.specs.Domains.{count}
 use Rattle.wcps_types.specs.declared.typed.Node.{Node}
 use Rattle.wcps_types.specs.declared.typed.TypedItem.{TypedItem}
-use Rattle.wcps_types.specs.Typed.{Typed, number, iterator, cell, unary, binary, scalar, select, bracket, slice, array, listed, condense, condense_where, reduce, FieldTree, field_tree, only_tree, fields_view, item_view}
+use Rattle.wcps_types.specs.Typed.{Typed, number, iterator, cell, unary, binary, scalar, select, bracket, slice, array, listed, condense, condense_where, reduce, FieldTree, field_tree, boxed_tree, fields_view, item_view}
 use Rattle.wcps_types.specs.WellTyped.{FieldsAreTyped, ConditionIsTyped, CombinationIsTyped}
 use Rattle.wcps_types.specs.Work.{work_of, fields_work, item_work, condition_work}
 use Rattle.wcps_mean.specs.declared.cell.PointFault.{PointFault}
@@ -18,21 +19,21 @@ use Rattle.plan_ir.specs.Planned.{chosen, item_planned, steps_planned}
 use Rattle.plan_ir.specs.Placed.{spans, ConditionIsPlaced, FieldsArePlaced, ItemIsPlaced, AreSteps}
 use Rattle.plan_ir.specs.Units.{item_units, steps_units}
 use Rattle.plan_rewrite.specs.Lowering.{Setting, outermost, at_slice}
-use Rattle.plan_rewrite.specs.LoweredItems.{Chain, end, bracketed, sliced, chain_of, chain_binds, chain_fields, lowered_field, item_binds, lowered_item, returned, lowered_scalar, lowered_steps}
+use Rattle.plan_rewrite.specs.LoweredItems.{Chain, end, bracketed, sliced, chain_of, chain_binds, chain_fields, lowered_field, item_binds, lowered_item, returned, boxed_scalar, lowered_steps}
 use Rattle.plan_rewrite.proofs.Lowers.{outer-means, outer-placed}
 use Rattle.plan_rewrite.proofs.LoweredItems.{chain_views, chain-views, end-views, bracket-fields, no-fields, fields-length, item-lowered}
 
-condition-lowered : (s : ℕ → ℕ → List ℤ → ℤ) (o : Option Node) → chosen s [] (option_map lowered_scalar o) ≡ answer_chosen s (option_map only_tree o)
+condition-lowered : (s : ℕ → ℕ → List ℤ → ℤ) (o : Option (Box Node Global)) → chosen s [] (option_map boxed_scalar o) ≡ answer_chosen s (option_map boxed_tree o)
 condition-lowered s None = refl
-condition-lowered s (Some e) = ap (given is_true) (outer-means (only_tree e) [] [] s [] [] [] refl refl)
+condition-lowered s (Some e) = ap (given is_true) (outer-means (boxed_tree e) [] [] s [] [] [] refl refl)
 
 abbrev out_of : Result Bool PointFault → Result Item PointFault → Result (List Item) PointFault
 out_of c i = then_of c (λ b. cond b (then_of i (λ x. Ok (x ∷ []))) (Ok []))
 
-pub steps-mean : (condition : Option Node) (i : TypedItem) (s : ℕ → ℕ → List ℤ → ℤ) → steps_planned s (lowered_steps condition i) ≡ combination_answer s (returned condition i)
+pub steps-mean : (condition : Option (Box Node Global)) (i : TypedItem) (s : ℕ → ℕ → List ℤ → ℤ) → steps_planned s (lowered_steps condition i) ≡ combination_answer s (returned condition i)
 steps-mean condition i s =
     ap (λ c. out_of c (item_planned s [] (lowered_item i))) (condition-lowered s condition)
-    ∙ ap (out_of (answer_chosen s (option_map only_tree condition))) (item-lowered i s [])
+    ∙ ap (out_of (answer_chosen s (option_map boxed_tree condition))) (item-lowered i s [])
 
 -- the fields below a slice
 slice-placed : (cs : ℕ → Option Signature) (regs : ℕ) (c : Setting) (axis : ℕ) (lo hi : ℤ) (i : Typed) (h : Chain) (k : ℕ) (bs : List Bool)
@@ -59,18 +60,18 @@ pub item-placed : (i : TypedItem) (cs : ℕ → Option Signature) → FieldsAreP
     → ItemIsPlaced cs 0 (spans i.domain) (lowered_item i).binds (lowered_item i).fields
 item-placed i cs p =
     let c = outermost [] i.domain in
-    binds-placed (chain_of i.node) cs c i.booleans.items
-    (subst (λ l. FieldsArePlaced cs 0 (spans i.domain) (map (lowered_field c) l)) (sym (chain-views i.node 0 i.booleans.items)) p)
+    binds-placed (chain_of i.node.value) cs c i.booleans.items
+    (subst (λ l. FieldsArePlaced cs 0 (spans i.domain) (map (lowered_field c) l)) (sym (chain-views i.node.value 0 i.booleans.items)) p)
 
 fields-placed : (cs : List Signature) (dom : List Axis) (fs : List FieldTree) → FieldsAreTyped cs dom fs → FieldsArePlaced (slice_get cs) 0 (spans dom) (map (lowered_field (outermost [] dom)) fs)
 fields-placed cs dom [] t = tt
 fields-placed cs dom (f ∷ fs) t = (outer-placed f.tree [] dom cs 0 t.0, fields-placed cs dom fs t.1)
 
-condition-placed : (cs : List Signature) (o : Option Node) → ConditionIsTyped cs [] (option_map only_tree o) → ConditionIsPlaced (slice_get cs) 0 [] (option_map lowered_scalar o)
+condition-placed : (cs : List Signature) (o : Option (Box Node Global)) → ConditionIsTyped cs [] (option_map boxed_tree o) → ConditionIsPlaced (slice_get cs) 0 [] (option_map boxed_scalar o)
 condition-placed cs None t = tt
-condition-placed cs (Some e) t = outer-placed (only_tree e) [] [] cs 0 t
+condition-placed cs (Some e) t = outer-placed (boxed_tree e) [] [] cs 0 t
 
-pub steps-placed : (condition : Option Node) (i : TypedItem) (cs : List Signature) → CombinationIsTyped cs (returned condition i) → AreSteps (slice_get cs) (lowered_steps condition i)
+pub steps-placed : (condition : Option (Box Node Global)) (i : TypedItem) (cs : List Signature) → CombinationIsTyped cs (returned condition i) → AreSteps (slice_get cs) (lowered_steps condition i)
 steps-placed condition i cs t = record {
   passes = tt;
   condition = condition-placed cs condition t.0;
@@ -105,7 +106,7 @@ units-of box (f ∷ fs) e k (b ∷ bs) h =
     let some = work-some (field_tree e k) in
     times-some (count box) (work_of (field_tree e k) + fields_work (fields_view e (suc k) bs)) (omega (arith, some))
 
-pub steps-few : (condition : Option Node) (i : TypedItem) → steps_units (Some (lowered_steps condition i)) ≤ 1 + (condition_work (returned condition i).condition + item_work (returned condition i).item)
+pub steps-few : (condition : Option (Box Node Global)) (i : TypedItem) → steps_units (Some (lowered_steps condition i)) ≤ 1 + (condition_work (returned condition i).condition + item_work (returned condition i).item)
 steps-few condition i =
-    let few = units-of i.domain (lowered_item i).fields i.node 0 i.booleans.items (fields-length (chain_of i.node) (outermost [] i.domain) i.booleans.items) in
+    let few = units-of i.domain (lowered_item i).fields i.node.value 0 i.booleans.items (fields-length (chain_of i.node.value) (outermost [] i.domain) i.booleans.items) in
     omega (arith, few)

@@ -1,17 +1,18 @@
 -- The units of the steps of a tree and the points of their folds are within its work.
 use Rattle.std.proofs.Common.{◌≡◌, ℕ, zero, suc, ◌+◌, ◌*◌, ◌≤◌, List, [], ◌∷◌, map, sym, ap, subst, arith, ℤ, pos, get_or, Bool}
-use Rattle.std.specs.Prelude.{Option, Some, None, option_map}
+use Rattle.std.specs.Prelude.{Option, Some, None, option_map, Box}
+use Rattle.std.specs.Global.{Global}
 use Rattle.arr_core.specs.declared.domain.Axis.{Axis}
 use Rattle.arr_core.specs.Domains.{gap, count}
 use Rattle.wcps_types.specs.declared.typed.Node.{Node}
 use Rattle.wcps_types.specs.declared.typed.Tree.{Tree}
-use Rattle.wcps_types.specs.Typed.{Typed, number, iterator, cell, unary, binary, scalar, select, bracket, slice, array, listed, condense, condense_where, reduce, FieldTree, only_tree, fields_view, item_view, tree_view}
+use Rattle.wcps_types.specs.Typed.{Typed, number, iterator, cell, unary, binary, scalar, select, bracket, slice, array, listed, condense, condense_where, reduce, FieldTree, boxed_tree, fields_view, item_view, tree_view}
 use Rattle.wcps_types.specs.Work.{work_of, fields_work, condition_work, query_work}
 use Rattle.plan_ir.specs.declared.body.Index.TheVariants.{Const}
 use Rattle.plan_ir.specs.Plans.{FieldBody}
 use Rattle.plan_ir.specs.Units.{item_units}
 use Rattle.plan_rewrite.specs.Lowering.{Setting, outermost, at_scalar, at_iterators, at_slice, at_box, at_points, lowered}
-use Rattle.plan_rewrite.specs.LoweredItems.{Chain, end, bracketed, sliced, chain_of, chain_tree, chain_binds, chain_fields, lowered_field, item_binds, lowered_scalar}
+use Rattle.plan_rewrite.specs.LoweredItems.{Chain, end, bracketed, sliced, chain_of, chain_tree, chain_binds, chain_fields, lowered_field, item_binds, boxed_scalar}
 use Rattle.plan_rewrite.specs.LoweredPlans.{lowered_tree}
 use Rattle.plan_rewrite.specs.FoldPoints.{body_folds, condition_folds, binds_folds, fields_folds}
 use Rattle.plan_rewrite.proofs.FoldPoints.{variable-folds, both_of}
@@ -93,9 +94,9 @@ units-few box (f ∷ fs) = omega arith
 first-work : (h : Chain) (b : Bool) (bs : List Bool) → 1 ≤ fields_work (chain_views h 0 (b ∷ bs))
 first-work h b bs = let a = work-some (chain_tree h 0) in omega (arith, a)
 
-condition-within : (o : Option Node) → condition_folds (option_map lowered_scalar o) ≤ condition_work (option_map only_tree o)
+condition-within : (o : Option (Box Node Global)) → condition_folds (option_map boxed_scalar o) ≤ condition_work (option_map boxed_tree o)
 condition-within None = omega arith
-condition-within (Some e) = lowered-folds (only_tree e) (outermost [] [])
+condition-within (Some e) = lowered-folds (boxed_tree e) (outermost [] [])
 
 -- the units of an item and the points of its folds
 item-within : (h : Chain) (c : Setting) (box : List Axis) (bs : List Bool) (w : ℕ) → fields_work (chain_views h 0 bs) ≡ w
@@ -113,5 +114,5 @@ tree-within t =
     let c = outermost [] t.item.domain in
     let a = condition-within t.condition in
     let w = fields_work (item_view t.item).fields in
-    let b = item-within (chain_of t.item.node) c t.item.domain t.item.booleans.items w (ap fields_work (chain-views t.item.node 0 t.item.booleans.items)) in
+    let b = item-within (chain_of t.item.node.value) c t.item.domain t.item.booleans.items w (ap fields_work (chain-views t.item.node.value 0 t.item.booleans.items)) in
     omega (arith, a, b)

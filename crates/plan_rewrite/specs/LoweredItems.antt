@@ -1,10 +1,11 @@
 -- Lowering of items: the slices from an item down to its coverage or record stand once, as binds that all fields share; and
 -- of what one choice of coverages gives: a condition, if any, and an item.
-use Rattle.std.specs.Prelude.{ℕ, ℤ, Bool, List, [], ◌∷◌, map, Option, option_map}
+use Rattle.std.specs.Prelude.{ℕ, ℤ, Bool, List, [], ◌∷◌, map, Option, option_map, Box}
+use Rattle.std.specs.Global.{Global}
 use Rattle.wcps_types.specs.declared.typed.Node.{Node}
 use Rattle.wcps_types.specs.declared.typed.Node.TheVariants as nodes
 use Rattle.wcps_types.specs.declared.typed.TypedItem.{TypedItem}
-use Rattle.wcps_types.specs.Typed.{Typed, bracket, slice, FieldTree, CombinationTree, field_tree, only_tree, fields_view, item_view}
+use Rattle.wcps_types.specs.Typed.{Typed, bracket, slice, FieldTree, CombinationTree, field_tree, only_tree, boxed_tree, fields_view, item_view}
 use Rattle.plan_ir.specs.Bodies.{Tree}
 use Rattle.plan_ir.specs.Plans.{BindTree, FieldBody, ItemTree, StepsTree}
 use Rattle.plan_rewrite.specs.Lowering.{Setting, outermost, at_scalar, at_slice, lowered}
@@ -65,17 +66,21 @@ item_binds (b ∷ booleans) binds = binds
 abbrev pub lowered_item : TypedItem → ItemTree
 lowered_item i = record {
   domain = i.domain;
-  binds = item_binds i.booleans.items (chain_binds (outermost [] i.domain) (chain_of i.node));
-  fields = chain_fields (outermost [] i.domain) (chain_of i.node) i.booleans.items;
+  binds = item_binds i.booleans.items (chain_binds (outermost [] i.domain) (chain_of i.node.value));
+  fields = chain_fields (outermost [] i.domain) (chain_of i.node.value) i.booleans.items;
 }
 
 -- a condition, if any, and an item
-abbrev pub returned : Option Node → TypedItem → CombinationTree
-returned condition i = record { condition = option_map only_tree condition; item = item_view i }
+abbrev pub returned : Option (Box Node Global) → TypedItem → CombinationTree
+returned condition i = record { condition = option_map boxed_tree condition; item = item_view i }
 
 -- a scalar under no variable
 abbrev pub lowered_scalar : Node → Tree
 lowered_scalar e = lowered (outermost [] []) (only_tree e)
 
-abbrev pub lowered_steps : Option Node → TypedItem → StepsTree
-lowered_steps condition i = record { passes = []; condition = option_map lowered_scalar condition; item = lowered_item i }
+-- the same of a scalar in a box
+abbrev pub boxed_scalar : Box Node Global → Tree
+boxed_scalar b = lowered_scalar b.value
+
+abbrev pub lowered_steps : Option (Box Node Global) → TypedItem → StepsTree
+lowered_steps condition i = record { passes = []; condition = option_map boxed_scalar condition; item = lowered_item i }

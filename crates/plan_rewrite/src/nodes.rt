@@ -1,15 +1,16 @@
-//! Making bodies of bodies.
+//! Making bodies of bodies. Each is handed on in its box, and is let go there where a later part fails.
 
-ghost use Rattle.std.specs.Prelude.{◌≡◌, IfOk};
+ghost use Rattle.std.specs.Prelude.{◌≡◌, ◌++◌, [], ◌∷◌, IfOk, OnOk, map};
 ghost use Rattle.plan_ir.specs.Bodies.{body_view, fold_view, op1, op2, read, table, bind, fold, always};
+ghost use Rattle.plan_ir.specs.Plans.{pass_view, bind_view};
 
 use arr_core::Domain;
-use plan_ir::{Body, Fold, Index, Interval};
+use plan_ir::{Bind, Body, Fold, Index, Interval};
 use std::alloc::{AllocError, Global};
 use wcps_text::{Aggregate, BinaryOperator, UnaryOperator};
 
 /// A body on the heap.
-fn boxed(alloc: Global, body: Body) -> Result<Box<Body>, AllocError>
+pub fn boxed(alloc: Global, body: Body) -> Result<Box<Body>, AllocError>
     ensures { IfOk result (λ b. b.value ≡ body) }
 {
     let b = Box::new(alloc, body)?;
@@ -17,45 +18,54 @@ fn boxed(alloc: Global, body: Body) -> Result<Box<Body>, AllocError>
 }
 
 /// An operation on one operand.
-pub fn op1_body(alloc: Global, op: UnaryOperator, e: Body) -> Result<Body, AllocError>
-    ensures { IfOk result (λ b. body_view b ≡ op1 op (body_view e)) }
+pub fn op1_body(alloc: Global, op: UnaryOperator, e: Box<Body>) -> Result<Box<Body>, AllocError>
+    ensures { IfOk result (λ b. body_view b.value ≡ op1 op (body_view e.value)) }
 {
-    Ok(Body::Op1(op, boxed(alloc, e)?))
+    boxed(alloc, Body::Op1(op, e))
 }
 
 /// An operation on two operands.
-pub fn op2_body(alloc: Global, op: BinaryOperator, l: Body, r: Body) -> Result<Body, AllocError>
-    ensures { IfOk result (λ b. body_view b ≡ op2 op (body_view l) (body_view r)) }
+pub fn op2_body(
+    alloc: Global,
+    op: BinaryOperator,
+    l: Box<Body>,
+    r: Box<Body>,
+) -> Result<Box<Body>, AllocError>
+    ensures { IfOk result (λ b. body_view b.value ≡ op2 op (body_view l.value) (body_view r.value)) }
 {
-    let l = boxed(alloc, l)?;
-    let r = boxed(alloc, r)?;
-    Ok(Body::Op2(op, l, r))
+    boxed(alloc, Body::Op2(op, l, r))
 }
 
 /// A body under one more variable.
 pub fn bind_body(
     alloc: Global,
-    position: Body,
+    position: Box<Body>,
     interval: Interval,
-    body: Body,
-) -> Result<Body, AllocError>
-    ensures { IfOk result (λ b. body_view b ≡ bind (body_view position) interval.lo interval.hi (body_view body)) }
+    body: Box<Body>,
+) -> Result<Box<Body>, AllocError>
+    ensures { IfOk result (λ b. body_view b.value ≡ bind (body_view position.value) interval.lo interval.hi (body_view body.value)) }
 {
-    let position = boxed(alloc, position)?;
-    let body = boxed(alloc, body)?;
-    Ok(Body::Bind {
-        position,
-        interval,
-        body,
-    })
+    boxed(
+        alloc,
+        Body::Bind {
+            position,
+            interval,
+            body,
+        },
+    )
 }
 
-/// A fold as a body.
-pub fn fold_body(alloc: Global, fold: Fold) -> Result<Body, AllocError>
-    ensures { IfOk result (λ b. body_view b ≡ fold_view fold) }
+/// The cell of a field at a copy of a point.
+pub fn read_at(
+    alloc: Global,
+    coverage: usize,
+    field: usize,
+    point: &[Index],
+) -> Result<Box<Body>, AllocError>
+    ensures { IfOk result (λ b. body_view b.value ≡ read coverage field point.now) }
 {
-    let f = Box::new(alloc, fold)?;
-    Ok(Body::Fold(f))
+    let indexes = point.to_vec(alloc)?;
+    read_body(alloc, coverage, field, indexes)
 }
 
 /// The cell of a field at a point.
@@ -63,16 +73,31 @@ pub fn read_body(
     alloc: Global,
     coverage: usize,
     field: usize,
+    indexes: Vec<Index>,
+) -> Result<Box<Body>, AllocError>
+    ensures { IfOk result (λ b. body_view b.value ≡ read coverage field indexes.items) }
+{
+    boxed(
+        alloc,
+        Body::Read {
+            coverage,
+            field,
+            indexes,
+        },
+    )
+}
+
+/// The item of a list at a copy of a point.
+pub fn table_at(
+    alloc: Global,
+    domain: &Domain,
+    items: &[i64],
     point: &[Index],
-) -> Result<Body, AllocError>
-    ensures { IfOk result (λ b. body_view b ≡ read coverage field point.now) }
+) -> Result<Box<Body>, AllocError>
+    ensures { IfOk result (λ b. body_view b.value ≡ table domain.now items.now point.now) }
 {
     let indexes = point.to_vec(alloc)?;
-    Ok(Body::Read {
-        coverage,
-        field,
-        indexes,
-    })
+    table_body(alloc, domain, items, indexes)
 }
 
 /// The item of a list at a point.
@@ -80,18 +105,27 @@ pub fn table_body(
     alloc: Global,
     domain: &Domain,
     items: &[i64],
-    point: &[Index],
-) -> Result<Body, AllocError>
-    ensures { IfOk result (λ b. body_view b ≡ table domain.now items.now point.now) }
+    indexes: Vec<Index>,
+) -> Result<Box<Body>, AllocError>
+    ensures { IfOk result (λ b. body_view b.value ≡ table domain.now items.now indexes.items) }
 {
     let domain = domain.copy(alloc)?;
     let items = items.to_vec(alloc)?;
-    let indexes = point.to_vec(alloc)?;
-    Ok(Body::Table {
-        domain,
-        items,
-        indexes,
-    })
+    boxed(
+        alloc,
+        Body::Table {
+            domain,
+            items,
+            indexes,
+        },
+    )
+}
+
+/// A fold as a body.
+pub fn fold_body(alloc: Global, fold: Box<Fold>) -> Result<Box<Body>, AllocError>
+    ensures { IfOk result (λ b. body_view b.value ≡ fold_view fold.value) }
+{
+    boxed(alloc, Body::Fold(fold))
 }
 
 /// A fold of a body at all points of a domain.
@@ -99,20 +133,21 @@ pub fn plain_fold(
     alloc: Global,
     op: Aggregate,
     domain: &Domain,
-    body: Body,
-) -> Result<Body, AllocError>
-    ensures { IfOk result (λ b. body_view b ≡ fold op domain.now always (body_view body)) }
+    body: Box<Body>,
+) -> Result<Box<Fold>, AllocError>
+    ensures { IfOk result (λ f. pass_view f.value ≡ record { op = op; domain = domain.now; condition = always; body = body_view body.value }) }
 {
     let domain = domain.copy(alloc)?;
-    fold_body(
+    let f = Box::new(
         alloc,
         Fold {
             op,
             domain,
             condition: None,
-            body,
+            body: Box::into_inner(body),
         },
-    )
+    )?;
+    Ok(f)
 }
 
 /// A fold of a body at the points of a domain where a condition is true.
@@ -120,19 +155,35 @@ pub fn conditional_fold(
     alloc: Global,
     op: Aggregate,
     domain: &Domain,
-    condition: Body,
-    body: Body,
-) -> Result<Body, AllocError>
-    ensures { IfOk result (λ b. body_view b ≡ fold op domain.now (body_view condition) (body_view body)) }
+    condition: Box<Body>,
+    body: Box<Body>,
+) -> Result<Box<Fold>, AllocError>
+    ensures { IfOk result (λ f. pass_view f.value ≡ record { op = op; domain = domain.now; condition = body_view condition.value; body = body_view body.value }) }
 {
     let domain = domain.copy(alloc)?;
-    fold_body(
+    let f = Box::new(
         alloc,
         Fold {
             op,
             domain,
-            condition: Some(condition),
-            body,
+            condition: Some(Box::into_inner(condition)),
+            body: Box::into_inner(body),
         },
-    )
+    )?;
+    Ok(f)
+}
+
+/// Puts a bind at the end of a list.
+pub fn push_bind(
+    list: &mut Vec<Bind>,
+    position: Box<Body>,
+    interval: Interval,
+) -> Result<(), AllocError>
+    ensures { OnOk result (map bind_view list.new.items ≡ map bind_view list.old.items ++ record { position = body_view position.value; lo = interval.lo; hi = interval.hi } ∷ []) }
+{
+    list.push(Bind {
+        position: Box::into_inner(position),
+        interval,
+    })?;
+    Ok(())
 }

@@ -10,8 +10,8 @@ ghost use Rattle.plan_rewrite.specs.Rewritten.{StepsAreReduced};
 ghost use Rattle.plan_rewrite.specs.HoistedPlans.{hoisted_plan, StepsAreOpen};
 ghost use Rattle.plan_rewrite.specs.FoldPoints.{fold_points};
 
-use crate::passes::hoist_all;
-use crate::steps::settle_all;
+use crate::hoisting::hoist_all;
+use crate::inlining::settle_all;
 use plan_ir::Plan;
 use std::alloc::{AllocError, Global};
 

@@ -2,9 +2,10 @@
 
 use csv_out::csv_text;
 use map_templates::ExpandError;
+use plan_ir::{Plan, run};
 use std::alloc::{AllocError, Global};
 use test_rows::Answer;
-use wcps_mean::{CellError, EvalError, Item, Outcome};
+use wcps_mean::{CellError, Cells, EvalError, Item, Outcome};
 use wcps_parse::ParseError;
 use wcps_text::LexError;
 use wcps_types::CheckError;
@@ -30,6 +31,20 @@ pub fn say_outcome(answer: &mut Answer, outcome: Outcome) {
 /// The CSV of items.
 pub fn say_items(alloc: Global, answer: &mut Answer, items: &[Item]) {
     say_made(answer, csv_text(alloc, items));
+}
+
+/// The CSV of a query's items, or the refusal of what came in their place.
+pub fn say_evaluated(alloc: Global, answer: &mut Answer, items: Result<Vec<Item>, EvalError>) {
+    match items {
+        Ok(items) => say_items(alloc, answer, &items),
+        Err(error) => answer.refusal(eval_number(error)),
+    }
+}
+
+/// What a run of a plan gives.
+pub fn say_run<C: Cells>(alloc: Global, answer: &mut Answer, cells: &mut C, plan: &Plan) {
+    let items = run(alloc, cells, plan);
+    say_evaluated(alloc, answer, items);
 }
 
 pub fn lex_number(error: &LexError) -> u16 {
@@ -70,7 +85,7 @@ pub fn cell_number(error: CellError) -> u16 {
     }
 }
 
-pub fn eval_number(error: EvalError) -> u16 {
+fn eval_number(error: EvalError) -> u16 {
     match error {
         EvalError::Fault(fault) => fault.number(),
         EvalError::Cells(error) => cell_number(error),

@@ -2,10 +2,20 @@
 
 use crate::coverages::Coverages;
 use crate::outcomes::{say_condensed, say_csv, say_operated};
+use crate::plans::say_plan_run;
 use crate::texts::{say_alike, say_parsed, say_printed, say_tokens, say_tree, say_work};
-use anyhow::{Result, bail};
+use crate::{desk, kernels};
+use anyhow::Result;
+use job_desk::JobDesk;
 use std::alloc::Global;
 use test_rows::{Answer, Layer, cut, text};
+
+/// What the rows speak of: coverages, and a desk of jobs.
+#[derive(Drop)]
+pub struct Fixture {
+    coverages: Coverages,
+    jobs: JobDesk,
+}
 
 /// Calls that need no coverage.
 fn call_alone(alloc: Global, answer: &mut Answer, verb: &str, rest: &str) -> Result<()> {
@@ -18,7 +28,8 @@ fn call_alone(alloc: Global, answer: &mut Answer, verb: &str, rest: &str) -> Res
         "operate" => return say_operated(answer, rest),
         "condense" => return say_condensed(answer, rest),
         "csv" => return say_csv(alloc, answer, rest),
-        _ => bail!("no such call"),
+        "run" => return say_plan_run(alloc, answer, rest),
+        _ => return kernels::call(alloc, answer, verb, rest),
     }
     Ok(())
 }
@@ -42,6 +53,9 @@ impl Coverages {
             "part" => return self.say_part(alloc, answer, rest),
             "process" => return self.say_processed(alloc, answer, rest),
             "expand" => return self.say_expanded(alloc, answer, rest),
+            "planned" => return self.say_planned(alloc, answer, rest),
+            "lowered" => return self.say_lowered(alloc, answer, rest),
+            "rewritten" => return self.say_rewritten(alloc, answer, rest),
             "work" => say_work(alloc, answer, &self.signatures, rest),
             "failures" => answer.count(self.failures),
             _ => return call_alone(alloc, answer, verb, rest),
@@ -50,7 +64,26 @@ impl Coverages {
     }
 }
 
-impl Layer for Coverages {
+impl Fixture {
+    /// What the first row speaks of.
+    pub fn new(alloc: Global) -> Fixture {
+        Fixture {
+            coverages: Coverages::new(alloc),
+            jobs: JobDesk::new(alloc),
+        }
+    }
+
+    fn call(&mut self, alloc: Global, answer: &mut Answer, verb: &str, rest: &str) -> Result<()> {
+        match verb {
+            "new" | "starting" | "submit" | "cancel" | "reads" => {
+                desk::call(alloc, answer, &mut self.jobs, &self.coverages, (verb, rest))
+            }
+            _ => self.coverages.call(alloc, answer, verb, rest),
+        }
+    }
+}
+
+impl Layer for Fixture {
     fn answer(&mut self, rt: &HostRuntime, call: &str) -> Result<String> {
         let (verb, written) = cut(call);
         let text = text(rt.alloc(), written)?;

@@ -1,20 +1,30 @@
 //! Worked values of the crates of queries, by their public calls, each a row of standard input: from a text to its tokens
-//! and its tree and back, to its type, its answer and its CSV, and from a template of map algebra to its query.
+//! and its tree and back, to its type, its answer and its CSV; from a template of map algebra to its query; what queries
+//! become as plans, and what runs of plans give; operations and condensers of whole columns; and the numbers of jobs.
 #![tactic(auto)]
 
 mod answers;
+mod columns;
 mod coverages;
+mod desk;
+mod folds;
+mod kernels;
+mod keyed;
 mod layer;
 mod outcomes;
+mod plan_words;
+mod planned;
+mod plans;
 mod queries;
 mod texts;
+mod words;
 
 use anyhow::Result;
-use coverages::Coverages;
+use layer::Fixture;
 use std::process::ExitCode;
 use test_rows::judge;
 
 fn main(rt: HostRuntime) -> Result<ExitCode> {
-    let mut coverages = Coverages::new(rt.alloc());
-    judge(&rt, &mut coverages)
+    let mut fixture = Fixture::new(rt.alloc());
+    judge(&rt, &mut fixture)
 }

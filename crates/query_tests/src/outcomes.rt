@@ -1,54 +1,12 @@
 //! Operations, condensers, and the text of items.
 
 use crate::answers::{say_items, say_outcome};
-use anyhow::{Result, bail};
+use crate::words::{aggregate, binary, outcome, unary};
+use anyhow::Result;
 use arr_core::Cell;
 use std::alloc::Global;
-use test_rows::{Answer, cell, cut, integer, number};
-use wcps_mean::{CellList, Item, Outcome, PointFault, Running, operate, operate_both};
-use wcps_text::{Aggregate, BinaryOperator, UnaryOperator};
-
-/// A number, or a fault by its name.
-fn outcome(word: &str) -> Result<Outcome> {
-    Ok(Outcome::Fault(match word {
-        "Overflow" => PointFault::Overflow,
-        "DivideByZero" => PointFault::DivideByZero,
-        "OutOfDomain" => PointFault::OutOfDomain,
-        "EmptyCondense" => PointFault::EmptyCondense,
-        "BadBit" => PointFault::BadBit,
-        _ => return Ok(Outcome::Value(integer(word)?)),
-    }))
-}
-
-fn binary(word: &str) -> Result<BinaryOperator> {
-    Ok(match word {
-        "*" => BinaryOperator::Multiply,
-        "/" => BinaryOperator::Divide,
-        "+" => BinaryOperator::Add,
-        "-" => BinaryOperator::Subtract,
-        "<" => BinaryOperator::Less,
-        "<=" => BinaryOperator::LessEqual,
-        ">" => BinaryOperator::Greater,
-        ">=" => BinaryOperator::GreaterEqual,
-        "=" => BinaryOperator::Equal,
-        "!=" => BinaryOperator::NotEqual,
-        "and" => BinaryOperator::And,
-        "or" => BinaryOperator::Or,
-        "xor" => BinaryOperator::Xor,
-        "bit" => BinaryOperator::Bit,
-        _ => bail!("no such operation"),
-    })
-}
-
-fn unary(word: &str) -> Result<UnaryOperator> {
-    Ok(match word {
-        "-" => UnaryOperator::Negate,
-        "+" => UnaryOperator::Plus,
-        "not" => UnaryOperator::Not,
-        "abs" => UnaryOperator::Absolute,
-        _ => bail!("no such operation"),
-    })
-}
+use test_rows::{Answer, cell, cut, number};
+use wcps_mean::{CellList, Item, Outcome, Running, operate, operate_both};
 
 fn operated(word: &str, operand: &str) -> Result<Outcome> {
     Ok(operate(unary(word)?, outcome(operand)?))
@@ -72,20 +30,6 @@ pub fn say_operated(answer: &mut Answer, words: &str) -> Result<()> {
         },
     );
     Ok(())
-}
-
-fn aggregate(word: &str) -> Result<Aggregate> {
-    Ok(match word {
-        "sum" => Aggregate::Sum,
-        "product" => Aggregate::Product,
-        "greatest" => Aggregate::Greatest,
-        "least" => Aggregate::Least,
-        "every" => Aggregate::Every,
-        "any" => Aggregate::Any,
-        "count" => Aggregate::Count,
-        "average" => Aggregate::Average,
-        _ => bail!("no such condenser"),
-    })
 }
 
 /// Adds an outcome to those that a condenser goes over, of which there are few.

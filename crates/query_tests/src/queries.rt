@@ -1,6 +1,6 @@
 //! What queries give, and those of the templates of map algebra.
 
-use crate::answers::{cell_number, eval_number, expand_number, say_items, say_outcome};
+use crate::answers::{cell_number, expand_number, say_evaluated, say_outcome};
 use crate::coverages::Coverages;
 use crate::texts::typed;
 use anyhow::{Result, bail};
@@ -77,18 +77,22 @@ impl Coverages {
     /// The text of a query's items, or its refusal.
     pub fn say_query(&mut self, alloc: Global, answer: &mut Answer, text: &str) -> Result<()> {
         match typed(alloc, &self.signatures, text) {
-            Ok(query) => self.evaluate(alloc, answer, &query)?,
+            Ok(query) => return self.evaluate(alloc, answer, &query),
             Err(number) => answer.refusal(number),
         }
         Ok(())
     }
 
-    fn evaluate(&mut self, alloc: Global, answer: &mut Answer, query: &TypedQuery) -> Result<()> {
+    /// What a query gives, evaluated plainly.
+    pub fn evaluate(
+        &mut self,
+        alloc: Global,
+        answer: &mut Answer,
+        query: &TypedQuery,
+    ) -> Result<()> {
         self.list(query)?;
-        match eval_plain(alloc, self, query) {
-            Ok(items) => say_items(alloc, answer, &items),
-            Err(error) => answer.refusal(eval_number(error)),
-        }
+        let items = eval_plain(alloc, self, query);
+        say_evaluated(alloc, answer, items);
         Ok(())
     }
 
@@ -126,7 +130,7 @@ impl Coverages {
             point: point(alloc, coordinates)?,
         };
         match typed(alloc, &self.signatures, text) {
-            Ok(query) => self.say_value(alloc, answer, &query, &place)?,
+            Ok(query) => return self.say_value(alloc, answer, &query, &place),
             Err(number) => answer.refusal(number),
         }
         Ok(())

@@ -26,7 +26,8 @@ use Rattle.raster_store.specs.declared.fault.WriteFault.{WriteFault}
 use Rattle.raster_store.specs.declared.fault.WriteFault.TheVariants.{Device}
 use Rattle.raster_store.specs.Views.{RasterView}
 use Rattle.raster_store.specs.Calls.{HasNumbers, RefusesCells, signature_of}
-use Rattle.raster_store.specs.Words.{IsDamagedStore, LacksRoomToWrite, RefusesWrite}
+use Rattle.raster_store.specs.Fetches.{IsDamagedUnder}
+use Rattle.raster_store.specs.Words.{LacksRoomToWrite, RefusesWrite}
 use Rattle.raster_store.proofs.Readings.{kind_gives}
 
 module _ {B : Type 0} {state : B → BlocksState} {v : RasterView B} {name : List ℕ} {field : ℕ} {area : List Axis} {cells : List Cell} {numbers : List ℤ} {catalogue : ℕ} where
@@ -38,7 +39,7 @@ module _ {B : Type 0} {state : B → BlocksState} {v : RasterView B} {name : Lis
     for_damage = λ eq. absurd (let no : device.Damaged ≡ device.NoMemory = only device.Damaged (ap Err eq) in cc);
   }
 
-  pub refuses_device : {T : Type 0} (fault : Fault) → HasNumbers name field area cells v.coverages → Refuses {T = T} (Err fault) (IsDamagedStore state v) (LacksRoomToWrite state name field area numbers catalogue v)
+  pub refuses_device : {T : Type 0} (fault : Fault) → HasNumbers name field area cells v.coverages → Refuses {T = T} (Err fault) (IsDamagedUnder state name field area v) (LacksRoomToWrite state name field area numbers catalogue v)
       → RefusesWrite state name field area cells numbers catalogue v (Device fault)
   refuses_device fault has why = record {
     for_cells = has;

@@ -4,3 +4,7 @@ pub mod Readings
 pub mod Writes
 mod Written
 mod Cells
+pub mod Snapshots
+mod Picked
+pub mod Versions
+pub mod Stored

@@ -3,7 +3,7 @@ use Rattle.std.proofs.Common.{◌≡◌, ℕ, zero, suc, ◌<◌, List, [], ◌�
 use Rattle.std.specs.Prelude.{IsSomeAnd, slice_get, IsTrue, option_map, ℤ, pos}
 use Rattle.std.proofs.lemmas.List.{length-map, get_or-map}
 use Rattle.std.proofs.lemmas.List.Elements.{All-from_recursion}
-use Rattle.std.proofs.lemmas.Option.{slice_get-map, slice_get_read, slice_get_cases}
+use Rattle.std.proofs.lemmas.Option.{slice_get-map, slice_get_read, slice_get_cases, slice_get-get_or}
 use Rattle.std.proofs.lemmas.Int.{ints}
 use Rattle.arr_core.specs.declared.cell.FieldType.{FieldType}
 use Rattle.arr_core.specs.declared.field.Field.{Field}
@@ -20,15 +20,15 @@ use Rattle.tile_store.specs.declared.numbers.Numbers.{Numbers}
 use Rattle.tile_store.specs.Numbers.{AreNumbers}
 use Rattle.tile_store.specs.Listing.{IsBelow, IsSound}
 use Rattle.tile_store.specs.declared.field.FieldTiles.{FieldTiles}
-use Rattle.tile_store.specs.Reading.{number_in, IsSpelledIn, IsTileRead}
-use Rattle.tile_store.specs.Stored.{field_values, number_at, tile_box, IsSpelled, IsTileSpelled}
+use Rattle.tile_store.specs.Reading.{number_in, IsSpelledIn, IsTileRead, Meets}
+use Rattle.tile_store.specs.Stored.{field_values, number_at, tile_box, tile_number, IsSpelled, IsTileSpelled}
 use Rattle.raster_store.specs.declared.held.Held.{Held}
 use Rattle.raster_store.specs.declared.reading.TileAt.{TileAt}
 use Rattle.raster_store.specs.Views.{FieldsIntact, AreIntact, listed_fields, Index}
 use Rattle.raster_store.specs.Calls.{HasField}
-use Rattle.raster_store.specs.Fetches.{HasTile, HasTileNumber, IsPlaceOf, IsSpelledAt, IsDecoded}
+use Rattle.raster_store.specs.Fetches.{HasTile, HasTileNumber, IsPlaceOf, IsSpelledAt, IsSpelledOf, IsDecoded}
 use Rattle.raster_store.specs.Holding.{coverages_of, coverage_of, indexes_of, index_at, NoneNamed, IsNamedAt, IsWhole, IsHeld}
-use Rattle.raster_store.specs.Fields.{IsNamed, HasPatch, IsFieldOf}
+use Rattle.raster_store.specs.Fields.{IsNamed, HasKind, HasPatch, IsFieldOf}
 use Rattle.raster_store.proofs.Contents.{intact-at, found_none, found_named, named_within, values-at}
 use Rattle.raster_store.proofs.Totals.{all_parts, field_parts}
 
@@ -208,6 +208,70 @@ module _ {s : BlocksState} {held : List Held} {at : TileAt} {h : Held} (p : Plac
         values = λ sure. rw p.of.facts.at (read.numbers sure ∙ ap (λ (d : List Axis). map (number_in f s) (points (tile_box d at.tile))) is.domain ∙ numbers_are p.of f is (tile_box h.signature.domain at.tile) box.0 box.1);
         spelled = λ sure. (spelled_is is).1 (read.spelled sure);
       }
+
+-- a tile of the coverage with a name is spelled where it is in the store
+pub spelled_named : (s : BlocksState) (held : List Held) (name : List ℕ) (field : ℕ) (h : Held) (kind : FieldType) (tile : ℕ) → IsHeld s held → IsNamed name held h → HasKind h.signature.fields field kind → field < length h.fields.items
+    → IsSpelledOf name field tile s.content (coverages_of s.content held) (indexes_of held) → IsTileSpelled kind h.signature.domain (index_at h field) s.content tile
+spelled_named s held name field h kind tile held_is is has within =
+    by_field (slice_get h.signature.fields field) refl has
+  where
+    facts : Known s held (found name (coverages_of s.content held)) h
+    facts = known_named s held name h held_is is
+
+    by_field : (o : Option Field) → slice_get h.signature.fields field ≡ o → IsSomeAnd o (λ f. f.kind ≡ kind)
+        → IsSpelledOf name field tile s.content (coverages_of s.content held) (indexes_of held) → IsTileSpelled kind h.signature.domain (index_at h field) s.content tile
+    by_field None e k spelled = absurd k
+    by_field (Some f) e k spelled =
+        subst (λ (q : FieldType). IsTileSpelled q h.signature.domain (index_at h field) s.content tile) k
+        (spelled (coverage_of s.content h) f (index_at h field) facts.at e
+        ((found_named s.content name field held is.0 is.1).1 ∙ ap (λ (l : List Index). slice_get l field) (indexes_at held is.0 h (named_within name held is.0 is.1) is.2) ∙ slice_get-get_or h.fields.items field [] within))
+
+some_at : {X : Type 0} (o : Option X) (x : X) (P : X → Type 0) → o ≡ Some x → P x → IsSomeAnd o P
+some_at o x P e p = rw e p
+
+-- a tile that is not spelled, of those of a point or a box, as the store tells it
+module _ (s : BlocksState) (held : List Held) (name : List ℕ) (field : ℕ) (h : Held) (kind : FieldType) (is_held : IsHeld s held) (is : IsNamed name held h) (has : HasKind h.signature.fields field kind) (within : field < length h.fields.items) where
+  abbrev IsBad : ℕ → Type 0
+  IsBad tile = IsSpelledOf name field tile s.content (coverages_of s.content held) (indexes_of held) → ⊥
+
+  abbrev IsBadHere : ℕ → Type 0
+  IsBadHere tile = IsTileSpelled kind h.signature.domain (index_at h field) s.content tile → ⊥
+
+  is_bad : (tile : ℕ) → IsBadHere tile → IsBad tile
+  is_bad tile bad spelled = bad (spelled_named s held name field h kind tile is_held is has within spelled)
+
+  pub cell_damaged : (p : List ℤ) → IsBadHere (tile_number h.signature.domain p) → IsSomeAnd (found name (coverages_of s.content held)) (λ c. IsBad (tile_number c.domain p))
+  cell_damaged p bad = some_at (found name (coverages_of s.content held)) (coverage_of s.content h) (λ c. IsBad (tile_number c.domain p)) (known_named s held name h is_held is).at (is_bad (tile_number h.signature.domain p) bad)
+
+  pub box_damaged : (area : List Axis) (tile : ℕ) → Meets h.signature.domain area tile → IsBadHere tile → IsSomeAnd (found name (coverages_of s.content held)) (λ c. (t : ℕ) × Meets c.domain area t × IsBad t)
+  box_damaged area tile meets bad = some_at (found name (coverages_of s.content held)) (coverage_of s.content h) (λ c. (t : ℕ) × Meets c.domain area t × IsBad t) (known_named s held name h is_held is).at (tile, meets, is_bad tile bad)
+
+  pub under_damaged : (area : List Axis) (tile : ℕ) → Meets h.signature.domain area tile → (IsBoxOf area (tile_box h.signature.domain tile) → ⊥) → IsBadHere tile
+      → IsSomeAnd (found name (coverages_of s.content held)) (λ c. (t : ℕ) × Meets c.domain area t × (IsBoxOf area (tile_box c.domain t) → ⊥) × IsBad t)
+  under_damaged area tile meets open_ bad =
+      some_at (found name (coverages_of s.content held)) (coverage_of s.content h) (λ c. (t : ℕ) × Meets c.domain area t × (IsBoxOf area (tile_box c.domain t) → ⊥) × IsBad t) (known_named s held name h is_held is).at
+      (tile, meets, open_, is_bad tile bad)
+
+-- so is it at the coverage's place
+pub spelled_placed : (s : BlocksState) (held : List Held) (name : List ℕ) (place field tile : ℕ) → IsHeld s held → IsNamedAt name held place → HasTile (record { coverage = place; field = field; tile = tile }) (coverages_of s.content held)
+    → IsSpelledOf name field tile s.content (coverages_of s.content held) (indexes_of held) → IsSpelledAt (record { coverage = place; field = field; tile = tile }) s.content (coverages_of s.content held) (indexes_of held)
+spelled_placed s held name place field tile is named has spelled = elim (slice_get_cases held place).1 [
+  | inl there ↦
+      let h = there.0 in
+      let was = sym there.3 in
+      let facts = known s held place h is there.1 was in
+      let both = found_named s.content name field held place named in
+      let index = indexes_at held place h there.1 was in
+      let low : field < length h.signature.fields = (rw facts.at at has).0 in
+      let within : field < length h.fields.items = omega (arith, low, facts.whole.0) in
+      elim (slice_get_cases h.signature.fields field).1 [
+        | inl of ↦
+            rw (facts.at, index, of.2)
+            (spelled (coverage_of s.content h) of.0 (get_or h.fields.items field []) (both.0 ∙ facts.at) of.2 (both.1 ∙ ap (λ (l : List Index). slice_get l field) index ∙ slice_get-get_or h.fields.items field [] within))
+        | inr none ↦ absurd (omega (arith, low, none.0))
+      ]
+  | inr past ↦ absurd (omega (arith, named_within name held place named, past.0))
+]
 
 -- in an intact store each tile is spelled
 fields_spelled : (content : List ℕ) (domain : List Axis) (fields : List Field) (indexes : List Index) (j tile : ℕ) → j < length fields → length indexes ≡ length fields → FieldsIntact content domain fields indexes

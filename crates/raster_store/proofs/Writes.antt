@@ -1,57 +1,53 @@
 -- A store that is held, and what changes of its coverages and blocks do to it and to the tiles that are kept decoded.
-use Rattle.std.proofs.Common.{◌≡◌, ℕ, Bool, true, ◌&&◌, List, [], Contains, refl, sym, ap, ◌∙◌, subst, inl, inr, Vec, nat_eq, Result, Ok, Err, OnOk, OnErr, suc, ◌+◌, ◌<◌, None, ◌∷◌, ◌++◌, length, get_or, take, drop, map, IsTrue, arith, All}
+use Rattle.std.proofs.Common.{◌≡◌, ℕ, Bool, true, ◌&&◌, List, [], Contains, refl, sym, ap, ◌∙◌, subst, inl, inr, Vec, nat_eq, Result, Ok, Err, OnOk, OnErr, suc, ◌<◌, ◌∷◌, length, get_or, take, drop, map, IsTrue, arith, All}
 use Rattle.std.specs.Prelude.{ℤ, Some, IsTrue, replicate}
 use Rattle.std.specs.declared.alloc.Global.{Global}
 use Rattle.std.specs.Map.{lookup}
 use Rattle.std.specs.List.{remove}
-use Rattle.std.proofs.lemmas.Bool.{eqb-true, and_parts, cases_eq}
-use Rattle.std.proofs.lemmas.List.{map_push}
-use Rattle.std.proofs.lemmas.List.Elements.{All-head, All-tail, All-push, All-append, All-take, All-drop}
+use Rattle.std.proofs.lemmas.Bool.{eqb-true, and_parts}
+use Rattle.std.proofs.lemmas.List.Elements.{All-head, All-tail, All-append, All-take, All-drop}
 use Rattle.lru.specs.LruCache.{LruCache, lru_cache, promoted, put_entries}
-use Rattle.lru.proofs.Splits.{Contains-nil}
 use Rattle.lru.proofs.CallerLemmas.{Contains-lookup, Contains-promoted, Contains-put_entries}
-use Rattle.arr_core.specs.Stores.{Store, found}
 use Rattle.block_file.specs.State.{BlocksState, none}
-use Rattle.block_file.specs.Words.{OnlyReads, Recounts, Moves, OnlyHeader}
-use Rattle.raster_store.specs.declared.reading.TileAt.{TileAt}
-use Rattle.raster_store.specs.contracts.reading.TileAtPartialEq.TheImpl as tile_eq
-use Rattle.raster_store.specs.Views.{Index, RasterView, coverages_in, listed_fields, listed_all}
-use Rattle.raster_store.specs.Decoded.{Kept, NoneAdded, Adds, AreDecoded}
-use Rattle.raster_store.specs.Fetches.{IsDecoded}
+use Rattle.block_file.specs.Words.{Recounts, Moves, OnlyHeader}
+use Rattle.raster_store.specs.declared.reading.TileKey.{TileKey}
+use Rattle.raster_store.specs.contracts.reading.TileKeyPartialEq.TheImpl as tile_eq
+use Rattle.raster_store.specs.Views.{RasterView, SnapshotView, coverages_in, listed_fields, listed_all}
+use Rattle.raster_store.specs.Decoded.{Kept, NoneAdded, Adds}
 use Rattle.raster_store.specs.declared.held.Held.{Held}
 use Rattle.raster_store.specs.Words.{SameCoverages, Keeps}
 use Rattle.raster_store.specs.Calls.{MayAttach, AreListed, AreSameSignatures, signature_of, AreWhole as AreAllWhole}
-use Rattle.raster_store.specs.Holding.{coverages_of, coverage_of, indexes_of, signatures_of, IsWhole, IsHeld, IsStore}
-use Rattle.raster_store.proofs.Contents.{apart_none, apart_push, apart_remove, none_found, KeepsAll, store_kept}
-use Rattle.raster_store.proofs.Totals.{listed_fields-none, listed_all-nil, listed_all-push, all_parts}
+use Rattle.raster_store.specs.Holding.{coverages_of, coverage_of, indexes_of, signatures_of, IsWhole, IsHeld}
+use Rattle.raster_store.proofs.Contents.{apart_none, apart_remove, KeepsAll, store_kept}
+use Rattle.raster_store.proofs.Totals.{listed_fields-none, listed_all-nil, all_parts}
 
-abbrev place : ℕ → ℕ → ℕ → TileAt
-place c f t = record { coverage = c; field = f; tile = t }
+abbrev place : ℕ → ℕ → ℕ → TileKey
+place c f t = record { version = c; field = f; tile = t }
 
 same_place : (c d f g t u : ℕ) → c ≡ d → f ≡ g → t ≡ u → place c f t ≡ place d g u
 same_place c d f g t u e h k = rw (e, h, k) refl
 
 -- whether two tiles are the same
-abbrev pub is_at : TileAt → TileAt → Bool
+abbrev pub is_at : TileKey → TileKey → Bool
 is_at = (tile_eq.ghosts).eq
 
-same_tile : (a b : TileAt) → is_at a b ≡ true → a ≡ b
+same_tile : (a b : TileKey) → is_at a b ≡ true → a ≡ b
 same_tile a b e =
-    let p = and_parts (nat_eq a.coverage b.coverage) (nat_eq a.field b.field && nat_eq a.tile b.tile) e in
+    let p = and_parts (nat_eq a.version b.version) (nat_eq a.field b.field && nat_eq a.tile b.tile) e in
     let q = and_parts (nat_eq a.field b.field) (nat_eq a.tile b.tile) p.1 in
-    same_place a.coverage b.coverage a.field b.field a.tile b.tile (eqb-true a.coverage b.coverage p.0) (eqb-true a.field b.field q.0) (eqb-true a.tile b.tile q.1)
+    same_place a.version b.version a.field b.field a.tile b.tile (eqb-true a.version b.version p.0) (eqb-true a.field b.field q.0) (eqb-true a.tile b.tile q.1)
 
 -- a tile that is looked up is kept
-pub looked_up : (at : TileAt) (es : Kept) (tile : Vec ℤ Global) → lookup (is_at at) es ≡ Some tile → Contains es (at, tile)
+pub looked_up : (at : TileKey) (es : Kept) (tile : Vec ℤ Global) → lookup (is_at at) es ≡ Some tile → Contains es (at, tile)
 looked_up at es tile h =
     let on = Contains-lookup (is_at at) es tile h in
-    subst (λ (k : TileAt). Contains es (k, tile)) (sym (same_tile at on.0 on.2)) on.1
+    subst (λ (k : TileKey). Contains es (k, tile)) (sym (same_tile at on.0 on.2)) on.1
 
 -- with a tile at the front the same are kept
-pub promoted_kept : (at : TileAt) (es : Kept) → NoneAdded es (promoted (is_at at) es)
+pub promoted_kept : (at : TileKey) (es : Kept) → NoneAdded es (promoted (is_at at) es)
 promoted_kept at es j cells kept = (kept.0, Contains-promoted (is_at at) es (j, kept.0) kept.1, kept.2)
 
-put_added : (old : LruCache TileAt (Vec ℤ Global)) (at : TileAt) (tile : Vec ℤ Global) (cells : List ℤ) → tile.items ≡ cells → Adds at cells old.entries (put_entries is_at old at tile)
+put_added : (old : LruCache TileKey (Vec ℤ Global)) (at : TileKey) (tile : Vec ℤ Global) (cells : List ℤ) → tile.items ≡ cells → Adds at cells old.entries (put_entries is_at old at tile)
 put_added old at tile cells is j others kept = elim (Contains-put_entries is_at old at tile (j, kept.0) kept.1) [
   | inl was ↦ inl (kept.0, was, kept.2)
   | inr put ↦
@@ -60,22 +56,10 @@ put_added old at tile cells is j others kept = elim (Contains-put_entries is_at 
 ]
 
 -- a tile that was put, or for which there was no memory
-pub put_kept : {T E : Type 0} (result : Result T E) (old new : LruCache TileAt (Vec ℤ Global)) (at : TileAt) (tile : Vec ℤ Global) (cells : List ℤ)
+pub put_kept : {T E : Type 0} (result : Result T E) (old new : LruCache TileKey (Vec ℤ Global)) (at : TileKey) (tile : Vec ℤ Global) (cells : List ℤ)
     → OnOk result (new ≡ lru_cache (put_entries is_at old at tile) old.cap) → OnErr result (new ≡ old) → tile.items ≡ cells → Adds at cells old.entries new.entries
 put_kept (Ok put) old new at tile cells done refused is = rw done (put_added old at tile cells is)
 put_kept (Err left) old new at tile cells done refused is = rw refused (λ j others kept. inl kept)
-
--- no tile
-pub decoded_empty : (s : BlocksState) (coverages : Store) (indexes : List (List Index)) (kept : Kept) → kept ≡ [] → AreDecoded s coverages indexes kept
-decoded_empty s coverages indexes kept is = rw is (λ at cells found. absurd (Contains-nil (at, found.0) found.1))
-
--- one more tile
-pub decoded_added : (s : BlocksState) (coverages : Store) (indexes : List (List Index)) (at : TileAt) (cells : List ℤ) (old new : Kept) → Adds at cells old new
-    → IsDecoded s coverages indexes at cells → AreDecoded s coverages indexes old → AreDecoded s coverages indexes new
-decoded_added s coverages indexes at cells old new adds this are j others kept = elim (adds j others kept) [
-  | inl was ↦ are j others was
-  | inr is ↦ rw (is.0, is.1) this
-]
 
 -- what is told of coverages
 told : (content : List ℕ) (held : List Held) → map signature_of (coverages_of content held) ≡ signatures_of held
@@ -123,25 +107,6 @@ held_kept s s' held is uses honest kept = record {
   whole = λ sure k some. (let before = rw honest at sure in rw (kept before k some) (is.whole before k some));
 }
 
--- one more coverage
-pub store_push : (s : BlocksState) (held : List Held) (new : Held) (kept : Kept) → IsHeld s held → IsWhole new → found new.signature.name (coverages_of s.content held) ≡ None → MayAttach s (indexes_of held) new.fields.items → kept ≡ []
-    → IsStore s (held ++ new ∷ []) kept
-store_push s held new kept is whole fresh may none =
-    let total : (k : ℕ) → listed_all (indexes_of (held ++ new ∷ [])) k ≡ listed_all (indexes_of held) k + listed_fields new.fields.items k =
-    λ k. rw (map_push (λ (h : Held). h.fields.items) held new) (listed_all-push k (indexes_of held) new.fields.items) in
-    record {
-      is_held = record {
-        each = All-push IsWhole held new is.each whole;
-        apart = apart_push held new is.apart (none_found s.content new.signature.name held fresh);
-        counted = λ k. omega (arith, may.counted k, total k);
-        whole = λ sure k some. elim (cases_eq (listed_fields new.fields.items k) 0) [
-          | inl old ↦ is.whole sure k (omega (arith, some, old, total k))
-          | inr more ↦ may.whole sure k (omega (arith, more))
-        ];
-      };
-      decoded = decoded_empty s (coverages_of s.content (held ++ new ∷ [])) (indexes_of (held ++ new ∷ [])) kept none;
-    }
-
 -- an empty coverage lists nothing
 pub may_empty : (s : BlocksState) (held : List Held) (n : ℕ) → IsHeld s held → MayAttach s (indexes_of held) (replicate n [])
 may_empty s held n is = record {
@@ -170,13 +135,13 @@ held_remove s s' held i h is within was counts = (
 )
 
 -- a store as callers see it
-abbrev pub view_of : {B : Type 0} → (B → BlocksState) → B → List Held → ℕ → RasterView B
-view_of state blocks held fetched = record { coverages = coverages_of (state blocks).content held; indexes = indexes_of held; fetched = fetched; blocks = blocks }
+abbrev pub view_of : {B : Type 0} → (B → BlocksState) → B → List Held → List SnapshotView → ℕ → RasterView B
+view_of state blocks held snapshots fetched = record { coverages = coverages_of (state blocks).content held; indexes = indexes_of held; snapshots = snapshots; fetched = fetched; blocks = blocks }
 
 -- the listed blocks hold what they held
-pub same_store : {B : Type 0} (state : B → BlocksState) (old new : B) (held : List Held) (fetched : ℕ) → (IsTrue (state old).honest → KeepsAll (indexes_of held) (state old).content (state new).content)
-    → SameCoverages state (view_of state old held fetched) (view_of state new held fetched) × Keeps state (view_of state old held fetched) (view_of state new held fetched)
-same_store state old new held fetched kept = (
+pub same_store : {B : Type 0} (state : B → BlocksState) (old new : B) (held : List Held) (xs xs' : List SnapshotView) (fetched : ℕ) → (IsTrue (state old).honest → KeepsAll (indexes_of held) (state old).content (state new).content)
+    → SameCoverages state (view_of state old held xs fetched) (view_of state new held xs' fetched) × Keeps state (view_of state old held xs fetched) (view_of state new held xs' fetched)
+same_store state old new held xs xs' fetched kept = (
   record {
     signatures = same_signatures (state old).content (state new).content held held refl;
     coverages = λ sure. (store_kept (state old).content (state new).content held (kept sure)).0;
@@ -185,12 +150,3 @@ same_store state old new held fetched kept = (
   },
   λ sure intact. (store_kept (state old).content (state new).content held (kept sure)).1 intact,
 )
-
--- a store of which blocks were read
-pub store_read : (s s' : BlocksState) (held : List Held) (kept : Kept) → IsStore s held kept → OnlyReads s s' → IsStore s' held kept
-store_read s s' held kept is reads = record {
-  is_held = held_kept s s' held is.is_held (λ k. rw reads.uses refl) reads.honest (λ sure k some. rw reads.content refl);
-  decoded = λ at cells found.
-      let was = is.decoded at cells found in
-      rw reads.content (record { counted = was.counted; values = λ sure. was.values (rw reads.honest at sure); spelled = λ sure. was.spelled (rw reads.honest at sure) });
-}

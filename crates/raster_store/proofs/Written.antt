@@ -27,12 +27,13 @@ use Rattle.tile_store.specs.Room.{HasRoom, AreMeeting, tile_blocks, cells_after,
 use Rattle.tile_store.specs.Stored.{IsSpelled}
 use Rattle.tile_store.proofs.Kept.{keeps_listed, sound_kept, spelled_kept}
 use Rattle.raster_store.specs.declared.held.Held.{Held}
-use Rattle.raster_store.specs.Views.{Index, listed_fields, listed_all, fields_size, metadata_size}
+use Rattle.raster_store.specs.Views.{Index, SnapshotView, listed_fields, listed_all, fields_size, metadata_size}
 use Rattle.raster_store.specs.Fields.{HasKind, HasPatch, IsRestSize}
 use Rattle.raster_store.specs.Holding.{coverages_of, coverage_of, indexes_of, index_at, AreApart, IsNamedAt, IsWhole, IsHeld}
-use Rattle.raster_store.specs.Words.{IsDamagedStore, Stays, Keeps, Writes, LacksRoomToWrite}
-use Rattle.raster_store.proofs.Contents.{KeepsFields, KeepsAll, store_kept, coverage_updated, intact-set, intact-at, values-at, named_within, found_named, updated_named}
-use Rattle.raster_store.proofs.Readings.{known_named, named_field, patch_field, indexes_at, kind_gives}
+use Rattle.raster_store.specs.Fetches.{IsDamagedUnder}
+use Rattle.raster_store.specs.Words.{Stays, Keeps, Writes, LacksRoomToWrite}
+use Rattle.raster_store.proofs.Contents.{KeepsFields, KeepsAll, store_kept, coverage_updated, intact-set, intact-at, named_within, found_named, updated_named}
+use Rattle.raster_store.proofs.Readings.{known_named, named_field, patch_field, indexes_at, kind_gives, under_damaged}
 use Rattle.raster_store.proofs.Totals.{sum_parts, all_parts, field_parts}
 use Rattle.raster_store.proofs.Writes.{view_of, keeps_all, same_signatures}
 
@@ -109,17 +110,17 @@ module _ {B : Type 0} {state : B → BlocksState} {old new : B} {held : List Hel
         ];
       }
 
-  pub still_intact_after : (fetched : ℕ) → Keeps state (view_of state old held fetched) (view_of state new (set held i h') fetched)
-  still_intact_after fetched sure intact =
+  pub still_intact_after : (xs xs' : List SnapshotView) (fetched : ℕ) → Keeps state (view_of state old held xs fetched) (view_of state new (set held i h') xs' fetched)
+  still_intact_after xs xs' fetched sure intact =
       let kept = others sure in
       let here = intact-at (state old).content held i h place w.was intact in
       intact-set (state old).content (state new).content held i h' kept.0 intact
       ((coverage_updated (state old).content (state new).content h h' j kind x' [] [] w.signature w.fields w.of_kind w.field kept.1).1 here (w.spelled sure))
 
   -- a refused write
-  stays_after : {T E : Type 0} (fetched : ℕ) (r : Result T E) → OnErr r (x' ≡ index_at h j) → OnErr r (Moves none none (state old) (state new)) → OnErr r (Stays state (view_of state old held fetched) (view_of state new (set held i h') fetched))
-  stays_after fetched (Ok t) same kept = tt
-  stays_after fetched (Err e) same kept =
+  stays_after : {T E : Type 0} (xs xs' : List SnapshotView) (fetched : ℕ) (r : Result T E) → OnErr r (x' ≡ index_at h j) → OnErr r (Moves none none (state old) (state new)) → OnErr r (Stays state (view_of state old held xs fetched) (view_of state new (set held i h') xs' fetched))
+  stays_after xs xs' fetched (Ok t) same kept = tt
+  stays_after xs xs' fetched (Err e) same kept =
       let fields : h'.fields.items ≡ (get_or held i h).fields.items = w.fields ∙ ap (set h.fields.items j) same ∙ set-get_or h.fields.items j [] ∙ ap (λ (y : Held). y.fields.items) w.was in
       record {
         same = record {
@@ -145,11 +146,11 @@ module _ {B : Type 0} {state : B → BlocksState} {old new : B} {held : List Hel
         omega (arith, some, all.0, all.1, here, ap fields_size w.fields),
       )
 
-  done_after : {T E : Type 0} (catalogue rest fetched : ℕ) (u : Patch) (r : Result T E) → u.domain.now ≡ h.signature.domain → u.kind ≡ kind → IsRestSize held i j catalogue rest → free_of (state new) < 2 ^ 32
+  done_after : {T E : Type 0} (xs xs' : List SnapshotView) (catalogue rest fetched : ℕ) (u : Patch) (r : Result T E) → u.domain.now ≡ h.signature.domain → u.kind ≡ kind → IsRestSize held i j catalogue rest → free_of (state new) < 2 ^ 32
       → OnOk r (Patches u (state old) (index_at h j) (state new) x') → OnOk r (UsesOnce (state old) (state new)) → OnOk r (HasRoom rest x' (state new))
-      → OnOk r (Writes state name j u.area.now (numbers_in u.area.now u.numbers.now) catalogue (view_of state old held fetched) (view_of state new (set held i h') fetched))
-  done_after catalogue rest fetched u (Err e) domain same least small done once room = tt
-  done_after catalogue rest fetched u (Ok t) domain same least small done once room =
+      → OnOk r (Writes state name j u.area.now (numbers_in u.area.now u.numbers.now) catalogue (view_of state old held xs fetched) (view_of state new (set held i h') xs' fetched))
+  done_after xs xs' catalogue rest fetched u (Err e) domain same least small done once room = tt
+  done_after xs xs' catalogue rest fetched u (Ok t) domain same least small done once room =
       let all = rest_of catalogue in
       let size = least h all.0 w.was all.1 in
       record {
@@ -166,14 +167,13 @@ module _ {B : Type 0} {state : B → BlocksState} {old new : B} {held : List Hel
       }
 
   -- why it is refused
-  why_after : {T : Type 0} (catalogue rest fetched : ℕ) (u : Patch) (r : Result T Fault) → u.domain.now ≡ h.signature.domain → u.kind ≡ kind → IsRestSize held i j catalogue rest → RefusesPatch r u rest (state old) (index_at h j)
-      → Refuses r (IsDamagedStore state (view_of state old held fetched)) (LacksRoomToWrite state name j u.area.now (numbers_in u.area.now u.numbers.now) catalogue (view_of state old held fetched))
+  why_after : {T : Type 0} (xs : List SnapshotView) (catalogue rest fetched : ℕ) (u : Patch) (r : Result T Fault) → u.domain.now ≡ h.signature.domain → u.kind ≡ kind → IsRestSize held i j catalogue rest → RefusesPatch r u rest (state old) (index_at h j)
+      → Refuses r (IsDamagedUnder state name j u.area.now (view_of state old held xs fetched)) (LacksRoomToWrite state name j u.area.now (numbers_in u.area.now u.numbers.now) catalogue (view_of state old held xs fetched))
   unfolding IsSpelled
-  why_after catalogue rest fetched u r domain same least why = record {
-    for_damage = λ err sure intact.
-        let d = why.for_damage err sure in
-        let here = intact-at (state old).content held i h place w.was intact in
-        d.3 (rw (same, domain) ((values-at (state old).content h.signature.domain h.signature.fields h.fields.items j kind w.of_kind w.field).1 here d.0));
+  why_after xs catalogue rest fetched u r domain same least why = record {
+    for_damage = λ err sure.
+        let d = rw (same, domain) at (why.for_damage err sure) in
+        under_damaged (state old) held name j h kind w.is_held (i, w.at, w.was) w.of_kind w.field u.area.now d.0 d.1 d.2 d.3;
     for_room = λ err sure.
         let facts = known_named (state old) held name h w.is_held (i, w.at, w.was) in
         let all = rest_of catalogue in
@@ -188,20 +188,21 @@ module _ {B : Type 0} {state : B → BlocksState} {old new : B} {held : List Hel
   }
 
 -- all that a write of a patch leaves of a store, as callers see it
-pub record Wrote {B T : Type 0} (state : B → BlocksState) (old new : B) (held held' : List Held) (name : List ℕ) (j : ℕ) (area : List Axis) (numbers : Numbers) (catalogue fetched : ℕ) (r : Result T Fault) : Type 0 where
+pub record Wrote {B T : Type 0} (state : B → BlocksState) (old new : B) (held held' : List Held) (xs xs' : List SnapshotView) (name : List ℕ) (i j : ℕ) (area : List Axis) (numbers : Numbers) (catalogue fetched : ℕ) (r : Result T Fault) : Type 0 where
   pub is_held : IsHeld (state new) held'
-  pub intact : Keeps state (view_of state old held fetched) (view_of state new held' fetched)
-  pub done : OnOk r (Writes state name j area (numbers_in area numbers) catalogue (view_of state old held fetched) (view_of state new held' fetched))
-  pub same : OnErr r (Stays state (view_of state old held fetched) (view_of state new held' fetched))
-  pub why : Refuses r (IsDamagedStore state (view_of state old held fetched)) (LacksRoomToWrite state name j area (numbers_in area numbers) catalogue (view_of state old held fetched))
+  pub kept : IsTrue (state old).honest → KeepsAll (indexes_of (remove held i)) (state old).content (state new).content
+  pub intact : Keeps state (view_of state old held xs fetched) (view_of state new held' xs' fetched)
+  pub done : OnOk r (Writes state name j area (numbers_in area numbers) catalogue (view_of state old held xs fetched) (view_of state new held' xs' fetched))
+  pub same : OnErr r (Stays state (view_of state old held xs fetched) (view_of state new held' xs' fetched))
+  pub why : Refuses r (IsDamagedUnder state name j area (view_of state old held xs fetched)) (LacksRoomToWrite state name j area (numbers_in area numbers) catalogue (view_of state old held xs fetched))
 
-pub wrote : {B T : Type 0} (state : B → BlocksState) (old new : B) (held : List Held) (name : List ℕ) (i j : ℕ) (h h' : Held) (x x' : Index) (u : Patch) (catalogue rest fetched : ℕ) (r : Result T Fault)
+pub wrote : {B T : Type 0} (state : B → BlocksState) (old new : B) (held : List Held) (name : List ℕ) (i j : ℕ) (h h' : Held) (x x' : Index) (u : Patch) (xs xs' : List SnapshotView) (catalogue rest fetched : ℕ) (r : Result T Fault)
     → IsHeld (state old) held → (at : IsNamedAt name held i) → h ≡ get_or held i h → HasPatch name j u.area.now u.numbers.now (coverages_of (state old).content held) → x ≡ get_or h.fields.items j x → u.domain.now ≡ h.signature.domain
     → HasKind h.signature.fields j u.kind → h'.signature ≡ h.signature → h'.fields.items ≡ set h.fields.items j x' → IsIndex x' → IsRestSize held i j catalogue rest → free_of (state new) < 2 ^ 32
     → OnOk r (Patches u (state old) x (state new) x') → OnOk r (IsSound u.domain.now (state new) x') → OnOk r (Moves (listed x) (listed x') (state old) (state new)) → OnOk r (UsesOnce (state old) (state new)) → OnOk r (HasRoom rest x' (state new))
     → OnErr r (x' ≡ x) → OnErr r (Moves none none (state old) (state new)) → RefusesPatch r u rest (state old) x
-    → Wrote state old new held (set held i h') name j u.area.now u.numbers.now catalogue fetched r
-wrote state old new held name i j h h' x x' u catalogue rest fetched r is at was has read domain kind signature fields index least small done sound moves once room same kept why =
+    → Wrote state old new held (set held i h') xs xs' name i j u.area.now u.numbers.now catalogue fetched r
+wrote state old new held name i j h h' x x' u xs xs' catalogue rest fetched r is at was has read domain kind signature fields index least small done sound moves once room same kept why =
     let t = named_field (state old) held name j h is (i, at, was) (patch_field (coverages_of (state old).content held) name j u.area.now u.numbers.now has) in
     let here : x ≡ index_at h j = get_or_read h.fields.items j x t.indexed read [] in
     let before : IsSound u.domain.now (state old) x = rw (domain, here) t.sound in
@@ -220,8 +221,9 @@ wrote state old new held name i j h h' x x' u catalogue rest fetched r is at was
     } in
     record {
       is_held = held_after w index;
-      intact = still_intact_after w fetched;
-      done = done_after w catalogue rest fetched u r domain refl least small (rw here at done) once room;
-      same = stays_after w fetched r (rw here at same) kept;
-      why = why_after w catalogue rest fetched u r domain refl least (rw here at why);
+      kept = λ sure. (others w sure).0;
+      intact = still_intact_after w xs xs' fetched;
+      done = done_after w xs xs' catalogue rest fetched u r domain refl least small (rw here at done) once room;
+      same = stays_after w xs xs' fetched r (rw here at same) kept;
+      why = why_after w xs catalogue rest fetched u r domain refl least (rw here at why);
     }

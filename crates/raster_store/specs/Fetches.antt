@@ -1,12 +1,15 @@
 -- Tiles that are fetched by their places in a store.
-use Rattle.std.specs.Prelude.{◌≡◌, ℕ, ◌<◌, ℤ, IsTrue, List, [], map, length, slice_get, slice_index_or, IsSomeAnd}
+use Rattle.std.specs.Prelude.{◌≡◌, ℕ, ◌<◌, ℤ, IsTrue, List, [], map, length, slice_get, slice_index_or, Some, IsSomeAnd}
 use Rattle.arr_core.specs.declared.field.Field.{Field}
-use Rattle.arr_core.specs.Domains.{points}
-use Rattle.arr_core.specs.Stores.{Store, found, value_at}
+use Rattle.arr_core.specs.declared.domain.Axis.{Axis}
+use Rattle.arr_core.specs.Domains.{points, IsBoxOf}
+use Rattle.arr_core.specs.Stores.{Coverage, Store, found, value_at}
 use Rattle.arr_core.specs.Tiles.{tile_boxes}
 use Rattle.block_file.specs.State.{BlocksState}
-use Rattle.tile_store.specs.Stored.{tile_box, IsTileSpelled}
+use Rattle.tile_store.specs.Reading.{Meets}
+use Rattle.tile_store.specs.Stored.{tile_box, tile_number, IsTileSpelled}
 use Rattle.raster_store.specs.Views.{Index, RasterView}
+use Rattle.raster_store.specs.Calls.{index_of}
 use Rattle.raster_store.specs.declared.reading.TileAt.{TileAt}
 
 -- the coverage with a name is the one at a place
@@ -63,3 +66,34 @@ pub record AreCellsOf {B : Type 0} (state : B → BlocksState) (name : List ℕ)
   pub counted : IsSomeAnd (found name v.coverages) (λ c. length cells ≡ length (points (tile_box c.domain tile)))
   pub values : IsTrue (state v.blocks).honest
       → IsSomeAnd (found name v.coverages) (λ c. cells ≡ map (value_at c field) (points (tile_box c.domain tile)))
+
+-- A tile of a field of the coverage with a name is spelled: it is not listed, or its bytes spell as many cells of the
+-- field's type as it has points.
+abbrev pub IsSpelledOf : List ℕ → ℕ → ℕ → List ℕ → Store → List (List Index) → Type 0
+IsSpelledOf name field tile content coverages indexes =
+    (c : Coverage) (f : Field) (i : Index) → found name coverages ≡ Some c → slice_get c.fields field ≡ Some f
+    → index_of name field coverages indexes ≡ Some i → IsTileSpelled f.kind c.domain i content tile
+
+-- a tile of a field of the coverage with a name is not spelled
+abbrev pub IsBadTile : {B : Type 0} → (B → BlocksState) → List ℕ → ℕ → ℕ → RasterView B → Type 0
+IsBadTile state name field tile v =
+    IsSpelledOf name field tile (state v.blocks).content v.coverages v.indexes → ⊥
+
+-- Where the disk is honest: this tile is not spelled; or that of a point; or one that a box meets; or one that it meets
+-- and does not cover.
+abbrev pub IsDamagedTile : {B : Type 0} → (B → BlocksState) → List ℕ → ℕ → ℕ → RasterView B → Type 0
+IsDamagedTile state name field tile v = IsTrue (state v.blocks).honest → IsBadTile state name field tile v
+
+abbrev pub IsDamagedCell : {B : Type 0} → (B → BlocksState) → List ℕ → ℕ → List ℤ → RasterView B → Type 0
+IsDamagedCell state name field p v = IsTrue (state v.blocks).honest
+    → IsSomeAnd (found name v.coverages) (λ c. IsBadTile state name field (tile_number c.domain p) v)
+
+abbrev pub IsDamagedBox : {B : Type 0} → (B → BlocksState) → List ℕ → ℕ → List Axis → RasterView B → Type 0
+IsDamagedBox state name field area v = IsTrue (state v.blocks).honest
+    → IsSomeAnd (found name v.coverages) (λ c. (tile : ℕ) × Meets c.domain area tile × IsBadTile state name field tile v)
+
+abbrev pub IsDamagedUnder : {B : Type 0} → (B → BlocksState) → List ℕ → ℕ → List Axis → RasterView B → Type 0
+IsDamagedUnder state name field area v = IsTrue (state v.blocks).honest
+    → IsSomeAnd (found name v.coverages)
+    (λ c. (tile : ℕ) × Meets c.domain area tile × (IsBoxOf area (tile_box c.domain tile) → ⊥)
+    × IsBadTile state name field tile v)

@@ -21,7 +21,8 @@ use Rattle.tile_store.specs.declared.fault.Fault.{Fault}
 use Rattle.tile_store.specs.Faults.{Refuses}
 use Rattle.block_file.specs.State.{BlocksState}
 use Rattle.raster_store.specs.Views.{RasterView, metadata_size}
-use Rattle.raster_store.specs.Words.{IsDamagedStore, LacksRoomToWrite, Writes}
+use Rattle.raster_store.specs.Fetches.{IsDamagedUnder}
+use Rattle.raster_store.specs.Words.{LacksRoomToWrite, Writes}
 use Rattle.raster_store.specs.Holding.{index_at, indexes_of, IsNamedAt}
 
 -- the field at a place has this type
@@ -67,7 +68,7 @@ Puts state name field area numbers catalogue old new =
 abbrev pub RefusesPut : {B T : Type 0} → Result T Fault → (B → BlocksState) → List ℕ → ℕ → List Axis → Numbers → ℕ
     → RasterView B → Type 0
 RefusesPut result state name field area numbers catalogue v =
-    Refuses result (IsDamagedStore state v)
+    Refuses result (IsDamagedUnder state name field area v)
     (LacksRoomToWrite state name field area (numbers_in area numbers) catalogue v)
 
 -- how many bytes the metadata has without the index of a field of the coverage at a place, or the last value of a `u64`

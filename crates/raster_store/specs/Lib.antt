@@ -5,3 +5,5 @@ pub mod Holding
 pub mod Fields
 pub mod Fetches
 pub mod Decoded
+pub mod Snapshots
+pub mod Picking

@@ -61,6 +61,16 @@ listed_fields indexes k = sum_by (λ (i : Index). listed i k) indexes
 unfoldable pub listed_all : List (List Index) → ℕ → ℕ
 listed_all indexes k = sum_by (λ (fields : List Index). listed_fields fields k) indexes
 
+-- The coverages that are held for a job, as they were when it began to hold them, and the indexes of their fields.
+pub record SnapshotView : Type 0 where
+  pub job : ℕ
+  pub coverages : Store
+  pub indexes : List (List Index)
+
+-- how often all that is held for jobs lists a block
+unfoldable pub listed_snapshots : List SnapshotView → ℕ → ℕ
+listed_snapshots snapshots k = sum_by (λ (x : SnapshotView). listed_all x.indexes k) snapshots
+
 -- how many bytes the indexes of fields take in the metadata, each behind its length
 unfoldable pub fields_size : List Index → ℕ
 fields_size indexes = sum_by (λ (i : Index). 8 + length (index_bytes i)) indexes
@@ -77,10 +87,12 @@ reserve catalogue indexes = chain_blocks (metadata_size catalogue indexes)
 abbrev pub AreBelow : List Axis → List Index → Type 0
 AreBelow domain indexes = Each (IsBelow (length (tile_boxes domain))) indexes
 
--- The coverages, the index of each of their fields, how many tiles were fetched, and the blocks below.
+-- The coverages, the index of each of their fields, what is held for jobs, how many tiles were fetched, and the blocks
+-- below.
 pub record RasterView (B : Type 0) : Type 0 where
   pub coverages : Store
   pub indexes : List (List Index)
+  pub snapshots : List SnapshotView
   pub fetched : ℕ
   pub blocks : B
 

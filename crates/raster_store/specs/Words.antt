@@ -18,6 +18,7 @@ use Rattle.raster_store.specs.declared.fault.WriteFault.TheVariants.{Device}
 use Rattle.raster_store.specs.Views.{Index, RasterView, coverage_in, AreIntact, AreBelow, listed_all, reserve, Fetched}
 use Rattle.raster_store.specs.Calls.{signature_of, AreSameSignatures, HasNumbers, RefusesCells, LacksRoomFor}
 use Rattle.raster_store.specs.Calls.{filled, indexes_with, indexes_without}
+use Rattle.raster_store.specs.Fetches.{IsDamagedUnder}
 
 -- something is true of the states of the blocks before and after
 abbrev pub OnBlocks : {B : Type 0} → (B → BlocksState) → (BlocksState → BlocksState → Type 0)
@@ -32,14 +33,11 @@ TellsFault fault state old new = Tells fault (state old.blocks).failures (state 
 abbrev pub IsIntact : {B : Type 0} → (B → BlocksState) → RasterView B → Type 0
 IsIntact state v = AreIntact (state v.blocks).content v.coverages v.indexes
 
--- a listed tile does not spell its cells, if the disk is honest
-abbrev pub IsDamagedStore : {B : Type 0} → (B → BlocksState) → RasterView B → Type 0
-IsDamagedStore state v = IsTrue (state v.blocks).honest → IsIntact state v → ⊥
-
 -- a call that only fetches has left the coverages, their indexes and the blocks as they were
 pub record OnlyFetches {B : Type 0} (state : B → BlocksState) (old new : RasterView B) : Type 0 where
   pub coverages : new.coverages ≡ old.coverages
   pub indexes : new.indexes ≡ old.indexes
+  pub snapshots : new.snapshots ≡ old.snapshots
   pub reads : OnlyReads (state old.blocks) (state new.blocks)
 
 -- The coverages are what they were, on an honest disk with their values, and so are their indexes and the count of
@@ -128,12 +126,13 @@ LacksRoomToWrite state name field area numbers catalogue v =
     → LacksRoomFor name field area numbers catalogue (state v.blocks) v.coverages v.indexes
 
 -- Why cells are not written into a box: for the first that is wrong of the box, the number of cells, and their types;
--- and where these are right, for the device, for room only where it was wanting, and as damaged only where a tile was.
+-- and where these are right, for the device, for room only where it was wanting, and as damaged only where a tile was
+-- that the box meets and does not cover.
 pub record RefusesWrite {B : Type 0} (state : B → BlocksState) (name : List ℕ) (field : ℕ) (area : List Axis)
     (cells : List Cell) (numbers : List ℤ) (catalogue : ℕ) (v : RasterView B) (fault : WriteFault) : Type 0 where
   pub for_cells : IsSomeAnd (found name v.coverages) (λ c. RefusesCells (signature_of c) field area cells fault)
   pub for_room : fault ≡ Device device.NoRoom → LacksRoomToWrite state name field area numbers catalogue v
-  pub for_damage : fault ≡ Device device.Damaged → IsDamagedStore state v
+  pub for_damage : fault ≡ Device device.Damaged → IsDamagedUnder state name field area v
 
 abbrev pub RefusesBox : {B : Type 0} → (B → BlocksState) → List ℕ → ℕ → List Axis → List Cell → ℕ
     → RasterView B → WriteFault → Type 0
@@ -149,6 +148,7 @@ RefusesFill state name field area cell catalogue v fault =
 pub record Removes {B : Type 0} (state : B → BlocksState) (name : List ℕ) (old new : RasterView B) : Type 0 where
   pub coverages : new.coverages ≡ deleted name old.coverages
   pub indexes : new.indexes ≡ indexes_without name old.coverages old.indexes
+  pub snapshots : new.snapshots ≡ old.snapshots
   pub recounts : Recounts (listed_all old.indexes) (listed_all new.indexes) (state old.blocks) (state new.blocks)
   pub intact : IsIntact state old → IsIntact state new
   pub fetched : new.fetched ≡ old.fetched

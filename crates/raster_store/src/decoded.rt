@@ -3,7 +3,7 @@
 ghost use Rattle.std.specs.Prelude.{◌≡◌, [], IsTrue, IfOk};
 ghost use Rattle.raster_store.specs.Decoded.{IsKept, NoneAdded, Adds};
 
-use crate::reading::TileAt;
+use crate::reading::TileKey;
 use lru::LruCache;
 use std::alloc::{AllocError, Global};
 use std::marker::Model;
@@ -12,11 +12,16 @@ use std::num::NonZeroUsize;
 /// How many tiles are kept at most.
 const TILES: usize = 64;
 
-/// The cells of tiles by their places, in the order of their last use. What finds no memory is left out: a tile, or the
-/// whole.
+/// How many keys are noted of tiles that were read.
+const NOTED: usize = 256;
+
+/// The cells of tiles by the versions of their coverages, in the order of their last use. What finds no memory is left
+/// out: a tile, or the whole. A tile is kept where it was read lately, so that one pass over many tiles drives out none.
+/// Tiles of versions that no coverage has any more go as the least lately used.
 #[derive(Drop)]
 pub(crate) struct DecodedTiles {
-    kept: Option<LruCache<TileAt, Vec<i64>>>,
+    kept: Option<LruCache<TileKey, Vec<i64>>>,
+    read: Vec<TileKey>,
 }
 
 impl Model for DecodedTiles {
@@ -36,22 +41,41 @@ fn copy_of(alloc: Global, cells: &[i64]) -> Result<Vec<i64>, AllocError>
     Ok(tile)
 }
 
+/// No tile, and the places for keys.
+fn empty(alloc: Global, count: NonZeroUsize) -> Result<DecodedTiles, AllocError>
+    ensures { IfOk result (λ tiles. tiles ≡ []) }
+{
+    let first = TileKey {
+        version: 0,
+        field: 0,
+        tile: 0,
+    };
+    let read = vec![in alloc; first; NOTED]?;
+    let kept = LruCache::sparse(alloc, count)?;
+    Ok(DecodedTiles {
+        kept: Some(kept),
+        read,
+    })
+}
+
 impl DecodedTiles {
     /// No tile yet.
     pub(crate) fn new(alloc: Global) -> DecodedTiles
         ensures { result ≡ [] }
     {
-        let Some(count) = NonZeroUsize::new(TILES) else {
-            return DecodedTiles { kept: None };
-        };
-        match LruCache::sparse(alloc, count) {
-            Ok(kept) => DecodedTiles { kept: Some(kept) },
-            Err(_) => DecodedTiles { kept: None },
+        if let Some(count) = NonZeroUsize::new(TILES) {
+            if let Ok(tiles) = empty(alloc, count) {
+                return tiles;
+            }
+        }
+        DecodedTiles {
+            kept: None,
+            read: Vec::new(alloc),
         }
     }
 
     /// Copies the cells of a tile into a buffer, whatever that held before, where the tile is kept, which it tells.
-    pub(crate) fn get(&mut self, at: TileAt, cells: &mut Vec<i64>) -> Result<bool, AllocError>
+    pub(crate) fn get(&mut self, at: TileKey, cells: &mut Vec<i64>) -> Result<bool, AllocError>
         ensures kept { IfOk result (λ found. IsTrue found → IsKept at cells.new.items self.old) }
         ensures same { NoneAdded self.old self.new }
     {
@@ -66,8 +90,23 @@ impl DecodedTiles {
         Ok(true)
     }
 
+    /// Notes the key of a tile that was read, and tells whether it was noted already.
+    fn note(&mut self, at: TileKey) -> bool
+        ensures { self.new ≡ self.old }
+    {
+        let place = at.tile.wrapping_add((at.field as u64).wrapping_mul(101)) % NOTED as u64;
+        let Some(last) = self.read.get_mut(place as usize) else {
+            return false;
+        };
+        if *last == at {
+            return true;
+        }
+        *last = at;
+        false
+    }
+
     /// Keeps the cells of a tile, where there is memory for them.
-    pub(crate) fn keep(&mut self, alloc: Global, at: TileAt, cells: &[i64])
+    fn put(&mut self, alloc: Global, at: TileKey, cells: &[i64])
         ensures { Adds at cells.now self.old self.new }
     {
         let Some(kept) = &mut self.kept else {
@@ -79,12 +118,12 @@ impl DecodedTiles {
         let _put = kept.put(at, tile);
     }
 
-    /// Keeps no tile any more.
-    pub(crate) fn clear(&mut self)
-        ensures { self.new ≡ [] }
+    /// Keeps the cells of a tile that was read, where it was read lately before and there is memory for them.
+    pub(crate) fn keep(&mut self, alloc: Global, at: TileKey, cells: &[i64])
+        ensures { Adds at cells.now self.old self.new }
     {
-        if let Some(kept) = &mut self.kept {
-            kept.clear();
+        if self.note(at) {
+            self.put(alloc, at, cells);
         }
     }
 }

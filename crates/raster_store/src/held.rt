@@ -1,6 +1,6 @@
 //! A coverage as it is held.
 
-ghost use Rattle.std.specs.Prelude.{◌≡◌, ◌<◌, ◌↔◌, [], length, replicate, position, All};
+ghost use Rattle.std.specs.Prelude.{◌≡◌, ◌+◌, ◌<◌, ◌↔◌, [], length, replicate, position, All};
 ghost use Rattle.std.specs.Prelude.{IfOk, IfSome, IfNone, IsTrue, IsErrOf};
 ghost use Rattle.arr_core.specs.Tiles.{tile_boxes};
 ghost use Rattle.block_file.specs.State.{none};
@@ -9,7 +9,7 @@ ghost use Rattle.tile_index.specs.Index.{IsIndex};
 ghost use Rattle.tile_store.specs.Faults.{Refuses};
 ghost use Rattle.tile_store.specs.Listing.{IsBelow};
 ghost use Rattle.raster_store.specs.Views.{AreBelow, listed_fields};
-ghost use Rattle.raster_store.specs.Holding.{has_name, IsWhole, AreApart, NoneNamed, IsNamedAt};
+ghost use Rattle.raster_store.specs.Holding.{has_name, IsWhole, AreApart, NoneNamed, IsNamedAt, Renews};
 ghost use Rattle.raster_store.specs.Fields.{IsNamed};
 
 use arr_core::{Domain, Name, Signature};
@@ -18,11 +18,24 @@ use std::alloc::{AllocError, Global};
 use tile_index::TileIndex;
 use tile_store::{Fault, FieldIndex, give_back};
 
-/// A coverage: its signature, and the index of each field.
+/// A coverage: its version, which no coverage has that was another, its signature, and the index of each field. No tile
+/// is kept decoded of a coverage without a version.
 #[derive(Drop)]
 pub(crate) struct Held {
+    pub(crate) version: Option<u64>,
     pub(crate) signature: Signature,
     pub(crate) fields: Vec<FieldIndex>,
+}
+
+/// The version of a coverage that comes or is written, where `next` is the next one, and the one behind it. At the last
+/// number there is none any more.
+pub(crate) fn renewed(next: u64) -> (Option<u64>, u64)
+    ensures { Renews next result.0 result.1 }
+{
+    match next.checked_add(1) {
+        Some(following) => (Some(next), following),
+        None => (None, next),
+    }
 }
 
 /// The place of the first coverage with a name.
@@ -135,14 +148,42 @@ pub(crate) fn give_back_fields<B: Blocks>(blocks: &mut B, fields: &[FieldIndex])
     }
 }
 
+/// The same indexes again.
+fn indexes_again(alloc: Global, indexes: &[FieldIndex]) -> Result<Vec<FieldIndex>, AllocError>
+    ensures { IfOk result (λ fields. fields.items ≡ indexes.now) }
+{
+    let mut fields = Vec::with_capacity(alloc, indexes.len())?;
+    for index in indexes {
+        fields.push(index.copy()?)?;
+    }
+    Ok(fields)
+}
+
 impl Held {
+    /// The same coverage again, with its version.
+    pub(crate) fn copy(&self, alloc: Global) -> Result<Held, AllocError>
+        ensures version { IfOk result (λ h. h.version ≡ self.now.version) }
+        ensures signature { IfOk result (λ h. h.signature ≡ self.now.signature) }
+        ensures fields { IfOk result (λ h. h.fields.items ≡ self.now.fields.items) }
+    {
+        let signature = copy_of(alloc, &self.signature)?;
+        let fields = indexes_again(alloc, &self.fields)?;
+        Ok(Held {
+            version: self.version,
+            signature,
+            fields,
+        })
+    }
+
     /// A coverage whose tiles are listed already: `Damaged` where one is past the domain's.
     pub(crate) fn listed(
         alloc: Global,
+        version: Option<u64>,
         signature: &Signature,
         indexes: Vec<TileIndex>,
     ) -> Result<Held, Fault>
         requires { length indexes.items ≡ length signature.now.fields }
+        ensures version { IfOk result (λ h. h.version ≡ version) }
         ensures signature { IfOk result (λ h. h.signature ≡ signature.now) }
         ensures fields { IfOk result (λ h. h.fields.items ≡ indexes.items) }
         ensures whole { IfOk result (λ h. IsWhole h) }
@@ -154,17 +195,30 @@ impl Held {
         if !are_below(&fields, &signature.domain, signature.domain.tiles()) {
             return Err(Fault::Damaged);
         }
-        Ok(Held { signature, fields })
+        Ok(Held {
+            version,
+            signature,
+            fields,
+        })
     }
 
     /// A coverage that is 0 or false everywhere.
-    pub(crate) fn empty(alloc: Global, signature: &Signature) -> Result<Held, AllocError>
+    pub(crate) fn empty(
+        alloc: Global,
+        version: Option<u64>,
+        signature: &Signature,
+    ) -> Result<Held, AllocError>
+        ensures version { IfOk result (λ h. h.version ≡ version) }
         ensures signature { IfOk result (λ h. h.signature ≡ signature.now) }
         ensures fields { IfOk result (λ h. h.fields.items ≡ replicate (length signature.now.fields) []) }
         ensures whole { IfOk result (λ h. IsWhole h) }
     {
         let signature = copy_of(alloc, signature)?;
         let fields = empty_fields(alloc, signature.fields.len())?;
-        Ok(Held { signature, fields })
+        Ok(Held {
+            version,
+            signature,
+            fields,
+        })
     }
 }

@@ -4,9 +4,11 @@
 
 mod decoded;
 mod fault;
+mod fetching;
 mod held;
 mod reading;
 mod sizes;
+mod snapshot;
 mod store;
 mod writing;
 

@@ -16,6 +16,15 @@ pub struct TileAt {
     pub tile: u64,
 }
 
+/// Which tile: of a coverage as it was while it had a version, of which of its fields, by its place, and which one of its
+/// domain's tiles, by its number.
+#[derive(Clone, Copy, Debug, PartialEq, Eq, Hash)]
+pub(crate) struct TileKey {
+    pub(crate) version: u64,
+    pub(crate) field: usize,
+    pub(crate) tile: u64,
+}
+
 impl Held {
     /// A field, by its place, as it is read.
     #[tactic(auto, using(std::proofs::lemmas::List::get_or_read, std::proofs::lemmas::Option::slice_get_read))]

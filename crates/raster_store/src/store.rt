@@ -1,7 +1,8 @@
 //! Coverages by their names: functions on boxes.
 
 ghost use Rattle.std.specs.Prelude.{◌≡◌, ◌<◌, ◌≤◌, [], length, None, IsSomeAnd, IsErr, IsErrOf, IfOk, IfErr, IfSome};
-ghost use Rattle.std.specs.Prelude.{IfNone, OnOk, OnErr, IsTrue, option_copied, option_map};
+ghost use Rattle.std.specs.Prelude.{IfNone, OnOk, OnErr, IsTrue, option_copied, option_map, slice_get};
+ghost use Rattle.std.specs.Bool.{OnTrue, OnFalse};
 ghost use Rattle.arr_core.specs.Domains.{IsInside, IsBoxOf};
 ghost use Rattle.arr_core.specs.Stores.{found};
 ghost use Rattle.block_file.specs.State.{free_of};
@@ -11,16 +12,20 @@ ghost use Rattle.tile_store.specs.Faults.{Refuses};
 ghost use Rattle.raster_store.specs.Views.{AreBelow, Fetched};
 ghost use Rattle.raster_store.specs.Calls.{signature_of, AreWhole, AreListed, HasField, MayAttach, IsIndexOf};
 ghost use Rattle.raster_store.specs.Fetches.{IsPlaceOf, HasTile, HasTileNumber, IsFetched, IsDamagedAt, AreCellsOf};
+ghost use Rattle.raster_store.specs.Fetches.{IsDamagedTile, IsDamagedCell, IsDamagedBox};
 ghost use Rattle.raster_store.specs.Fields.{HasPatch, Puts, RefusesPut, cells_in};
-ghost use Rattle.raster_store.specs.Words.{OnBlocks, TellsFault, IsDamagedStore, OnlyFetches, SameCoverages, Stays};
+ghost use Rattle.raster_store.specs.Words.{OnBlocks, TellsFault, OnlyFetches, SameCoverages, Stays};
 ghost use Rattle.raster_store.specs.Words.{Keeps, Attaches, Creates, LacksRoomToCreate, IsCell, AreBoxCells};
+ghost use Rattle.raster_store.specs.Snapshots.{AreNames, held_for, as_held, held_view, Holds, HoldsNone, KeepsSnapshots, Releases};
 ghost use Rattle.raster_store.specs.Words.{FetchesBox, WritesBox, FillsBox, RefusesBox, RefusesFill, Removes};
 
 use crate::decoded::DecodedTiles;
 use crate::fault::WriteFault;
-use crate::held::{Held, give_back_fields, named, place_held, place_of};
+use crate::fetching::{TileOf, fetch_of};
+use crate::held::{Held, give_back_fields, named, place_held, place_of, renewed};
 use crate::reading::TileAt;
 use crate::sizes::{created_size, has_room, rest_size};
+use crate::snapshot::{Snapshot, blocks_of, copies_of, place_for, release_all};
 use crate::writing::{Cells, kind_of, numbers_for};
 use arr_core::{Cell, Domain, Name, Signature};
 use block_file::{Blocks, ChainFault, State, write_chain};
@@ -28,18 +33,21 @@ use disk_face::DiskFault;
 use std::alloc::{AllocError, Global};
 use std::marker::Model;
 use tile_index::TileIndex;
-use tile_store::{Fault, Numbers, Patch, read_area, read_point, read_tile_into, write_area};
+use tile_store::{Fault, Numbers, Patch, read_area, read_point, write_area};
 
-/// The coverages in the order of their insertion, over blocks; the tiles that are kept decoded, as they are now; and
-/// the buffer that the bytes of a tile are read into.
+/// The coverages in the order of their insertion, over blocks; the version that the next one to come or to be written
+/// gets; the tiles that are kept decoded, by the versions of their coverages; the buffer that the bytes of a tile are
+/// read into; and what is held for jobs.
 #[derive(Drop)]
 pub struct RasterStore<B: Blocks> {
     alloc: Global,
     blocks: B,
     coverages: Vec<Held>,
+    next: u64,
     fetched: u64,
     decoded: DecodedTiles,
     bytes: Vec<u8>,
+    snapshots: Vec<Snapshot>,
 }
 
 impl<B: Blocks> Model for RasterStore<B> {
@@ -47,16 +55,17 @@ impl<B: Blocks> Model for RasterStore<B> {
 
     ghost Value = { RasterView B };
 
-    ghost use Rattle.raster_store.specs.Holding.{coverages_of, indexes_of, IsStore};
+    ghost use Rattle.raster_store.specs.Holding.{coverages_of, indexes_of, snapshots_of, IsStore};
 
     ghost view = { λ s. record {
       coverages = coverages_of (B.state s.blocks).content s.coverages.items;
       indexes = indexes_of s.coverages.items;
+      snapshots = snapshots_of (B.state s.blocks).content s.snapshots.items;
       fetched = s.fetched;
       blocks = s.blocks;
     } };
 
-    ghost invariant = { λ s. IsStore (B.state s.blocks) s.coverages.items s.decoded };
+    ghost invariant = { λ s. IsStore (B.state s.blocks) s.coverages.items s.snapshots.items s.next s.decoded };
 }
 
 impl<B: Blocks> RasterStore<B> {
@@ -64,6 +73,7 @@ impl<B: Blocks> RasterStore<B> {
     pub fn new(alloc: Global, blocks: B) -> RasterStore<B>
         ensures coverages { result.coverages ≡ [] }
         ensures indexes { result.indexes ≡ [] }
+        ensures snapshots { result.snapshots ≡ [] }
         ensures fetched { result.fetched ≡ 0 }
         ensures blocks { result.blocks ≡ blocks }
     {
@@ -72,9 +82,11 @@ impl<B: Blocks> RasterStore<B> {
             alloc,
             blocks,
             coverages: Vec::new(alloc),
+            next: 0,
             fetched: 0,
             decoded,
             bytes: Vec::new(alloc),
+            snapshots: Vec::new(alloc),
         }
     }
 
@@ -85,16 +97,19 @@ impl<B: Blocks> RasterStore<B> {
         requires name { found signature.now.name self.old.coverages ≡ None }
         requires fields { length indexes.items ≡ length signature.now.fields }
         requires blocks { MayAttach (B.state self.old.blocks) self.old.indexes indexes.items }
+        requires unheld { self.old.snapshots ≡ [] }
         ensures attached { OnOk result (Attaches B.state signature.now indexes.items self.old self.new) }
         ensures same { OnErr result (self.new ≡ self.old) }
         ensures why { Refuses result (AreBelow signature.now.domain indexes.items → ⊥) ⊥ }
         ensures no_disk { IsErrOf result Fault.DiskFault → ⊥ }
         ensures fetched { self.new.fetched ≡ self.old.fetched }
+        ensures snapshots { self.new.snapshots ≡ self.old.snapshots }
         ensures blocks { self.new.blocks ≡ self.old.blocks }
     {
-        let held = Held::listed(self.alloc, signature, indexes)?;
-        self.decoded.clear();
+        let renewed = renewed(self.next);
+        let held = Held::listed(self.alloc, renewed.0, signature, indexes)?;
         self.coverages.push(held)?;
+        self.next = renewed.1;
         Ok(())
     }
 
@@ -107,15 +122,17 @@ impl<B: Blocks> RasterStore<B> {
         ensures why { Refuses result ⊥ (LacksRoomToCreate B.state signature.now catalogue self.old) }
         ensures no_disk { IsErrOf result Fault.DiskFault → ⊥ }
         ensures fetched { self.new.fetched ≡ self.old.fetched }
+        ensures snapshots { self.new.snapshots ≡ self.old.snapshots }
         ensures blocks { self.new.blocks ≡ self.old.blocks }
     {
-        let held = Held::empty(self.alloc, signature)?;
+        let renewed = renewed(self.next);
+        let held = Held::empty(self.alloc, renewed.0, signature)?;
         let size = created_size(&self.coverages, &held, catalogue);
         if !has_room(size, self.blocks.free()) {
             return Err(Fault::NoRoom);
         }
-        self.decoded.clear();
         self.coverages.push(held)?;
+        self.next = renewed.1;
         Ok(())
     }
 
@@ -125,7 +142,7 @@ impl<B: Blocks> RasterStore<B> {
         requires field { HasField name.now field self.old.coverages }
         requires inside { IsSomeAnd (found name.now self.old.coverages) (λ c. IsInside c.domain point.now) }
         ensures read { IfOk result (IsCell B.state name.now field point.now self.old) }
-        ensures why { Refuses result (IsDamagedStore B.state self.old) ⊥ }
+        ensures why { Refuses result (IsDamagedCell B.state name.now field point.now self.old) ⊥ }
         ensures frame { OnlyFetches B.state self.old self.new }
         ensures fetched { OnOk result (Fetched 1 self.old.fetched self.new.fetched) }
         ensures unfetched { OnErr result (self.new.fetched ≡ self.old.fetched) }
@@ -144,7 +161,7 @@ impl<B: Blocks> RasterStore<B> {
         requires field { HasField name.now field self.old.coverages }
         requires inside { IsSomeAnd (found name.now self.old.coverages) (λ c. IsBoxOf c.domain area.now) }
         ensures read { IfOk result (λ cells. AreBoxCells B.state name.now field area.now self.old cells.items) }
-        ensures why { Refuses result (IsDamagedStore B.state self.old) ⊥ }
+        ensures why { Refuses result (IsDamagedBox B.state name.now field area.now self.old) ⊥ }
         ensures frame { OnlyFetches B.state self.old self.new }
         ensures fetched { OnOk result (FetchesBox name.now area.now self.old self.new) }
         ensures unfetched { OnErr result (self.new.fetched ≡ self.old.fetched) }
@@ -177,40 +194,10 @@ impl<B: Blocks> RasterStore<B> {
         }
     }
 
-    /// Copies the cells of a tile into `cells` where it is kept decoded, which it tells.
-    fn copy_kept(&mut self, at: TileAt, cells: &mut Vec<i64>) -> Result<bool, AllocError>
-        ensures kept { IfOk result (λ kept. IsTrue kept → IsFetched B.state at self.old cells.new.items) }
-        ensures same { self.new ≡ self.old }
-    {
-        self.decoded.get(at, cells)
-    }
-
-    /// Reads a tile from its blocks, and keeps it decoded.
-    #[tactic(auto, using(crate::proofs::Readings::placed, crate::proofs::Readings::place_within))]
-    fn read_tile(&mut self, at: TileAt, cells: &mut Vec<i64>) -> Result<(), Fault>
-        requires tile { HasTile at self.old.coverages }
-        ensures read { OnOk result (IsFetched B.state at self.old cells.new.items) }
-        ensures why { Refuses result (IsDamagedAt B.state at self.old) ⊥ }
-        ensures frame { OnlyFetches B.state self.old self.new }
-        ensures fetched { self.new.fetched ≡ self.old.fetched }
-        ensures told { TellsFault (IsErrOf result Fault.DiskFault) B.state self.old self.new }
-    {
-        let tiles = self.coverages[at.coverage].tiles(at.field);
-        read_tile_into(
-            self.alloc,
-            &mut self.blocks,
-            tiles,
-            at.tile,
-            &mut self.bytes,
-            cells,
-        )?;
-        self.decoded.keep(self.alloc, at, cells);
-        Ok(())
-    }
-
     /// Reads the stored numbers of a tile into `cells`, whatever it held before, in row-major order. `Damaged` comes
     /// where the tile was read and its bytes do not spell as many cells as it has points, and for no other tile's sake.
     /// After a refusal `cells` holds anything, and the tile is not counted as fetched.
+    #[tactic(auto, using(crate::proofs::Readings::placed, crate::proofs::Readings::place_within))]
     pub fn fetch_tile_into(&mut self, at: TileAt, cells: &mut Vec<i64>) -> Result<(), Fault>
         requires tile { HasTile at self.old.coverages }
         ensures read { OnOk result (IsFetched B.state at self.old cells.new.items) }
@@ -220,11 +207,19 @@ impl<B: Blocks> RasterStore<B> {
         ensures unfetched { OnErr result (self.new.fetched ≡ self.old.fetched) }
         ensures told { TellsFault (IsErrOf result Fault.DiskFault) B.state self.old self.new }
     {
-        if self.copy_kept(at, cells)? {
-            self.fetched = self.fetched.saturating_add(1);
-            return Ok(());
-        }
-        self.read_tile(at, cells)?;
+        let of = TileOf {
+            coverage: &self.coverages[at.coverage],
+            field: at.field,
+            tile: at.tile,
+        };
+        fetch_of(
+            self.alloc,
+            &mut self.blocks,
+            of,
+            &mut self.decoded,
+            &mut self.bytes,
+            cells,
+        )?;
         self.fetched = self.fetched.saturating_add(1);
         Ok(())
     }
@@ -242,7 +237,7 @@ impl<B: Blocks> RasterStore<B> {
         requires field { HasField name.now field self.old.coverages }
         requires tile { HasTileNumber name.now tile self.old.coverages }
         ensures read { OnOk result (AreCellsOf B.state name.now field tile self.old cells.new.items) }
-        ensures why { Refuses result (IsDamagedStore B.state self.old) ⊥ }
+        ensures why { Refuses result (IsDamagedTile B.state name.now field tile self.old) ⊥ }
         ensures frame { OnlyFetches B.state self.old self.new }
         ensures fetched { OnOk result (Fetched 1 self.old.fetched self.new.fetched) }
         ensures unfetched { OnErr result (self.new.fetched ≡ self.old.fetched) }
@@ -273,13 +268,16 @@ impl<B: Blocks> RasterStore<B> {
         ensures same { OnErr result (Stays B.state self.old self.new) }
         ensures why { RefusesPut result B.state name.now field area.now numbers.now catalogue self.old }
         ensures intact { Keeps B.state self.old self.new }
+        ensures snapshots { KeepsSnapshots B.state self.old self.new }
         ensures fetched { self.new.fetched ≡ self.old.fetched }
         ensures told { TellsFault (IsErrOf result Fault.DiskFault) B.state self.old self.new }
     {
         let place = place_held(&self.coverages, name);
         let rest = rest_size(&self.coverages, place, field, catalogue);
-        self.decoded.clear();
+        let renewed = renewed(self.next);
         let coverage = &mut self.coverages[place];
+        coverage.version = renewed.0;
+        self.next = renewed.1;
         let patch = Patch {
             kind: kind_of(&coverage.signature, field),
             domain: &coverage.signature.domain,
@@ -310,6 +308,7 @@ impl<B: Blocks> RasterStore<B> {
         ensures why { IfErr result
             (RefusesBox B.state name.now field area.now (cells_in area.now cells.entry) catalogue self.old) }
         ensures intact { Keeps B.state self.old self.new }
+        ensures snapshots { KeepsSnapshots B.state self.old self.new }
         ensures fetched { self.new.fetched ≡ self.old.fetched }
         ensures told { TellsFault (IsErrOf result (WriteFault.Device Fault.DiskFault)) B.state self.old self.new }
     {
@@ -334,6 +333,7 @@ impl<B: Blocks> RasterStore<B> {
         ensures same { OnErr result (Stays B.state self.old self.new) }
         ensures why { IfErr result (RefusesBox B.state name.now field area.now cells.now catalogue self.old) }
         ensures intact { Keeps B.state self.old self.new }
+        ensures snapshots { KeepsSnapshots B.state self.old self.new }
         ensures fetched { self.new.fetched ≡ self.old.fetched }
         ensures told { TellsFault (IsErrOf result (WriteFault.Device Fault.DiskFault)) B.state self.old self.new }
     {
@@ -355,6 +355,7 @@ impl<B: Blocks> RasterStore<B> {
         ensures same { OnErr result (Stays B.state self.old self.new) }
         ensures why { IfErr result (RefusesFill B.state name.now field area.now cell catalogue self.old) }
         ensures intact { Keeps B.state self.old self.new }
+        ensures snapshots { KeepsSnapshots B.state self.old self.new }
         ensures fetched { self.new.fetched ≡ self.old.fetched }
         ensures told { TellsFault (IsErrOf result (WriteFault.Device Fault.DiskFault)) B.state self.old self.new }
     {
@@ -368,11 +369,170 @@ impl<B: Blocks> RasterStore<B> {
     {
         match place_of(&self.coverages, name) {
             Some(place) => {
-                self.decoded.clear();
                 let held = self.coverages.remove(place);
                 give_back_fields(&mut self.blocks, &held.fields);
             }
             None => {}
+        }
+    }
+
+    /// Holds the coverages with names for a job, as they are, whatever is written afterwards. Nothing is held for the
+    /// job yet. Refused for memory alone; nothing is held then.
+    pub fn hold(&mut self, job: u64, names: &[Name]) -> Result<(), AllocError>
+        requires job { held_for job self.old.snapshots ≡ None }
+        requires names { AreNames names.now self.old.coverages }
+        ensures held { OnOk result (Holds B.state job names.now self.old self.new) }
+        ensures refused { OnErr result (HoldsNone B.state self.old self.new) }
+    {
+        let coverages = copies_of(self.alloc, &self.coverages, names)?;
+        let blocks = blocks_of(self.alloc, &coverages)?;
+        self.snapshots.reserve(1)?;
+        self.blocks.hold(&blocks)?;
+        match self.snapshots.push(Snapshot { job, coverages }) {
+            Ok(()) => Ok(()),
+            Err(_) => unreachable!(),
+        }
+    }
+
+    /// Ends what is held for a job. Blocks that nothing else uses are free then. Takes no memory. Where nothing is held
+    /// for the job nothing changes.
+    pub fn release(&mut self, job: u64)
+        ensures { Releases B.state job self.old self.new }
+    {
+        match place_for(&self.snapshots, job) {
+            Some(place) => {
+                let snapshot = self.snapshots.remove(place);
+                release_all(&mut self.blocks, &snapshot.coverages);
+            }
+            None => {}
+        }
+    }
+
+    /// Reads a tile as `fetch_tile_into` does, of the coverages that are held at a place.
+    fn fetch_held(&mut self, place: usize, at: TileAt, cells: &mut Vec<i64>) -> Result<(), Fault>
+        requires tile { IsSomeAnd (slice_get self.old.snapshots place) (λ x. HasTile at x.coverages) }
+        ensures read { OnOk result (IsSomeAnd (slice_get self.old.snapshots place)
+            (λ x. IsFetched B.state at (as_held self.old x) cells.new.items)) }
+        ensures why { Refuses result (IsSomeAnd (slice_get self.old.snapshots place)
+            (λ x. IsDamagedAt B.state at (as_held self.old x))) ⊥ }
+        ensures frame { OnlyFetches B.state self.old self.new }
+        ensures fetched { OnOk result (Fetched 1 self.old.fetched self.new.fetched) }
+        ensures unfetched { OnErr result (self.new.fetched ≡ self.old.fetched) }
+        ensures told { TellsFault (IsErrOf result Fault.DiskFault) B.state self.old self.new }
+    {
+        let held = &self.snapshots[place].coverages[at.coverage];
+        let of = TileOf {
+            coverage: held,
+            field: at.field,
+            tile: at.tile,
+        };
+        fetch_of(
+            self.alloc,
+            &mut self.blocks,
+            of,
+            &mut self.decoded,
+            &mut self.bytes,
+            cells,
+        )?;
+        self.fetched = self.fetched.saturating_add(1);
+        Ok(())
+    }
+
+    /// Reads a tile as `fetch_tile_into` does, of the coverages that are held for a job, by their places there. For
+    /// number 0, where nothing is held for it, of those of the store as it is.
+    pub fn fetch_at(&mut self, job: u64, at: TileAt, cells: &mut Vec<i64>) -> Result<(), Fault>
+        requires tile { IsSomeAnd (held_view job self.old) (λ v. HasTile at v.coverages) }
+        ensures read { OnOk result
+            (IsSomeAnd (held_view job self.old) (λ v. IsFetched B.state at v cells.new.items)) }
+        ensures why { Refuses result (IsSomeAnd (held_view job self.old) (λ v. IsDamagedAt B.state at v)) ⊥ }
+        ensures frame { OnlyFetches B.state self.old self.new }
+        ensures fetched { OnOk result (Fetched 1 self.old.fetched self.new.fetched) }
+        ensures unfetched { OnErr result (self.new.fetched ≡ self.old.fetched) }
+        ensures told { TellsFault (IsErrOf result Fault.DiskFault) B.state self.old self.new }
+    {
+        match place_for(&self.snapshots, job) {
+            Some(place) => self.fetch_held(place, at, cells),
+            None => self.fetch_tile_into(at, cells),
+        }
+    }
+
+    /// Whether something is held for a job. Takes no memory.
+    pub fn holds(&self, job: u64) -> bool
+        ensures some { OnTrue result (held_for job self.now.snapshots ≡ None → ⊥) }
+        ensures none { OnFalse result (held_for job self.now.snapshots ≡ None) }
+    {
+        match place_for(&self.snapshots, job) {
+            Some(_) => true,
+            None => false,
+        }
+    }
+
+    /// The place of the coverage with a name among those that a number reads, for `fetch_at`: those that are held for
+    /// the job, or, for number 0 where nothing is held for it, those of the store. Takes no memory.
+    pub fn place_at(&self, job: u64, name: &Name) -> Option<usize>
+        requires { held_for job self.now.snapshots ≡ None → job ≡ 0 }
+        ensures some { IfSome result
+            (λ place. IsSomeAnd (held_view job self.now) (λ v. IsPlaceOf name.now v.coverages place)) }
+        ensures none { IfNone result (IsSomeAnd (held_view job self.now) (λ v. found name.now v.coverages ≡ None)) }
+    {
+        match place_for(&self.snapshots, job) {
+            Some(held) => match place_of(&self.snapshots[held].coverages, name) {
+                Some(found) => Some(found),
+                None => None,
+            },
+            None => self.place(name),
+        }
+    }
+
+    /// The name, domain and fields of the coverage with a name among those that a number reads, as `place_at` finds it.
+    /// Takes no memory.
+    pub fn signature_at(&self, job: u64, name: &Name) -> Option<&Signature>
+        requires { held_for job self.now.snapshots ≡ None → job ≡ 0 }
+        ensures { IsSomeAnd (held_view job self.now)
+            (λ v. option_copied result ≡ option_map signature_of (found name.now v.coverages)) }
+    {
+        match place_for(&self.snapshots, job) {
+            Some(held) => match place_of(&self.snapshots[held].coverages, name) {
+                Some(place) => Some(&self.snapshots[held].coverages[place].signature),
+                None => None,
+            },
+            None => self.signature(name),
+        }
+    }
+
+    /// Reads a tile as `fetch_tile` does, of the coverage with a name as it is held for a job. For number 0, where
+    /// nothing is held for it, of the coverage as it is.
+    pub fn fetch_tile_at(
+        &mut self,
+        job: u64,
+        name: &Name,
+        field: usize,
+        tile: u64,
+        cells: &mut Vec<i64>,
+    ) -> Result<(), Fault>
+        requires field { IsSomeAnd (held_view job self.old) (λ v. HasField name.now field v.coverages) }
+        requires tile { IsSomeAnd (held_view job self.old) (λ v. HasTileNumber name.now tile v.coverages) }
+        ensures read { OnOk result
+            (IsSomeAnd (held_view job self.old) (λ v. AreCellsOf B.state name.now field tile v cells.new.items)) }
+        ensures why { Refuses result
+            (IsSomeAnd (held_view job self.old) (λ v. IsDamagedTile B.state name.now field tile v)) ⊥ }
+        ensures frame { OnlyFetches B.state self.old self.new }
+        ensures fetched { OnOk result (Fetched 1 self.old.fetched self.new.fetched) }
+        ensures unfetched { OnErr result (self.new.fetched ≡ self.old.fetched) }
+        ensures told { TellsFault (IsErrOf result Fault.DiskFault) B.state self.old self.new }
+    {
+        match place_for(&self.snapshots, job) {
+            Some(place) => {
+                let coverage = place_held(&self.snapshots[place].coverages, name);
+                let at = TileAt {
+                    coverage,
+                    field,
+                    tile,
+                };
+                self.fetch_held(place, at, cells)?;
+                Ok(())
+            }
+            None => self.fetch_tile(name, field, tile, cells),
         }
     }
 
@@ -384,10 +544,10 @@ impl<B: Blocks> RasterStore<B> {
         ensures chain { IfOk result (λ first. HoldsChain first metadata.now (B.state self.new.blocks)) }
         ensures frame { Stays B.state self.old self.new }
         ensures intact { Keeps B.state self.old self.new }
+        ensures snapshots { KeepsSnapshots B.state self.old self.new }
         ensures why { Refuses result ⊥ ⊥ }
         ensures told { TellsFault (IsErrOf result Fault.DiskFault) B.state self.old self.new }
     {
-        self.decoded.clear();
         match write_chain(&mut self.blocks, metadata) {
             Ok(first) => Ok(first),
             Err(ChainFault::NoMemory) => Err(Fault::NoMemory),
@@ -401,9 +561,9 @@ impl<B: Blocks> RasterStore<B> {
         ensures frame { OnBlocks B.state OnlyHeader self.old self.new }
         ensures same { SameCoverages B.state self.old self.new }
         ensures intact { Keeps B.state self.old self.new }
+        ensures snapshots { KeepsSnapshots B.state self.old self.new }
         ensures told { TellsFault (IsErr result) B.state self.old self.new }
     {
-        self.decoded.clear();
         self.blocks.write_header(state, first, length)
     }
 
@@ -417,9 +577,11 @@ impl<B: Blocks> RasterStore<B> {
             alloc: _,
             blocks,
             coverages: _,
+            next: _,
             fetched: _,
             decoded: _,
             bytes: _,
+            snapshots: _,
         } = self;
         blocks
     }

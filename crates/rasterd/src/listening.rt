@@ -16,11 +16,16 @@ const NO_SOCKET: u8 = 5;
 /// How long a connection may stay silent, or take nothing, in seconds.
 const PATIENCE: u64 = 60;
 
-/// Serves a connection that was accepted to its end. A read or a write that waits for too long has failed.
-fn serve_stream<D: Disk>(server: &mut Server<D>, stream: &TcpStream) {
+/// Has a read or a write of a connection that waits for too long fail.
+fn set_patience(stream: &TcpStream) {
     let _reads = stream.set_read_timeout(Some(Duration::from_secs(PATIENCE)));
     let _writes = stream.set_write_timeout(Some(Duration::from_secs(PATIENCE)));
     let _small = stream.set_nodelay(true);
+}
+
+/// Serves a connection that was accepted to its end. A read or a write that waits for too long has failed.
+fn serve_stream<D: Disk>(server: &mut Server<D>, stream: &TcpStream) {
+    set_patience(stream);
     let _end = server.serve_connection(&mut &*stream, &mut &*stream);
 }
 

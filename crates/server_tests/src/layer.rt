@@ -2,7 +2,7 @@
 
 use crate::disks::Site;
 use crate::messages::{body_of, fetching, queried, repeated, replied, reply_to, stepping};
-use crate::streams::{broken, failing, narrow, pieces, whole};
+use crate::streams::{broken, failing, limited, pieces, whole};
 use anyhow::{Context, Result, bail};
 use coverage_server::Server;
 use disk_face::FailDisk;
@@ -21,10 +21,10 @@ fn streamed(
         "stream" => whole(alloc, server, &bytes(alloc, written)?)?,
         "pieces" => pieces(alloc, server, &bytes(alloc, written)?)?,
         "broken" => broken(alloc, server, &bytes(alloc, written)?)?,
-        "narrow" => {
+        "limited" => {
             let (room, written) = written.split_once(' ').context("no stream")?;
             let stream = bytes(alloc, written)?;
-            narrow(alloc, server, room.parse::<usize>()?, &stream)?
+            limited(alloc, server, room.parse::<usize>()?, &stream)?
         }
         "failing" => {
             let (step, written) = written.split_once(' ').context("no stream")?;
@@ -49,7 +49,7 @@ fn asked(
             let message = format!(in alloc; "GET /ows?{pairs} HTTP/1.1\r\n\r\n")?;
             replied(alloc, server, message.as_str())
         }
-        "each" => {
+        "repeat" => {
             let (count, pairs) = written.split_once(' ').context("no pairs")?;
             repeated(alloc, server, count.parse::<u64>()?, pairs)
         }
@@ -96,38 +96,74 @@ impl Site {
     }
 }
 
+impl Site {
+    /// A call that opens, closes or compares, or a whole session.
+    fn on_file(&mut self, alloc: Global, verb: &str, rest: &str) -> Result<String> {
+        match verb {
+            "open" => self.open(alloc, 0, rest),
+            "open_failing" => {
+                let (number, words) = rest.split_once(' ').context("no file")?;
+                self.open(alloc, number.parse::<u64>()?, words)
+            }
+            "session" => self.session(alloc, 0, rest),
+            "session_failing" => {
+                let (number, words) = rest.split_once(' ').context("no file")?;
+                self.session(alloc, number.parse::<u64>()?, words)
+            }
+            "session_pieces" => {
+                let (count, words) = rest.split_once(' ').context("no file")?;
+                self.session_pieces(alloc, count.parse::<usize>()?, words)
+            }
+            "devices" => self.on_devices(alloc, rest),
+            "is_closed" => self.is_closed(alloc, rest),
+            _ => self.close(alloc),
+        }
+    }
+
+    /// Keeps a request that tells the state, or the streams of sessions on devices.
+    fn prepare(&mut self, alloc: Global, verb: &str, rest: &str) -> Result<String> {
+        match verb {
+            "writes" => self.writes = String::from_str(alloc, rest)?,
+            "later" => self.later = String::from_str(alloc, rest)?,
+            _ => self.keep(alloc, rest)?,
+        }
+        Ok(String::from_str(alloc, "ok")?)
+    }
+
+    /// A call of the server that is open.
+    fn asked(&mut self, alloc: Global, verb: &str, rest: &str) -> Result<String> {
+        let server = self.server.as_mut().context("no server")?;
+        asked(alloc, server, verb, rest)
+    }
+}
+
 impl Layer for Site {
     fn answer(&mut self, rt: &HostRuntime, call: &str) -> Result<String> {
         let alloc = rt.alloc();
         let (verb, rest) = call.split_once(' ').unwrap_or((call, ""));
         match verb {
-            "file" => self.files.name(alloc, rest)?,
-            "open" => return self.open(alloc, 0, rest),
-            "open_failing" => {
-                let (number, words) = rest.split_once(' ').context("no file")?;
-                return self.open(alloc, number.parse::<u64>()?, words);
-            }
-            "close" => return self.close(alloc),
-            "session" => return self.session(alloc, 0, rest),
-            "session_failing" => {
-                let (number, words) = rest.split_once(' ').context("no file")?;
-                return self.session(alloc, number.parse::<u64>()?, words);
-            }
-            "session_pieces" => {
-                let (count, words) = rest.split_once(' ').context("no file")?;
-                return self.session_pieces(alloc, count.parse::<usize>()?, words);
-            }
-            "writes" => self.writes = String::from_str(alloc, rest)?,
-            "later" => self.later = String::from_str(alloc, rest)?,
-            "devices" => return self.on_devices(alloc, rest),
-            "is_closed" => return self.is_closed(alloc, rest),
-            "state" => self.keep(alloc, rest)?,
-            "ask" => return self.ask(alloc, &bytes(alloc, rest)?),
-            _ => {
-                let server = self.server.as_mut().context("no server")?;
-                return asked(alloc, server, verb, rest);
-            }
+            "open"
+            | "open_failing"
+            | "close"
+            | "session"
+            | "session_failing"
+            | "session_pieces"
+            | "devices"
+            | "is_closed" => self.on_file(alloc, verb, rest),
+            "writes" | "later" | "state" => self.prepare(alloc, verb, rest),
+            "ask" => self.ask(alloc, &bytes(alloc, rest)?),
+            "get"
+            | "repeat"
+            | "query"
+            | "fetching"
+            | "stepping"
+            | "fetched"
+            | "stream"
+            | "pieces"
+            | "limited"
+            | "broken"
+            | "failing" => self.asked(alloc, verb, rest),
+            _ => self.storage.answer(rt, call),
         }
-        Ok(String::from_str(alloc, "ok")?)
     }
 }

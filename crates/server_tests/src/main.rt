@@ -1,5 +1,7 @@
-//! Worked values of the server, by its public calls, each a row of standard input: requests and queries with their replies,
-//! streams of bytes with what is written for them, disks that are opened and closed, and devices that become full.
+//! Worked values of the server and of the crates of storage, by their public calls, each a row of standard input: requests
+//! and queries with their replies, streams of bytes with what is written for them, disks that are opened and closed, devices
+//! that become full; and names, domains, the bytes of tiles, indexes, catalogues and metadata, disks that fail or lie, files
+//! of blocks, and stores of coverages.
 #![tactic(auto)]
 
 mod devices;
@@ -7,6 +9,7 @@ mod disks;
 mod layer;
 mod messages;
 mod sessions;
+mod storage;
 mod streams;
 
 use anyhow::Result;

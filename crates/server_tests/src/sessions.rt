@@ -70,7 +70,48 @@ fn replies_of(alloc: Global, connections: &[(Input, Sink)]) -> Result<String> {
     Ok(text)
 }
 
+/// How a session ended: with the bytes of its disk, or by a refusal with its number.
+#[derive(Drop)]
+enum Ending {
+    Closed(Vec<u8>),
+    NotOpened(u16),
+    NotClosed(u16),
+}
+
 impl Site {
+    /// Keeps a server that was not closed, and gives how the session ended.
+    fn ending(&mut self, outcome: Result<FailDisk, SessionFault<FailDisk>>) -> Ending {
+        match outcome {
+            Ok(disk) => Ending::Closed(disk.into_disk().into_bytes()),
+            Err(SessionFault::NotOpened(_, fault)) => Ending::NotOpened(fault.number()),
+            Err(SessionFault::NotClosed(server, fault)) => {
+                self.server = Some(server);
+                Ending::NotClosed(fault.number())
+            }
+        }
+    }
+
+    /// What a session wrote, and behind it why it was not closed; or why it was not opened. Names the bytes of its disk.
+    fn told(
+        &mut self,
+        alloc: Global,
+        connections: &[(Input, Sink)],
+        ending: Ending,
+    ) -> Result<String> {
+        let text = replies_of(alloc, connections)?;
+        match ending {
+            Ending::Closed(bytes) => {
+                self.storage.files().put(alloc, "closed", bytes)?;
+                Ok(text)
+            }
+            Ending::NotOpened(number) => refusal(alloc, number),
+            Ending::NotClosed(number) => {
+                let refused = refusal(alloc, number)?;
+                Ok(format!(in alloc; "{text} not closed: {refused}")?)
+            }
+        }
+    }
+
     /// What a session on a file writes, on a disk whose call of that number fails, and none for 0. The file `closed` has the
     /// bytes of its disk then. A server that is not closed stays, as after `open`.
     fn session_cut(
@@ -82,22 +123,10 @@ impl Site {
     ) -> Result<String> {
         let (file, streams) = words.split_once(' ').context("no streams")?;
         let mut connections = connections_of(alloc, streams, first)?;
-        let disk = MemDisk::new(self.files.bytes(alloc, file)?);
+        let disk = MemDisk::new(self.storage.files().bytes(alloc, file)?);
         let outcome = serve_session(alloc, FailDisk::new(disk, call), connections.as_mut_slice());
-        let text = replies_of(alloc, connections.as_slice())?;
-        match outcome {
-            Ok(disk) => {
-                let bytes = disk.into_disk().into_bytes();
-                self.files.put(alloc, "closed", bytes)?;
-                Ok(text)
-            }
-            Err(SessionFault::NotOpened(_, fault)) => refusal(alloc, fault.number()),
-            Err(SessionFault::NotClosed(server, fault)) => {
-                self.server = Some(server);
-                let told = refusal(alloc, fault.number())?;
-                Ok(format!(in alloc; "{text} not closed: {told}")?)
-            }
-        }
+        let ending = self.ending(outcome);
+        self.told(alloc, connections.as_slice(), ending)
     }
 
     /// What a session writes whose streams come in one piece.

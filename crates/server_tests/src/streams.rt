@@ -153,7 +153,7 @@ pub fn failing(
 }
 
 /// What is written for a stream by a writer that takes so many bytes.
-pub fn narrow(
+pub fn limited(
     alloc: Global,
     server: &mut Server<FailDisk>,
     room: usize,

@@ -55,7 +55,7 @@ pub fn evaluate<S: Tiles>(
     ensures rises { S.fetched source.old ≤ S.fetched source.new }
     ensures same { Leaves (S.cells source.old) (S.cells source.new) (S.coverages source.old) (S.coverages source.new) (S.kept source.old) (S.kept source.new) }
     ensures intact { S.intact source.old → S.intact source.new }
-    ensures reports { Reports result (S.intact source.old) (S.failures source.old) (S.failures source.new) }
+    ensures reports { Reports result (S.spelled (S.kept source.old)) (S.failures source.old) (S.failures source.new) }
     ensures fetched { OnOk result ((n : ℕ) → All (λ (e : List ℤ). n ≤ length e) frame.old → S.fetched source.new ≤ S.fetched source.old + fetches (signature_of (S.coverages source.old) ground.now.coverages.now) n frame.old (body_view body.now)) }
 {
     let places = frame.places();
@@ -134,7 +134,7 @@ fn column_of<S: Tiles>(
     ensures rises { S.fetched source.old ≤ S.fetched source.new }
     ensures same { Leaves (S.cells source.old) (S.cells source.new) (S.coverages source.old) (S.coverages source.new) (S.kept source.old) (S.kept source.new) }
     ensures intact { S.intact source.old → S.intact source.new }
-    ensures reports { Reports result (S.intact source.old) (S.failures source.old) (S.failures source.new) }
+    ensures reports { Reports result (S.spelled (S.kept source.old)) (S.failures source.old) (S.failures source.new) }
     ensures fetched { OnOk result ((n : ℕ) → All (λ (e : List ℤ). n ≤ length e) frame.old → S.fetched source.new ≤ S.fetched source.old + fetches (signature_of (S.coverages source.old) ground.now.coverages.now) n frame.old (body_view body.now)) }
 {
     let mut out = scratch.take_column()?;
@@ -164,7 +164,7 @@ fn bind<S: Tiles>(
     ensures rises { S.fetched source.old ≤ S.fetched source.new }
     ensures same { Leaves (S.cells source.old) (S.cells source.new) (S.coverages source.old) (S.coverages source.new) (S.kept source.old) (S.kept source.new) }
     ensures intact { S.intact source.old → S.intact source.new }
-    ensures reports { Reports result (S.intact source.old) (S.failures source.old) (S.failures source.new) }
+    ensures reports { Reports result (S.spelled (S.kept source.old)) (S.failures source.old) (S.failures source.new) }
     ensures fetched { OnOk result ((n : ℕ) → All (λ (e : List ℤ). n ≤ length e) frame.old → S.fetched source.new ≤ S.fetched source.old + fetches (signature_of (S.coverages source.old) ground.now.coverages.now) n frame.old (body_view body.now)) }
 {
     if interval.hi < interval.lo {
@@ -202,7 +202,7 @@ fn at_coordinates<S: Tiles>(
     ensures rises { S.fetched source.old ≤ S.fetched source.new }
     ensures same { Leaves (S.cells source.old) (S.cells source.new) (S.coverages source.old) (S.coverages source.new) (S.kept source.old) (S.kept source.new) }
     ensures intact { S.intact source.old → S.intact source.new }
-    ensures reports { Reports result (S.intact source.old) (S.failures source.old) (S.failures source.new) }
+    ensures reports { Reports result (S.spelled (S.kept source.old)) (S.failures source.old) (S.failures source.new) }
     ensures fetched { OnOk result ((n : ℕ) → All (λ (e : List ℤ). n ≤ length e) frame.old → S.fetched source.new ≤ S.fetched source.old + fetches (signature_of (S.coverages source.old) ground.now.coverages.now) n frame.old (body_view body.now)) }
 {
     let depth = frame.depth();
@@ -231,7 +231,7 @@ fn condense<S: Tiles>(
     ensures rises { S.fetched source.old ≤ S.fetched source.new }
     ensures same { Leaves (S.cells source.old) (S.cells source.new) (S.coverages source.old) (S.coverages source.new) (S.kept source.old) (S.kept source.new) }
     ensures intact { S.intact source.old → S.intact source.new }
-    ensures reports { Reports result (S.intact source.old) (S.failures source.old) (S.failures source.new) }
+    ensures reports { Reports result (S.spelled (S.kept source.old)) (S.failures source.old) (S.failures source.new) }
     ensures fetched { OnOk result ((n : ℕ) → All (λ (e : List ℤ). n ≤ length e) frame.old → S.fetched source.new ≤ S.fetched source.old + fetches (signature_of (S.coverages source.old) ground.now.coverages.now) n frame.old (fold_view fold.now)) }
 {
     let mut folds = empty_folds(scratch.alloc(), fold.op, frame.places())?;
@@ -263,7 +263,7 @@ fn tell_all<S: Tiles>(
     ensures rises { S.fetched source.old ≤ S.fetched source.new }
     ensures same { Leaves (S.cells source.old) (S.cells source.new) (S.coverages source.old) (S.coverages source.new) (S.kept source.old) (S.kept source.new) }
     ensures intact { S.intact source.old → S.intact source.new }
-    ensures reports { Reports result (S.intact source.old) (S.failures source.old) (S.failures source.new) }
+    ensures reports { Reports result (S.spelled (S.kept source.old)) (S.failures source.old) (S.failures source.new) }
     ensures fetched { OnOk result (S.fetched source.new ≤ S.fetched source.old + (bound_times (length frame.old * count fold.now.domain) (condition_view fold.now.condition) + bound_times (length frame.old * count fold.now.domain) (body_view fold.now.body))) }
 {
     if goes_by_tiles(frame.places(), &fold.domain) {
@@ -293,7 +293,7 @@ fn tell_points<S: Tiles>(
     ensures rises { S.fetched source.old ≤ S.fetched source.new }
     ensures same { Leaves (S.cells source.old) (S.cells source.new) (S.coverages source.old) (S.coverages source.new) (S.kept source.old) (S.kept source.new) }
     ensures intact { S.intact source.old → S.intact source.new }
-    ensures reports { Reports result (S.intact source.old) (S.failures source.old) (S.failures source.new) }
+    ensures reports { Reports result (S.spelled (S.kept source.old)) (S.failures source.old) (S.failures source.new) }
     ensures fetched { OnOk result (S.fetched source.new ≤ S.fetched source.old + (bound_times (length frame.old * count fold.now.domain) (condition_view fold.now.condition) + bound_times (length frame.old * count fold.now.domain) (body_view fold.now.body))) }
 {
     for place in 0..fold.domain.points() {
@@ -325,7 +325,7 @@ fn tell_point<S: Tiles>(
     ensures rises { S.fetched source.old ≤ S.fetched source.new }
     ensures same { Leaves (S.cells source.old) (S.cells source.new) (S.coverages source.old) (S.coverages source.new) (S.kept source.old) (S.kept source.new) }
     ensures intact { S.intact source.old → S.intact source.new }
-    ensures reports { Reports result (S.intact source.old) (S.failures source.old) (S.failures source.new) }
+    ensures reports { Reports result (S.spelled (S.kept source.old)) (S.failures source.old) (S.failures source.new) }
     ensures fetched { OnOk result (S.fetched source.new ≤ S.fetched source.old + (bound_times (length frame.old) (condition_view fold.now.condition) + bound_times (length frame.old) (body_view fold.now.body))) }
 {
     let _few = fold.domain.points();
@@ -360,7 +360,7 @@ fn tell<S: Tiles>(
     ensures rises { S.fetched source.old ≤ S.fetched source.new }
     ensures same { Leaves (S.cells source.old) (S.cells source.new) (S.coverages source.old) (S.coverages source.new) (S.kept source.old) (S.kept source.new) }
     ensures intact { S.intact source.old → S.intact source.new }
-    ensures reports { Reports result (S.intact source.old) (S.failures source.old) (S.failures source.new) }
+    ensures reports { Reports result (S.spelled (S.kept source.old)) (S.failures source.old) (S.failures source.new) }
     ensures fetched { OnOk result (S.fetched source.new ≤ S.fetched source.old + (bound_times (length frame.old) (condition_view fold.now.condition) + bound_times (length frame.old) (body_view fold.now.body))) }
 {
     match &fold.condition {
@@ -401,7 +401,7 @@ fn tell_tiles<S: Tiles>(
     ensures rises { S.fetched source.old ≤ S.fetched source.new }
     ensures same { Leaves (S.cells source.old) (S.cells source.new) (S.coverages source.old) (S.coverages source.new) (S.kept source.old) (S.kept source.new) }
     ensures intact { S.intact source.old → S.intact source.new }
-    ensures reports { Reports result (S.intact source.old) (S.failures source.old) (S.failures source.new) }
+    ensures reports { Reports result (S.spelled (S.kept source.old)) (S.failures source.old) (S.failures source.new) }
     ensures fetched { OnOk result (S.fetched source.new ≤ S.fetched source.old + (bound_times (length frame.now * count fold.now.domain) (condition_view fold.now.condition) + bound_times (length frame.now * count fold.now.domain) (body_view fold.now.body))) }
 {
     let _axes = fold.domain.axes();
@@ -435,7 +435,7 @@ fn tell_part<S: Tiles>(
     ensures rises { S.fetched source.old ≤ S.fetched source.new }
     ensures same { Leaves (S.cells source.old) (S.cells source.new) (S.coverages source.old) (S.coverages source.new) (S.kept source.old) (S.kept source.new) }
     ensures intact { S.intact source.old → S.intact source.new }
-    ensures reports { Reports result (S.intact source.old) (S.failures source.old) (S.failures source.new) }
+    ensures reports { Reports result (S.spelled (S.kept source.old)) (S.failures source.old) (S.failures source.new) }
     ensures fetched { OnOk result (S.fetched source.new ≤ S.fetched source.old + (bound_times (length frame.now * count part.now.area) (condition_view fold.now.condition) + bound_times (length frame.now * count part.now.area) (body_view fold.now.body))) }
 {
     for place in 0..frame.places() {
@@ -467,7 +467,7 @@ fn fold_frame<S: Tiles>(
     ensures rises { S.fetched source.old ≤ S.fetched source.new }
     ensures same { Leaves (S.cells source.old) (S.cells source.new) (S.coverages source.old) (S.coverages source.new) (S.kept source.old) (S.kept source.new) }
     ensures intact { S.intact source.old → S.intact source.new }
-    ensures reports { Reports result (S.intact source.old) (S.failures source.old) (S.failures source.new) }
+    ensures reports { Reports result (S.spelled (S.kept source.old)) (S.failures source.old) (S.failures source.new) }
     ensures fetched { OnOk result (S.fetched source.new ≤ S.fetched source.old + (bound_times (length frame.old) (condition_view fold.now.condition) + bound_times (length frame.old) (body_view fold.now.body))) }
 {
     match &fold.condition {

@@ -42,7 +42,7 @@ pub fn evaluate_fields<S: Tiles>(
     ensures rises { S.fetched source.old ≤ S.fetched source.new }
     ensures same { Leaves (S.cells source.old) (S.cells source.new) (S.coverages source.old) (S.coverages source.new) (S.kept source.old) (S.kept source.new) }
     ensures intact { S.intact source.old → S.intact source.new }
-    ensures reports { Reports result (S.intact source.old) (S.failures source.old) (S.failures source.new) }
+    ensures reports { Reports result (S.spelled (S.kept source.old)) (S.failures source.old) (S.failures source.new) }
     ensures fetched { OnOk result ((n : ℕ) → All (λ (e : List ℤ). n ≤ length e) frame.old → S.fetched source.new ≤ S.fetched source.old + sum_by (fetches (signature_of (S.coverages source.old) ground.now.coverages.now) n frame.old) (bodies_behind (map bind_view binds.now) (map field_view fields.now))) }
 {
     match binds {
@@ -91,7 +91,7 @@ fn field_columns<S: Tiles>(
     ensures rises { S.fetched source.old ≤ S.fetched source.new }
     ensures same { Leaves (S.cells source.old) (S.cells source.new) (S.coverages source.old) (S.coverages source.new) (S.kept source.old) (S.kept source.new) }
     ensures intact { S.intact source.old → S.intact source.new }
-    ensures reports { Reports result (S.intact source.old) (S.failures source.old) (S.failures source.new) }
+    ensures reports { Reports result (S.spelled (S.kept source.old)) (S.failures source.old) (S.failures source.new) }
     ensures fetched { OnOk result ((n : ℕ) → All (λ (e : List ℤ). n ≤ length e) frame.old → S.fetched source.new ≤ S.fetched source.old + sum_by (fetches (signature_of (S.coverages source.old) ground.now.coverages.now) n frame.old) (bodies_behind [] (map field_view fields.now))) }
 {
     let mut columns = Vec::new(scratch.alloc());

@@ -20,7 +20,7 @@ use crate::source::Tiles;
 use arr_core::Domain;
 use plan_ir::Index;
 use std::alloc::AllocError;
-use tile_kernel::Column;
+use tile_kernel::{Column, MAX_PLACES};
 use wcps_mean::CellError;
 
 /// What is read: a coverage of the plan and a field, by their places, the coverage's domain, and an index for each axis.
@@ -116,7 +116,7 @@ fn fetch_at<S: Tiles>(
     ensures same { Leaves (S.cells source.old) (S.cells source.new) (S.coverages source.old) (S.coverages source.new) (S.kept source.old) (S.kept source.new) }
     ensures rises { S.fetched source.old ≤ S.fetched source.new }
     ensures intact { S.intact source.old → S.intact source.new }
-    ensures reports { Reports result (S.intact source.old) (S.failures source.old) (S.failures source.new) }
+    ensures reports { Reports result (S.spelled (S.kept source.old)) (S.failures source.old) (S.failures source.new) }
 {
     let number = scratch.numbers[place];
     if is_seen(&scratch.seen, number) {
@@ -159,7 +159,7 @@ fn gather<S: Tiles>(
     ensures same { Leaves (S.cells source.old) (S.cells source.new) (S.coverages source.old) (S.coverages source.new) (S.kept source.old) (S.kept source.new) }
     ensures rises { S.fetched source.old ≤ S.fetched source.new }
     ensures intact { S.intact source.old → S.intact source.new }
-    ensures reports { Reports result (S.intact source.old) (S.failures source.old) (S.failures source.new) }
+    ensures reports { Reports result (S.spelled (S.kept source.old)) (S.failures source.old) (S.failures source.new) }
     ensures fetched { OnOk result (S.fetched source.new ≤ S.fetched source.old + length (distinct (map (λ e. tile_number reading.now.domain.now (numbers_at e reading.now.indexes.now)) frame.now))) }
 {
     locate(reading.domain, reading.indexes, frame, scratch)?;
@@ -192,6 +192,18 @@ fn whole_tile(
     Ok(None)
 }
 
+/// Makes a column the values of cells: of a whole tile of 4,096 by an exchange of lists.
+fn put(cells: &mut Vec<i64>, out: &mut Column)
+    requires { length cells.old.items ≤ 4096 }
+    ensures { out.new ≡ map Value cells.old.items }
+{
+    if cells.len() == MAX_PLACES {
+        out.exchange(cells);
+        return;
+    }
+    out.write(cells);
+}
+
 /// Makes `out` the cells that are read at each place. Each tile that holds one of them is fetched once, in the order of
 /// the places, and one tile is held at a time; where the indexes go over the box of a tile, its cells are the column. What
 /// the source reports passes through.
@@ -209,7 +221,7 @@ pub fn read<S: Tiles>(
     ensures same { Leaves (S.cells source.old) (S.cells source.new) (S.coverages source.old) (S.coverages source.new) (S.kept source.old) (S.kept source.new) }
     ensures rises { S.fetched source.old ≤ S.fetched source.new }
     ensures intact { S.intact source.old → S.intact source.new }
-    ensures reports { Reports result (S.intact source.old) (S.failures source.old) (S.failures source.new) }
+    ensures reports { Reports result (S.spelled (S.kept source.old)) (S.failures source.old) (S.failures source.new) }
     ensures fetched { OnOk result (S.fetched source.new ≤ S.fetched source.old + length (distinct (map (λ e. tile_number reading.now.domain.now (numbers_at e reading.now.indexes.now)) frame.now))) }
 {
     let _few = frame.places();
@@ -217,7 +229,7 @@ pub fn read<S: Tiles>(
     match found {
         Some(number) => {
             source.tile(reading.coverage, reading.field, number, &mut scratch.cells)?;
-            out.write(&scratch.cells);
+            put(&mut scratch.cells, out);
             return Ok(());
         }
         None => (),

@@ -67,7 +67,7 @@ pub(crate) fn read_cells<S: Tiles>(
     ensures same { Leaves (S.cells source.old) (S.cells source.new) (S.coverages source.old) (S.coverages source.new) (S.kept source.old) (S.kept source.new) }
     ensures rises { S.fetched source.old ≤ S.fetched source.new }
     ensures intact { S.intact source.old → S.intact source.new }
-    ensures reports { Reports result (S.intact source.old) (S.failures source.old) (S.failures source.new) }
+    ensures reports { Reports result (S.spelled (S.kept source.old)) (S.failures source.old) (S.failures source.new) }
     ensures fetched { OnOk result (S.fetched source.new ≤ S.fetched source.old + length (distinct (map (λ e. tile_number (domain_of (signature_of (S.coverages source.old) ground.now.coverages.now coverage)) (numbers_at e indexes.now)) frame.now))) }
 {
     let place = coverage_at(ground.coverages, coverage);

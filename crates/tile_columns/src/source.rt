@@ -23,8 +23,7 @@ pub trait Tiles {
     /// How many calls of the disk below have failed, in a `u64`.
     ghost failures: { Self → ℕ } = { λ _. 0 };
 
-    /// What is kept is given back as it was written, and in its format. Where that is not so nothing is said of the
-    /// cells.
+    /// What is kept is given back as it was written. Where that is not so nothing is said of the cells.
     ghost intact: { Self → Type 0 } = { λ _. ⊤ };
 
     /// What a call leaves as it is, beside the cells.
@@ -32,8 +31,11 @@ pub trait Tiles {
 
     ghost kept: { Self → Self.Kept };
 
+    /// Each tile of the coverages is in its format, by what a call leaves as it is.
+    ghost spelled: { Self.Kept → Type 0 };
+
     /// Makes `buffer` the cells of a tile, row-major. Refused with `DiskFault` only where the count of failures rose or
-    /// stands at its last value, and with `Damaged` only where what is kept is not intact. Caches may change, the cells
+    /// stands at its last value, and with `Damaged` only where a tile is not in its format. Caches may change, the cells
     /// do not.
     fn tile(
         &mut self,
@@ -49,7 +51,7 @@ pub trait Tiles {
         ensures fetched { OnOk result (OneMore (fetched self.old) (fetched self.new)) }
         ensures rises { fetched self.old ≤ fetched self.new }
         ensures intact { intact self.old → intact self.new }
-        ensures reports { Reports result (intact self.old) (failures self.old) (failures self.new) };
+        ensures reports { Reports result (spelled (Self.kept self.old)) (failures self.old) (failures self.new) };
 
     /// How many tiles were fetched, in a `u64`, which stays at its last value.
     fn count(&self) -> u64

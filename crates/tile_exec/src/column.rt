@@ -39,7 +39,7 @@ pub(crate) fn column_over<S: Tiles>(
     ensures same { Leaves (S.cells source.old) (S.cells source.new) (S.coverages source.old) (S.coverages source.new) (S.kept source.old) (S.kept source.new) }
     ensures rises { S.fetched source.old ≤ S.fetched source.new }
     ensures intact { S.intact source.old → S.intact source.new }
-    ensures reports { Reports result (S.intact source.old) (S.failures source.old) (S.failures source.new) }
+    ensures reports { Reports result (S.spelled (S.kept source.old)) (S.failures source.old) (S.failures source.new) }
     ensures fetched { OnOk result (S.fetched source.new ≤ S.fetched source.old + bound_of (signature_of (S.coverages source.old) ground.now.coverages.now) part.now (body_view body.now)) }
 {
     let _axes = part.axes();
@@ -67,7 +67,7 @@ pub(crate) fn columns_over<S: Tiles>(
     ensures same { Leaves (S.cells source.old) (S.cells source.new) (S.coverages source.old) (S.coverages source.new) (S.kept source.old) (S.kept source.new) }
     ensures rises { S.fetched source.old ≤ S.fetched source.new }
     ensures intact { S.intact source.old → S.intact source.new }
-    ensures reports { Reports result (S.intact source.old) (S.failures source.old) (S.failures source.new) }
+    ensures reports { Reports result (S.spelled (S.kept source.old)) (S.failures source.old) (S.failures source.new) }
     ensures fetched { OnOk result (S.fetched source.new ≤ S.fetched source.old + sum_by (bound_of (signature_of (S.coverages source.old) ground.now.coverages.now) part.now) (bodies_behind (map bind_view planned.now.binds.items) (map field_view planned.now.fields.items))) }
 {
     let _axes = part.axes();

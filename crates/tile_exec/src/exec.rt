@@ -86,7 +86,7 @@ impl Exec {
         ensures same { Leaves (S.cells source.old) (S.cells source.new) (S.coverages source.old) (S.coverages source.new) (S.kept source.old) (S.kept source.new) }
         ensures fetched { IfOk result (λ i. S.fetched source.new ≡ min (2 ^ 64 - 1) (S.fetched source.old + i.fetched)) }
         ensures intact { S.intact source.old → S.intact source.new }
-        ensures reports { Reports result (S.intact source.old) (S.failures source.old) (S.failures source.new) }
+        ensures reports { Reports result (S.spelled (S.kept source.old)) (S.failures source.old) (S.failures source.new) }
     {
         let before = source.count();
         if self.left == 0 {

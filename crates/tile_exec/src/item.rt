@@ -45,7 +45,7 @@ pub(crate) fn item_tile<S: Tiles>(
     ensures same { Leaves (S.cells source.old) (S.cells source.new) (S.coverages source.old) (S.coverages source.new) (S.kept source.old) (S.kept source.new) }
     ensures rises { S.fetched source.old ≤ S.fetched source.new }
     ensures intact { S.intact source.old → S.intact source.new }
-    ensures reports { Reports result (S.intact source.old) (S.failures source.old) (S.failures source.new) }
+    ensures reports { Reports result (S.spelled (S.kept source.old)) (S.failures source.old) (S.failures source.new) }
 {
     if planned.fields.len() >= FIELDS_END {
         return Err(CellError::NoMemory);

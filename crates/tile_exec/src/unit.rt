@@ -73,7 +73,7 @@ fn unit_of<S: Tiles>(
     ensures same { Leaves (S.cells source.old) (S.cells source.new) (S.coverages source.old) (S.coverages source.new) (S.kept source.old) (S.kept source.new) }
     ensures rises { S.fetched source.old ≤ S.fetched source.new }
     ensures intact { S.intact source.old → S.intact source.new }
-    ensures reports { Reports result (S.intact source.old) (S.failures source.old) (S.failures source.new) }
+    ensures reports { Reports result (S.spelled (S.kept source.old)) (S.failures source.old) (S.failures source.new) }
 {
     match task.part {
         Part::Pass => match pass_at(&steps.passes, task.count) {
@@ -131,7 +131,7 @@ impl Exec {
         ensures same { Leaves (S.cells source.old) (S.cells source.new) (S.coverages source.old) (S.coverages source.new) (S.kept source.old) (S.kept source.new) }
         ensures rises { S.fetched source.old ≤ S.fetched source.new }
         ensures intact { S.intact source.old → S.intact source.new }
-        ensures reports { Reports result (S.intact source.old) (S.failures source.old) (S.failures source.new) }
+        ensures reports { Reports result (S.spelled (S.kept source.old)) (S.failures source.old) (S.failures source.new) }
     {
         match task_at(&self.tasks, self.at) {
             None => Ok(Unit {

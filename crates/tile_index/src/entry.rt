@@ -1,7 +1,8 @@
 //! Where the bytes of a tile lie.
 
-ghost use Rattle.std.specs.Prelude.{◌≡◌, ◌<◌, ◌^◌, All};
+ghost use Rattle.std.specs.Prelude.{◌≡◌, ◌<◌, ◌^◌, All, IfOk};
 
+use std::alloc::AllocError;
 use std::marker::Model;
 
 /// The numbers of the blocks of a tile, in the order of its bytes.
@@ -34,6 +35,15 @@ impl BlockList {
         &self.numbers
     }
 
+    /// The same blocks again.
+    pub(crate) fn copy(&self) -> Result<BlockList, AllocError>
+        ensures { IfOk result (λ b. b ≡ self.now) }
+    {
+        let mut numbers = Vec::with_capacity(*self.numbers.allocator(), self.numbers.len())?;
+        numbers.extend_from_slice(&self.numbers)?;
+        Ok(BlockList { numbers })
+    }
+
     /// The blocks as a list of their own.
     pub fn into_vec(self) -> Vec<u32>
         ensures { result.items ≡ self }
@@ -47,4 +57,17 @@ impl BlockList {
 pub struct Entry {
     pub length: u32,
     pub blocks: BlockList,
+}
+
+impl Entry {
+    /// The same entry again.
+    pub(crate) fn copy(&self) -> Result<Entry, AllocError>
+        ensures { IfOk result (λ e. e ≡ self.now) }
+    {
+        let blocks = self.blocks.copy()?;
+        Ok(Entry {
+            length: self.length,
+            blocks,
+        })
+    }
 }

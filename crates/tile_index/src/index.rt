@@ -85,6 +85,17 @@ impl TileIndex {
         Ok(())
     }
 
+    /// The same index again.
+    pub fn copy(&self) -> Result<TileIndex, AllocError>
+        ensures { IfOk result (λ index. index ≡ self.now) }
+    {
+        let mut entries = Vec::with_capacity(*self.entries.allocator(), self.entries.len())?;
+        for (tile, entry) in &self.entries {
+            entries.push((*tile, entry.copy()?))?;
+        }
+        Ok(TileIndex { entries })
+    }
+
     /// The blocks of all entries, in the order of the tiles.
     pub fn blocks(&self, alloc: Global) -> Result<Vec<u32>, AllocError>
         ensures { IfOk result (λ blocks. blocks.items ≡ flat_map (λ (x : ℕ × Entry). x.1.blocks) self.now) }

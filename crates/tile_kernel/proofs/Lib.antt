@@ -7,3 +7,4 @@ pub mod Faults
 pub mod Merges
 pub mod Reductions
 pub mod Tellings
+pub mod Keys

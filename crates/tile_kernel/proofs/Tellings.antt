@@ -45,7 +45,7 @@ told_more ps os k p o a b h lt e f step s =
 
 -- ---- under a condition
 
-demanded_suc : (ps : List ℕ) (cs os : List Outcome) (k p : ℕ) (c o : Outcome) → length ps ≡ length os → length cs ≡ length os → k < length os → p ≡ get_or ps k 0 → slice_get cs k ≡ Some c → slice_get os k ≡ Some o
+pub demanded_suc : (ps : List ℕ) (cs os : List Outcome) (k p : ℕ) (c o : Outcome) → length ps ≡ length os → length cs ≡ length os → k < length os → p ≡ get_or ps k 0 → slice_get cs k ≡ Some c → slice_get os k ≡ Some o
     → demanded_at (take (suc k) ps) (take (suc k) cs) (take (suc k) os) ≡ demanded_at (take k ps) (take k cs) (take k os) ++ demanded_of p c o
 demanded_suc ps cs [] k p c o h g lt e f i = absurd (omega arith)
 demanded_suc [] cs (y ∷ os) k p c o h g lt e f i = absurd (omega arith)

@@ -3,3 +3,4 @@ pub mod Selected
 pub mod Told
 pub mod Joins
 pub mod Standing
+pub mod Keyed

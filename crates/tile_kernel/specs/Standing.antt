@@ -7,7 +7,7 @@ use Rattle.wcps_mean.specs.Condensers.{values}
 use Rattle.wcps_mean.specs.Feeding.{Keeps}
 use Rattle.tile_kernel.specs.declared.accumulator.Accumulator.{Accumulator}
 use Rattle.tile_kernel.specs.Selected.{Chooses}
-use Rattle.tile_kernel.specs.Told.{Told, outcomes, demanded_at, IsFirst}
+use Rattle.tile_kernel.specs.Told.{Told, outcomes, told_at, demanded_at, IsFirst}
 
 -- it stands for these points, told in any order
 pub record Stands (a : Accumulator) (told : List Told) : Type 0 where
@@ -39,6 +39,10 @@ HaveAtMost n folds = All (λ (a : Accumulator). a.running.count ≤ n) folds
 abbrev pub IsCondensed : Aggregate → (ℕ → Bool) → List Outcome → Accumulator → Type 0
 IsCondensed op counts column a = (places : List ℕ) (condition : List Outcome) → length places ≡ length column → length condition ≡ length column
     → Chooses counts condition → (a.running.op ≡ op) × Stands a (demanded_at places condition column)
+
+-- it stands for the cells of a column, whatever places they have
+abbrev pub StandsAnywhere : Accumulator → List Outcome → Type 0
+StandsAnywhere a column = (places : List ℕ) → length places ≡ length column → Stands a (told_at places column)
 
 -- it stands for the cells of a column under a condition, whatever places they have
 abbrev pub IsCondensedWhere : Aggregate → List Outcome → List Outcome → Accumulator → Type 0

@@ -8,6 +8,7 @@ ghost use Rattle.tile_kernel.specs.Columns.{outcome_of, outcome_at, AreOutcomes}
 use crate::form::Form;
 use std::alloc::{AllocError, Global};
 use std::marker::Model;
+use std::mem;
 use wcps_mean::{Outcome, PointFault};
 
 /// How many places a column has at most: as many as a tile has cells.
@@ -110,6 +111,17 @@ impl Column {
     {
         copy_in(&mut self.values, cells);
         self.len = cells.len();
+        self.form = Form::Values;
+    }
+
+    /// Makes it the values of as many cells as it has places at most, and gives what it held for their list.
+    pub fn exchange(&mut self, cells: &mut Vec<i64>)
+        requires { length cells.old.items ≡ 4096 }
+        ensures value { self.new ≡ map Value cells.old.items }
+        ensures length { length cells.new.items ≡ 4096 }
+    {
+        mem::swap(&mut self.values, cells);
+        self.len = MAX_PLACES;
         self.form = Form::Values;
     }
 

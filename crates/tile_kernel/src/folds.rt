@@ -5,7 +5,7 @@ ghost use Rattle.wcps_text.specs.declared.operator.Aggregate.{Aggregate};
 ghost use Rattle.tile_kernel.specs.Columns.{outcome_at};
 ghost use Rattle.tile_kernel.specs.Told.{told_at, demanded_at, demanded_from};
 ghost use Rattle.tile_kernel.specs.Standing.{Stands, AreOf, HaveAtMost, EachTakesIn, IsCondensed};
-ghost use Rattle.tile_kernel.specs.Standing.{IsCondensedWhere};
+ghost use Rattle.tile_kernel.specs.Standing.{StandsAnywhere, IsCondensedWhere};
 
 use crate::accumulator::Accumulator;
 use crate::choice::{Always, Choice, Where};
@@ -37,6 +37,32 @@ fn condense_column<C: Choice>(op: Aggregate, column: &Column, choice: &C) -> Opt
             Outcome::Fault(_) => return None,
         },
         Form::Mixed => return None,
+    }
+}
+
+/// The accumulator of a whole column, whatever places its cells have; none where a cell may have a fault.
+pub fn fold_values(op: Aggregate, column: &Column) -> Option<Accumulator>
+    ensures stands { IfSome result (λ a. StandsAnywhere a column.now) }
+    ensures op { IfSome result (λ a. a.running.op ≡ op) }
+    ensures count { IfSome result (λ a. a.running.count ≡ length column.now) }
+{
+    match condense_column(op, column, &Always { len: column.len() }) {
+        Some(accumulator) => Some(accumulator),
+        None => None,
+    }
+}
+
+/// The accumulator of a column under a condition, whatever places its cells have; none where a cell or its condition may
+/// have a fault.
+pub fn fold_values_where(op: Aggregate, condition: &Column, column: &Column) -> Option<Accumulator>
+    requires { length condition.now ≡ length column.now }
+    ensures stands { IfSome result (λ a. IsCondensedWhere op condition.now column.now a) }
+    ensures op { IfSome result (λ a. a.running.op ≡ op) }
+    ensures count { IfSome result (λ a. a.running.count ≤ length column.now) }
+{
+    match condense_where(op, condition, column) {
+        Some(accumulator) => Some(accumulator),
+        None => None,
     }
 }
 

@@ -8,16 +8,22 @@ mod column;
 mod folds;
 mod form;
 mod joined;
+mod keyed;
 mod loops;
 mod operand;
 mod operate;
 mod operate_one;
 mod operations;
 mod reduce;
+mod slots;
 mod trial;
 
 pub use accumulator::Accumulator;
 pub use column::{Column, MAX_PLACES};
-pub use folds::{add_column, add_column_where, fold_column, fold_column_where};
+pub use folds::{
+    add_column, add_column_where, fold_column, fold_column_where, fold_values, fold_values_where,
+};
+pub use keyed::{Numbers, add_keyed};
 pub use operate::operate_columns;
 pub use operate_one::operate_column;
+pub use slots::Slots;

@@ -45,3 +45,17 @@ impl Operand for Same {
         self.value
     }
 }
+
+/// The same value at every place, one that the compiler knows.
+#[derive(Clone, Copy, Drop)]
+pub(crate) struct Literal<const VALUE: u32>;
+
+impl<const VALUE: u32> Operand for Literal<VALUE> {
+    ghost value = { λ s k. pos VALUE };
+
+    ghost places = { λ s. 4096 };
+
+    fn value(&self, _: usize) -> i64 {
+        VALUE as i64
+    }
+}

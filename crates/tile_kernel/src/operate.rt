@@ -2,13 +2,13 @@
 
 ghost use Rattle.std.specs.Prelude.{◌≡◌, ◌≤◌, length, IsTrue};
 ghost use Rattle.wcps_mean.specs.Cells.{exact2};
-ghost use Rattle.wcps_text.specs.declared.operator.BinaryOperator.TheVariants.{Multiply};
+ghost use Rattle.wcps_text.specs.declared.operator.BinaryOperator.TheVariants.{Multiply, Divide};
 ghost use Rattle.tile_kernel.specs.Columns.{operate_all, each2, each_with, AreValues, AreOutcomes};
 
 use crate::column::{Column, parts};
 use crate::form::Form;
 use crate::loops::try_places;
-use crate::operand::{Each, Operand, Same};
+use crate::operand::{Each, Literal, Operand, Same};
 use crate::operations::{
     BitSet, Both, Difference, Either, IsAtLeast, IsAtMost, IsEqual, IsGreater, IsLess, IsOther,
     NarrowProduct, OneOnly, Product, Quotient, Sum,
@@ -82,10 +82,49 @@ fn try_right<L: Operand>(
             return try_operation(op, len, left, &each, out);
         }
         Form::Same(o) => match o {
-            Outcome::Value(value) => return try_operation(op, len, left, &Same { value }, out),
+            Outcome::Value(value) => return try_scalar(op, len, left, value, out),
             Outcome::Fault(_) => return false,
         },
         Form::Mixed => return false,
+    }
+}
+
+/// Tries an operation whose right operand is the same at every place.
+fn try_scalar<L: Operand>(
+    op: BinaryOperator,
+    len: usize,
+    left: &L,
+    value: i64,
+    out: &mut [i64],
+) -> bool
+    requires few { len ≤ 4096 }
+    requires left { len ≤ L.places left.now }
+    requires out { len ≤ length out.old }
+    ensures { IsTrue result → AreValues len (λ k. exact2 op (L.value left.now k) value) out.new }
+{
+    match op {
+        BinaryOperator::Divide => try_quotient(len, left, value, out),
+        _ => try_operation(op, len, left, &Same { value }, out),
+    }
+}
+
+/// Tries quotients by one divisor; tells whether each result is the quotient. A division by a number that the compiler
+/// knows is shifts, or a multiplication.
+fn try_quotient<L: Operand>(len: usize, left: &L, divisor: i64, out: &mut [i64]) -> bool
+    requires few { len ≤ 4096 }
+    requires left { len ≤ L.places left.now }
+    requires out { len ≤ length out.old }
+    ensures { IsTrue result → AreValues len (λ k. exact2 Divide (L.value left.now k) divisor) out.new }
+{
+    match divisor {
+        2 => try_places::<Quotient, L, Literal<2>>(len, left, &Literal::<2>, out),
+        4 => try_places::<Quotient, L, Literal<4>>(len, left, &Literal::<4>, out),
+        8 => try_places::<Quotient, L, Literal<8>>(len, left, &Literal::<8>, out),
+        16 => try_places::<Quotient, L, Literal<16>>(len, left, &Literal::<16>, out),
+        10 => try_places::<Quotient, L, Literal<10>>(len, left, &Literal::<10>, out),
+        100 => try_places::<Quotient, L, Literal<100>>(len, left, &Literal::<100>, out),
+        1000 => try_places::<Quotient, L, Literal<1000>>(len, left, &Literal::<1000>, out),
+        _ => try_places::<Quotient, L, Same>(len, left, &Same { value: divisor }, out),
     }
 }
 

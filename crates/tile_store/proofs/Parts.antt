@@ -1,8 +1,11 @@
 -- Bytes cut into blocks and joined again.
-use Rattle.std.proofs.Common.{below_more, ◌≡◌, ◌≢◌, ℕ, min, suc, ◌+◌, ◌-◌, ◌*◌, ◌<◌, ◌≤◌, List, [], ◌∷◌, ◌++◌, length, get_or, take, drop, arith, refl, sym, ◌∙◌, ap, inl, inr, flat_map}
+use Rattle.std.proofs.Common.{◌/◌, div-add-mod', below_more, ◌≡◌, ◌≢◌, ℕ, min, suc, ◌+◌, ◌-◌, ◌*◌, ◌<◌, ◌≤◌, List, [], ◌∷◌, ◌++◌, length, get_or, take, drop, arith, refl, sym, ◌∙◌, ap, inl, inr, flat_map}
 use Rattle.std.proofs.lemmas.Bool.{cases_lt}
 use Rattle.std.proofs.lemmas.List.{length-append, length-drop, length-take-le, ext_get_or, get_or_append_left, get_or-append_right, get_or-take, get_or-drop}
 use Rattle.std.proofs.lemmas.List.Concat.{flat_map-cons}
+use Rattle.std.proofs.lemmas.List.FromFn.{length-range_with_len, get_or-range_with_len}
+use Rattle.std.proofs.Math.Seq.{take-append_seam}
+use Rattle.std.specs.List.{range_with_len}
 use Rattle.block_file.specs.State.{BlocksState, block, block_at, one, times}
 use Rattle.block_file.specs.Words.{Moves}
 use Rattle.block_file.proofs.Times.{one_other, times_at, one_place, times-cons, times_none}
@@ -85,3 +88,16 @@ holds_copied bytes piece zeros place from n is_from is_n is same size =
 pub data_written : (content : List ℕ) (e : Entry) (bytes numbers : List ℕ) → e.blocks ≡ numbers → e.length ≡ length bytes → take (length bytes) (flat_map (block_at content) numbers) ≡ bytes → bytes ≡ entry_data content e
 unfolding entry_data
 data_written content e bytes numbers blocks long is = sym (ap (λ (n : ℕ). take n (flat_map (block_at content) e.blocks)) long ∙ ap (λ (ks : List ℕ). take (length bytes) (flat_map (block_at content) ks)) blocks ∙ is)
+
+-- what was written into all of a list stands in it
+pub taken_back : (n : ℕ) (xs ys : List ℕ) → length xs ≡ n → take n (xs ++ ys) ≡ xs
+taken_back n xs ys e = ap (λ k. take k (xs ++ ys)) (sym e) ∙ take-append_seam xs ys
+
+-- numbers that rise by one each are those from the first one on
+pub neighbours : (ks : List ℕ) (n : ℕ) → n ≡ 4096 * length ks → ((i : ℕ) → i < length ks → get_or ks i 0 ≡ get_or ks 0 0 + i) → range_with_len (get_or ks 0 0) (n / 4096) ≡ ks
+neighbours ks n e rising =
+    let first = get_or ks 0 0 in
+    let many : n / 4096 ≡ length ks = omega (arith, e, div-add-mod' n 4096) in
+    ap (range_with_len first) many
+    ∙ ext_get_or 0 (range_with_len first (length ks)) ks (length-range_with_len first (length ks))
+    (λ i h. get_or-range_with_len first (length ks) i 0 (omega (arith, h, length-range_with_len first (length ks))) ∙ sym (rising i (omega (arith, h, length-range_with_len first (length ks)))))

@@ -1,8 +1,9 @@
 //! The bytes of a tile in its blocks.
 
-ghost use Rattle.std.specs.Prelude.{◌≡◌, ◌*◌, ◌<◌, ◌≤◌, ◌^◌, length, IsErr, IsErrOf, OnOk, IsTrue};
+ghost use Rattle.std.specs.Prelude.{◌≡◌, ℕ, ◌+◌, ◌*◌, ◌<◌, ◌≤◌, ◌^◌, length, slice_index_or, IsErr, IsErrOf, OnOk, IsTrue};
+ghost use Rattle.std.specs.List.{flat_map};
 ghost use Rattle.disk_face.specs.Disk.{Tells};
-ghost use Rattle.block_file.specs.State.{times};
+ghost use Rattle.block_file.specs.State.{block, times};
 ghost use Rattle.block_file.specs.Words.{OnlyReads, Moves, Covers};
 ghost use Rattle.tile_store.specs.Faults.{Refuses};
 ghost use Rattle.tile_store.specs.Written.{IsDataRead, HoldsPart, HoldsBytes, AreFresh};
@@ -12,7 +13,85 @@ use block_file::{BLOCK_BYTES, Blocks};
 use disk_face::DiskFault;
 use tile_index::Entry;
 
-/// Reads the bytes of a tile, block by block, into a buffer, whatever it held before.
+/// How many neighbouring blocks are read at once at most: as many as a tile has.
+const MOST_AT_ONCE: usize = 10;
+
+/// Whether there are blocks, no more than a tile has, and each is the one behind the one before it.
+fn are_neighbours(numbers: &[u32]) -> bool
+    ensures some { IsTrue result → 0 < length numbers.now }
+    ensures few { IsTrue result → length numbers.now ≤ 10 }
+    ensures rising { IsTrue result
+        → (i : ℕ) → i < length numbers.now → slice_index_or numbers.now i 0 ≡ slice_index_or numbers.now 0 0 + i }
+{
+    if numbers.len() == 0 || MOST_AT_ONCE < numbers.len() {
+        return false;
+    }
+    let first = numbers[0] as usize;
+    for place in 0..numbers.len() {
+        if numbers[place] as usize != first + place {
+            return false;
+        }
+    }
+    true
+}
+
+/// Reads neighbouring blocks at once into a buffer.
+fn read_neighbours<B: Blocks>(
+    blocks: &mut B,
+    numbers: &[u32],
+    bytes: &mut Vec<u8>,
+) -> Result<(), Fault>
+    requires used { Covers (B.state blocks.old) (times numbers.now) }
+    requires some { 0 < length numbers.now }
+    requires few { length numbers.now ≤ 10 }
+    requires rising { (i : ℕ)
+        → i < length numbers.now → slice_index_or numbers.now i 0 ≡ slice_index_or numbers.now 0 0 + i }
+    ensures value { OnOk result (IsTrue (B.state blocks.old).honest
+        → bytes.new.items ≡ flat_map (block (B.state blocks.old)) numbers.now) }
+    ensures why { Refuses result ⊥ ⊥ }
+    ensures frame { OnlyReads (B.state blocks.old) (B.state blocks.new) }
+    ensures told { Tells (IsErrOf result Fault.DiskFault) (B.state blocks.old).failures (B.state blocks.new).failures }
+{
+    bytes.resize(numbers.len() * BLOCK_BYTES, 0)?;
+    let all = bytes.as_mut_slice();
+    blocks.read_run(numbers[0], all)?;
+    Ok(())
+}
+
+/// Reads blocks one by one into a buffer.
+fn read_each<B: Blocks>(blocks: &mut B, numbers: &[u32], bytes: &mut Vec<u8>) -> Result<(), Fault>
+    requires { Covers (B.state blocks.old) (times numbers.now) }
+    ensures value { OnOk result (IsTrue (B.state blocks.old).honest
+        → bytes.new.items ≡ flat_map (block (B.state blocks.old)) numbers.now) }
+    ensures why { Refuses result ⊥ ⊥ }
+    ensures frame { OnlyReads (B.state blocks.old) (B.state blocks.new) }
+    ensures told { Tells (IsErrOf result Fault.DiskFault) (B.state blocks.old).failures (B.state blocks.new).failures }
+{
+    bytes.clear();
+    for k in numbers {
+        let mut block = [0u8; 4096];
+        blocks.read(*k, &mut block)?;
+        bytes.extend_from_slice(&block)?;
+    }
+    Ok(())
+}
+
+/// Reads blocks into a buffer: several neighbours at once, a single block and others one by one, by the pages.
+fn read_blocks<B: Blocks>(blocks: &mut B, numbers: &[u32], bytes: &mut Vec<u8>) -> Result<(), Fault>
+    requires { Covers (B.state blocks.old) (times numbers.now) }
+    ensures value { OnOk result (IsTrue (B.state blocks.old).honest
+        → bytes.new.items ≡ flat_map (block (B.state blocks.old)) numbers.now) }
+    ensures why { Refuses result ⊥ ⊥ }
+    ensures frame { OnlyReads (B.state blocks.old) (B.state blocks.new) }
+    ensures told { Tells (IsErrOf result Fault.DiskFault) (B.state blocks.old).failures (B.state blocks.new).failures }
+{
+    if numbers.len() > 1 && are_neighbours(numbers) {
+        return read_neighbours(blocks, numbers, bytes);
+    }
+    read_each(blocks, numbers, bytes)
+}
+
+/// Reads the bytes of a tile into a buffer, whatever it held before.
 pub(crate) fn read_bytes<B: Blocks>(
     blocks: &mut B,
     entry: &Entry,
@@ -24,13 +103,7 @@ pub(crate) fn read_bytes<B: Blocks>(
     ensures frame { OnlyReads (B.state blocks.old) (B.state blocks.new) }
     ensures told { Tells (IsErrOf result Fault.DiskFault) (B.state blocks.old).failures (B.state blocks.new).failures }
 {
-    let numbers = entry.blocks.as_slice();
-    bytes.clear();
-    for k in numbers {
-        let mut block = [0u8; 4096];
-        blocks.read(*k, &mut block)?;
-        bytes.extend_from_slice(&block)?;
-    }
+    read_blocks(blocks, entry.blocks.as_slice(), bytes)?;
     bytes.truncate(entry.length as usize);
     Ok(())
 }

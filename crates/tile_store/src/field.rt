@@ -69,6 +69,17 @@ impl FieldIndex {
         FieldIndex { index, size }
     }
 
+    /// The same index again, with its size.
+    pub fn copy(&self) -> Result<FieldIndex, AllocError>
+        ensures { IfOk result (λ field. field ≡ self.now) }
+    {
+        let index = self.index.copy()?;
+        Ok(FieldIndex {
+            index,
+            size: self.size,
+        })
+    }
+
     /// The tiles that are listed.
     pub fn index(&self) -> &TileIndex
         ensures value { result.now ≡ self.now }
@@ -282,6 +293,17 @@ pub fn write_area<B: Blocks>(
     }
     exchange(blocks, field, ready)?;
     Ok(())
+}
+
+/// Gives up the uses that were held of the blocks of all tiles of a field.
+pub fn release<B: Blocks>(blocks: &mut B, field: &FieldIndex)
+    requires { Covers (B.state blocks.old) (listed field.now) }
+    ensures { Recounts (listed field.now) none (B.state blocks.old) (B.state blocks.new) }
+{
+    let entries = field.index.as_slice();
+    for (_tile, entry) in entries {
+        blocks.release(entry.blocks.as_slice());
+    }
 }
 
 /// Gives back the blocks of all tiles of a field: one use of each for each time that it is listed.

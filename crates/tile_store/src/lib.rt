@@ -13,6 +13,6 @@ mod update;
 
 pub use fault::Fault;
 pub use field::{
-    FieldIndex, FieldTiles, give_back, read_area, read_point, read_tile_into, write_area,
+    FieldIndex, FieldTiles, give_back, read_area, read_point, read_tile_into, release, write_area,
 };
 pub use numbers::{Numbers, Patch};

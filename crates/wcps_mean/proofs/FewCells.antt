@@ -21,8 +21,8 @@ few_in_one view (c ∷ all) (suc k) x m lt is h = few_in_one view all k x m (ome
 -- of its item
 pub few_in_item : (t : Tree) (m : ℕ) → result_cells (tree_view t ∷ []) ≤ m → count t.item.domain * length t.item.booleans.items ≤ m
 few_in_item t m h =
-    let few : count t.item.domain * length (fields_view t.item.node 0 t.item.booleans.items) ≤ m = omega (arith, h) in
-    subst (λ n. count t.item.domain * n ≤ m) (field_places t.item.node 0 t.item.booleans.items) few
+    let few : count t.item.domain * length (fields_view t.item.node.value 0 t.item.booleans.items) ≤ m = omega (arith, h) in
+    subst (λ n. count t.item.domain * n ≤ m) (field_places t.item.node.value 0 t.item.booleans.items) few
 
 -- an item has a field for each of its kinds, over coverages too
 pub fields_over : (places : List ℕ) (e : Node) (k : ℕ) (bs : List Bool) → length (map (renamed_field places) (fields_view e k bs)) ≡ length bs

@@ -3,7 +3,7 @@
 ghost use Rattle.std.specs.Prelude.{◌≡◌, ◌<◌, ◌≤◌, ◌*◌, false, get_or, List, [], ◌∷◌, ◌++◌, Ok, Err, Result, IfOk, IfErr, OnOk, MatchResult, length, map, option_map};
 ghost use Rattle.arr_core.specs.Domains.{count};
 ghost use Rattle.wcps_types.specs.Cells.{result_cells, max_cells};
-ghost use Rattle.wcps_types.specs.Typed.{only_tree, item_view, tree_view};
+ghost use Rattle.wcps_types.specs.Typed.{boxed_tree, item_view, tree_view};
 ghost use Rattle.wcps_types.specs.Renamed.{renamed, renamed_item, renamed_combination, combination_view};
 ghost use Rattle.wcps_types.specs.TypedQueries.{query_view, trees_in};
 ghost use Rattle.wcps_mean.specs.Answer.{answer, combination_answer, chosen, item_answer, cells_at, cell_of, line_of, field_count};
@@ -140,8 +140,8 @@ fn is_chosen<C: Cells>(
     coverages: &[usize],
     tree: &Tree,
 ) -> Result<bool, EvalError>
-    ensures value { IfOk result (λ b. C.intact cells.old → chosen (C.cells cells.old) (option_map (renamed coverages.now) (option_map only_tree tree.now.condition)) ≡ Ok b) }
-    ensures fault { IfErr result (λ e. C.intact cells.old → TellsFault e (chosen (C.cells cells.old) (option_map (renamed coverages.now) (option_map only_tree tree.now.condition)))) }
+    ensures value { IfOk result (λ b. C.intact cells.old → chosen (C.cells cells.old) (option_map (renamed coverages.now) (option_map boxed_tree tree.now.condition)) ≡ Ok b) }
+    ensures fault { IfErr result (λ e. C.intact cells.old → TellsFault e (chosen (C.cells cells.old) (option_map (renamed coverages.now) (option_map boxed_tree tree.now.condition)))) }
     ensures same { C.cells cells.new ≡ C.cells cells.old }
     ensures kept { C.kept cells.new ≡ C.kept cells.old }
     ensures intact { C.intact cells.old → C.intact cells.new }

@@ -98,7 +98,7 @@ fn part_over<C: Cells>(
     ensures intact { C.intact cells.old → C.intact cells.new }
     ensures reports { Reports result (C.intact cells.old) (C.failures cells.old) (C.failures cells.new) }
 {
-    let node = &tree.item.node;
+    let node: &Node = &tree.item.node;
     let fields = tree.item.booleans.len();
     match part {
         Part::Condition => match &tree.condition {

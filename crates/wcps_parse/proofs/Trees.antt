@@ -14,7 +14,7 @@ use Rattle.wcps_parse.specs.Reading.{NamedTree, NamedPlace, NamedInterval, parts
 use Rattle.wcps_parse.specs.declared.grown.Grown.{Grown}
 use Rattle.wcps_parse.specs.declared.grown.Grown.TheVariants.{Fits}
 use Rattle.wcps_parse.specs.Fit.{Fit, highest}
-use Rattle.wcps_parse.specs.Views.{part_view, sub_view, iter_view, parts_view, subs_view, iters_view, part_height, sub_height, iter_height}
+use Rattle.wcps_parse.specs.Views.{boxed_view, part_view, sub_view, iter_view, parts_view, subs_view, iters_view, part_height, sub_height, iter_height}
 
 pub parts_high : (ps : List NamedTree) → parts_height (parts_from ps) ≡ highest part_height ps
 parts_high [] = refl
@@ -61,13 +61,13 @@ value_list_fits g v h w is e fit =
     let f : Fit iters_view (highest iter_height) (Fits v h) is = subst (λ (k : Grown (Vec Iter Global)). Fit iters_view (highest iter_height) k is) e fit in
     (value_list_shown v w ∙ ap (λ (js : List NamedInterval). value_list (iters_from js) w.items) f.0, f.1 ∙ sym (iters_high is))
 
-pub condense_fits : (op : Aggregate) (gi : Grown (Vec Iter Global)) (gc : Grown (Option (Box Expr Global))) (gb : Grown Expr) (v : Vec Iter Global) (o : Option (Box Expr Global)) (x : Box Expr Global) (b : Expr) (i j k : ℕ) (is : List NamedInterval) (c : Condition) (e : Tree)
-    → gi ≡ Fits v i → gc ≡ Fits o j → gb ≡ Fits b k → x.value ≡ b → Fit iters_view (highest iter_height) gi is → Fit condition_of condition_height gc c → Fit view height gb e
+pub condense_fits : (op : Aggregate) (gi : Grown (Vec Iter Global)) (gc : Grown (Option (Box Expr Global))) (gb : Grown (Box Expr Global)) (v : Vec Iter Global) (o : Option (Box Expr Global)) (x : Box Expr Global) (i j k : ℕ) (is : List NamedInterval) (c : Condition) (e : Tree)
+    → gi ≡ Fits v i → gc ≡ Fits o j → gb ≡ Fits x k → Fit iters_view (highest iter_height) gi is → Fit condition_of condition_height gc c → Fit boxed_view height gb e
     → (view (exprs.Condense op v o x) ≡ condense op (iters_from is) c e) × (i ≡ iters_height (iters_from is)) × (j ≡ condition_height c) × (k ≡ height e)
-condense_fits op gi gc gb v o x b i j k is c e ei ec eb ex fi fc fb =
+condense_fits op gi gc gb v o x i j k is c e ei ec eb fi fc fb =
     let p : Fit iters_view (highest iter_height) (Fits v i) is = subst (λ (g : Grown (Vec Iter Global)). Fit iters_view (highest iter_height) g is) ei fi in
     let q : Fit condition_of condition_height (Fits o j) c = subst (λ (g : Grown (Option (Box Expr Global))). Fit condition_of condition_height g c) ec fc in
-    let r : Fit view height (Fits b k) e = subst (λ (g : Grown Expr). Fit view height g e) eb fb in
+    let r : Fit boxed_view height (Fits x k) e = subst (λ (g : Grown (Box Expr Global)). Fit boxed_view height g e) eb fb in
     let shown = condense_shown op v o x ∙ (ap (λ (js : List NamedInterval). condense op (iters_from js) (condition_of o) (view x.value)) p.0
-    ∙ (ap (λ (d : Condition). condense op (iters_from is) d (view x.value)) q.0 ∙ ap (λ (t : Tree). condense op (iters_from is) c t) (ap view ex ∙ r.0))) in
+    ∙ (ap (λ (d : Condition). condense op (iters_from is) d (view x.value)) q.0 ∙ ap (λ (t : Tree). condense op (iters_from is) c t) r.0)) in
     (shown, p.1 ∙ sym (iters_high is), q.1, r.1)

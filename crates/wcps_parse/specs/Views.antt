@@ -1,12 +1,17 @@
 -- Parts of a tree as values alone, and how high they are.
-use Rattle.std.specs.Prelude.{ℕ, List, map, Vec}
+use Rattle.std.specs.Prelude.{ℕ, List, map, Vec, Box}
 use Rattle.std.specs.Global.{Global}
+use Rattle.wcps_text.specs.declared.tree.Expr.{Expr}
 use Rattle.wcps_text.specs.declared.tree.Part.{Part}
 use Rattle.wcps_text.specs.declared.tree.Sub.{Sub}
 use Rattle.wcps_text.specs.declared.tree.Iter.{Iter}
-use Rattle.wcps_text.specs.Tree.{view, view_place, view_interval}
+use Rattle.wcps_text.specs.Tree.{Tree, view, view_place, view_interval}
 use Rattle.wcps_text.specs.Limits.{height, place_height, interval_height}
 use Rattle.wcps_parse.specs.Reading.{NamedTree, NamedPlace, NamedInterval}
+
+-- a tree out of its box
+abbrev pub boxed_view : Box Expr Global → Tree
+boxed_view b = view b.value
 
 abbrev pub part_view : Part → NamedTree
 part_view p = (p.name, view p.value)

@@ -2,11 +2,11 @@
 
 ghost use Rattle.std.specs.Prelude.{◌<◌, ◌≤◌, length, IfOk};
 ghost use Rattle.wcps_text.specs.Token.{toks};
-ghost use Rattle.wcps_text.specs.Tree.{Tree, view, view_place, view_interval, condition_of};
+ghost use Rattle.wcps_text.specs.Tree.{Tree, view_place, view_interval, condition_of};
 ghost use Rattle.wcps_text.specs.Limits.{height, place_height, interval_height, condition_height};
 ghost use Rattle.wcps_parse.specs.Reading.{level, operand, post, postfix, prim, in_parens, enclosed, bit, fields, parts, part_at, subs, sub_at, place, interval, domain, iters, iter_at, coverage, items, listed, condition, condense};
 ghost use Rattle.wcps_parse.specs.Fit.{Fit, highest, Gives, Reads};
-ghost use Rattle.wcps_parse.specs.Views.{part_view, sub_view, iter_view, parts_view, subs_view, iters_view, part_height, sub_height, iter_height};
+ghost use Rattle.wcps_parse.specs.Views.{boxed_view, part_view, sub_view, iter_view, parts_view, subs_view, iters_view, part_height, sub_height, iter_height};
 ghost use Rattle.wcps_parse.specs.Prefixes.{IsBehind};
 
 use crate::error::ParseError;
@@ -34,8 +34,8 @@ pub fn level<'t, 'a>(
     alloc: Global,
     rank: u8,
     tokens: &'t [Token<'a>],
-) -> Result<(Grown<Expr>, &'t [Token<'a>]), ParseError>
-    ensures exact { Reads view height (λ x. x.0) (λ x. toks x.1.now) result (λ n m. level n rank (toks tokens.now)) }
+) -> Result<(Grown<Box<Expr>>, &'t [Token<'a>]), ParseError>
+    ensures exact { Reads boxed_view height (λ x. x.0) (λ x. toks x.1.now) result (λ n m. level n rank (toks tokens.now)) }
     ensures shorter { IfOk result (λ x. length x.1.now < length tokens.now) }
 {
     let (mut left, mut rest) = operand(alloc, tokens)?;
@@ -68,8 +68,8 @@ fn prefixes<'t, 'a>(
 fn operand<'t, 'a>(
     alloc: Global,
     tokens: &'t [Token<'a>],
-) -> Result<(Grown<Expr>, &'t [Token<'a>]), ParseError>
-    ensures exact { Reads view height (λ x. x.0) (λ x. toks x.1.now) result (λ n m. operand m (level n) (toks tokens.now)) }
+) -> Result<(Grown<Box<Expr>>, &'t [Token<'a>]), ParseError>
+    ensures exact { Reads boxed_view height (λ x. x.0) (λ x. toks x.1.now) result (λ n m. operand m (level n) (toks tokens.now)) }
     ensures shorter { IfOk result (λ x. length x.1.now < length tokens.now) }
 {
     let (ops, rest) = prefixes(alloc, tokens)?;
@@ -82,8 +82,8 @@ fn operand<'t, 'a>(
 fn post<'t, 'a>(
     alloc: Global,
     tokens: &'t [Token<'a>],
-) -> Result<(Grown<Expr>, &'t [Token<'a>]), ParseError>
-    ensures exact { Reads view height (λ x. x.0) (λ x. toks x.1.now) result (λ n m. post m (level n) (toks tokens.now)) }
+) -> Result<(Grown<Box<Expr>>, &'t [Token<'a>]), ParseError>
+    ensures exact { Reads boxed_view height (λ x. x.0) (λ x. toks x.1.now) result (λ n m. post m (level n) (toks tokens.now)) }
     ensures shorter { IfOk result (λ x. length x.1.now < length tokens.now) }
 {
     let (mut whole, mut rest) = prim(alloc, tokens)?;
@@ -100,10 +100,10 @@ fn post<'t, 'a>(
 fn postfix<'t, 'a>(
     alloc: Global,
     kind: Postfix,
-    whole: Grown<Expr>,
+    whole: Grown<Box<Expr>>,
     tokens: &'t [Token<'a>],
-) -> Result<(Grown<Expr>, &'t [Token<'a>]), ParseError>
-    ensures exact { (e : Tree) → Fit view height whole e → Reads view height (λ x. x.0) (λ x. toks x.1.now) result (λ n m. postfix m (level n) kind e (toks tokens.now)) }
+) -> Result<(Grown<Box<Expr>>, &'t [Token<'a>]), ParseError>
+    ensures exact { (e : Tree) → Fit boxed_view height whole e → Reads boxed_view height (λ x. x.0) (λ x. toks x.1.now) result (λ n m. postfix m (level n) kind e (toks tokens.now)) }
     ensures shorter { IfOk result (λ x. length x.1.now < length tokens.now) }
 {
     match kind {
@@ -128,19 +128,19 @@ fn postfix<'t, 'a>(
 fn prim<'t, 'a>(
     alloc: Global,
     tokens: &'t [Token<'a>],
-) -> Result<(Grown<Expr>, &'t [Token<'a>]), ParseError>
-    ensures exact { Reads view height (λ x. x.0) (λ x. toks x.1.now) result (λ n m. prim m (level n) (toks tokens.now)) }
+) -> Result<(Grown<Box<Expr>>, &'t [Token<'a>]), ParseError>
+    ensures exact { Reads boxed_view height (λ x. x.0) (λ x. toks x.1.now) result (λ n m. prim m (level n) (toks tokens.now)) }
     ensures shorter { IfOk result (λ x. length x.1.now < length tokens.now) }
 {
     let Some((start, rest)) = start_at(tokens) else {
         return Err(ParseError::BadSyntax);
     };
     match start {
-        Start::Number(literal) => Ok((Grown::Fits(Expr::Number(literal), 1), rest)),
-        Start::Truth(truth) => Ok((Grown::Fits(Expr::Truth(truth), 1), rest)),
+        Start::Number(literal) => Ok((grown::leaf(alloc, Expr::Number(literal))?, rest)),
+        Start::Truth(truth) => Ok((grown::leaf(alloc, Expr::Truth(truth))?, rest)),
         Start::Variable(name) => {
             let name = QueryName::new(alloc, name)?;
-            Ok((Grown::Fits(Expr::Variable(name), 1), rest))
+            Ok((grown::leaf(alloc, Expr::Variable(name))?, rest))
         }
         Start::Paren => enclosed(alloc, rest),
         Start::Brace => record(alloc, rest),
@@ -163,8 +163,8 @@ fn prim<'t, 'a>(
 fn in_parens<'t, 'a>(
     alloc: Global,
     tokens: &'t [Token<'a>],
-) -> Result<(Grown<Expr>, &'t [Token<'a>]), ParseError>
-    ensures exact { Reads view height (λ x. x.0) (λ x. toks x.1.now) result (λ n m. in_parens (level n) (toks tokens.now)) }
+) -> Result<(Grown<Box<Expr>>, &'t [Token<'a>]), ParseError>
+    ensures exact { Reads boxed_view height (λ x. x.0) (λ x. toks x.1.now) result (λ n m. in_parens (level n) (toks tokens.now)) }
     ensures shorter { IfOk result (λ x. length x.1.now < length tokens.now) }
 {
     let Some(rest) = sign_at(Symbol::LeftParen, tokens) else {
@@ -178,8 +178,8 @@ fn in_parens<'t, 'a>(
 fn enclosed<'t, 'a>(
     alloc: Global,
     tokens: &'t [Token<'a>],
-) -> Result<(Grown<Expr>, &'t [Token<'a>]), ParseError>
-    ensures exact { Reads view height (λ x. x.0) (λ x. toks x.1.now) result (λ n m. enclosed (level n) (toks tokens.now)) }
+) -> Result<(Grown<Box<Expr>>, &'t [Token<'a>]), ParseError>
+    ensures exact { Reads boxed_view height (λ x. x.0) (λ x. toks x.1.now) result (λ n m. enclosed (level n) (toks tokens.now)) }
     ensures shorter { IfOk result (λ x. length x.1.now < length tokens.now) }
 {
     let (value, rest) = level(alloc, MAX_RANK, tokens)?;
@@ -194,8 +194,8 @@ fn enclosed<'t, 'a>(
 fn bit<'t, 'a>(
     alloc: Global,
     tokens: &'t [Token<'a>],
-) -> Result<(Grown<Expr>, &'t [Token<'a>]), ParseError>
-    ensures exact { Reads view height (λ x. x.0) (λ x. toks x.1.now) result (λ n m. bit (level n) (toks tokens.now)) }
+) -> Result<(Grown<Box<Expr>>, &'t [Token<'a>]), ParseError>
+    ensures exact { Reads boxed_view height (λ x. x.0) (λ x. toks x.1.now) result (λ n m. bit (level n) (toks tokens.now)) }
     ensures shorter { IfOk result (λ x. length x.1.now < length tokens.now) }
 {
     let Some(rest) = sign_at(Symbol::LeftParen, tokens) else {
@@ -215,15 +215,15 @@ fn bit<'t, 'a>(
 fn record<'t, 'a>(
     alloc: Global,
     tokens: &'t [Token<'a>],
-) -> Result<(Grown<Expr>, &'t [Token<'a>]), ParseError>
-    ensures exact { Reads view height (λ x. x.0) (λ x. toks x.1.now) result (λ n m. fields m (level n) (toks tokens.now)) }
+) -> Result<(Grown<Box<Expr>>, &'t [Token<'a>]), ParseError>
+    ensures exact { Reads boxed_view height (λ x. x.0) (λ x. toks x.1.now) result (λ n m. fields m (level n) (toks tokens.now)) }
     ensures shorter { IfOk result (λ x. length x.1.now < length tokens.now) }
 {
     let (list, rest) = parts(alloc, tokens)?;
     let Some(rest) = sign_at(Symbol::RightBrace, rest) else {
         return Err(ParseError::BadSyntax);
     };
-    Ok((grown::record(list), rest))
+    Ok((grown::record(alloc, list)?, rest))
 }
 
 /// Parts of `{..}` with semicolons between them.
@@ -320,7 +320,7 @@ fn place<'t, 'a>(
         return Ok((grown::trim(interval), rest));
     }
     let (position, rest) = level(alloc, MAX_RANK, tokens)?;
-    Ok((grown::at(alloc, position)?, rest))
+    Ok((grown::at(position), rest))
 }
 
 #[cycle(expression)]
@@ -413,8 +413,8 @@ fn iter_at<'t, 'a>(
 fn coverage<'t, 'a>(
     alloc: Global,
     tokens: &'t [Token<'a>],
-) -> Result<(Grown<Expr>, &'t [Token<'a>]), ParseError>
-    ensures exact { Reads view height (λ x. x.0) (λ x. toks x.1.now) result (λ n m. coverage m (level n) (toks tokens.now)) }
+) -> Result<(Grown<Box<Expr>>, &'t [Token<'a>]), ParseError>
+    ensures exact { Reads boxed_view height (λ x. x.0) (λ x. toks x.1.now) result (λ n m. coverage m (level n) (toks tokens.now)) }
     ensures shorter { IfOk result (λ x. length x.1.now < length tokens.now) }
 {
     let Some((_, rest)) = name_at(tokens) else {
@@ -429,7 +429,7 @@ fn coverage<'t, 'a>(
         return Ok((grown::coverage(alloc, iterators, body)?, rest));
     }
     let (items, rest) = listed(alloc, rest)?;
-    Ok((grown::value_list(iterators, items), rest))
+    Ok((grown::value_list(alloc, iterators, items)?, rest))
 }
 
 /// `value list <..>`
@@ -492,7 +492,7 @@ pub fn condition<'t, 'a>(
         return Ok((Grown::Fits(None, 0), tokens));
     };
     let (test, rest) = level(alloc, MAX_RANK, rest)?;
-    Ok((grown::condition(alloc, test)?, rest))
+    Ok((grown::condition(test), rest))
 }
 
 /// What follows the word `condense`.
@@ -500,8 +500,8 @@ pub fn condition<'t, 'a>(
 fn condense<'t, 'a>(
     alloc: Global,
     tokens: &'t [Token<'a>],
-) -> Result<(Grown<Expr>, &'t [Token<'a>]), ParseError>
-    ensures exact { Reads view height (λ x. x.0) (λ x. toks x.1.now) result (λ n m. condense m (level n) (toks tokens.now)) }
+) -> Result<(Grown<Box<Expr>>, &'t [Token<'a>]), ParseError>
+    ensures exact { Reads boxed_view height (λ x. x.0) (λ x. toks x.1.now) result (λ n m. condense m (level n) (toks tokens.now)) }
     ensures shorter { IfOk result (λ x. length x.1.now < length tokens.now) }
 {
     let Some((op, rest)) = condenser_at(tokens) else {

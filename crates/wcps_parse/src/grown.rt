@@ -10,7 +10,7 @@ ghost use Rattle.wcps_text.specs.Limits.{max_height, height, place_height, inter
 ghost use Rattle.wcps_parse.specs.Reading.{NamedTree, NamedPlace, NamedInterval, parts_from, subs_from, iters_from};
 ghost use Rattle.wcps_parse.specs.Fit.{Fit, highest};
 ghost use Rattle.wcps_parse.specs.Prefixes.{wrapped};
-ghost use Rattle.wcps_parse.specs.Views.{part_view, sub_view, iter_view, parts_view, subs_view, iters_view, part_height, sub_height, iter_height};
+ghost use Rattle.wcps_parse.specs.Views.{boxed_view, part_view, sub_view, iter_view, parts_view, subs_view, iters_view, part_height, sub_height, iter_height};
 
 use std::alloc::{AllocError, Global};
 use wcps_text::{
@@ -73,13 +73,21 @@ pub fn push_iter(list: Grown<Vec<Iter>>, one: Grown<Iter>) -> Result<Grown<Vec<I
     Ok(Grown::Fits(list, height.max(other)))
 }
 
+/// A number, a truth value or a variable.
+pub fn leaf(alloc: Global, tree: Expr) -> Result<Grown<Box<Expr>>, AllocError>
+    ensures { IfOk result (λ g. (e : Tree) → view tree ≡ e → height e ≡ 1 → Fit boxed_view height g e) }
+{
+    let tree = Box::new(alloc, tree)?;
+    Ok(Grown::Fits(tree, 1))
+}
+
 /// `op e`
 pub fn unary(
     alloc: Global,
     op: UnaryOperator,
-    operand: Grown<Expr>,
-) -> Result<Grown<Expr>, AllocError>
-    ensures { IfOk result (λ g. (e : Tree) → Fit view height operand e → Fit view height g (tree.unary op e)) }
+    operand: Grown<Box<Expr>>,
+) -> Result<Grown<Box<Expr>>, AllocError>
+    ensures { IfOk result (λ g. (e : Tree) → Fit boxed_view height operand e → Fit boxed_view height g (tree.unary op e)) }
 {
     let Grown::Fits(operand, height) = operand else {
         return Ok(Grown::High);
@@ -87,7 +95,7 @@ pub fn unary(
     let Some(height) = above(height) else {
         return Ok(Grown::High);
     };
-    let tree = Expr::Unary(op, Box::new(alloc, operand)?);
+    let tree = Box::new(alloc, Expr::Unary(op, operand))?;
     Ok(Grown::Fits(tree, height))
 }
 
@@ -95,9 +103,9 @@ pub fn unary(
 pub fn prefixed(
     alloc: Global,
     mut ops: Vec<UnaryOperator>,
-    operand: Grown<Expr>,
-) -> Result<Grown<Expr>, AllocError>
-    ensures { IfOk result (λ g. (e : Tree) → Fit view height operand e → Fit view height g (wrapped ops.items e)) }
+    operand: Grown<Box<Expr>>,
+) -> Result<Grown<Box<Expr>>, AllocError>
+    ensures { IfOk result (λ g. (e : Tree) → Fit boxed_view height operand e → Fit boxed_view height g (wrapped ops.items e)) }
 {
     let mut whole = operand;
     while let Some(op) = ops.pop() {
@@ -110,10 +118,10 @@ pub fn prefixed(
 pub fn binary(
     alloc: Global,
     op: BinaryOperator,
-    left: Grown<Expr>,
-    right: Grown<Expr>,
-) -> Result<Grown<Expr>, AllocError>
-    ensures { IfOk result (λ g. (a b : Tree) → Fit view height left a → Fit view height right b → Fit view height g (tree.binary op a b)) }
+    left: Grown<Box<Expr>>,
+    right: Grown<Box<Expr>>,
+) -> Result<Grown<Box<Expr>>, AllocError>
+    ensures { IfOk result (λ g. (a b : Tree) → Fit boxed_view height left a → Fit boxed_view height right b → Fit boxed_view height g (tree.binary op a b)) }
 {
     let (Grown::Fits(left, one), Grown::Fits(right, other)) = (left, right) else {
         return Ok(Grown::High);
@@ -121,13 +129,17 @@ pub fn binary(
     let Some(height) = above(one.max(other)) else {
         return Ok(Grown::High);
     };
-    let tree = Expr::Binary(op, Box::new(alloc, left)?, Box::new(alloc, right)?);
+    let tree = Box::new(alloc, Expr::Binary(op, left, right))?;
     Ok(Grown::Fits(tree, height))
 }
 
 /// A reduction of a value.
-pub fn reduce(alloc: Global, op: Aggregate, operand: Grown<Expr>) -> Result<Grown<Expr>, AllocError>
-    ensures { IfOk result (λ g. (e : Tree) → Fit view height operand e → Fit view height g (tree.reduce op e)) }
+pub fn reduce(
+    alloc: Global,
+    op: Aggregate,
+    operand: Grown<Box<Expr>>,
+) -> Result<Grown<Box<Expr>>, AllocError>
+    ensures { IfOk result (λ g. (e : Tree) → Fit boxed_view height operand e → Fit boxed_view height g (tree.reduce op e)) }
 {
     let Grown::Fits(operand, height) = operand else {
         return Ok(Grown::High);
@@ -135,13 +147,17 @@ pub fn reduce(alloc: Global, op: Aggregate, operand: Grown<Expr>) -> Result<Grow
     let Some(height) = above(height) else {
         return Ok(Grown::High);
     };
-    let tree = Expr::Reduce(op, Box::new(alloc, operand)?);
+    let tree = Box::new(alloc, Expr::Reduce(op, operand))?;
     Ok(Grown::Fits(tree, height))
 }
 
 /// `e.name`
-pub fn field(alloc: Global, value: Grown<Expr>, name: &str) -> Result<Grown<Expr>, AllocError>
-    ensures { IfOk result (λ g. (e : Tree) → Fit view height value e → Fit view height g (tree.field e name.now)) }
+pub fn field(
+    alloc: Global,
+    value: Grown<Box<Expr>>,
+    name: &str,
+) -> Result<Grown<Box<Expr>>, AllocError>
+    ensures { IfOk result (λ g. (e : Tree) → Fit boxed_view height value e → Fit boxed_view height g (tree.field e name.now)) }
 {
     let Grown::Fits(value, height) = value else {
         return Ok(Grown::High);
@@ -150,17 +166,18 @@ pub fn field(alloc: Global, value: Grown<Expr>, name: &str) -> Result<Grown<Expr
         return Ok(Grown::High);
     };
     let name = QueryName::new(alloc, name)?;
-    Ok(Grown::Fits(Expr::Field(Box::new(alloc, value)?, name), height))
+    let tree = Box::new(alloc, Expr::Field(value, name))?;
+    Ok(Grown::Fits(tree, height))
 }
 
 /// `e[..]`
 #[tactic(auto, using(crate::proofs::Trees::brackets_shown, crate::proofs::Trees::subs_high))]
 pub fn brackets(
     alloc: Global,
-    value: Grown<Expr>,
+    value: Grown<Box<Expr>>,
     subs: Grown<Vec<Sub>>,
-) -> Result<Grown<Expr>, AllocError>
-    ensures { IfOk result (λ g. (e : Tree) (ss : List NamedPlace) → Fit view height value e → Fit subs_view (highest sub_height) subs ss → Fit view height g (tree.brackets e (subs_from ss))) }
+) -> Result<Grown<Box<Expr>>, AllocError>
+    ensures { IfOk result (λ g. (e : Tree) (ss : List NamedPlace) → Fit boxed_view height value e → Fit subs_view (highest sub_height) subs ss → Fit boxed_view height g (tree.brackets e (subs_from ss))) }
 {
     let (Grown::Fits(value, one), Grown::Fits(subs, other)) = (value, subs) else {
         return Ok(Grown::High);
@@ -168,35 +185,42 @@ pub fn brackets(
     let Some(height) = above(one.max(other)) else {
         return Ok(Grown::High);
     };
-    Ok(Grown::Fits(Expr::Brackets(Box::new(alloc, value)?, subs), height))
+    let tree = Box::new(alloc, Expr::Brackets(value, subs))?;
+    Ok(Grown::Fits(tree, height))
 }
 
 /// `{..}`
 #[tactic(auto, using(crate::proofs::Trees::record_shown, crate::proofs::Trees::parts_high))]
-pub fn record(parts: Grown<Vec<Part>>) -> Grown<Expr>
-    ensures { (ps : List NamedTree) → Fit parts_view (highest part_height) parts ps → Fit view height result (tree.parts (parts_from ps)) }
+pub fn record(alloc: Global, parts: Grown<Vec<Part>>) -> Result<Grown<Box<Expr>>, AllocError>
+    ensures { IfOk result (λ g. (ps : List NamedTree) → Fit parts_view (highest part_height) parts ps → Fit boxed_view height g (tree.parts (parts_from ps))) }
 {
     let Grown::Fits(parts, height) = parts else {
-        return Grown::High;
+        return Ok(Grown::High);
     };
     let Some(height) = above(height) else {
-        return Grown::High;
+        return Ok(Grown::High);
     };
-    Grown::Fits(Expr::Record(parts), height)
+    let tree = Box::new(alloc, Expr::Record(parts))?;
+    Ok(Grown::Fits(tree, height))
 }
 
 /// A coverage whose values are listed.
 #[tactic(auto, using(crate::proofs::Trees::iters_high))]
-pub fn value_list(iterators: Grown<Vec<Iter>>, items: Vec<ListItem>) -> Grown<Expr>
-    ensures { (is : List NamedInterval) → Fit iters_view (highest iter_height) iterators is → Fit view height result (tree.value_list (iters_from is) items.items) }
+pub fn value_list(
+    alloc: Global,
+    iterators: Grown<Vec<Iter>>,
+    items: Vec<ListItem>,
+) -> Result<Grown<Box<Expr>>, AllocError>
+    ensures { IfOk result (λ g. (is : List NamedInterval) → Fit iters_view (highest iter_height) iterators is → Fit boxed_view height g (tree.value_list (iters_from is) items.items)) }
 {
     let Grown::Fits(iterators, height) = iterators else {
-        return Grown::High;
+        return Ok(Grown::High);
     };
     let Some(height) = above(height) else {
-        return Grown::High;
+        return Ok(Grown::High);
     };
-    Grown::Fits(Expr::ValueList { iterators, items }, height)
+    let tree = Box::new(alloc, Expr::ValueList { iterators, items })?;
+    Ok(Grown::Fits(tree, height))
 }
 
 /// A coverage whose values are those of a body.
@@ -204,9 +228,9 @@ pub fn value_list(iterators: Grown<Vec<Iter>>, items: Vec<ListItem>) -> Grown<Ex
 pub fn coverage(
     alloc: Global,
     iterators: Grown<Vec<Iter>>,
-    body: Grown<Expr>,
-) -> Result<Grown<Expr>, AllocError>
-    ensures { IfOk result (λ g. (is : List NamedInterval) (e : Tree) → Fit iters_view (highest iter_height) iterators is → Fit view height body e → Fit view height g (tree.coverage (iters_from is) e)) }
+    body: Grown<Box<Expr>>,
+) -> Result<Grown<Box<Expr>>, AllocError>
+    ensures { IfOk result (λ g. (is : List NamedInterval) (e : Tree) → Fit iters_view (highest iter_height) iterators is → Fit boxed_view height body e → Fit boxed_view height g (tree.coverage (iters_from is) e)) }
 {
     let (Grown::Fits(iterators, one), Grown::Fits(body, other)) = (iterators, body) else {
         return Ok(Grown::High);
@@ -214,8 +238,8 @@ pub fn coverage(
     let Some(height) = above(one.max(other)) else {
         return Ok(Grown::High);
     };
-    let body = Box::new(alloc, body)?;
-    Ok(Grown::Fits(Expr::Coverage { iterators, body }, height))
+    let tree = Box::new(alloc, Expr::Coverage { iterators, body })?;
+    Ok(Grown::Fits(tree, height))
 }
 
 /// A condenser.
@@ -225,9 +249,9 @@ pub fn condense(
     op: Aggregate,
     iterators: Grown<Vec<Iter>>,
     condition: Grown<Option<Box<Expr>>>,
-    body: Grown<Expr>,
-) -> Result<Grown<Expr>, AllocError>
-    ensures { IfOk result (λ g. (is : List NamedInterval) (c : Condition) (e : Tree) → Fit iters_view (highest iter_height) iterators is → Fit condition_of condition_height condition c → Fit view height body e → Fit view height g (tree.condense op (iters_from is) c e)) }
+    body: Grown<Box<Expr>>,
+) -> Result<Grown<Box<Expr>>, AllocError>
+    ensures { IfOk result (λ g. (is : List NamedInterval) (c : Condition) (e : Tree) → Fit iters_view (highest iter_height) iterators is → Fit condition_of condition_height condition c → Fit boxed_view height body e → Fit boxed_view height g (tree.condense op (iters_from is) c e)) }
 {
     let (Grown::Fits(iterators, one), Grown::Fits(condition, other)) = (iterators, condition) else {
         return Ok(Grown::High);
@@ -238,34 +262,34 @@ pub fn condense(
     let Some(height) = above(one.max(other.max(height))) else {
         return Ok(Grown::High);
     };
-    let body = Box::new(alloc, body)?;
     let tree = Expr::Condense {
         op,
         iterators,
         condition,
         body,
     };
+    let tree = Box::new(alloc, tree)?;
     Ok(Grown::Fits(tree, height))
 }
 
 /// What follows `where`.
-pub fn condition(alloc: Global, test: Grown<Expr>) -> Result<Grown<Option<Box<Expr>>>, AllocError>
-    ensures { IfOk result (λ g. (e : Tree) → Fit view height test e → Fit condition_of condition_height g (tree.only e)) }
+pub fn condition(test: Grown<Box<Expr>>) -> Grown<Option<Box<Expr>>>
+    ensures { (e : Tree) → Fit boxed_view height test e → Fit condition_of condition_height result (tree.only e) }
 {
-    let Grown::Fits(test, height) = test else {
-        return Ok(Grown::High);
-    };
-    Ok(Grown::Fits(Some(Box::new(alloc, test)?), height))
+    match test {
+        Grown::Fits(test, height) => Grown::Fits(Some(test), height),
+        Grown::High => Grown::High,
+    }
 }
 
 /// A position on an axis.
-pub fn at(alloc: Global, position: Grown<Expr>) -> Result<Grown<Place>, AllocError>
-    ensures { IfOk result (λ g. (e : Tree) → Fit view height position e → Fit view_place place_height g (tree.at e)) }
+pub fn at(position: Grown<Box<Expr>>) -> Grown<Place>
+    ensures { (e : Tree) → Fit boxed_view height position e → Fit view_place place_height result (tree.at e) }
 {
-    let Grown::Fits(position, height) = position else {
-        return Ok(Grown::High);
-    };
-    Ok(Grown::Fits(Place::At(Box::new(alloc, position)?), height))
+    match position {
+        Grown::Fits(position, height) => Grown::Fits(Place::At(position), height),
+        Grown::High => Grown::High,
+    }
 }
 
 /// An interval of an axis, in a bracket.
@@ -279,24 +303,29 @@ pub fn trim(interval: Grown<Interval>) -> Grown<Place>
 }
 
 /// `imageCrsDomain(e, axis)`
-pub fn domain(alloc: Global, value: Grown<Expr>, axis: &str) -> Result<Grown<Interval>, AllocError>
-    ensures { IfOk result (λ g. (e : Tree) → Fit view height value e → Fit view_interval interval_height g (tree.domain e axis.now)) }
+pub fn domain(
+    alloc: Global,
+    value: Grown<Box<Expr>>,
+    axis: &str,
+) -> Result<Grown<Interval>, AllocError>
+    ensures { IfOk result (λ g. (e : Tree) → Fit boxed_view height value e → Fit view_interval interval_height g (tree.domain e axis.now)) }
 {
     let Grown::Fits(value, height) = value else {
         return Ok(Grown::High);
     };
     let axis = QueryName::new(alloc, axis)?;
-    Ok(Grown::Fits(Interval::Domain(Box::new(alloc, value)?, axis), height))
+    Ok(Grown::Fits(Interval::Domain(value, axis), height))
 }
 
 /// One part of `{..}`.
-pub fn part(alloc: Global, name: &str, value: Grown<Expr>) -> Result<Grown<Part>, AllocError>
-    ensures { IfOk result (λ g. (e : Tree) → Fit view height value e → Fit part_view part_height g (name.now, e)) }
+pub fn part(alloc: Global, name: &str, value: Grown<Box<Expr>>) -> Result<Grown<Part>, AllocError>
+    ensures { IfOk result (λ g. (e : Tree) → Fit boxed_view height value e → Fit part_view part_height g (name.now, e)) }
 {
     let Grown::Fits(value, height) = value else {
         return Ok(Grown::High);
     };
     let name = QueryName::new(alloc, name)?;
+    let value = Box::into_inner(value);
     Ok(Grown::Fits(Part { name, value }, height))
 }
 
@@ -334,8 +363,8 @@ pub fn iter(
 }
 
 /// An expression that a query returns as it is.
-pub fn plain(value: Grown<Expr>) -> Grown<Item>
-    ensures { (e : Tree) → Fit view height value e → Fit item_view item_height result (tree.plain e) }
+pub fn plain(value: Grown<Box<Expr>>) -> Grown<Item>
+    ensures { (e : Tree) → Fit boxed_view height value e → Fit item_view item_height result (tree.plain e) }
 {
     match value {
         Grown::Fits(value, height) => Grown::Fits(Item::Plain(value), height),
@@ -344,8 +373,8 @@ pub fn plain(value: Grown<Expr>) -> Grown<Item>
 }
 
 /// An expression that a query returns encoded.
-pub fn encode(value: Grown<Expr>) -> Grown<Item>
-    ensures { (e : Tree) → Fit view height value e → Fit item_view item_height result (tree.encode e) }
+pub fn encode(value: Grown<Box<Expr>>) -> Grown<Item>
+    ensures { (e : Tree) → Fit boxed_view height value e → Fit item_view item_height result (tree.encode e) }
 {
     match value {
         Grown::Fits(value, height) => Grown::Fits(Item::Encode(value), height),

@@ -191,13 +191,13 @@ items_end first xs i le rest = rw (drop_all i xs le) refl
 pub items_step : (first : Bool) (xs : List ListItem) (i : ℕ) (d : ListItem) → i < length xs → (rest : List Tok) → separator first signs.Semicolon (items_tokens true (get_or xs i d ∷ []) (items_tokens false (drop (i + 1) xs) rest)) ≡ items_tokens first (drop i xs) rest
 items_step first xs i d lt rest = rw (drop_more xs i d lt) (items_cons first (get_or xs i d) (drop (i + 1) xs) rest)
 
-pub plain_of : (i : Item) (e : Expr) → i ≡ items.Plain e → (rest : List Tok) → expr_tokens (view e) rest ≡ item_tokens (item_view i) rest
+pub plain_of : (i : Item) (e : Expr) (b : Box Expr Global) → i ≡ items.Plain b → e ≡ b.value → (rest : List Tok) → expr_tokens (view e) rest ≡ item_tokens (item_view i) rest
 unfolding item_tokens
-plain_of i e is rest = rw is refl
+plain_of i e b is same rest = rw (is, same) refl
 
-pub encode_of : (i : Item) (e : Expr) → i ≡ items.Encode e → (rest : List Tok) → word words.Encode ∷ sign signs.LeftParen ∷ expr_tokens (view e) (sign signs.Comma ∷ word words.Csv ∷ sign signs.RightParen ∷ rest) ≡ item_tokens (item_view i) rest
+pub encode_of : (i : Item) (e : Expr) (b : Box Expr Global) → i ≡ items.Encode b → e ≡ b.value → (rest : List Tok) → word words.Encode ∷ sign signs.LeftParen ∷ expr_tokens (view e) (sign signs.Comma ∷ word words.Csv ∷ sign signs.RightParen ∷ rest) ≡ item_tokens (item_view i) rest
 unfolding item_tokens
-encode_of i e is rest = rw is refl
+encode_of i e b is same rest = rw (is, same) refl
 
 pub query_of : (q : Query) (bs : List Binding) → bs ≡ q.bindings.items → word words.For ∷ bindings_tokens true (bindings_of bs) (condition_tokens (condition_of q.condition) (word words.Return ∷ item_tokens (item_view q.item) [])) ≡ query_tokens (query_view q)
 unfolding query_tokens

@@ -143,8 +143,8 @@ bindings_of [] = []
 bindings_of (b ∷ bs) = binding_view b ∷ bindings_of bs
 
 abbrev pub item_view : Item → ItemTree
-item_view (items.Encode e) = encode (view e)
-item_view (items.Plain e) = plain (view e)
+item_view (items.Encode e) = encode (view e.value)
+item_view (items.Plain e) = plain (view e.value)
 
 abbrev pub query_view : Query → QueryTree
 query_view q = record { bindings = bindings_of q.bindings.items; condition = condition_of q.condition; item = item_view q.item }

@@ -3,7 +3,7 @@
 ghost use Rattle.std.specs.Prelude.{◌<◌, ◌^◌};
 
 /// A mark of one or two characters.
-#[derive(Clone, Copy, Debug, PartialEq, Eq)]
+#[derive(Clone, Copy, PartialEq, Eq)]
 pub enum Symbol {
     LeftParen,
     RightParen,
@@ -28,7 +28,7 @@ pub enum Symbol {
 }
 
 /// A word of the language. It is written in any ASCII case, and is no name.
-#[derive(Clone, Copy, Debug, PartialEq, Eq)]
+#[derive(Clone, Copy, PartialEq, Eq)]
 pub enum Keyword {
     For,
     In,
@@ -69,7 +69,7 @@ pub struct Literal {
 }
 
 /// What a token is.
-#[derive(Clone, Copy, Debug, PartialEq, Eq)]
+#[derive(Clone, Copy, PartialEq, Eq)]
 pub enum Kind {
     Number(Literal),
     /// A name without `$` that is no word of the language.
@@ -83,7 +83,7 @@ pub enum Kind {
 }
 
 /// One token: what it is, its bytes, and at which byte of the text it starts.
-#[derive(Clone, Copy, Debug)]
+#[derive(Clone, Copy)]
 pub struct Token<'a> {
     pub kind: Kind,
     pub text: &'a str,

@@ -22,8 +22,8 @@ pub struct Binding {
 /// What a query returns: `encode(e, csv)` or `e`.
 #[derive(Debug, Drop)]
 pub enum Item {
-    Encode(Expr),
-    Plain(Expr),
+    Encode(Box<Expr>),
+    Plain(Box<Expr>),
 }
 
 /// An expression.

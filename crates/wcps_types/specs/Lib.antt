@@ -17,9 +17,11 @@ pub mod Brackets
 pub mod Records
 pub mod Parts
 pub mod Boxes
+pub mod Kept
 pub mod Variables
 pub mod Bindings
 pub mod Typing
 pub mod Queries
 pub mod Sharing
+pub mod Resolved
 pub mod Refusals

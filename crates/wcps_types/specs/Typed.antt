@@ -95,7 +95,7 @@ fields_view e k [] = []
 fields_view e k (boolean ∷ more) = record { boolean = boolean; tree = field_tree e k } ∷ fields_view e (suc k) more
 
 abbrev pub item_view : TypedItem → ItemTree
-item_view i = record { domain = i.domain; fields = fields_view i.node 0 i.booleans.items }
+item_view i = record { domain = i.domain; fields = fields_view i.node.value 0 i.booleans.items }
 
 abbrev pub tree_view : Tree → CombinationTree
-tree_view c = record { condition = option_map only_tree c.condition; item = item_view c.item }
+tree_view c = record { condition = option_map boxed_tree c.condition; item = item_view c.item }

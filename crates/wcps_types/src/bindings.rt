@@ -16,14 +16,14 @@ use std::alloc::{AllocError, Global};
 use wcps_text::{Binding, QueryName};
 
 /// A variable and the places of the coverages that it stands for in turn.
-#[derive(Debug, Drop)]
+#[derive(Drop)]
 pub struct Choice {
     pub variable: QueryName,
     pub coverages: Vec<usize>,
 }
 
 /// The `for` list so far: the coverages that it names, each once, and its variables.
-#[derive(Debug, Drop)]
+#[derive(Drop)]
 pub struct Bindings {
     pub coverages: Vec<Signature>,
     pub choices: Vec<Choice>,
@@ -63,7 +63,7 @@ fn found(alloc: Global, signatures: &[Signature], name: &QueryName) -> Result<Si
 }
 
 /// Coverages, and the place of one of them.
-#[derive(Debug, Drop)]
+#[derive(Drop)]
 pub struct PlacedOne {
     pub coverages: Vec<Signature>,
     pub place: usize,
@@ -89,7 +89,7 @@ fn resolved(
 }
 
 /// Coverages, and the places of several.
-#[derive(Debug, Drop)]
+#[derive(Drop)]
 pub struct PlacedMany {
     pub coverages: Vec<Signature>,
     pub places: Vec<usize>,

@@ -3,7 +3,7 @@
 ghost use Rattle.std.specs.Prelude.{◌≤ℤ◌};
 
 /// The integers from `lo` to `hi`.
-#[derive(Clone, Copy, Debug)]
+#[derive(Clone, Copy)]
 pub struct Bounds {
     pub lo: i32,
     pub hi: i32,

@@ -1,13 +1,14 @@
 //! Iterator lists, and the forms over a box.
 
-ghost use Rattle.std.specs.Prelude.{◌≡◌, ◌++◌, IfOk, map};
+ghost use Rattle.std.specs.Prelude.{◌≡◌, ◌++◌, IfOk, Some, map};
 ghost use Rattle.std.specs.Option.{option_map};
 ghost use Rattle.std.specs.List.{list_all};
 ghost use Rattle.wcps_types.specs.Typed.{boxed_tree};
 ghost use Rattle.wcps_types.specs.Frames.{names_in};
-ghost use Rattle.wcps_types.specs.Shapes.{Says, shape_view, scalar_of_view};
+ghost use Rattle.wcps_types.specs.Shapes.{Says, then_of, shape_view, scalar_of_view, only_scalar};
 ghost use Rattle.wcps_types.specs.Brackets.{bounds_view};
-ghost use Rattle.wcps_types.specs.Boxes.{iterators_view, no_iterators, is_taken, axis_of, with_iterator, box_of, array_on, condition_of, condensed, integers_condensed, booleans_condensed, is_truth, item_number, first_is_truth, has_kind, other_kind, listed_on, value_list};
+ghost use Rattle.wcps_types.specs.Typing.{array_of, condition_tree};
+ghost use Rattle.wcps_types.specs.Boxes.{iterators_view, no_iterators, is_taken, axis_of, with_iterator, box_of, condensed, integers_condensed, booleans_condensed, is_truth, item_number, first_is_truth, has_kind, other_kind, listed_on, value_list};
 
 use crate::bound::Variables;
 use crate::bounds::Bounds;
@@ -16,14 +17,14 @@ use crate::names::name_place;
 use crate::nodes::{array_node, condense_node, list_node};
 use crate::refusal::{CheckError, TypeRefusal};
 use crate::scope::Scope;
-use crate::shape::{OneScalar, Shape, unnamed, unnamed_scalar};
+use crate::shape::{OneScalar, Shape, only_scalar, unnamed, unnamed_scalar};
 use crate::typed::Node;
 use arr_core::{Axis, Domain, Name, NameError};
 use std::alloc::{AllocError, Global};
 use wcps_text::{Aggregate, ListItem, QueryName};
 
 /// Iterators so far: their variables, and the axes that they go over.
-#[derive(Debug, Drop)]
+#[derive(Drop)]
 pub struct Iterators {
     pub variables: Vec<QueryName>,
     pub axes: Vec<Axis>,
@@ -95,7 +96,7 @@ pub fn box_of(axes: Vec<Axis>) -> Result<Domain, CheckError>
 }
 
 /// A box, and the variables of its iterators.
-#[derive(Debug, Drop)]
+#[derive(Drop)]
 pub struct Opened {
     pub domain: Domain,
     pub variables: Vec<QueryName>,
@@ -112,35 +113,37 @@ pub fn opened_box(over: Iterators) -> Result<Opened, CheckError>
     Ok(Opened { domain, variables })
 }
 
-/// `coverage .. values` of a scalar.
-pub fn array<'a>(alloc: Global, domain: Domain, body: OneScalar) -> Result<Shape<'a>, CheckError>
-    ensures { Says shape_view result (array_on domain (scalar_of_view body)) }
+/// `coverage .. values` of a body, which is a scalar.
+pub fn array<'a>(alloc: Global, domain: Domain, body: Shape<'a>) -> Result<Shape<'a>, CheckError>
+    ensures { Says shape_view result (array_of domain (shape_view body.entry)) }
 {
-    let OneScalar { boolean, node } = body;
+    let OneScalar { boolean, node } = only_scalar(body)?;
     let node = array_node(alloc, node)?;
     Ok(unnamed(Extent::own(domain), boolean, node))
 }
 
 /// A condition: a Boolean scalar.
-pub fn condition_of(condition: OneScalar) -> Result<Box<Node>, CheckError>
-    ensures { Says boxed_tree result (condition_of (scalar_of_view condition)) }
+pub fn condition_of(condition: Shape) -> Result<Box<Node>, CheckError>
+    ensures { Says (λ b. Some (boxed_tree b)) result (condition_tree (shape_view condition.entry)) }
 {
-    if !condition.boolean {
+    let OneScalar { boolean, node } = only_scalar(condition)?;
+    if !boolean {
         return Err(CheckError::Refused(TypeRefusal::NeedsBoolean));
     }
-    Ok(condition.node)
+    Ok(node)
 }
 
-/// `condense`.
+/// `condense` of a body, which is a scalar.
 pub fn condensed<'a>(
     alloc: Global,
     op: Aggregate,
     domain: Domain,
     condition: Option<Box<Node>>,
-    body: OneScalar,
+    body: Shape<'a>,
 ) -> Result<Shape<'a>, CheckError>
-    ensures { Says shape_view result (condensed op domain (option_map boxed_tree condition) (scalar_of_view body)) }
+    ensures { Says shape_view result (then_of (only_scalar (shape_view body.entry)) (condensed op domain (option_map boxed_tree condition))) }
 {
+    let body = only_scalar(body)?;
     match op {
         Aggregate::Sum
         | Aggregate::Product

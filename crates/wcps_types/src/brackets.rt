@@ -1,12 +1,12 @@
 //! Brackets: narrowing axes, and taking axes out at positions.
 
-ghost use Rattle.std.specs.Prelude.{◌≡◌, ◌<◌, ◌≤ℤ◌, IfOk, Some, length, map, slice_get};
+ghost use Rattle.std.specs.Prelude.{◌≡◌, ◌<◌, ◌≤ℤ◌, ◌++◌, ◌∷◌, [], ℕ, List, IfOk, Ok, Some, length, map, slice_get};
 ghost use Rattle.std.specs.Option.{option_map};
 ghost use Rattle.arr_core.specs.Domains.{AreOrdered};
 ghost use Rattle.wcps_types.specs.Typed.{boxed_tree};
 ghost use Rattle.wcps_types.specs.Labels.{labels_in};
-ghost use Rattle.wcps_types.specs.Shapes.{Says, shape_view, labels_view};
-ghost use Rattle.wcps_types.specs.Brackets.{bounds_view, cut_view, bracket_view, written_bounds, bounds_of, bounds_of_axis, opened, place_to_cut, with_trim, position_of, with_position, cut_between, cut_out, all_cut_out, bracketed, closed};
+ghost use Rattle.wcps_types.specs.Shapes.{Says, then_of, shape_view, labels_view};
+ghost use Rattle.wcps_types.specs.Brackets.{CutTree, bounds_view, cut_view, bracket_view, written_bounds, bounds_of, bounds_of_axis, opened, place_to_cut, with_trim, position_of, with_position, cut_between, cut_out, all_cut_out, bracketed, closed};
 
 use crate::bounds::Bounds;
 use crate::extent::Extent;
@@ -21,7 +21,7 @@ use std::alloc::{AllocError, Global};
 use wcps_text::QueryName;
 
 /// An axis that is taken out, and where.
-#[derive(Debug, Drop)]
+#[derive(Drop)]
 pub struct Cut {
     pub axis: QueryName,
     pub position: Box<Node>,
@@ -83,7 +83,7 @@ pub fn bounds_of_axis(domain: &Domain, name: &QueryName) -> Result<Bounds, Check
 }
 
 /// A bracket so far: the domain with the axes that are trimmed narrowed, the axes that are named, and the positions.
-#[derive(Debug, Drop)]
+#[derive(Drop)]
 pub struct Bracket<'a> {
     pub domain: Extent<'a>,
     pub named: Vec<QueryName>,
@@ -119,6 +119,39 @@ pub fn place_to_cut(bracket: &Bracket, axis: &QueryName) -> Result<usize, CheckE
     }
 }
 
+/// A domain with the axis at a place trimmed, if the bounds are inside it.
+fn trimmed(
+    alloc: Global,
+    domain: &Domain,
+    place: usize,
+    bounds: Bounds,
+) -> Result<Domain, CheckError>
+    ensures { (named : List (List ℕ)) (cuts : List CutTree) (x : List ℕ) → Says (λ axes. record { domain = axes; named = named ++ x ∷ []; cuts = cuts }) result (with_trim place x (bounds_view bounds) (record { domain = domain.now; named = named; cuts = cuts })) }
+{
+    match bounds_at(domain.axes(), place) {
+        None => return Err(CheckError::Refused(TypeRefusal::TrimOutside)),
+        Some(own) => {
+            if bounds.lo < own.lo || own.hi < bounds.hi {
+                return Err(CheckError::Refused(TypeRefusal::TrimOutside));
+            }
+        }
+    }
+    Ok(domain.narrow(alloc, place, bounds.lo, bounds.hi)?)
+}
+
+/// The names of axes, and one more.
+fn with_name(
+    alloc: Global,
+    named: Vec<QueryName>,
+    name: &QueryName,
+) -> Result<Vec<QueryName>, AllocError>
+    ensures { IfOk result (λ v. v.items ≡ named.items ++ name.now ∷ []) }
+{
+    let mut named = named;
+    named.push(QueryName::new(alloc, name.as_str())?)?;
+    Ok(named)
+}
+
 /// The bracket with the axis at a place trimmed, if the bounds are inside it.
 pub fn with_trim<'a>(
     alloc: Global,
@@ -131,19 +164,11 @@ pub fn with_trim<'a>(
 {
     let Bracket {
         domain,
-        mut named,
+        named,
         cuts,
     } = bracket;
-    match bounds_at(domain.axes(), place) {
-        None => return Err(CheckError::Refused(TypeRefusal::TrimOutside)),
-        Some(own) => {
-            if bounds.lo < own.lo || own.hi < bounds.hi {
-                return Err(CheckError::Refused(TypeRefusal::TrimOutside));
-            }
-        }
-    }
-    let narrow = domain.domain().narrow(alloc, place, bounds.lo, bounds.hi)?;
-    named.push(QueryName::new(alloc, name.as_str())?)?;
+    let narrow = trimmed(alloc, domain.domain(), place, bounds)?;
+    let named = with_name(alloc, named, name)?;
     Ok(Bracket {
         domain: Extent::own(narrow),
         named,
@@ -152,7 +177,7 @@ pub fn with_trim<'a>(
 }
 
 /// A position: an integer scalar.
-pub fn position_of(shape: Shape) -> Result<Box<Node>, CheckError>
+fn position_of(shape: Shape) -> Result<Box<Node>, CheckError>
     ensures { Says boxed_tree result (position_of (shape_view shape.entry)) }
 {
     let OneScalar { boolean, node } = only_scalar(shape)?;
@@ -163,7 +188,7 @@ pub fn position_of(shape: Shape) -> Result<Box<Node>, CheckError>
 }
 
 /// The bracket with an axis taken out at a position.
-pub fn with_position<'a>(
+fn with_position<'a>(
     alloc: Global,
     bracket: Bracket<'a>,
     name: &QueryName,
@@ -173,10 +198,10 @@ pub fn with_position<'a>(
 {
     let Bracket {
         domain,
-        mut named,
+        named,
         mut cuts,
     } = bracket;
-    named.push(QueryName::new(alloc, name.as_str())?)?;
+    let named = with_name(alloc, named, name)?;
     let axis = QueryName::new(alloc, name.as_str())?;
     cuts.push(Cut { axis, position })?;
     Ok(Bracket {
@@ -184,6 +209,19 @@ pub fn with_position<'a>(
         named,
         cuts,
     })
+}
+
+/// The bracket with an axis taken out at what a shape is: a position.
+pub fn with_shape<'a>(
+    alloc: Global,
+    bracket: Bracket<'a>,
+    name: &QueryName,
+    shape: Shape<'a>,
+) -> Result<Bracket<'a>, CheckError>
+    ensures { Says bracket_view result (then_of (position_of (shape_view shape.entry)) (λ position. Ok (with_position name.now position (bracket_view bracket.entry)))) }
+{
+    let position = position_of(shape)?;
+    Ok(with_position(alloc, bracket, name, position)?)
 }
 
 /// The shape sliced at a position of the axis at a place: one node, however many fields.

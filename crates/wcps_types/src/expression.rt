@@ -22,8 +22,7 @@ use crate::boxes::{
     with_iterator,
 };
 use crate::brackets::{
-    Bracket, bounds_of_axis, closed_bracket, place_to_cut, position_of, with_position, with_trim,
-    written_bounds,
+    Bracket, bounds_of_axis, closed_bracket, place_to_cut, with_shape, with_trim, written_bounds,
 };
 use crate::extent::Extent;
 use crate::names::axis_place;
@@ -33,7 +32,7 @@ use crate::pieces::Pieces;
 use crate::records::{finished, with_name, with_part};
 use crate::refusal::{CheckError, TypeRefusal};
 use crate::scope::Scope;
-use crate::shape::{Shape, only_field, only_scalar, unnamed_scalar};
+use crate::shape::{Shape, only_field, unnamed_scalar};
 use crate::typed::Node;
 use crate::variables::variable;
 use arr_core::Signature;
@@ -225,9 +224,9 @@ fn constructed<'a>(
     ensures { Says shape_view result (then_of (typ (signatures_in coverages.now) bound.now.list.items (names_in scope.now.frames ++ over.variables.items) (view body.now)) (array_of over.domain)) }
 {
     let Opened { domain, variables } = over;
-    let inner = Scope::within(scope, &variables)?;
+    let inner = Scope::within(&*scope, &variables)?;
     let body = expression(alloc, coverages, bound, &inner, body)?;
-    array(alloc, domain, only_scalar(body)?)
+    array(alloc, domain, body)
 }
 
 /// A condenser over a box.
@@ -246,9 +245,9 @@ fn condensed_over<'a>(
     ensures { Says shape_view result (then_of (typ (signatures_in coverages.now) bound.now.list.items (names_in scope.now.frames ++ over.variables.items) (view body.now)) (λ s. then_of (only_scalar s) (condensed op over.domain (option_map boxed_tree condition)))) }
 {
     let Opened { domain, variables } = over;
-    let inner = Scope::within(scope, &variables)?;
+    let inner = Scope::within(&*scope, &variables)?;
     let body = expression(alloc, coverages, bound, &inner, body)?;
-    condensed(alloc, op, domain, condition, only_scalar(body)?)
+    condensed(alloc, op, domain, condition, body)
 }
 
 /// The tree of the condition of a condenser over a box, if there is one.
@@ -283,8 +282,7 @@ pub fn condition_node(
         None => Ok(None),
         Some(c) => {
             let shape = expression(alloc, coverages, bound, scope, c)?;
-            let node = condition_of(only_scalar(shape)?)?;
-            Ok(Some(node))
+            Ok(Some(condition_of(shape)?))
         }
     }
 }
@@ -353,8 +351,7 @@ fn subscript<'a>(
         }
         Place::At(position) => {
             let shape = expression(alloc, coverages, bound, scope, position)?;
-            let position = position_of(shape)?;
-            Ok(with_position(alloc, bracket, axis, position)?)
+            with_shape(alloc, bracket, axis, shape)
         }
     }
 }

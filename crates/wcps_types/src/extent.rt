@@ -8,7 +8,7 @@ use std::alloc::{AllocError, Global};
 use std::marker::Model;
 
 /// Where a domain stands.
-#[derive(Debug, Drop)]
+#[derive(Drop)]
 enum Held<'a> {
     /// With another owner.
     Lent(&'a Domain),
@@ -17,7 +17,7 @@ enum Held<'a> {
 }
 
 /// A domain, lent or its own.
-#[derive(Debug, Drop)]
+#[derive(Drop)]
 pub struct Extent<'a> {
     held: Held<'a>,
 }

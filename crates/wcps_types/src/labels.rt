@@ -8,14 +8,14 @@ use arr_core::{Field, FieldType};
 use wcps_text::QueryName;
 
 /// One field: its name if it has one, and whether it is Boolean.
-#[derive(Debug, Drop)]
+#[derive(Drop)]
 pub struct Label {
     pub name: Option<QueryName>,
     pub boolean: bool,
 }
 
 /// The labels of all fields, in order. Those of a coverage stay in its signature.
-#[derive(Debug, Drop)]
+#[derive(Drop)]
 pub enum Labels<'a> {
     /// One field without a name, and whether it is Boolean.
     Unnamed(bool),

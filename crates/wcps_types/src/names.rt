@@ -12,7 +12,7 @@ use arr_core::{Axis, Signature};
 use wcps_text::QueryName;
 
 /// A variable of the `for` list, and the place of the coverage that it stands for in one combination.
-#[derive(Debug, Drop)]
+#[derive(Drop)]
 pub struct Bound {
     pub variable: QueryName,
     pub coverage: usize,

@@ -3,8 +3,8 @@
 ghost use Rattle.std.specs.Prelude.{◌≡◌, [], IfOk, map, true, false};
 ghost use Rattle.wcps_types.specs.Typed.{only_tree};
 ghost use Rattle.wcps_types.specs.Labels.{label_of, labels_in};
-ghost use Rattle.wcps_types.specs.Shapes.{Says, shape_view, slot_of, labels_view, field_of_view};
-ghost use Rattle.wcps_types.specs.Operators.{one_selected, selected, unary, are_same, is_same_axis, operands_view, joined, numeric, logical, binary, integer_reduction, boolean_reduction, reduction};
+ghost use Rattle.wcps_types.specs.Shapes.{Says, then_of, shape_view, slot_of, labels_view, field_of_view};
+ghost use Rattle.wcps_types.specs.Operators.{one_selected, selected, unary, are_same, is_same_axis, operands_view, joined, binary_shape, numeric, logical, binary, integer_reduction, boolean_reduction, reduction};
 
 use crate::extent::Extent;
 use crate::labels::{Label, Labels};
@@ -19,7 +19,7 @@ use std::slice;
 use wcps_text::{Aggregate, BinaryOperator, QueryName, UnaryOperator};
 
 /// Two operands on one domain.
-#[derive(Debug, Drop)]
+#[derive(Drop)]
 pub struct Operands<'a> {
     pub domain: Extent<'a>,
     pub left: Box<Node>,
@@ -214,6 +214,26 @@ fn joined<'a>(alloc: Global, l: OneField<'a>, r: OneField<'a>) -> Result<Operand
     Err(CheckError::Refused(TypeRefusal::DomainMismatch))
 }
 
+/// An operation on two fields: their domains, then the node over both.
+#[inline(never)]
+fn binary_on_fields<'a>(
+    alloc: Global,
+    op: BinaryOperator,
+    gives_boolean: bool,
+    l: OneField<'a>,
+    r: OneField<'a>,
+) -> Result<Shape<'a>, CheckError>
+    ensures { Says shape_view result (then_of (joined (field_of_view l.entry) (field_of_view r.entry)) (binary_shape op gives_boolean)) }
+{
+    let Operands {
+        domain,
+        left,
+        right,
+    } = joined(alloc, l, r)?;
+    let node = binary_node(alloc, op, left, right)?;
+    Ok(unnamed(domain, gives_boolean, node))
+}
+
 /// An operation on two numbers, where a Boolean counts as 0 or 1.
 #[inline(never)]
 fn numeric<'a>(
@@ -227,13 +247,7 @@ fn numeric<'a>(
 {
     let l = only_field(l)?;
     let r = only_field(r)?;
-    let Operands {
-        domain,
-        left,
-        right,
-    } = joined(alloc, l, r)?;
-    let node = binary_node(alloc, op, left, right)?;
-    Ok(unnamed(domain, gives_boolean, node))
+    binary_on_fields(alloc, op, gives_boolean, l, r)
 }
 
 /// `and`, `or`, `xor`.
@@ -251,13 +265,7 @@ fn logical<'a>(
     if !l.boolean || !r.boolean {
         return Err(CheckError::Refused(TypeRefusal::NeedsBoolean));
     }
-    let Operands {
-        domain,
-        left,
-        right,
-    } = joined(alloc, l, r)?;
-    let node = binary_node(alloc, op, left, right)?;
-    Ok(unnamed(domain, true, node))
+    binary_on_fields(alloc, op, true, l, r)
 }
 
 /// An operator on two operands.

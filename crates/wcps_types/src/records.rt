@@ -22,7 +22,7 @@ use std::collections::BTreeSet;
 use wcps_text::QueryName;
 
 /// A part of a record.
-#[derive(Debug, Drop)]
+#[derive(Drop)]
 pub struct Piece {
     pub name: QueryName,
     pub scalar: bool,

@@ -1,7 +1,7 @@
 //! Whether trees are the same.
 
 ghost use Rattle.std.specs.Prelude.{◌≡◌, ◌↔◌, ℕ, IsTrue, map, option_map};
-ghost use Rattle.wcps_types.specs.Typed.{field_tree, only_tree, item_view, tree_view};
+ghost use Rattle.wcps_types.specs.Typed.{field_tree, only_tree, boxed_tree, item_view, tree_view};
 
 use crate::typed::{Node, Tree, TypedItem};
 
@@ -144,8 +144,8 @@ fn are_same(parts: &[Node], others: &[Node]) -> bool
 }
 
 /// Whether two conditions are the same.
-fn is_same_condition(a: &Option<Node>, b: &Option<Node>) -> bool
-    ensures { IsTrue result → option_map only_tree a.now ≡ option_map only_tree b.now }
+fn is_same_condition(a: &Option<Box<Node>>, b: &Option<Box<Node>>) -> bool
+    ensures { IsTrue result → option_map boxed_tree a.now ≡ option_map boxed_tree b.now }
 {
     match a {
         None => b.is_none(),

@@ -14,7 +14,7 @@ use std::alloc::Global;
 
 /// The shape of an expression, which is a scalar where the domain has no axis: its fields in order, and the node that
 /// gives all of them.
-#[derive(Debug, Drop)]
+#[derive(Drop)]
 pub struct Shape<'a> {
     pub domain: Extent<'a>,
     pub labels: Labels<'a>,
@@ -22,7 +22,7 @@ pub struct Shape<'a> {
 }
 
 /// A shape with one field, whose name no longer matters.
-#[derive(Debug, Drop)]
+#[derive(Drop)]
 pub struct OneField<'a> {
     pub domain: Extent<'a>,
     pub boolean: bool,
@@ -30,7 +30,7 @@ pub struct OneField<'a> {
 }
 
 /// A scalar with one field.
-#[derive(Debug, Drop)]
+#[derive(Drop)]
 pub struct OneScalar {
     pub boolean: bool,
     pub node: Box<Node>,

@@ -1,12 +1,11 @@
 //! The tree of a query over one choice of coverages.
 
-ghost use Rattle.std.specs.Prelude.{◌≡◌, [], IfOk, map, option_map};
-ghost use Rattle.wcps_text.specs.Tree.{query_view, item_view as tree_item_view, condition_of};
-ghost use Rattle.wcps_types.specs.Typed.{item_view, only_tree, tree_view};
+ghost use Rattle.std.specs.Prelude.{◌≡◌, [], IfOk, map};
+ghost use Rattle.wcps_text.specs.Tree.{query_view, item_view as tree_item_view};
+ghost use Rattle.wcps_types.specs.Typed.{item_view, tree_view};
 ghost use Rattle.wcps_types.specs.Labels.{label_of, labels_in};
 ghost use Rattle.wcps_types.specs.Shapes.{Says, shape_view};
 ghost use Rattle.wcps_types.specs.Variables.{signatures_in};
-ghost use Rattle.wcps_types.specs.Typing.{typ_condition};
 ghost use Rattle.wcps_types.specs.Queries.{label_boolean, item_of, plain_item, typ_item, typ_combination};
 
 use crate::bound::Variables;
@@ -15,10 +14,10 @@ use crate::labels::{Label, Labels, is_boolean};
 use crate::refusal::{CheckError, TypeRefusal};
 use crate::scope::Scope;
 use crate::shape::{Shape, is_scalar};
-use crate::typed::{Node, Tree, TypedItem};
+use crate::typed::{Tree, TypedItem};
 use arr_core::{Field, Signature};
 use std::alloc::{AllocError, Global};
-use wcps_text::{Expr, Item, Query};
+use wcps_text::{Item, Query};
 
 /// Which fields of a coverage are Boolean.
 fn field_booleans(alloc: Global, fields: &[Field]) -> Result<Vec<bool>, AllocError>
@@ -72,7 +71,7 @@ fn item_of(alloc: Global, shape: Shape) -> Result<TypedItem, CheckError>
     Ok(TypedItem {
         domain,
         booleans,
-        node: Box::into_inner(node),
+        node,
     })
 }
 
@@ -108,21 +107,6 @@ fn typed_item(
     }
 }
 
-/// The condition of a query, if there is one.
-fn query_condition(
-    alloc: Global,
-    coverages: &[&Signature],
-    bound: &Variables,
-    condition: &Option<Box<Expr>>,
-) -> Result<Option<Node>, CheckError>
-    ensures { Says (option_map only_tree) result (typ_condition (signatures_in coverages.now) bound.now.list.items [] (condition_of condition.now)) }
-{
-    match condition_node(alloc, coverages, bound, &Scope::outermost(), condition)? {
-        None => Ok(None),
-        Some(node) => Ok(Some(Box::into_inner(node))),
-    }
-}
-
 /// The query with one choice of coverages: its `where`, then its item.
 pub fn tree_of(
     alloc: Global,
@@ -132,7 +116,8 @@ pub fn tree_of(
 ) -> Result<Tree, CheckError>
     ensures { Says tree_view result (typ_combination (signatures_in coverages.now) (query_view query.now) bound.now.list.items) }
 {
-    let condition = query_condition(alloc, coverages, bound, &query.condition)?;
+    let scope = Scope::outermost();
+    let condition = condition_node(alloc, coverages, bound, &scope, &query.condition)?;
     let item = typed_item(alloc, coverages, bound, &query.item)?;
     Ok(Tree { condition, item })
 }

@@ -7,7 +7,7 @@ use wcps_text::{Aggregate, BinaryOperator, UnaryOperator};
 
 /// What gives the fields of a value at each point of its domain, under the iterators in scope. Which field is meant is
 /// told where a node is asked for; all but `Coverage`, `Record`, `Bracket` and `Slice` have one, whose place is 0.
-#[derive(Debug, Drop)]
+#[derive(Drop)]
 pub enum Node {
     /// A number, or 1 for true and 0 for false.
     Number(i64),
@@ -68,17 +68,17 @@ pub enum Node {
 
 /// What a query returns: a value on a domain, which has no axis where the item is a scalar. For each field in order
 /// `booleans` tells whether it is Boolean (else it is an integer); the node gives all of them.
-#[derive(Debug, Drop)]
+#[derive(Drop)]
 pub struct TypedItem {
     pub domain: Domain,
     pub booleans: Vec<bool>,
-    pub node: Node,
+    pub node: Box<Node>,
 }
 
 /// A query over its variables, each of which stands for a coverage with a given domain and given fields. The condition is
 /// the query's `where`, a scalar.
-#[derive(Debug, Drop)]
+#[derive(Drop)]
 pub struct Tree {
-    pub condition: Option<Node>,
+    pub condition: Option<Box<Node>>,
     pub item: TypedItem,
 }

@@ -21,37 +21,31 @@ fn field(alloc: Global, name: &str) -> Result<Field> {
     })
 }
 
-/// A coverage with the axes x, which ends at a coordinate, and y.
-fn coverage(alloc: Global, name: &str, last: i32, fields: Vec<Field>) -> Result<Signature> {
-    let name = Name::new(alloc, name)?;
+/// The axes x, which ends at a coordinate, and y.
+fn axes(alloc: Global, last: i32) -> Result<Vec<Axis>> {
     let mut axes = Vec::new(alloc);
     axes.push(axis(alloc, "x", last)?)?;
     axes.push(axis(alloc, "y", 9)?)?;
-    let domain = Domain::new(axes)?;
-    Ok(Signature {
-        name,
-        domain,
-        fields: Fields::new(fields),
-    })
+    Ok(axes)
 }
 
 /// The last 63 bytes of the names of long axes.
 const TAIL: &str = "aaaaaaaaaaaaaaaaaaaaaaaaaaaaaaaaaaaaaaaaaaaaaaaaaaaaaaaaaaaaaaa";
 
-/// A coverage with four axes with long names, of which the first ends at a coordinate.
-fn long_coverage(alloc: Global, name: &str, last: i32, fields: Vec<Field>) -> Result<Signature> {
-    let name = Name::new(alloc, name)?;
+/// Adds an axis whose name is long.
+fn add_long(alloc: Global, axes: &mut Vec<Axis>, first: &str, hi: i32) -> Result<()> {
+    let name = format!(in alloc; "{first}{TAIL}")?;
+    axes.push(axis(alloc, name.as_str(), hi)?)?;
+    Ok(())
+}
+
+/// Four axes with long names, of which the first ends at a coordinate.
+fn long_axes(alloc: Global, last: i32) -> Result<Vec<Axis>> {
     let mut axes = Vec::new(alloc);
     for (first, hi) in [("x", last), ("y", 9), ("z", 1), ("t", 1)] {
-        let axis_name = format!(in alloc; "{first}{TAIL}")?;
-        axes.push(axis(alloc, axis_name.as_str(), hi)?)?;
+        add_long(alloc, &mut axes, first, hi)?;
     }
-    let domain = Domain::new(axes)?;
-    Ok(Signature {
-        name,
-        domain,
-        fields: Fields::new(fields),
-    })
+    Ok(axes)
 }
 
 /// The field v alone.
@@ -71,18 +65,69 @@ fn many_fields(alloc: Global) -> Result<Vec<Field>> {
     Ok(fields)
 }
 
+/// A coverage.
+fn coverage(alloc: Global, name: &str, axes: Vec<Axis>, fields: Vec<Field>) -> Result<Signature> {
+    let name = Name::new(alloc, name)?;
+    let domain = Domain::new(axes)?;
+    Ok(Signature {
+        name,
+        domain,
+        fields: Fields::new(fields),
+    })
+}
+
+/// Adds a coverage whose name is a letter and a number.
+fn add(
+    alloc: Global,
+    list: &mut Vec<Signature>,
+    (letter, number): (char, u8),
+    axes: Vec<Axis>,
+    fields: Vec<Field>,
+) -> Result<()> {
+    let name = format!(in alloc; "{letter}{number}")?;
+    list.push(coverage(alloc, name.as_str(), axes, fields)?)?;
+    Ok(())
+}
+
+/// Adds the three coverages of a number.
+fn add_numbered(alloc: Global, list: &mut Vec<Signature>, number: u8) -> Result<()> {
+    let last = 100 + i32::from(number);
+    add(
+        alloc,
+        list,
+        ('u', number),
+        axes(alloc, last)?,
+        one_field(alloc)?,
+    )?;
+    add(
+        alloc,
+        list,
+        ('w', number),
+        axes(alloc, last)?,
+        many_fields(alloc)?,
+    )?;
+    add(
+        alloc,
+        list,
+        ('l', number),
+        long_axes(alloc, last)?,
+        one_field(alloc)?,
+    )
+}
+
+/// Adds all of them.
+fn add_all(alloc: Global, list: &mut Vec<Signature>) -> Result<()> {
+    for number in 0u8..64 {
+        add_numbered(alloc, list, number)?;
+    }
+    list.push(coverage(alloc, "wide", axes(alloc, 99)?, many_fields(alloc)?)?)?;
+    list.push(coverage(alloc, "lai", axes(alloc, 99)?, one_field(alloc)?)?)?;
+    Ok(())
+}
+
 /// All of them.
 pub fn coverages(alloc: Global) -> Result<Vec<Signature>> {
     let mut list = Vec::new(alloc);
-    for number in 0..64 {
-        let name = format!(in alloc; "u{number}")?;
-        list.push(coverage(alloc, name.as_str(), 100 + number, one_field(alloc)?)?)?;
-        let name = format!(in alloc; "w{number}")?;
-        list.push(coverage(alloc, name.as_str(), 100 + number, many_fields(alloc)?)?)?;
-        let name = format!(in alloc; "l{number}")?;
-        list.push(long_coverage(alloc, name.as_str(), 100 + number, one_field(alloc)?)?)?;
-    }
-    list.push(coverage(alloc, "wide", 99, many_fields(alloc)?)?)?;
-    list.push(coverage(alloc, "lai", 99, one_field(alloc)?)?)?;
+    add_all(alloc, &mut list)?;
     Ok(list)
 }

@@ -32,7 +32,7 @@ loop-i-preserved g c =
       };
       failures = read.told.quiet (λ e. cc) ∙ so_far.failures;
       fresh = rw keep.marked (fresh_kept _ _ keep.above_zero keep.inside so_far.fresh);
-      len = rw keep.marked (omega (arith, so_far.len, length-set c.loop-i.marks c.loop-i.k 255));
+      len = rw keep.marked (omega (arith, so_far.len, length-set c.loop-i.marks c.loop-i.k 4294967295));
       size = omega (arith, c.in_ok-k.ensures.size, c.div_ceil-i-end.ensures);
       followed = λ honest.
           let held = held_block _ _ c.loop-i.k (omega arith) (rw so_far.same.same_content at (read.read (rw so_far.same.same_honest honest))) in

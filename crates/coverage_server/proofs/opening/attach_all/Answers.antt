@@ -9,7 +9,7 @@ use Rattle.coverage_server.proofs.OpeningLemmas.{IsAttached, items_split, place_
 use Rattle.coverage_server.proofs.opening.attach_all.Goals as goal
 
 pub loop-fields-init : goal.loop-fields-init
-loop-fields-init g c = (record { values = c.requires.coverages; listed = c.requires.indexes; count = refl; tiles = tt }, refl, sym c.into_iter-fields-iterator.ensures.into_iter_gives.0)
+loop-fields-init g c = (record { values = c.requires.coverages; listed = c.requires.indexes; count = refl; tiles = tt }, refl, sym c.into_iter-fields-iterator.ensures.into_iter_gives.0, c.requires.unheld)
 
 pub index-requires : goal.index-requires
 index-requires g c =
@@ -29,6 +29,9 @@ attach-requires-clause-fields g c =
     let split = items_split _ _ _ _ _ c.loop-fields.invariant.2 (c.in-Some.ensures.steps.0) in
     next_fields _ _ _ _ _ _ _ _ _ _ c.loop-fields.invariant.0 c.requires.counted split (rw c.in_ok-signatures.ensures at c.index.ensures)
 
+pub attach-requires-clause-unheld : goal.attach-requires-clause-unheld
+attach-requires-clause-unheld g c = c.loop-fields.invariant.3
+
 pub attach-requires-clause-blocks : goal.attach-requires-clause-blocks
 attach-requires-clause-blocks g c =
     let split = items_split _ _ _ _ _ c.loop-fields.invariant.2 (c.in-Some.ensures.steps.0) in
@@ -45,6 +48,7 @@ loop-fields-preserved g c =
           (sym (items_push c.loop-fields.yielded c.in-Some.fields)) attached,
       c.attach.ensures.blocks ∙ c.loop-fields.invariant.1,
       c.loop-fields.invariant.2 ∙ ap (λ (r : List (Vec TileIndex Global)). c.loop-fields.yielded ++ r) (c.in-Some.ensures.steps.0) ∙ sym (append_assoc c.loop-fields.yielded (c.in-Some.fields ∷ []) c.next.new.self.rest.items),
+      c.attach.ensures.snapshots ∙ c.loop-fields.invariant.3,
     )
 
 pub returns-in-Err-clause-refused : goal.returns-in-Err-clause-refused

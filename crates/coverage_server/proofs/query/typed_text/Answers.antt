@@ -17,7 +17,7 @@ returns-then-text-gt-MAX_QUERY g c = let long : 65536 < length c.args.text.now =
 pub returns-in_err-tokens : goal.returns-in_err-tokens
 returns-in_err-tokens g c =
     let short : length c.args.text.now ≤ 65536 = omega arith in
-    let p = err_from_is_err_and c.from_residual.result c.from_residual.ensures.1 in
+    let p = err_from_is_err_and c.from_residual-in_err-tokens.result c.from_residual-in_err-tokens.ensures.1 in
     rw (p.1, p.2) (text_tokens c.args.coverages.now.store c.args.text.now c.in_err-tokens.field-0.0 short c.in_err-tokens.ensures)
 
 pub returns-in_err-query : goal.returns-in_err-query

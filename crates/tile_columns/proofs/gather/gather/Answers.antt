@@ -14,7 +14,7 @@ pub returns-in_err-fetch_at-clause-reports : goal.returns-in_err-fetch_at-clause
 returns-in_err-fetch_at-clause-reports g c =
     let inv = c.loop-place.invariant in
     let p = err_from_is_err_and c.from_residual-in_err-fetch_at.result c.from_residual-in_err-fetch_at.ensures.1 in
-    rw (p.1, p.2) (tells-from _ _ _ _ inv.intact inv.failures c.in_err-fetch_at.ensures.reports)
+    rw (p.1, p.2) (tells-from _ _ _ _ (subst g.S.Tiles.spelled (sym inv.same.kept)) inv.failures c.in_err-fetch_at.ensures.reports)
 
 pub loop-place-preserved : goal.loop-place-preserved
 loop-place-preserved g c =

@@ -18,7 +18,7 @@ use Rattle.tile_exec.proofs.pass.pass_tile.Goals as goal
 pub returns-in-None-clause-count : goal.returns-in-None-clause-count
 returns-in-None-clause-count g c =
     let is = get_or_from_slice_get (tile_boxes c.args.pass.now.domain) c.args.tile c.in_ok-part.part [] c.in_ok-part.ensures.value in
-    omega (arith, c.fold_column.ensures.count, c.in_ok-column_over-in-None.ensures.places, ap (λ b. length (points b)) is)
+    omega (arith, c.in_ok-told-in-None.ensures.count, c.in_ok-column_over-in-None.ensures.places, ap (λ b. length (points b)) is)
 
 pub returns-in-None-clause-stands : goal.returns-in-None-clause-stands
 returns-in-None-clause-stands g c = λ intact.
@@ -27,10 +27,9 @@ returns-in-None-clause-stands g c = λ intact.
     let regs = c.args.ground.now.registers.now in
     let part = c.in_ok-part.part in
     let is = get_or_from_slice_get (tile_boxes c.args.pass.now.domain) c.args.tile part [] c.in_ok-part.ensures.value in
-    let places = c.deref.ensures.value ∙ c.in_ok-ranks.ensures in
-    subst (Stands c.fold_column.result)
-    (ap (λ l. told_at l c.column_over.new.out) places ∙ ap (told_at (map (rank_of p.domain) (points part))) (c.in_ok-column_over-in-None.ensures.value intact) ∙ told_always s regs p (points part) (ap condition_view c.in-None.is) ∙ ap (λ b. flat_map (told_to_pass s regs p) (points b)) (sym is))
-    c.fold_column.ensures.stands
+    subst (Stands c.in_ok-told-in-None.told)
+    (ap (told_at (map (rank_of p.domain) (points part))) (c.in_ok-column_over-in-None.ensures.value intact) ∙ told_always s regs p (points part) (ap condition_view c.in-None.is) ∙ ap (λ b. flat_map (told_to_pass s regs p) (points b)) (sym is))
+    c.in_ok-told-in-None.ensures.stands
 
 pub returns-in-None-clause-fetched : goal.returns-in-None-clause-fetched
 returns-in-None-clause-fetched g c =
@@ -42,7 +41,7 @@ returns-in-None-clause-fetched g c =
 pub returns-clause-count : goal.returns-clause-count
 returns-clause-count g c =
     let is = get_or_from_slice_get (tile_boxes c.args.pass.now.domain) c.args.tile c.in_ok-part.part [] c.in_ok-part.ensures.value in
-    omega (arith, c.fold_column_where.ensures.count, c.in_ok-column_over-in-Some-2.ensures.places, ap (λ b. length (points b)) is)
+    omega (arith, c.in_ok-told-in-Some.ensures.count, c.in_ok-column_over-in-Some-2.ensures.places, ap (λ b. length (points b)) is)
 
 pub returns-clause-stands : goal.returns-clause-stands
 returns-clause-stands g c = λ intact.
@@ -52,14 +51,13 @@ returns-clause-stands g c = λ intact.
     let regs = c.args.ground.now.registers.now in
     let part = c.in_ok-part.part in
     let is = get_or_from_slice_get (tile_boxes c.args.pass.now.domain) c.args.tile part [] c.in_ok-part.ensures.value in
-    let places = c.deref-in-Some.ensures.value ∙ c.in_ok-ranks.ensures in
     let first = c.in_ok-column_over-in-Some.ensures in
     let tree : condition_view c.args.pass.now.condition ≡ body_view c.in-Some.condition = ap condition_view c.in-Some.is in
     let chosen = first.value intact ∙ ap (λ t. map (run s regs t) (points part)) (sym tree) in
     let column = c.in_ok-column_over-in-Some-2.ensures.value (first.intact intact) ∙ ap (λ f. map (run (cells_of f cov) regs p.body) (points part)) first.same.cells in
-    subst (Stands c.fold_column_where.result)
-    (ap (λ l. demanded_at l c.column_over-in-Some.new.out c.column_over-in-Some-2.new.out) places ∙ ap (λ l. demanded_at (map (rank_of p.domain) (points part)) l c.column_over-in-Some-2.new.out) chosen ∙ ap (demanded_at (map (rank_of p.domain) (points part)) (map (run s regs p.condition) (points part))) column ∙ told_where s regs p (points part) ∙ ap (λ b. flat_map (told_to_pass s regs p) (points b)) (sym is))
-    c.fold_column_where.ensures.stands
+    subst (Stands c.in_ok-told-in-Some.told)
+    (ap (λ l. demanded_at (map (rank_of p.domain) (points part)) l c.column_over-in-Some-2.new.out) chosen ∙ ap (demanded_at (map (rank_of p.domain) (points part)) (map (run s regs p.condition) (points part))) column ∙ told_where s regs p (points part) ∙ ap (λ b. flat_map (told_to_pass s regs p) (points b)) (sym is))
+    c.in_ok-told-in-Some.ensures.stands
 
 pub returns-clause-fetched : goal.returns-clause-fetched
 returns-clause-fetched g c =

@@ -64,5 +64,5 @@ returns-clause-value g c h =
     let box = points c.args.item.now.domain in
     let cells : item_cells s item ≡ Ok c.new.result = sym (turns-all (cells_at s item.fields) box c.loop-place.place (omega (arith, c.points-place-end.ensures.value))) ∙ inv.pushed h ∙ ap Ok (sym c.new.ensures) in
     let line : c.run_length.result ≡ line_of c.args.item.now.domain = search rules in
-    let fields = c.count_fields-fields.ensures.value ∙ ap field_count (sym (fields_over c.args.coverages.now c.args.item.now.node 0 c.args.item.now.booleans.items)) in
+    let fields = c.count_fields-fields.ensures.value ∙ ap field_count (sym (fields_over c.args.coverages.now c.args.item.now.node.value 0 c.args.item.now.booleans.items)) in
     item-ok s item c.run_length.result c.count_fields-fields.result c.new.result cells line fields

@@ -23,14 +23,15 @@ returns-in-Fault-clause-fault g c intact =
     let bs = c.args.item.now.booleans.items in
     let cs = c.args.coverages.now in
     let k = c.loop-field.field in
-    let x : FieldTree = record { boolean = get_or bs k false; tree = renamed cs (field_tree c.args.item.now.node k) } in
-    let all = map (renamed_field cs) (fields_view c.args.item.now.node 0 bs) in
+    let x : FieldTree = record { boolean = get_or bs k false; tree = renamed cs (field_tree c.args.item.now.node.value k) } in
+    let all = map (renamed_field cs) (fields_view c.args.item.now.node.value 0 bs) in
     let lt : k < length bs = omega arith in
-    let within : k < length all = omega (arith, lt, fields_over cs c.args.item.now.node 0 bs) in
-    let is = field_at cs c.args.item.now.node bs k (get_or bs k false) false x lt refl in
+    let within : k < length all = omega (arith, lt, fields_over cs c.args.item.now.node.value 0 bs) in
+    let is = field_at cs c.args.item.now.node.value bs k (get_or bs k false) false x lt refl in
     let f : FieldTree → Result (List Cell) PointFault = λ t. given (λ z. cell_of t.boolean z ∷ []) (val s t.tree [] p) in
     let o = c.in_ok-o.ensures.value (inv.intact intact)
-    ∙ ap (λ s. val s x.tree c.loop-field.env.items c.loop-field.points.items) inv.same
+    ∙ ap (λ s. val s (renamed cs (field_tree c.deref.result.now k)) c.loop-field.env.items c.loop-field.points.items) inv.same
+    ∙ ap (λ b. val s (renamed cs (field_tree b k)) c.loop-field.env.items c.loop-field.points.items) c.deref.ensures
     ∙ ap (λ e. val s x.tree e c.loop-field.points.items) inv.scope
     ∙ ap (λ q. val s x.tree [] q) inv.place in
     let w = pushed-ok _ _ _ (inv.pushed intact) in
@@ -44,14 +45,15 @@ loop-field-preserved g c =
     let bs = c.args.item.now.booleans.items in
     let cs = c.args.coverages.now in
     let k = c.loop-field.field in
-    let x : FieldTree = record { boolean = get_or bs k false; tree = renamed cs (field_tree c.args.item.now.node k) } in
-    let all = map (renamed_field cs) (fields_view c.args.item.now.node 0 bs) in
+    let x : FieldTree = record { boolean = get_or bs k false; tree = renamed cs (field_tree c.args.item.now.node.value k) } in
+    let all = map (renamed_field cs) (fields_view c.args.item.now.node.value 0 bs) in
     let lt : k < length bs = omega arith in
-    let within : k < length all = omega (arith, lt, fields_over cs c.args.item.now.node 0 bs) in
-    let is = field_at cs c.args.item.now.node bs k (get_or bs k false) false x lt refl in
+    let within : k < length all = omega (arith, lt, fields_over cs c.args.item.now.node.value 0 bs) in
+    let is = field_at cs c.args.item.now.node.value bs k (get_or bs k false) false x lt refl in
     let f : FieldTree → Result (List Cell) PointFault = λ t. given (λ z. cell_of t.boolean z ∷ []) (val s t.tree [] p) in
     let o = λ (h : g.C.Cells.intact c.args.cells.now). c.in_ok-o.ensures.value (inv.intact h)
-    ∙ ap (λ s. val s x.tree c.loop-field.env.items c.loop-field.points.items) inv.same
+    ∙ ap (λ s. val s (renamed cs (field_tree c.deref.result.now k)) c.loop-field.env.items c.loop-field.points.items) inv.same
+    ∙ ap (λ b. val s (renamed cs (field_tree b k)) c.loop-field.env.items c.loop-field.points.items) c.deref.ensures
     ∙ ap (λ e. val s x.tree e c.loop-field.points.items) inv.scope
     ∙ ap (λ q. val s x.tree [] q) inv.place in
     let fits : SFits w64 c.in-Value.x = search rules in
@@ -76,10 +78,10 @@ returns-clause-value g c intact =
     let p = c.args.points.now.items in
     let bs = c.args.item.now.booleans.items in
     let cs = c.args.coverages.now in
-    let all = map (renamed_field cs) (fields_view c.args.item.now.node 0 bs) in
+    let all = map (renamed_field cs) (fields_view c.args.item.now.node.value 0 bs) in
     let f : FieldTree → Result (List Cell) PointFault = λ t. given (λ z. cell_of t.boolean z ∷ []) (val s t.tree [] p) in
     let le : length bs ≤ c.loop-field.field = omega arith in
-    let past : length all ≤ c.loop-field.field = omega (arith, le, fields_over cs c.args.item.now.node 0 bs) in
+    let past : length all ≤ c.loop-field.field = omega (arith, le, fields_over cs c.args.item.now.node.value 0 bs) in
     subst (λ r. PushesCells r c.args.list.now.items c.loop-field.list.items) (turns-all f all c.loop-field.field past) (inv.pushed intact)
 
 pub returns-in_err-o-clause-reports : goal.returns-in_err-o-clause-reports

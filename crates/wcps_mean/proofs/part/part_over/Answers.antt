@@ -18,8 +18,8 @@ returns-then-f-fields-clause-value g c =
     let v = renamed_combination cs (tree_view c.args.tree.now) in
     let f = c.in-Field.f in
     let lt : f < length i.booleans.items = omega (arith, c.len-fields.ensures, i.booleans.ok) in
-    let shown : of_combination s p c.args.part v ≡ Some (val s (renamed cs (field_tree i.node f)) [] p) =
-    ap (λ (q : Part). of_combination s p q v) c.in-Field.is ∙ ap (option_map (λ t. val s t [] p)) (item_field cs i.node i.booleans.items f lt) in
+    let shown : of_combination s p c.args.part v ≡ Some (val s (renamed cs (field_tree i.node.value f)) [] p) =
+    ap (λ (q : Part). of_combination s p q v) c.in-Field.is ∙ ap (option_map (λ t. val s t [] p)) (item_field cs i.node.value i.booleans.items f lt) in
     rw shown (search rules)
 
 pub returns-then-f-fields-2-clause-value : goal.returns-then-f-fields-2-clause-value
@@ -31,8 +31,8 @@ returns-then-f-fields-2-clause-value g c =
     let v = renamed_combination cs (tree_view c.args.tree.now) in
     let f = c.in-CondenserCondition.f in
     let lt : f < length i.booleans.items = omega (arith, c.len-fields.ensures, i.booleans.ok) in
-    let shown : of_combination s p c.args.part v ≡ condition_value s p (renamed cs (field_tree i.node f)) =
-    ap (λ (q : Part). of_combination s p q v) c.in-CondenserCondition.is ∙ ap (option_and_then (condition_value s p)) (item_field cs i.node i.booleans.items f lt) in
+    let shown : of_combination s p c.args.part v ≡ condition_value s p (renamed cs (field_tree i.node.value f)) =
+    ap (λ (q : Part). of_combination s p q v) c.in-CondenserCondition.is ∙ ap (option_and_then (condition_value s p)) (item_field cs i.node.value i.booleans.items f lt) in
     rw shown (search rules)
 
 pub returns-then-f-fields-3-clause-value : goal.returns-then-f-fields-3-clause-value
@@ -44,8 +44,8 @@ returns-then-f-fields-3-clause-value g c =
     let v = renamed_combination cs (tree_view c.args.tree.now) in
     let f = c.in-CondenserValue.f in
     let lt : f < length i.booleans.items = omega (arith, c.len-fields.ensures, i.booleans.ok) in
-    let shown : of_combination s p c.args.part v ≡ body_value s p (renamed cs (field_tree i.node f)) =
-    ap (λ (q : Part). of_combination s p q v) c.in-CondenserValue.is ∙ ap (option_and_then (body_value s p)) (item_field cs i.node i.booleans.items f lt) in
+    let shown : of_combination s p c.args.part v ≡ body_value s p (renamed cs (field_tree i.node.value f)) =
+    ap (λ (q : Part). of_combination s p q v) c.in-CondenserValue.is ∙ ap (option_and_then (body_value s p)) (item_field cs i.node.value i.booleans.items f lt) in
     rw shown (search rules)
 
 pub returns-else-f-fields-clause-value : goal.returns-else-f-fields-clause-value
@@ -58,7 +58,7 @@ returns-else-f-fields-clause-value g c =
     let f = c.in-Field.f in
     let le : length i.booleans.items ≤ f = omega (arith, c.len-fields.ensures, i.booleans.ok) in
     let shown : of_combination s p c.args.part v ≡ None =
-    ap (λ (q : Part). of_combination s p q v) c.in-Field.is ∙ ap (option_map (λ t. val s t [] p)) (no_item_field cs i.node i.booleans.items f le) in
+    ap (λ (q : Part). of_combination s p q v) c.in-Field.is ∙ ap (option_map (λ t. val s t [] p)) (no_item_field cs i.node.value i.booleans.items f le) in
     rw shown (λ h. refl)
 
 pub returns-else-f-fields-2-clause-value : goal.returns-else-f-fields-2-clause-value
@@ -71,7 +71,7 @@ returns-else-f-fields-2-clause-value g c =
     let f = c.in-CondenserCondition.f in
     let le : length i.booleans.items ≤ f = omega (arith, c.len-fields.ensures, i.booleans.ok) in
     let shown : of_combination s p c.args.part v ≡ None =
-    ap (λ (q : Part). of_combination s p q v) c.in-CondenserCondition.is ∙ ap (option_and_then (condition_value s p)) (no_item_field cs i.node i.booleans.items f le) in
+    ap (λ (q : Part). of_combination s p q v) c.in-CondenserCondition.is ∙ ap (option_and_then (condition_value s p)) (no_item_field cs i.node.value i.booleans.items f le) in
     rw shown (λ h. refl)
 
 pub returns-else-f-fields-3-clause-value : goal.returns-else-f-fields-3-clause-value
@@ -84,5 +84,5 @@ returns-else-f-fields-3-clause-value g c =
     let f = c.in-CondenserValue.f in
     let le : length i.booleans.items ≤ f = omega (arith, c.len-fields.ensures, i.booleans.ok) in
     let shown : of_combination s p c.args.part v ≡ None =
-    ap (λ (q : Part). of_combination s p q v) c.in-CondenserValue.is ∙ ap (option_and_then (body_value s p)) (no_item_field cs i.node i.booleans.items f le) in
+    ap (λ (q : Part). of_combination s p q v) c.in-CondenserValue.is ∙ ap (option_and_then (body_value s p)) (no_item_field cs i.node.value i.booleans.items f le) in
     rw shown (λ h. refl)

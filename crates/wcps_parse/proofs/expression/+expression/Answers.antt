@@ -5,7 +5,7 @@ use Rattle.wcps_text.specs.declared.token.Symbol.TheVariants as signs
 use Rattle.wcps_text.specs.declared.operator.UnaryOperator.TheVariants as unaries
 use Rattle.wcps_text.specs.declared.operator.BinaryOperator.TheVariants as binaries
 use Rattle.wcps_text.specs.Tree as tree
-use Rattle.wcps_text.specs.Tree.{Tree, view, view_interval}
+use Rattle.wcps_text.specs.Tree.{Tree, view_interval}
 use Rattle.wcps_text.specs.Token.{toks}
 use Rattle.wcps_parse.specs.Comes.{Comes}
 use Rattle.wcps_parse.specs.Prefixes.{wrapped}
@@ -83,7 +83,7 @@ pub record-returns-clause-exact : goal.record-returns-clause-exact
 unfolding fields
 record-returns-clause-exact t c = record {
   whole = tree.parts (parts_from c.in_ok-list.ensures.exact.whole);
-  fit = c.record.ensures c.in_ok-list.ensures.exact.whole c.in_ok-list.ensures.exact.fit;
+  fit = c.in_ok-record.ensures c.in_ok-list.ensures.exact.whole c.in_ok-list.ensures.exact.fit;
   comes = comes_then _ c.in_ok-list.ensures.exact.comes (rw c.in-Some.ensures.value (comes_now _));
 }
 
@@ -271,7 +271,7 @@ pub coverage-returns-clause-exact : goal.coverage-returns-clause-exact
 unfolding coverage
 coverage-returns-clause-exact t c = record {
   whole = tree.value_list (iters_from c.in_ok-iterators.ensures.exact.whole) c.in_ok-items.items.items;
-  fit = c.value_list.ensures c.in_ok-iterators.ensures.exact.whole c.in_ok-iterators.ensures.exact.fit;
+  fit = c.in_ok-value_list.ensures c.in_ok-iterators.ensures.exact.whole c.in_ok-iterators.ensures.exact.fit;
   comes = rw (c.in-Some.ensures.value, c.in-Some-word_at.ensures.value) (comes_then _ c.in_ok-iterators.ensures.exact.comes (rw c.in_default-word_at-2.ensures.value (comes_then _ c.in_ok-items.ensures.exact (comes_now _))));
 }
 
@@ -289,7 +289,7 @@ pub condition-returns-clause-exact : goal.condition-returns-clause-exact
 unfolding condition
 condition-returns-clause-exact t c = record {
   whole = tree.only c.in_ok-test.ensures.exact.whole;
-  fit = c.in_ok-condition.ensures c.in_ok-test.ensures.exact.whole c.in_ok-test.ensures.exact.fit;
+  fit = c.condition.ensures c.in_ok-test.ensures.exact.whole c.in_ok-test.ensures.exact.fit;
   comes = rw c.in-Some.ensures.value (comes_then _ c.in_ok-test.ensures.exact.comes (comes_now _));
 }
 
@@ -321,7 +321,7 @@ pub place-returns-clause-exact : goal.place-returns-clause-exact
 unfolding place
 place-returns-clause-exact t c = record {
   whole = tree.at c.in_ok-position.ensures.exact.whole;
-  fit = c.in_ok-at.ensures c.in_ok-position.ensures.exact.whole c.in_ok-position.ensures.exact.fit;
+  fit = c.at.ensures c.in_ok-position.ensures.exact.whole c.in_ok-position.ensures.exact.fit;
   comes = rw (c.in_default.ensures.value, c.in_default-word_at.ensures.value) (comes_then _ c.in_ok-position.ensures.exact.comes (comes_now _));
 }
 
@@ -531,17 +531,17 @@ postfix-returns-in_ok-brackets-in-Brackets-clause-exact t c =
 pub prim-returns-in_default-clause-exact : goal.prim-returns-in_default-clause-exact
 prim-returns-in_default-clause-exact t c = prim_none _ c.in_default.ensures.value
 
-pub prim-returns-in-Number-clause-exact : goal.prim-returns-in-Number-clause-exact
+pub prim-returns-in_ok-leaf-in-Number-clause-exact : goal.prim-returns-in_ok-leaf-in-Number-clause-exact
 unfolding begun
-prim-returns-in-Number-clause-exact t c = record { whole = tree.number c.in-Number.literal.value; fit = (refl, refl, omega arith); comes = prim_by _ _ _ (with_number c.in-Number.literal.value) _ c.in-Some.ensures.value (ap begin_of c.in-Number.is) (comes_now _) }
+prim-returns-in_ok-leaf-in-Number-clause-exact t c = record { whole = tree.number c.in-Number.literal.value; fit = c.in_ok-leaf-in-Number.ensures (tree.number c.in-Number.literal.value) refl refl; comes = prim_by _ _ _ (with_number c.in-Number.literal.value) _ c.in-Some.ensures.value (ap begin_of c.in-Number.is) (comes_now _) }
 
-pub prim-returns-in-Truth-clause-exact : goal.prim-returns-in-Truth-clause-exact
+pub prim-returns-in_ok-leaf-in-Truth-clause-exact : goal.prim-returns-in_ok-leaf-in-Truth-clause-exact
 unfolding begun
-prim-returns-in-Truth-clause-exact t c = record { whole = tree.truth c.in-Truth.truth; fit = (refl, refl, omega arith); comes = prim_by _ _ _ (with_truth c.in-Truth.truth) _ c.in-Some.ensures.value (ap begin_of c.in-Truth.is) (comes_now _) }
+prim-returns-in_ok-leaf-in-Truth-clause-exact t c = record { whole = tree.truth c.in-Truth.truth; fit = c.in_ok-leaf-in-Truth.ensures (tree.truth c.in-Truth.truth) refl refl; comes = prim_by _ _ _ (with_truth c.in-Truth.truth) _ c.in-Some.ensures.value (ap begin_of c.in-Truth.is) (comes_now _) }
 
-pub prim-returns-in_ok-name-in-Variable-clause-exact : goal.prim-returns-in_ok-name-in-Variable-clause-exact
+pub prim-returns-in_ok-leaf-in-Variable-clause-exact : goal.prim-returns-in_ok-leaf-in-Variable-clause-exact
 unfolding begun
-prim-returns-in_ok-name-in-Variable-clause-exact t c = record { whole = tree.variable c.in-Variable.name.now; fit = (ap tree.variable c.in_ok-name-in-Variable.ensures, refl, omega arith); comes = prim_by _ _ _ (with_variable c.in-Variable.name.now) _ c.in-Some.ensures.value (ap begin_of c.in-Variable.is) (comes_now _) }
+prim-returns-in_ok-leaf-in-Variable-clause-exact t c = record { whole = tree.variable c.in-Variable.name.now; fit = c.in_ok-leaf-in-Variable.ensures (tree.variable c.in-Variable.name.now) (ap tree.variable c.in_ok-name-in-Variable.ensures) refl; comes = prim_by _ _ _ (with_variable c.in-Variable.name.now) _ c.in-Some.ensures.value (ap begin_of c.in-Variable.is) (comes_now _) }
 
 pub prim-returns-in-Paren-clause-exact : goal.prim-returns-in-Paren-clause-exact
 unfolding begun

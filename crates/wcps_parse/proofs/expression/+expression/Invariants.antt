@@ -1,11 +1,10 @@
 use Rattle.std.proofs.Common.{◌<◌, length, ◌+◌, ◌*◌}
 use Rattle.wcps_text.specs.declared.token.Symbol.TheVariants as signs
 use Rattle.wcps_text.specs.Token.{toks}
-use Rattle.wcps_text.specs.Tree.{view}
 use Rattle.wcps_text.specs.Limits.{height}
 use Rattle.wcps_parse.specs.Reading.{level, climb, post, behind, more, parts, part_at, subs, sub_at, iters, iter_at}
 use Rattle.wcps_parse.specs.Fit.{highest}
-use Rattle.wcps_parse.specs.Views.{parts_view, subs_view, iters_view, part_height, sub_height, iter_height}
+use Rattle.wcps_parse.specs.Views.{boxed_view, parts_view, subs_view, iters_view, part_height, sub_height, iter_height}
 use Rattle.wcps_parse.proofs.Loops.{Going}
 use Rattle.wcps_parse.proofs.expression.+expression.Given as goal
 
@@ -74,7 +73,7 @@ decreases-condense l = 300 * length l.tokens.now + 0
 
 abbrev pub invariant-level-loop-op : goal.invariant-level-loop-op
 invariant-level-loop-op l = record {
-  going : Going view height l.left (λ e n m. climb m (level n) l.rank e (toks l.rest)) (λ n m. level n l.rank (toks l.tokens));
+  going : Going boxed_view height l.left (λ e n m. climb m (level n) l.rank e (toks l.rest)) (λ n m. level n l.rank (toks l.tokens));
   shorter : length l.rest < length l.tokens;
 }
 
@@ -83,7 +82,7 @@ decreases-level-loop-op l = length l.rest
 
 abbrev pub invariant-post-loop-kind : goal.invariant-post-loop-kind
 invariant-post-loop-kind l = record {
-  going : Going view height l.whole (λ e n m. behind m (level n) e (toks l.rest)) (λ n m. post m (level n) (toks l.tokens));
+  going : Going boxed_view height l.whole (λ e n m. behind m (level n) e (toks l.rest)) (λ n m. post m (level n) (toks l.tokens));
   shorter : length l.rest < length l.tokens;
 }
 

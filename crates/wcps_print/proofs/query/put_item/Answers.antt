@@ -4,7 +4,7 @@ use Rattle.wcps_print.proofs.Views.{plain_of, encode_of}
 use Rattle.wcps_print.proofs.query.put_item.Goals as goal
 
 pub returns-in-Plain : goal.returns-in-Plain
-returns-in-Plain c = last_puts c.put_expr.result _ _ _ _ _ c.put_expr.ensures (λ rest. same_text _ (plain_of c.args.item.now c.in-Plain.value c.in-Plain.is rest))
+returns-in-Plain c = last_puts c.put_expr.result _ _ _ _ _ c.put_expr.ensures (λ rest. same_text _ (plain_of c.args.item.now _ c.in-Plain.value c.in-Plain.is c.deref.ensures rest))
 
 pub returns-in-Encode : goal.returns-in-Encode
-returns-in-Encode c = last_puts c.put_encoded.result _ _ _ _ _ c.put_encoded.ensures (λ rest. same_text _ (encode_of c.args.item.now c.in-Encode.value c.in-Encode.is rest))
+returns-in-Encode c = last_puts c.put_encoded.result _ _ _ _ _ c.put_encoded.ensures (λ rest. same_text _ (encode_of c.args.item.now _ c.in-Encode.value c.in-Encode.is c.deref-in-Encode.ensures rest))

@@ -6,6 +6,9 @@ use Rattle.arr_core.specs.Domains.{points}
 use Rattle.arr_core.specs.Stores.{Coverage, found, value_at}
 use Rattle.arr_core.specs.Tiles.{tile_boxes}
 use Rattle.tile_store.specs.Stored.{tile_box}
+use Rattle.block_file.specs.View.{state_of}
+use Rattle.std.proofs.lemmas.Result.{err_from_is_err_and}
+use Rattle.coverage_server.proofs.DamageLemmas.{intact_named}
 use Rattle.coverage_server.proofs.FreeLemmas.{fetches_ready}
 use Rattle.coverage_server.proofs.TileLemmas.{some_map, some_both, some_out}
 use Rattle.coverage_server.proofs.coverages.Coverages.fetch_tile.Goals as goal
@@ -49,3 +52,13 @@ invariant_of-self g c = fetches_ready c.self.inside.catalogue c.self.inside.cell
 
 pub invariant_of-self-2 : goal.invariant_of-self-2
 invariant_of-self-2 g c = fetches_ready c.self.inside.catalogue c.self.inside.cells c.fetch_tile.new.self c.self.invariant c.fetch_tile.ensures.frame
+
+pub returns-in_err-fetch_tile-clause-why : goal.returns-in_err-fetch_tile-clause-why
+returns-in_err-fetch_tile-clause-why g c =
+    let p = err_from_is_err_and c.from_residual.result c.from_residual.ensures.1 in
+    let why = c.in_err-fetch_tile.ensures.why in
+    let cells = c.self.inside.cells in
+    rw (p.1, p.2, ← c.self.view_is) (record {
+      for_damage = λ err sound held. why.for_damage err sound.honest (intact_named (state_of cells.blocks).content cells.coverages cells.indexes c.args.asked.now.name c.args.field c.args.tile sound.intact);
+      for_room = why.for_room;
+    })

@@ -1,15 +1,9 @@
--- A tile is added, or nothing is.
-use Rattle.std.proofs.Common.{◌≡◌, ◌∙◌, sym, ap, inl}
-use Rattle.raster_store.specs.Decoded.{entries_of}
-use Rattle.raster_store.proofs.Writes.{put_kept}
+-- A note changes no tile.
+use Rattle.std.proofs.Common.{inl}
 use Rattle.raster_store.proofs.decoded.DecodedTiles.keep.Goals as goal
 
-pub returns-in_default-copy_of : goal.returns-in_default-copy_of
-returns-in_default-copy_of c =
-    let old : c.args.self.now ≡ c.in-Some.kept.entries = sym c.self.view_is ∙ ap entries_of c.in-Some.is in
-    rw old (λ j others kept. inl kept)
+pub returns-then-note : goal.returns-then-note
+returns-then-note c = rw c.note.ensures at c.put.ensures
 
-pub returns : goal.returns
-returns c =
-    let old : c.args.self.now ≡ c.in-Some.kept.entries = sym c.self.view_is ∙ ap entries_of c.in-Some.is in
-    rw old (put_kept c.put-put.result c.in-Some.kept c.put-put.new.self c.args.at c.in-Ok.tile c.args.cells.now c.put-put.ensures.entries c.put-put.ensures.err c.in-Ok.ensures)
+pub returns-else-note : goal.returns-else-note
+returns-else-note c = rw c.note.ensures (λ j others kept. inl kept)

@@ -1,19 +1,24 @@
 -- A coverage that is 0 everywhere lists nothing, and leaves room for the metadata.
-use Rattle.std.proofs.Common.{[], ◌∷◌, ◌++◌, length, refl, ap, ◌∙◌, ◌<◌, ◌≤◌, ◌^◌, arith, rules}
+use Rattle.std.proofs.Common.{List, [], ◌∷◌, ◌++◌, length, refl, ap, ◌∙◌, ◌<◌, ◌≤◌, ◌^◌, arith, rules}
 use Rattle.std.proofs.lemmas.List.{map_push}
 use Rattle.block_file.specs.Format.{chain_blocks}
 use Rattle.arr_core.specs.Stores.{Coverage}
 use Rattle.raster_store.specs.declared.held.Held.{Held}
 use Rattle.raster_store.specs.Holding.{coverages_of, coverage_of}
 use Rattle.raster_store.proofs.Contents.{intact-push, intact_new, values_new}
-use Rattle.raster_store.proofs.Writes.{store_push, may_empty}
+use Rattle.raster_store.specs.Views.{Index, listed_fields}
+use Rattle.raster_store.proofs.Totals.{listed_fields-none}
+use Rattle.raster_store.proofs.Stored.{store_push}
+use Rattle.raster_store.proofs.Writes.{may_empty}
 use Rattle.raster_store.proofs.store.RasterStore.create.Goals as goal
 
 pub invariant_of-self-2 : goal.invariant_of-self-2
 invariant_of-self-2 g c =
     let is = c.in_ok-held.ensures in
-    rw c.in_ok-push.ensures.items (store_push _ c.self.inside.coverages.items c.in_ok-held.held c.clear.new.self c.self.invariant.is_held is.whole
-    (rw is.signature (rw (← c.self.view_is) at c.requires.name)) (rw is.fields (may_empty _ _ (length c.args.signature.now.fields) c.self.invariant.is_held)) c.clear.ensures)
+    let count = length c.args.signature.now.fields in
+    rw c.in_ok-push.ensures.items (store_push _ c.self.inside.coverages.items c.self.inside.snapshots.items c.in_ok-held.held _ _ _ c.self.invariant.is_held is.whole
+    (rw is.signature (rw (← c.self.view_is) at c.requires.name)) (rw is.fields (may_empty _ _ count c.self.invariant.is_held)) (rw is.version c.renewed-renewed.ensures) c.self.invariant.decoded c.self.invariant.snapshots
+    (λ k. omega (arith, c.self.invariant.snapshots.counted k, ap (λ (i : List Index). listed_fields i k) is.fields, listed_fields-none k count)))
 
 pub returns-clause-created : goal.returns-clause-created
 returns-clause-created g c =

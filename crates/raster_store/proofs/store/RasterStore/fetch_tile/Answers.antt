@@ -1,6 +1,6 @@
 -- The coverage with the name is the one at its place.
 use Rattle.std.proofs.lemmas.Result.{err_from_is_err_and}
-use Rattle.raster_store.proofs.Readings.{place_of_name, tile_named, intact_spelled}
+use Rattle.raster_store.proofs.Readings.{place_of_name, tile_named, spelled_placed}
 use Rattle.raster_store.proofs.store.RasterStore.fetch_tile.Goals as goal
 
 pub fetch_tile_into-requires : goal.fetch_tile_into-requires
@@ -15,7 +15,7 @@ returns-in_err-fetch_tile_into-clause-why g c =
     let why = rw (← c.self.view_is) at c.in_err-fetch_tile_into.ensures.why in
     let p = err_from_is_err_and c.from_residual.result c.from_residual.ensures.1 in
     rw (← c.self.view_is, p.1, p.2) (record {
-      for_damage = λ err sure intact. why.for_damage err sure (intact_spelled _ _ _ c.self.invariant.is_held there intact);
+      for_damage = λ err sure spelled. why.for_damage err sure (spelled_placed _ _ c.args.name.now c.place_held-place.result c.args.field c.args.tile c.self.invariant.is_held (rw c.deref.ensures.value at c.place_held-place.ensures.named) there spelled);
       for_room = why.for_room;
     })
 

@@ -1,8 +1,8 @@
 -- The numbers that the field has in the tiles of the box are the values of the coverage there.
 use Rattle.std.proofs.Common.{arith}
 use Rattle.std.proofs.lemmas.Result.{err_from_is_err_and}
-use Rattle.raster_store.proofs.Readings.{named_field, numbers_are, intact_tile}
-use Rattle.raster_store.proofs.Writes.{store_read}
+use Rattle.raster_store.proofs.Readings.{named_field, numbers_are, box_damaged}
+use Rattle.raster_store.proofs.Stored.{store_read}
 use Rattle.raster_store.proofs.store.RasterStore.read_box.Goals as goal
 
 pub tiles-requires : goal.tiles-requires
@@ -20,17 +20,20 @@ read_area-requires g c =
     }
 
 pub invariant_of-self : goal.invariant_of-self
-invariant_of-self g c = store_read _ _ _ _ c.self.invariant c.read_area.ensures.frame
+invariant_of-self g c = store_read _ _ _ _ _ _ c.self.invariant c.read_area.ensures.frame
 
 pub invariant_of-self-2 : goal.invariant_of-self-2
-invariant_of-self-2 g c = store_read _ _ _ _ c.self.invariant c.read_area.ensures.frame
+invariant_of-self-2 g c = store_read _ _ _ _ _ _ c.self.invariant c.read_area.ensures.frame
 
 pub returns-in_err-cells-clause-why : goal.returns-in_err-cells-clause-why
 returns-in_err-cells-clause-why g c =
     let at = named_field _ _ c.args.name.now c.args.field _ c.self.invariant.is_held (rw c.deref.ensures.value at c.named-coverage.ensures) (rw (← c.self.view_is) at c.requires.field) in
     let p = err_from_is_err_and c.from_residual-in_err-cells.result c.from_residual-in_err-cells.ensures.1 in
     rw (← c.self.view_is, p.1, p.2) (record {
-      for_damage = λ err sure intact. (let d = c.in_err-cells.ensures.why.for_damage err sure in d.2 (intact_tile at c.tiles.result c.tiles.ensures intact d.0));
+      for_damage = λ err sure.
+          let f = c.tiles.ensures in
+          let d = rw (f.domain, f.index) at (c.in_err-cells.ensures.why.for_damage err sure) in
+          box_damaged _ _ c.args.name.now c.args.field _ c.tiles.result.kind c.self.invariant.is_held (rw c.deref.ensures.value at c.named-coverage.ensures) f.kind at.indexed c.args.area.now d.0 d.1 d.2;
       for_room = c.in_err-cells.ensures.why.for_room;
     })
 

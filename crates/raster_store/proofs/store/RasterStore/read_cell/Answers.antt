@@ -2,9 +2,8 @@
 use Rattle.std.proofs.Common.{SFits, w64, rules, ◌∙◌}
 use Rattle.std.proofs.lemmas.Int.{to_z-of_z}
 use Rattle.std.proofs.lemmas.Result.{err_from_is_err_and}
-use Rattle.tile_store.specs.Stored.{tile_number}
-use Rattle.raster_store.proofs.Readings.{named_field, number_is, intact_tile}
-use Rattle.raster_store.proofs.Writes.{store_read}
+use Rattle.raster_store.proofs.Readings.{named_field, number_is, cell_damaged}
+use Rattle.raster_store.proofs.Stored.{store_read}
 use Rattle.raster_store.proofs.store.RasterStore.read_cell.Goals as goal
 
 pub tiles-tiles-requires : goal.tiles-tiles-requires
@@ -18,10 +17,10 @@ read_point-requires g c =
     record { inside = rw c.tiles-tiles.ensures.domain (rw (← c.self.view_is, at.facts.at) at c.requires.inside); used = rw c.tiles-tiles.ensures.index at.sound.counted }
 
 pub invariant_of-self : goal.invariant_of-self
-invariant_of-self g c = store_read _ _ _ _ c.self.invariant c.read_point.ensures.frame
+invariant_of-self g c = store_read _ _ _ _ _ _ c.self.invariant c.read_point.ensures.frame
 
 pub invariant_of-self-2 : goal.invariant_of-self-2
-invariant_of-self-2 g c = store_read _ _ _ _ c.self.invariant c.read_point.ensures.frame
+invariant_of-self-2 g c = store_read _ _ _ _ _ _ c.self.invariant c.read_point.ensures.frame
 
 pub returns-in_err-number-clause-why : goal.returns-in_err-number-clause-why
 returns-in_err-number-clause-why g c =
@@ -29,7 +28,9 @@ returns-in_err-number-clause-why g c =
     let p = err_from_is_err_and c.from_residual.result c.from_residual.ensures.1 in
     let f = c.tiles-tiles.result in
     rw (← c.self.view_is, p.1, p.2) (record {
-      for_damage = λ err sure intact. c.in_err-number.ensures.why.for_damage err sure (intact_tile at f c.tiles-tiles.ensures intact (tile_number f.domain.now c.args.point.now));
+      for_damage = λ err sure.
+          cell_damaged _ _ c.args.name.now c.args.field _ f.kind c.self.invariant.is_held (rw c.deref.ensures.value at c.named.ensures) c.tiles-tiles.ensures.kind at.indexed c.args.point.now
+          (λ spelled. c.in_err-number.ensures.why.for_damage err sure (rw (c.tiles-tiles.ensures.domain, c.tiles-tiles.ensures.index) spelled));
       for_room = c.in_err-number.ensures.why.for_room;
     })
 

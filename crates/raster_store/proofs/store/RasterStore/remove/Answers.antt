@@ -1,7 +1,9 @@
 -- The other coverages stay, and the blocks of the one are given back.
 use Rattle.std.proofs.Common.{refl, sym}
+use Rattle.raster_store.proofs.Snapshots.{passed, passes_recounts}
 use Rattle.raster_store.proofs.Contents.{intact-remove, deleted_named, deleted_none}
-use Rattle.raster_store.proofs.Writes.{decoded_empty, held_remove}
+use Rattle.raster_store.proofs.Writes.{held_remove}
+use Rattle.raster_store.proofs.Versions.{decoded_read, decoded_removed}
 use Rattle.raster_store.proofs.Readings.{known}
 use Rattle.raster_store.proofs.store.RasterStore.remove.Goals as goal
 
@@ -13,9 +15,11 @@ pub invariant_of-self : goal.invariant_of-self
 invariant_of-self g c =
     let within = rw c.deref.ensures.value at c.in-Some.ensures.within in
     let given = rw c.deref-in-Some.ensures.value at c.give_back_fields.ensures in
+    let gone = held_remove _ _ _ c.in-Some.place _ c.self.invariant.is_held within c.remove-held.ensures.value given in
     record {
-      is_held = rw c.remove-held.ensures.items (held_remove _ _ _ c.in-Some.place _ c.self.invariant.is_held within c.remove-held.ensures.value given).0;
-      decoded = decoded_empty _ _ _ c.clear.new.self c.clear.ensures;
+      is_held = rw c.remove-held.ensures.items gone.0;
+      snapshots = rw c.remove-held.ensures.items (passed _ _ _ _ c.self.inside.snapshots.items (passes_recounts _ _ _ _ gone.1) c.self.invariant.snapshots);
+      decoded = rw c.remove-held.ensures.items (decoded_read _ _ _ _ _ _ given.content given.honest (decoded_removed _ _ _ c.self.inside.coverages.items _ c.in-Some.place c.self.invariant.decoded));
     }
 
 pub returns-in-Some : goal.returns-in-Some
@@ -28,6 +32,7 @@ returns-in-Some g c =
     rw (← c.self.view_is, c.remove-held.ensures.items) (record {
       coverages = rw given.content gone.0;
       indexes = gone.1;
+      snapshots = rw given.content refl;
       recounts = (held_remove _ _ held place _ c.self.invariant.is_held (rw c.deref.ensures.value at c.in-Some.ensures.within) c.remove-held.ensures.value given).1;
       intact = rw given.content (intact-remove content held place);
       fetched = refl;
@@ -36,4 +41,4 @@ returns-in-Some g c =
 pub returns-in-None : goal.returns-in-None
 returns-in-None g c =
     let none = deleted_none (g.B.Blocks.state c.self.inside.blocks).content c.args.name.now c.self.inside.coverages.items (rw c.deref.ensures.value at c.in-None.ensures.none) in
-    rw (← c.self.view_is) (record { coverages = sym none.0; indexes = sym none.1; recounts = record { uses = λ k. refl; content = refl; synced = refl; size = refl; failures = refl; honest = refl }; intact = λ intact. intact; fetched = refl })
+    rw (← c.self.view_is) (record { coverages = sym none.0; indexes = sym none.1; snapshots = refl; recounts = record { uses = λ k. refl; content = refl; synced = refl; size = refl; failures = refl; honest = refl }; intact = λ intact. intact; fetched = refl })

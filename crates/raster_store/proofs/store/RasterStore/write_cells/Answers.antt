@@ -2,6 +2,7 @@
 use Rattle.std.proofs.lemmas.Result.{err_from_is_err_and}
 use Rattle.raster_store.proofs.Cells.{refuses_cells, refuses_device}
 use Rattle.raster_store.proofs.Readings.{known_named}
+use Rattle.raster_store.proofs.Snapshots.{seen, passes_same}
 use Rattle.raster_store.proofs.store.RasterStore.write_cells.Goals as goal
 
 pub numbers_for-requires : goal.numbers_for-requires
@@ -34,3 +35,8 @@ returns-clause-done g c =
     let k = known_named _ _ c.args.name.now _ c.self.invariant.is_held (rw c.deref.ensures.value at c.named-coverage.ensures) in
     let stored = c.in_ok-numbers.ensures.stored in
     (rw (← c.self.view_is, k.at) stored.0, rw stored.2 at c.in_ok-write_numbers.ensures.done)
+
+pub returns-in_err-numbers-clause-snapshots : goal.returns-in_err-numbers-clause-snapshots
+returns-in_err-numbers-clause-snapshots g c =
+    let stay = seen _ _ _ _ c.self.inside.snapshots.items (passes_same _ _) c.self.invariant.snapshots in
+    rw (← c.self.view_is) (record { told = stay.told; values = stay.values; intact = stay.intact })

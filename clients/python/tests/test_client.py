@@ -1,0 +1,311 @@
+"""The client beside the server: requests, jobs, connections, and the shell."""
+
+import contextlib
+import os
+import socket
+import tempfile
+import threading
+import time
+import unittest
+
+from over_loopback import OverLoopback, rasterd
+
+# How long a client may wait beside another one's job, in seconds.
+LONGEST_WAIT = 0.2
+FOCAL = (
+    "for c in (wide) return encode(coverage f over $y y(3:396), $x x(3:396) values"
+    " condense + over $v y(-3:3), $u x(-3:3) using c[y($y + $v), x($x + $u)], csv)"
+)
+
+
+class Requests(OverLoopback):
+    def test_a_coverage(self):
+        session = self.session()
+        session.insert("lai", {"x": (0, 99)}, {"v": "i16"})
+        session.fill("lai", "v", 7)
+        self.assertEqual(session.query("for c in (lai) return encode(max(c[x(0:99)]), csv)"), "7\n")
+        self.assertEqual(session.list(), ["lai"])
+        self.assertEqual(session.describe("lai"), ({"x": (0, 99)}, {"v": "i16"}))
+        session.delete("lai")
+        self.assertEqual(session.list(), [])
+
+    def test_refusals(self):
+        with self.session() as session:
+            session.insert("lai", {"x": (0, 99)}, {"v": "i16"})
+            for number, name, asked in [
+                (21, "CoverageExists", lambda: session.insert("lai", {"x": (0, 99)}, {"v": "i16"})),
+                (20, "NoSuchCoverage", lambda: session.delete("other")),
+                (26, "ValueRange", lambda: session.fill("lai", "v", 40000)),
+                (53, "BadInterval", lambda: session.query("for c in (lai) return encode(c[x(5:3)], csv)")),
+                (80, "NoSuchTemplate", lambda: session.template("Slope", "lai")),
+            ]:
+                self.assertTrue(self.assert_refused(number, asked).startswith(f"{number} {name}"))
+
+    def test_booleans_and_fields(self):
+        with self.session() as session:
+            session.insert("w", {"y": (0, 1), "x": (-1, 0)}, {"v": "i32", "ok": "bool"})
+            session.write("w", "v", [[1, -2], [3, 4]])
+            session.write("w", "ok", [[True, False], [False, True]])
+            self.assertEqual(
+                session.items("for c in (w) return encode(c, csv)"),
+                [[[(1, True), (-2, False)], [(3, False), (4, True)]]],
+            )
+
+    def test_a_cell_that_is_not_whole_is_not_written(self):
+        with self.session() as session:
+            session.insert("w", {"x": (0, 1)}, {"v": "i32"})
+            for values in [[0.5, 1], [float("nan"), 1]]:
+                with self.assertRaises(ValueError):
+                    session.write("w", "v", values)
+            session.write("w", "v", [3.0, 4])
+            self.assertEqual(session.query("for c in (w) return encode(c, csv)"), "3,4\n")
+
+    def test_templates(self):
+        with self.session() as session:
+            for name, cells in [("w", [1, 2, 3, 4]), ("z", [1, 1, 2, 2])]:
+                session.insert(name, {"x": (0, 1), "y": (0, 1)}, {"v": "i16"})
+                session.write(name, "v", cells)
+            self.assertEqual(session.template("ZonalSum", "w", second="z"), "3,3\n7,7\n")
+            self.assertEqual(session.template("FocalSum", "w", radius=1), "10,10\n10,10\n")
+            self.assertEqual(
+                session.expand("LocalSum", "w", second="z"), "for a in (w), b in (z) return encode(a + b, csv)\n"
+            )
+
+    def test_a_write_in_parts(self):
+        cells, told = [[(700 * y + x) * 10**12 for x in range(600)] for y in range(300)], []
+        with self.session() as session:
+            session.insert("big", {"y": (0, 299), "x": (0, 599)}, {"v": "i64"})
+            session.write("big", "v", cells, progress=lambda done, whole: told.append((done, whole)))
+            self.assertGreater(len(told), 2)
+            self.assertEqual(told[-1], (300 * 600, 300 * 600))
+            self.assertEqual(
+                session.query("for c in (big) return encode(c, csv)"),
+                "".join(",".join(map(str, line)) + "\n" for line in cells),
+            )
+
+
+class Jobs(OverLoopback):
+    def test_jobs(self):
+        told, query = [], "for c in (w) return encode(c * 2, csv)"
+        with self.session() as session:
+            session.insert("w", {"y": (0, 199), "x": (0, 99)}, {"v": "i16"})
+            session.fill("w", "v", 21)
+            number, whole = session.submit(query)
+            self.assertEqual(number, 1)
+            self.assertGreater(whole, 1)
+            self.assert_refused(28, lambda: session.fill("w", "v", 1))
+            self.assertEqual(session.step(number), whole - 1)
+            self.assert_refused(71, lambda: session.fetch(number))
+            self.assertEqual(session.step(number, 1000), 0)
+            session.fill("w", "v", 1)
+            self.assertEqual(rasterd.items_of(session.fetch(number)), [[[(42,)] * 100] * 200])
+            self.assert_refused(70, lambda: session.fetch(number))
+            answer = session.run(query, units=1, progress=lambda done, whole: told.append((done, whole)))
+            self.assertEqual(rasterd.items_of(answer), [[[(2,)] * 100] * 200])
+            self.assertEqual(told, [(done, whole) for done in range(1, whole + 1)])
+            self.assert_refused(61, lambda: session.run("for c in (w) return max(c / 0)", progress=None))
+
+    def test_a_job_that_is_stopped(self):
+        def stop(done, whole):
+            raise KeyboardInterrupt
+
+        with self.session() as session:
+            session.insert("w", {"x": (0, 9999)}, {"v": "i16"})
+            with self.assertRaises(KeyboardInterrupt):
+                session.run("for c in (w) return encode(c, csv)", units=1, progress=stop)
+            session.delete("w")
+
+    def test_a_job_that_is_another_one_is_not_answered_and_not_ended(self):
+        other = self.session()
+
+        def step(done, whole):
+            other.step(1, 1)
+
+        session = self.session()
+        session.insert("w", {"x": (0, 99999)}, {"v": "i16"})
+        with self.assertRaises(rasterd.NotUnderstood):
+            session.run("for c in (w) return max(c)", units=1, progress=step)
+        other.step(1, 1000)
+        self.assertEqual(other.fetch(1), "0\n")
+
+    def test_a_job_that_is_gone_is_not_cancelled_by_its_number(self):
+        """Another client has got the number anew: as after the end of a run."""
+        other, session = self.session(), self.session()
+        session.insert("w", {"x": (0, 99999)}, {"v": "i16"})
+
+        def take_away(done, whole):
+            other.cancel(1)
+
+        cancelled = []
+        session.cancel = cancelled.append
+        with self.assertRaises(rasterd.Refused) as raised:
+            session.run("for c in (w) return max(c)", units=1, progress=take_away)
+        self.assertEqual((raised.exception.number, cancelled), (70, []))
+
+    def test_another_client_beside_a_job(self):
+        session, waits, ended = self.session(), [], threading.Event()
+        session.insert("wide", {"y": (0, 399), "x": (0, 399)}, {"v": "i16"})
+        session.fill("wide", "v", 2)
+        unit = self.least_step(session)
+
+        def other():
+            while not ended.is_set():
+                begin = time.monotonic()
+                self.session().list()
+                waits.append(time.monotonic() - begin)
+
+        beside = threading.Thread(target=other)
+        beside.start()
+        try:
+            answer = session.run(FOCAL, progress=None)
+        finally:
+            ended.set()
+            beside.join()
+        self.assertEqual(set(answer.replace("\n", ",").split(",")), {"98", ""})
+        self.assertGreater(len(waits), 10)
+        # of the half that other work of the machine has held up least; where that is much, a unit takes longer too
+        self.assertLess(sorted(waits)[len(waits) // 2], max(LONGEST_WAIT, 3 * unit))
+
+    def least_step(self, session):
+        """The seconds of a unit: a job can be done in no smaller steps."""
+        job, _ = session.submit(FOCAL)
+        took = []
+        for _ in range(3):
+            begin = time.monotonic()
+            session.step(job)
+            took.append(time.monotonic() - begin)
+        session.cancel(job)
+        return max(took)
+
+
+class Connections(OverLoopback):
+    def test_nobody_waits_for_a_session_that_asks_nothing(self):
+        idle = self.session()
+        idle.list()
+        begin = time.monotonic()
+        self.session().list()
+        self.assertLess(time.monotonic() - begin, LONGEST_WAIT)
+
+    def test_a_with_keeps_its_connection_and_its_end_lets_it_go(self):
+        with self.session() as session:
+            session.insert("w", {"x": (0, 9)}, {"v": "i16"})
+            kept = session.connection.sock
+            with session:
+                session.list()
+            session.fill("w", "v", 1)
+            self.assertIs(session.connection.sock, kept)
+            self.assertIsNotNone(kept)
+        self.assertIsNone(session.connection.sock)
+
+    def test_more_messages_than_a_connection_takes(self):
+        with self.session() as session:
+            for _ in range(2001):
+                self.assertEqual(session.list(), [])
+
+
+class Faults(unittest.TestCase):
+    """A server of the test's own, which says of each connection what is wanted."""
+
+    def answers(self, *said):
+        """The port of a server that says one of these at each connection, some parts with half a second between, and ends it."""
+        listener = socket.create_server(("127.0.0.1", 0))
+
+        def serve():
+            for parts in said:
+                with contextlib.suppress(OSError), listener.accept()[0] as client:
+                    client.recv(65536)
+                    for part in parts:
+                        client.sendall(part)
+                        time.sleep(0.5 * (part is not parts[-1]))
+
+        threading.Thread(target=serve, daemon=True).start()
+        self.addCleanup(listener.close)
+        return listener.getsockname()[1]
+
+    def test_what_is_left_of_a_reply_is_not_that_of_the_next_request(self):
+        whole = b"HTTP/1.1 200 OK\r\nContent-Length: 4\r\n\r\nlai\n"
+        for cut in [[whole[:-2]], [whole[:-2], whole[-2:]]]:
+            with rasterd.Session(port=self.answers(cut, [whole], [whole]), timeout=0.3) as session:
+                with self.assertRaises(Exception):
+                    session.list()
+                session.connection.timeout = 5
+                self.assertEqual(session.list(), ["lai"])
+                # the server has ended the connection meanwhile, without having said so
+                time.sleep(0.2)
+                self.assertEqual(session.list(), ["lai"])
+
+    def test_an_answer_of_another_server(self):
+        text = b"HTTP/1.1 502 Bad Gateway\r\nContent-Length: 15\r\n\r\n<html>no</html>"
+        with self.assertRaisesRegex(rasterd.NotUnderstood, "status 502"):
+            rasterd.Session(port=self.answers([text]), timeout=5).list()
+
+
+class Parts(unittest.TestCase):
+    def test_parts_follow_one_another(self):
+        for box, most in [
+            ({"y": (0, 9), "x": (0, 3)}, 8),
+            ({"y": (-1, 1), "x": (0, 9)}, 4),
+            ({"x": (5, 5)}, 1),
+            ({"t": (0, 2), "y": (0, 2), "x": (0, 2)}, 5),
+        ]:
+            axes = list(box)
+            points = [p for part in rasterd.parts_of(box, most) for p in self.points(part, axes)]
+            self.assertEqual(points, self.points(box, axes))
+            self.assertTrue(all(rasterd.points_of(part) <= most for part in rasterd.parts_of(box, most)))
+
+    def points(self, box, axes):
+        found = [()]
+        for axis in axes:
+            found = [(*p, at) for p in found for at in range(box[axis][0], box[axis][1] + 1)]
+        return found
+
+
+class Shell(OverLoopback):
+    def setUp(self):
+        super().setUp()
+        with self.session() as session:
+            session.insert("hill", {"y": (0, 1), "x": (0, 2)}, {"v": "i16"})
+            session.write("hill", "v", [1, 2, 3, 4, 5, 6])
+
+    def ask(self, *lines):
+        return self.tool("rasterd-ask", given="".join(f"{line}\n" for line in lines))
+
+    def test_one_query(self):
+        self.assertEqual(self.tool("rasterd-ask", "for c in (hill) return max(c)"), (0, "6\n"))
+        status, said = self.tool("rasterd-ask", "for c in (hill) return sum(c)")
+        self.assertEqual(
+            (status, said), (1, "refused 32 BadSyntax: 1:24: `sum` does not fit: it is called `add` here\n")
+        )
+
+    def test_what_is_typed(self):
+        for lines, said in [
+            (["for c in (hill) return max(c)"], "6\n"),
+            (["for c in (hill)", "return max(", "c);"], "6\n"),
+            (["\\d"], "hill\n"),
+            (["\\d hill"], "axis y 0 1\naxis x 0 2\nfield v i16\n\n"),
+            (["\\template FocalMaximum hill 1"], "5,6,6\n5,6,6\n"),
+            (["\\template LocalSum hill hill"], "2,4,6\n8,10,12\n"),
+            (["for c in (hill) return c", "\\d"], "refused 52 MustEncode: 1:24: `c`: it has axes: write"),
+            (["\\q", "\\d"], ""),
+            (["\\csv none.csv"], "there is no answer yet\n"),
+            (["\\?"], "Beside queries there are"),
+        ]:
+            with self.subTest(lines=lines):
+                status, found = self.ask(*lines)
+                self.assertEqual((status, found[: len(said)]), (0, said))
+        self.assertIn("6\n", self.ask("\\job for c in (hill) return max(c)")[1])
+
+    def test_files(self):
+        with tempfile.TemporaryDirectory() as folder:
+            query = "for c in (hill) return encode(c, csv)"
+            self.assertEqual(self.ask(query, f"\\csv {folder}/a.csv", f"\\png {folder}/a.png")[0], 0)
+            with open(f"{folder}/a.csv") as file:
+                self.assertEqual(file.read(), "1,2,3\n4,5,6\n")
+            with open(f"{folder}/a.png", "rb") as file:
+                self.assertEqual(file.read(16), b"\x89PNG\r\n\x1a\n\0\0\0\x0dIHDR")
+
+    def test_a_server_that_is_not_there(self):
+        status, said = self.tool("rasterd-ask", "for c in (hill) return 1", port=1)
+        self.assertEqual((status, said), (1, "no answer from 127.0.0.1:1: [Errno 111] Connection refused\n"))
+        status, said = self.tool("rasterd-ask", port=1, given="\\d\n")
+        self.assertEqual((status, said), (0, "no answer from 127.0.0.1:1: [Errno 111] Connection refused\n"))

@@ -1,6 +1,0 @@
-use Rattle.std.proofs.Common.{◌≡◌, ◌++◌, take}
-use Rattle.plan_ir.specs.Placed.{spans}
-use Rattle.plan_rewrite.proofs.body.with_spans.Given as goal
-
-abbrev pub invariant-loop-axis : goal.invariant-loop-axis
-invariant-loop-axis l = l.list.items ≡ l.scope ++ spans (take l.axis-index l.axes)

@@ -1,0 +1,5 @@
+use Rattle.std.proofs.Common.{length}
+use Rattle.plan_rewrite.proofs.hoisting.passes.+hoist_binds.Given as goal
+
+abbrev pub decreases-hoist_binds : goal.decreases-hoist_binds
+decreases-hoist_binds l = length l.binds.now

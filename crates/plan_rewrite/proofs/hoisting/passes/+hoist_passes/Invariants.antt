@@ -1,0 +1,5 @@
+use Rattle.std.proofs.Common.{length}
+use Rattle.plan_rewrite.proofs.hoisting.passes.+hoist_passes.Given as goal
+
+abbrev pub decreases-hoist_passes : goal.decreases-hoist_passes
+decreases-hoist_passes l = length l.old.now

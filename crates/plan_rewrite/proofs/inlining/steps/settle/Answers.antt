@@ -1,0 +1,18 @@
+-- The settled plan gives the same and stays well-formed, and none of its binds can give way.
+use Rattle.std.proofs.Common.{◌∙◌, ap, sym, subst, map}
+use Rattle.plan_ir.specs.Plans.{PlanTree, steps_view, plan_view}
+use Rattle.plan_ir.specs.Planned.{planned}
+use Rattle.plan_ir.specs.Placed.{IsPlan}
+use Rattle.plan_rewrite.specs.Rewritten.{StepsAreReduced}
+use Rattle.plan_rewrite.proofs.SettledPlans.{settled-planned}
+use Rattle.plan_rewrite.proofs.SettledPlaced.{plan-placed, steps-reduced}
+use Rattle.plan_rewrite.proofs.inlining.steps.settle.Goals as goal
+
+pub returns-clause-planned : goal.returns-clause-planned
+returns-clause-planned c s = ap (planned s) c.in_ok-r.ensures ∙ settled-planned (plan_view c.args.plan) s
+
+pub returns-clause-placed : goal.returns-clause-placed
+returns-clause-placed c h = subst IsPlan (sym c.in_ok-r.ensures) (plan-placed (plan_view c.args.plan) h)
+
+pub returns-clause-reduced : goal.returns-clause-reduced
+returns-clause-reduced c = subst StepsAreReduced (sym (ap (λ (p : PlanTree). p.steps) c.in_ok-r.ensures)) (steps-reduced (map steps_view c.args.plan.steps.items))

@@ -1,5 +1,0 @@
-use Rattle.std.proofs.Common.{length}
-use Rattle.plan_rewrite.proofs.passes.+hoist_fields.Given as goal
-
-abbrev pub decreases-hoist_fields : goal.decreases-hoist_fields
-decreases-hoist_fields l = length l.fields.now

@@ -1,5 +1,0 @@
-use Rattle.std.proofs.Common.{length}
-use Rattle.plan_rewrite.proofs.query.+push_choices.Given as goal
-
-abbrev pub decreases-push_choices : goal.decreases-push_choices
-decreases-push_choices l = length l.all.now

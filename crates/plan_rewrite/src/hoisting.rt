@@ -1,0 +1,7 @@
+//! Folds that become passes.
+
+mod closed;
+mod folds;
+mod passes;
+
+pub use passes::{hoist, hoist_all};

@@ -1,0 +1,162 @@
+//! Closed folds, which use no variable from outside them, and the passes that they become.
+
+ghost use Rattle.std.specs.Prelude.{◌≡◌, ◌&&◌, IfOk, map};
+ghost use Rattle.std.specs.List.{list_all};
+ghost use Rattle.plan_ir.specs.Bodies.{body_view, condition_view};
+ghost use Rattle.plan_ir.specs.Plans.{pass_view};
+ghost use Rattle.plan_rewrite.specs.Hoisting.{index_from, is_from, index_without, without, pass_without};
+
+use crate::nodes::{
+    bind_body, boxed, conditional_fold, fold_body, op1_body, op2_body, plain_fold, read_body,
+    table_body,
+};
+use plan_ir::{Body, Fold, Index};
+use std::alloc::{AllocError, Global};
+
+/// Whether no variable of a body is one of the first `n`.
+#[cycle(from)]
+fn is_from(n: usize, e: &Body) -> bool
+    ensures { result ≡ is_from n (body_view e.now) }
+{
+    match e {
+        Body::Lit(_) => true,
+        Body::Var(k) => n <= *k,
+        Body::Reg(_) => true,
+        Body::Op1(_, e) => is_from(n, e),
+        Body::Op2(_, l, r) => is_from(n, l) && is_from(n, r),
+        Body::Read {
+            coverage: _,
+            field: _,
+            indexes,
+        } => indexes_from(n, indexes),
+        Body::Table {
+            domain: _,
+            items: _,
+            indexes,
+        } => indexes_from(n, indexes),
+        Body::Bind {
+            position,
+            interval: _,
+            body,
+        } => is_from(n, position) && is_from(n, body),
+        Body::Fold(f) => fold_is_from(n, f),
+    }
+}
+
+/// The same of the condition and the body of a fold.
+#[cycle(from)]
+pub fn fold_is_from(n: usize, f: &Fold) -> bool
+    ensures { result ≡ (is_from n (pass_view f.now).condition && is_from n (pass_view f.now).body) }
+{
+    match &f.condition {
+        None => is_from(n, &f.body),
+        Some(c) => is_from(n, c) && is_from(n, &f.body),
+    }
+}
+
+/// The same of indexes.
+fn indexes_from(n: usize, indexes: &[Index]) -> bool
+    ensures { result ≡ list_all (index_from n) indexes.now }
+{
+    match indexes {
+        [] => true,
+        [index, rest @ ..] => index_from(n, *index) && indexes_from(n, rest),
+    }
+}
+
+/// The same of an index.
+fn index_from(n: usize, index: Index) -> bool
+    ensures { result ≡ index_from n index }
+{
+    match index {
+        Index::Const(_) => true,
+        Index::Var(k) => n <= k,
+    }
+}
+
+/// A body without its first `n` variables, of which it uses none.
+#[cycle(without)]
+fn without(alloc: Global, n: usize, e: &Body) -> Result<Box<Body>, AllocError>
+    ensures { IfOk result (λ b. body_view b.value ≡ without n (body_view e.now)) }
+{
+    match e {
+        Body::Lit(z) => boxed(alloc, Body::Lit(*z)),
+        Body::Var(k) => boxed(alloc, Body::Var(k.saturating_sub(n))),
+        Body::Reg(k) => boxed(alloc, Body::Reg(*k)),
+        Body::Op1(op, e) => {
+            let x = without(alloc, n, e)?;
+            op1_body(alloc, *op, x)
+        }
+        Body::Op2(op, l, r) => {
+            let x = without(alloc, n, l)?;
+            let y = without(alloc, n, r)?;
+            op2_body(alloc, *op, x, y)
+        }
+        Body::Read {
+            coverage,
+            field,
+            indexes,
+        } => {
+            let indexes = indexes_without(alloc, n, indexes)?;
+            read_body(alloc, *coverage, *field, indexes)
+        }
+        Body::Table {
+            domain,
+            items,
+            indexes,
+        } => {
+            let indexes = indexes_without(alloc, n, indexes)?;
+            table_body(alloc, domain, items, indexes)
+        }
+        Body::Bind {
+            position,
+            interval,
+            body,
+        } => {
+            let p = without(alloc, n, position)?;
+            let b = without(alloc, n, body)?;
+            bind_body(alloc, p, *interval, b)
+        }
+        Body::Fold(f) => {
+            let fold = fold_without(alloc, n, f)?;
+            let b = fold_body(alloc, fold)?;
+            Ok(b)
+        }
+    }
+}
+
+/// A fold without the first `n` variables.
+#[cycle(without)]
+pub fn fold_without(alloc: Global, n: usize, f: &Fold) -> Result<Box<Fold>, AllocError>
+    ensures { IfOk result (λ g. pass_view g.value ≡ pass_without n (pass_view f.now)) }
+{
+    let body = without(alloc, n, &f.body)?;
+    match &f.condition {
+        None => plain_fold(alloc, f.op, &f.domain, body),
+        Some(c) => {
+            let c = without(alloc, n, c)?;
+            conditional_fold(alloc, f.op, &f.domain, c, body)
+        }
+    }
+}
+
+/// Indexes without the first `n` variables.
+fn indexes_without(alloc: Global, n: usize, indexes: &[Index]) -> Result<Vec<Index>, AllocError>
+    ensures { IfOk result (λ v. v.items ≡ map (index_without n) indexes.now) }
+{
+    let mut list = Vec::new(alloc);
+    for index in indexes {
+        list.push(index_without(n, *index))?;
+    }
+    Ok(list)
+}
+
+/// An index without the first `n` variables.
+fn index_without(n: usize, index: Index) -> Index
+    ensures { result ≡ index_without n index }
+{
+    match index {
+        Index::Const(z) => Index::Const(z),
+        Index::Var(k) => Index::Var(k.saturating_sub(n)),
+    }
+}

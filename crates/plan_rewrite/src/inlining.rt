@@ -1,0 +1,6 @@
+//! Binds that give way.
+
+mod body;
+mod steps;
+
+pub use steps::{settle, settle_all};

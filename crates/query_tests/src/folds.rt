@@ -1,0 +1,174 @@
+//! Condensers of whole columns.
+
+ghost use Rattle.std.specs.Prelude.{◌≡◌, ◌≤◌, All, IfOk, IsTrue};
+ghost use Rattle.tile_kernel.specs.declared.accumulator.Accumulator.{Accumulator};
+
+use crate::columns::{column, text};
+use crate::words::{aggregate, shown};
+use anyhow::{Context, Result, bail};
+use std::alloc::Global;
+use tile_kernel::{
+    Accumulator, Column, add_column, add_column_where, fold_column, fold_column_where, fold_values,
+    fold_values_where,
+};
+use wcps_text::Aggregate;
+
+/// Places one after the other.
+pub fn places_from(alloc: Global, first: u64, len: usize) -> Result<Vec<u64>> {
+    let mut places = Vec::new(alloc);
+    for k in 0..len {
+        places.push(first.saturating_add(k as u64))?;
+    }
+    Ok(places)
+}
+
+/// The accumulator of a column with the places from this one on.
+fn folded_from(alloc: Global, op: Aggregate, first: u64, cells: &Column) -> Result<Accumulator>
+    ensures { IfOk result (λ a. a.running.op ≡ op) }
+{
+    let places = places_from(alloc, first, cells.len())?;
+    if places.len() != cells.len() {
+        bail!("places of another number");
+    }
+    Ok(fold_column(op, cells, &places))
+}
+
+/// A condenser of a column whose cells have places one after the other, as `sum 65 3,3,3`.
+pub fn folded(alloc: Global, words: &str) -> Result<String> {
+    let (op, rest) = words.split_once(' ').context("no length")?;
+    let (len, cells) = rest.split_once(' ').context("no column")?;
+    let cells = column(alloc, len.parse::<usize>()?, cells)?;
+    let end = folded_from(alloc, aggregate(op)?, 0, &cells)?.finish();
+    Ok(shown(alloc, end)?)
+}
+
+/// A condenser of a column under a condition, as `sum 65 1,0,1 3,3,3`.
+pub fn folded_where(alloc: Global, words: &str) -> Result<String> {
+    let (op, rest) = words.split_once(' ').context("no length")?;
+    let (len, rest) = rest.split_once(' ').context("no condition")?;
+    let (condition, cells) = rest.split_once(' ').context("no column")?;
+    let len = len.parse::<usize>()?;
+    let condition = column(alloc, len, condition)?;
+    let cells = column(alloc, len, cells)?;
+    let places = places_from(alloc, 0, cells.len())?;
+    if places.len() != cells.len() || condition.len() != cells.len() {
+        bail!("places of another number");
+    }
+    let end = fold_column_where(aggregate(op)?, &condition, &cells, &places).finish();
+    Ok(shown(alloc, end)?)
+}
+
+/// What an accumulator comes to; `none` where there is none.
+fn shown_or_none(alloc: Global, accumulator: Option<Accumulator>) -> Result<String> {
+    match accumulator {
+        Some(accumulator) => Ok(shown(alloc, accumulator.finish())?),
+        None => Ok(String::from_str(alloc, "none")?),
+    }
+}
+
+/// A condenser of a column whatever places its cells have, as `sum 65 3,3,3`.
+pub fn whole(alloc: Global, words: &str) -> Result<String> {
+    let (op, rest) = words.split_once(' ').context("no length")?;
+    let (len, cells) = rest.split_once(' ').context("no column")?;
+    let cells = column(alloc, len.parse::<usize>()?, cells)?;
+    shown_or_none(alloc, fold_values(aggregate(op)?, &cells))
+}
+
+/// The same under a condition, as `sum 65 1,0,1 3,3,3`.
+pub fn whole_where(alloc: Global, words: &str) -> Result<String> {
+    let (op, rest) = words.split_once(' ').context("no length")?;
+    let (len, rest) = rest.split_once(' ').context("no condition")?;
+    let (condition, cells) = rest.split_once(' ').context("no column")?;
+    let len = len.parse::<usize>()?;
+    let condition = column(alloc, len, condition)?;
+    let cells = column(alloc, len, cells)?;
+    if condition.len() != cells.len() {
+        bail!("columns of two lengths");
+    }
+    shown_or_none(alloc, fold_values_where(aggregate(op)?, &condition, &cells))
+}
+
+/// A condenser of columns that are merged in this order, each with its first place and its length, as
+/// `sum 65:1:=3 64:1:=4`.
+pub fn merged(alloc: Global, words: &str) -> Result<String> {
+    let (op, parts) = words.split_once(' ').context("no column")?;
+    let op = aggregate(op)?;
+    let mut accumulator = Accumulator::empty(op);
+    for part in parts.split(' ') {
+        let (first, rest) = part.split_once(':').context("no length")?;
+        let (len, cells) = rest.split_once(':').context("no column")?;
+        let cells = column(alloc, len.parse::<usize>()?, cells)?;
+        let more = folded_from(alloc, op, first.parse::<u64>()?, &cells)?;
+        if accumulator.running.count <= 10000 && more.running.count <= 10000 {
+            accumulator.merge(more);
+        }
+    }
+    Ok(shown(alloc, accumulator.finish())?)
+}
+
+/// So many accumulators of no point.
+pub fn empties(alloc: Global, op: Aggregate, len: usize) -> Result<Vec<Accumulator>> {
+    let mut folds = Vec::new(alloc);
+    for _ in 0..len {
+        folds.push(Accumulator::empty(op))?;
+    }
+    Ok(folds)
+}
+
+/// What accumulators come to.
+pub fn finished(alloc: Global, folds: Vec<Accumulator>) -> Result<String> {
+    let mut outcomes = Vec::new(alloc);
+    for accumulator in folds {
+        outcomes.push(accumulator.finish())?;
+    }
+    text(alloc, &outcomes)
+}
+
+/// Whether no accumulator has been told of more points than this.
+pub fn have_room(folds: &[Accumulator], place: u64) -> bool
+    ensures { IsTrue result → All (λ (a : Accumulator). a.running.count ≤ place) folds.now }
+{
+    folds.iter().all(|a| u64::from(a.running.count) <= place)
+}
+
+/// Accumulators that are told of a column at each of these places, as `sum 65 0:3,3,3 1:4,4,4`.
+pub fn added(alloc: Global, words: &str) -> Result<String> {
+    let (op, rest) = words.split_once(' ').context("no length")?;
+    let (len, parts) = rest.split_once(' ').context("no column")?;
+    let len = len.parse::<usize>()?;
+    let mut folds = empties(alloc, aggregate(op)?, len)?;
+    for part in parts.split(' ') {
+        let (place, cells) = part.split_once(':').context("no place")?;
+        let place = place.parse::<u64>()?;
+        let cells = column(alloc, len, cells)?;
+        if place > 10000 || folds.len() != cells.len() || !have_room(&folds, place) {
+            bail!("no room");
+        }
+        add_column(folds.as_mut_slice(), place, &cells);
+    }
+    finished(alloc, folds)
+}
+
+/// Accumulators that are told of a column under a condition at each of these places, as
+/// `sum 65 0:1,0,1:3,3,3 1:=1:4,4,4`.
+pub fn added_where(alloc: Global, words: &str) -> Result<String> {
+    let (op, rest) = words.split_once(' ').context("no length")?;
+    let (len, parts) = rest.split_once(' ').context("no column")?;
+    let len = len.parse::<usize>()?;
+    let mut folds = empties(alloc, aggregate(op)?, len)?;
+    for part in parts.split(' ') {
+        let (place, rest) = part.split_once(':').context("no place")?;
+        let (condition, cells) = rest.split_once(':').context("no condition")?;
+        let place = place.parse::<u64>()?;
+        let condition = column(alloc, len, condition)?;
+        let cells = column(alloc, len, cells)?;
+        if place > 10000 || folds.len() != cells.len() || !have_room(&folds, place) {
+            bail!("no room");
+        }
+        if condition.len() != cells.len() {
+            bail!("columns of two lengths");
+        }
+        add_column_where(folds.as_mut_slice(), place, &condition, &cells);
+    }
+    finished(alloc, folds)
+}

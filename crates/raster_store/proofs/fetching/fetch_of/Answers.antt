@@ -1,0 +1,11 @@
+-- A tile that is kept of the coverage's version is the coverage's, and one that is read is kept.
+use Rattle.std.proofs.Common.{rules}
+use Rattle.raster_store.proofs.Versions.{adds_of}
+use Rattle.raster_store.proofs.fetching.fetch_of.Goals as goal
+
+pub returns-then-branch-clause-read : goal.returns-then-branch-clause-read
+returns-then-branch-clause-read g c = c.requires.kept _ c.get.new.cells.items (c.in_ok-get.ensures.kept (search rules)) (search rules)
+
+pub returns-clause-kept : goal.returns-clause-kept
+returns-clause-kept g c =
+    adds_of _ c.args.of.coverage.now _ _ _ _ _ c.get.ensures.same (rw c.deref.ensures.value at c.keep.ensures) (search rules) c.in_ok-read_of.ensures.read

@@ -1,0 +1,24 @@
+-- Coverages of a store that were copied by their names.
+use Rattle.std.specs.Prelude.{◌≡◌, ℕ, List, [], ◌∷◌, ◌++◌, All}
+use Rattle.raster_store.specs.declared.held.Held.{Held}
+use Rattle.raster_store.specs.Holding.{AreApart, NoneNamed}
+use Rattle.raster_store.specs.Fields.{IsNamed}
+
+-- it is the coverage of a store that has its name
+pub record IsPicked (held : List Held) (h : Held) : Type 0 where
+  pub from : Held
+  pub named : IsNamed h.signature.name held from
+  pub version : h.version ≡ from.version
+  pub signature : h.signature ≡ from.signature
+  pub fields : h.fields.items ≡ from.fields.items
+
+-- each is the coverage of a store with its name, each of these names has one, and none has two
+pub record ArePickedFrom (held : List Held) (names : List (List ℕ)) (copies : List Held) : Type 0 where
+  pub named : All (λ (n : List ℕ). NoneNamed n copies → ⊥) names
+  pub from : All (IsPicked held) copies
+  pub apart : AreApart copies
+
+-- one more name has its coverage
+abbrev pub AddsCopy : List Held → List ℕ → List Held → List Held → Type 0
+AddsCopy held name old new =
+    (names : List (List ℕ)) → ArePickedFrom held names old → ArePickedFrom held (names ++ name ∷ []) new

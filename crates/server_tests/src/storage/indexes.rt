@@ -1,0 +1,125 @@
+//! Indexes of tiles.
+
+ghost use Rattle.std.specs.Prelude.{◌≡◌, ◌<◌, None, Some, IfOk, IsTrue};
+ghost use Rattle.tile_index.specs.declared.entry.Entry.{Entry};
+ghost use Rattle.tile_index.specs.Entries.{IsEntry};
+ghost use Rattle.tile_index.specs.Index.{found_at};
+
+use crate::storage::words::{DAMAGED, NO_MEMORY, block_numbers, say_list};
+use anyhow::{Result, bail};
+use std::alloc::{AllocError, Global};
+use test_rows::{Answer, Files, cut, number};
+use tile_index::{BlockList, Entry, IndexError, TileIndex};
+
+/// The last tile number of 32 bits. An index has room for another tile as long as this one is not listed.
+const LAST: u64 = 4294967295;
+
+fn unread(error: IndexError) -> u16 {
+    match error {
+        IndexError::Damaged => DAMAGED,
+        IndexError::NoMemory => NO_MEMORY,
+    }
+}
+
+/// Reads the index of bytes into one.
+fn read(
+    alloc: Global,
+    answer: &mut Answer,
+    index: &mut TileIndex,
+    files: &Files,
+    words: &str,
+) -> Result<()> {
+    let bytes = files.bytes(alloc, words)?;
+    match TileIndex::from_bytes(alloc, &bytes) {
+        Ok(read) => {
+            *index = read;
+            answer.say("ok");
+        }
+        Err(error) => answer.refusal(unread(error)),
+    }
+    Ok(())
+}
+
+/// The length of a tile and its blocks, as `4 in 1`; `none` where it is not listed.
+fn say_entry(alloc: Global, answer: &mut Answer, entry: Option<&Entry>) {
+    match entry {
+        Some(entry) => {
+            answer.count(u64::from(entry.length));
+            answer.say(" in ");
+            say_list(alloc, answer, entry.blocks.as_slice());
+        }
+        None => answer.say("none"),
+    }
+}
+
+/// The entry of a length and its blocks, as `4 1`.
+fn entry_of(alloc: Global, words: &str) -> Result<Entry>
+    ensures { IfOk result (λ e. IsEntry e) }
+{
+    let (length, list) = cut(words);
+    let length = length.parse::<u32>()?;
+    let numbers = block_numbers(alloc, list)?;
+    if length == 0 || length > 40960 || numbers.len() != length.div_ceil(4096) as usize {
+        bail!("no such tile");
+    }
+    let blocks = BlockList::new(numbers);
+    Ok(Entry { length, blocks })
+}
+
+/// Whether an index does not list the last tile, so that it has room for one below it.
+fn has_room(index: &TileIndex, tile: u64) -> bool
+    ensures below { IsTrue result → tile < 4294967295 }
+    ensures room { IsTrue result → found_at 4294967295 index.now ≡ None }
+{
+    tile < LAST && index.get(LAST).is_none()
+}
+
+/// Gives a tile an entry, or none.
+fn change(
+    alloc: Global,
+    index: &mut TileIndex,
+    tile: u64,
+    entry: Option<Entry>,
+) -> Result<(), AllocError>
+    requires below { tile < 4294967295 }
+    requires room { found_at 4294967295 index.old ≡ None }
+    requires entry { (e : Entry) → entry ≡ Some e → IsEntry e }
+{
+    index.replace_all(vec![in alloc; (tile, entry)]?)
+}
+
+/// Gives a tile an entry, as `0 4 1`, or none, as `0 none`.
+fn replace(alloc: Global, answer: &mut Answer, index: &mut TileIndex, words: &str) -> Result<()> {
+    let (tile, rest) = cut(words);
+    let tile = number(tile);
+    if !has_room(index, tile) {
+        bail!("the last tile is left out");
+    }
+    match rest {
+        "none" => change(alloc, index, tile, None)?,
+        _ => change(alloc, index, tile, Some(entry_of(alloc, rest)?))?,
+    }
+    answer.say("ok");
+    Ok(())
+}
+
+/// A call on an index.
+pub fn call(
+    alloc: Global,
+    answer: &mut Answer,
+    index: &mut TileIndex,
+    files: &Files,
+    verb: &str,
+    words: &str,
+) -> Result<()> {
+    match verb {
+        "of" => read(alloc, answer, index, files, words)?,
+        "replace" => replace(alloc, answer, index, words)?,
+        "entry" => say_entry(alloc, answer, index.get(number(words))),
+        "tiles" => answer.count(index.as_slice().len() as u64),
+        "blocks" => say_list(alloc, answer, &index.blocks(alloc)?),
+        "index_bytes" => answer.hex(&index.to_bytes(alloc)?),
+        _ => answer.wrong("no such call"),
+    }
+    Ok(())
+}

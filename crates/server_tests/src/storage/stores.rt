@@ -1,0 +1,442 @@
+//! Stores of coverages.
+
+ghost use Rattle.std.specs.Prelude.{◌≡◌, ◌<◌, None, length, IfSome, IsSomeAnd, IsTrue};
+ghost use Rattle.arr_core.specs.Domains.{IsBoxOf, IsInside};
+ghost use Rattle.arr_core.specs.Stores.{found};
+ghost use Rattle.raster_store.specs.Calls.{HasField};
+ghost use Rattle.raster_store.specs.Fetches.{HasTile, HasTileNumber};
+ghost use Rattle.raster_store.specs.Snapshots.{held_view};
+
+use crate::storage::blocks::Volume;
+use crate::storage::disks::TestDisk;
+use crate::storage::words::{
+    DAMAGED, DISK_FAULT, NO_MEMORY, NO_ROOM, cells, say_list, say_signature, signature,
+};
+use anyhow::{Context, Result, bail};
+use arr_core::{Domain, Name, Signature};
+use page_pool::PagePool;
+use raster_store::{Fault, RasterStore, TileAt, WriteFault};
+use std::alloc::Global;
+use test_rows::{Answer, cell, cut, domain, number, point};
+
+pub type Store = RasterStore<PagePool<TestDisk>>;
+
+/// A field, by its place, of the coverage with a name.
+#[derive(Drop)]
+struct Target {
+    name: Name,
+    field: usize,
+}
+
+/// Whether a store has a field.
+fn has_field(store: &Store, target: &Target) -> bool
+    ensures { IsTrue result → HasField target.now.name target.now.field store.now.coverages }
+{
+    match store.signature(&target.name) {
+        Some(signature) => target.field < signature.fields.len(),
+        None => false,
+    }
+}
+
+/// Whether a store has a coverage with a name, and the point is inside.
+fn has_point(store: &Store, name: &Name, point: &[i32]) -> bool
+    ensures { IsTrue result → IsSomeAnd (found name.now store.now.coverages) (λ c. IsInside c.domain point.now) }
+{
+    match store.signature(name) {
+        Some(signature) => signature.domain.contains(point),
+        None => false,
+    }
+}
+
+/// Whether a store has a coverage with a name, and the box is one of it.
+fn has_box(store: &Store, name: &Name, area: &Domain) -> bool
+    ensures { IsTrue result → IsSomeAnd (found name.now store.now.coverages) (λ c. IsBoxOf c.domain area.now) }
+{
+    match store.signature(name) {
+        Some(signature) => area.is_box_of(&signature.domain),
+        None => false,
+    }
+}
+
+/// Whether a store has a coverage with a name, and that has a tile of the number.
+fn has_tile(store: &Store, name: &Name, tile: u64) -> bool
+    ensures { IsTrue result → HasTileNumber name.now tile store.now.coverages }
+{
+    match store.signature(name) {
+        Some(signature) => tile < signature.domain.tiles(),
+        None => false,
+    }
+}
+
+fn refused(fault: Fault) -> u16 {
+    match fault {
+        Fault::NoMemory => NO_MEMORY,
+        Fault::DiskFault => DISK_FAULT,
+        Fault::NoRoom => NO_ROOM,
+        Fault::Damaged => DAMAGED,
+    }
+}
+
+fn unwritten(fault: WriteFault) -> u16 {
+    match fault {
+        WriteFault::OutsideDomain => 24,
+        WriteFault::ValueCount => 25,
+        WriteFault::ValueRange => 26,
+        WriteFault::Device(fault) => refused(fault),
+    }
+}
+
+/// `ok`, or the refusal of a write.
+fn say_written(answer: &mut Answer, outcome: Result<(), WriteFault>) {
+    match outcome {
+        Ok(()) => answer.say("ok"),
+        Err(fault) => answer.refusal(unwritten(fault)),
+    }
+}
+
+/// The cells of a tile that was read into a buffer, or the refusal of the read.
+fn say_cells(alloc: Global, answer: &mut Answer, outcome: Result<(), Fault>, cells: &[i64]) {
+    match outcome {
+        Ok(()) => say_list(alloc, answer, cells),
+        Err(fault) => answer.refusal(refused(fault)),
+    }
+}
+
+/// Writes cells into a box, as `x(0:2) 1,2,3`.
+fn update(
+    alloc: Global,
+    answer: &mut Answer,
+    store: &mut Store,
+    bytes: u64,
+    target: &Target,
+    words: &str,
+) -> Result<()>
+    requires { HasField target.now.name target.now.field store.old.coverages }
+{
+    let (area, list) = cut(words);
+    let area = domain(alloc, area)?;
+    let list = cells(alloc, list)?;
+    say_written(
+        answer,
+        store.write_box(&target.name, target.field, &area, &list, bytes),
+    );
+    Ok(())
+}
+
+/// Writes one cell at every point of a box, as `x(0:99) 7`.
+fn fill(
+    alloc: Global,
+    answer: &mut Answer,
+    store: &mut Store,
+    bytes: u64,
+    target: &Target,
+    words: &str,
+) -> Result<()>
+    requires { HasField target.now.name target.now.field store.old.coverages }
+{
+    let (area, word) = cut(words);
+    let cell = cell(word)?;
+    let area = domain(alloc, area)?;
+    say_written(
+        answer,
+        store.fill_box(&target.name, target.field, &area, cell, bytes),
+    );
+    Ok(())
+}
+
+/// The numbers of a box, as `x(0:99)`.
+fn read_box(
+    alloc: Global,
+    answer: &mut Answer,
+    store: &mut Store,
+    target: &Target,
+    words: &str,
+) -> Result<()>
+    requires { HasField target.now.name target.now.field store.old.coverages }
+{
+    let area = domain(alloc, words)?;
+    if !has_box(store, &target.name, &area) {
+        bail!("no box");
+    }
+    match store.read_box(&target.name, target.field, &area) {
+        Ok(cells) => say_list(alloc, answer, &cells),
+        Err(fault) => answer.refusal(refused(fault)),
+    }
+    Ok(())
+}
+
+/// The number at a point, as `99`.
+fn read_point(
+    alloc: Global,
+    answer: &mut Answer,
+    store: &mut Store,
+    target: &Target,
+    words: &str,
+) -> Result<()>
+    requires { HasField target.now.name target.now.field store.old.coverages }
+{
+    let point = point(alloc, words)?;
+    if !has_point(store, &target.name, &point) {
+        bail!("no point");
+    }
+    match store.read_cell(&target.name, target.field, &point) {
+        Ok(cell) => answer.integer(cell),
+        Err(fault) => answer.refusal(refused(fault)),
+    }
+    Ok(())
+}
+
+/// The numbers of a tile.
+fn read_tile(alloc: Global, answer: &mut Answer, store: &mut Store, target: &Target, tile: u64)
+    requires { HasField target.now.name target.now.field store.old.coverages }
+{
+    if !has_tile(store, &target.name, tile) {
+        return answer.wrong("no tile");
+    }
+    let mut cells = Vec::new(alloc);
+    let outcome = store.fetch_tile(&target.name, target.field, tile, &mut cells);
+    say_cells(alloc, answer, outcome, &cells);
+}
+
+/// Which tile it is, of which field of the coverage with a name, where there is one.
+fn tile_at(store: &Store, target: &Target, tile: u64) -> Option<TileAt>
+    ensures { IfSome result (λ at. HasTile at store.now.coverages) }
+{
+    match store.place(&target.name) {
+        Some(coverage) => {
+            if !has_field(store, target) || !has_tile(store, &target.name, tile) {
+                return None;
+            }
+            Some(TileAt {
+                coverage,
+                field: target.field,
+                tile,
+            })
+        }
+        None => None,
+    }
+}
+
+/// The numbers of a tile, which are read into a buffer.
+fn read_into(
+    alloc: Global,
+    answer: &mut Answer,
+    store: &mut Store,
+    target: &Target,
+    tile: u64,
+    cells: &mut Vec<i64>,
+) {
+    match tile_at(store, target, tile) {
+        Some(at) => {
+            let outcome = store.fetch_tile_into(at, cells);
+            say_cells(alloc, answer, outcome, cells);
+        }
+        None => answer.wrong("no tile"),
+    }
+}
+
+/// The numbers of two tiles, which are read into one buffer one after the other, as `1 0`.
+fn read_tiles(alloc: Global, answer: &mut Answer, store: &mut Store, target: &Target, words: &str) {
+    let (first, second) = cut(words);
+    let mut cells = Vec::new(alloc);
+    read_into(alloc, answer, store, target, number(first), &mut cells);
+    answer.say(" | ");
+    read_into(alloc, answer, store, target, number(second), &mut cells);
+}
+
+/// A call on a field.
+fn on_field(
+    alloc: Global,
+    answer: &mut Answer,
+    store: &mut Store,
+    bytes: u64,
+    target: &Target,
+    verb: &str,
+    words: &str,
+) -> Result<()>
+    requires { HasField target.now.name target.now.field store.old.coverages }
+{
+    match verb {
+        "update" => update(alloc, answer, store, bytes, target, words)?,
+        "fill" => fill(alloc, answer, store, bytes, target, words)?,
+        "box" => read_box(alloc, answer, store, target, words)?,
+        "at" => read_point(alloc, answer, store, target, words)?,
+        "tile" => read_tile(alloc, answer, store, target, number(words)),
+        "tiles" => read_tiles(alloc, answer, store, target, words),
+        "index" => answer.hex(&store.index_bytes(alloc, &target.name, target.field)?),
+        _ => answer.wrong("no such call"),
+    }
+    Ok(())
+}
+
+/// A call on a field of a coverage, as `box lai 0 x(0:99)`.
+fn of_field(
+    alloc: Global,
+    answer: &mut Answer,
+    store: &mut Store,
+    bytes: u64,
+    verb: &str,
+    words: &str,
+) -> Result<()> {
+    let (name, rest) = cut(words);
+    let (field, rest) = cut(rest);
+    let name = Name::new(alloc, name)?;
+    let field = number(field) as usize;
+    let target = Target { name, field };
+    if !has_field(store, &target) {
+        bail!("no field");
+    }
+    on_field(alloc, answer, store, bytes, &target, verb, rest)
+}
+
+/// Adds a coverage.
+fn add(answer: &mut Answer, store: &mut Store, bytes: u64, signature: &Signature) {
+    if store.signature(&signature.name).is_some() {
+        return answer.wrong("there is one with this name");
+    }
+    match store.create(signature, bytes) {
+        Ok(()) => answer.say("ok"),
+        Err(fault) => answer.refusal(refused(fault)),
+    }
+}
+
+/// Adds a coverage, as `lai x(0:99) v:i16`.
+fn create(
+    alloc: Global,
+    answer: &mut Answer,
+    store: &mut Store,
+    bytes: u64,
+    words: &str,
+) -> Result<()> {
+    let signature = signature(alloc, words)?;
+    add(answer, store, bytes, &signature);
+    Ok(())
+}
+
+/// What is told of the coverage with a name.
+fn describe(alloc: Global, answer: &mut Answer, store: &Store, words: &str) -> Result<()> {
+    let name = Name::new(alloc, words)?;
+    say_signature(answer, store.signature(&name));
+    Ok(())
+}
+
+/// Takes a coverage out.
+fn delete(alloc: Global, answer: &mut Answer, store: &mut Store, words: &str) -> Result<()> {
+    let name = Name::new(alloc, words)?;
+    store.remove(&name);
+    answer.say("ok");
+    Ok(())
+}
+
+/// Whether a store has a coverage with a name.
+fn has_name(store: &Store, name: &Name) -> bool
+    ensures { IsTrue result → found name.now store.now.coverages ≡ None → ⊥ }
+{
+    store.signature(name).is_some()
+}
+
+/// Holds a coverage for a job, as `1 lai`.
+fn hold(alloc: Global, answer: &mut Answer, store: &mut Store, words: &str) -> Result<()> {
+    let (job, name) = cut(words);
+    let job = number(job);
+    let name = Name::new(alloc, name)?;
+    if store.holds(job) || !has_name(store, &name) {
+        bail!("nothing to hold");
+    }
+    match store.hold(job, &[name]) {
+        Ok(()) => answer.say("ok"),
+        Err(_) => answer.refusal(NO_MEMORY),
+    }
+    Ok(())
+}
+
+/// Ends what is held for a job.
+fn release(answer: &mut Answer, store: &mut Store, job: u64) {
+    store.release(job);
+    answer.say("ok");
+}
+
+/// Whether there is a tile, by its number, of a field of the coverage with a name that a number reads.
+fn is_readable(store: &Store, job: u64, target: &Target, tile: u64) -> bool
+    ensures field { IsTrue result
+        → IsSomeAnd (held_view job store.now) (λ v. HasField target.now.name target.now.field v.coverages) }
+    ensures tile { IsTrue result
+        → IsSomeAnd (held_view job store.now) (λ v. HasTileNumber target.now.name tile v.coverages) }
+{
+    if job != 0 && !store.holds(job) {
+        return false;
+    }
+    match store.signature_at(job, &target.name) {
+        Some(signature) => {
+            target.field < signature.fields.len() && tile < signature.domain.tiles()
+        }
+        None => false,
+    }
+}
+
+/// The numbers of a tile of a field, as `1 lai 0 0`: of the coverage as it is held for a job.
+fn read_held(alloc: Global, answer: &mut Answer, store: &mut Store, words: &str) -> Result<()> {
+    let (job, rest) = cut(words);
+    let (name, rest) = cut(rest);
+    let (field, tile) = cut(rest);
+    let (job, tile) = (number(job), number(tile));
+    let name = Name::new(alloc, name)?;
+    let field = number(field) as usize;
+    let target = Target { name, field };
+    if !is_readable(store, job, &target, tile) {
+        bail!("no tile");
+    }
+    let mut cells = Vec::new(alloc);
+    let outcome = store.fetch_tile_at(job, &target.name, target.field, tile, &mut cells);
+    say_cells(alloc, answer, outcome, &cells);
+    Ok(())
+}
+
+/// A call on a store whose catalogue has so many bytes.
+pub fn call(
+    alloc: Global,
+    answer: &mut Answer,
+    store: &mut Store,
+    bytes: u64,
+    verb: &str,
+    words: &str,
+) -> Result<()> {
+    match verb {
+        "create" => create(alloc, answer, store, bytes, words)?,
+        "described" => describe(alloc, answer, store, words)?,
+        "delete" => delete(alloc, answer, store, words)?,
+        "fetched" => answer.count(store.fetched()),
+        "count" => answer.count(store.len() as u64),
+        "hold" => hold(alloc, answer, store, words)?,
+        "release" => release(answer, store, number(words)),
+        "held" => read_held(alloc, answer, store, words)?,
+        _ => of_field(alloc, answer, store, bytes, verb, words)?,
+    }
+    Ok(())
+}
+
+/// Makes a store without coverages over the blocks of a file.
+pub fn begin(
+    alloc: Global,
+    answer: &mut Answer,
+    volume: &mut Option<Volume>,
+    store: &mut Option<Store>,
+) -> Result<()> {
+    let volume = volume.take().context("no file of blocks")?;
+    *store = Some(RasterStore::new(alloc, volume.into_file()));
+    answer.say("ok");
+    Ok(())
+}
+
+/// Takes the blocks of a store back.
+pub fn end(
+    alloc: Global,
+    answer: &mut Answer,
+    volume: &mut Option<Volume>,
+    store: &mut Option<Store>,
+) -> Result<()> {
+    let store = store.take().context("no store")?;
+    *volume = Some(Volume::new(alloc, store.into_blocks()));
+    answer.say("ok");
+    Ok(())
+}

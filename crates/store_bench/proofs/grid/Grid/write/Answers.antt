@@ -1,8 +1,0 @@
--- The only coverage of the store has a field, and so its first one may be written.
-use Rattle.std.proofs.Common.{◌<◌, length}
-use Rattle.arr_core.specs.declared.signature.Signature.{Signature}
-use Rattle.store_bench.proofs.Alone.{alone}
-use Rattle.store_bench.proofs.grid.Grid.write.Goals as goal
-
-pub write_box-requires : goal.write_box-requires
-write_box-requires g c = record { field = alone c.self.inside.signature c.self.inside.store.coverages (λ (s : Signature). 0 < length s.fields) c.self.invariant.0 c.self.invariant.1 }

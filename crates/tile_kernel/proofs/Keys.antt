@@ -1,0 +1,143 @@
+-- Cells that are told by their keys.
+use Rattle.std.proofs.Common.{◌≡◌, ◌≢◌, ⊎_elim, ℕ, suc, ◌+◌, ◌<◌, ◌≤◌, ℤ, ◌≤ℤ◌, ◌+ℤ◌, ◌-◌, int_le, pos, take_all, length-set, List, [], ◌∷◌, ◌++◌, length, get_or, set, take, refl, sym, ap, ◌∙◌, subst, arith, append_assoc, get_or-set_other, get_or-set_same, Some, None, Bool, true, false, cond}
+use Rattle.std.specs.Prelude.{slice_get}
+use Rattle.std.proofs.lemmas.List.{append-nil, get_or-map, length-map}
+use Rattle.std.proofs.lemmas.Option.{slice_get-get_or}
+use Rattle.std.proofs.lemmas.Bool.Decides.{eqb_tells, Decides-like, Decides-and}
+use Rattle.std.specs.Bool.{Decides}
+use Rattle.std.proofs.lemmas.Int.{ints}
+use Rattle.wcps_text.specs.declared.operator.BinaryOperator.TheVariants.{Equal}
+use Rattle.wcps_mean.specs.declared.cell.Outcome.{Outcome}
+use Rattle.wcps_mean.specs.declared.cell.Outcome.TheVariants.{Value}
+use Rattle.wcps_mean.specs.Cells.{operate2, number, int_eq}
+use Rattle.tile_kernel.specs.declared.accumulator.Accumulator.{Accumulator}
+use Rattle.tile_kernel.specs.Told.{demanded_of, demanded_at}
+use Rattle.tile_kernel.specs.Standing.{Stands, TakesIn, EachTakesIn}
+use Rattle.tile_kernel.specs.Keyed.{having, number_at, IsPlaceOf, AreSlots}
+use Rattle.tile_kernel.proofs.Places.{outcome_there}
+use Rattle.tile_kernel.proofs.Tellings.{demanded_suc}
+
+-- what a cell adds to the accumulator of a number
+told_if : (b : Bool) (p : ℕ) (o : Outcome) → demanded_of p (Value (number b)) o ≡ cond b ((p, o) ∷ []) []
+told_if true p o = refl
+told_if false p o = refl
+
+Decides-int_le : (a b : ℤ) → Decides (int_le a b) (a ≤ℤ b)
+Decides-int_le a b = (λ h. grind (arith, ints), λ h. grind (arith, ints))
+
+equal-decides : (z n : ℤ) → Decides (int_eq z n) (z ≡ n)
+equal-decides z n =
+    Decides-like (int_eq z n) (λ (p : (z ≤ℤ n) × (n ≤ℤ z)). same z n p.0 p.1) (λ (e : z ≡ n). (le z n e, le n z (sym e)))
+    (Decides-and _ _ (Decides-int_le z n) (Decides-int_le n z))
+  where
+    same : (z n : ℤ) → z ≤ℤ n → n ≤ℤ z → z ≡ n
+    same z n h k = omega (arith, ints)
+
+    le : (z n : ℤ) → z ≡ n → z ≤ℤ n
+    le z n e = omega (arith, ints)
+
+equal_told : (z n : ℤ) (p : ℕ) (o : Outcome) → n ≡ z → demanded_of p (operate2 Equal (Value z) (Value n)) o ≡ (p, o) ∷ []
+equal_told z n p o e =
+    told_if (int_eq z n) p o ∙ ap (λ (b : Bool). cond b ((p, o) ∷ []) []) ((equal-decides z n).1 (sym e))
+
+unequal_told : (z n : ℤ) (p : ℕ) (o : Outcome) → n ≢ z → demanded_of p (operate2 Equal (Value z) (Value n)) o ≡ []
+unequal_told z n p o ne =
+    told_if (int_eq z n) p o ∙ ap (λ (b : Bool). cond b ((p, o) ∷ []) []) (untrue (int_eq z n) (λ t. ne (sym ((equal-decides z n).0 t))))
+  where
+    untrue : (b : Bool) → (b ≡ true → ⊥) → b ≡ false
+    untrue true f = absurd (f refl)
+    untrue false f = refl
+
+-- one accumulator has taken in a cell with its number
+pub set_told : (folds : List Accumulator) (numbers : List ℤ) (z : ℤ) (p : ℕ) (o : Outcome) (k : ℕ) (m : Accumulator) → k < length folds → length folds ≡ length numbers → IsPlaceOf z numbers (Some k)
+    → ((d : Accumulator) → TakesIn (get_or folds k d) m ((p, o) ∷ [])) → EachTakesIn folds (set folds k m) (λ j. demanded_of p (operate2 Equal (Value z) (Value (number_at numbers j))) o)
+set_told folds numbers z p o k m lt e place more told s j d l =
+    ⊎_elim
+    (λ (h : (_ × (j ≡ k))). same j d l h.1)
+    (λ (h : (_ × (j ≢ k))). other j d l h.1)
+    (eqb_tells j k)
+  where
+    same : (j : ℕ) (d : Accumulator) → j < length (set folds k m) → j ≡ k → Stands (get_or (set folds k m) j d) (told j ++ demanded_of p (operate2 Equal (Value z) (Value (number_at numbers j))) o)
+    same j d l h =
+        let here : number_at numbers j ≡ z = (place j (omega (arith, length-set {A = Accumulator}))).1 (ap Some (sym h)) in
+        let taken = more d (told k) (s k d lt) in
+        let at : get_or (set folds k m) j d ≡ m = ap (λ i. get_or (set folds k m) i d) h ∙ get_or-set_same folds k m d lt in
+        subst (λ l. Stands (get_or (set folds k m) j d) (told j ++ l)) (sym (equal_told z (number_at numbers j) p o here))
+        (subst (λ a. Stands a (told j ++ (p, o) ∷ [])) (sym at) (subst (λ i. Stands m (told i ++ (p, o) ∷ [])) (sym h) taken))
+
+    other : (j : ℕ) (d : Accumulator) → j < length (set folds k m) → j ≢ k → Stands (get_or (set folds k m) j d) (told j ++ demanded_of p (operate2 Equal (Value z) (Value (number_at numbers j))) o)
+    other j d l h =
+        let ne : number_at numbers j ≢ z = λ q. h (let w : Some k ≡ Some j = (place j (omega (arith, length-set {A = Accumulator}))).0 q in cc) in
+        let at : get_or (set folds k m) j d ≡ get_or folds j d = get_or-set_other folds k j m d h in
+        subst (λ l. Stands (get_or (set folds k m) j d) (told j ++ l)) (sym (unequal_told z (number_at numbers j) p o ne))
+        (subst (λ l. Stands (get_or (set folds k m) j d) l) (sym (append-nil (told j))) (subst (λ a. Stands a (told j)) (sym at) (s j d (omega (arith, length-set {A = Accumulator})))))
+
+-- no accumulator has a number that is none of theirs
+pub none_told : (folds : List Accumulator) (numbers : List ℤ) (z : ℤ) (p : ℕ) (o : Outcome) → length folds ≡ length numbers → IsPlaceOf z numbers None
+    → EachTakesIn folds folds (λ j. demanded_of p (operate2 Equal (Value z) (Value (number_at numbers j))) o)
+none_told folds numbers z p o e place told s j d l =
+    let ne : number_at numbers j ≢ z = λ q. (let w : None ≡ Some j = (place j (omega arith)).0 q in cc) in
+    subst (Stands (get_or folds j d)) (sym (ap (λ l. told j ++ l) (unequal_told z (number_at numbers j) p o ne) ∙ append-nil (told j))) (s j d l)
+
+-- one more cell
+pub keyed_more : (before folds after : List Accumulator) (numbers : List ℤ) (ps : List ℕ) (keys os : List Outcome) (j p : ℕ) (key o : Outcome) → length ps ≡ length os → length keys ≡ length os → j < length os
+    → p ≡ get_or ps j 0 → slice_get keys j ≡ Some key → slice_get os j ≡ Some o → length folds ≡ length before
+    → EachTakesIn before folds (λ k. demanded_at (take j ps) (take j (having keys (number_at numbers k))) (take j os))
+    → EachTakesIn folds after (λ k. demanded_of p (operate2 Equal key (Value (number_at numbers k))) o)
+    → EachTakesIn before after (λ k. demanded_at (take (j + 1) ps) (take (j + 1) (having keys (number_at numbers k))) (take (j + 1) os))
+keyed_more before folds after numbers ps keys os j p key o h g lt e f i len first second told s k d l =
+    let cs = having keys (number_at numbers k) in
+    let c = operate2 Equal key (Value (number_at numbers k)) in
+    let there : slice_get cs j ≡ Some c =
+    slice_get-get_or cs j (Value (pos 0)) (omega (arith, length-map keys (λ (o : Outcome). operate2 Equal o (Value (number_at numbers k)))))
+    ∙ ap Some (get_or-map (λ (o : Outcome). operate2 Equal o (Value (number_at numbers k))) keys j (Value (pos 0)) (Value (pos 0)) (omega arith) ∙ ap (λ o. operate2 Equal o (Value (number_at numbers k))) (outcome_there keys j key f)) in
+    let long : length cs ≡ length os = length-map keys (λ (o : Outcome). operate2 Equal o (Value (number_at numbers k))) ∙ g in
+    let split = demanded_suc ps cs os j p c o h long lt e there i in
+    let n : suc j ≡ j + 1 = omega arith in
+    let both = second (λ k. told k ++ demanded_at (take j ps) (take j (having keys (number_at numbers k))) (take j os)) (first told s) k d l in
+    subst (λ l. Stands (get_or after k d) (told k ++ l)) (sym split ∙ ap (λ m. demanded_at (take m ps) (take m cs) (take m os)) n)
+    (subst (Stands (get_or after k d)) (append_assoc (told k) (demanded_at (take j ps) (take j cs) (take j os)) (demanded_of p c o)) both)
+
+-- in the end all cells
+pub keyed_whole : (before after : List Accumulator) (numbers : List ℤ) (ps : List ℕ) (keys os : List Outcome) (j : ℕ) → length ps ≡ length os → length keys ≡ length os → length os ≤ j
+    → EachTakesIn before after (λ k. demanded_at (take j ps) (take j (having keys (number_at numbers k))) (take j os))
+    → EachTakesIn before after (λ k. demanded_at ps (having keys (number_at numbers k)) os)
+keyed_whole before after numbers ps keys os j h g le f told s k d l =
+    let cs = having keys (number_at numbers k) in
+    let long : length cs ≡ length os = length-map keys (λ (o : Outcome). operate2 Equal o (Value (number_at numbers k))) ∙ g in
+    let all : demanded_at (take j ps) (take j cs) (take j os) ≡ demanded_at ps cs os =
+    ap (λ l. demanded_at l (take j cs) (take j os)) (take_all j ps (omega arith)) ∙ ap (λ l. demanded_at ps l (take j os)) (take_all j cs (omega arith)) ∙ ap (demanded_at ps cs) (take_all j os le) in
+    subst (λ l. Stands (get_or after k d) (told k ++ l)) all (f told s k d l)
+
+-- ---- numbers by a table
+
+pub none_above : (low z : ℤ) (table : List ℕ) (numbers : List ℤ) → AreSlots low table numbers → ((i : ℕ) → i < length table → z ≡ low +ℤ pos i → ⊥) → IsPlaceOf z numbers None
+none_above low z table numbers s f k l =
+    let t = s.there k l in
+    ((λ (e : number_at numbers k ≡ z). absurd (f t.0 t.1 (sym e ∙ t.2))), (λ w. cc))
+
+same_slot : (low : ℤ) (i j : ℕ) → low +ℤ pos i ≡ low +ℤ pos j → i ≡ j
+same_slot low i j e = omega (arith, ints, e)
+
+pub none_there : (low z : ℤ) (table : List ℕ) (numbers : List ℤ) (i : ℕ) → AreSlots low table numbers → z ≡ low +ℤ pos i → get_or table i 0 ≡ 0 → IsPlaceOf z numbers None
+none_there low z table numbers i s at none k l =
+    let t = s.there k l in (
+      (λ (e : number_at numbers k ≡ z).
+          let same = same_slot low t.0 i (sym t.2 ∙ e ∙ at) in
+          let zero : get_or table t.0 0 ≡ 0 = ap (λ j. get_or table j 0) same ∙ none in
+          absurd (omega (arith, zero, t.3))),
+      (λ w. cc),
+    )
+
+pub some_there : (low z : ℤ) (table : List ℕ) (numbers : List ℤ) (i n : ℕ) → AreSlots low table numbers → i < length table → z ≡ low +ℤ pos i → get_or table i 0 ≡ n → n ≢ 0 → IsPlaceOf z numbers (Some (n - 1))
+some_there low z table numbers i n s lt at is some k l =
+    let t = s.there k l in
+    let b = s.back i lt (omega arith) in (
+      (λ (e : number_at numbers k ≡ z).
+          let same = same_slot low t.0 i (sym t.2 ∙ e ∙ at) in
+          let here : get_or table t.0 0 ≡ n = ap (λ j. get_or table j 0) same ∙ is in
+          ap Some (let p : n - 1 ≡ k = omega (arith, here, t.3) in p)),
+      (λ (w : Some (n - 1) ≡ Some k).
+          let p : n - 1 ≡ k = cc in
+          ap (number_at numbers) (sym p ∙ ap (λ m. m - 1) (sym is)) ∙ b.1 ∙ sym at),
+    )

@@ -1,0 +1,25 @@
+-- Cells that are told by their keys.
+use Rattle.std.specs.Prelude.{◌≡◌, ◌↔◌, ℕ, ◌+◌, ◌-◌, ◌<◌, ◌≤◌, ℤ, pos, ◌+ℤ◌, List, map, length, slice_index_or, Option, Some}
+use Rattle.wcps_text.specs.declared.operator.BinaryOperator.TheVariants.{Equal}
+use Rattle.wcps_mean.specs.declared.cell.Outcome.{Outcome}
+use Rattle.wcps_mean.specs.declared.cell.Outcome.TheVariants.{Value}
+use Rattle.wcps_mean.specs.Cells.{operate2}
+
+-- the condition that a key is this number, at each place
+abbrev pub having : List Outcome → ℤ → List Outcome
+having keys z = map (λ (o : Outcome). operate2 Equal o (Value z)) keys
+
+-- the number at a place of a list
+abbrev pub number_at : List ℤ → ℕ → ℤ
+number_at numbers k = slice_index_or numbers k (pos 0)
+
+-- this is the place of a number in a list in which no other place has it, or there is none
+abbrev pub IsPlaceOf : ℤ → List ℤ → Option ℕ → Type 0
+IsPlaceOf z numbers place = (k : ℕ) → k < length numbers → (number_at numbers k ≡ z) ↔ (place ≡ Some k)
+
+-- Numbers by a table over a range: for each number from `low` on one more than its place, or 0.
+pub record AreSlots (low : ℤ) (table : List ℕ) (numbers : List ℤ) : Type 0 where
+  pub there : (k : ℕ) → k < length numbers
+      → (i : ℕ) × (i < length table) × (number_at numbers k ≡ low +ℤ pos i) × (slice_index_or table i 0 ≡ k + 1)
+  pub back : (i : ℕ) → i < length table → 0 < slice_index_or table i 0
+      → (slice_index_or table i 0 ≤ length numbers) × (number_at numbers (slice_index_or table i 0 - 1) ≡ low +ℤ pos i)

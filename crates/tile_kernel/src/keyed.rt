@@ -1,0 +1,85 @@
+//! Condensers that are told of the cells of a column by the keys of these: one pass over the column for all keys.
+
+ghost use Rattle.std.specs.Prelude.{◌≡◌, ◌-◌, ◌+◌, ◌<◌, ◌≤◌, ◌^◌, ℕ, ℤ, List, [], ◌∷◌, length, slice_index_or, IfSome};
+ghost use Rattle.wcps_text.specs.declared.operator.Aggregate.{Aggregate};
+ghost use Rattle.wcps_text.specs.declared.operator.BinaryOperator.TheVariants.{Equal};
+ghost use Rattle.wcps_mean.specs.declared.cell.Outcome.TheVariants.{Value};
+ghost use Rattle.wcps_mean.specs.Cells.{operate2};
+ghost use Rattle.tile_kernel.specs.Told.{demanded_of, demanded_at};
+ghost use Rattle.tile_kernel.specs.Standing.{AreOf, HaveAtMost, EachTakesIn};
+ghost use Rattle.tile_kernel.specs.Keyed.{having, number_at, IsPlaceOf};
+
+use crate::accumulator::Accumulator;
+use crate::column::Column;
+use wcps_mean::Outcome;
+
+/// Different numbers, each at a place of its own.
+pub trait Numbers {
+    ghost numbers: { Self → List ℤ };
+
+    /// The place of a number, if it is one of them.
+    fn place_of(&self, z: i64) -> Option<usize>
+        ensures within { IfSome result (λ k. k < length (numbers self.now)) }
+        ensures place { IsPlaceOf z (numbers self.now) result };
+}
+
+/// Each accumulator is told of one more point.
+fn tell_each(folds: &mut [Accumulator], place: u64, o: Outcome)
+    requires room { HaveAtMost (2 ^ 24 - 1) folds.old }
+    ensures stands { EachTakesIn folds.old folds.new (λ _. (place, o) ∷ []) }
+    ensures room { (n : ℕ) → HaveAtMost n folds.old → HaveAtMost (n + 1) folds.new }
+    ensures op { (op : Aggregate) → AreOf op folds.old → AreOf op folds.new }
+    ensures length { length folds.new ≡ length folds.old }
+{
+    for k in 0..folds.len() {
+        folds[k].add(place, o);
+    }
+}
+
+/// The accumulator of a key's number is told of a cell; of a key's fault all are told.
+fn tell_keyed<N: Numbers>(
+    folds: &mut [Accumulator],
+    numbers: &N,
+    place: u64,
+    key: Outcome,
+    o: Outcome,
+)
+    requires folds { length folds.old ≡ length (N.numbers numbers.now) }
+    requires room { HaveAtMost (2 ^ 24 - 1) folds.old }
+    ensures stands { EachTakesIn folds.old folds.new (λ k. demanded_of place (operate2 Equal key (Value (number_at (N.numbers numbers.now) k))) o) }
+    ensures room { (n : ℕ) → HaveAtMost n folds.old → HaveAtMost (n + 1) folds.new }
+    ensures op { (op : Aggregate) → AreOf op folds.old → AreOf op folds.new }
+    ensures length { length folds.new ≡ length folds.old }
+{
+    match key {
+        Outcome::Fault(f) => tell_each(folds, place, Outcome::Fault(f)),
+        Outcome::Value(z) => match numbers.place_of(z) {
+            Some(k) => folds[k].add(place, o),
+            None => (),
+        },
+    }
+}
+
+/// Each accumulator is told of those cells of a column whose key is its number, at their places in the box: in one pass
+/// what a fold under the condition that the key is the number tells each of them.
+pub fn add_keyed<N: Numbers>(
+    folds: &mut [Accumulator],
+    numbers: &N,
+    keys: &Column,
+    column: &Column,
+    places: &[u64],
+)
+    requires folds { length folds.old ≡ length (N.numbers numbers.now) }
+    requires keys { length keys.now ≡ length column.now }
+    requires places { length places.now ≡ length column.now }
+    requires room { HaveAtMost (2 ^ 24 - length column.now) folds.old }
+    requires few { length column.now ≤ 4096 }
+    ensures stands { EachTakesIn folds.old folds.new (λ k. demanded_at places.now (having keys.now (number_at (N.numbers numbers.now) k)) column.now) }
+    ensures room { (n : ℕ) → HaveAtMost n folds.old → HaveAtMost (n + length column.now) folds.new }
+    ensures op { (op : Aggregate) → AreOf op folds.old → AreOf op folds.new }
+    ensures length { length folds.new ≡ length folds.old }
+{
+    for j in 0..column.len() {
+        tell_keyed(folds, numbers, places[j], keys.at(j), column.at(j));
+    }
+}

@@ -1,0 +1,186 @@
+#!/usr/bin/env python3
+"""A server that is stopped and continued under load, and two servers on one file.
+
+    faults/interrupts.py PROGRAM [CONNECTIONS] [strict]
+
+The first part sends SIGSTOP and SIGCONT to a server while a client writes and asks over loopback, so many connections one after
+the other, 200 where the number is left out, its messages in pieces with pauses. Each reply that comes has to be right, and
+the file has to hold each update that was answered. A connection that ends without its reply is known today: the system tells a
+read with a limit of time that it was interrupted, and the server takes that for the end.
+
+The second part has one server open a file, stops it between its reading of the header and its first write (by shim.c), has a
+second one open the file, write and close it, and lets the first go on to its close. Today both answer `ok` and end with 0, and
+what one of them wrote is gone, or the file is refused: known too, until a server locks its file. A server that opens a file
+which another one has open behind its first write has to be refused as 95.
+
+With `strict` what is known counts as wrong. Ends with status 1 where something was wrong.
+"""
+
+import contextlib
+import os
+import random
+import signal
+import socket
+import subprocess
+import sys
+import tempfile
+import threading
+import time
+
+sys.dont_write_bytecode = True
+
+import scripts
+import shim
+from failing import shown_by
+
+sys.path.append(f"{shim.TOP}/scripts")
+
+from served import free_port
+
+CELLS = 64
+
+
+def rest(client):
+    """What comes until the server ends the connection."""
+    found = b""
+    with contextlib.suppress(ConnectionResetError):
+        while part := client.recv(1 << 16):
+            found += part
+    return found
+
+
+def in_pieces(client, chance, data):
+    with contextlib.suppress(OSError):
+        while data:
+            size = chance.randrange(1, len(data) + 1)
+            client.sendall(data[:size])
+            data = data[size:]
+            time.sleep(chance.random() * 0.01)
+        client.shutdown(socket.SHUT_WR)
+
+
+def connected(port):
+    for _ in range(500):
+        with contextlib.suppress(OSError):
+            return socket.create_connection(("127.0.0.1", port), timeout=60)
+        time.sleep(0.02)
+    sys.exit("no server")
+
+
+def ok(kind, body):
+    return b"HTTP/1.1 200 OK\r\nContent-Type: text/%s\r\nContent-Length: %d\r\n\r\n%s" % (kind, len(body), body)
+
+
+def load(port, chance, connections):
+    """What may be the value of each cell, how many connections lacked a reply, and how many replies were wrong."""
+    cells, lacking, wrong = [{0} for _ in range(CELLS)], 0, 0
+    for _ in range(connections):
+        place, value = chance.randrange(CELLS), chance.randrange(100)
+        box, point = f"x({place}:{place})", f"for c in (w) return c[x({place})]"
+        with connected(port) as client:
+            in_pieces(client, chance, scripts.update("w", "v", box, fill=value) + scripts.query(point))
+            came = rest(client)
+        done, wanted = ok(b"plain", b"ok\n"), ok(b"plain", b"ok\n") + ok(b"csv", b"%d\n" % value)
+        # without the first reply the update was done or not
+        cells[place] = {value} if came.startswith(done) else cells[place] | {value}
+        lacking += came != wanted and wanted.startswith(came)
+        wrong += not wanted.startswith(came)
+    return cells, lacking, wrong
+
+
+@contextlib.contextmanager
+def stopping(pid):
+    """Stops and continues a process by turns meanwhile. The list gets an item for each time."""
+    chance, over, times = random.Random(1), threading.Event(), []
+
+    def turns():
+        while not over.wait(chance.random() * 0.01):
+            os.kill(pid, signal.SIGSTOP)
+            time.sleep(chance.random() * 0.01)
+            os.kill(pid, signal.SIGCONT)
+            times.append(pid)
+
+    thread = threading.Thread(target=turns)
+    thread.start()
+    try:
+        yield times
+    finally:
+        over.set()
+        thread.join()
+
+
+def stopped(program, folder, connections):
+    """A server under load that is stopped and continued. What was lacking, and what was wrong."""
+    path, port = f"{folder}/stopped", free_port()
+    words = [program, path, "listen", str(port), str(connections + 1)]
+    with subprocess.Popen(words, stdin=subprocess.DEVNULL) as server:
+        try:
+            with connected(port) as client:
+                in_pieces(client, random.Random(0), scripts.insert("w", f"x(0:{CELLS - 1})", "v:u8"))
+                rest(client)
+            with stopping(server.pid) as times:
+                cells, lacking, wrong = load(port, random.Random(2), connections)
+            status = server.wait(60)
+        finally:
+            server.kill()
+    with open(path, "rb") as file:
+        held = shown_by(file.read())
+    lost = held if isinstance(held, int) else sum(cell not in may for cell, may in zip(held[0][3][0], cells))
+    print(
+        f"stopped {len(times)} times under {connections} connections: {lacking} ended without a reply (known);"
+        f" wrong replies: {wrong}, lost updates: {lost}, status {status}",
+        flush=True,
+    )
+    return lacking, wrong + bool(lost) + (status != 0)
+
+
+def two(program, made, folder):
+    """Two servers on one file: whether something was lost without being told, and whether something else was wrong."""
+    path, log = f"{folder}/two", f"{folder}/log"
+    with open(path, "wb") as file:
+        file.write(scripts.lai())
+    probe = shim.Run(program, path, shim.environment(made, log=log))
+    probe.end()
+    first_write = [call[0] for call in shim.calls(log)[0]].index("pwrite") + 1
+    with open(path, "wb") as file:
+        file.write(scripts.lai())
+    one = shim.Run(program, path, shim.environment(made, "disk", first_write, shim.STOPPED))
+    os.waitid(os.P_PID, one.process.pid, os.WSTOPPED | os.WEXITED | os.WNOWAIT)
+    other = shim.Run(program, path, None)
+    answered = [other.ask(it) for it in writes("b")]
+    ended = other.end()
+    one.process.send_signal(signal.SIGCONT)
+    answered += [one.ask(it) for it in writes("a")]
+    late = shim.Run(program, path, None).end()
+    ends = [ended, one.end()]
+    with open(path, "rb") as file:
+        held = shown_by(file.read())
+    names = held if isinstance(held, int) else [it[0] for it in held]
+    oks = sum(it == ok(b"plain", b"ok\n") for it in answered)
+    print(
+        f"two servers on one file: {oks} of {len(answered)} requests are ok, statuses {ends}, and the file is {names} (known)"
+    )
+    print(f"a third one while one has it open: {late}", flush=True)
+    told = any(end != (0, "") for end in ends)
+    lost = not told and (isinstance(held, int) or not {"a", "b"} <= set(names))
+    return lost, late not in [(3, "not opened: 95 NotClosed"), (3, "not opened: 91 DiskFault")]
+
+
+def writes(name):
+    return [scripts.insert(name, "x(0:9999)", "v:i64"), scripts.update(name, "v", "x(0:9999)", fill=len(name))]
+
+
+def main(program, *words):
+    program, connections = os.path.abspath(program), next((int(it) for it in words if it != "strict"), 200)
+    with tempfile.TemporaryDirectory() as folder:
+        lacking, wrong = stopped(program, folder, connections)
+        lost = False
+        if shim.is_dynamic(program):
+            with shim.library() as made:
+                lost, other = two(program, made, folder)
+            wrong += other
+    return 1 if wrong or ("strict" in words and (lacking or lost)) else 0
+
+
+if __name__ == "__main__":
+    sys.exit(main(*sys.argv[1:]))

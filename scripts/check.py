@@ -1,0 +1,118 @@
+#!/usr/bin/env python3
+"""Runs the examples of the documents against the built program, and fails where an answer is another, or where docs/PROVED.md
+does not list the crates of crates.txt, each once.
+
+    scripts/check.py PROGRAM [DOCUMENT..]
+
+An example is a line of an indented block that begins with `$ `: a command for bash. The indented lines below it, up to the
+next such line or the next paragraph, are what it prints. All of a document's commands run in one shell, in a folder of their own,
+beside a server on an empty store in memory that is theirs alone; it listens where the document says `localhost:8080`.
+Blocks without such a line are not run.
+"""
+
+import os
+import re
+import subprocess
+import sys
+import tempfile
+
+sys.dont_write_bytecode = True
+TOP = os.path.dirname(os.path.dirname(os.path.abspath(__file__)))
+DOCS = f"{TOP}/docs"
+
+from served import served
+
+SAYS = "localhost:8080"
+
+
+def examples(text):
+    """The commands of a document, each with its line and what it is to print. A blank line inside a block is one of it."""
+    found, is_open, blank = [], False, 0
+    for number, line in enumerate(text.splitlines(), 1):
+        if not line.strip():
+            blank += 1
+        elif line.startswith("    $ "):
+            found.append((number, line[6:], []))
+            is_open, blank = True, 0
+        elif is_open and line.startswith("    "):
+            found[-1][2].extend([""] * blank + [line[4:]])
+            blank = 0
+        else:
+            is_open = False
+    return found
+
+
+def printed(command, shell, mark):
+    """What a command prints in a running shell, as lines."""
+    shell.stdin.write(f"{command}\nprintf '\\n%s\\n' {mark}\n")
+    shell.stdin.flush()
+    lines = []
+    while (line := shell.stdout.readline()) and line.rstrip("\n") != mark:
+        lines.append(line.rstrip("\n"))
+    # the line end before the mark is ours where what came ended its own line
+    return lines[:-1] if lines and lines[-1] == "" else lines
+
+
+def differences(program, document):
+    """How many examples a document has, and of each that is not so, the line, what it is to print and what it does."""
+    with open(document, encoding="utf-8") as file:
+        found = examples(file.read())
+    told = []
+    with tempfile.TemporaryDirectory() as folder, served(program, folder) as port:
+        words = ["bash", "--norc", "--noprofile"]
+        plain = {name: value for name, value in os.environ.items() if not name.lower().endswith("_proxy")}
+        with subprocess.Popen(
+            words,
+            cwd=folder,
+            env=plain,
+            stdin=subprocess.PIPE,
+            stdout=subprocess.PIPE,
+            stderr=subprocess.STDOUT,
+            text=True,
+        ) as shell:
+            for number, command, expected in found:
+                came = printed(command.replace(SAYS, f"127.0.0.1:{port}"), shell, f"example-{number}-ended")
+                if came != expected:
+                    told.append((number, command, expected, came))
+            shell.stdin.close()
+    return len(found), told
+
+
+def crates_told():
+    """What differs between the crates of crates.txt and those that docs/PROVED.md begins its points with."""
+    with open(f"{TOP}/crates.txt", encoding="utf-8") as file:
+        crates = [line.split(":")[0].split()[0] for line in file if line.strip() and not line.startswith("#")]
+    with open(f"{DOCS}/PROVED.md", encoding="utf-8") as file:
+        heads = re.findall(r"^- ((?:`\w+`(?:, )?)+):", file.read(), re.M)
+    listed = [name for head in heads for name in re.findall(r"\w+", head)]
+    return [
+        *(f"docs/PROVED.md does not list {name}" for name in crates if name not in listed),
+        *(f"docs/PROVED.md lists {name}, which is no crate" for name in set(listed) - set(crates)),
+        *(f"docs/PROVED.md lists {name} twice" for name in sorted(set(listed)) if listed.count(name) > 1),
+    ]
+
+
+def main(program, *documents):
+    program, all_told, count = os.path.abspath(program), 0, 0
+    wrong = crates_told()
+    print(*wrong, sep="\n", end="\n" if wrong else "")
+    listed = documents or [f"{DOCS}/{it}" for it in sorted(os.listdir(DOCS)) if it.endswith(".md")] + [
+        f"{TOP}/README.md"
+    ]
+    for document in listed:
+        examples_in, told = differences(program, document)
+        count += examples_in
+        all_told += len(told)
+        for number, command, expected, came in told:
+            print(
+                f"{os.path.basename(document)}:{number}: {command}",
+                *(f"  wanted: {it}" for it in expected),
+                *(f"  came:   {it}" for it in came),
+                sep="\n",
+            )
+    print(f"{count} examples, {all_told} differ")
+    return 1 if all_told or wrong or not count else 0
+
+
+if __name__ == "__main__":
+    sys.exit(main(*sys.argv[1:]))

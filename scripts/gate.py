@@ -1,0 +1,119 @@
+#!/usr/bin/env python3
+"""The gate, on a copy of this tree: `rt ci` without the must-fail edits, then, over the program that it built, what
+TRIALS lists, and over its libraries the edits.
+
+In CI's clone those edits alone are tried that are not recorded as refused on the text that stands here, and those of
+about one crate in eight besides, which the commit decides.
+"""
+
+import contextlib
+import os
+import re
+import shutil
+import subprocess
+import sys
+import tempfile
+
+sys.dont_write_bytecode = True
+from must_fail import closed, recorded, said_by, sum_of, sums, tried
+
+
+def minutes():
+    """The processor minutes of all that has run so far."""
+    spent = os.times()
+    return f"{(spent.children_user + spent.children_system) / 60:.0f} processor minutes"
+
+
+@contextlib.contextmanager
+def copied():
+    """Goes into a copy of this tree, of what git keeps or would keep, with an empty folder beside it."""
+    home, files = os.getcwd(), said_by("git", "ls-files", "-z", "--cached", "--others", "--exclude-standard").split(
+        "\0"
+    )
+    with tempfile.TemporaryDirectory(prefix="gate-") as room:
+        os.makedirs(f"{room}/aside")
+        # a program runs as nobody, who has to find it
+        os.chmod(room, 0o755)
+        for it in files:
+            if os.path.isfile(it):
+                os.makedirs(os.path.dirname(f"{room}/tree/{it}"), exist_ok=True)
+                shutil.copy(it, f"{room}/tree/{it}")
+        os.chdir(f"{room}/tree")
+        try:
+            yield
+        finally:
+            os.chdir(home)
+
+
+def without_edits(names):
+    """Runs `rt ci` with the edits of these crates set aside. Returns its status and its last line."""
+    for name in names:
+        shutil.move(f"crates/{name}/must-fail", f"../aside/{name}")
+    last = ""
+    with subprocess.Popen(
+        ["rt", "ci"], stdin=subprocess.DEVNULL, stdout=subprocess.PIPE, text=True, errors="replace"
+    ) as ran:
+        for last in ran.stdout:
+            print(last, end="", flush=True)
+    for name in names:
+        shutil.move(f"../aside/{name}", f"crates/{name}/must-fail")
+    return ran.returncode, last
+
+
+def lacking(*commands):
+    """Which of some commands are not here, or None."""
+    return ", ".join(it for it in commands if not shutil.which(it)) or None
+
+
+def trials(seed):
+    """What is run over the built program: what it is, its command, and what it lacks here, if anything."""
+    program = "crates/rasterd/out/rasterd"
+    yield "the examples of the documents", ["scripts/check.py", program], lacking("curl")
+    yield "sessions beside the independent reading", ["oracle/sessions.py", program, "200", seed], None
+    yield "clients that shut, reset, stall and go away", ["bench/sockets.py"], lacking("curl")
+    yield "a device without room", ["bench/full_disk.py"], None
+    yield "the clients and deploy/serve", ["clients/python/test.py", program], lacking("curl", "flock", "prlimit")
+    yield "inputs that are changed without end", ["oracle/fuzz.py", program, "20", seed], None
+    yield "calls of the system that fail or lie", ["faults/failing.py", program, "disk", "lies", "stream"], None
+    every = ["memory", "25", str(int(seed) % 25 + 1)]
+    yield "growths that are refused, every 25th", ["faults/failing.py", program, *every], None
+    yield "the layout of Python", ["black", "--check", "--quiet", "."], lacking("black")
+
+
+def run_trials(seed):
+    """Runs the trials one after the other, and returns those that failed."""
+    failed = []
+    for what, command, lacks in trials(seed):
+        if lacks:
+            print(f"{what}: not run, there is no {lacks}", flush=True)
+            continue
+        words = [shutil.which(command[0]) or os.path.abspath(command[0]), *command[1:]]
+        ran = subprocess.run(words, stdin=subprocess.DEVNULL, capture_output=True, text=True, check=False)
+        print(ran.stdout, ran.stderr, f"{what}: {'failed' if ran.returncode else 'ok'}\n", sep="", end="", flush=True)
+        failed += [what] * (ran.returncode != 0)
+    return failed
+
+
+def gate():
+    now, then, commit = sums(), recorded(), said_by("git", "rev-parse", "HEAD").strip()
+    is_left_out = (
+        lambda it: os.environ.get("CI") == "true" and then.get(it) == now[it] and int(sum_of(commit, it), 16) % 8
+    )
+    with copied():
+        import must_fail_groups_test
+
+        status, last = without_edits(now)
+        proved = re.fullmatch(r"(\d+) passed, 0 failed\n", last)
+        print(f"without edits: {minutes()}", flush=True)
+        if status or not proved:
+            return status or 1
+        wrong = [f"the trier of edits: {it}" for it in must_fail_groups_test.faults()]
+        print(*wrong or ["the trier of edits and its control: ok"], sep="\n", flush=True)
+        faults = wrong + run_trials(str(int(sum_of(commit)[:8], 16)))
+        _, passed, failed = tried([it for it in now if not is_left_out(it)], builds=False)
+        print(f"with these edits: {minutes()}", flush=True)
+        return closed(int(proved[1]) + passed, faults + failed)
+
+
+if __name__ == "__main__":
+    sys.exit(gate())

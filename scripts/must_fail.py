@@ -1,0 +1,123 @@
+#!/usr/bin/env python3
+"""Which crates' must-fail edits are to be tried, and the trying.
+
+  scripts/must_fail.py               names the crates whose edits are not recorded as refused on the text that stands here
+  scripts/must_fail.py try [NAME..]  tries those, or the named ones, and records each crate whose edits were all refused
+
+What an edit comes to follows from the toolchain, the crate's text and that of the crates below it. The record,
+scripts/must_fail.txt, has the sum of all these for each crate, as it was when its edits were last all refused. A changed byte
+changes the sum, and the edits are tried again. Which other crates are tried besides, the commit decides.
+"""
+
+import hashlib
+import os
+import re
+import subprocess
+import sys
+
+sys.dont_write_bytecode = True
+RECORD = "scripts/must_fail.txt"
+
+
+def said_by(*words):
+    return subprocess.run(words, stdin=subprocess.DEVNULL, capture_output=True, text=True, check=True).stdout
+
+
+def sum_of(*parts):
+    return hashlib.sha256(repr(parts).encode()).hexdigest()
+
+
+def texts_below(folder):
+    found = []
+    for at, folders, files in os.walk(folder):
+        folders.sort()
+        for name in sorted(files):
+            with open(f"{at}/{name}", "rb") as file:
+                found.append((f"{at}/{name}", file.read()))
+    return found
+
+
+def dependencies():
+    """What each crate stands on, by its line in crates.txt."""
+    with open("crates.txt", encoding="utf-8") as file:
+        lines = [line.partition("#")[0].partition(":") for line in file]
+    return {head.split()[0]: deps.split() for head, colon, deps in lines if colon}
+
+
+def sums():
+    """What the edits of each crate rest on, as one sum."""
+    lines, kit = dependencies(), said_by("rt", "version")
+    with open("HANDLES", encoding="utf-8") as file:
+        handles = file.read()
+
+    def below(name):
+        return {it for dep in lines[name] if dep in lines for it in [dep, *below(dep)]}
+
+    def of_crate(name):
+        parts = [texts_below(f"crates/{name}/{part}") for part in ("src", "specs", "proofs")]
+        return sum_of(name, lines[name], parts)
+
+    own = {name: of_crate(name) for name in lines}
+    with_edits = [name for name in lines if os.path.isdir(f"crates/{name}/must-fail")]
+    return {
+        it: sum_of(kit, handles, own[it], sorted(own[dep] for dep in below(it)), texts_below(f"crates/{it}/must-fail"))
+        for it in with_edits
+    }
+
+
+def recorded():
+    if not os.path.isfile(RECORD):
+        return {}
+    with open(RECORD, encoding="utf-8") as file:
+        return dict(line.split() for line in file if re.fullmatch(r"\w+ [0-9a-f]{64}\n", line))
+
+
+def record(now, names):
+    kept = {it: was for it, was in recorded().items() if it in now} | {it: now[it] for it in names}
+    with open(RECORD, "w", encoding="utf-8") as file:
+        file.writelines(f"{it} {kept[it]}\n" for it in sorted(kept))
+
+
+def tried(names, builds):
+    """Tries the edits of these crates and says what came of each. Returns the crates whose edits were all refused, how many edits were, and what is told of the others."""
+    import must_fail_groups as groups
+
+    crates = [it for it in groups.rt.rtlib.crates_below(os.getcwd()) if it.name in names]
+    if builds:
+        groups.rt.rtlib.guarded()
+        for it in {dep.name: dep for crate in crates for dep in crate.below()}.values():
+            if it.build_rlib(groups.ONE_JOB, anew=False):
+                sys.exit(f"{it.name} is not proved, and crates above it have edits to try")
+    print(f"must-fail edits: those of {', '.join(names) or 'no crate'}", flush=True)
+    told = groups.side_by_side(crates, lambda each: print("".join(f"{text}\n" for _, text in each), end="", flush=True))
+    outcomes = [it for each in told.values() for it in each]
+    refused = [name for name, each in told.items() if all(is_refused for is_refused, _ in each)]
+    return (
+        refused,
+        sum(is_refused for is_refused, _ in outcomes),
+        [text for is_refused, text in outcomes if not is_refused],
+    )
+
+
+def closed(passed, faults):
+    """Prints what failed once more, and the closing line. Returns the status."""
+    print("".join(f"{it}\n" for it in faults), end="")
+    print(f"{passed} passed, {len(faults)} failed", flush=True)
+    return 1 if faults else 0
+
+
+def main(verb="", *named):
+    now, then = sums(), recorded()
+    if unknown := [it for it in named if it not in now]:
+        sys.exit(f"no edits of {', '.join(unknown)}")
+    left = [*named] or [it for it in now if then.get(it) != now[it]]
+    if verb == "try":
+        refused, passed, failed = tried(left, builds=True)
+        record(now, refused)
+        return closed(passed, failed)
+    print(*left, sep="\n")
+    return 0
+
+
+if __name__ == "__main__":
+    sys.exit(main(*sys.argv[1:]))

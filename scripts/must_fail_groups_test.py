@@ -1,0 +1,92 @@
+#!/usr/bin/env python3
+"""Tests the trier of must-fail edits over a crate of its own: each of the edits below comes out as it has to."""
+
+import os
+import sys
+import tempfile
+from unittest import mock
+
+sys.dont_write_bytecode = True
+import must_fail_groups as groups
+
+CODE = """\
+//! A light with levels.
+#![tactic(auto)]
+
+ghost use Rattle.std.specs.Prelude.{◌≡◌, ◌≤◌, ◌+◌, IfSome};
+
+const STEP: u8 = 1;
+
+/// The brighter of two levels.
+pub fn brighter(a: u8, b: u8) -> u8
+    ensures first { a ≤ result }
+    ensures second { b ≤ result }
+{
+    if a < b {
+        return b;
+    }
+    a
+}
+
+/// One level more, or none above 100.
+pub fn raised(level: u8) -> Option<u8>
+    ensures { IfSome result (λ next. next ≡ level + 1) }
+{
+    if level < 100 {
+        return Some(level + STEP);
+    }
+    None
+}
+
+/// A level as it is.
+pub fn same(level: u8) -> u8
+    ensures { result ≡ level }
+{
+    level
+}
+"""
+REFUSED = ("return b;", "return a;")
+HARMLESS = ("if level < 100 {", "if 100 > level {")
+UNREAD = ("return b;", "return b b;")
+STALE = ("return c;", "return a;")
+OUTSIDE = ("const STEP: u8 = 1;", "const STEP: u8 = 2;")
+
+
+def outcome(*edits):
+    """What is told of edits of the crate, in their order."""
+    with tempfile.TemporaryDirectory(prefix="edits-test-") as room:
+        for folder in ("src", "must-fail"):
+            os.makedirs(f"{room}/crates/light/{folder}")
+        with open(f"{room}/crates.txt", "w", encoding="utf-8") as file:
+            file.write("light:\n")
+        with open(f"{room}/crates/light/src/lib.rt", "w", encoding="utf-8") as file:
+            file.write(CODE)
+        for at, (old, new) in enumerate(edits):
+            with open(f"{room}/crates/light/must-fail/{at}.edit", "w", encoding="utf-8") as file:
+                file.write(f"file: src/lib.rt\nold: {old}\nnew: {new}\n")
+        [told] = groups.side_by_side(groups.rt.rtlib.crates_below(room)).values()
+    return [(is_well, text) for is_well, text in sorted(told, key=lambda it: it[1])]
+
+
+def faults():
+    """What is wrong with the trier: nothing, if all is well."""
+    found = []
+
+    def expect(what, told, *wanted):
+        if len(told) != len(wanted) or any(a != b or words not in text for (a, text), (b, words) in zip(told, wanted)):
+            found.append(f"{what}: {told}")
+
+    both = outcome(REFUSED, HARMLESS)
+    expect("a harmless edit beside one that is refused", both, (True, "in a group of 2"), (False, "NOT REFUSED"))
+    expect("an edit that cannot be read", outcome(UNREAD), (False, "BAD EDIT"))
+    expect("an edit whose text is gone", outcome(STALE), (False, "BAD EDIT"))
+    expect("an edit outside of functions", outcome(OUTSIDE), (True, "refused, as it must be: "))
+    with mock.patch.object(groups, "HARMLESS", "return {};"):
+        expect("a control that is refused", outcome(REFUSED), (False, "THE CONTROL IS NOT PROVED"))
+    return found
+
+
+if __name__ == "__main__":
+    told = faults()
+    print(*told or ["ok"], sep="\n")
+    sys.exit(1 if told else 0)
