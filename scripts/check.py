@@ -1,8 +1,9 @@
 #!/usr/bin/env python3
-"""Runs the examples of the documents against the built program, and fails where an answer is another, or where docs/PROVED.md
-does not list the crates of crates.txt, each once.
+"""Compares the documents with the crates, and runs their examples against the built program. It fails where one of them differs.
 
-    scripts/check.py PROGRAM [DOCUMENT..]
+    scripts/check.py [PROGRAM [DOCUMENT..]]
+
+Without a program it compares alone: the public calls (`surface.py`).
 
 An example is a line of an indented block that begins with `$ `: a command for bash. The indented lines below it, up to the
 next such line or the next paragraph, are what it prints. All of a document's commands run in one shell, in a folder of their own,
@@ -11,7 +12,6 @@ Blocks without such a line are not run.
 """
 
 import os
-import re
 import subprocess
 import sys
 import tempfile
@@ -20,6 +20,7 @@ sys.dont_write_bytecode = True
 TOP = os.path.dirname(os.path.dirname(os.path.abspath(__file__)))
 DOCS = f"{TOP}/docs"
 
+import surface
 from served import served
 
 SAYS = "localhost:8080"
@@ -78,31 +79,21 @@ def differences(program, document):
     return len(found), told
 
 
-def crates_told():
-    """What differs between the crates of crates.txt and those that docs/PROVED.md begins its points with."""
-    with open(f"{TOP}/crates.txt", encoding="utf-8") as file:
-        crates = [line.split(":")[0].split()[0] for line in file if line.strip() and not line.startswith("#")]
-    with open(f"{DOCS}/PROVED.md", encoding="utf-8") as file:
-        heads = re.findall(r"^- ((?:`\w+`(?:, )?)+):", file.read(), re.M)
-    listed = [name for head in heads for name in re.findall(r"\w+", head)]
-    return [
-        *(f"docs/PROVED.md does not list {name}" for name in crates if name not in listed),
-        *(f"docs/PROVED.md lists {name}, which is no crate" for name in set(listed) - set(crates)),
-        *(f"docs/PROVED.md lists {name} twice" for name in sorted(set(listed)) if listed.count(name) > 1),
-    ]
+def compared():
+    """Prints where the documents and the crates differ, and tells how many places that are."""
+    found = [it for part in (surface,) for it in part.faults()]
+    print(*found, sep="\n", end="\n" if found else "")
+    print(f"documents beside crates: {len(found)} differ")
+    return len(found)
 
 
-def main(program, *documents):
-    program, all_told, count = os.path.abspath(program), 0, 0
-    wrong = crates_told()
-    print(*wrong, sep="\n", end="\n" if wrong else "")
-    listed = documents or [f"{DOCS}/{it}" for it in sorted(os.listdir(DOCS)) if it.endswith(".md")] + [
-        f"{TOP}/README.md"
-    ]
-    for document in listed:
+def run_examples(program, documents):
+    """Runs the examples of documents, prints those that differ, and tells how many there are and how many differ."""
+    count, differ = 0, 0
+    for document in documents:
         examples_in, told = differences(program, document)
         count += examples_in
-        all_told += len(told)
+        differ += len(told)
         for number, command, expected, came in told:
             print(
                 f"{os.path.basename(document)}:{number}: {command}",
@@ -110,8 +101,17 @@ def main(program, *documents):
                 *(f"  came:   {it}" for it in came),
                 sep="\n",
             )
-    print(f"{count} examples, {all_told} differ")
-    return 1 if all_told or wrong or not count else 0
+    print(f"{count} examples, {differ} differ")
+    return count, differ
+
+
+def main(program=None, *documents):
+    wrong = compared()
+    if program is None:
+        return 1 if wrong else 0
+    pages = [f"{DOCS}/{it}" for it in sorted(os.listdir(DOCS)) if it.endswith(".md")] + [f"{TOP}/README.md"]
+    count, differ = run_examples(os.path.abspath(program), documents or pages)
+    return 1 if wrong or differ or not count else 0
 
 
 if __name__ == "__main__":
