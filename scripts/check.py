@@ -3,8 +3,8 @@
 
     scripts/check.py [PROGRAM [DOCUMENT..]]
 
-Without a program it compares alone: the tables of crates (`crate_table.py`), the public calls (`surface.py`) and the
-limits (`limits.py`).
+Without a program it compares alone: the tables of crates (`crate_table.py`), the public calls (`surface.py`), the
+limits (`limits.py`) and the refusals (`refusals.py`).
 
 An example is a line of an indented block that begins with `$ `: a command for bash. The indented lines below it, up to the
 next such line or the next paragraph, are what it prints. All of a document's commands run in one shell, in a folder of their own,
@@ -23,6 +23,7 @@ DOCS = f"{TOP}/docs"
 
 import crate_table
 import limits
+import refusals
 import surface
 from served import served
 
@@ -84,7 +85,7 @@ def differences(program, document):
 
 def compared():
     """Prints where the documents and the crates differ, and tells how many places that are."""
-    found = [it for part in (crate_table, surface, limits) for it in part.faults()]
+    found = [it for part in (crate_table, surface, limits, refusals) for it in part.faults()]
     print(*found, sep="\n", end="\n" if found else "")
     print(f"documents beside crates: {len(found)} differ")
     return len(found)

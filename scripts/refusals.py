@@ -1,0 +1,129 @@
+"""The refusals of the crates, by number, name and status, beside docs/REFUSALS.md and the independent reading in oracle/.
+
+Names are those of `arr_core::refusal_name` and of its definition, statuses those of `http_front::refusals::status_of`; those of
+an opening have none. The independent reading has no device, and so it may lack the refusals of one.
+"""
+
+import os
+import re
+import sys
+
+from surface import TOP, source
+
+sys.path.insert(0, f"{TOP}/oracle")
+
+PAGE = "docs/REFUSALS.md"
+OF_DEVICE = {90, 91, 92, 93, 94, 95}
+OF_OPENING = {94, 95}
+ROW = re.compile(r"^\| (\d+) (\w+) \| (\d*) ?\|", re.M)
+MENTION = re.compile(r"(?<![\w.,-])(\d{1,2}) ([A-Z]\w+)")
+FOLDERS = ("docs", "oracle", "clients", "web", "faults", "examples", "deploy", "bench")
+ENDS = (".md", ".py", ".js", ".html", ".1")
+
+
+def read(path):
+    with open(f"{TOP}/{path}", encoding="utf-8") as file:
+        return file.read()
+
+
+def names():
+    """Each refusal's name by its number, as the code gives it."""
+    return {
+        int(number): name for number, name in re.findall(r'^ +(\d+) => "(\w+)",', source("arr_core", "refusal"), re.M)
+    }
+
+
+def defined():
+    """The same as it is defined."""
+    text = read("crates/arr_core/specs/Refusals.antt")
+    return {int(number): name for number, name in re.findall(r'\((\d+), codes "(\w+)"\)', text)}
+
+
+def statuses():
+    """The status of each refusal that has one, as the code gives it."""
+    text = source("http_front", "refusals").partition("pub fn status_of")[2]
+    found = {}
+    for numbers, status in re.findall(r"^ +([\d |]+) => (\d+),", text, re.M):
+        found |= {int(it): int(status) for it in numbers.split("|")}
+    (rest,) = re.findall(r"^ +_ => (\d+),", text, re.M)
+    return {number: found.get(number, int(rest)) for number in names() if number not in OF_OPENING}
+
+
+def constants():
+    """The numbers that `http_front::refusals` has names for, by the name of a refusal that each is made from."""
+    found = re.findall(r"^pub const (\w+): u16 = (\d+);", source("http_front", "refusals"), re.M)
+    return {int(number): "".join(it.capitalize() for it in name.split("_")) for name, number in found}
+
+
+def differing(where, what, told, there):
+    """What two tables by numbers differ in, as lines."""
+    return [
+        *(f"{where} lacks the {what} {is_so} of {it}" for it, is_so in there.items() if it not in told),
+        *(f"{where} has the {what} {so} of {it}, which has none" for it, so in told.items() if it not in there),
+        *(
+            f"{where}: the {what} of {it} is {there[it]}, and not {told[it]}"
+            for it in told
+            if there.get(it, told[it]) != told[it]
+        ),
+    ]
+
+
+def page_faults():
+    """Of the page: a refusal may have several rows, which say the same of it."""
+    rows = [(int(number), name, int(status or 0)) for number, name, status in ROW.findall(read(PAGE))]
+    told_names, told_statuses = {it: name for it, name, _ in rows}, {it: status for it, _, status in rows if status}
+    unlike = [f"{PAGE} has unlike rows of {it}" for it in told_names if len({row for row in rows if row[0] == it}) > 1]
+    return unlike + differing(PAGE, "name", told_names, names()) + differing(PAGE, "status", told_statuses, statuses())
+
+
+def reading_faults():
+    """Of the independent reading: the machine's tables, and those of a file's refusals."""
+    # pylint: disable=import-outside-toplevel
+    import fuzz
+    import machine
+
+    is_asked = lambda it: it not in OF_DEVICE or it in machine.REFUSALS
+    asked = {it: name for it, name in names().items() if is_asked(it)}
+    replied = {it: machine.STATUSES.get(it, 400) for it in machine.REFUSALS}
+    given = {it: status for it, status in statuses().items() if is_asked(it)}
+    stray = [
+        f"oracle/machine.py has a status of {it}, which it has no name of"
+        for it in machine.STATUSES
+        if it not in machine.REFUSALS
+    ]
+    opening = {it: name for it, name in names().items() if it in fuzz.FILE_REFUSALS}
+    return [
+        *stray,
+        *differing("oracle/machine.py", "name", machine.REFUSALS, asked),
+        *differing("oracle/machine.py", "status", replied, given),
+        *differing("oracle/fuzz.py", "name", fuzz.FILE_REFUSALS, opening),
+    ]
+
+
+def texts():
+    """The texts that may speak of refusals: documents, and what stands beside the crates."""
+    yield "README.md"
+    for folder in FOLDERS:
+        for at, _, files in os.walk(f"{TOP}/{folder}"):
+            yield from (os.path.relpath(f"{at}/{it}", TOP) for it in files if it.endswith(ENDS))
+
+
+def mentions():
+    """What texts say of a number and a refusal's name, as `20 NoSuchCoverage`, where that has another number."""
+    there, found = names(), []
+    for path in sorted(texts()):
+        for number, name in MENTION.findall(read(path)):
+            if name in there.values() and there.get(int(number)) != name:
+                found.append(f"{path} says {number} {name}")
+    return found
+
+
+def faults():
+    made = {it: name for it, name in names().items() if it in constants()}
+    return [
+        *differing("arr_core/specs/Refusals.antt", "name", defined(), names()),
+        *differing("http_front/refusals.rt", "name", constants(), made),
+        *page_faults(),
+        *reading_faults(),
+        *mentions(),
+    ]
