@@ -69,6 +69,7 @@ def trials(seed):
     """What is run over the built program: what it is, its command, and what it lacks here, if anything."""
     program = "crates/rasterd/out/rasterd"
     yield "the examples of the documents", ["scripts/check.py", program], lacking("curl")
+    yield "files of version 1", ["oracle/version_1.py", program], None
     yield "sessions beside the independent reading", ["oracle/sessions.py", program, "200", seed], None
     yield "clients that shut, reset, stall and go away", ["bench/sockets.py"], lacking("curl")
     yield "a device without room", ["bench/full_disk.py"], None
