@@ -5,7 +5,8 @@
 
 Without a word it prints where the page and the crates differ, as `scripts/check.py` does. With `draft` it writes the tables of
 the page anew: a call that is there keeps its words, also where its signature has changed; a new one gets the first sentence of
-its doc comment; one that is gone goes. All else on the page stays.
+its doc comment; one that is gone goes. All else on the page stays. A call whose contract has a condition has to name it, behind
+the word `Condition:`, which a draft leaves to be written.
 
 What a crate shows is what its lib.rt names as `pub`: its own items, and those of `pub use` and of `pub mod`; of a program, each
 `pub` item of its modules. Besides functions, methods, traits, types and constants it has which types have the traits of these
@@ -23,6 +24,7 @@ sys.dont_write_bytecode = True
 TOP = os.path.dirname(os.path.dirname(os.path.abspath(__file__)))
 PAGE = f"{TOP}/docs/SURFACE.md"
 TABLE = "| call | what it promises |\n|---|---|\n"
+CONDITION = "Condition: "
 ROW = re.compile(r"\| `(.+?)` \| (.*) \|")
 PUBLIC = re.compile(r"^pub (const|fn|struct|enum|trait) (\w+)", re.M)
 IMPL = re.compile(r"^impl(?:<(.*?)>)? (?:(\w+)(?:<[^{]*?>)? for )?(\w+)(?:<[^{]*?>)?(?:\s+where[^{]*)? \{", re.M)
@@ -31,11 +33,13 @@ USE = re.compile(r"^pub use ([\w:]+?)(?:::\{([^}]*)\})?;", re.M)
 
 @dataclass
 class Call:
-    """A row of the page: the path of what is called, its signature, and the first sentence of its doc comment."""
+    """A row of the page: the path of what is called, its signature, the first sentence of its doc comment, and whether its
+    contract has a condition."""
 
     path: str
     text: str
     words: str
+    is_bound: bool = False
 
 
 @functools.cache
@@ -99,6 +103,17 @@ def signature(text, at):
     return re.sub(r"(\(|, )mut ", r"\1", tidy(up_to(text, at, r"\s+(requires|ensures|where)\b|\s*\{|;")))
 
 
+def is_bound(text, at):
+    """Whether the clauses of a function, between its signature and its body, have a condition."""
+    rest = text[at + len(up_to(text, at, r"\s+(requires|ensures|where)\b|\s*\{|;")) :]
+    clauses = re.split(r"^\s*\{$|;$", rest, maxsplit=1, flags=re.M)[0]
+    return not re.match(r"\s*[{;]", rest) and bool(re.search(r"^\s+requires\b", clauses, re.M))
+
+
+def function(text, at, path, words):
+    return Call(path, signature(text, at), words, is_bound(text, at))
+
+
 def split(fields):
     """The fields of a struct, apart."""
     fields, found, depth = re.sub(r"^\s*(//.*|#\[.*\])$", "", fields, flags=re.M), [""], 0
@@ -138,31 +153,30 @@ def item_calls(text, it, path):
     kind, at = it[1], it.start() + 4
     words = doc_of(text, it.start())
     if kind == "fn":
-        yield Call(path, signature(text, at), words)
+        yield function(text, at, path, words)
     elif kind == "const":
         yield Call(path, tidy(up_to(text, at, ";")), words)
     elif kind == "trait":
         yield Call(path, signature(text, at), words)
         for name, place in members(text, it.start(), ""):
-            yield Call(f"{path}::{name}", signature(text, place), doc_of(text, place - 4))
+            yield function(text, place, f"{path}::{name}", doc_of(text, place - 4))
     else:
         yield Call(path, shape(text, at), words)
 
 
-def method_calls(crate, name, path, traits):
+def method_calls(crate, owner, path, traits):
     """The public methods of a type, in whichever file they stand, and its traits of these crates."""
     for module in modules(crate):
         text = source(crate, module)
         for it in IMPL.finditer(text):
-            if it[3] != name:
+            if it[3] != owner:
                 continue
             if it[2] in traits:
                 header = tidy(it[0].rstrip(" {"))
                 yield Call(f"{path} as {it[2]}", header, doc_of(text, it.start()) or f"As `{it[2]}` says.")
             elif not it[2]:
-                for function, place in members(text, it.start(), "pub "):
-                    words = doc_of(text, place - 4)
-                    yield Call(f"{path}::{function}", signature(text, place + 4), words)
+                for name, place in members(text, it.start(), "pub "):
+                    yield function(text, place + 4, f"{path}::{name}", doc_of(text, place - 4))
 
 
 def shown(crate, module, path, names, traits):
@@ -258,20 +272,31 @@ def read_page():
         return file.read()
 
 
+def crate_faults(crate, rows):
+    """Where the rows of a crate's section and the crate differ."""
+    there, told = {cell(it): it for it in surface(crate)}, dict(rows)
+    names = [text for text, _ in rows]
+    bound = {it: CONDITION in words for it, words in rows if it in there}
+    return [
+        *(f"docs/SURFACE.md lacks, of {crate}: {it}" for it in there if it not in told),
+        *(f"docs/SURFACE.md has, of {crate}, what it does not show: {it}" for it in told if it not in there),
+        *(f"docs/SURFACE.md has twice, of {crate}: {it}" for it in told if names.count(it) > 1),
+        *(f"docs/SURFACE.md says nothing, of {crate}, of: {it}" for it, words in rows if not words),
+        *(
+            f"docs/SURFACE.md names no condition, of {crate}, of: {it}"
+            for it in bound
+            if there[it].is_bound > bound[it]
+        ),
+        *(f"docs/SURFACE.md names a condition, of {crate}, of: {it}" for it in bound if there[it].is_bound < bound[it]),
+    ]
+
+
 def faults():
     """Where the page and the crates differ."""
-    rows, found = listed(read_page()), []
-    for crate in crates():
-        there = [cell(it) for it in surface(crate)]
-        told = [text for text, _ in rows.get(crate, [])]
-        found += [f"docs/SURFACE.md lacks, of {crate}: {it}" for it in there if it not in told]
-        found += [f"docs/SURFACE.md has, of {crate}, what it does not show: {it}" for it in told if it not in there]
-        found += [f"docs/SURFACE.md has twice, of {crate}: {it}" for it in sorted(set(told)) if told.count(it) > 1]
-        found += [
-            f"docs/SURFACE.md says nothing, of {crate}, of: {it}" for it, words in rows.get(crate, []) if not words
-        ]
-    return found + [
-        f"docs/SURFACE.md has a section of {it}, which is no crate that holds code" for it in rows if it not in crates()
+    rows = listed(read_page())
+    stray = [it for it in rows if it not in crates()]
+    return [it for crate in crates() for it in crate_faults(crate, rows.get(crate, []))] + [
+        f"docs/SURFACE.md has a section of {it}, which is no crate that holds code" for it in stray
     ]
 
 
