@@ -68,6 +68,7 @@ def lacking(*commands):
 def trials(seed):
     """What is run over the built program: what it is, its command, and what it lacks here, if anything."""
     program = "crates/rasterd/out/rasterd"
+    yield "the documents beside the crates", ["scripts/check.py"], None
     yield "the examples of the documents", ["scripts/check.py", program], lacking("curl")
     yield "files of version 1", ["oracle/version_1.py", program], None
     yield "sessions beside the independent reading", ["oracle/sessions.py", program, "200", seed], None
