@@ -33,7 +33,7 @@ KeepsFields indexes old new = (k : ℕ) → 0 < listed_fields indexes k → bloc
 abbrev pub KeepsAll : List (List Index) → List ℕ → List ℕ → Type 0
 KeepsAll indexes old new = (k : ℕ) → 0 < listed_all indexes k → block_at new k ≡ block_at old k
 
-fields_kept : (old new : List ℕ) (i : Index) (indexes : List Index) → KeepsFields (i ∷ indexes) old new → KeepsListed i old new × KeepsFields indexes old new
+pub fields_kept : (old new : List ℕ) (i : Index) (indexes : List Index) → KeepsFields (i ∷ indexes) old new → KeepsListed i old new × KeepsFields indexes old new
 fields_kept old new i indexes kept =
     (λ k h. kept k (omega (arith, h, listed_fields-cons k i indexes)), λ k h. kept k (omega (arith, h, listed_fields-cons k i indexes)))
 

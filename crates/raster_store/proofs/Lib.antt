@@ -1,7 +1,9 @@
 pub mod Totals
 pub mod Contents
+pub mod Distinct
 pub mod Readings
 pub mod Writes
+mod Tiles
 mod Written
 mod Cells
 pub mod Snapshots

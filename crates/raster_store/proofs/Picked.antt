@@ -1,23 +1,25 @@
 -- Coverages that were copied by their names are those of the store.
 use Rattle.std.proofs.Common.{◌≡◌, ℕ, zero, suc, ◌+◌, ◌<◌, ◌≤◌, ◌⊎◌, true, false, List, [], ◌∷◌, ◌++◌, length, get_or, take, refl, sym, ap, ◌∙◌, arith, inl, inr, All, Some, None, Option, position, subst}
-use Rattle.std.specs.Prelude.{slice_get, option_map}
-use Rattle.std.proofs.lemmas.List.{take_more}
+use Rattle.std.specs.Prelude.{slice_get, option_map, map}
+use Rattle.std.specs.List.{list_any}
+use Rattle.std.proofs.lemmas.List.{take_more, map_push}
 use Rattle.std.proofs.lemmas.List.Elements.{All-head, All-tail, All-push}
 use Rattle.std.proofs.lemmas.Option.{slice_get-map, slice_get_read}
 use Rattle.std.proofs.lemmas.Slice.Eq.{bytes_eq-Decides}
 use Rattle.block_file.specs.State.{BlocksState, none}
 use Rattle.block_file.specs.Words.{Recounts}
 use Rattle.arr_core.specs.declared.signature.Signature.{Signature}
-use Rattle.arr_core.specs.Stores.{found}
+use Rattle.arr_core.specs.Stores.{Coverage, found}
 use Rattle.raster_store.specs.declared.held.Held.{Held}
 use Rattle.raster_store.specs.Views.{Index, AreIntact, FieldsIntact, listed_fields, listed_all}
 use Rattle.raster_store.specs.Holding.{coverages_of, coverage_of, indexes_of, has_name, IsWhole, IsHeld, NoneNamed, IsNamedAt}
 use Rattle.raster_store.specs.Fields.{IsNamed}
-use Rattle.raster_store.specs.Picking.{IsPicked, ArePickedFrom, AddsCopy}
-use Rattle.raster_store.specs.Snapshots.{ArePicked}
+use Rattle.raster_store.specs.Picking.{names_of, IsPicked, ArePickedFrom, AddsCopy}
+use Rattle.raster_store.specs.Snapshots.{ArePicked, distinct}
 use Rattle.raster_store.proofs.Contents.{apart_none, apart_push, named_within, named_position, none_position, found_named, intact-at}
 use Rattle.raster_store.proofs.Totals.{listed_all-nil, listed_all-cons, all_parts}
 use Rattle.raster_store.proofs.Readings.{known, known_named}
+use Rattle.raster_store.proofs.Distinct.{is_text, distinct-nil, distinct_push}
 
 -- the coverage at the place of a name has it
 named_has : (name : List ℕ) (held : List Held) (place : ℕ) (d : Held) → IsNamedAt name held place → has_name name (get_or held place d) ≡ true
@@ -44,16 +46,39 @@ none_named name [] place at none = absurd at
 none_named name (g ∷ held) zero at none = let a = at.0 in let b = none.0 in absurd cc
 none_named name (g ∷ held) (suc place) at none = none_named name held place at.1 none.1
 
+-- whether a name is among those of coverages
+named_among : (name : List ℕ) (held : List Held) (place : ℕ) → IsNamedAt name held place → list_any (is_text name) (names_of held) ≡ true
+named_among name [] place at = absurd at
+named_among name (g ∷ held) zero at = rw at.0 refl
+named_among name (g ∷ held) (suc place) at = rw (at.0, named_among name held place at.1) refl
+
+none_among : (name : List ℕ) (held : List Held) → NoneNamed name held → list_any (is_text name) (names_of held) ≡ false
+none_among name [] none = refl
+none_among name (g ∷ held) none = rw (none.0, none_among name held none.1) refl
+
+once_there : (names : List (List ℕ)) (name : List ℕ) (copies : List Held) (place : ℕ) → IsNamedAt name copies place → names_of copies ≡ distinct names → names_of copies ≡ distinct (names ++ name ∷ [])
+once_there names name copies place at once =
+    let there : list_any (is_text name) (distinct names) ≡ true = rw (← once) (named_among name copies place at) in
+    once ∙ sym (distinct_push names name ∙ rw there refl)
+
+once_more : (names : List (List ℕ)) (copies : List Held) (h : Held) → NoneNamed h.signature.name copies → names_of copies ≡ distinct names → names_of (copies ++ h ∷ []) ≡ distinct (names ++ h.signature.name ∷ [])
+once_more names copies h none once =
+    let name : List ℕ = h.signature.name in
+    let new : list_any (is_text name) (distinct names) ≡ false = rw (← once) (none_among name copies none) in
+    map_push (λ (g : Held). g.signature.name) copies h ∙ ap (λ (l : List (List ℕ)). l ++ name ∷ []) once
+    ∙ sym (distinct_push names name ∙ rw new refl)
+
 -- ---- one name after the other
 
 pub picked_none : (held : List Held) → ArePickedFrom held [] []
-picked_none held = record { named = λ k d l. absurd (omega arith); from = λ k d l. absurd (omega arith); apart = apart_none }
+picked_none held = record { named = λ k d l. absurd (omega arith); from = λ k d l. absurd (omega arith); apart = apart_none; once = sym distinct-nil }
 
 pub picked_there : (held copies : List Held) (name : List ℕ) (place : ℕ) → IsNamedAt name copies place → AddsCopy held name copies copies
 picked_there held copies name place at names p = record {
   named = All-push (λ (n : List ℕ). NoneNamed n copies → ⊥) names name p.named (none_named name copies place at);
   from = p.from;
   apart = p.apart;
+  once = once_there names name copies place at p.once;
 }
 
 pub picked_more : (held copies : List Held) (name : List ℕ) (g h : Held) → NoneNamed name copies → IsNamed name held g → h.version ≡ g.version → h.signature ≡ g.signature → h.fields.items ≡ g.fields.items → AddsCopy held name copies (copies ++ h ∷ [])
@@ -65,12 +90,18 @@ picked_more held copies name g h none is version signature fields names p =
           (λ more. let other = none_last name copies h more in let same = (bytes_eq-Decides h.signature.name name).1 here in absurd cc);
       from = All-push (IsPicked held) copies h p.from (record { from = g; named = rw here is; version = version; signature = signature; fields = fields });
       apart = apart_push copies h p.apart (rw here none);
+      once = subst (λ (n : List ℕ). names_of (copies ++ h ∷ []) ≡ distinct (names ++ n ∷ [])) here (once_more names copies h (rw here none) p.once);
     }
 
 pub picked_step : (held : List Held) (names : List (List ℕ)) (i : ℕ) (name : List ℕ) (old new : List Held) → i < length names → name ≡ get_or names i name → ArePickedFrom held (take i names) old → AddsCopy held name old new → ArePickedFrom held (take (i + 1) names) new
 picked_step held names i name old new lt is p adds = rw (take_more names i name lt, ← is) (adds (take i names) p)
 
 -- ---- what they are
+
+-- coverages have the names that they are held by
+names_in : (content : List ℕ) (held : List Held) → map (λ (c : Coverage). c.name) (coverages_of content held) ≡ names_of held
+names_in content [] = refl
+names_in content (g ∷ held) = ap (λ (l : List (List ℕ)). g.signature.name ∷ l) (names_in content held)
 
 -- what is told alike is alike
 whole_as : (h g : Held) → h.signature ≡ g.signature → h.fields.items ≡ g.fields.items → IsWhole g → IsWhole h
@@ -154,3 +185,6 @@ module _ (s : BlocksState) (held : List Held) (is : IsHeld s held) where
 
   pub picked_named : (names : List (List ℕ)) (copies : List Held) → ArePickedFrom held names copies → All (λ (n : List ℕ). found n (coverages_of s.content copies) ≡ found n (coverages_of s.content held)) names
   picked_named names copies p k d l = by_place names copies (get_or names k d) (position (has_name (get_or names k d)) copies) p refl (p.named k d l)
+
+  pub picked_once : (names : List (List ℕ)) (copies : List Held) → ArePickedFrom held names copies → map (λ (c : Coverage). c.name) (coverages_of s.content copies) ≡ distinct names
+  picked_once names copies p = names_in s.content copies ∙ p.once

@@ -138,7 +138,7 @@ box_inside (a ∷ domain) (c ∷ area) [] b i = absurd i
 box_inside (a ∷ domain) (c ∷ area) (x ∷ p) b i =
     (omega (arith, ints, b.0.1, i.0), omega (arith, ints, b.0.2, i.1), box_inside domain area p b.1 i.2)
 
-same_map : {X : Type 0} (f g : X → ℤ) (xs : List X) → All (λ x. f x ≡ g x) xs → map f xs ≡ map g xs
+pub same_map : {X : Type 0} (f g : X → ℤ) (xs : List X) → All (λ x. f x ≡ g x) xs → map f xs ≡ map g xs
 same_map f g [] h = refl
 same_map f g (x ∷ xs) h = rw (h 0 x (omega arith), same_map f g xs (λ k d l. h (suc k) d (omega (arith, l)))) refl
 
@@ -226,7 +226,7 @@ spelled_named s held name field h kind tile held_is is has within =
         (spelled (coverage_of s.content h) f (index_at h field) facts.at e
         ((found_named s.content name field held is.0 is.1).1 ∙ ap (λ (l : List Index). slice_get l field) (indexes_at held is.0 h (named_within name held is.0 is.1) is.2) ∙ slice_get-get_or h.fields.items field [] within))
 
-some_at : {X : Type 0} (o : Option X) (x : X) (P : X → Type 0) → o ≡ Some x → P x → IsSomeAnd o P
+pub some_at : {X : Type 0} (o : Option X) (x : X) (P : X → Type 0) → o ≡ Some x → P x → IsSomeAnd o P
 some_at o x P e p = rw e p
 
 -- a tile that is not spelled, of those of a point or a box, as the store tells it

@@ -1,5 +1,5 @@
 -- What a write of a patch to a field of a store leaves, done or refused.
-use Rattle.std.proofs.Common.{◌≡◌, ℕ, ◌+◌, ◌-◌, ◌<◌, ◌≤◌, ◌^◌, List, [], length, get_or, set, IsTrue, Result, Ok, Err, refl, ap, ◌∙◌, arith, inl, inr}
+use Rattle.std.proofs.Common.{◌≡◌, ℕ, ◌+◌, ◌-◌, ◌<◌, ◌≤◌, ◌^◌, List, [], length, get_or, set, subst, IsTrue, Result, Ok, Err, refl, sym, ap, ◌∙◌, arith, inl, inr}
 use Rattle.std.specs.Prelude.{slice_get, OnOk, OnErr, sum_by}
 use Rattle.std.specs.List.{remove}
 use Rattle.std.proofs.Math.Seq.{map-set_same}
@@ -10,6 +10,8 @@ use Rattle.std.proofs.lemmas.List.Sums.{sum_by-set, get_or-le-sum_by}
 use Rattle.std.proofs.lemmas.Option.{slice_get-get_or}
 use Rattle.arr_core.specs.declared.cell.FieldType.{FieldType}
 use Rattle.arr_core.specs.declared.domain.Axis.{Axis}
+use Rattle.arr_core.specs.Domains.{IsBoxOf}
+use Rattle.arr_core.specs.Stores.{Store, updated}
 use Rattle.arr_core.specs.Tiles.{tile_boxes}
 use Rattle.block_file.specs.State.{BlocksState, block, none, free_of}
 use Rattle.block_file.specs.Words.{Moves}
@@ -30,12 +32,14 @@ use Rattle.raster_store.specs.declared.held.Held.{Held}
 use Rattle.raster_store.specs.Views.{Index, SnapshotView, listed_fields, listed_all, fields_size, metadata_size}
 use Rattle.raster_store.specs.Fields.{HasKind, HasPatch, IsRestSize}
 use Rattle.raster_store.specs.Holding.{coverages_of, coverage_of, indexes_of, index_at, AreApart, IsNamedAt, IsWhole, IsHeld}
-use Rattle.raster_store.specs.Fetches.{IsDamagedUnder}
+use Rattle.raster_store.specs.Calls.{AreSameSignatures}
+use Rattle.raster_store.specs.Fetches.{IsDamagedUnder, IsSpelledOf}
 use Rattle.raster_store.specs.Words.{Stays, Keeps, Writes, LacksRoomToWrite}
 use Rattle.raster_store.proofs.Contents.{KeepsFields, KeepsAll, store_kept, coverage_updated, intact-set, intact-at, named_within, found_named, updated_named}
 use Rattle.raster_store.proofs.Readings.{known_named, named_field, patch_field, indexes_at, kind_gives, under_damaged}
 use Rattle.raster_store.proofs.Totals.{sum_parts, all_parts, field_parts}
 use Rattle.raster_store.proofs.Writes.{view_of, keeps_all, same_signatures}
+use Rattle.raster_store.proofs.Tiles.{Exchange, tiles_kept, tiles_written}
 
 -- The field j of the coverage h at a place has x' for its index, and h has become h'. What others list is kept, and the field
 -- is sound, and spelled where it was.
@@ -117,20 +121,42 @@ module _ {B : Type 0} {state : B → BlocksState} {old new : B} {held : List Hel
       intact-set (state old).content (state new).content held i h' kept.0 intact
       ((coverage_updated (state old).content (state new).content h h' j kind x' [] [] w.signature w.fields w.of_kind w.field kept.1).1 here (w.spelled sure))
 
+  told_same : AreSameSignatures (coverages_of (state old).content held) (coverages_of (state new).content (set held i h'))
+  told_same = same_signatures (state old).content (state new).content held (set held i h') (map-set_same (λ (y : Held). y.signature) held i h' h same_signature)
+
+  -- the index of the field was exchanged
+  exchange : IsTrue (state old).honest → Exchange (state old) (state new).content held name i j kind h h' x'
+  exchange sure = record {
+    is_held = w.is_held;
+    at = w.at;
+    was = w.was;
+    of_kind = w.of_kind;
+    field = w.field;
+    signature = w.signature;
+    fields = w.fields;
+    signatures = told_same;
+    coverages = (others sure).0;
+    others = (others sure).1;
+  }
+
   -- a refused write
   stays_after : {T E : Type 0} (xs xs' : List SnapshotView) (fetched : ℕ) (r : Result T E) → OnErr r (x' ≡ index_at h j) → OnErr r (Moves none none (state old) (state new)) → OnErr r (Stays state (view_of state old held xs fetched) (view_of state new (set held i h') xs' fetched))
   stays_after xs xs' fetched (Ok t) same kept = tt
-  stays_after xs xs' fetched (Err e) same kept =
-      let fields : h'.fields.items ≡ (get_or held i h).fields.items = w.fields ∙ ap (set h.fields.items j) same ∙ set-get_or h.fields.items j [] ∙ ap (λ (y : Held). y.fields.items) w.was in
+  stays_after xs xs' fetched (Err e) unchanged kept =
+      let all = λ (sure : IsTrue (state old).honest). keeps_all (state old) (state new) held w.is_held kept sure in
+      let fields : h'.fields.items ≡ (get_or held i h).fields.items = w.fields ∙ ap (set h.fields.items j) unchanged ∙ set-get_or h.fields.items j [] ∙ ap (λ (y : Held). y.fields.items) w.was in
+      let same : coverages_of (state new).content (set held i h') ≡ coverages_of (state new).content held = map-set_same (coverage_of (state new).content) held i h' h (rw (same_signature, fields) refl) in
       record {
         same = record {
-          signatures = same_signatures (state old).content (state new).content held (set held i h') (map-set_same (λ (y : Held). y.signature) held i h' h same_signature);
-          coverages = λ sure. map-set_same (coverage_of (state new).content) held i h' h (rw (same_signature, fields) refl)
-              ∙ (store_kept (state old).content (state new).content held (keeps_all (state old) (state new) held w.is_held kept sure)).0;
+          signatures = told_same;
+          coverages = λ sure. same ∙ (store_kept (state old).content (state new).content held (all sure)).0;
           indexes = map-set_same (λ (y : Held). y.fields.items) held i h' h fields;
           fetched = refl;
         };
         moves = kept;
+        tiles = λ sure n f tile spelled. subst (λ (s : Store). IsSpelledOf n f tile (state new).content s (indexes_of (set held i h'))) (sym same)
+            (subst (λ (x : List (List Index)). IsSpelledOf n f tile (state new).content (coverages_of (state new).content held) x) (sym (map-set_same (λ (y : Held). y.fields.items) held i h' h fields))
+            (tiles_kept (state old).content (state new).content held (all sure) n f tile spelled));
       }
 
   -- how many bytes the other metadata has
@@ -146,18 +172,20 @@ module _ {B : Type 0} {state : B → BlocksState} {old new : B} {held : List Hel
         omega (arith, some, all.0, all.1, here, ap fields_size w.fields),
       )
 
-  done_after : {T E : Type 0} (xs xs' : List SnapshotView) (catalogue rest fetched : ℕ) (u : Patch) (r : Result T E) → u.domain.now ≡ h.signature.domain → u.kind ≡ kind → IsRestSize held i j catalogue rest → free_of (state new) < 2 ^ 32
+  done_after : {T E : Type 0} (xs xs' : List SnapshotView) (catalogue rest fetched : ℕ) (u : Patch) (r : Result T E) → u.domain.now ≡ h.signature.domain → u.kind ≡ kind → IsRestSize held i j catalogue rest → IsBoxOf h.signature.domain u.area.now → free_of (state new) < 2 ^ 32
       → OnOk r (Patches u (state old) (index_at h j) (state new) x') → OnOk r (UsesOnce (state old) (state new)) → OnOk r (HasRoom rest x' (state new))
       → OnOk r (Writes state name j u.area.now (numbers_in u.area.now u.numbers.now) catalogue (view_of state old held xs fetched) (view_of state new (set held i h') xs' fetched))
-  done_after xs xs' catalogue rest fetched u (Err e) domain same least small done once room = tt
-  done_after xs xs' catalogue rest fetched u (Ok t) domain same least small done once room =
+  done_after xs xs' catalogue rest fetched u (Err e) domain same least box small done once room = tt
+  done_after xs xs' catalogue rest fetched u (Ok t) domain same least box small done once room =
       let all = rest_of catalogue in
       let size = least h all.0 w.was all.1 in
+      let stored : IsTrue (state old).honest → coverages_of (state new).content (set held i h') ≡ updated name j u.area.now (numbers_in u.area.now u.numbers.now) (coverages_of (state old).content held) = λ sure.
+      (let put = coverage_updated (state old).content (state new).content h h' j kind x' u.area.now (numbers_in u.area.now u.numbers.now) w.signature w.fields w.of_kind w.field (others sure).1 in
+      updated_named (state old).content (state new).content name j u.area.now (numbers_in u.area.now u.numbers.now) held i h h' w.at w.was (others sure).0 (put.0 (rw (domain, same) at ((done sure).numbers)))) in
       record {
-        coverages = λ sure.
-            let put = coverage_updated (state old).content (state new).content h h' j kind x' u.area.now (numbers_in u.area.now u.numbers.now) w.signature w.fields w.of_kind w.field (others sure).1 in
-            updated_named (state old).content (state new).content name j u.area.now (numbers_in u.area.now u.numbers.now) held i h h' w.at w.was (others sure).0 (put.0 (rw (domain, same) at ((done sure).numbers)));
-        signatures = same_signatures (state old).content (state new).content held (set held i h') (map-set_same (λ (y : Held). y.signature) held i h' h same_signature);
+        coverages = stored;
+        signatures = told_same;
+        tiles = λ sure. tiles_written state old new (exchange sure) xs xs' fetched u domain same box (done sure) (stored sure);
         moves = moves_as _ _ _ _ (state old) (state new) (λ k. omega (arith, (counts k).0, (counts k).1)) (λ k more. omega (arith, more, (counts k).0)) w.moves;
         once = once;
         room = rw (← all.2) (elim (cases_lt all.0 (2 ^ 64)) [
@@ -223,7 +251,7 @@ wrote state old new held name i j h h' x x' u xs xs' catalogue rest fetched r is
       is_held = held_after w index;
       kept = λ sure. (others w sure).0;
       intact = still_intact_after w xs xs' fetched;
-      done = done_after w xs xs' catalogue rest fetched u r domain refl least small (rw here at done) once room;
+      done = done_after w xs xs' catalogue rest fetched u r domain refl least (rw t.facts.at at has).0 small (rw here at done) once room;
       same = stays_after w xs xs' fetched r (rw here at same) kept;
       why = why_after w xs catalogue rest fetched u r domain refl least (rw here at why);
     }

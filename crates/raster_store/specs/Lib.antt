@@ -1,6 +1,7 @@
 pub mod Views
 pub mod Calls
 pub mod Words
+pub mod Tiles
 pub mod Holding
 pub mod Fields
 pub mod Fetches

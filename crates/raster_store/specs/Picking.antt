@@ -1,8 +1,9 @@
 -- Coverages of a store that were copied by their names.
-use Rattle.std.specs.Prelude.{◌≡◌, ℕ, List, [], ◌∷◌, ◌++◌, All}
+use Rattle.std.specs.Prelude.{◌≡◌, ℕ, List, [], ◌∷◌, ◌++◌, map, All}
 use Rattle.raster_store.specs.declared.held.Held.{Held}
 use Rattle.raster_store.specs.Holding.{AreApart, NoneNamed}
 use Rattle.raster_store.specs.Fields.{IsNamed}
+use Rattle.raster_store.specs.Snapshots.{distinct}
 
 -- it is the coverage of a store that has its name
 pub record IsPicked (held : List Held) (h : Held) : Type 0 where
@@ -12,11 +13,16 @@ pub record IsPicked (held : List Held) (h : Held) : Type 0 where
   pub signature : h.signature ≡ from.signature
   pub fields : h.fields.items ≡ from.fields.items
 
--- each is the coverage of a store with its name, each of these names has one, and none has two
+-- the names of coverages
+abbrev pub names_of : List Held → List (List ℕ)
+names_of held = map (λ (h : Held). h.signature.name) held
+
+-- each is the coverage of a store with its name, each of these names has one, none has two, and no other name has one
 pub record ArePickedFrom (held : List Held) (names : List (List ℕ)) (copies : List Held) : Type 0 where
   pub named : All (λ (n : List ℕ). NoneNamed n copies → ⊥) names
   pub from : All (IsPicked held) copies
   pub apart : AreApart copies
+  pub once : names_of copies ≡ distinct names
 
 -- one more name has its coverage
 abbrev pub AddsCopy : List Held → List ℕ → List Held → List Held → Type 0

@@ -1,8 +1,10 @@
 -- What is held for jobs: coverages as they were.
-use Rattle.std.specs.Prelude.{◌≡◌, ℕ, nat_eq, cond, IsTrue, List, [], ◌∷◌, ◌++◌, All, Option, Some, None, option_map, slice_get}
-use Rattle.std.specs.List.{AllByRecursion as Each, find}
+use Rattle.std.specs.Prelude.{◌≡◌, ℕ, nat_eq, not, cond, IsTrue, List, [], ◌∷◌, ◌++◌, map, All}
+use Rattle.std.specs.Prelude.{Option, Some, None, option_map, slice_get}
+use Rattle.std.specs.List.{AllByRecursion as Each, filter, find}
 use Rattle.std.specs.Option.{option_or}
-use Rattle.arr_core.specs.Stores.{Store, found}
+use Rattle.std.specs.Str.{bytes_eq}
+use Rattle.arr_core.specs.Stores.{Coverage, Store, found}
 use Rattle.block_file.specs.State.{BlocksState, none}
 use Rattle.block_file.specs.Words.{Recounts}
 use Rattle.raster_store.specs.Views.{Index, SnapshotView, RasterView, AreIntact, listed_all, listed_snapshots}
@@ -41,11 +43,17 @@ ArePicked coverages indexes (c ∷ picked) (i ∷ chosen) =
 ArePicked coverages indexes [] (i ∷ chosen) = ⊥
 ArePicked coverages indexes (c ∷ picked) [] = ⊥
 
--- What is held for a job are the coverages with these names, each as it is.
+-- names, each at its first place alone
+unfoldable pub distinct : List (List ℕ) → List (List ℕ)
+distinct [] = []
+distinct (n ∷ names) = n ∷ filter (λ (m : List ℕ). not (bytes_eq m n)) (distinct names)
+
+-- What is held for a job are the coverages with these names, each as it is and once, and nothing else.
 pub record IsSnapshot (names : List (List ℕ)) (coverages : Store) (indexes : List (List Index)) (x : SnapshotView)
     : Type 0 where
   pub named : All (λ (n : List ℕ). found n x.coverages ≡ found n coverages) names
   pub picked : ArePicked coverages indexes x.coverages x.indexes
+  pub once : map (λ (c : Coverage). c.name) x.coverages ≡ distinct names
 
 -- every listed tile of what is held spells its cells
 abbrev pub AreIntactSnapshots : List ℕ → List SnapshotView → Type 0

@@ -19,6 +19,7 @@ use Rattle.raster_store.specs.Views.{Index, RasterView, coverage_in, AreIntact, 
 use Rattle.raster_store.specs.Calls.{signature_of, AreSameSignatures, HasNumbers, RefusesCells, LacksRoomFor}
 use Rattle.raster_store.specs.Calls.{filled, indexes_with, indexes_without}
 use Rattle.raster_store.specs.Fetches.{IsDamagedUnder}
+use Rattle.raster_store.specs.Tiles.{KeepsTiles, WritesTiles}
 
 -- something is true of the states of the blocks before and after
 abbrev pub OnBlocks : {B : Type 0} → (B → BlocksState) → (BlocksState → BlocksState → Type 0)
@@ -48,10 +49,12 @@ pub record SameCoverages {B : Type 0} (state : B → BlocksState) (old new : Ras
   pub indexes : new.indexes ≡ old.indexes
   pub fetched : new.fetched ≡ old.fetched
 
--- a call that may have written to free blocks has left the coverages, and each block in use, as they were
+-- a call that may have written to free blocks has left the coverages, and each block in use, as they were, and each
+-- tile that was spelled is
 pub record Stays {B : Type 0} (state : B → BlocksState) (old new : RasterView B) : Type 0 where
   pub same : SameCoverages state old new
   pub moves : Moves none none (state old.blocks) (state new.blocks)
+  pub tiles : KeepsTiles state old new
 
 -- where every listed tile spelled its cells, every one does
 abbrev pub Keeps : {B : Type 0} → (B → BlocksState) → RasterView B → RasterView B → Type 0
@@ -94,13 +97,14 @@ FetchesBox name area old new =
     IsSomeAnd (found name old.coverages)
     (λ c. (tiles : List ℕ) × AreMeeting c.domain area tiles × Fetched (length tiles) old.fetched new.fetched)
 
--- What a write of numbers, as these cells are stored, into a box of a field has done: function update on the box, where
--- the disk is honest. What other indexes list is kept, a block that was free is in use once at most, and so many blocks
--- are free that the metadata has room.
+-- What a write of numbers, as these cells are stored, into a box of a field has done: function update on the box, and
+-- what becomes of the tiles, where the disk is honest. What other indexes list is kept, a block that was free is in use
+-- once at most, and so many blocks are free that the metadata has room.
 pub record Writes {B : Type 0} (state : B → BlocksState) (name : List ℕ) (field : ℕ) (area : List Axis)
     (numbers : List ℤ) (catalogue : ℕ) (old new : RasterView B) : Type 0 where
   pub coverages : IsTrue (state old.blocks).honest → new.coverages ≡ updated name field area numbers old.coverages
   pub signatures : AreSameSignatures old.coverages new.coverages
+  pub tiles : IsTrue (state old.blocks).honest → WritesTiles state name field area old new
   pub moves : Moves (listed_all old.indexes) (listed_all new.indexes) (state old.blocks) (state new.blocks)
   pub once : UsesOnce (state old.blocks) (state new.blocks)
   pub room : reserve catalogue new.indexes ≤ free_of (state new.blocks)

@@ -14,7 +14,7 @@ use Rattle.tile_index.specs.declared.entry.Entry.{Entry}
 use Rattle.tile_index.specs.Index.{found_at}
 use Rattle.block_file.specs.State.{BlocksState, block_at}
 use Rattle.tile_store.specs.Listing.{entry_times}
-use Rattle.tile_store.specs.Stored.{entry_data, cells_read, tile_cells, tile_box, tile_number, number_at, IsTileSpelled, KeepsListed}
+use Rattle.tile_store.specs.Stored.{entry_data, IsPadded, cells_read, tile_cells, tile_box, tile_number, number_at, IsTileSpelled, KeepsListed}
 use Rattle.tile_store.specs.declared.field.FieldTiles.{FieldTiles}
 use Rattle.tile_store.specs.declared.numbers.Numbers.TheVariants.{Each}
 use Rattle.tile_store.specs.Numbers.{AreNumbers, number_of}
@@ -25,7 +25,7 @@ use Rattle.arr_core.proofs.Points.{length-points, rank-point, point-inside, at_r
 use Rattle.tile_store.specs.Overlays.{Overlaid}
 use Rattle.tile_store.proofs.Fitting.{fits_spelled}
 use Rattle.tile_store.proofs.Rows.{inside_cases, overlaid_same}
-use Rattle.tile_store.proofs.Kept.{data_same, map_same, number_kept}
+use Rattle.tile_store.proofs.Kept.{data_same, padded_same, map_same, number_kept}
 
 -- a spelling is read as what it spells
 pub spelled_cells : (kind : FieldType) (bytes : List ℕ) (cells : List ℤ) → IsSpelling kind bytes cells → cells_read kind bytes ≡ cells
@@ -38,11 +38,12 @@ spelled_some kind content e bytes cells is s =
     let there : cells_read kind (entry_data content e) ≡ cells = rw (← is) (spelled_cells kind bytes cells s) in
     (λ i. rw there refl, λ e' some. (let other : e ≡ e' = cc in rw (← other, there, ← is) (s, refl)))
 
-pub written_some : (kind : FieldType) (content : List ℕ) (e : Entry) (bytes : List ℕ) (cells : List ℤ) → bytes ≡ entry_data content e → IsSpelling kind bytes cells → length e.blocks ≡ tile_blocks kind cells → IsWritten kind content (Some e) cells
-written_some kind content e bytes cells is s size = record {
+pub written_some : (kind : FieldType) (content : List ℕ) (e : Entry) (bytes : List ℕ) (cells : List ℤ) → bytes ≡ entry_data content e → IsSpelling kind bytes cells → length e.blocks ≡ tile_blocks kind cells → IsPadded content e → IsWritten kind content (Some e) cells
+written_some kind content e bytes cells is s size padded = record {
   has = (spelled_some kind content e bytes cells is s).0;
   spelled = (spelled_some kind content e bytes cells is s).1;
   size = size;
+  padded = λ e' some. (let other : e ≡ e' = cc in rw (← other) padded);
 }
 
 pub read_some : (kind : FieldType) (n : ℕ) (s : BlocksState) (entry : Option Entry) (e : Entry) (bytes : List ℕ) (cells : List ℤ) → entry ≡ Some e → (IsTrue s.honest → bytes ≡ entry_data s.content e) → IsSpelling kind bytes cells → length cells ≡ n → IsRead kind n s entry cells
@@ -55,13 +56,14 @@ read_some kind n s entry e bytes cells some is spells size = rw (some, ← size)
 
 -- it stays so while its blocks hold what they hold
 pub written_kept : (kind : FieldType) (old new : List ℕ) (entry : Option Entry) (cells : List ℤ) → IsWritten kind old entry cells → ((k : ℕ) → 0 < entry_times entry k → block_at new k ≡ block_at old k) → IsWritten kind new entry cells
-written_kept kind old new None cells w same = record { has = w.has; spelled = λ e none. absurd (cc); size = w.size }
+written_kept kind old new None cells w same = record { has = w.has; spelled = λ e none. absurd (cc); size = w.size; padded = λ e none. absurd (cc) }
 written_kept kind old new (Some e) cells w same =
     let is : entry_data new e ≡ entry_data old e = data_same old new e same in
     record {
       has = λ i. rw is (w.has i);
       spelled = λ e' some. (let other : e ≡ e' = cc in rw (← other, is) (w.spelled e refl));
       size = w.size;
+      padded = λ e' some. (let other : e ≡ e' = cc in rw (← other) (padded_same old new e same (w.padded e refl)));
     }
 
 -- the cell of a point in a function's list

@@ -11,7 +11,7 @@ use Rattle.block_file.specs.State.{BlocksState, block, block_at, times, none}
 use Rattle.block_file.specs.Words.{Moves}
 use Rattle.block_file.proofs.Times.{one_same, times-cons}
 use Rattle.tile_store.specs.Listing.{listed, IsSound}
-use Rattle.tile_store.specs.Stored.{entry_data, cells_read, tile_cells, tile_box, tile_number, number_at, field_values, IsTileSpelled, IsSpelled, KeepsListed}
+use Rattle.tile_store.specs.Stored.{entry_data, IsPadded, cells_read, tile_cells, tile_box, tile_number, number_at, field_values, IsTileSpelled, IsSpelled, KeepsListed}
 use Rattle.tile_store.proofs.Listed.{listed_found}
 
 -- bytes of blocks that hold the same
@@ -27,10 +27,19 @@ pub data_same : (old new : List ℕ) (e : Entry) → ((k : ℕ) → 0 < times e.
 unfolding entry_data
 data_same old new e h = ap (take e.length) (joined_same (block_at new) (block_at old) e.blocks h)
 
+-- and what follows them
+pub padded_same : (old new : List ℕ) (e : Entry) → ((k : ℕ) → 0 < times e.blocks k → block_at new k ≡ block_at old k) → IsPadded old e → IsPadded new e
+unfolding IsPadded
+padded_same old new e h zeros = rw (joined_same (block_at new) (block_at old) e.blocks h) zeros
+
 -- the bytes of a listed tile
 pub data_kept : (index : List (ℕ × Entry)) (old new : List ℕ) (tile : ℕ) (e : Entry) → KeepsListed index old new → found_at tile index ≡ Some e → entry_data new e ≡ entry_data old e
 data_kept index old new tile e kept found =
     data_same old new e (λ k some. kept k (omega (arith, some, rw found at (listed_found tile index k))))
+
+pub padded_kept : (index : List (ℕ × Entry)) (old new : List ℕ) (tile : ℕ) (e : Entry) → KeepsListed index old new → found_at tile index ≡ Some e → IsPadded old e → IsPadded new e
+padded_kept index old new tile e kept found =
+    padded_same old new e (λ k some. kept k (omega (arith, some, rw found at (listed_found tile index k))))
 
 -- the cells of a tile, listed or not
 pub cells_kept : (kind : FieldType) (index : List (ℕ × Entry)) (old new : List ℕ) (tile : ℕ) (o : Option Entry) → KeepsListed index old new → found_at tile index ≡ o → tile_cells kind new o ≡ tile_cells kind old o

@@ -25,7 +25,7 @@ use Rattle.tile_store.specs.Room.{entry_blocks, tile_blocks, patched_at}
 use Rattle.tile_store.specs.Stored.{tile_box, tile_number, number_at, field_values, KeepsListed}
 use Rattle.tile_store.specs.Written.{IsWritten, AreWritten, AreAfter, IsNewTile}
 use Rattle.tile_store.proofs.Cells.{cells_listed, cell_listed, number_in_tile, written_kept, after_kept}
-use Rattle.tile_store.proofs.Kept.{cells_kept, tile_kept, keeps_listed}
+use Rattle.tile_store.proofs.Kept.{cells_kept, padded_kept, tile_kept, keeps_listed}
 use Rattle.tile_store.proofs.Listed.{given_push, given_at}
 use Rattle.tile_store.proofs.Rows.{inside_cases}
 use Rattle.tile_store.proofs.Sizes.{entry_few, found_entry}
@@ -90,6 +90,14 @@ patched_of u old new before after ordered index kept w = record {
         let pass = list_all-from_AllPass (int_eq (pos 0)) (patched u before old t) (λ i d lt. rw (zeros i d lt) refl) in
         none_of (found_at t new) (m.written.size ∙ rw pass refl) (λ e some. found_entry new t e index some)
     | inr same ↦ absurd (same.0 meets)
+  ];
+  blocks = λ t meets. elim (w t) [ inl m ↦ m.written.size | inr same ↦ absurd (same.0 meets) ];
+  padded = λ t was. elim (w t) [
+    | inl m ↦ m.written.padded
+    | inr same ↦ elim was [
+      | inl meets ↦ absurd (same.0 meets)
+      | inr padded ↦ λ e some. (let found = sym same.1 ∙ some in padded_kept old before.content after.content t e kept found (padded e found))
+    ]
   ];
   read = λ t meets. elim (w t) [ inl m ↦ m.read | inr same ↦ absurd (same.0 meets) ];
 }

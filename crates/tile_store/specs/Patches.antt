@@ -9,9 +9,9 @@ use Rattle.tile_store.specs.declared.numbers.Patch.{Patch}
 use Rattle.tile_store.specs.Listing.{Index, IsSound}
 use Rattle.tile_store.specs.Numbers.{AreNumbers, numbers_in}
 use Rattle.tile_store.specs.Reading.{Meets}
-use Rattle.tile_store.specs.Stored.{tile_box, field_values, IsTileSpelled}
+use Rattle.tile_store.specs.Stored.{tile_box, field_values, IsTileSpelled, IsTilePadded}
 use Rattle.tile_store.specs.Faults.{Refuses}
-use Rattle.tile_store.specs.Room.{cells_after, tile_blocks, room_for, AreMeeting}
+use Rattle.tile_store.specs.Room.{cells_after, tile_blocks, entry_blocks, room_for, AreMeeting}
 
 -- a box of the domain, and numbers for it in the range of the field's type
 pub record IsPatch (u : Patch) : Type 0 where
@@ -48,9 +48,13 @@ abbrev pub patched : Patch → BlocksState → Index → ℕ → List ℤ
 patched u s index tile =
     cells_after u.kind u.domain.now index s.content u.area.now (numbers_of u) tile
 
+-- how many blocks a tile takes then
+abbrev pub blocks_after : Patch → BlocksState → Index → ℕ → ℕ
+blocks_after u s index tile = tile_blocks u.kind (patched u s index tile)
+
 -- What a write of a patch leaves: the field's values, function update on the box; each tile that the box meets is
--- spelled, and not listed where all its cells are 0; the others stay spelled, and listed as they were; and each tile
--- that was read was spelled.
+-- spelled, with zeros behind its bytes, takes as many blocks as its new cells need, and is not listed where they are
+-- all 0; the others stay spelled and padded, and listed as they were; and each tile that was read was spelled.
 pub record IsPatched (u : Patch) (old : BlocksState) (index : Index) (new : BlocksState) (index' : Index) : Type 0 where
   pub numbers : values_for u new index' ≡ updated_values u.domain.now u.area.now (numbers_of u) (values_for u old index)
   pub written : (tile : ℕ) → MeetsTile u tile → IsSpelledFor u new index' tile
@@ -58,6 +62,9 @@ pub record IsPatched (u : Patch) (old : BlocksState) (index : Index) (new : Bloc
   pub same : (tile : ℕ) → (MeetsTile u tile → ⊥) → found_at tile index' ≡ found_at tile index
   pub absent : (tile : ℕ) → MeetsTile u tile → All (λ z. z ≡ pos 0) (patched u old index tile)
       → found_at tile index' ≡ None
+  pub blocks : (tile : ℕ) → MeetsTile u tile → entry_blocks (found_at tile index') ≡ blocks_after u old index tile
+  pub padded : (tile : ℕ) → MeetsTile u tile ⊎ IsTilePadded index old.content tile
+      → IsTilePadded index' new.content tile
   pub read : (tile : ℕ) → MeetsTile u tile → CoversTile u tile ⊎ IsSpelledFor u old index tile
 
 -- the same, where the disk is honest
@@ -68,10 +75,6 @@ Patches u old index new index' = IsTrue old.honest → IsPatched u old index new
 abbrev pub HasDamaged : Patch → BlocksState → Index → Type 0
 HasDamaged u s index =
     IsTrue s.honest → (tile : ℕ) × MeetsTile u tile × (CoversTile u tile → ⊥) × (IsSpelledFor u s index tile → ⊥)
-
--- how many blocks a tile takes then
-abbrev pub blocks_after : Patch → BlocksState → Index → ℕ → ℕ
-blocks_after u s index tile = tile_blocks u.kind (patched u s index tile)
 
 -- fewer blocks are free than the new tiles and the metadata need, of which the other parts have `rest` bytes
 abbrev pub LacksRoom : Patch → ℕ → BlocksState → Index → Type 0

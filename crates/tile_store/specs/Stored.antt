@@ -1,5 +1,5 @@
 -- What the tiles of a field say: a number at each point of its domain.
-use Rattle.std.specs.Prelude.{◌≡◌, ℕ, ◌<◌, ℤ, pos, List, [], map, take, length, slice_index_or, Option, Some, None}
+use Rattle.std.specs.Prelude.{◌≡◌, ℕ, ◌<◌, ℤ, pos, List, [], map, take, drop, length, slice_index_or, All, Option, Some, None}
 use Rattle.std.specs.List.{flat_map}
 use Rattle.arr_core.specs.declared.cell.FieldType.{FieldType}
 use Rattle.arr_core.specs.declared.domain.Axis.{Axis}
@@ -15,6 +15,10 @@ use Rattle.tile_store.specs.Listing.{listed}
 -- the bytes of a tile: those of its blocks in order, as many as its entry says
 unfoldable pub entry_data : List ℕ → Entry → List ℕ
 entry_data content e = take e.length (flat_map (block_at content) e.blocks)
+
+-- what follows the bytes of a tile, to the end of its last block, is zeros
+unfoldable pub IsPadded : List ℕ → Entry → Type 0
+IsPadded content e = All (λ b. b ≡ 0) (drop e.length (flat_map (block_at content) e.blocks))
 
 -- the cells that bytes read as
 unfoldable pub cells_read : FieldType → List ℕ → List ℤ
@@ -52,6 +56,10 @@ abbrev pub IsTileSpelled : FieldType → List Axis → List (ℕ × Entry) → L
 IsTileSpelled kind domain index content tile =
     (e : Entry) → found_at tile index ≡ Some e
     → Spells kind (entry_data content e) (count (tile_box domain tile))
+
+-- a tile is not listed, or zeros follow its bytes
+abbrev pub IsTilePadded : List (ℕ × Entry) → List ℕ → ℕ → Type 0
+IsTilePadded index content tile = (e : Entry) → found_at tile index ≡ Some e → IsPadded content e
 
 -- each listed tile's bytes spell as many cells as the tile has points
 unfoldable pub IsSpelled : FieldType → List Axis → List (ℕ × Entry) → List ℕ → Type 0

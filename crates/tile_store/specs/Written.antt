@@ -1,5 +1,5 @@
 -- What a write has put into fresh blocks.
-use Rattle.std.specs.Prelude.{◌≡◌, ◌⊎◌, ℕ, ◌+◌, ◌*◌, ◌<◌, ◌≤◌, ◌^◌, ℤ, pos, IsTrue, List, [], take, length, slice_index_or, sum_by, All, Option, Some, Result, OnOk, false}
+use Rattle.std.specs.Prelude.{◌≡◌, ◌⊎◌, ℕ, ◌+◌, ◌*◌, ◌<◌, ◌≤◌, ◌^◌, ℤ, pos, IsTrue, List, [], take, drop, length, slice_index_or, sum_by, All, Option, Some, Result, OnOk, false}
 use Rattle.std.specs.List.{flat_map}
 use Rattle.arr_core.specs.declared.cell.FieldType.{FieldType}
 use Rattle.arr_core.specs.Cells.{Fits}
@@ -19,13 +19,14 @@ use Rattle.tile_store.specs.Listing.{Index, entry_times, listed_for, tiles_of, g
 use Rattle.tile_store.specs.Overlays.{cell_at}
 use Rattle.tile_store.specs.Patches.{CoversTile, IsSpelledFor, patched, HasDamaged, blocks_after}
 use Rattle.tile_store.specs.Room.{tile_blocks, entry_blocks, new_blocks, replaced_bytes, given_bytes, AreMeeting}
-use Rattle.tile_store.specs.Stored.{Spells, entry_data, tile_cells, tile_box, number_at}
+use Rattle.tile_store.specs.Stored.{Spells, entry_data, IsPadded, tile_cells, tile_box, number_at}
 
--- a block holds the part of some bytes that stands at a place, counted in blocks
+-- a block holds the part of some bytes that stands at a place, counted in blocks, and zeros behind the last of them
 pub record HoldsPart (block : List ℕ) (place : ℕ) (bytes : List ℕ) : Type 0 where
   pub whole : length block ≡ 4096
   pub part : (j : ℕ) → j < 4096 → 4096 * place + j < length bytes
       → slice_index_or block j 0 ≡ slice_index_or bytes (4096 * place + j) 0
+  pub padded : (j : ℕ) → j < 4096 → length bytes ≤ 4096 * place + j → slice_index_or block j 0 ≡ 0
 
 -- on an honest disk these are the bytes of a tile
 abbrev pub IsDataRead : BlocksState → Entry → List ℕ → Type 0
@@ -35,16 +36,22 @@ IsDataRead s entry bytes = IsTrue s.honest → bytes ≡ entry_data s.content en
 abbrev pub EntrySpells : FieldType → List ℕ → Option Entry → ℕ → Type 0
 EntrySpells kind content entry n = (e : Entry) → entry ≡ Some e → Spells kind (entry_data content e) n
 
+-- zeros follow the bytes of a tile, where it has an entry
+abbrev pub EntryPadded : List ℕ → Option Entry → Type 0
+EntryPadded content entry = (e : Entry) → entry ≡ Some e → IsPadded content e
+
 -- a tile has these cells, by their places
 abbrev pub HasCells : FieldType → List ℕ → Option Entry → List ℤ → Type 0
 HasCells kind content entry cells =
     (i : ℕ) → slice_index_or (tile_cells kind content entry) i (pos 0) ≡ slice_index_or cells i (pos 0)
 
--- these cells were written as a tile: it has them, its bytes spell them, and it has as many blocks as they need
+-- these cells were written as a tile: it has them, its bytes spell them, it has as many blocks as they need, and the
+-- last one is filled with zeros
 pub record IsWritten (kind : FieldType) (content : List ℕ) (entry : Option Entry) (cells : List ℤ) : Type 0 where
   pub has : HasCells kind content entry cells
   pub spelled : EntrySpells kind content entry (length cells)
   pub size : entry_blocks entry ≡ tile_blocks kind cells
+  pub padded : EntryPadded content entry
 
 -- the cells of a tile were read by its entry
 pub record IsRead (kind : FieldType) (n : ℕ) (s : BlocksState) (entry : Option Entry) (cells : List ℤ)
@@ -66,9 +73,10 @@ AreUnused ks s = (k : ℕ) → 0 < times ks k → s.uses k ≡ 0
 abbrev pub AreFresh : List ℕ → BlocksState → Type 0
 AreFresh ks s = (k : ℕ) → 0 < times ks k → (s.uses k ≡ 1) × (times ks k ≡ 1)
 
--- on an honest disk the blocks are whole and hold some bytes, in order
+-- on an honest disk the blocks are whole and hold some bytes, in order, and zeros behind them
 pub record HoldsBytes (ks bytes : List ℕ) (s : BlocksState) : Type 0 where
   pub bytes_are : IsTrue s.honest → take (length bytes) (flat_map (block s) ks) ≡ bytes
+  pub padded : IsTrue s.honest → All (λ b. b ≡ 0) (drop (length bytes) (flat_map (block s) ks))
   pub whole : IsTrue s.honest → (k : ℕ) → 0 < times ks k → length (block s k) ≡ 4096
 
 -- a tile was written to the blocks that came to those taken

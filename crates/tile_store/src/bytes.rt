@@ -115,9 +115,9 @@ fn block_of(bytes: &[u8], place: usize) -> [u8; 4096]
 {
     let from = bytes.len().min(place * BLOCK_BYTES);
     let count = BLOCK_BYTES.min(bytes.len() - from);
-    let mut block = [0u8; 4096];
-    block[..count].copy_from_slice(&bytes[from..from + count]);
-    block
+    let mut part = [0u8; 4096];
+    part[..count].copy_from_slice(&bytes[from..from + count]);
+    part
 }
 
 /// Writes the bytes of a tile into its blocks.

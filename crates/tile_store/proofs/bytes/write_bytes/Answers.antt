@@ -3,7 +3,7 @@ use Rattle.std.proofs.Common.{arith, get_or, ◌∙◌}
 use Rattle.block_file.specs.State.{block}
 use Rattle.block_file.proofs.Frames.{moves_more}
 use Rattle.block_file.proofs.Times.{times_at, one_times}
-use Rattle.tile_store.proofs.Parts.{parts_joined, parts_more, whole_listed}
+use Rattle.tile_store.proofs.Parts.{parts_joined, parts_more, parts_padded, whole_listed}
 use Rattle.tile_store.proofs.bytes.write_bytes.Goals as goal
 
 pub write-requires : goal.write-requires
@@ -26,5 +26,6 @@ loop-place-preserved g c = record {
 pub returns-clause-written : goal.returns-clause-written
 returns-clause-written g c = record {
   bytes_are = λ honest. parts_joined (block (g.B.Blocks.state c.loop-place.blocks)) c.args.numbers.now c.args.bytes.now (λ i h. c.loop-place.invariant.parts (rw c.loop-place.invariant.frame.honest at honest) i (omega (arith, h))) c.requires.enough;
+  padded = λ honest. parts_padded (block (g.B.Blocks.state c.loop-place.blocks)) c.args.numbers.now c.args.bytes.now (λ i h. c.loop-place.invariant.parts (rw c.loop-place.invariant.frame.honest at honest) i (omega (arith, h)));
   whole = λ honest. whole_listed _ c.args.numbers.now (λ i h. (c.loop-place.invariant.parts (rw c.loop-place.invariant.frame.honest at honest) i (omega (arith, h))).whole);
 }

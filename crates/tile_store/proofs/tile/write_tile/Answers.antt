@@ -5,7 +5,7 @@ use Rattle.block_file.specs.State.{times}
 use Rattle.block_file.proofs.Times.{times_append}
 use Rattle.tile_index.specs.Entries.{blocks_filled}
 use Rattle.tile_store.proofs.Cells.{written_some}
-use Rattle.tile_store.proofs.Parts.{data_written}
+use Rattle.tile_store.proofs.Parts.{data_written, padded_written}
 use Rattle.tile_store.proofs.Sizes.{made_entry}
 use Rattle.tile_store.proofs.Takes.{takes_written}
 use Rattle.tile_store.proofs.tile.write_tile.Goals as goal
@@ -34,6 +34,7 @@ returns-clause-written g c =
       written = λ honest. written_some c.args.kind _ _ bytes c.args.cells.now
           (data_written _ _ bytes c.in_ok-fresh.fresh.items c.new.ensures.blocks long (holds.bytes_are honest))
           c.in_ok-bytes.ensures.spelled
-          (ap length c.new.ensures.blocks ∙ filled ∙ ap blocks_filled c.in_ok-bytes.ensures.length ∙ rw (sym c.are_zero.ensures.test ∙ c.if-are_zero.false) refl);
+          (ap length c.new.ensures.blocks ∙ filled ∙ ap blocks_filled c.in_ok-bytes.ensures.length ∙ rw (sym c.are_zero.ensures.test ∙ c.if-are_zero.false) refl)
+          (padded_written _ _ bytes c.in_ok-fresh.fresh.items c.new.ensures.blocks long (holds.padded honest));
       whole = λ honest. rw (sym c.new.ensures.blocks) at (holds.whole honest);
     }

@@ -2,7 +2,7 @@
 use Rattle.std.proofs.Common.{refl, arith}
 use Rattle.std.proofs.lemmas.List.{map_push}
 use Rattle.raster_store.specs.Holding.{coverages_of, indexes_of, snapshot_of}
-use Rattle.raster_store.proofs.Picked.{picked_used, picked_picked, picked_intact, picked_held, picked_named}
+use Rattle.raster_store.proofs.Picked.{picked_used, picked_picked, picked_intact, picked_held, picked_named, picked_once}
 use Rattle.raster_store.proofs.Snapshots.{snapshots_push, held_recounted, names_there, counted_as}
 use Rattle.raster_store.proofs.Versions.{decoded_read, decoded_held}
 use Rattle.raster_store.proofs.store.RasterStore.hold.Goals as goal
@@ -36,7 +36,7 @@ returns-clause-held g c =
     rw (← c.self.view_is, c.in-Ok.ensures.items, c.in_ok-reserve.ensures.items) (record {
       snapshot = record { job = c.args.job; coverages = coverages_of s.content copies; indexes = indexes_of copies };
       job = refl;
-      is = record { named = picked_named _ _ c.self.invariant.is_held c.args.names.now copies picked; picked = picked_picked _ _ c.self.invariant.is_held copies picked.from };
+      is = record { named = picked_named _ _ c.self.invariant.is_held c.args.names.now copies picked; picked = picked_picked _ _ c.self.invariant.is_held copies picked.from; once = picked_once _ _ c.self.invariant.is_held c.args.names.now copies picked };
       intact = picked_intact _ _ c.self.invariant.is_held copies picked.from;
       snapshots = rw counts.content (map_push (snapshot_of s.content) c.self.inside.snapshots.items _);
       same = record { coverages = rw counts.content refl; indexes = refl; fetched = refl };

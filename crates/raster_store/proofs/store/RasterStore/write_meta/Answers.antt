@@ -3,6 +3,7 @@ use Rattle.std.proofs.Common.{arith}
 use Rattle.raster_store.specs.Holding.{snapshots_of}
 use Rattle.raster_store.proofs.Snapshots.{passed, passes_none, seen}
 use Rattle.raster_store.proofs.Writes.{keeps_all, same_store, held_kept}
+use Rattle.raster_store.proofs.Tiles.{tiles_kept}
 use Rattle.raster_store.proofs.Versions.{decoded_moved}
 use Rattle.raster_store.proofs.store.RasterStore.write_meta.Goals as goal
 
@@ -10,7 +11,7 @@ pub returns-clause-frame : goal.returns-clause-frame
 returns-clause-frame g c =
     let held = c.self.inside.coverages.items in
     let kept = keeps_all _ _ held c.self.invariant.is_held c.write_chain.ensures.frame in
-    rw (← c.self.view_is) (record { same = (same_store g.B.Blocks.state c.self.inside.blocks c.write_chain.new.file held _ _ c.self.inside.fetched kept).0; moves = c.write_chain.ensures.frame })
+    rw (← c.self.view_is) (record { same = (same_store g.B.Blocks.state c.self.inside.blocks c.write_chain.new.file held _ _ c.self.inside.fetched kept).0; moves = c.write_chain.ensures.frame; tiles = λ sure. tiles_kept (g.B.Blocks.state c.self.inside.blocks).content (g.B.Blocks.state c.write_chain.new.file).content held (kept sure) })
 
 pub returns-clause-intact : goal.returns-clause-intact
 returns-clause-intact g c =
