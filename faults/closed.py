@@ -1,59 +1,93 @@
 #!/usr/bin/env python3
-"""The built program started with a standard stream closed.
+"""The built program started with standard streams closed.
 
-    faults/closed.py PROGRAM [strict]
+    faults/closed.py PROGRAM
 
-The system gives the first file that a program opens the least number that is free. Where standard input, output or error is
-closed at the start, that is the number of this stream, and today the store's file gets it: replies, or the line that says why a
-file was refused, are written over the store, and requests are read from it. Each stream is closed in turn, over a closed file and
-over one that a session left open; afterwards the file has to hold what it held, and the open one has to be as it was. With
-`strict` what is known today counts as wrong, and the script ends with status 1 then.
+The system gives a file that is opened the least number that is free. Where standard input, output or error is closed at the
+start, that is the number of this stream: a store's file that got it would be written over by replies, or by the line that says
+why it was refused, and requests would be read from it. Each stream is closed in turn, and all of them, over a closed file and
+over one that a session left open, by `run` and by `listen`. Afterwards the file has to hold what it held, the open one has to be
+as it was, and the status has to be that of a run with its streams open. Ends with status 1 where one was otherwise.
 """
 
+import contextlib
 import os
+import socket
 import subprocess
 import sys
 import tempfile
+import time
 
 sys.dont_write_bytecode = True
 
 import scripts
+import shim
 from failing import shown_by
 
-STREAMS = ["input", "output", "error"]
+sys.path.append(f"{shim.TOP}/scripts")
+
+from served import free_port
+
+CLOSED = [(0,), (1,), (2,), (0, 1, 2)]
+NAMES = ["input", "output", "error"]
 LARGE = scripts.query("for c in (lai) return encode(coverage m over $i x(0:2999) values 7, csv)")
 
 
-def after(program, path, content, stream):
-    """What a file holds after a run with a stream closed, its bytes, and the status."""
-    with open(path, "wb") as file:
-        file.write(content)
-    with subprocess.Popen(
-        [program, path, "run"],
-        stdin=subprocess.PIPE if stream != 0 else None,
-        stdout=subprocess.PIPE if stream != 1 else None,
-        stderr=subprocess.PIPE if stream != 2 else None,
-        preexec_fn=lambda: os.close(stream),
-    ) as process:
-        process.communicate(LARGE if stream != 0 else None, timeout=60)
-    with open(path, "rb") as file:
-        left = file.read()
-    return shown_by(left), left, process.returncode
+def close(streams):
+    for stream in streams:
+        os.close(stream)
 
 
-def main(program, *words):
-    closed = scripts.lai()
+def begun(words, streams):
+    """The program, with a pipe to or from each standard stream that is not closed."""
+    pipes = [None if it in streams else subprocess.PIPE for it in range(3)]
+    return subprocess.Popen(words, stdin=pipes[0], stdout=pipes[1], stderr=pipes[2], preexec_fn=lambda: close(streams))
+
+
+def run(program, path, streams):
+    """The status of a session over standard input and output, where these are open."""
+    with begun([program, path, "run"], streams) as process:
+        process.communicate(None if 0 in streams else LARGE, timeout=60)
+    return process.returncode
+
+
+def listen(program, path, streams):
+    """The status of a session of one connection at a socket."""
+    port = free_port()
+    with begun([program, path, "listen", str(port), "1"], streams) as process:
+        while process.poll() is None:
+            time.sleep(0.01)
+            with contextlib.suppress(OSError), socket.create_connection(("127.0.0.1", port), timeout=60) as client:
+                client.sendall(LARGE)
+                client.shutdown(socket.SHUT_WR)
+                while client.recv(1 << 16):
+                    pass
+        process.communicate(timeout=60)
+    return process.returncode
+
+
+def faults(program, path, closed):
+    """What came out otherwise, in words."""
     left_open = closed[:12] + b"\1" + closed[13:]
-    known = 0
+    for streams in CLOSED:
+        for how in (run, listen):
+            for what, content, wanted in [("a closed file", closed, 0), ("a file that was left open", left_open, 3)]:
+                with open(path, "wb") as file:
+                    file.write(content)
+                status = how(program, path, streams)
+                with open(path, "rb") as file:
+                    left = file.read()
+                is_same = shown_by(left) == shown_by(closed) if content is closed else left == content
+                if not is_same or status != wanted:
+                    names = ", ".join(NAMES[it] for it in streams)
+                    yield f"{how.__name__}, standard {names} closed, {what}: status {status}, {'as it was' if is_same else 'lost'}"
+
+
+def main(program):
     with tempfile.TemporaryDirectory() as folder:
-        for stream, name in enumerate(STREAMS):
-            for what, content in [("a closed file", closed), ("a file that was left open", left_open)]:
-                held, left, status = after(os.path.abspath(program), f"{folder}/store", content, stream)
-                is_same = held == shown_by(closed) if content is closed else left == content
-                known += not is_same
-                told = "as it was" if is_same else f"lost (known): {held if isinstance(held, int) else 'other cells'}"
-                print(f"standard {name} closed, {what}: status {status}, {told}", flush=True)
-    return 1 if known and "strict" in words else 0
+        found = list(faults(os.path.abspath(program), f"{folder}/store", scripts.lai()))
+    print(*found or [f"standard streams closed in {len(CLOSED)} ways: nothing was lost"], sep="\n", flush=True)
+    return 1 if found else 0
 
 
 if __name__ == "__main__":

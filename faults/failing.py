@@ -13,8 +13,8 @@ bytes; `memory`, growths, one and forty in a row; `stream`, reads and writes of 
 Each reply has to be that of oracle/machine.py, or 91 (90 for growths) and that one where the message is sent again. Where the
 opening is refused, the file opens again afterwards, unless the header was being written; where the close is, that is told; where
 it is not, the file holds the store. A failed read or write of the connection ends it, and the store holds what was answered.
-Known today, and wrong with `strict`: an interrupted read or write ends a connection, and one growth that is refused at the close
-loses the session. Prints counts and what was wrong, and ends with status 1 where something was.
+An interrupted read or write is made again, so that all replies come; where each call from one on is interrupted, the connection
+ends as by any fault. Known today, and wrong with `strict`: one growth that is refused at the close loses the session. Prints counts and what was wrong, and ends with status 1 where something was.
 """
 
 import collections
@@ -194,6 +194,9 @@ class Trials:
             for k in range(1, self.numbers["disk"] + 1):
                 what = f"{name} at call {k}, {self.calls[k - 1][0]}"
                 self.tried(what, "disk", k, how, count, again=0 if (how, count) == (EIO, ALL) else 1)
+        for told in ("not opened: 91 DiskFault", "not closed: 91 DiskFault"):
+            if not self.counts[told]:
+                self.fails("all of these", f"never told: {told}")
 
     def lies(self):
         """Reads that give other bytes: the first is that of the header, and behind every other the whole script returns."""
@@ -225,10 +228,16 @@ class Trials:
         for message in self.messages:
             served(machine, message)
             states.append(shown(machine.store))
-        for name, how in [("EIO", EIO), ("EINTR", EINTR), ("nothing moved", NOTHING)]:
+        kinds = [
+            ("EIO", EIO, 1),
+            ("EINTR", EINTR, 1),
+            ("EINTR from then on", EINTR, ALL),
+            ("nothing moved", NOTHING, 1),
+        ]
+        for name, how, count in kinds:
             for k in range(1, self.numbers["stream"] + 1):
                 self.start()
-                run = shim.Run(self.program, self.path, shim.environment(self.made, "stream", k, how))
+                run = shim.Run(self.program, self.path, shim.environment(self.made, "stream", k, how, count))
                 out, wanted = b"".join(run.ask(it) for it in self.messages), b"".join(self.replies)
                 self.counts["runs"] += 1
                 what = f"{name} at call {k} of the connection"
@@ -238,8 +247,10 @@ class Trials:
                 done = next(n for n in range(len(states)) if len(out) <= len(b"".join(self.replies[:n])))
                 if shown_by(self.content()) not in states[done : done + 2]:
                     self.fails(what, "the store does not hold what was answered")
-                if how == EINTR and out != wanted:
-                    self.knows("connections that an interrupted call ended")
+                if (how, count) == (EINTR, 1) and out != wanted:
+                    self.fails(what, "an interrupted call ended the connection")
+                if count == ALL and out == wanted:
+                    self.counts["all replies before the faults"] += 1
 
 
 def main(program, *words):

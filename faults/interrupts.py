@@ -1,19 +1,18 @@
 #!/usr/bin/env python3
 """A server that is stopped and continued under load, and two servers on one file.
 
-    faults/interrupts.py PROGRAM [CONNECTIONS] [strict]
+    faults/interrupts.py PROGRAM [CONNECTIONS]
 
 The first part sends SIGSTOP and SIGCONT to a server while a client writes and asks over loopback, so many connections one after
-the other, 200 where the number is left out, its messages in pieces with pauses. Each reply that comes has to be right, and
-the file has to hold each update that was answered. A connection that ends without its reply is known today: the system tells a
-read with a limit of time that it was interrupted, and the server takes that for the end.
+the other, 200 where the number is left out, its messages in pieces with pauses. The system tells a call that it was interrupted,
+and the server makes it again: each connection has to get all of its replies, and the file has to hold each update.
 
-The second part has one server open a file, stops it between its reading of the header and its first write (by shim.c), has a
-second one open the file, write and close it, and lets the first go on to its close. Today both answer `ok` and end with 0, and
-what one of them wrote is gone, or the file is refused: known too, until a server locks its file. A server that opens a file
-which another one has open behind its first write has to be refused as 95.
+The second part has one server open a file, stops it between its reading of the header and its first write (by shim.c), and has a
+second one open the file. This one has to be refused as 91, and to leave the file as it is; the first goes on to its close, and
+the file has to hold what it wrote. A server that comes behind the first one's first write is refused as well, and one that comes
+after its close opens the file.
 
-With `strict` what is known counts as wrong. Ends with status 1 where something was wrong.
+Ends with status 1 where something was wrong.
 """
 
 import contextlib
@@ -110,7 +109,7 @@ def stopping(pid):
 
 
 def stopped(program, folder, connections):
-    """A server under load that is stopped and continued. What was lacking, and what was wrong."""
+    """A server under load that is stopped and continued. Whether something was wrong."""
     path, port = f"{folder}/stopped", free_port()
     words = [program, path, "listen", str(port), str(connections + 1)]
     with subprocess.Popen(words, stdin=subprocess.DEVNULL) as server:
@@ -127,59 +126,65 @@ def stopped(program, folder, connections):
         held = shown_by(file.read())
     lost = held if isinstance(held, int) else sum(cell not in may for cell, may in zip(held[0][3][0], cells))
     print(
-        f"stopped {len(times)} times under {connections} connections: {lacking} ended without a reply (known);"
+        f"stopped {len(times)} times under {connections} connections: {lacking} ended without a reply,"
         f" wrong replies: {wrong}, lost updates: {lost}, status {status}",
         flush=True,
     )
-    return lacking, wrong + bool(lost) + (status != 0)
+    return bool(lacking or wrong or lost or status)
+
+
+def content(path):
+    with open(path, "rb") as file:
+        return file.read()
 
 
 def two(program, made, folder):
-    """Two servers on one file: whether something was lost without being told, and whether something else was wrong."""
+    """Two servers on one file. Whether something was wrong."""
     path, log = f"{folder}/two", f"{folder}/log"
     with open(path, "wb") as file:
         file.write(scripts.lai())
-    probe = shim.Run(program, path, shim.environment(made, log=log))
-    probe.end()
+    shim.Run(program, path, shim.environment(made, log=log)).end()
     first_write = [call[0] for call in shim.calls(log)[0]].index("pwrite") + 1
     with open(path, "wb") as file:
         file.write(scripts.lai())
     one = shim.Run(program, path, shim.environment(made, "disk", first_write, shim.STOPPED))
     os.waitid(os.P_PID, one.process.pid, os.WSTOPPED | os.WEXITED | os.WNOWAIT)
-    other = shim.Run(program, path, None)
-    answered = [other.ask(it) for it in writes("b")]
-    ended = other.end()
+    before = shim.Run(program, path, None).end()
+    is_untouched = content(path) == scripts.lai()
     one.process.send_signal(signal.SIGCONT)
-    answered += [one.ask(it) for it in writes("a")]
-    late = shim.Run(program, path, None).end()
-    ends = [ended, one.end()]
-    with open(path, "rb") as file:
-        held = shown_by(file.read())
-    names = held if isinstance(held, int) else [it[0] for it in held]
-    oks = sum(it == ok(b"plain", b"ok\n") for it in answered)
+    answered = [one.ask(it) for it in writes("a")]
+    behind = shim.Run(program, path, None).end()
+    ended = one.end()
+    names = names_in(path)
+    later = shim.Run(program, path, None).end()
+    print(f"two servers on one file: the first {ended}, another before its first write {before}, behind it {behind},")
     print(
-        f"two servers on one file: {oks} of {len(answered)} requests are ok, statuses {ends}, and the file is {names} (known)"
+        f"after its close {later}; the file was {'' if is_untouched else 'not '}left as it was, and holds {names}",
+        flush=True,
     )
-    print(f"a third one while one has it open: {late}", flush=True)
-    told = any(end != (0, "") for end in ends)
-    lost = not told and (isinstance(held, int) or not {"a", "b"} <= set(names))
-    return lost, late not in [(3, "not opened: 95 NotClosed"), (3, "not opened: 91 DiskFault")]
+    refused = (3, "not opened: 91 DiskFault")
+    found = [before, behind, is_untouched, answered, ended, names, later]
+    return found != [refused, refused, True, [ok(b"plain", b"ok\n")] * 2, (0, ""), ["lai", "a"], (0, "")]
+
+
+def names_in(path):
+    """The coverages that a file holds, or the number of its refusal."""
+    held = shown_by(content(path))
+    return held if isinstance(held, int) else [it[0] for it in held]
 
 
 def writes(name):
     return [scripts.insert(name, "x(0:9999)", "v:i64"), scripts.update(name, "v", "x(0:9999)", fill=len(name))]
 
 
-def main(program, *words):
-    program, connections = os.path.abspath(program), next((int(it) for it in words if it != "strict"), 200)
+def main(program, connections="200"):
+    program = os.path.abspath(program)
     with tempfile.TemporaryDirectory() as folder:
-        lacking, wrong = stopped(program, folder, connections)
-        lost = False
+        wrong = stopped(program, folder, int(connections))
         if shim.is_dynamic(program):
             with shim.library() as made:
-                lost, other = two(program, made, folder)
-            wrong += other
-    return 1 if wrong or ("strict" in words and (lacking or lost)) else 0
+                wrong |= two(program, made, folder)
+    return 1 if wrong else 0
 
 
 if __name__ == "__main__":

@@ -71,12 +71,15 @@ def trials(seed):
     yield "the documents beside the crates", ["scripts/check.py"], None
     yield "the examples of the documents", ["scripts/check.py", program], lacking("curl")
     yield "files of version 1", ["oracle/version_1.py", program], None
+    yield "words, statuses and lines of the program", ["scripts/statuses.py", program], None
     yield "sessions beside the independent reading", ["oracle/sessions.py", program, "200", seed], None
     yield "clients that shut, reset, stall and go away", ["bench/sockets.py"], lacking("curl")
     yield "a device without room", ["bench/full_disk.py"], None
     yield "the clients and deploy/serve", ["clients/python/test.py", program], lacking("curl", "flock", "prlimit")
     yield "inputs that are changed without end", ["oracle/fuzz.py", program, "20", seed], None
     yield "calls of the system that fail or lie", ["faults/failing.py", program, "disk", "lies", "stream"], None
+    yield "standard streams that are closed", ["faults/closed.py", program], None
+    yield "a server that is stopped, and two on one file", ["faults/interrupts.py", program, "40"], None
     every = ["memory", "25", str(int(seed) % 25 + 1)]
     yield "growths that are refused, every 25th", ["faults/failing.py", program, *every], None
     yield "the layout of Python", ["black", "--check", "--quiet", "."], lacking("black")

@@ -154,6 +154,17 @@ class Serving(unittest.TestCase):
         self.assertEqual(first.session().list(), ["a"])
         self.assertEqual(first.stop()[0], 0)
 
+    def test_a_server_without_the_script_has_its_file_alone(self):
+        bare = subprocess.Popen([PROGRAM, self.file, "run"], stdin=subprocess.PIPE, stdout=subprocess.DEVNULL)
+        for _ in range(500):
+            if os.path.exists(self.file) and os.path.getsize(self.file):
+                break
+            time.sleep(0.01)
+        self.assertEqual(self.script().ended(), (2, f"serve: another serves {self.file}\n"))
+        bare.communicate(timeout=LONGEST)
+        self.assertEqual(bare.returncode, 0)
+        self.assertEqual(self.coverages(), [])
+
     def test_a_script_that_was_killed_alone_leaves_the_lock_to_its_server(self):
         first = self.script(2)
         insert(first, "a")

@@ -286,7 +286,7 @@ impl<D: Disk> Server<D> {
                         Ok(()) => {}
                         Err(WriteFault) => return ConnEnd::WriteFault,
                     }
-                    if conn.over {
+                    if conn.is_over() {
                         return ConnEnd::Finished;
                     }
                 }

@@ -12,6 +12,12 @@ pub record Failing : Type 0 where
   pub failures : ℕ
   pub left : ℕ
 
+-- A disk in memory of which one read lies: how many reads are left until then, or 0 for none.
+pub record Lying : Type 0 where
+  pub content : List ℕ
+  pub failures : ℕ
+  pub left : ℕ
+
 -- A disk over a file as callers see it: its bytes, those that last, whether the file does what it tells, how many of
 -- the disk's calls have failed, and whether the length of its file is not known.
 pub record Filed : Type 0 where
@@ -32,6 +38,11 @@ known_bytes false true known bytes = bytes
 pub record Holds (content : List ℕ) (at : ℕ) (bytes : List ℕ) : Type 0 where
   pub within : at + length bytes ≤ length content
   pub each : (i : ℕ) → i < length bytes → slice_index content (at + i) ≡ slice_index bytes i
+
+-- the bytes are those that the content has from this place on, each inverted
+pub record HoldsInverted (content : List ℕ) (at : ℕ) (bytes : List ℕ) : Type 0 where
+  pub within : at + length bytes ≤ length content
+  pub each : (i : ℕ) → i < length bytes → slice_index bytes i ≡ 255 - slice_index content (at + i)
 
 -- so many bytes from this place on lie inside of the content
 abbrev pub IsInside : ℕ → List ℕ → List ℕ → Type 0

@@ -35,8 +35,8 @@ impl<F: RawFile> Model for FileDisk<F> {
 }
 
 impl FileDisk<StdFile> {
-    /// The file at this path, which is made where there is none. Refused where the system will not open or make it;
-    /// there is no count yet.
+    /// The file at this path, which is made where there is none, locked before it is read and as long as it is open.
+    /// Refused where the system will not open or make it, and where another server has it open; there is no count yet.
     pub fn open<R: Files<File = File>>(rt: &R, path: &str) -> Result<FileDisk<StdFile>, DiskFault>
         ensures failures { IfOk result (λ disk. disk.failures ≡ 0) }
         ensures works { IfOk result (λ disk. disk.is_broken ≡ false) }
@@ -44,7 +44,8 @@ impl FileDisk<StdFile> {
         let mut options = OpenOptions::new();
         options.read(true).write(true).create(true);
         let file = options.open(rt, path).map_err(|_| DiskFault)?;
-        FileDisk::new(StdFile { file })
+        let file = StdFile::lock(file).map_err(|_| DiskFault)?;
+        FileDisk::new(file)
     }
 }
 

@@ -9,12 +9,14 @@ ghost use Rattle.disk_face.specs.Disk.{Holds, Torn, Writes, Tells, Unwritten};
 mod fail;
 mod file;
 mod full;
+mod lying;
 mod memory;
 mod raw;
 
 pub use fail::FailDisk;
 pub use file::FileDisk;
 pub use full::FullFile;
+pub use lying::LyingDisk;
 pub use memory::MemDisk;
 pub use raw::{RawFault, RawFile, StdFile};
 use thiserror::Error;

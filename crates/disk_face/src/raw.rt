@@ -4,7 +4,11 @@ ghost use Rattle.std.specs.Io.{ReadsAtMost, WritesAtMost};
 ghost use Rattle.disk_face.specs.Disk.{HoldsPart, Torn, WrittenPart, Unwritten};
 
 use std::fs::File;
+use std::os::fd::AsRawFd;
 use std::os::unix::fs::FileExt;
+
+/// The greatest number of a standard stream.
+const LAST_STREAM: i32 = 2;
 
 /// The system refused a call.
 #[derive(Clone, Copy, Debug, PartialEq, Eq)]
@@ -55,11 +59,23 @@ pub trait RawFile {
         ensures honest { honest self.new ≡ honest self.old };
 }
 
-/// A file of the system. What it holds no clause can name, so it shows no bytes and is not honest: that these four
-/// calls do what the trait says of an honest file is trusted.
+/// A file of the system, under a lock as long as it is open. What it holds no clause can name, so it shows no bytes and
+/// is not honest: that these four calls do what the trait says of an honest file is trusted.
 #[derive(Drop)]
 pub struct StdFile {
-    pub(crate) file: File,
+    file: File,
+}
+
+impl StdFile {
+    /// Locks the file. Refused where another opening of it holds the lock, in this process or another one; where the
+    /// file system has no locks; and where the file has the number of a standard stream, which was closed: what is
+    /// written to that stream would be written over the file.
+    pub(crate) fn lock(file: File) -> Result<StdFile, RawFault> {
+        if file.as_raw_fd() <= LAST_STREAM || file.try_lock().is_err() {
+            return Err(RawFault);
+        }
+        Ok(StdFile { file })
+    }
 }
 
 impl RawFile for StdFile {

@@ -1,17 +1,52 @@
 -- A message and its body.
-use Rattle.std.proofs.Common.{◌≡◌, ◌≢◌, ℕ, ◌+◌, ◌<◌, ◌≤◌, Bool, List, [], ◌++◌, length, take, drop, Option, Some, None, IfSome, Result, Ok, Err, refl, sym, ap, ◌∙◌, subst, arith, append_assoc, append-nil}
+use Rattle.std.proofs.Common.{◌≡◌, ◌≢◌, ℕ, ◌+◌, ◌<◌, ◌≤◌, Bool, true, false, nat_le, if◌then◌else◌, List, [], ◌++◌, length, take, drop, Option, Some, None, IfSome, Result, Ok, Err, refl, sym, ap, ◌∙◌, subst, arith, append_assoc, append-nil}
 use Rattle.std.specs.Prelude.{Vec}
 use Rattle.std.specs.declared.alloc.Global.{Global}
+use Rattle.std.proofs.lemmas.Bool.{leb-true}
 use Rattle.std.proofs.lemmas.List.{length-append, take-append-drop}
-use Rattle.httparse.specs.Grammar.{ReadsRequest}
+use Rattle.httparse.specs.Grammar.{RequestHead, ReadsRequest}
 use Rattle.httparse.proofs.GrammarLemmas.{ReadsRequest-append, request_unique}
+use Rattle.http1.specs.declared.fields.ContentLength.{ContentLength}
+use Rattle.http1.specs.declared.fields.ContentLength.TheVariants as Length
+use Rattle.http1.specs.declared.fields.TransferEncoding.{TransferEncoding}
+use Rattle.http1.specs.declared.fields.TransferEncoding.TheVariants as Coding
 use Rattle.http_front.specs.declared.head.WholeHead.{WholeHead}
 use Rattle.http_front.specs.declared.conn.Next.{Next}
 use Rattle.http_front.specs.declared.conn.Next.TheVariants.{Message, Refused, Ended, ReadFault}
 use Rattle.http_front.specs.Bytes.{Extends}
-use Rattle.http_front.specs.Head.{IsHeadAt, framing, is_bare}
+use Rattle.http_front.specs.Head.{IsHeadAt, framing, framing_of, known_of, is_bare}
 use Rattle.http_front.specs.Stream.{ReadsHead, Item, item_of, refusal_item, Frames, Whole, HasNoMessage, Fronts, Finds, Shows, IsBareAt, TellsNext}
 use Rattle.http_front.proofs.StreamLemmas.{nothing_is_no_head, bare_at}
+
+-- a body that is not refused has at most 1,048,576 bytes
+framed_within : (coding : TransferEncoding) (size : ContentLength) (len : ℕ) → framing_of coding size ≡ Ok len → len ≤ 1048576
+framed_within Coding.Absent Length.Absent len e = let none : 0 ≡ len = cc in omega arith
+framed_within Coding.Absent (Length.Value n) len e = value_within (nat_le n 1048576) refl e
+  where
+    value_within : (b : Bool) → nat_le n 1048576 ≡ b → if◌then◌else◌ {A = Result ℕ ℕ} b (Ok n) (Err 2) ≡ Ok len → len ≤ 1048576
+    value_within true few e = let same : n ≡ len = cc in omega (arith, leb-true n 1048576 few)
+    value_within false few e = absurd cc
+framed_within Coding.Absent Length.Invalid len e = absurd cc
+framed_within Coding.Chunked size len e = absurd cc
+framed_within Coding.Other size len e = absurd cc
+framed_within Coding.Blank size len e = absurd cc
+framed_within Coding.Invalid size len e = absurd cc
+
+pub framing_within : (h : RequestHead) (len : ℕ) → framing h ≡ Ok len → len ≤ 1048576
+framing_within h len e = framed_within (known_of h).transfer_encoding (known_of h).content_length len e
+
+-- a head and no more of its body than there is are within the limits
+pub within_limits : (held came : List ℕ) (len : ℕ) → length held ≤ 16384 → len ≤ 1048576 → length came ≤ len
+    → length (held ++ came) ≤ 16384 + 1048576
+within_limits held came len short few part = omega (arith, short, few, part, length-append held came)
+
+-- and so is what was held alone
+pub held_within : (held : List ℕ) → length held ≤ 16384 → length (held ++ []) ≤ 16384 + 1048576
+held_within held short = omega (arith, short, ap length (append-nil held))
+
+-- what came of a body that is cut short is no more than the body
+pub part_of_body : (rest came : List ℕ) (len : ℕ) → length (rest ++ came) < len → length came ≤ len
+part_of_body rest came len short = omega (arith, short, length-append rest came)
 
 -- a body that is kept grows
 pub extended_kept : (old new : Option (Vec ℕ Global)) (body bytes : List ℕ) → IfSome old (λ v. v.items ≡ body)

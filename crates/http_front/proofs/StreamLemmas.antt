@@ -34,6 +34,11 @@ never_for_length bytes none full more h rest x =
     none h (drop (length (print_request h)) bytes)
     (x.reads.0, front_within bytes more (print_request h) rest x.reads.1 (omega (arith, x.short)))
 
+-- a list without length has no bytes
+pub no_bytes : (bytes : List ℕ) → length bytes ≡ 0 → bytes ≡ []
+no_bytes [] e = refl
+no_bytes (b ∷ bytes) e = absurd (omega (arith, e))
+
 pub nothing_is_no_head : (bytes : List ℕ) → length bytes ≡ 0 → HasNoRequest bytes
 nothing_is_no_head bytes e h rest x =
     let all : length bytes ≡ length (print_request h ++ rest) = ap length x.1 in

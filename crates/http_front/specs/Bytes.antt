@@ -1,5 +1,5 @@
 -- Bytes that come in. What a source has still to give is known only where it tells that.
-use Rattle.std.specs.Prelude.{◌≡◌, ℕ, Bool, ◌<◌, ◌==◌, List, [], ◌++◌, length, Option, Some, None, IfSome, Vec}
+use Rattle.std.specs.Prelude.{◌≡◌, ℕ, Bool, ◌<◌, ◌≤◌, ◌==◌, List, [], ◌++◌, length, Option, Some, None, IfSome, Vec}
 use Rattle.std.specs.declared.alloc.Global.{Global}
 use Rattle.std.specs.Io.KnownBytes.{Consumes, IsAtEnd}
 use Rattle.std.specs.List.{list_any}
@@ -19,29 +19,35 @@ TellsFilled failed fails More = fails ≡ failed
 TellsFilled failed fails End = fails ≡ failed
 TellsFilled failed fails Fault = fails ≡ fault_told failed
 
--- what one read did: some bytes came and stand behind those that were held; at the end and at a fault none did
-abbrev pub Fills : Option (List ℕ) → Option (List ℕ) → List ℕ → List ℕ → Filled → Type 0
-Fills before after held now More = (came : List ℕ) × (0 < length came) × Consumes before after came × (now ≡ held ++ came)
-Fills before after held now End = Consumes before after [] × IsAtEnd after × (now ≡ held)
-Fills before after held now Fault = Consumes before after [] × (now ≡ held)
+-- what one read of at most so many bytes did: some came and stand behind those that were held; at the end and at a fault
+-- none did
+abbrev pub Fills : Option (List ℕ) → Option (List ℕ) → List ℕ → List ℕ → ℕ → Filled → Type 0
+Fills before after held now most More =
+    (came : List ℕ) × (0 < length came) × Consumes before after came × (now ≡ held ++ came) × (length came ≤ most)
+Fills before after held now most End = Consumes before after [] × IsAtEnd after × (now ≡ held)
+Fills before after held now most Fault = Consumes before after [] × (now ≡ held)
 
--- something is held, after a read if need be; or nothing was and nothing came
-abbrev pub Refills : Option (List ℕ) → Option (List ℕ) → List ℕ → List ℕ → Filled → Type 0
-Refills before after held now More = (came : List ℕ) × Consumes before after came × (now ≡ held ++ came) × (0 < length now)
-Refills before after held now End = Consumes before after [] × IsAtEnd after × (now ≡ held) × (length held ≡ 0)
-Refills before after held now Fault = Consumes before after [] × (now ≡ held) × (length held ≡ 0)
+-- something is held, after a read of at most so many bytes if need be; or nothing was and nothing came
+abbrev pub Refills : Option (List ℕ) → Option (List ℕ) → List ℕ → List ℕ → ℕ → Filled → Type 0
+Refills before after held now most More =
+    (came : List ℕ) × Consumes before after came × (now ≡ held ++ came) × (0 < length now) × (length came ≤ most)
+Refills before after held now most End = Consumes before after [] × IsAtEnd after × (now ≡ held) × (length held ≡ 0)
+Refills before after held now most Fault = Consumes before after [] × (now ≡ held) × (length held ≡ 0)
 
 -- the kept bytes and these, if any are kept
 abbrev pub Extends : Option (Vec ℕ Global) → Option (Vec ℕ Global) → List ℕ → Type 0
 Extends None new bytes = new ≡ None
 Extends (Some old) new bytes = IfSome new (λ v. v.items ≡ old.items ++ bytes)
 
--- the bytes held and those that came begin with a body of this length, which was kept or dropped, or they are too few
+-- The bytes held and those that came begin with a body of this length, which was kept or dropped, or they are too few. No
+-- more came than the body has.
 abbrev pub TakesBody : Option (List ℕ) → Option (List ℕ) → List ℕ → List ℕ → ℕ → Body → Type 0
 TakesBody before after held now len (Kept body) =
     (came : List ℕ) × Consumes before after came × (held ++ came ≡ body.items ++ now) × (length body.items ≡ len)
+    × (length came ≤ len)
 TakesBody before after held now len Dropped =
     (came : List ℕ) × Consumes before after came × (body : List ℕ) × (held ++ came ≡ body ++ now) × (length body ≡ len)
+    × (length came ≤ len)
 TakesBody before after held now len Short =
     (came : List ℕ) × Consumes before after came × IsAtEnd after × (length (held ++ came) < len)
 TakesBody before after held now len Cut = (came : List ℕ) × Consumes before after came × (length (held ++ came) < len)

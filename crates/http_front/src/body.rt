@@ -1,5 +1,5 @@
 //! The body of a message.
-ghost use Rattle.std.specs.Prelude.{◌≡◌};
+ghost use Rattle.std.specs.Prelude.{◌≡◌, ◌<◌};
 ghost use Rattle.http_front.specs.Bytes.{Refills, TellsFilled, Extends, TakesBody, TellsBody};
 
 use crate::buffer::{Buffer, Filled};
@@ -15,15 +15,16 @@ pub enum Body {
     Cut,
 }
 
-/// Reads once if nothing is held.
-fn refill<S: Source>(buffer: &mut Buffer, source: &mut S) -> Filled
-    ensures bytes { Refills (S.remaining source.old) (S.remaining source.new) buffer.old buffer.new result }
+/// Reads once if nothing is held, at most so many bytes.
+fn refill<S: Source>(buffer: &mut Buffer, source: &mut S, most: usize) -> Filled
+    requires { 0 < most }
+    ensures bytes { Refills (S.remaining source.old) (S.remaining source.new) buffer.old buffer.new most result }
     ensures told { TellsFilled (S.failed source.old) (S.failed source.new) result }
 {
     if buffer.len() > 0 {
         Filled::More
     } else {
-        buffer.fill(source)
+        buffer.fill(source, most)
     }
 }
 
@@ -40,7 +41,8 @@ fn extended(kept: Option<Vec<u8>>, bytes: &[u8]) -> Option<Vec<u8>>
     }
 }
 
-/// Takes a body of this length off the stream. Where it is to be kept and no memory is found for it, it is dropped.
+/// Takes a body of this length off the stream, and reads nothing behind it. Where it is to be kept and no memory is found
+/// for it, it is dropped.
 pub fn take_body<S: Source>(
     buffer: &mut Buffer,
     alloc: Global,
@@ -54,7 +56,7 @@ pub fn take_body<S: Source>(
     let mut kept = if keep { Some(Vec::new(alloc)) } else { None };
     let mut left = len;
     'pieces: while left > 0 {
-        match refill(buffer, source) {
+        match refill(buffer, source, left) {
             Filled::More => {}
             Filled::End => return Body::Short,
             Filled::Fault => return Body::Cut,

@@ -59,16 +59,18 @@ impl Buffer {
         self.end - self.start
     }
 
-    /// Reads once, behind what is held.
-    pub fn fill<S: Source>(&mut self, source: &mut S) -> Filled
-        requires { length self.old < 16384 }
-        ensures bytes { Fills (S.remaining source.old) (S.remaining source.new) self.old self.new result }
+    /// Reads once, behind what is held, at most so many bytes.
+    pub fn fill<S: Source>(&mut self, source: &mut S, most: usize) -> Filled
+        requires room { length self.old < 16384 }
+        requires some { 0 < most }
+        ensures bytes { Fills (S.remaining source.old) (S.remaining source.new) self.old self.new most result }
         ensures told { TellsFilled (S.failed source.old) (S.failed source.new) result }
     {
         self.bytes.copy_within(self.start..self.end, 0);
         self.end -= self.start;
         self.start = 0;
-        match source.read_some(&mut self.bytes[self.end..]) {
+        let room = most.min(HEAD_LIMIT - self.end);
+        match source.read_some(&mut self.bytes[self.end..self.end + room]) {
             Ok(0) => Filled::End,
             Ok(count) => {
                 self.end += count;

@@ -1,6 +1,7 @@
 //! The bytes of a reply.
-ghost use Rattle.std.specs.Prelude.{◌≡◌, [], ◌++◌, length};
+ghost use Rattle.std.specs.Prelude.{◌≡◌, [], ◌++◌, length, IfOk};
 ghost use Rattle.http.specs.StatusCode.{IsStatusCode};
+ghost use Rattle.stream_face.specs.Waiting.{IsFlushed};
 ghost use Rattle.http_front.specs.Sending.{IsUnderWay, Sends};
 ghost use Rattle.http_front.specs.Replies.{phrase_of, opening, reply_bytes, body_shown};
 
@@ -135,9 +136,10 @@ fn add_reply<K: Sink>(
     }
 }
 
-/// Writes a reply, without its body where it is bare.
+/// Writes a reply, without its body where it is bare, and flushes it.
 pub fn send<K: Sink>(sink: &mut K, reply: &Reply, last: bool, bare: bool) -> Result<(), WriteFault>
-    ensures { Sends (K.contents sink.old) (K.contents sink.new) (K.failed sink.old) (K.failed sink.new) result (reply_bytes last bare reply.now) }
+    ensures sent { Sends (K.contents sink.old) (K.contents sink.new) (K.failed sink.old) (K.failed sink.new) result (reply_bytes last bare reply.now) }
+    ensures flushed { IfOk result (λ _. IsFlushed (K.waiting sink.new)) }
 {
     let mut letter = Letter::new();
     let ok = add_reply(&mut letter, sink, reply, last, bare);

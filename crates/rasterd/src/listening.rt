@@ -1,6 +1,7 @@
 //! Sockets: connections at a port of this machine, one after the other, over one store.
 
 use crate::lines::{say, tell};
+use crate::resumed::Resumed;
 use crate::session::{CLOSED, NOT_CLOSED, NOT_OPENED};
 use coverage_server::Server;
 use disk_face::{Disk, FileDisk, MemDisk};
@@ -23,10 +24,11 @@ fn set_patience(stream: &TcpStream) {
     let _small = stream.set_nodelay(true);
 }
 
-/// Serves a connection that was accepted to its end. A read or a write that waits for too long has failed.
+/// Serves a connection that was accepted to its end. A read or a write that waits for too long has failed; one that is
+/// interrupted is made again.
 fn serve_stream<D: Disk>(server: &mut Server<D>, stream: &TcpStream) {
     set_patience(stream);
-    let _end = server.serve_connection(&mut &*stream, &mut &*stream);
+    let _end = server.serve_connection(&mut Resumed::new(stream), &mut Resumed::new(stream));
 }
 
 /// Opens the store of a disk, serves so many connections, one after the other, and closes the store. One that could not be

@@ -4,9 +4,9 @@
 mod commands;
 mod lines;
 mod listening;
+mod resumed;
 mod session;
-#[cfg(test)]
-mod tests;
+mod streams;
 mod words;
 
 use commands::Command;
@@ -14,10 +14,12 @@ use disk_face::{FileDisk, MemDisk};
 use http_front::refusals::{DISK_FAULT, NO_MEMORY};
 use lines::{say, tell};
 use listening::listen;
+use resumed::Resumed;
 use session::{NOT_OPENED, session_status};
 use std::env;
-use std::io::{Read, Write};
 use std::process::ExitCode;
+use stream_face::{Sink, Source};
+use streams::null_streams;
 use words::command;
 
 /// What the program says where its words ask nothing.
@@ -28,7 +30,7 @@ const NO_COMMAND: u8 = 2;
 
 /// Serves one connection, its reader and its writer, over the store in a file, which is made where there is none. Gives the
 /// status.
-fn serve_file<R: Read, W: Write, E: Write>(
+fn serve_file<R: Source, W: Sink, E: Sink>(
     rt: &HostRuntime,
     file: &str,
     connection: &mut [(R, W); 1],
@@ -50,7 +52,7 @@ fn serve_file<R: Read, W: Write, E: Write>(
 
 /// Does what the words after the program's name ask, and says on a line of `errors` what was not done. `FILE run` serves the
 /// connection. Gives the status.
-fn run<R: Read, W: Write, E: Write>(
+fn run<R: Source, W: Sink, E: Sink>(
     rt: &HostRuntime,
     words: &[String],
     connection: &mut [(R, W); 1],
@@ -81,11 +83,12 @@ fn words_of(rt: &HostRuntime) -> Option<Vec<String>> {
 }
 
 fn main(rt: HostRuntime) -> ExitCode {
-    let mut errors = rt.stderr();
+    let _null_streams = null_streams(&rt);
+    let mut errors = Resumed::new(rt.stderr());
     let Some(words) = words_of(&rt) else {
         tell(&mut errors, "not opened", NO_MEMORY);
         return ExitCode::from(NOT_OPENED);
     };
-    let mut connection = [(rt.stdin().lock(), rt.stdout())];
+    let mut connection = [(Resumed::new(rt.stdin().lock()), Resumed::new(rt.stdout()))];
     ExitCode::from(run(&rt, &words, &mut connection, &mut errors))
 }

@@ -1,8 +1,7 @@
 //! Sessions on devices that become full: what they answer, and what the next session finds.
 
 use crate::disks::Site;
-use crate::sessions::{Input, connections_of};
-use crate::streams::Sink;
+use crate::sessions::{Connection, connections_of, streams_of};
 use anyhow::{Context, Result};
 use coverage_server::{SessionFault, serve_session};
 use disk_face::{Disk, FileDisk, FullFile, MemDisk};
@@ -28,9 +27,9 @@ fn say_bodies(answer: &mut Answer, replies: &str) {
 }
 
 /// Adds the bodies of what was written for connections.
-fn say_replies(answer: &mut Answer, connections: &[(Input, Sink)]) {
+fn say_replies(answer: &mut Answer, connections: &[Connection<'_>]) {
     for (_, sink) in connections {
-        match str::from_utf8(sink.text.as_slice()) {
+        match str::from_utf8(sink.inner.text()) {
             Ok(replies) => say_bodies(answer, replies),
             Err(_) => answer.wrong("a reply is no text"),
         }
@@ -52,7 +51,7 @@ fn say_fault<D: Disk>(answer: &mut Answer, fault: &SessionFault<D>) {
 fn served<D: Disk + Drop>(
     alloc: Global,
     disk: D,
-    connections: &mut [(Input, Sink)],
+    connections: &mut [Connection<'_>],
     answer: &mut Answer,
 ) -> Option<D> {
     let outcome = serve_session(alloc, disk, connections);
@@ -70,7 +69,7 @@ fn served<D: Disk + Drop>(
 fn served_later(
     alloc: Global,
     disk: FileDisk<FullFile>,
-    connections: &mut [(Input, Sink)],
+    connections: &mut [Connection<'_>],
     answer: &mut Answer,
 ) {
     match disk.into_file() {
@@ -85,8 +84,8 @@ fn served_later(
 fn served_on_device(
     alloc: Global,
     room: usize,
-    writes: &mut [(Input, Sink)],
-    later: &mut [(Input, Sink)],
+    writes: &mut [Connection<'_>],
+    later: &mut [Connection<'_>],
     answer: &mut Answer,
 ) {
     let bytes = Vec::new(alloc);
@@ -104,8 +103,10 @@ fn served_on_device(
 impl Site {
     /// What both sessions answer on an empty device of so many bytes.
     fn on_device(&self, alloc: Global, room: usize) -> Result<Answer> {
-        let mut writes = connections_of(alloc, self.writes.as_str(), usize::MAX)?;
-        let mut later = connections_of(alloc, self.later.as_str(), usize::MAX)?;
+        let written = streams_of(alloc, self.writes.as_str())?;
+        let asked = streams_of(alloc, self.later.as_str())?;
+        let mut writes = connections_of(alloc, written.as_slice(), 0)?;
+        let mut later = connections_of(alloc, asked.as_slice(), 0)?;
         let mut answer = Answer::new(alloc);
         served_on_device(alloc, room, &mut writes, &mut later, &mut answer);
         Ok(answer)

@@ -1,13 +1,15 @@
 //! The calls of the rows.
 
 use crate::disks::Site;
+use crate::looks::looks;
 use crate::messages::{body_of, fetching, queried, repeated, replied, reply_to, stepping};
-use crate::streams::{broken, failing, limited, pieces, whole};
+use crate::streams::{broken, failing, halting, limited, pieces, whole};
 use anyhow::{Context, Result, bail};
 use coverage_server::Server;
 use disk_face::FailDisk;
 use http_front::Reply;
 use std::alloc::Global;
+use std::io::ErrorKind;
 use test_rows::{Layer, bytes, text};
 
 /// What is written for a stream that is cut as the verb says.
@@ -29,7 +31,29 @@ fn streamed(
         "failing" => {
             let (step, written) = written.split_once(' ').context("no stream")?;
             let stream = bytes(alloc, written)?;
-            failing(alloc, server, step.parse::<usize>()?, &stream)?
+            failing(
+                alloc,
+                server,
+                ErrorKind::Other,
+                step.parse::<usize>()?,
+                &stream,
+            )?
+        }
+        "interrupted" => {
+            let (step, written) = written.split_once(' ').context("no stream")?;
+            let stream = bytes(alloc, written)?;
+            failing(
+                alloc,
+                server,
+                ErrorKind::Interrupted,
+                step.parse::<usize>()?,
+                &stream,
+            )?
+        }
+        "halting" => {
+            let (step, written) = written.split_once(' ').context("no stream")?;
+            let stream = bytes(alloc, written)?;
+            halting(alloc, server, step.parse::<usize>()?, &stream)?
         }
         _ => bail!("no call {verb}"),
     };
@@ -152,6 +176,7 @@ impl Layer for Site {
             | "is_closed" => self.on_file(alloc, verb, rest),
             "writes" | "later" | "state" => self.prepare(alloc, verb, rest),
             "ask" => self.ask(alloc, &bytes(alloc, rest)?),
+            "looks" => looks(alloc, rest),
             "get"
             | "repeat"
             | "query"
@@ -162,7 +187,9 @@ impl Layer for Site {
             | "pieces"
             | "limited"
             | "broken"
-            | "failing" => self.asked(alloc, verb, rest),
+            | "failing"
+            | "interrupted"
+            | "halting" => self.asked(alloc, verb, rest),
             _ => self.storage.answer(rt, call),
         }
     }

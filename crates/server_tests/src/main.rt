@@ -7,6 +7,7 @@
 mod devices;
 mod disks;
 mod layer;
+mod looks;
 mod messages;
 mod sessions;
 mod storage;

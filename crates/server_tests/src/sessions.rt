@@ -1,71 +1,67 @@
 //! Whole sessions: connections one after the other over one store, by one call.
 
 use crate::disks::Site;
-use crate::streams::Sink;
+use crate::streams::taking_all;
 use anyhow::{Context, Result};
 use coverage_server::{SessionFault, serve_session};
 use disk_face::{FailDisk, MemDisk};
+use http_front::{PieceReader, PieceWriter};
 use std::alloc::Global;
-use std::io::{ErrorKind, Read};
-use std::{io, str};
+use std::str;
+use stream_face::Watched;
 use test_rows::{bytes, refusal};
 
-/// A stream that is read in two pieces, parted at `first`, and behind them ends or fails.
+/// The bytes of a stream, and whether its reader fails behind them.
 #[derive(Drop)]
-pub struct Input {
+pub struct Stream {
     bytes: Vec<u8>,
-    taken: usize,
-    first: usize,
-    fails: bool,
+    breaks: bool,
 }
 
-impl Read for Input {
-    fn read(&mut self, buf: &mut [u8]) -> io::Result<usize> {
-        let left = self.bytes.as_slice().get(self.taken..).unwrap_or(&[]);
-        if left.is_empty() && self.fails {
-            return Err(ErrorKind::Other.into());
-        }
-        let piece = self.first.saturating_sub(self.taken);
-        let most = if piece == 0 { left.len() } else { piece };
-        let count = left.len().min(most).min(buf.len());
-        buf[..count].copy_from_slice(&left[..count]);
-        self.taken = self.taken.saturating_add(count);
-        Ok(count)
-    }
-}
+/// The reader and the writer of a connection.
+pub type Connection<'a> = (Watched<PieceReader<'a>>, Watched<PieceWriter>);
 
-/// The connections of streams that stand parted by ` | `; none for `none`. The reader of one behind `!` fails at its end.
-pub fn connections_of(alloc: Global, streams: &str, first: usize) -> Result<Vec<(Input, Sink)>> {
-    let mut connections = Vec::new(alloc);
-    if streams == "none" {
-        return Ok(connections);
+/// The streams that stand parted by ` | `; none for `none`. The reader of one behind `!` fails at its end.
+pub fn streams_of(alloc: Global, written: &str) -> Result<Vec<Stream>> {
+    let mut streams = Vec::new(alloc);
+    if written == "none" {
+        return Ok(streams);
     }
-    for written in streams.split(" | ") {
-        let stream = written.strip_prefix('!').unwrap_or(written);
-        let input = Input {
+    for part in written.split(" | ") {
+        let stream = part.strip_prefix('!').unwrap_or(part);
+        streams.push(Stream {
             bytes: bytes(alloc, stream)?,
-            taken: 0,
-            first,
-            fails: stream.len() < written.len(),
-        };
-        let sink = Sink {
-            text: Vec::new(alloc),
-            step: usize::MAX,
-            room: usize::MAX,
-        };
-        connections.push((input, sink))?;
+            breaks: stream.len() < part.len(),
+        })?;
+    }
+    Ok(streams)
+}
+
+/// The connections of streams, each of which is read in two pieces, parted at `cut`, or in one for 0.
+pub fn connections_of<'a>(
+    alloc: Global,
+    streams: &'a [Stream],
+    cut: usize,
+) -> Result<Vec<Connection<'a>>> {
+    let mut connections = Vec::new(alloc);
+    for stream in streams {
+        let mut reader = PieceReader::new(stream.bytes.as_slice(), cut, usize::MAX);
+        if stream.breaks {
+            reader.break_off();
+        }
+        connections.push((Watched::new(reader), Watched::new(taking_all(alloc))))?;
     }
     Ok(connections)
 }
 
 /// What was written for the connections, parted by ` | `.
-fn replies_of(alloc: Global, connections: &[(Input, Sink)]) -> Result<String> {
+fn replies_of(alloc: Global, connections: &[Connection<'_>]) -> Result<String> {
     let mut text = String::new(alloc);
     for (place, (_, sink)) in connections.iter().enumerate() {
         if place > 0 {
             text.push_str(" | ")?;
         }
-        text.push_str(str::from_utf8(sink.text.as_slice())?)?;
+        text.push_str(str::from_utf8(sink.inner.text())?)?;
     }
     Ok(text)
 }
@@ -95,7 +91,7 @@ impl Site {
     fn told(
         &mut self,
         alloc: Global,
-        connections: &[(Input, Sink)],
+        connections: &[Connection<'_>],
         ending: Ending,
     ) -> Result<String> {
         let text = replies_of(alloc, connections)?;
@@ -114,15 +110,10 @@ impl Site {
 
     /// What a session on a file writes, on a disk whose call of that number fails, and none for 0. The file `closed` has the
     /// bytes of its disk then. A server that is not closed stays, as after `open`.
-    fn session_cut(
-        &mut self,
-        alloc: Global,
-        call: u64,
-        first: usize,
-        words: &str,
-    ) -> Result<String> {
-        let (file, streams) = words.split_once(' ').context("no streams")?;
-        let mut connections = connections_of(alloc, streams, first)?;
+    fn session_cut(&mut self, alloc: Global, call: u64, cut: usize, words: &str) -> Result<String> {
+        let (file, written) = words.split_once(' ').context("no streams")?;
+        let streams = streams_of(alloc, written)?;
+        let mut connections = connections_of(alloc, streams.as_slice(), cut)?;
         let disk = MemDisk::new(self.storage.files().bytes(alloc, file)?);
         let outcome = serve_session(alloc, FailDisk::new(disk, call), connections.as_mut_slice());
         let ending = self.ending(outcome);
@@ -131,15 +122,15 @@ impl Site {
 
     /// What a session writes whose streams come in one piece.
     pub fn session(&mut self, alloc: Global, call: u64, words: &str) -> Result<String> {
-        self.session_cut(alloc, call, usize::MAX, words)
+        self.session_cut(alloc, call, 0, words)
     }
 
     /// What a session writes, where it is the same for its streams in one piece and in two that part at each of so many
     /// first bytes; else what first differs.
     pub fn session_pieces(&mut self, alloc: Global, count: usize, words: &str) -> Result<String> {
         let expected = self.session(alloc, 0, words)?;
-        for first in 1..count {
-            let text = self.session_cut(alloc, 0, first, words)?;
+        for cut in 1..count {
+            let text = self.session_cut(alloc, 0, cut, words)?;
             if text.as_str() != expected.as_str() {
                 return Ok(text);
             }

@@ -1,99 +1,48 @@
-//! Readers and writers that give and take their bytes in pieces, and may fail.
-ghost use Rattle.std.specs.Prelude.{◌<◌};
+//! What is written for streams that come in pieces, and whose readers and writers may fail.
 
 use coverage_server::{ConnEnd, Server};
 use disk_face::FailDisk;
+use http_front::{PieceReader, PieceWriter};
 use std::alloc::{AllocError, Global};
-use std::io;
-use std::io::{ErrorKind, Read, Write};
+use std::io::ErrorKind;
+use stream_face::Watched;
 
-/// Gives bytes, the first read of at most `first`, each later one of at most `step`. It fails after so many reads, and
-/// behind the bytes it ends or fails.
-#[derive(Drop)]
-pub struct Source<'a> {
-    pub bytes: &'a [u8],
-    pub first: usize,
-    pub step: usize,
-    pub reads: usize,
-    pub fails: bool,
+/// A reader that gives a stream in one piece.
+fn in_one(stream: &[u8]) -> PieceReader<'_> {
+    PieceReader::new(stream, 0, usize::MAX)
 }
 
-impl Read for Source<'_> {
-    ghost use Rattle.std.specs.Prelude.{Some};
-
-    ghost remaining = { λ r. Some r.bytes.now };
-
-    fn read(&mut self, buf: &mut [u8]) -> io::Result<usize> {
-        if self.reads == 0 || self.bytes.is_empty() && self.fails {
-            return Err(ErrorKind::Other.into());
-        }
-        self.reads -= 1;
-        let most = if self.first == 0 {
-            self.step
-        } else {
-            self.first
-        };
-        let count = self.bytes.len().min(most.max(1)).min(buf.len());
-        buf[..count].copy_from_slice(&self.bytes[..count]);
-        self.bytes = &self.bytes[count..];
-        self.first = self.first.saturating_sub(count);
-        Ok(count)
-    }
+/// A writer that takes each piece whole, and fails at none.
+pub fn taking_all(alloc: Global) -> PieceWriter {
+    PieceWriter::new(alloc, usize::MAX, usize::MAX)
 }
 
-/// Takes bytes, at most `step` a write and `room` in all, and then fails.
-#[derive(Drop)]
-pub struct Sink {
-    pub text: Vec<u8>,
-    pub step: usize,
-    pub room: usize,
-}
-
-impl Write for Sink {
-    ghost use Rattle.std.specs.Prelude.{Some};
-
-    ghost contents = { λ w. Some w.text.items };
-
-    fn write(&mut self, buf: &[u8]) -> io::Result<usize> {
-        if self.room == 0 {
-            return Err(ErrorKind::Other.into());
-        }
-        let count = buf.len().min(self.room).min(self.step.max(1));
-        self.text.extend_from_slice(&buf[..count])?;
-        self.room -= count;
-        Ok(count)
-    }
-
-    fn flush(&mut self) -> io::Result<()> {
-        Ok(())
+/// How a connection ended, where that is by a fault; and what its reader or its writer tells otherwise, if anything: a fault
+/// in another place, or bytes that were not flushed.
+fn ending(end: ConnEnd, read_failed: bool, sink: &Watched<PieceWriter>) -> &'static str {
+    let written = sink.inner.text().len();
+    match end {
+        ConnEnd::WriteFault if !read_failed && sink.failed => " WriteFault",
+        ConnEnd::ReadFault if !sink.failed && sink.inner.flushed() < written => " not flushed",
+        ConnEnd::ReadFault if !sink.failed && read_failed => " ReadFault",
+        ConnEnd::Finished if !sink.failed && sink.inner.flushed() < written => " not flushed",
+        ConnEnd::Finished if !sink.failed && !read_failed => "",
+        _ => " another fault",
     }
 }
 
 /// What is written for a connection, and behind it how it ended where that is by a fault.
-pub fn served(
+fn served(
     alloc: Global,
     server: &mut Server<FailDisk>,
-    source: &mut Source<'_>,
-    step: usize,
-    room: usize,
+    reader: PieceReader<'_>,
+    writer: PieceWriter,
 ) -> Result<Vec<u8>, AllocError> {
-    let mut sink = Sink {
-        text: Vec::new(alloc),
-        step,
-        room,
-    };
-    let end = server.serve_connection(source, &mut sink);
-    let Sink {
-        mut text,
-        step: _,
-        room: _,
-    } = sink;
-    let fault = match end {
-        ConnEnd::Finished => "",
-        ConnEnd::ReadFault => " ReadFault",
-        ConnEnd::WriteFault => " WriteFault",
-    };
-    text.extend_from_slice(fault.as_bytes())?;
+    let mut source = Watched::new(reader);
+    let mut sink = Watched::new(writer);
+    let end = server.serve_connection(&mut source, &mut sink);
+    let mut text = Vec::from_slice(alloc, sink.inner.text())?;
+    text.extend_from_slice(ending(end, source.failed, &sink).as_bytes())?;
     Ok(text)
 }
 
@@ -103,14 +52,7 @@ pub fn whole(
     server: &mut Server<FailDisk>,
     stream: &[u8],
 ) -> Result<Vec<u8>, AllocError> {
-    let mut source = Source {
-        bytes: stream,
-        first: 0,
-        step: usize::MAX,
-        reads: usize::MAX,
-        fails: false,
-    };
-    served(alloc, server, &mut source, usize::MAX, usize::MAX)
+    served(alloc, server, in_one(stream), taking_all(alloc))
 }
 
 /// What is written for a stream whose reader fails behind it.
@@ -119,34 +61,26 @@ pub fn broken(
     server: &mut Server<FailDisk>,
     stream: &[u8],
 ) -> Result<Vec<u8>, AllocError> {
-    let mut source = Source {
-        bytes: stream,
-        first: 0,
-        step: usize::MAX,
-        reads: usize::MAX,
-        fails: true,
-    };
-    served(alloc, server, &mut source, usize::MAX, usize::MAX)
+    let mut reader = in_one(stream);
+    reader.break_off();
+    served(alloc, server, reader, taking_all(alloc))
 }
 
-/// What is written for a stream whose reader gives so many bytes a read and fails at its first read, then where it fails
-/// at its second, and so on up to the read behind the stream.
+/// What is written for a stream whose reader gives so many bytes a read and fails at its first read with a fault of this
+/// kind, then where it fails at its second, and so on up to the read behind the stream.
 pub fn failing(
     alloc: Global,
     server: &mut Server<FailDisk>,
+    kind: ErrorKind,
     step: usize,
     stream: &[u8],
 ) -> Result<Vec<u8>, AllocError> {
     let mut text = Vec::new(alloc);
-    for reads in 0..=stream.len().div_ceil(step.max(1)) {
-        let mut source = Source {
-            bytes: stream,
-            first: 0,
-            step,
-            reads,
-            fails: true,
-        };
-        let output = served(alloc, server, &mut source, usize::MAX, usize::MAX)?;
+    let reads = stream.len().div_ceil(step.max(1)) as u64;
+    for due in 1..=reads.saturating_add(1) {
+        let mut reader = PieceReader::new(stream, 0, step);
+        reader.fail_at(due, kind);
+        let output = served(alloc, server, reader, taking_all(alloc))?;
         text.extend_from_slice(&output)?;
     }
     Ok(text)
@@ -159,14 +93,30 @@ pub fn limited(
     room: usize,
     stream: &[u8],
 ) -> Result<Vec<u8>, AllocError> {
-    let mut source = Source {
-        bytes: stream,
-        first: 0,
-        step: usize::MAX,
-        reads: usize::MAX,
-        fails: false,
-    };
-    served(alloc, server, &mut source, usize::MAX, room)
+    let writer = PieceWriter::new(alloc, usize::MAX, room);
+    served(alloc, server, in_one(stream), writer)
+}
+
+/// What is written for a stream by a writer that takes so many bytes a write, and of whose calls, writes and flushes, the
+/// first fails; then where its second fails, and so on until none does.
+pub fn halting(
+    alloc: Global,
+    server: &mut Server<FailDisk>,
+    step: usize,
+    stream: &[u8],
+) -> Result<Vec<u8>, AllocError> {
+    let mut text = Vec::new(alloc);
+    for due in 1..=1000 {
+        let mut writer = PieceWriter::new(alloc, step, usize::MAX);
+        writer.fail_at(due, ErrorKind::Other);
+        let output = served(alloc, server, in_one(stream), writer)?;
+        text.extend_from_slice(&output)?;
+        if !output.ends_with(b"WriteFault") {
+            break;
+        }
+        text.push(b'\n')?;
+    }
+    Ok(text)
 }
 
 /// What is written for a stream, where it is the same for that stream in one piece, in two that part at each byte, and
@@ -177,16 +127,11 @@ pub fn pieces(
     stream: &[u8],
 ) -> Result<Vec<u8>, AllocError> {
     let expected = whole(alloc, server, stream)?;
-    for first in 0..stream.len() {
-        let mut source = Source {
-            bytes: stream,
-            first,
-            step: if first == 0 { 1 } else { usize::MAX },
-            reads: usize::MAX,
-            fails: false,
-        };
-        let step = if first == 0 { 1 } else { usize::MAX };
-        let output = served(alloc, server, &mut source, step, usize::MAX)?;
+    for cut in 0..stream.len() {
+        let step = if cut == 0 { 1 } else { usize::MAX };
+        let reader = PieceReader::new(stream, cut, step);
+        let writer = PieceWriter::new(alloc, step, usize::MAX);
+        let output = served(alloc, server, reader, writer)?;
         if output.as_slice() != expected.as_slice() {
             return Ok(output);
         }

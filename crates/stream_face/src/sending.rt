@@ -1,6 +1,7 @@
 //! Bytes that go out whole, or up to a fault.
-ghost use Rattle.std.specs.Prelude.{ℕ, List, Option, Bool};
+ghost use Rattle.std.specs.Prelude.{◌≡◌, true, ℕ, List, Option, Bool};
 ghost use Rattle.stream_face.specs.Faults.{Sent};
+ghost use Rattle.stream_face.specs.Waiting.{IsFlushed};
 
 use crate::Sink;
 
@@ -19,9 +20,10 @@ pub fn send_all<K: Sink>(sink: &mut K, bytes: &[u8]) -> bool
     true
 }
 
-/// Hands on what was written, where nothing failed before. It says whether nothing has failed.
+/// Flushes what was written, where nothing failed before. It says whether nothing has failed; then no byte waits.
 pub fn flush_if<K: Sink>(sink: &mut K, ok: bool) -> bool
-    ensures { (held : Option (List ℕ)) (failed : Option Bool) (text : List ℕ) → Sent held (K.contents sink.old) failed (K.failed sink.old) ok text
+    ensures flushed { result ≡ true → IsFlushed (K.waiting sink.new) }
+    ensures sent { (held : Option (List ℕ)) (failed : Option Bool) (text : List ℕ) → Sent held (K.contents sink.old) failed (K.failed sink.old) ok text
         → Sent held (K.contents sink.new) failed (K.failed sink.new) result text }
 {
     if !ok {

@@ -1,25 +1,28 @@
-//! A reader or a writer of std that tells its faults.
+//! A reader or a writer of std that tells its faults, and whether bytes wait for a flush.
 ghost use Rattle.std.specs.Prelude.{◌≡◌, Some, false};
 
 use crate::{Sink, Source};
 use std::io;
 use std::io::{Read, Write};
 
-/// A reader or a writer, and whether a call on it has failed.
+/// A reader or a writer, whether a call on it has failed, and whether bytes that it took wait for a flush.
 #[derive(Drop)]
 pub struct Watched<T> {
     pub inner: T,
     pub failed: bool,
+    pub waiting: bool,
 }
 
 impl<T> Watched<T> {
     pub fn new(inner: T) -> Watched<T>
         ensures inner { result.inner ≡ inner }
         ensures unfailed { result.failed ≡ false }
+        ensures flushed { result.waiting ≡ false }
     {
         Watched {
             inner,
             failed: false,
+            waiting: false,
         }
     }
 }
@@ -45,6 +48,8 @@ impl<W: Write> Sink for Watched<W> {
 
     ghost failed = { λ w. Some w.failed };
 
+    ghost waiting = { λ w. Some w.waiting };
+
     fn write_some(&mut self, bytes: &[u8]) -> io::Result<usize> {
         match self.inner.write(bytes) {
             Ok(0) => {
@@ -53,7 +58,10 @@ impl<W: Write> Sink for Watched<W> {
                 }
                 Ok(0)
             }
-            Ok(count) => Ok(count),
+            Ok(count) => {
+                self.waiting = true;
+                Ok(count)
+            }
             Err(error) => {
                 self.failed = true;
                 Err(error)
@@ -63,7 +71,10 @@ impl<W: Write> Sink for Watched<W> {
 
     fn hand_on(&mut self) -> io::Result<()> {
         match self.inner.flush() {
-            Ok(()) => Ok(()),
+            Ok(()) => {
+                self.waiting = false;
+                Ok(())
+            }
             Err(error) => {
                 self.failed = true;
                 Err(error)

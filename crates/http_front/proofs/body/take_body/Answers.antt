@@ -11,7 +11,7 @@ pub pieces-init : goal.pieces-init
 pieces-init g c =
     let none : IfSome c.if-keep.kept (λ v. v.items ≡ []) =
     elim c.if-keep.branch [ then-keep w ↦ rw w.kept-is w.new.ensures.items | else-keep w ↦ rw w.kept-is tt ] in
-    ([], Consumes-nil _, [], append-nil _, omega arith, none, refl)
+    ([], Consumes-nil _, [], append-nil _, omega arith, none, refl, omega arith)
 
 pub pieces-preserved : goal.pieces-preserved
 pieces-preserved g c =
@@ -30,4 +30,5 @@ pieces-preserved g c =
       extended_kept c.pieces.kept c.extended-kept.result i.2 (take count now) i.5
           (subst (λ l. Extends c.pieces.kept c.extended-kept.result (take count l)) c.held.ensures.value c.extended-kept.ensures),
       c.in-More.ensures.told ∙ i.6,
+      omega (arith, i.7, m.4, length-append i.0 m.0, ap length m.2, length-append c.pieces.buffer m.0, c.min-count.ensures, c.len.ensures),
     )

@@ -1,4 +1,4 @@
-use Rattle.std.proofs.Common.{◌≡◌, ◌+◌, List, ℕ, ◌++◌, length, IfSome}
+use Rattle.std.proofs.Common.{◌≡◌, ◌≤◌, ◌+◌, List, ℕ, ◌++◌, length, IfSome}
 use Rattle.std.specs.Io.KnownBytes.{Consumes}
 use Rattle.http_front.proofs.body.take_body.Given as goal
 
@@ -7,6 +7,7 @@ invariant-pieces g l =
     (came : List ℕ) × Consumes (g.S.Source.remaining l.initial.source) (g.S.Source.remaining l.source) came
     × (body : List ℕ) × (l.initial.buffer ++ came ≡ body ++ l.buffer) × (length body + l.left ≡ l.len)
     × IfSome l.kept (λ v. v.items ≡ body) × (g.S.Source.failed l.source ≡ g.S.Source.failed l.initial.source)
+    × (length came + l.left ≤ l.len)
 
 abbrev pub decreases-pieces : goal.decreases-pieces
 decreases-pieces g l = l.left

@@ -34,7 +34,7 @@ serving-init g c = record {
 
 pub returns-in-Ended-clause-served : goal.returns-in-Ended-clause-served
 returns-in-Ended-clause-served g c =
-    let f = c.in-Ended.ensures.found in
+    let f = c.in-Ended.ensures.found c.serving.invariant.going in
     λ sound s r. let x = c.serving.invariant.served sound s r in (x.0, x.1, ended x.2 (g.R.Source.remaining c.next.new.source) f.0 f.1 f.2.0 f.2.1)
 
 pub returns-in-Ended-clause-told : goal.returns-in-Ended-clause-told
@@ -42,7 +42,7 @@ returns-in-Ended-clause-told g c = (c.in-Ended.ensures.told ∙ c.serving.invari
 
 pub returns-in-ReadFault-clause-served : goal.returns-in-ReadFault-clause-served
 returns-in-ReadFault-clause-served g c =
-    let f = c.in-ReadFault.ensures.found in
+    let f = c.in-ReadFault.ensures.found c.serving.invariant.going in
     λ sound s r. let x = c.serving.invariant.served sound s r in (x.0, x.1, faulted x.2 (g.R.Source.remaining c.next.new.source) f.0 f.1 f.2.0)
 
 pub returns-in-ReadFault-clause-told : goal.returns-in-ReadFault-clause-told
@@ -51,7 +51,7 @@ returns-in-ReadFault-clause-told g c =
 
 pub returns-in-Err-clause-served : goal.returns-in-Err-clause-served
 returns-in-Err-clause-served g c =
-    let f = c.next.ensures.found in
+    let f = c.next.ensures.found c.serving.invariant.going in
     let x = found_item _ _ _ _ c.next.result _ _ f.2 c.in_default.not-Ended c.in_default.not-ReadFault in
     let inv = c.serving.invariant in
     λ sound s r.
@@ -60,19 +60,19 @@ returns-in-Err-clause-served g c =
       z.0,
       z.1,
       unwritten y.2 (g.R.Source.remaining c.next.new.source) f.0 f.1 _ x.0 x.1 z.0 _ _
-          (rose-by _ _ _ c.reply_to-reply.ensures.no_fewer) (step-later (rose-since _ _ _ inv.no_fewer) _ _ _ _ z.2) _ _ x.3 x.4 _ c.in-Err.ensures.0,
+          (rose-by _ _ _ c.reply_to-reply.ensures.no_fewer) (step-later (rose-since _ _ _ inv.no_fewer) _ _ _ _ z.2) _ _ x.3 x.4 _ c.in-Err.ensures.sent.0,
     )
 
 pub returns-in-Err-clause-told : goal.returns-in-Err-clause-told
 returns-in-Err-clause-told g c =
     let inv = c.serving.invariant in (
       quiet_item _ _ c.next.result c.next.ensures.told c.in_default.not-Ended c.in_default.not-ReadFault ∙ inv.read,
-      c.in-Err.ensures.1 ∙ ap fault_told inv.written,
+      c.in-Err.ensures.sent.1 ∙ ap fault_told inv.written,
     )
 
-pub returns-then-conn-clause-served : goal.returns-then-conn-clause-served
-returns-then-conn-clause-served g c =
-    let f = c.next.ensures.found in
+pub returns-then-is_over-clause-served : goal.returns-then-is_over-clause-served
+returns-then-is_over-clause-served g c =
+    let f = c.next.ensures.found c.serving.invariant.going in
     let x = found_item _ _ _ _ c.next.result _ _ f.2 c.in_default.not-Ended c.in_default.not-ReadFault in
     let inv = c.serving.invariant in
     λ sound s r.
@@ -81,62 +81,64 @@ returns-then-conn-clause-served g c =
       z.0,
       z.1,
       answered y.2 (g.R.Source.remaining c.next.new.source) f.0 f.1 _ x.0 x.1 z.0 _ _
-          (rose-by _ _ _ c.reply_to-reply.ensures.no_fewer) (step-later (rose-since _ _ _ inv.no_fewer) _ _ _ _ z.2) _ _ x.3 x.4 _ c.if-conn.true c.in-Ok.ensures.0,
+          (rose-by _ _ _ c.reply_to-reply.ensures.no_fewer) (step-later (rose-since _ _ _ inv.no_fewer) _ _ _ _ z.2) _ _ x.3 x.4 _ (sym c.is_over.ensures ∙ c.if-is_over.true) c.in-Ok.ensures.sent.0,
     )
 
-pub returns-then-conn-clause-told : goal.returns-then-conn-clause-told
-returns-then-conn-clause-told g c =
+pub returns-then-is_over-clause-told : goal.returns-then-is_over-clause-told
+returns-then-is_over-clause-told g c =
     let inv = c.serving.invariant in (
       quiet_item _ _ c.next.result c.next.ensures.told c.in_default.not-Ended c.in_default.not-ReadFault ∙ inv.read,
-      c.in-Ok.ensures.1 ∙ inv.written,
+      c.in-Ok.ensures.sent.1 ∙ inv.written,
     )
 
-pub serving-preserved-else-conn : goal.serving-preserved-else-conn
-serving-preserved-else-conn g c =
-    let f = c.next.ensures.found in
+pub serving-preserved-else-is_over : goal.serving-preserved-else-is_over
+serving-preserved-else-is_over g c =
+    let f = c.next.ensures.found c.serving.invariant.going in
     let x = found_item _ _ _ _ c.next.result _ _ f.2 c.in_default.not-Ended c.in_default.not-ReadFault in
-    let counted = c.next.ensures.count c.if-conn.false in
+    let goes_on = sym c.is_over.ensures ∙ c.if-is_over.false in
+    let counted = c.next.ensures.count goes_on in
     let inv = c.serving.invariant in
     let later = g.R.Source.remaining c.next.new.source in
     record {
-      going = c.if-conn.false;
-      few = roomy c.serving.conn.count c.serving.conn.buffer f.0 _ later x.0 x.1 _ x.3 _ counted c.if-conn.false inv.few;
+      going = goes_on;
+      few = roomy c.serving.conn.count c.serving.conn.buffer f.0 _ later x.0 x.1 _ x.3 _ counted goes_on inv.few;
       served = λ sound s r.
           let y = inv.served sound s r in
           let z = c.reply_to-reply.ensures.step (inv.sound sound) y.0 y.1 x.0.asked x.2 in (
             z.0,
             z.1,
             continued y.2 later f.0 f.1 _ x.0 x.1 z.0 _ _
-                (rose-by _ _ _ c.reply_to-reply.ensures.no_fewer) (step-later (rose-since _ _ _ inv.no_fewer) _ _ _ _ z.2) _ _ x.3 x.4 _ _ counted c.if-conn.false c.in-Ok.ensures.0,
+                (rose-by _ _ _ c.reply_to-reply.ensures.no_fewer) (step-later (rose-since _ _ _ inv.no_fewer) _ _ _ _ z.2) _ _ x.3 x.4 _ _ counted goes_on c.in-Ok.ensures.sent.0,
           );
       read = quiet_item _ _ c.next.result c.next.ensures.told c.in_default.not-Ended c.in_default.not-ReadFault ∙ inv.read;
-      written = c.in-Ok.ensures.1 ∙ inv.written;
+      written = c.in-Ok.ensures.sent.1 ∙ inv.written;
       sound = λ sound. c.reply_to-reply.ensures.sound (inv.sound sound);
       header = λ state count from size h. c.reply_to-reply.ensures.header state count from size (inv.header state count from size h);
       honest = c.reply_to-reply.ensures.honest ∙ inv.honest;
       no_fewer = omega (arith, inv.no_fewer, c.reply_to-reply.ensures.no_fewer);
     }
 
-pub serving-preserved-else-conn-2 : goal.serving-preserved-else-conn-2
-serving-preserved-else-conn-2 g c =
-    let f = c.next.ensures.found in
+pub serving-preserved-else-is_over-2 : goal.serving-preserved-else-is_over-2
+serving-preserved-else-is_over-2 g c =
+    let f = c.next.ensures.found c.serving.invariant.going in
     let x = found_item _ _ _ _ c.next.result _ _ f.2 c.in_default.not-Ended c.in_default.not-ReadFault in
-    let counted = c.next.ensures.count c.if-conn.false in
+    let goes_on = sym c.is_over.ensures ∙ c.if-is_over.false in
+    let counted = c.next.ensures.count goes_on in
     let inv = c.serving.invariant in
     let later = g.R.Source.remaining c.next.new.source in
     record {
-      going = c.if-conn.false;
-      few = roomy c.serving.conn.count c.serving.conn.buffer f.0 _ later x.0 x.1 _ x.3 _ counted c.if-conn.false inv.few;
+      going = goes_on;
+      few = roomy c.serving.conn.count c.serving.conn.buffer f.0 _ later x.0 x.1 _ x.3 _ counted goes_on inv.few;
       served = λ sound s r.
           let y = inv.served sound s r in
           let z = c.reply_to-reply.ensures.step (inv.sound sound) y.0 y.1 x.0.asked x.2 in (
             z.0,
             z.1,
             continued y.2 later f.0 f.1 _ x.0 x.1 z.0 _ _
-                (rose-by _ _ _ c.reply_to-reply.ensures.no_fewer) (step-later (rose-since _ _ _ inv.no_fewer) _ _ _ _ z.2) _ _ x.3 x.4 _ _ counted c.if-conn.false c.in-Ok.ensures.0,
+                (rose-by _ _ _ c.reply_to-reply.ensures.no_fewer) (step-later (rose-since _ _ _ inv.no_fewer) _ _ _ _ z.2) _ _ x.3 x.4 _ _ counted goes_on c.in-Ok.ensures.sent.0,
           );
       read = quiet_item _ _ c.next.result c.next.ensures.told c.in_default.not-Ended c.in_default.not-ReadFault ∙ inv.read;
-      written = c.in-Ok.ensures.1 ∙ inv.written;
+      written = c.in-Ok.ensures.sent.1 ∙ inv.written;
       sound = λ sound. c.reply_to-reply.ensures.sound (inv.sound sound);
       header = λ state count from size h. c.reply_to-reply.ensures.header state count from size (inv.header state count from size h);
       honest = c.reply_to-reply.ensures.honest ∙ inv.honest;
@@ -145,24 +147,25 @@ serving-preserved-else-conn-2 g c =
 
 pub serving-preserved : goal.serving-preserved
 serving-preserved g c =
-    let f = c.next.ensures.found in
+    let f = c.next.ensures.found c.serving.invariant.going in
     let x = found_item _ _ _ _ c.next.result _ _ f.2 c.in_default.not-Ended c.in_default.not-ReadFault in
-    let counted = c.next.ensures.count c.if-conn.false in
+    let goes_on = sym c.is_over.ensures ∙ c.if-is_over.false in
+    let counted = c.next.ensures.count goes_on in
     let inv = c.serving.invariant in
     let later = g.R.Source.remaining c.next.new.source in
     record {
-      going = c.if-conn.false;
-      few = roomy c.serving.conn.count c.serving.conn.buffer f.0 _ later x.0 x.1 _ x.3 _ counted c.if-conn.false inv.few;
+      going = goes_on;
+      few = roomy c.serving.conn.count c.serving.conn.buffer f.0 _ later x.0 x.1 _ x.3 _ counted goes_on inv.few;
       served = λ sound s r.
           let y = inv.served sound s r in
           let z = c.reply_to-reply.ensures.step (inv.sound sound) y.0 y.1 x.0.asked x.2 in (
             z.0,
             z.1,
             continued y.2 later f.0 f.1 _ x.0 x.1 z.0 _ _
-                (rose-by _ _ _ c.reply_to-reply.ensures.no_fewer) (step-later (rose-since _ _ _ inv.no_fewer) _ _ _ _ z.2) _ _ x.3 x.4 _ _ counted c.if-conn.false c.in-Ok.ensures.0,
+                (rose-by _ _ _ c.reply_to-reply.ensures.no_fewer) (step-later (rose-since _ _ _ inv.no_fewer) _ _ _ _ z.2) _ _ x.3 x.4 _ _ counted goes_on c.in-Ok.ensures.sent.0,
           );
       read = quiet_item _ _ c.next.result c.next.ensures.told c.in_default.not-Ended c.in_default.not-ReadFault ∙ inv.read;
-      written = c.in-Ok.ensures.1 ∙ inv.written;
+      written = c.in-Ok.ensures.sent.1 ∙ inv.written;
       sound = λ sound. c.reply_to-reply.ensures.sound (inv.sound sound);
       header = λ state count from size h. c.reply_to-reply.ensures.header state count from size (inv.header state count from size h);
       honest = c.reply_to-reply.ensures.honest ∙ inv.honest;
@@ -173,6 +176,6 @@ pub returns-in-Err-clause-header : goal.returns-in-Err-clause-header
 returns-in-Err-clause-header g c =
     λ state count from size h. c.reply_to-reply.ensures.header state count from size (c.serving.invariant.header state count from size h)
 
-pub returns-then-conn-clause-header : goal.returns-then-conn-clause-header
-returns-then-conn-clause-header g c =
+pub returns-then-is_over-clause-header : goal.returns-then-is_over-clause-header
+returns-then-is_over-clause-header g c =
     λ state count from size h. c.reply_to-reply.ensures.header state count from size (c.serving.invariant.header state count from size h)

@@ -1,5 +1,6 @@
 -- The bytes that came stand behind those that were held.
-use Rattle.std.proofs.Common.{◌<◌, ◌≤◌, ◌+◌, ◌-◌, ◌++◌, length, take, ap, ◌∙◌, arith}
+use Rattle.std.proofs.Common.{◌<◌, ◌≤◌, ◌+◌, ◌-◌, ◌++◌, length, take, drop, ap, ◌∙◌, arith}
+use Rattle.std.proofs.lemmas.List.{length-take}
 use borrow.Rule.Slice.PartMut.{put_mid}
 use Rattle.http_front.proofs.BufferLemmas.{filled_view, front_range, moved_view}
 use Rattle.http_front.proofs.buffer.Buffer.fill.Goals as goal
@@ -18,6 +19,7 @@ returns-in-Ok-clause-bytes g c =
       came,
       some,
       c.in-Ok.ensures.bytes.0,
-      front_range (put_mid f (16384 - f) moved c.read_some.new.buf) (f + c.in-Ok.count) ∙ filled_view f _ c.in-Ok.count moved c.read_some.new.buf fits few
+      front_range (put_mid f (f + c.min-room.result - f) moved c.read_some.new.buf) (f + c.in-Ok.count) ∙ filled_view f _ c.in-Ok.count moved c.read_some.new.buf fits few
           ∙ ap (λ l. l ++ came) (ap (take f) c.copy_within.ensures.after ∙ moved_view b.end b.start b.bytes ordered inside ∙ c.self.view_is),
+      omega (arith, c.in-Ok.ensures.bound, c.read_some.auto.buf, c.min-room.ensures, length-take (f + c.min-room.result - f) (drop f moved), length-take c.in-Ok.count c.read_some.new.buf),
     )

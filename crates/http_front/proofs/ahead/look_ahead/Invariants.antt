@@ -1,0 +1,14 @@
+use Rattle.std.proofs.Common.{◌≡◌, ◌≤◌, ℕ, List, ◌++◌, length, take, ◌-◌}
+use Rattle.std.specs.Io.KnownBytes.{Consumes}
+use Rattle.httparse.specs.Grammar.{HasNoRequest}
+use Rattle.http_front.proofs.ahead.look_ahead.Given as goal
+
+abbrev pub invariant-reading : goal.invariant-reading
+invariant-reading g l =
+    ((came : List ℕ) × Consumes (g.S.Source.remaining l.initial.source) (g.S.Source.remaining l.source) came
+    × (l.buffer ≡ l.initial.buffer ++ came))
+    × (g.S.Source.failed l.source ≡ g.S.Source.failed l.initial.source)
+    × (l.seen ≤ length l.buffer) × HasNoRequest (take l.seen l.buffer)
+
+abbrev pub decreases-reading : goal.decreases-reading
+decreases-reading g l = 16384 - length l.buffer

@@ -1,0 +1,50 @@
+-- A connection as its caller sees it, and what a look for its next message does.
+use Rattle.std.specs.Prelude.{◌≡◌, ◌≢◌, ℕ, ◌+◌, ◌≤◌, Bool, List, [], ◌++◌, length, Option}
+use Rattle.std.specs.Io.KnownBytes.{Consumes, IsAtEnd}
+use Rattle.httparse.specs.Grammar.{HasNoRequest}
+use Rattle.stream_face.specs.Faults.{fault_told}
+use Rattle.http_front.specs.Head.{IsHeadAt}
+use Rattle.http_front.specs.Stream.{NeverHasHead, Finds}
+use Rattle.http_front.specs.declared.ahead.Ahead.{Ahead}
+use Rattle.http_front.specs.declared.ahead.Ahead.TheVariants.{Whole, Bad, Nothing, Cut, Fault}
+use Rattle.http_front.specs.declared.conn.Next.{Next}
+
+-- The bytes that came and are not used; whether nothing comes after the last reply; whether the next reply has no body;
+-- and how many messages have come.
+pub record ConnView : Type 0 where
+  pub buffer : List ℕ
+  pub over : Bool
+  pub bare : Bool
+  pub count : ℕ
+
+-- what stands at the front of the bytes that are known, where the source may have this to give
+abbrev pub IsAhead : List ℕ → Option (List ℕ) → Ahead → Type 0
+IsAhead known future (Whole head) = IsHeadAt known head
+IsAhead known future Bad = (known ≢ []) × NeverHasHead known
+IsAhead known future Nothing = (known ≡ []) × IsAtEnd future
+IsAhead known future Cut = (known ≢ []) × IsAtEnd future × HasNoRequest known
+IsAhead known future Fault = HasNoRequest known
+
+-- the bytes that were held and those that came, no more than a head may have, and what stands at their front
+abbrev pub LooksAhead : Option (List ℕ) → Option (List ℕ) → List ℕ → List ℕ → Ahead → Type 0
+LooksAhead before after held now ahead =
+    (came : List ℕ) × Consumes before after came × (now ≡ held ++ came) × (length now ≤ 16384) × IsAhead now after ahead
+
+-- a read failed in a look ahead exactly where it says so
+abbrev pub TellsAhead : Option Bool → Option Bool → Ahead → Type 0
+TellsAhead failed fails (Whole head) = fails ≡ failed
+TellsAhead failed fails Bad = fails ≡ failed
+TellsAhead failed fails Nothing = fails ≡ failed
+TellsAhead failed fails Cut = fails ≡ failed
+TellsAhead failed fails Fault = fails ≡ fault_told failed
+
+-- What was found of the message with this number in the bytes that were held and those that came, and what is noted of it
+-- for its reply. These bytes are no more than a head and a body may have, 16,384 bytes and 1,048,576.
+abbrev pub Takes : Option (List ℕ) → Option (List ℕ) → ℕ → List ℕ → List ℕ → Next → Bool → Bool → Type 0
+Takes before after n held now next over bare =
+    (came : List ℕ) × Consumes before after came × Finds n (held ++ came) now after next over bare
+    × (length (held ++ came) ≤ 16384 + 1048576)
+
+-- what a look for the next message does to a connection
+abbrev pub TakesNext : Option (List ℕ) → Option (List ℕ) → ConnView → ConnView → Next → Type 0
+TakesNext before after old new next = Takes before after old.count old.buffer new.buffer next new.over new.bare

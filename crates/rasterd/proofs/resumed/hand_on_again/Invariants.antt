@@ -1,0 +1,16 @@
+-- The bytes are as they were and none was flushed, and a fault is told once the writer was called.
+use Rattle.std.proofs.Common.{◌≡◌, ◌≤◌, ◌<◌}
+use Rattle.std.specs.Io.KnownBytes.{Keeps}
+use Rattle.stream_face.specs.Faults.{fault_told}
+use Rattle.rasterd.proofs.resumed.hand_on_again.Given as goal
+
+abbrev pub invariant-handing : goal.invariant-handing
+invariant-handing g l =
+    (l.left ≤ 1000)
+    × Keeps (g.W.Sink.contents l.initial.writer) (g.W.Sink.contents l.writer)
+    × (g.W.Sink.waiting l.writer ≡ g.W.Sink.waiting l.initial.writer)
+    × (l.left ≡ 1000 → g.W.Sink.failed l.writer ≡ g.W.Sink.failed l.initial.writer)
+    × (l.left < 1000 → g.W.Sink.failed l.writer ≡ fault_told (g.W.Sink.failed l.initial.writer))
+
+abbrev pub decreases-handing : goal.decreases-handing
+decreases-handing g l = l.left
