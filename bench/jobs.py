@@ -4,10 +4,10 @@
 usage: bench/jobs.py
 
 Starts the program on an empty store. One client submits a job of 200 units and steps it by one unit a request, each on a
-connection of its own, while another writes and asks a small coverage, and tries to write the one that the job reads, each
-on connections of its own too. Every answer is compared with what it has to be. Prints how long a step took, and what the
-other client waited, beside the same requests without a job and beside the query in one request. `rt run` in crates/rasterd
-builds the program.
+connection of its own, while another writes and asks a small coverage, and writes the one that the job reads, each on
+connections of its own too. Every answer is compared with what it has to be: the job's with that of its query before all
+writes. Prints how long a step took, and what the other client waited, beside the same requests without a job and beside the
+query in one request. `rt run` in crates/rasterd builds the program.
 """
 import os
 import statistics
@@ -35,11 +35,11 @@ def timed(work):
 
 
 class Other(threading.Thread):
-    """A client that writes and asks a small coverage until it is told to stop."""
+    """A client that writes and asks a small coverage, and writes the large one, until it is told to stop."""
 
     def __init__(self, port):
         super().__init__()
-        self.port, self.over, self.waits, self.wrong, self.refused = port, threading.Event(), [], [], 0
+        self.port, self.over, self.waits, self.wrong, self.written = port, threading.Event(), [], [], 0
 
     def turn(self, number):
         with rasterd.Session(port=self.port) as session:
@@ -48,10 +48,8 @@ class Other(threading.Thread):
             if session.query("for c in (small) return max(c)") != f"{number}\n":
                 self.wrong.append(number)
         with rasterd.Session(port=self.port) as session:
-            try:
-                session.fill("large", "v", 0, {"y": (0, 0), "x": (0, 0)})
-            except rasterd.Refused as refusal:
-                self.refused += refusal.number == 28
+            session.fill("large", "v", number % 1000 + 1, {"y": (0, ROWS - 1), "x": (0, 0)})
+            self.written += 1
 
     def run(self):
         number = 0
@@ -93,6 +91,7 @@ def main():
         other.over.set()
         other.join()
         answer, fetched = timed(lambda: one(port, lambda it: it.fetch(number)))
+        present = one(port, lambda it: it.query(QUERY))
     figure("the query in one request", [took])
     figure("a small query beside nothing", alone.waits)
     figure(f"a step of one unit, of {units}", steps)
@@ -104,10 +103,8 @@ def main():
             ("the job has another number of units", units == UNITS),
             ("the job's answer is another than the query's", answer == whole),
             ("a small answer was wrong", not other.wrong),
-            (
-                "a write of what the job reads was not refused as busy",
-                0 < other.refused and other.refused >= len(other.waits) - 1,
-            ),
+            ("a write of what the job reads was not taken", 0 < other.written and other.written == len(other.waits)),
+            ("the store is as it was at the job's submission", present != whole),
         ]
         if not holds
     ]

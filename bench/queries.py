@@ -8,8 +8,11 @@ made with a fixed seed and written by UpdateCoverage into a store, bench/out/lay
 The queries go to the built program over that file, through a pipe; the time is that from the query to the end of its
 reply, at the client, and the median of several. The loops in C read cells of 16 bits in memory and print with sprintf;
 they are compiled here by cc -O3, and their times are medians too. Each reply is compared with what the loop printed.
-The limit is how many times C's time a query is to take at most. `rt run` in crates/rasterd builds the program; SERVER
-names another one. With --again the store is made anew.
+The limit is how many times C's time a query is to take at most. Behind these stands what a query of one cell takes, alone
+and beside 64 jobs, and what the submission and the cancel of a job take, in milliseconds and in memory, over a coverage of
+one cell, over one of the layers, over all three, and over as many tiles as a file of 4 GiB has blocks for: a submission
+copies the index of each coverage. `rt run` in crates/rasterd builds the program; SERVER names another one. With --again the
+store is made anew.
 """
 import array
 import os
@@ -20,9 +23,13 @@ import threading
 import time
 from urllib.parse import urlencode
 
-from compiled import compiled
-
+sys.dont_write_bytecode = True
 TOP = os.path.dirname(os.path.dirname(os.path.abspath(__file__)))
+sys.path.insert(0, f"{TOP}/oracle")
+
+from compiled import compiled
+from room import FILLER, Filler
+
 PROGRAM = os.environ.get("SERVER", f"{TOP}/crates/rasterd/out/rasterd")
 FOLDER = f"{TOP}/bench/out"
 STORE = f"{FOLDER}/layers.store"
@@ -98,6 +105,7 @@ FUNCTION zones(void) {
     for (long k = 0; k < 16; k++) at = printed(at, sums[k], k, 16);
     return at;
 }
+FUNCTION cell(void) { return scalar(noise[1000 * SIDE + 1000]); }
 FUNCTION cells(void) {
     char *at = text;
     for (long y = 0; y < 1024; y++) for (long x = 0; x < 1024; x++) at = printed(at, noise[y * SIDE + x], x, 1024);
@@ -107,6 +115,7 @@ static const struct { const char *name; char *(*run)(void); } lines[] = {
     {"add_noise", add_noise}, {"add_terrain", add_terrain}, {"add_land", add_land}, {"max_noise", max_noise},
     {"max_land", max_land}, {"count_noise", count_noise}, {"count_terrain", count_terrain}, {"count_land", count_land},
     {"difference", difference}, {"window", window}, {"focal_1", focal_1}, {"focal_3", focal_3}, {"zones", zones}, {"cells", cells},
+    {"cell", cell},
 };
 static int earlier(const void *a, const void *b) { double x = *(double *)a, y = *(double *)b; return (x > y) - (x < y); }
 int main(int count, char **words) {
@@ -168,6 +177,15 @@ LINES = [
     ),
     ("2^20 cells as CSV", "cells", 4, f"for c in (noise) return encode(c{CORNER}, csv)"),
 ]
+ONE_CELL = "for c in (noise) return c[y(1000), x(1000)]"
+# how many jobs may be there
+JOBS = 64
+# what a job is over, and its query
+SUBMISSIONS = [
+    ("one cell", "for c in (single) return max(c)"),
+    ("noise", "for c in (noise) return max(c)"),
+    ("the three layers", "for c in (noise), d in (terrain), e in (land) return max(c) + max(d) + max(e)"),
+]
 
 
 def message(**pairs):
@@ -176,10 +194,10 @@ def message(**pairs):
 
 
 class Session:
-    """The program over the store, one connection through a pipe."""
+    """The program over a store, one connection through a pipe."""
 
-    def __init__(self):
-        self.process = subprocess.Popen([PROGRAM, STORE, "run"], stdin=subprocess.PIPE, stdout=subprocess.PIPE)
+    def __init__(self, store=STORE):
+        self.process = subprocess.Popen([PROGRAM, store, "run"], stdin=subprocess.PIPE, stdout=subprocess.PIPE)
 
     def __enter__(self):
         return self
@@ -254,16 +272,66 @@ def printed_by(loops):
     return found
 
 
-def median(session, query, wanted):
-    """The median of the seconds from the query to its reply, which has to be that text."""
+def askings(session, query, wanted, most=5):
+    """The seconds from a query to its reply, which has to be that text, each time that it is asked."""
     times = []
-    while len(times) < 5 and sum(times) < ENOUGH:
+    while len(times) < most and sum(times) < ENOUGH:
         begun = time.monotonic()
         body = session.ask(message(request="ProcessCoverages", query=query))
         times.append(time.monotonic() - begun)
         if body != wanted:
             sys.exit(f"another answer than C's: {query}: {body[:60]!r} is not {wanted[:60]!r}")
-    return statistics.median(times)
+    return times
+
+
+def timed(session, **pairs):
+    """The body of the reply to a request, and its milliseconds."""
+    begun = time.monotonic()
+    body = session.ask(message(**pairs))
+    return body, 1e3 * (time.monotonic() - begun)
+
+
+def resident(session):
+    """The KiB of memory that the program has."""
+    with open(f"/proc/{session.process.pid}/status") as file:
+        return next(int(line.split()[1]) for line in file if line.startswith("VmRSS"))
+
+
+def told(what, times, more=""):
+    least, middle = min(times), statistics.median(times)
+    print(f"{what:44} least {least:8.3f} ms, median {middle:8.3f}, longest {max(times):8.3f}{more}", flush=True)
+
+
+def jobs(session, name, query, count, beside):
+    """Prints what jobs of a query do that are submitted and cancelled, and another query, with its answer, beside them."""
+    before, submitted, numbers = resident(session), [], []
+    for _ in range(count):
+        body, took = timed(session, request="SubmitQuery", query=query)
+        submitted.append(took)
+        numbers.append(int(body.split()[1]))
+    told(f"a job over {name}, submitted", submitted, f"; {(resident(session) - before) / count:.0f} KiB a job")
+    meanwhile = [1e3 * it for it in askings(session, *beside, 100)]
+    told(f"a job over {name}, cancelled", [timed(session, request="CancelJob", job=it)[1] for it in numbers])
+    told(f"one cell beside {count} of these", meanwhile)
+
+
+def beside_jobs(session, cell):
+    """Some 800 messages, of at most 1,000 on one connection."""
+    session.ask(message(request="InsertCoverage", coverage="single", domain="x(0:0)", fields="v:i16"))
+    told("one cell of noise", [1e3 * it for it in askings(session, ONE_CELL, cell, 100)])
+    for name, query in SUBMISSIONS:
+        jobs(session, name, query, JOBS, (ONE_CELL, cell))
+    session.ask(message(request="DeleteCoverage", coverage="single"))
+
+
+def over_the_most_tiles():
+    """The same over as many tiles of one block each as there can be. None of them is written, so none is read."""
+    path, filler = f"{FOLDER}/most.store", Filler(16, 1)
+    filler.write(path)
+    with Session(path) as session:
+        beside = f"for c in ({FILLER}) return c[k(16777215), t(0), y(0), x(0)]", b"0\n"
+        jobs(session, f"{filler.tiles:,} tiles", f"for c in ({FILLER}) return max(c)", 8, beside)
+    os.remove(path)
 
 
 def processor():
@@ -285,11 +353,15 @@ def main():
                 if not all(word in name for word in words):
                     continue
                 seconds, text = plain[loop]
-                taken = median(session, query, text)
+                taken = statistics.median(askings(session, query, text))
                 print(
                     f"{name:44} {taken * 1e3:10.2f} {seconds * 1e3:9.3f} {taken / seconds:9.1f} {limit or '-':>6}",
                     flush=True,
                 )
+            if all(word in "one cell beside jobs" for word in words):
+                beside_jobs(session, plain["cell"][1])
+        if all(word in "one cell beside jobs" for word in words):
+            over_the_most_tiles()
 
 
 main()

@@ -7,7 +7,7 @@ Over a small file the program is asked a script of messages: without a fault, an
 by the library of shim.c, which is loaded before the program. Words choose what is tried: `disk`, the calls on the file (EIO,
 ENOSPC, EINTR, half of the bytes moved, none, half and then EIO; from one call on half or EIO); `lies`, reads that give other
 bytes; `memory`, growths, one and forty in a row; `stream`, reads and writes of the connection; without one of these all are tried.
-`long` takes a script of 55 messages in place of one of nine, `empty` an empty store in memory in place of the file (for
+`long` takes a script of 64 messages in place of one of ten, `empty` an empty store in memory in place of the file (for
 `memory` alone). Numbers N and M take every Nth growth from the Mth on, all where they are left out.
 
 Each reply has to be that of oracle/machine.py, or 91 (90 for growths) and that one where the message is sent again. Where the

@@ -56,6 +56,7 @@ SHORT = [
     query("for c in (w) return encode(c + 1, csv)"),
     submit("for c in (w) return add(c)"),
     step(1),
+    update("w", "v", "y(0:69),x(1:1)", fill=5),
     step(1, 1000),
     of_job("FetchJob", 1),
     template("ProcessTemplate", "FocalSum", layer="w", radius=1),
@@ -64,7 +65,8 @@ SHORT = [
 
 CELLS = "3,1,4,1,5,9,2,6"
 
-# all requests, types of cells and numbers of axes, some faults, four jobs, three templates
+# all requests, types of cells and numbers of axes, some faults, five jobs, three templates; between the steps of jobs what
+# they read is written, and deleted and inserted anew
 LONG = [
     message(request="ListCoverages"),
     query("for c in (lai) return encode(c, csv)"),
@@ -104,11 +106,20 @@ LONG = [
     submit("for c in (a) return some(c)"),
     submit("for c in (lai) return max(1 / (c - 7))"),
     submit("for c in (d) return encode(c.v[x(8)], csv)"),
+    submit("for c in (d) return add(c.v) + count(c.ok)"),
     step(1),
     step(2, 1000),
     update("b", "v", "y(0:0),x(0:0)", fill=1),
     step(1, 1000),
     step(3, 1000),
+    step(5),
+    message(request="DeleteCoverage", coverage="d"),
+    step(5),
+    insert("d", "x(0:1)", "v:u8"),
+    update("d", "v", "x(0:1)", fill=200),
+    query("for c in (d) return add(c)"),
+    step(5, 1000),
+    of_job("FetchJob", 5),
     of_job("FetchJob", 1),
     of_job("FetchJob", 2),
     of_job("FetchJob", 3),

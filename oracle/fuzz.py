@@ -13,6 +13,7 @@ more than this reading counts up to, it has to be answered by a value or a fault
 """
 
 import collections
+import contextlib
 import os
 import random
 import re
@@ -38,8 +39,6 @@ from spoilt import Files
 MOST_SECONDS, MOST_MEMORY = 10, 128 << 20
 # the most work that is counted here, and the most that is asked; the most points of a domain
 MOST_COUNTED, MOST_ASKED, MOST_POINTS = 40_000, 5_000_000, 50_000
-# domains in 2, 4, 8 and 16 tiles
-WIDE = ["x(0:4099)", "y(-3:62),x(5:70)", "t(0:16),y(0:16),x(0:17)", "k(0:8),t(0:8),y(0:8),x(0:8)"]
 UNKNOWN = "?"
 COUNTED = meaning.answer_of
 
@@ -73,6 +72,14 @@ class Bounded(Machine):
             if axes and count(axes) > MOST_POINTS:
                 raise Beyond
         return super().UpdateCoverage()
+
+    def SubmitQuery(self):
+        """The steps of a job take as long as its query does, whether its answer is fetched or not."""
+        reply = super().SubmitQuery()
+        job = self.jobs[self.next - 1]
+        with contextlib.suppress(meaning.Fault):
+            meaning.answer(job.query, job.store)
+        return reply
 
 
 def ran(program, file, stream):
@@ -200,7 +207,7 @@ class Fuzz:
             f"{name}:{self.chance.choice(store.TYPES)}" for name in self.chance.choice([["v"], ["v"], ["w", "v"]])
         ]
         pairs = {"request": "InsertCoverage", "coverage": self.chance.choice(sessions.NAMES)}
-        return pairs | {"domain": self.chance.choice(WIDE), "fields": ",".join(fields)}
+        return pairs | {"domain": self.chance.choice(sessions.WIDE), "fields": ",".join(fields)}
 
     def file(self, name):
         stream = self.filled()[1] + sessions.session_of(f"{name}.0")

@@ -1,8 +1,9 @@
 """The machine, read from its description: named coverages, requests, templates, jobs, and messages over HTTP/1.1."""
 
+import copy
 import re
 import urllib.parse
-from dataclasses import dataclass
+from dataclasses import dataclass, replace
 
 from language import KEYWORDS, Refused
 from meaning import Coverage, Fault, answer, count, fits, points, rank, submitted
@@ -21,9 +22,10 @@ NAMES = (
     " 43 NoSuchAxis 44 AxisTwice 45 DomainMismatch 46 TrimOutside 47 NeedsScalar 48 NeedsBoolean 49 NeedsInteger"
     " 50 NeedsOneField 51 ListLength 52 MustEncode 53 BadInterval 54 TooMuchWork 55 ResultTooLarge 56 TooManyCombinations"
     " 60 Overflow 61 DivideByZero 62 OutOfDomain 63 EmptyCondense 64 BadBit 70 NoSuchJob 71 NotReady 72 TooManyJobs 80 NoSuchTemplate 81 BadParameter"
+    " 92 NoRoom"
 ).split()
 REFUSALS = dict(zip(map(int, NAMES[::2]), NAMES[1::2]))
-STATUSES = {3: 404, 20: 404, 70: 404, 21: 409, 28: 409, 71: 409, 2: 413, 4: 501, 27: 503, 72: 503}
+STATUSES = {3: 404, 20: 404, 70: 404, 21: 409, 28: 409, 71: 409, 2: 413, 4: 501, 27: 503, 72: 503, 92: 503}
 PHRASES = {
     200: "OK",
     400: "Bad Request",
@@ -98,16 +100,18 @@ def layer_in(text):
 
 @dataclass
 class Job:
-    """The coverages that a job reads, its units left, and its CSV or the number of its fault."""
+    """A query, the coverages that it names, the store as it was at its submission, and the units left."""
 
+    query: bytes
     names: set
+    store: dict
     left: int
-    answer: str | int
 
 
 class Machine:
-    """Coverages by name, and jobs by number. Which units a job has is the server's choice: `units` has that of each number,
-    and where it has none, or more than there may be, it is one."""
+    """Coverages by name, and jobs by number. A coverage is never changed in place: a write puts another one under its name, so
+    that a job keeps the store of its submission. Which units a job has is the server's choice: `units` has that of each
+    number, and where it has none, or more than there may be, it is one."""
 
     def __init__(self, units=None):
         self.store, self.jobs, self.next, self.units = {}, {}, 1, units or {}
@@ -148,9 +152,9 @@ class Machine:
             raise Refused(20)
         return self.store[name]
 
-    def is_read(self, name):
-        """Whether a job with units left reads the coverage."""
-        return any(job.left > 0 and name in job.names for job in self.jobs.values())
+    def put(self, name, coverage, written=()):
+        """Puts a coverage, new or written, under a name. What is written is a field, by its place, and a box."""
+        self.store[name] = coverage
 
     def job(self, number):
         if number not in self.jobs:
@@ -171,7 +175,7 @@ class Machine:
             raise Refused(23)
         if len(self.store) == 1024:
             raise Refused(27)
-        self.store[name] = Coverage(axes, fields, [self.cells(axes, kind) for _, kind in fields])
+        self.put(name, Coverage(axes, fields, [self.cells(axes, kind) for _, kind in fields]))
         return "plain", "ok\n"
 
     def cells(self, axes, kind):
@@ -197,8 +201,6 @@ class Machine:
         if field not in names:
             raise Refused(42)
         k = names.index(field)
-        if self.is_read(name):
-            raise Refused(28)
         if (
             not is_domain(box)
             or [it[0] for it in box] != [it[0] for it in c.axes]
@@ -209,15 +211,15 @@ class Machine:
             raise Refused(25)
         if not all(holds(c.fields[k][1], cell) for cell in cells):
             raise Refused(26)
+        written = copy.copy(c.cells[k])
         for at, point in enumerate(points(box)):
-            c.cells[k][rank(c.axes, point)] = cells[at] if values else cells[0]
+            written[rank(c.axes, point)] = cells[at] if values else cells[0]
+        self.put(name, replace(c, cells=[*c.cells[:k], written, *c.cells[k + 1 :]]), (k, box))
         return "plain", "ok\n"
 
     def DeleteCoverage(self):
         name = self.key("coverage", name_in)
         self.coverage(name)
-        if self.is_read(name):
-            raise Refused(28)
         del self.store[name]
         return "plain", "ok\n"
 
@@ -231,16 +233,21 @@ class Machine:
         ]
         return "plain", "".join(lines)
 
+    def answered(self, query, coverages):
+        """The CSV of a query over a store."""
+        return answer(query, coverages)
+
     def ProcessCoverages(self):
-        return "csv", answer(self.key("query", query_in).encode(), self.store)
+        return "csv", self.answered(self.key("query", query_in).encode(), self.store)
 
     def SubmitQuery(self):
-        names, most, found = submitted(self.key("query", query_in).encode(), self.store)
+        query = self.key("query", query_in).encode()
+        names, most = submitted(query, self.store)
         if len(self.jobs) == 64 or self.next == 2**64:
             raise Refused(72)
         number, left = self.next, self.units.get(self.next, 1)
         self.next += 1
-        self.jobs[number] = Job(names, left if 1 <= left <= most else 1, found)
+        self.jobs[number] = Job(query, names, dict(self.store), left if 1 <= left <= most else 1)
         return "plain", f"job {number} left {self.jobs[number].left}\n"
 
     def StepJob(self):
@@ -255,9 +262,7 @@ class Machine:
         if job.left > 0:
             raise Refused(71)
         del self.jobs[number]
-        if isinstance(job.answer, int):
-            raise Fault(job.answer)
-        return "csv", job.answer
+        return "csv", self.answered(job.query, job.store)
 
     def CancelJob(self):
         number = self.key("job", number_in)
@@ -269,7 +274,7 @@ class Machine:
         return "plain", self.expanded() + "\n"
 
     def ProcessTemplate(self):
-        return "csv", answer(self.expanded().encode(), self.store)
+        return "csv", self.answered(self.expanded().encode(), self.store)
 
     def expanded(self):
         """The query of a template."""

@@ -365,13 +365,8 @@ def answer(text, store):
 
 
 def submitted(text, store):
-    """Of a query that is to be a job: the names in its `for` list, the most units that it may have, and its CSV or the
-    number of its fault; or a refusal."""
+    """Of a query that is to be a job: the names in its `for` list, and the most units that it may have; or a refusal."""
     query = parsed(text)
     found = combinations(query, store)
     names = {name for _, listed in query[0] for name in listed}
-    most = len(found) * (2 + work_of(found))
-    try:
-        return names, most, answer_of(found)
-    except Fault as fault:
-        return names, most, fault.number
+    return names, len(found) * (2 + work_of(found))

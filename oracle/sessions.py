@@ -5,245 +5,51 @@
 
 A session is one stream of messages over an empty store: coverages are made and written, described and deleted, queries of
 all forms and templates are asked, jobs submitted, stepped by turns, fetched and cancelled, some keys and texts are spoilt,
-bodies and pieces cut. The units of a job are the program's choice within their bounds. The first difference is shown.
+bodies and pieces cut. Half of the sessions are about jobs: between their steps what they read is written, deleted and
+inserted anew. Some are over coverages in several tiles, a few have 64 jobs and more, some are parted into runs on a file, which
+is closed with jobs at hand and opened again, and some run on a file that is nearly full. The units of a job are the program's choice within their
+bounds. The first difference is shown; at the end stands how often what was reached.
 """
 
+import collections
+import functools
 import os
 import random
 import re
 import subprocess
 import sys
+import tempfile
 import urllib.parse
+from dataclasses import dataclass
 
 sys.dont_write_bytecode = True
 
-from machine import RANGES, Machine, served
+import store
+from files import posted
+from machine import RANGES, served
+from met import Met
+from room import Filler, Roomy
+from texts import NAMES, Texts
 
-AXES, FIELDS, NAMES = ["x", "y", "t", "k"], ["v", "w", "b"], ["lai", "hill", "g", "z", "a_1"]
+FIELDS = ["v", "w", "b"]
+# domains in 2, 4, 8 and 16 tiles
+WIDE = ["x(0:4099)", "y(-3:62),x(5:70)", "t(0:16),y(0:16),x(0:17)", "k(0:8),t(0:8),y(0:8),x(0:8)"]
+# the most cells of an update that are listed
+MOST_LISTED = 300
 
 
-class Texts:
-    """Queries by chance, mostly such as types accept."""
+class Unasked(Roomy):
+    """The machine while a stream is made: it evaluates no query."""
 
-    def __init__(self, chance, store):
-        self.chance, self.store = chance, store
-        self.fresh = 0
-
-    def one_in(self, n):
-        return self.chance.randrange(n) == 0
-
-    def name(self):
-        known = list(self.store)
-        return self.chance.choice(known) if known and not self.one_in(30) else self.chance.choice(NAMES)
-
-    def query(self):
-        binds = []
-        self.variables = {}
-        for variable in self.chance.sample(["c", "d", "$e"], self.chance.choice([1, 1, 1, 2, 3])):
-            names = [self.name() for _ in range(self.chance.choice([1, 1, 1, 2, 3]))]
-            self.variables[variable] = self.store.get(names[0])
-            binds.append(f"{variable} in ({', '.join(names)})")
-        self.iterators = []
-        where = f" where {self.scalar('bool', 2)}" if self.one_in(4) else ""
-        axes = self.box() if self.one_in(2) else []
-        if self.one_in(3) and self.variables:
-            c = self.chance.choice(list(self.variables.values()))
-            axes = c.axes if c else axes
-        depth = self.chance.choice([1, 2, 3, 3, 4])
-        item = self.value(self.kind(), axes, depth) if not self.one_in(6) else self.record(axes, depth)
-        item = (
-            item
-            if not axes and self.one_in(2)
-            else f"encode({item}, {self.chance.choice(['csv', 'CSV', chr(34) + 'text/csv' + chr(34)])})"
-        )
-        return self.spoilt(f"for {', '.join(binds)}{where} return {item}")
-
-    def spoilt(self, text):
-        if not self.one_in(25):
-            return text
-        at = self.chance.randrange(len(text))
-        return self.chance.choice(
-            [
-                text[:at],
-                text[:at] + text[at + 1 :],
-                text[:at] + self.chance.choice(list('()[]{},;:.<>=+-*/$"x9 \x00#')) + text[at:],
-            ]
-        )
-
-    def kind(self):
-        return self.chance.choice(["int", "int", "int", "bool"])
-
-    def box(self):
-        names = self.chance.sample(AXES, self.chance.choice([1, 1, 2, 2, 3]))
-        found = []
-        for name in names:
-            lo = self.chance.randrange(-3, 3)
-            found.append((name, lo, lo + self.chance.randrange(4)))
-        return found
-
-    def record(self, axes, depth):
-        names = self.chance.sample(["p", "q", "v"], self.chance.choice([1, 2, 3]))
-        parts = [
-            f"{name}: {self.value(self.kind(), axes if k == 0 or not self.one_in(4) else [], depth - 1)}"
-            for k, name in enumerate(names)
-        ]
-        return "{" + "; ".join(parts) + "}"
-
-    def scalar(self, kind, depth):
-        return self.value(kind, [], depth)
-
-    def number(self):
-        return str(self.chance.choice([0, 1, 1, 2, 3, 5, 10, 63, 64, 255, 32767, 2**31, 2**62, 2**63 - 1]))
-
-    def leaf(self, kind, axes):
-        found = []
-        for variable, c in self.variables.items():
-            for field, of_field in c.fields if c else []:
-                if (of_field == "bool") == (kind == "bool"):
-                    whole = variable if len(c.fields) == 1 and self.one_in(2) else f"{variable}.{field}"
-                    if c.axes == axes:
-                        found.append(whole)
-                    found.append(self.cut(whole, c.axes, axes))
-        if not axes:
-            found += ["true", "false"] if kind == "bool" else [self.number(), self.number(), *self.iterators]
-        found = [it for it in found if it]
-        return self.chance.choice(found) if found else None
-
-    def cut(self, whole, axes, wanted):
-        """A bracket that leaves the wanted axes, where one can."""
-        subs = []
-        for name, lo, hi in axes:
-            of_name = [it for it in wanted if it[0] == name]
-            if of_name:
-                subs.append(f"{name}({of_name[0][1]}:{of_name[0][2]})")
-            else:
-                at = str(self.chance.randrange(lo - 1, hi + 2) if self.one_in(8) else self.chance.randint(lo, hi))
-                subs.append(
-                    f"{name}({at if not self.iterators or self.one_in(2) else self.chance.choice(self.iterators)})"
-                )
-        if [name for name, _, _ in axes if name in [it[0] for it in wanted]] != [it[0] for it in wanted]:
-            return None
-        self.chance.shuffle(subs)
-        return f"{whole}[{', '.join(subs)}]"
-
-    def value(self, kind, axes, depth):
-        """An expression of a kind over some axes."""
-        if self.one_in(60):
-            kind = self.kind()
-        if depth <= 0 or self.one_in(5):
-            if leaf := self.leaf(kind, axes):
-                return leaf
-        forms = [self.operation, self.operation, self.operation, self.trimmed]
-        forms += (
-            [self.reduced, self.condensed, self.unary]
-            if not axes
-            else [self.array, self.array, self.listed, self.unary]
-        )
-        return self.chance.choice(forms)(kind, axes, depth)
-
-    def unary(self, kind, axes, depth):
-        inner = self.value(kind, axes, depth - 1)
-        if kind == "bool":
-            return f"not ({inner})"
-        return self.chance.choice(
-            [f"-({inner})", f"+({inner})", f"abs({inner})", f"+({self.value('bool', axes, depth - 1)})"]
-        )
-
-    def operation(self, kind, axes, depth):
-        sides = [axes, axes if self.one_in(2) else []]
-        self.chance.shuffle(sides)
-        if kind == "bool" and self.one_in(2):
-            op, of_sides = self.chance.choice(["and", "or", "xor"]), "bool"
-        else:
-            op, of_sides = self.chance.choice(
-                ["<", "<=", ">", ">=", "=", "!="] if kind == "bool" else ["+", "-", "*", "/"]
-            ), self.chance.choice(["int", "int", "int", "bool"])
-        left, right = (self.value(of_sides, side, depth - 1) for side in sides)
-        if kind == "bool" and self.one_in(8):
-            return (
-                f"bit({left}, {right})"
-                if of_sides != "bool" or op not in ("and", "or", "xor")
-                else f"({left}) {op} ({right})"
-            )
-        plain = not self.one_in(3)
-        return f"({left}) {op} ({right})" if plain else f"{left} {op} {right}"
-
-    def trimmed(self, kind, axes, depth):
-        """A larger or higher value, cut down."""
-        whole = [(name, lo - self.chance.randrange(2), hi + self.chance.randrange(2)) for name, lo, hi in axes]
-        free = [name for name in AXES if name not in [it[0] for it in whole]]
-        if len(whole) < 3 and free and self.one_in(2):
-            lo = self.chance.randrange(-2, 2)
-            whole.insert(
-                self.chance.randrange(len(whole) + 1), (self.chance.choice(free), lo, lo + self.chance.randrange(3))
-            )
-        inner = self.value(kind, whole, depth - 1)
-        subs = []
-        for name, lo, hi in whole:
-            wanted = [it for it in axes if it[0] == name]
-            if wanted:
-                subs += (
-                    [f"{name}({wanted[0][1]}:{wanted[0][2]})"] if wanted[0] != (name, lo, hi) or self.one_in(2) else []
-                )
-            else:
-                subs.append(
-                    f"{name}({self.scalar('int', min(1, depth - 1)) if self.one_in(4) else self.chance.randint(lo, hi)})"
-                )
-        self.chance.shuffle(subs)
-        return f"({inner})[{', '.join(subs)}]" if subs else f"({inner})"
-
-    def reduced(self, kind, axes, depth):
-        inner = self.box()
-        c = self.chance.choice(list(self.variables.values()))
-        inner = c.axes if c and self.one_in(2) else inner
-        if kind == "bool":
-            return f"{self.chance.choice(['some', 'all'])}({self.value('bool', inner, depth - 1)})"
-        if self.one_in(4):
-            return f"count({self.value('bool', inner, depth - 1)})"
-        return f"{self.chance.choice(['add', 'avg', 'min', 'max'])}({self.value('int', inner, depth - 1)})"
-
-    def over(self, axes):
-        """A list of iterators for some axes, and their variables."""
-        found, variables = [], []
-        for name, lo, hi in axes:
-            self.fresh += 1
-            variables.append(f"$i{self.fresh}")
-            found.append(f"{variables[-1]} {name}({lo}:{hi})")
-        return ", ".join(found), variables
-
-    def under(self, variables, make):
-        self.iterators += variables
-        made = make()
-        del self.iterators[len(self.iterators) - len(variables) :]
-        return made
-
-    def array(self, kind, axes, depth):
-        text, variables = self.over(axes)
-        return f"(coverage m over {text} values {self.under(variables, lambda: self.scalar(kind, depth - 1))})"
-
-    def listed(self, kind, axes, depth):
-        size = 1
-        for _, lo, hi in axes:
-            size *= hi - lo + 1
-        text, _ = self.over(axes)
-        items = [
-            self.chance.choice(["true", "false"]) if kind == "bool" else str(self.chance.randrange(-9, 10))
-            for _ in range(size - self.one_in(40))
-        ]
-        return f"(coverage m over {text} value list <{'; '.join(items or ['1'])}>)"
-
-    def condensed(self, kind, axes, depth):
-        text, variables = self.over(self.box())
-        where = f" where {self.under(variables, lambda: self.scalar('bool', depth - 1))}" if self.one_in(2) else ""
-        op = self.chance.choice(["and", "or"] if kind == "bool" else ["+", "*", "max", "min"])
-        return f"(condense {op} over {text}{where} using {self.under(variables, lambda: self.scalar(kind, depth - 1))})"
+    def answered(self, query, coverages):
+        return ""
 
 
 class Session:
     """A stream of messages by chance; what the machine would hold after them guides the later ones."""
 
-    def __init__(self, chance):
-        self.chance, self.machine = chance, Machine()
+    def __init__(self, chance, machine=None, wide=False):
+        self.chance, self.machine, self.about_jobs, self.wide = chance, machine or Unasked(), machine is not None, wide
         self.texts = Texts(chance, self.machine.store)
 
     def one_in(self, n):
@@ -268,20 +74,20 @@ class Session:
         makes += [self.of_job] * (6 if self.machine.jobs else self.one_in(4))
         return self.chance.choice(makes)()
 
-    def insertion(self):
-        axes = self.texts.box()
+    def insertion(self, name=None):
+        axes = ",".join(f"{axis}({lo}:{hi})" for axis, lo, hi in self.texts.box())
         fields = self.chance.sample(FIELDS, self.chance.choice([1, 1, 2, 3]))
         return self.spoilt(
             {
                 "request": "InsertCoverage",
-                "coverage": self.chance.choice(NAMES),
-                "domain": ",".join(f"{name}({lo}:{hi})" for name, lo, hi in axes),
+                "coverage": name or self.chance.choice(NAMES),
+                "domain": self.chance.choice(WIDE) if self.wide and not self.one_in(4) else axes,
                 "fields": ",".join(f"{name}:{self.chance.choice(list(RANGES))}" for name in fields),
             }
         )
 
-    def update(self):
-        name = self.chance.choice(list(self.machine.store))
+    def update(self, name=None):
+        name = name or self.chance.choice(list(self.machine.store))
         c = self.machine.store[name]
         field, kind = self.chance.choice(c.fields)
         box, size = [], 1
@@ -295,7 +101,7 @@ class Session:
             "field": field,
             "box": ",".join(f"{axis}({lo}:{hi})" for axis, lo, hi in box),
         }
-        if self.one_in(3):
+        if self.one_in(3) or size > MOST_LISTED:
             pairs["fill"] = self.cell(kind)
         else:
             pairs["values"] = ",".join(self.cell(kind) for _ in range(size + self.one_in(30)))
@@ -363,6 +169,49 @@ class Session:
         c = self.machine.store.get(name)
         return name if self.one_in(3) or not c or len(c.fields) == 1 else f"{name}.{self.chance.choice(c.fields)[0]}"
 
+    def on_jobs(self):
+        """A request of a session about jobs."""
+        if not self.machine.store:
+            return self.insertion()
+        makes = [self.submitted_plainly] * 2 + ([] if self.wide else [self.submitted])
+        if self.machine.jobs:
+            makes += [self.under_a_job] * 5 + [self.stepped] * 5 + [self.of_job] * 2 + [self.asked_plainly, self.other]
+            makes += [] if self.wide else [self.asked, self.template]
+        return self.chance.choice(makes)()
+
+    def under_a_job(self):
+        """A change of a coverage that a job names: written, deleted, or inserted anew."""
+        name = self.chance.choice(sorted(self.chance.choice(list(self.machine.jobs.values())).names))
+        if name not in self.machine.store:
+            return self.insertion(name)
+        return self.update(name) if not self.one_in(4) else [("request", "DeleteCoverage"), ("coverage", name)]
+
+    def stepped(self):
+        job = self.chance.choice(list(self.machine.jobs))
+        return [("request", "StepJob"), ("job", job), ("units", self.chance.choice([1, 1, 1, 1, 2, 1000]))]
+
+    def submitted_plainly(self):
+        return [("request", "SubmitQuery"), ("query", self.plain_query())]
+
+    def asked_plainly(self):
+        return [("request", "ProcessCoverages"), ("query", self.plain_query())]
+
+    def plain_query(self):
+        """A query that reads all cells of a field of one coverage, or of two."""
+        names = self.chance.sample(
+            list(self.machine.store), min(len(self.machine.store), self.chance.choice([1, 1, 2]))
+        )
+        parts = [self.whole(variable, name) for variable, name in zip("cd", names)]
+        item, binds = " + ".join(parts), ", ".join(f"{it} in ({name})" for it, name in zip("cd", names))
+        if self.one_in(20 if self.wide else 3) and len(names) == 1:
+            item = f"encode(c.{self.machine.store[names[0]].fields[0][0]}, csv)"
+        return f"for {binds} return {item}"
+
+    def whole(self, variable, name):
+        """A sum or a maximum, or a count, over a field."""
+        field, kind = self.chance.choice(self.machine.store[name].fields)
+        return f"{'count' if kind == 'bool' else self.chance.choice(['add', 'max'])}({variable}.{field})"
+
     def other(self):
         name = self.texts.name()
         return self.spoilt(
@@ -396,6 +245,15 @@ class Session:
             )
         return found
 
+    def asked_next(self, pairs):
+        """A message with some pairs, which the machine has served. In a session about jobs few messages end the connection."""
+        message = posted(pairs) if self.about_jobs and not self.one_in(10) else self.message(pairs)
+        served(self.machine, message)
+        return message
+
+    def cut(self, stream):
+        return stream[: self.chance.randrange(len(stream) + 1)] if self.one_in(12) else stream
+
     def message(self, pairs):
         text = urllib.parse.urlencode(
             pairs, quote_via=self.chance.choice([urllib.parse.quote, urllib.parse.quote_plus])
@@ -426,17 +284,70 @@ class Session:
         return b"%s %s?%s HTTP/%s\r\n%s\r\n" % (method, path, text.encode(), version, fields)
 
 
+# while a stream is made a job has so many units, where there may be so many
+SOME_UNITS = dict.fromkeys(range(1, 200), 3)
+
+
+@functools.cache
+def filler_of(spare):
+    return None if spare is None else Filler(spare)
+
+
 def session_of(seed):
     """The stream of a session. A machine serves message by message while the stream is made."""
     made = Session(random.Random(seed))
-    stream = b""
-    for _ in range(made.chance.randrange(1, 14)):
-        message = made.message(made.pairs())
-        served(made.machine, message)
-        stream += message
-    if made.one_in(12):
-        stream = stream[: made.chance.randrange(len(stream) + 1)]
+    stream = b"".join(made.asked_next(made.pairs()) for _ in range(made.chance.randrange(1, 14)))
+    return made.cut(stream)
+
+
+@dataclass
+class Runs:
+    """A stream for each run on one file, or on no file for a single run; and how many blocks of the file are free, or None for
+    a new one."""
+
+    streams: list
+    on_file: bool = False
+    spare: int | None = None
+
+
+def of_jobs(made, messages):
+    """A stream about jobs over two coverages, or over those that are there."""
+    first = [made.insertion, made.insertion, made.update, made.update, made.update]
+    stream = b"".join(made.asked_next(make() if made.machine.store else made.insertion()) for make in first)
+    return stream + b"".join(made.asked_next(made.on_jobs()) for _ in range(messages))
+
+
+def of_many_jobs(made):
+    """A stream with 64 jobs and more, over coverages that are written between one submission and the next."""
+    stream = of_jobs(made, 0)
+    for _ in range(70):
+        stream += made.asked_next(made.submitted_plainly() if made.machine.store else made.insertion())
+        for _ in range(made.chance.choice([1, 1, 2])):
+            change = made.update if made.machine.store and not made.one_in(40) else made.on_jobs
+            stream += made.asked_next(change())
+    stream += b"".join(made.asked_next(made.on_jobs()) for _ in range(80))
+    for number in list(made.machine.jobs):
+        stream += made.asked_next([("request", "StepJob"), ("job", number), ("units", 1000)])
+        stream += made.asked_next([("request", "FetchJob"), ("job", number)])
     return stream
+
+
+def runs_of(seed):
+    """The runs of a session."""
+    chance = random.Random(seed)
+    kind = chance.choice(["plain"] * 20 + ["jobs"] * 14 + ["reopened"] * 5 + ["full"] * 3 + ["many"])
+    if kind == "plain":
+        return Runs([session_of(seed)])
+    wide = chance.randrange(4) == 0
+    spare = chance.choice([6, 12, 20, 32] if wide else [1, 2, 3, 4]) if kind == "full" else None
+    made = Session(chance, Unasked(SOME_UNITS, filler_of(spare)), wide)
+    if kind == "many":
+        return Runs([of_many_jobs(made)])
+    runs = Runs([of_jobs(made, chance.randrange(8, 40) + 30 * (kind == "full"))], kind != "jobs", spare)
+    for _ in range({"jobs": 0, "reopened": chance.choice([1, 1, 2]), "full": chance.randrange(2)}[kind]):
+        made.machine.reopened(SOME_UNITS)
+        runs.streams.append(of_jobs(made, chance.randrange(4, 20)))
+    return runs
 
 
 def units_in(replies):
@@ -444,31 +355,47 @@ def units_in(replies):
     return {int(number): int(left) for number, left in re.findall(rb"\njob (\d+) left (\d+)\n", replies)}
 
 
-def main(program, sessions="1000", seed="1"):
-    program, numbers = os.path.abspath(program), {}
-    for k in range(int(sessions)):
-        name = f"{seed}.{k}"
-        stream = session_of(name)
-        came = subprocess.run([program, "-", "run"], input=stream, capture_output=True, check=False, timeout=600)
-        expected = served(Machine(units_in(came.stdout)), stream)
+def differs(program, path, runs):
+    """What one session met, and what differs: nothing, or the stream, the bytes that are to come, and those that came."""
+    machine, file = Met(filler=filler_of(runs.spare)), path if runs.on_file else "-"
+    if runs.spare is not None:
+        machine.filler.write(path)
+    elif os.path.exists(path):
+        os.remove(path)
+    replies = b""
+    for number, stream in enumerate(runs.streams):
+        came = subprocess.run([program, file, "run"], input=stream, capture_output=True, check=False, timeout=600)
+        if number:
+            machine.reopened()
+        machine.units = units_in(came.stdout)
+        expected = served(machine, stream)
+        replies += expected
         if came.returncode or came.stdout != expected:
-            print(
-                f"session {name}, status {came.returncode}",
-                stream.decode(errors="replace"),
-                "wanted:",
-                expected.decode(),
-                "came:",
-                came.stdout.decode(errors="replace"),
-                sep="\n",
-            )
-            return 1
-        for line in expected.splitlines():
-            if line.startswith(b"refused ") or line.startswith(b"HTTP/1.1 200"):
-                numbers[line.split()[1]] = numbers.get(line.split()[1], 0) + 1
-    counted = ", ".join(
-        f"{number.decode() if number != b'200' else 'answered'}: {times}" for number, times in sorted(numbers.items())
-    )
+            told = f"run {number}, status {came.returncode} {came.stderr.decode()}"
+            return machine.met, replies, (told, stream, expected, came.stdout)
+    if runs.on_file and runs.spare is None:
+        with open(path, "rb") as it:
+            if not store.is_same(store.read(it.read()), machine.store):
+                return machine.met, replies, ("the file holds another store", b"".join(runs.streams), b"", b"")
+    return machine.met, replies, None
+
+
+def main(program, sessions="1000", seed="1"):
+    program, numbers, met = os.path.abspath(program), collections.Counter(), collections.Counter()
+    with tempfile.TemporaryDirectory() as folder:
+        for k in range(int(sessions)):
+            name = f"{seed}.{k}"
+            found, replies, wrong = differs(program, f"{folder}/store", runs_of(name))
+            if wrong:
+                told, *texts = wrong
+                stream, expected, came = (it.decode(errors="replace") for it in texts)
+                print(f"session {name}, {told}", stream, "wanted:", expected, "came:", came, sep="\n")
+                return 1
+            met.update(found)
+            numbers.update(it.decode() for it in re.findall(rb"^(?:refused |HTTP/1.1 (?=200))(\d+)", replies, re.M))
+    counted = ", ".join(f"{'answered' if it == '200' else it}: {times}" for it, times in sorted(numbers.items()))
     print(f"{sessions} sessions, none differs; refusals by number: {counted}")
+    print("met:", "; ".join(f"{what}: {times}" for what, times in sorted(met.items())))
     return 0
 
 

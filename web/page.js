@@ -273,7 +273,7 @@ function begin() {
   beginQueries();
   beginPictures();
   $("reload").onclick = reload;
-  // A page that is left in the middle of a job takes the job along: else its coverages stay busy.
+  // A page that is left in the middle of a job takes the job along: else the server keeps what it reads until its run ends.
   addEventListener("pagehide", () => job?.abandon());
   return reload();
 }

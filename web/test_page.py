@@ -320,19 +320,28 @@ class Page(unittest.TestCase):
         self.browser.click("#job")
         self.browser.wait("return document.getElementById('progress').value > 0")
 
-    def is_busy(self):
+    def job(self):
+        """The number of the page's job, as the page tells it."""
+        told = self.browser.wait(
+            "const it = document.getElementById('told').textContent; return it.startsWith('Job ') && it"
+        )
+        return int(told.split()[1].rstrip(":"))
+
+    def is_at_hand(self, job):
+        """Whether a job is there that has units left."""
         with rasterd.Session(port=self.site.port, timeout=60) as session:
             try:
-                session.fill("large", "v", 0, {"y": (0, 0), "x": (0, 0)})
+                session.fetch(job)
             except rasterd.Refused as refusal:
-                self.assertEqual(refusal.number, 28)
-                return True
+                self.assertIn(refusal.number, (70, 71))
+                return refusal.number == 71
         return False
 
     def test_a_job_is_cancelled(self):
         self.open()
         self.long_job()
-        self.assertTrue(self.is_busy())
+        job = self.job()
+        self.assertTrue(self.is_at_hand(job))
         if SHOTS:
             self.picture("job", *SHOT)
         self.browser.click("#cancel")
@@ -342,26 +351,28 @@ class Page(unittest.TestCase):
             ),
             "The job is cancelled.",
         )
-        self.assertFalse(self.is_busy())
+        self.assertFalse(self.is_at_hand(job))
 
     def test_a_job_is_cancelled_with_its_page_and_with_its_tab(self):
         self.open()
         self.long_job()
-        self.assertTrue(self.is_busy())
+        job = self.job()
+        self.assertTrue(self.is_at_hand(job))
         self.browser.send(f"{self.browser.base}/url", {"url": "about:blank"})
-        self.soon_not_busy()
+        self.soon_gone(job)
         with self.browser.another_tab():
             self.browser.screen(*WIDE)
             self.open()
             self.long_job()
-            self.assertTrue(self.is_busy())
-        self.soon_not_busy()
+            job = self.job()
+            self.assertTrue(self.is_at_hand(job))
+        self.soon_gone(job)
 
-    def soon_not_busy(self):
+    def soon_gone(self, job):
         end = time.monotonic() + 10
-        while self.is_busy() and time.monotonic() < end:
+        while self.is_at_hand(job) and time.monotonic() < end:
             time.sleep(0.1)
-        self.assertFalse(self.is_busy())
+        self.assertFalse(self.is_at_hand(job))
 
     def test_templates(self):
         self.open("cover")

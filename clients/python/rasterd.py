@@ -256,8 +256,9 @@ class Session:
     # Jobs
 
     def submit(self, query):
-        """Makes a job of a query: its number, and the units that it has left. Until its units are done the server refuses
-        updates and deletes of the coverages that it names, as 28 Busy."""
+        """Makes a job of a query: its number, and the units that it has left. Its answer is that of the coverages as they are
+        now. Updates and deletions of them are taken meanwhile; what they write over stays in the file until the job has no
+        units left or is cancelled, so a job that is not brought to its end is to be cancelled."""
         words = self.request("SubmitQuery", query=query).split()
         return int(words[1]), int(words[3])
 

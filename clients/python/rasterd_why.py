@@ -398,7 +398,6 @@ ADVICE = {
     22: "a coverage has one to four axes, each named once, bounds of 32 bits with the lower one first, and at most 16,777,216"
     " points: rasterd-load --parts cuts a larger raster",
     23: "a coverage has one to sixteen fields, each named once",
-    28: "a job reads it: step that to its end, or cancel it",
     54: "ask what is the same for all cells first, as avg(c), and write the number into the query; or ask for a smaller box:"
     " zonal, stretch and histogram of rasterd_algebra do so",
     55: "ask for parts of at most 1,048,576 cells, as c[y(0:99)]",

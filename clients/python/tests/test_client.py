@@ -93,17 +93,34 @@ class Jobs(OverLoopback):
             number, whole = session.submit(query)
             self.assertEqual(number, 1)
             self.assertGreater(whole, 1)
-            self.assert_refused(28, lambda: session.fill("w", "v", 1))
             self.assertEqual(session.step(number), whole - 1)
             self.assert_refused(71, lambda: session.fetch(number))
-            self.assertEqual(session.step(number, 1000), 0)
             session.fill("w", "v", 1)
+            self.assertEqual(rasterd.items_of(session.query(query)), [[[(2,)] * 100] * 200])
+            self.assertEqual(session.step(number, 1000), 0)
             self.assertEqual(rasterd.items_of(session.fetch(number)), [[[(42,)] * 100] * 200])
             self.assert_refused(70, lambda: session.fetch(number))
             answer = session.run(query, units=1, progress=lambda done, whole: told.append((done, whole)))
             self.assertEqual(rasterd.items_of(answer), [[[(2,)] * 100] * 200])
             self.assertEqual(told, [(done, whole) for done in range(1, whole + 1)])
             self.assert_refused(61, lambda: session.run("for c in (w) return max(c / 0)", progress=None))
+
+    def test_a_job_answers_by_the_store_at_its_submission(self):
+        """The coverage is written, deleted, and inserted anew with other cells, between the steps of two jobs."""
+        with self.session() as session:
+            session.insert("w", {"y": (0, 199), "x": (0, 99)}, {"v": "i16"})
+            session.fill("w", "v", 7)
+            first, whole = session.submit("for c in (w) return add(c)")
+            session.fill("w", "v", 8, {"y": (0, 0), "x": (0, 99)})
+            second, _ = session.submit("for c in (w) return add(c)")
+            self.assertEqual(session.step(first), whole - 1)
+            session.delete("w")
+            self.assertEqual(session.step(second), whole - 1)
+            session.insert("w", {"x": (0, 9)}, {"v": "i16"})
+            session.fill("w", "v", 9)
+            self.assertEqual([session.step(it, 1000) for it in (first, second)], [0, 0])
+            self.assertEqual(session.query("for c in (w) return add(c)"), "90\n")
+            self.assertEqual([session.fetch(it) for it in (first, second)], ["140000\n", "140100\n"])
 
     def test_a_job_that_is_stopped(self):
         def stop(done, whole):
@@ -113,7 +130,7 @@ class Jobs(OverLoopback):
             session.insert("w", {"x": (0, 9999)}, {"v": "i16"})
             with self.assertRaises(KeyboardInterrupt):
                 session.run("for c in (w) return encode(c, csv)", units=1, progress=stop)
-            session.delete("w")
+            self.assert_refused(70, lambda: session.cancel(1))
 
     def test_a_job_that_is_another_one_is_not_answered_and_not_ended(self):
         other = self.session()

@@ -265,19 +265,27 @@ class Faults(InAFolder):
             self.assertEqual(self.session().list(), [])
 
     def test_a_load_that_is_refused_leaves_no_coverage(self):
-        """The coverage is deleted meanwhile, and another one made in its place; or a job reads it."""
+        """The coverage is deleted meanwhile."""
         with self.loading(self.large()[0]) as running:
             self.session().delete("a")
             said = running.communicate(timeout=30)[1]
         self.assertEqual(running.returncode, 1)
         self.assertIn("refused 20 NoSuchCoverage", said.splitlines()[-1])
         self.assertEqual(self.session().list(), [])
-        with self.loading(self.large()[0]) as running:
-            job, _ = self.session().submit("for c in (a) return max(c)")
-            said = running.communicate(timeout=30)[1]
-        self.assertIn("a is there, and holds a part of the raster alone: delete it (28 Busy", said)
-        self.assertIn("refused 28 Busy", said.splitlines()[-1])
-        self.session().cancel(job)
+
+    def test_a_load_goes_on_beside_a_job_that_reads_its_coverage(self):
+        """The job answers by the part that was there at its submission."""
+        source, cells = self.large()
+        with self.loading(source) as running:
+            job, left = self.session().submit("for c in (a) return add(c)")
+            part = int(self.session().query("for c in (a) return add(c)"))
+            said = running.communicate(timeout=60)[1]
+        self.assertEqual(running.returncode, 0, said)
+        session = self.session()
+        while left:
+            left = session.step(job, 1000)
+        self.assertLessEqual(int(session.fetch(job)), part)
+        self.assertEqual(int(session.query("for c in (a) return add(c)")), int(cells.sum()))
 
     def test_a_load_goes_on_over_the_ends_of_runs(self):
         port, (source, cells) = free_port(), self.large()

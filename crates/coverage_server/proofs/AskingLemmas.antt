@@ -1,6 +1,6 @@
 -- The answer of a query, from what the steps give.
 use Rattle.std.proofs.Common.{◌≡◌, ℕ, ◌<◌, ◌≤◌, Bool, true, false, List, [], ◌∷◌, length, map, Result, Ok, Err, refl, sym, ap, ◌∙◌, subst, arith, inl, inr, nat_lt}
-use Rattle.std.specs.Prelude.{◌⊎◌, String, string_bytes, nat_le}
+use Rattle.std.specs.Prelude.{IsTrue, ◌⊎◌, String, string_bytes, nat_le}
 use Rattle.std.specs.declared.alloc.Global.{Global}
 use borrow.Author.Tests.{ltb-true, ltb-false, le-leb, lt-leb}
 use Rattle.arr_core.specs.Stores.{Store}
@@ -16,7 +16,8 @@ use Rattle.wcps_types.specs.Queries.{typ_query}
 use Rattle.wcps_types.specs.declared.typed_query.TypedQuery.{TypedQuery}
 use Rattle.wcps_types.specs.TypedQueries.{query_view as typed_view}
 use Rattle.raster_store.specs.Calls.{signature_of}
-use Rattle.coverage_server.specs.Views.{ServerView, IsSound}
+use Rattle.coverage_server.specs.Damage.{SpoilsText}
+use Rattle.coverage_server.specs.Views.{ServerView}
 use Rattle.coverage_server.proofs.TypedLemmas.{typed-held, typed-some}
 use Rattle.coverage_server.specs.Asking.{TypedAnswer, numbered, tree_typed, TokensTyped, too_deep, query, TextTyped, no_tokens, lexed, evaluated, TextAnswer}
 use Rattle.coverage_server.specs.Stages.{GivesTokens, GivesQuery, GivesTyped, GivesText, GivesValues, FailsReading}
@@ -83,11 +84,11 @@ text_types store text ts q (Err Damaged) short cut x g = absurd g
 -- ---- answers
 
 -- a refusal of a whole text
-refused : (v w : ServerView) (text : List ℕ) (code : ℕ) → w.store ≡ v.store → (IsSound v → TextAnswer v.store text (Err code))
-    → Answered (Answers text) ⊥ v w (Err (Numbered code))
+refused : (v w : ServerView) (text : List ℕ) (code : ℕ) → w.store ≡ v.store → (IsTrue v.honest → TextAnswer v.store text (Err code))
+    → Answered (Answers text) ⊥ (SpoilsText text v) v w (Err (Numbered code))
 refused v w text code still x = λ sound. (Err code, x sound, refl, still)
 
-pub refused_text : (v : ServerView) (text : List ℕ) (e : Refusal) → GivesText v.store text (Err e) → Answered (Answers text) ⊥ v v (Err e)
+pub refused_text : (v : ServerView) (text : List ℕ) (e : Refusal) → GivesText v.store text (Err e) → Answered (Answers text) ⊥ (SpoilsText text v) v v (Err e)
 refused_text v text (Numbered code) x = refused v v text code refl (λ sound. (Err code, x, refl))
 refused_text v text NoMemory x = tt
 refused_text v text DiskFault x = absurd x
@@ -95,14 +96,14 @@ refused_text v text NoRoom x = absurd x
 refused_text v text Damaged x = absurd x
 
 module _ (v w : ServerView) (still : w.store ≡ v.store) (text : List ℕ) (q : TypedQuery) (typed : TextTyped v.store text (Ok (typed_view q))) where
-  pub refused_values : (e : Refusal) → (IsSound v → GivesValues (evaluated v.store (Ok (typed_view q))) (Err e)) → FailsReading v w e → Answered (Answers text) ⊥ v w (Err e)
+  pub refused_values : (e : Refusal) → (IsTrue v.honest → GivesValues (evaluated v.store (Ok (typed_view q))) (Err e)) → FailsReading q.coverages.items v w e → Answered (Answers text) ⊥ (SpoilsText text v) v w (Err e)
   refused_values (Numbered code) is fails = refused v w text code still (λ sound. (Ok (typed_view q), typed, sym (is sound)))
   refused_values NoMemory is fails = tt
   refused_values DiskFault is fails = fails
   refused_values NoRoom is fails = absurd fails
-  refused_values Damaged is fails = fails
+  refused_values Damaged is fails = λ sure. (typed_view q, typed, fails sure)
 
-  pub answered_values : (values : String Global) → (IsSound v → evaluated v.store (Ok (typed_view q)) ≡ Ok (string_bytes values)) → Answered (Answers text) ⊥ v w (Ok (Csv values))
+  pub answered_values : (values : String Global) → (IsTrue v.honest → evaluated v.store (Ok (typed_view q)) ≡ Ok (string_bytes values)) → Answered (Answers text) ⊥ (SpoilsText text v) v w (Ok (Csv values))
   answered_values values is = λ sound. (Ok (string_bytes values), (Ok (typed_view q), typed, sym (is sound)), refl, still)
 
 -- a query that is too high is refused

@@ -21,16 +21,16 @@ use Rattle.block_file.proofs.Places.{whole_inside}
 use Rattle.metadata.proofs.Sizes.{length_metadata}
 use Rattle.metadata.specs.Metadata.{part_bytes, indexes_bytes, metadata_bytes, AreCounted}
 use Rattle.tile_index.specs.Bytes.{index_bytes}
-use Rattle.raster_store.specs.Views.{Index, listed_all, metadata_size, fields_size, AreIntact}
+use Rattle.raster_store.specs.Views.{Index, SnapshotView, listed_all, listed_snapshots, metadata_size, fields_size, AreIntact}
 use Rattle.raster_store.specs.Calls.{index_of, AreWhole, AreListed}
-use Rattle.coverage_server.specs.Views.{signatures_of, IsClosable}
+use Rattle.coverage_server.specs.Views.{signatures_of, uses_in, IsClosable}
 use Rattle.disk_face.specs.Disk.{Tells}
 use Rattle.tile_store.specs.declared.fault.Fault.{Fault}
 use Rattle.tile_store.specs.declared.fault.Fault.TheVariants as device
 use Rattle.coverage_server.specs.declared.closing.CloseFault.{CloseFault}
 use Rattle.coverage_server.specs.declared.closing.CloseFault.TheVariants as closing
-use Rattle.coverage_server.specs.Closing.{indexes_named, field_indexes, bytes_named, bytes_written, IsWritten, close_fault}
-use Rattle.coverage_server.specs.Disk.{AreTiles, HoldsStore}
+use Rattle.coverage_server.specs.Closing.{indexes_named, field_indexes, bytes_named, bytes_written, IsWritten, TellsClose}
+use Rattle.coverage_server.specs.Disk.{AreTiles, ListsStore, HoldsStore}
 use Rattle.coverage_server.proofs.FaultLemmas.{tells_as, tells_none}
 use Rattle.coverage_server.proofs.FreeLemmas.{free_unlisted}
 
@@ -124,62 +124,71 @@ metadata_length signatures indexes = length_metadata signatures indexes
 block_within : (content : List ℕ) (k : ℕ) → length (block_at content k) ≡ 4096 → k < length content / 4096
 block_within content k whole = let e = whole_inside content k whole in omega (arith, e)
 
--- what was closed holds the store
+-- what was closed lists the coverages
+pub lists : (s : BlocksState) (store : Store) (indexes : List (List Index)) → AreListed s store indexes → IsTrue s.honest
+    → IsCatalogue (signatures_of store) → ((k : ℕ) → listed_all indexes k ≤ 1) → listed_all indexes 0 ≡ 0
+    → IsWritten s.content (metadata_bytes (signatures_of store) indexes) indexes → ListsStore s.content store indexes
+lists s store indexes l h k once zero w = inr (record {
+  metadata = metadata_bytes (signatures_of store) indexes;
+  signatures = signatures_of store;
+  laid_out = record {
+    closed = w.closed;
+    written = record { catalogue = k; counted = are_counted store indexes l.each; written = refl };
+    tiles = are_tiles store indexes l.each;
+    blocks = λ n more. record {
+      once = (let least = once n in omega (arith, least, more));
+      above_zero = elim (cases_eq n 0) [
+        | inl e ↦ absurd (let none : listed_all indexes n ≡ 0 = rw e zero in omega (arith, none, more))
+        | inr other ↦ omega (arith, other)
+      ];
+      within = block_within s.content n (l.whole h n more);
+      apart = λ i below same. let none : listed_all indexes n ≡ 0 = subst (λ (m : ℕ). listed_all indexes m ≡ 0) same (w.apart i below) in absurd (omega (arith, none, more));
+    };
+  };
+  is = l.values;
+})
+
+-- and holds the store where each tile is spelled
 pub holds : (s : BlocksState) (store : Store) (indexes : List (List Index)) → AreListed s store indexes → IsTrue s.honest
     → IsCatalogue (signatures_of store) → ((k : ℕ) → listed_all indexes k ≤ 1) → listed_all indexes 0 ≡ 0
     → IsWritten s.content (metadata_bytes (signatures_of store) indexes) indexes → AreIntact s.content store indexes → HoldsStore s.content store
-holds s store indexes l h k once zero w intact = record {
-  indexes = indexes;
-  lists = inr (record {
-    metadata = metadata_bytes (signatures_of store) indexes;
-    signatures = signatures_of store;
-    laid_out = record {
-      closed = w.closed;
-      written = record { catalogue = k; counted = are_counted store indexes l.each; written = refl };
-      tiles = are_tiles store indexes l.each;
-      blocks = λ n more. record {
-        once = (let least = once n in omega (arith, least, more));
-        above_zero = elim (cases_eq n 0) [
-          | inl e ↦ absurd (let none : listed_all indexes n ≡ 0 = rw e zero in omega (arith, none, more))
-          | inr other ↦ omega (arith, other)
-        ];
-        within = block_within s.content n (l.whole h n more);
-        apart = λ i below same. let none : listed_all indexes n ≡ 0 = subst (λ (m : ℕ). listed_all indexes m ≡ 0) same (w.apart i below) in absurd (omega (arith, none, more));
-      };
-    };
-    is = l.values;
-  });
-  intact = intact;
-}
+holds s store indexes l h k once zero w intact = record { indexes = indexes; lists = lists s store indexes l h k once zero w; intact = intact }
 
 -- what a write of the header makes of a chain that was written before, in blocks that are in no use
-pub is_written : (first : ℕ) (mid : BlocksState) (new shown metadata : List ℕ) (indexes later : List (List Index)) → IsTrue mid.honest → shown ≡ metadata
-    → HoldsChain first shown mid → Closes first (length shown) mid.content new → ((k : ℕ) → mid.uses k ≡ listed_all indexes k) → later ≡ indexes
+pub is_written : (first : ℕ) (mid : BlocksState) (new shown metadata : List ℕ) (indexes later : List (List Index)) (held : List SnapshotView) → IsTrue mid.honest → shown ≡ metadata
+    → HoldsChain first shown mid → Closes first (length shown) mid.content new → ((k : ℕ) → mid.uses k ≡ uses_in indexes held k) → later ≡ indexes
     → IsWritten new metadata later
-is_written first mid new shown metadata indexes later honest is holds closes counted same =
+is_written first mid new shown metadata indexes later held honest is holds closes counted same =
     let w = closes shown refl (holds.chain honest) in
     subst (λ (m : List ℕ). IsWritten new m later) is
     (record {
       closed = w.closed;
       apart = λ i below. ap (listed_all later) (w.links i below) ∙ ap (λ (l : List (List Index)). listed_all l (link (block mid) first i)) same
-          ∙ sym (counted (link (block mid) first i)) ∙ holds.unused honest i below;
+          ∙ unlisted (link (block mid) first i) (sym (counted (link (block mid) first i)) ∙ holds.unused honest i below);
     })
+  where
+    unlisted : (k : ℕ) → uses_in indexes held k ≡ 0 → listed_all indexes k ≡ 0
+    unlisted k none = omega (arith, none)
+
+-- the header's block is listed nowhere
+pub header_unlisted : (indexes : List (List Index)) (held : List SnapshotView) → uses_in indexes held 0 ≡ 0 → listed_all indexes 0 ≡ 0
+header_unlisted indexes held none = omega (arith, none)
 
 -- the metadata that is written fits the blocks that are kept free for it
 pub metadata_some : (catalogue : ℕ) (indexes : List (List Index)) → 0 < metadata_size catalogue indexes
 unfolding metadata_size
 metadata_some catalogue indexes = omega arith
 
-pub written_fits : (metadata : List ℕ) (catalogue : List Signature) (store : Store) (indexes : List (List Index)) (uses : ℕ → ℕ) → metadata ≡ bytes_written store indexes
-    → AreWhole store indexes → IsCatalogue catalogue → IsClosable catalogue store indexes uses
+pub written_fits : (metadata : List ℕ) (catalogue : List Signature) (store : Store) (indexes : List (List Index)) (held : List SnapshotView) (uses : ℕ → ℕ) → metadata ≡ bytes_written store indexes
+    → AreWhole store indexes → IsCatalogue catalogue → IsClosable catalogue store indexes held uses
     → (metadata ≡ metadata_bytes (signatures_of store) indexes) × (0 < length metadata) × (chain_blocks (length metadata) ≤ free_up_to 1048575 uses)
-written_fits metadata catalogue store indexes uses is w k ready =
+written_fits metadata catalogue store indexes held uses is w k ready =
     let known : IsCatalogue (signatures_of store) = subst IsCatalogue ready.signatures k in
     let same : metadata ≡ metadata_bytes (signatures_of store) indexes = is ∙ metadata_written store indexes w known in
     let size : length metadata ≡ metadata_size (length (catalogue_bytes catalogue)) indexes =
     ap (λ (l : List ℕ). length l) same ∙ metadata_length (signatures_of store) indexes
     ∙ ap (λ (l : List Signature). metadata_size (length (catalogue_bytes l)) indexes) (sym ready.signatures) in
-    let free = free_unlisted uses indexes ready.counted in (
+    let free = free_unlisted uses indexes held ready.counted in (
       same,
       subst (λ (n : ℕ). 0 < n) (sym size) (metadata_some (length (catalogue_bytes catalogue)) indexes),
       rw (size, free) ready.room,
@@ -194,15 +203,10 @@ pub nothing_named : (bytes name : List ℕ) (store : Store) (indexes : List (Lis
 nothing_named bytes name store indexes none =
     nothing_written bytes ∙ ap (λ (o : Option Coverage). bytes ++ indexes_bytes (field_indexes o (indexes_named name store indexes))) (sym none)
 
--- what follows of a call that was done
-pub on_ok : {X E : Type 0} (r : Result X E) (P Q : Type 0) → (P → Q) → OnOk r P → OnOk r Q
-on_ok (Ok x) P Q f p = f p
-on_ok (Err e) P Q f p = tt
-
 -- what a refused closing tells of the disk
-pub close_told : (T U : Type 0) (fault : Fault) (told : CloseFault) (old new : ℕ) → told ≡ close_fault fault
+pub close_told : (T U : Type 0) (fault : Fault) (told : CloseFault) (old new : ℕ) → TellsClose fault told
     → Tells (IsErrOf {T = T} (Err fault) device.DiskFault) old new → Tells (IsErrOf {T = U} (Err told) closing.DiskFault) old new
 close_told T U device.NoMemory told old new is t = tells_none _ _ old new (λ e. absurd cc) (λ e. absurd cc) t
 close_told T U device.DiskFault told old new is t = tells_as _ _ old new (λ e. ap Err is) (λ e. refl) t
-close_told T U device.NoRoom told old new is t = tells_none _ _ old new (λ e. absurd cc) (λ e. absurd cc) t
-close_told T U device.Damaged told old new is t = tells_none _ _ old new (λ e. absurd cc) (λ e. absurd cc) t
+close_told T U device.NoRoom told old new is t = absurd is
+close_told T U device.Damaged told old new is t = absurd is

@@ -1,14 +1,24 @@
--- Where every listed tile of a store is spelled, so is each tile of a field.
+-- Where every listed tile is spelled, none is in the way of a request.
 use Rattle.std.proofs.Common.{◌≡◌, ℕ, zero, suc, Bool, true, false, List, [], ◌∷◌, Option, None, Some, refl, sym, subst}
-use Rattle.std.specs.Prelude.{slice_get}
+use Rattle.std.specs.Prelude.{slice_get, IsSomeAnd}
 use Rattle.std.specs.Str.{bytes_eq}
 use Rattle.arr_core.specs.declared.domain.Axis.{Axis}
 use Rattle.arr_core.specs.declared.field.Field.{Field}
 use Rattle.arr_core.specs.Stores.{Coverage, Store, found}
-use Rattle.tile_store.specs.Stored.{IsTileSpelled, IsSpelled}
-use Rattle.raster_store.specs.Views.{Index, AreIntact, FieldsIntact}
+use Rattle.arr_core.specs.Domains.{IsBoxOf}
+use Rattle.arr_core.specs.Fields.{place_of as field_place}
+use Rattle.tile_store.specs.Reading.{Meets}
+use Rattle.tile_store.specs.Stored.{IsTileSpelled, IsSpelled, tile_box}
+use Rattle.raster_store.specs.Views.{Index, SnapshotView, AreIntact, FieldsIntact}
+use Rattle.raster_store.specs.Snapshots.{held_for}
 use Rattle.raster_store.specs.Calls.{index_of}
 use Rattle.raster_store.specs.Fetches.{IsSpelledOf}
+use Rattle.kvp_front.specs.Requests.{Asks, insert_coverage, update_coverage, delete_coverage, list_coverages, describe_coverage, process_coverages, submit_query, step_job, fetch_job, cancel_job, expand_template, process_template}
+use Rattle.coverage_server.specs.Damage.{IsSpelledNamed, IsSpelledPlace, SpoilsText, SpoilsWrite, SpoilsHeld, Spoils}
+use Rattle.coverage_server.specs.Machine.{State, axes_of}
+use Rattle.coverage_server.specs.Views.{ServerView, IsSound}
+use Rattle.coverage_server.proofs.HeldLemmas.{intact_for}
+use Rattle.coverage_server.proofs.TileLemmas.{intact_at, some_out}
 
 fields_spelled : (content : List ℕ) (domain : List Axis) (fields : List Field) (indexes : List Index) (j tile : ℕ) (f : Field) (i : Index) → FieldsIntact content domain fields indexes
     → slice_get fields j ≡ Some f → slice_get indexes j ≡ Some i → IsTileSpelled f.kind domain i content tile
@@ -36,3 +46,40 @@ intact_named content (d ∷ store) (x ∷ indexes) name field tile s c f i at e 
         subst (λ (y : Coverage). IsTileSpelled f.kind y.domain i content tile) same
         (fields_spelled content d.domain d.fields x field tile f i s.0 (subst (λ (y : Coverage). slice_get y.fields field ≡ Some f) (sym same) e) index)
     by_test rest false t = rest (rw t at at) (rw t at k)
+
+-- ---- requests
+
+named_spelled : (v : ServerView) → IsSound v → (name : List ℕ) → IsSpelledNamed name v
+named_spelled v sound name place here at is has = intact_at v.content v.store v.indexes at has sound.intact
+
+no_text : (text : List ℕ) (v : ServerView) → IsSound v → SpoilsText text v → ⊥
+no_text text v sound x = x.2 (λ k d l. named_spelled v sound _)
+
+no_write : (name : List ℕ) (field : ℕ) (box : List Axis) (v : ServerView) → IsSound v → SpoilsWrite name field box v → ⊥
+no_write name field box v sound x =
+    some_out (found name v.store)
+    {P = λ (c : Coverage). (tile : ℕ) × Meets c.domain box tile × (IsBoxOf box (tile_box c.domain tile) → ⊥) × (IsSpelledOf name field tile v.content v.store v.indexes → ⊥)}
+    (λ c u. u.3 (intact_named v.content v.store v.indexes name field u.0 sound.intact)) x
+
+no_held : (number : ℕ) (v : ServerView) → IsSound v → SpoilsHeld number v → ⊥
+no_held number v sound x = by_held (held_for number v.held) refl x
+  where
+    by_held : (o : Option SnapshotView) → held_for number v.held ≡ o → IsSomeAnd o (λ y. ((place : ℕ) → IsSpelledPlace v.content y.coverages y.indexes place) → ⊥) → ⊥
+    by_held None e h = h
+    by_held (Some y) e h = h (λ place at is has. intact_at v.content y.coverages y.indexes at has (intact_for v.content number v.held y sound.held e))
+
+pub none_spoiled : (a : Asks) (v : ServerView) (s : State) → IsSound v → Spoils a v s → ⊥
+none_spoiled (insert_coverage name intervals fields) v s sound x = x
+none_spoiled (update_coverage name field intervals cells) v s sound x =
+    some_out (found name v.store) {P = λ (c : Coverage). IsSomeAnd (field_place field c.fields) (λ k. SpoilsWrite name k (axes_of intervals) v)}
+    (λ c y. some_out (field_place field c.fields) {P = λ k. SpoilsWrite name k (axes_of intervals) v} (λ k z. no_write name k (axes_of intervals) v sound z) y) x
+none_spoiled (delete_coverage name) v s sound x = x
+none_spoiled list_coverages v s sound x = x
+none_spoiled (describe_coverage name) v s sound x = x
+none_spoiled (process_coverages query) v s sound x = no_text query v sound x
+none_spoiled (submit_query query) v s sound x = x
+none_spoiled (step_job number units) v s sound x = no_held number v sound x.1
+none_spoiled (fetch_job number) v s sound x = x
+none_spoiled (cancel_job number) v s sound x = x
+none_spoiled (expand_template template) v s sound x = x
+none_spoiled (process_template template) v s sound x = no_text x.0 v sound x.2

@@ -1,5 +1,6 @@
--- What answers tell of the disk's failures.
-use Rattle.std.proofs.Common.{◌≡◌, ℕ, ◌≤◌, arith, inl, inr}
+-- What answers tell, and what they tell of the disk's failures.
+use Rattle.std.proofs.Common.{◌≡◌, ℕ, ◌≤◌, Result, Ok, Err, OnOk, OnErr, arith, inl, inr}
+use Rattle.std.specs.Prelude.{IfErr}
 use Rattle.std.proofs.lemmas.Bool.{cases_lt}
 use Rattle.disk_face.specs.Disk.{Tells}
 
@@ -21,3 +22,25 @@ tells_none F G old new none other t = tells_as F G old new (λ f. absurd (none f
 -- one answer after another that told none
 pub tells_after : (F G : Type 0) (old mid new : ℕ) → (F → ⊥) → Tells F old mid → Tells G mid new → Tells G old new
 tells_after F G old mid new none first t = rw (← first.quiet none) t
+
+-- what follows of a call that was done
+pub on_ok : {X E : Type 0} (r : Result X E) (P Q : Type 0) → (P → Q) → OnOk r P → OnOk r Q
+on_ok (Ok x) P Q f p = f p
+on_ok (Err e) P Q f p = tt
+
+pub on_err : {X E : Type 0} (r : Result X E) (P Q : Type 0) → (P → Q) → OnErr r P → OnErr r Q
+on_err (Ok x) P Q f p = tt
+on_err (Err e) P Q f p = f p
+
+pub each_err : {X E : Type 0} (r : Result X E) (P : E → Type 0) → ((e : E) → P e) → IfErr r P
+each_err (Ok x) P p = tt
+each_err (Err e) P p = p e
+
+-- the same of each error
+pub err_each : {X E : Type 0} (r : Result X E) (P : Type 0) → OnErr r P → IfErr r (λ _. P)
+err_each (Ok x) P p = tt
+err_each (Err e) P p = p
+
+pub any_err : {X E : Type 0} (r : Result X E) (P : Type 0) → P → OnErr r P
+any_err (Ok x) P p = tt
+any_err (Err e) P p = p

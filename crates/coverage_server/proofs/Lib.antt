@@ -4,6 +4,7 @@ pub mod ServingLemmas
 pub mod MachineLemmas
 pub mod RemovalLemmas
 pub mod FaultLemmas
+pub mod HeldLemmas
 pub mod FreeLemmas
 pub mod InsertLemmas
 pub mod UpdateLemmas
@@ -19,6 +20,8 @@ pub mod LayoutLemmas
 pub mod OpeningLemmas
 pub mod SessionLemmas
 pub mod StandingLemmas
+pub mod HoldingLemmas
 pub mod JobLemmas
+pub mod StepLemmas
 pub mod ValueLemmas
 pub mod ReplyLemmas

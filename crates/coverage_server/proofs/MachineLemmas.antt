@@ -65,38 +65,34 @@ pub said_of : {X : Type 0} (o : Option X) (x : X) (P : X → Type 0) → o ≡ S
 said_of None x P e h = absurd cc
 said_of (Some y) x P e h = let same : y ≡ x = cc in subst P same h
 
-module _ (busy : Bool) (name field : List ℕ) (intervals : List Interval) (cells : Cells) (old : Store) where
-  pub no_coverage : found name old ≡ None → Updates busy name field intervals cells old (Refused 20) old
+module _ (name field : List ℕ) (intervals : List Interval) (cells : Cells) (old : Store) where
+  pub no_coverage : found name old ≡ None → Updates name field intervals cells old (Refused 20) old
   no_coverage e = at_nothing (found name old) _ _ e (refl, refl)
 
   module _ (c : Coverage) (at : found name old ≡ Some c) where
-    pub no_field : field_place field c.fields ≡ None → Updates busy name field intervals cells old (Refused 42) old
+    pub no_field : field_place field c.fields ≡ None → Updates name field intervals cells old (Refused 42) old
     no_field e = at_this (found name old) c _ _ at (at_nothing (field_place field c.fields) _ _ e (refl, refl))
 
     module _ (k : ℕ) (f : Field) (place : field_place field c.fields ≡ Some k) (is : slice_get c.fields k ≡ Some f) where
-      pub while_busy : busy ≡ true → Updates busy name field intervals cells old (Refused 28) old
-      while_busy b =
-          at_this (found name old) c _ _ at (at_this (field_place field c.fields) k _ _ place (f, is, inl (λ (e : busy ≡ false). absurd cc, (refl, refl))))
+      pub no_box : ¬ (SpellDomain intervals × IsBoxOf c.domain (axes_of intervals)) → Updates name field intervals cells old (Refused 24) old
+      no_box none = at_this (found name old) c _ _ at (at_this (field_place field c.fields) k _ _ place (f, is, inl (none, (refl, refl))))
 
-      pub no_box : busy ≡ false → ¬ (SpellDomain intervals × IsBoxOf c.domain (axes_of intervals)) → Updates busy name field intervals cells old (Refused 24) old
-      no_box free none = at_this (found name old) c _ _ at (at_this (field_place field c.fields) k _ _ place (f, is, inr (free, inl (none, (refl, refl)))))
+      pub in_box : SpellDomain intervals → IsBoxOf c.domain (axes_of intervals) → (reply : Reply) (new : Store)
+          → UpdatesCells name k (axes_of intervals) f.kind cells old reply new → Updates name field intervals cells old reply new
+      in_box spelled box reply new x =
+          at_this (found name old) c _ _ at (at_this (field_place field c.fields) k _ _ place (f, is, inr ((spelled, box), x)))
 
-      pub in_box : busy ≡ false → SpellDomain intervals → IsBoxOf c.domain (axes_of intervals) → (reply : Reply) (new : Store)
-          → UpdatesCells name k (axes_of intervals) f.kind cells old reply new → Updates busy name field intervals cells old reply new
-      in_box free spelled box reply new x =
-          at_this (found name old) c _ _ at (at_this (field_place field c.fields) k _ _ place (f, is, inr (free, inr ((spelled, box), x))))
+      pub refused_write : SpellDomain intervals → (code : ℕ) → IsNoWrite c k (axes_of intervals) cells code → Updates name field intervals cells old (Refused code) old
+      refused_write spelled code (inl x) = subst (λ (n : ℕ). Updates name field intervals cells old (Refused n) old) (sym x.1) (no_box (λ w. x.0 w.1))
+      refused_write spelled code (inr x) =
+          in_box spelled x.0 (Refused code) old (cells_refused name k (axes_of intervals) f.kind cells old code (said_of (slice_get c.fields k) f _ is x.1))
 
-      pub refused_write : busy ≡ false → SpellDomain intervals → (code : ℕ) → IsNoWrite c k (axes_of intervals) cells code → Updates busy name field intervals cells old (Refused code) old
-      refused_write free spelled code (inl x) = subst (λ (n : ℕ). Updates busy name field intervals cells old (Refused n) old) (sym x.1) (no_box free (λ w. x.0 w.1))
-      refused_write free spelled code (inr x) =
-          in_box free spelled x.0 (Refused code) old (cells_refused name k (axes_of intervals) f.kind cells old code (said_of (slice_get c.fields k) f _ is x.1))
-
-      pub done_write : busy ≡ false → SpellDomain intervals → MayWrite name k (axes_of intervals) cells old → (text : String Global) (new : Store)
+      pub done_write : SpellDomain intervals → MayWrite name k (axes_of intervals) cells old → (text : String Global) (new : Store)
           → string_bytes text ≡ codes "ok\n" → new ≡ updated name k (axes_of intervals) (numbers_of (axes_of intervals) cells) old
-          → Updates busy name field intervals cells old (Text text) new
-      done_write free spelled may text new ok same =
+          → Updates name field intervals cells old (Text text) new
+      done_write spelled may text new ok same =
           let m = said_of (found name old) c _ at may in
-          in_box free spelled m.0 (Text text) new (cells_written name k (axes_of intervals) f.kind cells old new text (said_of (slice_get c.fields k) f _ is m.1) ok same)
+          in_box spelled m.0 (Text text) new (cells_written name k (axes_of intervals) f.kind cells old new text (said_of (slice_get c.fields k) f _ is m.1) ok same)
 
 -- the names of the signatures are those of the coverages
 pub lines_alike : (s : Store) → flat_map (λ (t : Signature). t.name ++ codes "\n") (map signature_of s) ≡ flat_map line_of s

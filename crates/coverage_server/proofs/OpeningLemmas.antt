@@ -29,12 +29,13 @@ use Rattle.raster_store.proofs.Totals.{listed_none, listed_all-nil, listed_all-p
 use Rattle.coverage_server.specs.Disk.{AreTiles, IsTileBlock, IsLaidOut, HoldsStore, IsWant, IsNoStore}
 use Rattle.tile_store.specs.declared.fault.Fault.{Fault}
 use Rattle.tile_store.specs.declared.fault.Fault.TheVariants as device
-use Rattle.coverage_server.specs.Opening.{items_of, IsListed, ClaimsListed, CannotClaim, ClaimsLayout, IsNotLaidOut, Lists, Departs, attach_fault}
+use Rattle.coverage_server.specs.Opening.{items_of, IsListed, ClaimsListed, CannotClaim, ClaimsLayout, IsNotLaidOut, Lists, Departs, TellsAttach}
 use Rattle.coverage_server.specs.declared.opening.OpenFault.{OpenFault}
 use Rattle.coverage_server.specs.declared.opening.OpenFault.TheVariants as opening
-use Rattle.coverage_server.specs.Views.{signatures_of, free_blocks}
+use Rattle.coverage_server.specs.Views.{signatures_of, uses_in, free_in}
 use Rattle.coverage_server.proofs.LayoutLemmas.{claimed_blocks, laid_claims, one_layout}
 use Rattle.coverage_server.proofs.ClosingLemmas.{metadata_length}
+use Rattle.coverage_server.proofs.HeldLemmas.{lists_none}
 use Rattle.coverage_server.proofs.FreeLemmas.{IsReady, free_unlisted}
 use Rattle.coverage_server.proofs.StoreLemmas.{fresh_found}
 
@@ -314,14 +315,14 @@ unfolding metadata_size catalogue_bytes
 reserve_none = refl
 
 -- where nothing is listed a block is free
-one_free : 1 ≤ free_blocks []
-one_free = free_enough 1048575 1 (λ i. 1) (listed_all []) (λ i below. (omega arith, omega arith, listed_all-nil 1)) (λ i j a b same. omega (arith, a, b))
+one_free : 1 ≤ free_in [] []
+one_free = free_enough 1048575 1 (λ i. 1) (uses_in [] []) (λ i below. (omega arith, omega arith, omega (arith, listed_all-nil 1, lists_none 1))) (λ i j a b same. omega (arith, a, b))
 
 -- As many blocks stay free as the metadata takes.
 pub layout_room : (metadata marks marks' : List ℕ) (signatures : List Signature) (indexes : List (List Index)) → IsFresh marks → IsListed metadata signatures indexes → ClaimsListed indexes marks marks'
-    → chain_blocks (length metadata) ≤ free_up_to 1048575 (uses_of marks') → reserve (length (catalogue_bytes signatures)) indexes ≤ free_blocks indexes
+    → chain_blocks (length metadata) ≤ free_up_to 1048575 (uses_of marks') → reserve (length (catalogue_bytes signatures)) indexes ≤ free_in indexes []
 layout_room metadata marks marks' signatures indexes fresh l claimed enough =
-    let free = free_unlisted (uses_of marks') indexes (fresh_counts marks marks' indexes fresh claimed) in
+    let free = free_unlisted (uses_of marks') indexes [] (λ k. omega (arith, fresh_counts marks marks' indexes fresh claimed k, lists_none k)) in
     elim (some_bytes metadata) [
       | inl e ↦
           let none = l.new_file e in
@@ -462,22 +463,22 @@ none_left [] e = refl
 none_left (x ∷ xs) e = absurd (omega (arith, e))
 
 -- why coverages are not attached
-pub attach_departs : (P : Type 0) (fault : Fault) → (fault ≡ device.Damaged → P) → (fault ≡ device.DiskFault → ⊥) → Departs P (attach_fault fault)
-attach_departs P device.NoMemory f d = tt
-attach_departs P device.DiskFault f d = absurd (d refl)
-attach_departs P device.NoRoom f d = tt
-attach_departs P device.Damaged f d = f refl
+pub attach_departs : (P : Type 0) (fault : Fault) (told : OpenFault) → (fault ≡ device.Damaged → P) → TellsAttach fault told → Departs P told
+attach_departs P device.NoMemory told f is = rw is tt
+attach_departs P device.DiskFault told f is = absurd is
+attach_departs P device.NoRoom told f is = absurd is
+attach_departs P device.Damaged told f is = rw is (f refl)
 
 -- the coverages that were attached can be closed
 pub layout_ready : (metadata marks marks' : List ℕ) (content : List ℕ) (signatures : List Signature) (indexes : List (List Index)) (cells : RasterView BlockFileView)
     → IsFresh marks → ClaimsLayout metadata signatures indexes marks marks' → cells.coverages ≡ coverages_in content signatures indexes → cells.indexes ≡ indexes
-    → cells.blocks.marks ≡ marks' → IsReady signatures cells
-layout_ready metadata marks marks' content signatures indexes cells fresh laid values listed same =
+    → cells.snapshots ≡ [] → cells.blocks.marks ≡ marks' → IsReady signatures cells
+layout_ready metadata marks marks' content signatures indexes cells fresh laid values listed unheld same =
     let long = counted_all signatures indexes (listed_counted metadata signatures indexes laid.listed) in
     let claims = laid.claims in
     record {
       signatures = sym (ap signatures_of values ∙ signatures_same content signatures indexes long);
-      counted = rw (same, listed) (fresh_counts marks marks' indexes fresh claims);
+      counted = rw (same, listed, unheld) (λ k. omega (arith, fresh_counts marks marks' indexes fresh claims k, lists_none k));
       once = rw listed (λ k. let least = claims.claims.could.once k in omega (arith, claims.each k, least));
-      room = rw listed laid.room;
+      room = rw (listed, unheld) laid.room;
     }

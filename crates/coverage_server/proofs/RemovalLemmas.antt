@@ -1,5 +1,5 @@
 -- What is left where a coverage is taken out.
-use Rattle.std.proofs.Common.{◌≡◌, ℕ, zero, suc, ◌≤◌, Bool, true, false, List, [], ◌∷◌, length, Result, Ok, Err, OnOk, OnErr, refl, sym, ap, ◌∙◌, arith, Contains}
+use Rattle.std.proofs.Common.{◌≡◌, ℕ, zero, suc, ◌+◌, ◌≤◌, Bool, true, false, List, [], ◌∷◌, length, Result, Ok, Err, OnOk, OnErr, refl, sym, ap, ◌∙◌, arith, Contains}
 use Rattle.std.specs.Prelude.{sum_by, flat_map}
 use Rattle.std.specs.Str.{bytes_eq}
 use Rattle.std.proofs.lemmas.List.{length-append}
@@ -12,9 +12,9 @@ use Rattle.catalogue.specs.Signatures.{names_of, without}
 use Rattle.catalogue.proofs.ByteCounts.{catalogue_length}
 use Rattle.block_file.specs.State.{free_up_to}
 use Rattle.block_file.proofs.Free.{free_none, free-suc}
-use Rattle.raster_store.specs.Views.{Index, listed_fields, listed_all, fields_size, metadata_size, reserve}
+use Rattle.raster_store.specs.Views.{Index, SnapshotView, listed_fields, listed_all, fields_size, metadata_size, reserve}
 use Rattle.raster_store.specs.Calls.{signature_of, indexes_without}
-use Rattle.coverage_server.specs.Views.{signatures_of, free_blocks}
+use Rattle.coverage_server.specs.Views.{signatures_of, uses_in, free_in}
 use Rattle.coverage_server.proofs.StoreLemmas.{keeps_all}
 
 -- the signatures without one are those of the coverages without that one
@@ -63,7 +63,7 @@ unfolding listed_all
 listed_left name store indexes k = fewer (λ (fields : List Index). listed_fields fields k) name store indexes
 
 -- where no block has more uses, no fewer are free
-no_fewer_free : (n : ℕ) (old new : ℕ → ℕ) → ((k : ℕ) → new k ≤ old k) → free_up_to n old ≤ free_up_to n new
+pub no_fewer_free : (n : ℕ) (old new : ℕ → ℕ) → ((k : ℕ) → new k ≤ old k) → free_up_to n old ≤ free_up_to n new
 no_fewer_free zero old new less = omega (arith, free_none old, free_none new)
 no_fewer_free (suc n) old new less = omega (arith, free-suc n old, free-suc n new, no_fewer_free n old new less, less (suc n))
 
@@ -76,8 +76,10 @@ less_metadata name store held indexes =
     omega (arith, sizes, bytes, catalogue_length held, catalogue_length (without name held))
 
 -- the metadata that is left takes no more blocks, and no fewer are free
-pub room_left : (name : List ℕ) (store : Store) (held : List Signature) (indexes : List (List Index)) → reserve (length (catalogue_bytes held)) indexes ≤ free_blocks indexes
-    → reserve (length (catalogue_bytes (without name held))) (indexes_without name store indexes) ≤ free_blocks (indexes_without name store indexes)
-room_left name store held indexes room =
-    let free = no_fewer_free 1048575 (listed_all indexes) (listed_all (indexes_without name store indexes)) (listed_left name store indexes) in
+pub room_left : (name : List ℕ) (store : Store) (held : List Signature) (indexes : List (List Index)) (snapshots : List SnapshotView)
+    → reserve (length (catalogue_bytes held)) indexes ≤ free_in indexes snapshots
+    → reserve (length (catalogue_bytes (without name held))) (indexes_without name store indexes) ≤ free_in (indexes_without name store indexes) snapshots
+room_left name store held indexes snapshots room =
+    let free = no_fewer_free 1048575 (uses_in indexes snapshots) (uses_in (indexes_without name store indexes) snapshots)
+    (λ k. (let fewer = listed_left name store indexes k in omega (arith, fewer))) in
     omega (arith, room, less_metadata name store held indexes, free)

@@ -8,22 +8,23 @@ use Rattle.block_file.specs.declared.header.State.TheVariants.{Open}
 use Rattle.disk_face.specs.Disk.{Rose}
 use Rattle.coverage_server.specs.declared.server.ConnEnd.{ConnEnd}
 use Rattle.coverage_server.specs.declared.closing.CloseFault.{CloseFault}
-use Rattle.coverage_server.specs.Disk.{HoldsStore}
-use Rattle.coverage_server.specs.Machine.{State, begun}
+use Rattle.coverage_server.specs.Disk.{ListsStore}
+use Rattle.coverage_server.specs.Machine.{May, State, begun, may_tell}
+use Rattle.raster_store.specs.Views.{Index, AreIntact}
 use Rattle.coverage_server.specs.Represents.{Represents}
 use Rattle.coverage_server.specs.Serves.{Ends, ServesConnection, TellsEnd, ends_of}
-use Rattle.coverage_server.specs.Sessions.{DiskView, IsNotClosed, ServesAll, ServesUnclosed, Sessions, ServesSessions, ends_all}
-use Rattle.coverage_server.specs.Views.{SessionView, IsSound}
-use Rattle.coverage_server.proofs.ServingLemmas.{connection-later}
+use Rattle.coverage_server.specs.Sessions.{DiskView, IsNotClosed, ServesAll, ServesUnclosed, Sessions, ServesSessions, ends_all, may_since}
+use Rattle.coverage_server.specs.Views.{ServerView, SessionView, IsSound}
+use Rattle.coverage_server.proofs.ServingLemmas.{Allows, connection-later}
 use Rattle.coverage_server.proofs.StandingLemmas.{represents-same}
 
 -- what is told of a time is told of a longer one
-pub all-later : {P Q : Type 0} → (P → Q) → (ends : List Ends) (old new : State) → ServesAll P ends old new → ServesAll Q ends old new
+pub all-later : {P Q : May} → Allows P Q → (ends : List Ends) (old new : State) → ServesAll P ends old new → ServesAll Q ends old new
 all-later f [] old new x = x
 all-later f (e ∷ ends) old new x = (x.0, x.1, x.2, connection-later f e old x.0 x.1 x.3, all-later f ends x.0 new x.4)
 
 -- connections and then others
-pub all-append : (P : Type 0) (first second : List Ends) (old mid new : State) → ServesAll P first old mid → ServesAll P second mid new
+pub all-append : (P : May) (first second : List Ends) (old mid new : State) → ServesAll P first old mid → ServesAll P second mid new
     → ServesAll P (first ++ second) old new
 all-append P [] second old mid new x y = subst (λ (s : State). ServesAll P second s new) x y
 all-append P (e ∷ first) second old mid new x y = (x.0, x.1, x.2, x.3, all-append P first second x.0 mid new x.4 y)
@@ -36,26 +37,37 @@ sessions_rise : (sessions : List (List Ends)) (old new : DiskView) → Sessions 
 sessions_rise [] old new x = let e = ap (λ (v : DiskView). v.failures) x in omega (arith, e)
 sessions_rise (ends ∷ sessions) old new x = let e = sessions_rise sessions x.0 new x.4 in let m = x.3 in omega (arith, e, m)
 
-sessions-later : {P Q : Type 0} → (P → Q) → (sessions : List (List Ends)) (old new : Store) → ServesSessions P sessions old new → ServesSessions Q sessions old new
+sessions-later : {P Q : May} → Allows P Q → (sessions : List (List Ends)) (old new : Store) → ServesSessions P sessions old new → ServesSessions Q sessions old new
 sessions-later f [] old new x = x
 sessions-later f (ends ∷ sessions) old new x = (x.0, all-later f ends (begun old) x.0 x.1, sessions-later f sessions x.0.store new x.2)
 
 -- all sessions of a list are what one machine does
-pub composed : (sessions : List (List Ends)) (old new : DiskView) → Sessions sessions old new → IsTrue old.honest → (store : Store) → HoldsStore old.content store
-    → (next : Store) × HoldsStore new.content next × ServesSessions (Rose old.failures new.failures) sessions store next
-composed [] old new x honest store holds = (store, subst (λ (v : DiskView). HoldsStore v.content store) (sym x) holds, refl)
-composed (ends ∷ sessions) old new x honest store holds =
+pub composed : (sessions : List (List Ends)) (old new : DiskView) → Sessions sessions old new → IsTrue old.honest
+    → (store : Store) (indexes : List (List Index)) → ListsStore old.content store indexes
+    → (next : Store) × (later : List (List Index)) × ListsStore new.content next later × (AreIntact old.content store indexes → AreIntact new.content next later)
+    × ServesSessions (may_since old new.failures store indexes) sessions store next
+composed [] old new x honest store indexes lists = (
+  store,
+  indexes,
+  subst (λ (v : DiskView). ListsStore v.content store indexes) (sym x) lists,
+  λ intact. subst (λ (v : DiskView). AreIntact v.content store indexes) (sym x) intact,
+  refl,
+)
+composed (ends ∷ sessions) old new x honest store indexes lists =
     let mid : DiskView = x.0 in
-    let first = x.1 honest store holds in
-    let later = composed sessions mid new x.4 (subst IsTrue (sym x.2) honest) first.0.store first.1 in
-    let more = sessions_rise sessions mid new x.4 in (
+    let first = x.1 honest store indexes lists in
+    let kept : AreIntact old.content store indexes → AreIntact mid.content first.0.store first.1 = first.3 in
+    let later = composed sessions mid new x.4 (subst IsTrue (sym x.2) honest) first.0.store first.1 first.2 in
+    let more = sessions_rise sessions mid new x.4 in
+    let here : Allows (may_since old mid.failures store indexes) (may_since old new.failures store indexes) =
+    (rose-within old.failures old.failures mid.failures new.failures (omega arith) more, λ asks s y. y) in
+    let there : Allows (may_since mid new.failures first.0.store first.1) (may_since old new.failures store indexes) =
+    (rose-within old.failures mid.failures new.failures new.failures x.3 (omega arith), λ asks s y. (y.0, λ intact. y.1 (kept intact))) in (
       later.0,
       later.1,
-      (
-        first.0,
-        all-later (rose-within old.failures old.failures mid.failures new.failures (omega arith) more) ends (begun store) first.0 first.2,
-        sessions-later (rose-within old.failures mid.failures new.failures new.failures x.3 (omega arith)) sessions first.0.store later.0 later.2,
-      ),
+      later.2,
+      λ intact. later.3 (kept intact),
+      (first.0, all-later here ends (begun store) first.0 first.4, sessions-later there sessions first.0.store later.0 later.4),
     )
 
 -- a server without jobs represents the state in which a session begins
@@ -66,28 +78,40 @@ begins v none store is = record {
   next = rw none refl;
 }
 
+-- where each tile that the disk lists is spelled, what was opened is sound
+pub sound_from : (content : List ℕ) (v : ServerView) (store : Store) (indexes : List (List Index)) → v.store ≡ store → v.indexes ≡ indexes
+    → (AreIntact content v.store v.indexes → IsSound v) → AreIntact content store indexes → IsSound v
+sound_from content v store indexes same alike sound intact =
+    sound (subst (λ (s : Store). AreIntact content s v.indexes) (sym same) (subst (λ (i : List (List Index)). AreIntact content store i) (sym alike) intact))
+
 -- a session whose server was not closed
 pub unclosed : (fault : CloseFault) (ends : List Ends) (disk : DiskView) (opened served left : SessionView)
-    → (IsTrue disk.honest → (store : Store) → HoldsStore disk.content store → (opened.coverages.store ≡ store) × IsSound opened.coverages)
+    → (IsTrue disk.honest → (store : Store) (indexes : List (List Index)) → ListsStore disk.content store indexes → (opened.coverages.store ≡ store) × (opened.coverages.indexes ≡ indexes))
+    → (IsTrue disk.honest → AreIntact disk.content opened.coverages.store opened.coverages.indexes → IsSound opened.coverages)
     → opened.desk ≡ record { jobs = []; next = Some 1 }
     → (IsTrue disk.honest → IsHeader opened.coverages.content Open (length opened.coverages.content / 4096) 0 0) → opened.coverages.honest ≡ disk.honest
     → opened.coverages.failures ≡ disk.failures
-    → (IsSound opened.coverages → ((s : State) → Represents opened s → (t : State) × Represents served t × ServesAll (Rose opened.coverages.failures served.coverages.failures) ends s t) × IsSound served.coverages)
+    → (IsTrue opened.coverages.honest → (s : State) → Represents opened s
+    → (t : State) × Represents served t × ServesAll (may_tell (Rose opened.coverages.failures served.coverages.failures) (IsSound opened.coverages → ⊥)) ends s t)
+    → (IsSound opened.coverages → IsSound served.coverages)
     → KeepsHeader opened.coverages.content served.coverages.content → served.coverages.honest ≡ opened.coverages.honest
     → opened.coverages.failures ≤ served.coverages.failures
     → IsNotClosed fault served.coverages left.coverages → left.desk ≡ served.desk → ServesUnclosed fault ends disk left
-unclosed fault ends disk opened served left opens desk header honest count serves keeps still more refused same_desk = record {
-  served = λ truly store holds.
-      let found = opens truly store holds in
-      let all = serves found.1 in
-      let run = all.0 (begun store) (begins opened desk store found.0) in
-      let same : left.coverages.store ≡ served.coverages.store = refused.unchanged.store all.1.honest in
-      let rises : Rose opened.coverages.failures served.coverages.failures → Rose disk.failures left.coverages.failures =
-      rose-within disk.failures opened.coverages.failures served.coverages.failures left.coverages.failures (omega (arith, count)) refused.no_fewer in (
-        refused.sound all.1,
+unclosed fault ends disk opened served left opens sounds desk header honest count serves stays_sound keeps still more refused same_desk = record {
+  served = λ truly store indexes lists.
+      let found = opens truly store indexes lists in
+      let sure : IsTrue opened.coverages.honest = subst IsTrue (sym honest) truly in
+      let kept : IsTrue served.coverages.honest = subst IsTrue (sym still) sure in
+      let sound = sound_from disk.content opened.coverages store indexes found.0 found.1 (sounds truly) in
+      let run = serves sure (begun store) (begins opened desk store found.0) in
+      let allows : Allows (may_tell (Rose opened.coverages.failures served.coverages.failures) (IsSound opened.coverages → ⊥)) (may_since disk left.coverages.failures store indexes) = (
+        rose-within disk.failures opened.coverages.failures served.coverages.failures left.coverages.failures (omega (arith, count)) refused.no_fewer,
+        λ asks s x. (x.0, λ intact. x.1 (sound intact)),
+      ) in (
+        λ intact. refused.sound (stays_sound (sound intact)),
         run.0,
-        represents-same served left same same_desk run.0 run.1,
-        all-later rises ends (begun store) run.0 run.2,
+        represents-same served left (refused.unchanged.store kept) (refused.unchanged.held.values kept) same_desk run.0 run.1,
+        all-later allows ends (begun store) run.0 run.2,
       );
   disk_fault = λ e. let rose : Rose served.coverages.failures left.coverages.failures = refused.disk_fault e in omega (arith, rose, count, more);
   no_memory = λ e truly.
@@ -135,21 +159,24 @@ module _ {R W : Type 0} where
         take_long (suc i) (a ∷ first) (b ∷ second) e = ap suc (take_long i first second (omega (arith, e)))
 
     -- one connection more is served
-    pub served-more : (xs ys : List (R × W)) (i : ℕ) (d y : R × W) (begin now end : ℕ) (old mid new : State) (conn : ConnEnd)
+    pub served-more : (xs ys : List (R × W)) (i : ℕ) (d y : R × W) (v w : ServerView) (begin now end : ℕ) (old mid new : State) (conn : ConnEnd) → (IsSound v → IsSound w)
         → length ys ≡ length xs → i < length xs → drop i ys ≡ drop i xs → begin ≤ now → now ≤ end
-        → ServesAll (Rose begin now) (ends_all remaining read_failed contents write_failed (take i xs) (take i ys)) old mid
+        → ServesAll (may_tell (Rose begin now) (IsSound v → ⊥)) (ends_all remaining read_failed contents write_failed (take i xs) (take i ys)) old mid
         → TellsEnd (ends_of remaining read_failed contents write_failed (get_or ys i d).0 y.0 (get_or ys i d).1 y.1) conn
-        → ServesConnection (Rose now end) (ends_of remaining read_failed contents write_failed (get_or ys i d).0 y.0 (get_or ys i d).1 y.1) mid new conn
-        → ServesAll (Rose begin end) (ends_all remaining read_failed contents write_failed (take (i + 1) xs) (take (i + 1) (slice_set ys i y))) old new
-    served-more xs ys i d y begin now end old mid new conn long inside e up rest x told c =
-        subst (λ (ends : List Ends). ServesAll (Rose begin end) ends old new) (sym (ends-more xs ys i d y long inside e))
-        (all-append (Rose begin end) (ends_all remaining read_failed contents write_failed (take i xs) (take i ys))
+        → ServesConnection (may_tell (Rose now end) (IsSound w → ⊥)) (ends_of remaining read_failed contents write_failed (get_or ys i d).0 y.0 (get_or ys i d).1 y.1) mid new conn
+        → ServesAll (may_tell (Rose begin end) (IsSound v → ⊥)) (ends_all remaining read_failed contents write_failed (take (i + 1) xs) (take (i + 1) (slice_set ys i y))) old new
+    served-more xs ys i d y v w begin now end old mid new conn keeps long inside e up rest x told c =
+        let first : Allows (may_tell (Rose begin now) (IsSound v → ⊥)) (may_tell (Rose begin end) (IsSound v → ⊥)) = (rose-within begin begin now end (omega arith) rest, λ asks s z. z) in
+        let then_on : Allows (may_tell (Rose now end) (IsSound w → ⊥)) (may_tell (Rose begin end) (IsSound v → ⊥)) =
+        (rose-within begin now end end up (omega arith), λ asks s z. (z.0, λ sound. z.1 (keeps sound))) in
+        subst (λ (ends : List Ends). ServesAll (may_tell (Rose begin end) (IsSound v → ⊥)) ends old new) (sym (ends-more xs ys i d y long inside e))
+        (all-append (may_tell (Rose begin end) (IsSound v → ⊥)) (ends_all remaining read_failed contents write_failed (take i xs) (take i ys))
         (ends_of remaining read_failed contents write_failed (get_or ys i d).0 y.0 (get_or ys i d).1 y.1 ∷ []) old mid new
-        (all-later (rose-within begin begin now end (omega arith) rest) (ends_all remaining read_failed contents write_failed (take i xs) (take i ys)) old mid x) (
+        (all-later first (ends_all remaining read_failed contents write_failed (take i xs) (take i ys)) old mid x) (
           new,
           conn,
           told,
-          connection-later (rose-within begin now end end up (omega arith))
+          connection-later then_on
               (ends_of remaining read_failed contents write_failed (get_or ys i d).0 y.0 (get_or ys i d).1 y.1) mid new conn c,
           refl,
         ))

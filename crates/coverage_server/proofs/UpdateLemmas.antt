@@ -13,62 +13,64 @@ use Rattle.kvp_front.specs.declared.request.Interval.{Interval}
 use Rattle.coverage_server.specs.declared.arguments.Refusal.{Refusal}
 use Rattle.coverage_server.specs.declared.arguments.Refusal.TheVariants.{Numbered, NoMemory, DiskFault, NoRoom, Damaged}
 use Rattle.coverage_server.specs.Answered.{Answered}
+use Rattle.coverage_server.specs.Damage.{SpoilsWrite, SpoilsUpdate}
 use Rattle.coverage_server.specs.Machine.{SpellDomain, axes_of, Updates}
 use Rattle.coverage_server.specs.Room.{LacksRoomToWrite, LacksRoomToUpdate, numbers_of}
 use Rattle.coverage_server.specs.Views.{ServerView, IsUnchanged}
 use Rattle.coverage_server.specs.Writing.{MayWrite, WriteRefused}
-use Rattle.coverage_server.proofs.MachineLemmas.{field_there, while_busy, no_box, said_of, refused_write, done_write}
+use Rattle.coverage_server.proofs.MachineLemmas.{field_there, no_box, said_of, refused_write, done_write}
 
 pub has_field : (name : List ℕ) (store : Store) (c : Coverage) → found name store ≡ Some c → (k : ℕ) → k < length c.fields → HasField name k store
 has_field name store c at k within = subst (λ o. IsSomeAnd o (λ (d : Coverage). k < length d.fields)) (sym at) within
 
-module _ (busy : Bool) (v : ServerView) (name field : List ℕ) (intervals : List Interval) (cells : Cells) (c : Coverage) (at : found name v.store ≡ Some c) (k : ℕ)
+module _ (v : ServerView) (name field : List ℕ) (intervals : List Interval) (cells : Cells) (c : Coverage) (at : found name v.store ≡ Some c) (k : ℕ)
     (place : field_place field c.fields ≡ Some k) where
   there : (f : Field) × (slice_get c.fields k ≡ Some f)
   there = field_there field c.fields k place
 
-  -- while the coverage is busy
-  pub busy_refused : busy ≡ true → Answered (Updates busy name field intervals cells) (LacksRoomToUpdate name field intervals cells v) v v (Err (Numbered 28))
-  busy_refused b = λ sound. while_busy busy name field intervals cells v.store c at k there.0 place there.1 b
-
   -- intervals that spell no domain
-  pub area_refused : busy ≡ false → (e : Refusal) (shown : List Interval) → shown ≡ intervals → ((e ≡ Numbered 24) × (¬ (SpellDomain shown))) ⊎ (e ≡ NoMemory)
-      → Answered (Updates busy name field intervals cells) (LacksRoomToUpdate name field intervals cells v) v v (Err e)
-  area_refused free e shown same (inl x) =
-      subst (λ (d : Refusal). Answered (Updates busy name field intervals cells) (LacksRoomToUpdate name field intervals cells v) v v (Err d)) (sym x.0)
-      (λ sound. no_box busy name field intervals cells v.store c at k there.0 place there.1 free (λ w. x.1 (subst SpellDomain (sym same) w.0)))
-  area_refused free e shown same (inr out) =
-      subst (λ (d : Refusal). Answered (Updates busy name field intervals cells) (LacksRoomToUpdate name field intervals cells v) v v (Err d)) (sym out) tt
+  pub area_refused : (e : Refusal) (shown : List Interval) → shown ≡ intervals → ((e ≡ Numbered 24) × (¬ (SpellDomain shown))) ⊎ (e ≡ NoMemory)
+      → Answered (Updates name field intervals cells) (LacksRoomToUpdate name field intervals cells v) (SpoilsUpdate name field intervals v) v v (Err e)
+  area_refused e shown same (inl x) =
+      subst (λ (d : Refusal). Answered (Updates name field intervals cells) (LacksRoomToUpdate name field intervals cells v) (SpoilsUpdate name field intervals v) v v (Err d)) (sym x.0)
+      (λ sure. no_box name field intervals cells v.store c at k there.0 place there.1 (λ w. x.1 (subst SpellDomain (sym same) w.0)))
+  area_refused e shown same (inr out) =
+      subst (λ (d : Refusal). Answered (Updates name field intervals cells) (LacksRoomToUpdate name field intervals cells v) (SpoilsUpdate name field intervals v) v v (Err d)) (sym out) tt
 
   pub lacks_room : LacksRoomToWrite name k (axes_of intervals) cells v → LacksRoomToUpdate name field intervals cells v
   lacks_room x =
       subst (λ o. IsSomeAnd o (λ (d : Coverage). IsSomeAnd (field_place field d.fields) (λ j. LacksRoomToWrite name j (axes_of intervals) cells v))) (sym at)
       (subst (λ o. IsSomeAnd o (λ j. LacksRoomToWrite name j (axes_of intervals) cells v)) (sym place) x)
 
-  module _ (w : ServerView) (free : busy ≡ false) (spelled : SpellDomain intervals) where
+  pub spoils : SpoilsWrite name k (axes_of intervals) v → SpoilsUpdate name field intervals v
+  spoils x =
+      subst (λ o. IsSomeAnd o (λ (d : Coverage). IsSomeAnd (field_place field d.fields) (λ j. SpoilsWrite name j (axes_of intervals) v))) (sym at)
+      (subst (λ o. IsSomeAnd o (λ j. SpoilsWrite name j (axes_of intervals) v)) (sym place) x)
+
+  module _ (w : ServerView) (spelled : SpellDomain intervals) where
     pub answered : {X : Type 0} (e : Refusal) → WriteRefused name k (axes_of intervals) cells v e → (IsErrOf {T = X} (Err e) DiskFault → Rose v.failures w.failures) → IsUnchanged v w
-        → Answered (Updates busy name field intervals cells) (LacksRoomToUpdate name field intervals cells v) v w (Err e)
+        → Answered (Updates name field intervals cells) (LacksRoomToUpdate name field intervals cells v) (SpoilsUpdate name field intervals v) v w (Err e)
     answered (Numbered code) x rose same =
-        λ sound. subst (λ (s : Store). Updates busy name field intervals cells v.store (Refused code) s) (sym (same.store sound.honest))
-        (refused_write busy name field intervals cells v.store c at k there.0 place there.1 free spelled code (said_of (found name v.store) c _ at x))
+        λ sure. subst (λ (s : Store). Updates name field intervals cells v.store (Refused code) s) (sym (same.store sure))
+        (refused_write name field intervals cells v.store c at k there.0 place there.1 spelled code (said_of (found name v.store) c _ at x))
     answered NoMemory x rose same = tt
     answered DiskFault x rose same = rose refl
-    answered NoRoom x rose same = λ sound. lacks_room (x sound)
-    answered Damaged x rose same = λ sound. x sound
+    answered NoRoom x rose same = λ sure. lacks_room (x sure)
+    answered Damaged x rose same = λ sure. spoils (x sure)
 
     pub done : (text : String Global) → string_bytes text ≡ codes "ok\n" → MayWrite name k (axes_of intervals) cells v.store
         → (IsTrue v.honest → w.store ≡ updated name k (axes_of intervals) (numbers_of (axes_of intervals) cells) v.store)
-        → Answered (Updates busy name field intervals cells) (LacksRoomToUpdate name field intervals cells v) v w (Ok (Text text))
-    done text ok may new = λ sound. done_write busy name field intervals cells v.store c at k there.0 place there.1 free spelled may text w.store ok (new sound.honest)
+        → Answered (Updates name field intervals cells) (LacksRoomToUpdate name field intervals cells v) (SpoilsUpdate name field intervals v) v w (Ok (Text text))
+    done text ok may new = λ sure. done_write name field intervals cells v.store c at k there.0 place there.1 spelled may text w.store ok (new sure)
 
-pub write_answered : {X : Type 0} (busy : Bool) → busy ≡ false → (v w : ServerView) (name field : List ℕ) (intervals : List Interval) (cells : Cells) (c : Coverage) → found name v.store ≡ Some c → (k : ℕ)
+pub write_answered : {X : Type 0} (v w : ServerView) (name field : List ℕ) (intervals : List Interval) (cells : Cells) (c : Coverage) → found name v.store ≡ Some c → (k : ℕ)
     → field_place field c.fields ≡ Some k → SpellDomain intervals → (e : Refusal) → WriteRefused name k (axes_of intervals) cells v e
     → (IsErrOf {T = X} (Err e) DiskFault → Rose v.failures w.failures) → IsUnchanged v w
-    → Answered (Updates busy name field intervals cells) (LacksRoomToUpdate name field intervals cells v) v w (Err e)
-write_answered busy free v w name field intervals cells c at k place spelled e x rose same = answered busy v name field intervals cells c at k place w free spelled e x rose same
+    → Answered (Updates name field intervals cells) (LacksRoomToUpdate name field intervals cells v) (SpoilsUpdate name field intervals v) v w (Err e)
+write_answered v w name field intervals cells c at k place spelled e x rose same = answered v name field intervals cells c at k place w spelled e x rose same
 
-pub write_done : (busy : Bool) → busy ≡ false → (v w : ServerView) (name field : List ℕ) (intervals : List Interval) (cells : Cells) (c : Coverage) → found name v.store ≡ Some c → (k : ℕ)
+pub write_done : (v w : ServerView) (name field : List ℕ) (intervals : List Interval) (cells : Cells) (c : Coverage) → found name v.store ≡ Some c → (k : ℕ)
     → field_place field c.fields ≡ Some k → SpellDomain intervals → (text : String Global) → string_bytes text ≡ codes "ok\n"
     → MayWrite name k (axes_of intervals) cells v.store → (IsTrue v.honest → w.store ≡ updated name k (axes_of intervals) (numbers_of (axes_of intervals) cells) v.store)
-    → Answered (Updates busy name field intervals cells) (LacksRoomToUpdate name field intervals cells v) v w (Ok (Text text))
-write_done busy free v w name field intervals cells c at k place spelled text ok may new = done busy v name field intervals cells c at k place w free spelled text ok may new
+    → Answered (Updates name field intervals cells) (LacksRoomToUpdate name field intervals cells v) (SpoilsUpdate name field intervals v) v w (Ok (Text text))
+write_done v w name field intervals cells c at k place spelled text ok may new = done v name field intervals cells c at k place w spelled text ok may new

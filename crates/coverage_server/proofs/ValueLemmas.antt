@@ -1,6 +1,6 @@
 -- The values of a typed query, from a run of its plan.
-use Rattle.std.proofs.Common.{◌≡◌, List, Ok, Err, sym, ap, ◌∙◌, arith}
-use Rattle.std.specs.Prelude.{All, String}
+use Rattle.std.proofs.Common.{◌≡◌, ℕ, List, None, Ok, Err, sym, ap, ◌∙◌, subst, arith}
+use Rattle.std.specs.Prelude.{String}
 use Rattle.std.specs.declared.alloc.Global.{Global}
 use Rattle.arr_core.specs.declared.signature.Signature.{Signature}
 use Rattle.arr_core.specs.Stores.{Store}
@@ -17,9 +17,11 @@ use Rattle.wcps_mean.specs.Reports.{Tells}
 use Rattle.wcps_types.specs.Typed.{TypedTree}
 use Rattle.coverage_server.specs.Asking.{QueryAnswer, cells_of, items_answer, evaluated}
 use Rattle.coverage_server.specs.Stages.{GivesValues, FailsReading, IsPlanOf, cell_refusal}
-use Rattle.coverage_server.specs.Tiles.{IsHeld, ReadsSound}
+use Rattle.coverage_server.specs.Tiles.{AreRead, ReadsSpelled, store_for}
+use Rattle.coverage_server.specs.Damage.{AreSpelled}
 use Rattle.coverage_server.specs.Views.{ServerView, still_of}
-use Rattle.coverage_server.proofs.TileLemmas.{reads_still}
+use Rattle.raster_store.specs.Snapshots.{held_for}
+use Rattle.coverage_server.proofs.TileLemmas.{reads_store, store_spelled}
 use Rattle.coverage_server.proofs.JobLemmas.{answer_text, answer_fault}
 
 -- cells that are not known say nothing of the answer
@@ -28,11 +30,22 @@ no_values a cell.NoMemory = tt
 no_values a cell.DiskFault = tt
 no_values a cell.Damaged = tt
 
-pub fails_reading : (v w : ServerView) (asked : List Signature) → All (IsHeld v.store) asked → (e : CellError) → Tells e (ReadsSound (still_of v) asked) v.failures w.failures
-    → FailsReading v w (cell_refusal e)
-fails_reading v w asked held cell.NoMemory x = tt
-fails_reading v w asked held cell.DiskFault x = omega (arith, x)
-fails_reading v w asked held cell.Damaged x = λ sound. x.0 (reads_still v asked (record { sound = sound; held = held }))
+-- a query reads the store as it is, for which nothing is held
+pub fails_reading : (v w : ServerView) (asked : List Signature) (places : List ℕ) → held_for 0 v.held ≡ None → AreRead v.store asked places → (e : CellError)
+    → Tells e (ReadsSpelled (still_of v) 0 places) v.failures w.failures → FailsReading asked v w (cell_refusal e)
+fails_reading v w asked places none read cell.NoMemory x = tt
+fails_reading v w asked places none read cell.DiskFault x = omega (arith, x)
+fails_reading v w asked places none read cell.Damaged x =
+    λ sure spelled. x.0 (record { honest = sure; spelled = store_spelled v asked places none read.coverages spelled })
+
+-- the same by what was asked for
+pub reading_failed : (v u w : ServerView) (job : ℕ) (asked named : List Signature) (places : List ℕ) → held_for 0 v.held ≡ None → u ≡ v → job ≡ 0 → asked ≡ named
+    → AreRead (store_for 0 v) asked places → (e : CellError) → Tells e (ReadsSpelled (still_of u) job places) u.failures w.failures → FailsReading named v w (cell_refusal e)
+reading_failed v u w job asked named places none same is alike read e x =
+    let here = subst (λ (y : ServerView). Tells e (ReadsSpelled (still_of y) job places) y.failures w.failures) same x in
+    let told = subst (λ (k : ℕ). Tells e (ReadsSpelled (still_of v) k places) v.failures w.failures) is here in
+    subst (λ (cs : List Signature). FailsReading cs v w (cell_refusal e)) alike
+    (fails_reading v w asked places none (subst (λ (s : Store). AreRead s asked places) (reads_store v none) read) e told)
 
 module _ (store : Store) (q : TypedTree) (plan done : PlanTree) (p : IsPlanOf q plan) (same : done ≡ plan) (asked : List Signature) (reads : asked ≡ plan.coverages) where
   over_store : planned (cells_of store asked) done ≡ answer (cells_of store q.coverages) q

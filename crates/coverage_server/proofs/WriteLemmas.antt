@@ -18,12 +18,9 @@ use Rattle.catalogue.specs.Bytes.{catalogue_bytes}
 use Rattle.catalogue.specs.declared.error.NoSuchCoverage.{NoSuchCoverage}
 use Rattle.catalogue.specs.Signatures.{names_of, without, listed}
 use Rattle.tile_store.specs.declared.fault.Fault.TheVariants as device
-use Rattle.tile_store.specs.Reading.{Meets}
-use Rattle.tile_store.specs.Stored.{tile_box}
 use Rattle.raster_store.specs.declared.fault.WriteFault.{WriteFault}
 use Rattle.raster_store.specs.declared.fault.WriteFault.TheVariants as writing
-use Rattle.raster_store.specs.Fetches.{IsBadTile}
-use Rattle.raster_store.specs.Views.{RasterView, AreIntact, metadata_size}
+use Rattle.raster_store.specs.Views.{RasterView, metadata_size}
 use Rattle.raster_store.specs.Calls.{signature_of, HasField, index_of, HasNumbers, LacksRoomFor}
 use Rattle.raster_store.specs.Words.{FillsBox, WritesBox, RefusesFill, RefusesBox}
 use Rattle.kvp_front.specs.Contents.{fill, values}
@@ -34,7 +31,6 @@ use Rattle.coverage_server.specs.declared.arguments.Refusal.TheVariants.{DiskFau
 use Rattle.coverage_server.proofs.FaultLemmas.{tells_as, tells_none}
 use Rattle.coverage_server.proofs.FreeLemmas.{IsReady, shown, ready_free}
 use Rattle.coverage_server.proofs.StoreLemmas.{listed_alike, listed_last, without_last}
-use Rattle.coverage_server.proofs.DamageLemmas.{intact_named}
 use Rattle.coverage_server.proofs.TileLemmas.{some_both, some_out}
 
 -- what is there has more
@@ -113,13 +109,6 @@ wanting name field area numbers size catalogue cells ready is lacks =
 
 module _ (name : List ℕ) (field : ℕ) (area : List Axis) (size : ℕ) (catalogue : List Signature) (cells : RasterView BlockFileView) (ready : IsReady catalogue cells)
     (is : size ≡ length (catalogue_bytes catalogue)) where
-  -- where every listed tile is spelled, none is bad
-  none_bad : AreIntact (state_of cells.blocks).content cells.coverages cells.indexes
-      → IsSomeAnd (found name cells.coverages) (λ c. (tile : ℕ) × Meets c.domain area tile × (IsBoxOf area (tile_box c.domain tile) → ⊥) × IsBadTile state_of name field tile cells) → ⊥
-  none_bad intact x =
-      some_out (found name cells.coverages) {P = λ (c : Coverage). (tile : ℕ) × Meets c.domain area tile × (IsBoxOf area (tile_box c.domain tile) → ⊥) × IsBadTile state_of name field tile cells}
-      (λ c u. u.3 (intact_named (state_of cells.blocks).content cells.coverages cells.indexes name field u.0 intact)) x
-
   -- why one cell is not written everywhere
   pub fill_refused : (cell : Cell) (fault : WriteFault) → RefusesFill state_of name field area cell size cells fault
       → WriteRefused name field area (fill cell) (shown cells) (write_refusal fault)
@@ -131,8 +120,8 @@ module _ (name : List ℕ) (field : ℕ) (area : List Axis) (size : ℕ) (catalo
   fill_refused cell (writing.Device device.NoMemory) x = tt
   fill_refused cell (writing.Device device.DiskFault) x = tt
   fill_refused cell (writing.Device device.NoRoom) x =
-      λ sound. wanting name field area (replicate (count area) (stored cell)) size catalogue cells ready is (x.for_room refl sound.honest)
-  fill_refused cell (writing.Device device.Damaged) x = λ sound. none_bad sound.intact (x.for_damage refl sound.honest)
+      λ sure. wanting name field area (replicate (count area) (stored cell)) size catalogue cells ready is (x.for_room refl sure)
+  fill_refused cell (writing.Device device.Damaged) x = λ sure. x.for_damage refl sure
 
   -- why cells are not written
   pub put_refused : HasField name field cells.coverages → (list : List Cell) (fault : WriteFault) → RefusesBox state_of name field area list size cells fault
@@ -146,8 +135,8 @@ module _ (name : List ℕ) (field : ℕ) (area : List Axis) (size : ℕ) (catalo
       (λ c y. inr (y.0, some_and (slice_get c.fields field) _ _ (λ (f : Field) none. inr (y.1, none, refl)) y.2)) x.for_cells
   put_refused has list (writing.Device device.NoMemory) x = tt
   put_refused has list (writing.Device device.DiskFault) x = tt
-  put_refused has list (writing.Device device.NoRoom) x = λ sound. wanting name field area (map stored list) size catalogue cells ready is (x.for_room refl sound.honest)
-  put_refused has list (writing.Device device.Damaged) x = λ sound. none_bad sound.intact (x.for_damage refl sound.honest)
+  put_refused has list (writing.Device device.NoRoom) x = λ sure. wanting name field area (map stored list) size catalogue cells ready is (x.for_room refl sure)
+  put_refused has list (writing.Device device.Damaged) x = λ sure. x.for_damage refl sure
 
 -- what was written, by what the server tells
 pub fill_done : (name : List ℕ) (field : ℕ) (area : List Axis) (cell : Cell) (size : ℕ) (old new : RasterView BlockFileView) → FillsBox state_of name field area cell size old new

@@ -43,9 +43,9 @@ pub record IsWritten (content metadata : List ℕ) (indexes : List (List Index))
   pub closed : IsClosed content metadata
   pub apart : (i : ℕ) → i < chain_blocks (length metadata) → listed_all indexes (link (block_at content) (first_of content) i) ≡ 0
 
--- why a server is not closed
-abbrev pub close_fault : Fault → CloseFault
-close_fault device.NoMemory = closing.NoMemory
-close_fault device.DiskFault = closing.DiskFault
-close_fault device.NoRoom = closing.NoMemory
-close_fault device.Damaged = closing.NoMemory
+-- how it is told why a server is not closed; room is never wanting then, and no tile is read
+abbrev pub TellsClose : Fault → CloseFault → Type 0
+TellsClose device.NoMemory told = told ≡ closing.NoMemory
+TellsClose device.DiskFault told = told ≡ closing.DiskFault
+TellsClose device.NoRoom told = ⊥
+TellsClose device.Damaged told = ⊥

@@ -6,6 +6,7 @@ pub mod Machine
 pub mod Tomlin
 pub mod Room
 pub mod Writing
+pub mod Damage
 pub mod Answered
 pub mod Serves
 pub mod Sessions
@@ -15,3 +16,5 @@ pub mod Closing
 pub mod Disk
 pub mod Opening
 pub mod Represents
+pub mod Holding
+pub mod Leaving

@@ -1,10 +1,9 @@
 -- The machine: its state is a store of coverages, and jobs, each with the answer that its query had when it was submitted. A request
 -- leads to a reply and a next state; the refusals come in the order in which they stand here, and leave the state as it was.
-use Rattle.std.specs.Prelude.{◌≡◌, ℕ, ◌+◌, ◌-◌, ◌*◌, ◌^◌, ◌<◌, ◌≤◌, ◌⊎◌, ◌&&◌, nat_lt, nat_eq, cond, Bool, false, ℤ, List, [], ◌∷◌, ◌++◌, length, map, replicate, slice_get, All, Option, Some, None, Result, Ok, Err, MatchOption, codes, string_bytes, FitsSigned, ⊤}
+use Rattle.std.specs.Prelude.{◌≡◌, ℕ, ◌+◌, ◌-◌, ◌*◌, ◌^◌, ◌<◌, ◌≤◌, ◌⊎◌, nat_lt, nat_eq, cond, ℤ, List, [], ◌∷◌, ◌++◌, length, map, replicate, slice_get, All, Option, Some, None, Result, Ok, Err, MatchOption, codes, string_bytes, FitsSigned, ⊤}
 use Rattle.std.specs.Fmt.{decimal}
 use Rattle.std.specs.Int.{w32}
-use Rattle.std.specs.List.{find, list_any, flat_map}
-use Rattle.std.specs.Str.{bytes_eq}
+use Rattle.std.specs.List.{find, flat_map}
 use Rattle.arr_core.specs.declared.cell.FieldType.{FieldType}
 use Rattle.arr_core.specs.declared.domain.Axis.{Axis}
 use Rattle.arr_core.specs.declared.field.Field.{Field}
@@ -103,29 +102,26 @@ UpdatesCells name field box kind (fill cell) =
 UpdatesCells name field box kind (values cells) =
     Unless (length cells ≡ count box) 25 (Unless (All (Holds kind) cells) 26 (Writes name field box (map stored cells)))
 
--- 28 while the coverage is busy, and then 24 for what is no box of its domain
-abbrev pub UpdatesBox : Bool → List ℕ → Coverage → ℕ → Field → List Interval → Cells → Store → Reply → Store → Type 0
-UpdatesBox busy name c field f intervals cells =
-    Unless (busy ≡ false) 28
-    (Unless (SpellDomain intervals × IsBoxOf c.domain (axes_of intervals)) 24 (UpdatesCells name field (axes_of intervals) f.kind cells))
+-- 24 for what is no box of the coverage's domain
+abbrev pub UpdatesBox : List ℕ → Coverage → ℕ → Field → List Interval → Cells → Store → Reply → Store → Type 0
+UpdatesBox name c field f intervals cells =
+    Unless (SpellDomain intervals × IsBoxOf c.domain (axes_of intervals)) 24 (UpdatesCells name field (axes_of intervals) f.kind cells)
 
 -- 42 for a field that the coverage lacks
-abbrev pub UpdatesField : Bool → List ℕ → Coverage → List ℕ → List Interval → Cells → Store → Reply → Store → Type 0
-UpdatesField busy name c field intervals cells old reply new =
+abbrev pub UpdatesField : List ℕ → Coverage → List ℕ → List Interval → Cells → Store → Reply → Store → Type 0
+UpdatesField name c field intervals cells old reply new =
     MatchOption (field_place field c.fields) (Refuses 42 old reply new)
-    (λ k. (f : Field) × (slice_get c.fields k ≡ Some f) × UpdatesBox busy name c k f intervals cells old reply new)
+    (λ k. (f : Field) × (slice_get c.fields k ≡ Some f) × UpdatesBox name c k f intervals cells old reply new)
 
 -- UpdateCoverage: 20 for a name that is not there
-abbrev pub Updates : Bool → List ℕ → List ℕ → List Interval → Cells → Store → Reply → Store → Type 0
-Updates busy name field intervals cells old reply new =
+abbrev pub Updates : List ℕ → List ℕ → List Interval → Cells → Store → Reply → Store → Type 0
+Updates name field intervals cells old reply new =
     MatchOption (found name old) (Refuses 20 old reply new)
-    (λ c. UpdatesField busy name c field intervals cells old reply new)
+    (λ c. UpdatesField name c field intervals cells old reply new)
 
--- DeleteCoverage: 20 for a name that is not there, 28 while its coverage is busy; else the coverage with it is taken out
-abbrev pub Deletes : Bool → List ℕ → Store → Reply → Store → Type 0
-Deletes busy name old reply new =
-    MatchOption (found name old) (Refuses 20 old reply new)
-    (λ c. Unless (busy ≡ false) 28 (λ before. Does (deleted name before)) old reply new)
+-- DeleteCoverage: 20 for a name that is not there; else the coverage with it is taken out
+abbrev pub Deletes : List ℕ → Store → Reply → Store → Type 0
+Deletes name old reply new = MatchOption (found name old) (Refuses 20 old reply new) (λ c. Does (deleted name old) reply new)
 
 -- ListCoverages: each name on a line, in order of insertion
 abbrev pub line_of : Coverage → List ℕ
@@ -169,10 +165,6 @@ abbrev pub AnswersTemplate : Template → Store → Reply → Store → Type 0
 AnswersTemplate template old reply new = AnswersText (expansion template old) old reply new
 
 -- ---- jobs
-
--- a coverage is busy while a job that has units left names it
-abbrev pub is_busy : List ℕ → List Job → Bool
-is_busy name jobs = list_any (λ (j : Job). nat_lt 0 j.left && list_any (λ (n : List ℕ). bytes_eq n name) j.names) jobs
 
 -- the job with a number
 abbrev pub job_of : ℕ → List Job → Option Job
@@ -243,8 +235,8 @@ OnStore step old reply new = step old.store reply new.store × (new.jobs ≡ old
 -- what the machine does where it has memory and room, and the disk does not fail
 abbrev pub Serves : Asks → State → Reply → State → Type 0
 Serves (insert_coverage name intervals fields) old = OnStore (Inserts name intervals fields) old
-Serves (update_coverage name field intervals cells) old = OnStore (Updates (is_busy name old.jobs) name field intervals cells) old
-Serves (delete_coverage name) old = OnStore (Deletes (is_busy name old.jobs) name) old
+Serves (update_coverage name field intervals cells) old = OnStore (Updates name field intervals cells) old
+Serves (delete_coverage name) old = OnStore (Deletes name) old
 Serves list_coverages old = OnStore Lists old
 Serves (describe_coverage name) old = OnStore (Describes name) old
 Serves (process_coverages query) old = OnStore (Answers query) old
@@ -276,24 +268,51 @@ abbrev pub Fails : Type 0 → Type 0 → State → Reply → State → Type 0
 Fails failed wanting old reply new =
     Refuses 90 old reply new ⊎ (failed × Refuses 91 old reply new) ⊎ (wanting × Refuses 92 old reply new)
 
--- a step: in place of any reply a failure may be told, with the state unchanged
-abbrev pub Step : Type 0 → Asks → State → Reply → State → Type 0
-Step failed asks old reply new = Serves asks old reply new ⊎ Fails failed (MayWantRoom asks) old reply new
+-- the requests that read tiles, of which a damaged one may be in the way of them
+abbrev pub ReadsTiles : Asks → Type 0
+ReadsTiles (insert_coverage name intervals fields) = ⊥
+ReadsTiles (update_coverage name field intervals cells) = ⊤
+ReadsTiles (delete_coverage name) = ⊥
+ReadsTiles list_coverages = ⊥
+ReadsTiles (describe_coverage name) = ⊥
+ReadsTiles (process_coverages query) = ⊤
+ReadsTiles (submit_query query) = ⊥
+ReadsTiles (step_job number units) = ⊤
+ReadsTiles (fetch_job number) = ⊥
+ReadsTiles (cancel_job number) = ⊥
+ReadsTiles (expand_template template) = ⊥
+ReadsTiles (process_template template) = ⊤
+
+-- What may stand in place of replies: whether the disk may have failed, and which requests damage may be in the way of.
+pub record May : Type 1 where
+  pub fail : Type 0
+  pub spoil : Asks → State → Type 0
+
+-- where the disk may have failed, and where tiles may be damaged
+abbrev pub may_tell : Type 0 → Type 0 → May
+may_tell failed damaged = record { fail = failed; spoil = λ asks s. ReadsTiles asks × damaged }
+
+-- A step: in place of any reply a failure may be told, and of one that reads tiles that one is damaged (93), with the state
+-- unchanged.
+abbrev pub Step : May → Asks → State → Reply → State → Type 0
+Step may asks old reply new =
+    Serves asks old reply new ⊎ Fails may.fail (MayWantRoom asks) old reply new
+    ⊎ (may.spoil asks old × Refuses 93 old reply new)
 
 -- the step of what the pairs of a message spell, or of their refusal
-abbrev pub SpelledStep : Type 0 → Result Asks RequestError → State → Reply → State → Type 0
-SpelledStep failed (Ok asks) old reply new = Step failed asks old reply new
-SpelledStep failed (Err e) old reply new = Refuses (number_of e) old reply new ⊎ Refuses 90 old reply new
+abbrev pub SpelledStep : May → Result Asks RequestError → State → Reply → State → Type 0
+SpelledStep may (Ok asks) old reply new = Step may asks old reply new
+SpelledStep may (Err e) old reply new = Refuses (number_of e) old reply new ⊎ Refuses 90 old reply new
 
 -- the step of a message: its pairs are read, or it is refused
-abbrev pub MessageStep : Type 0 → State → Result (List ℕ) ℕ → Reply → State → Type 0
-MessageStep failed old (Ok pairs) reply new = SpelledStep failed (spelled pairs) old reply new
-MessageStep failed old (Err code) reply new = Refuses code old reply new ⊎ Refuses 90 old reply new
+abbrev pub MessageStep : May → State → Result (List ℕ) ℕ → Reply → State → Type 0
+MessageStep may old (Ok pairs) reply new = SpelledStep may (spelled pairs) old reply new
+MessageStep may old (Err code) reply new = Refuses code old reply new ⊎ Refuses 90 old reply new
 
 -- The messages lead from one state to the other, and these bytes are their replies. Disk faults are among them only where the
--- disk may have failed.
-abbrev pub Run : Type 0 → State → List Item → List ℕ → State → Type 0
-Run failed old [] bytes new = (bytes ≡ []) × (new ≡ old)
-Run failed old (item ∷ items) bytes new =
-    (mid : State) × (reply : Reply) × (later : List ℕ) × MessageStep failed old item.asked reply mid
-    × (bytes ≡ reply_bytes item.last item.bare reply ++ later) × Run failed mid items later new
+-- disk may have failed, and damage only where tiles may be damaged.
+abbrev pub Run : May → State → List Item → List ℕ → State → Type 0
+Run may old [] bytes new = (bytes ≡ []) × (new ≡ old)
+Run may old (item ∷ items) bytes new =
+    (mid : State) × (reply : Reply) × (later : List ℕ) × MessageStep may old item.asked reply mid
+    × (bytes ≡ reply_bytes item.last item.bare reply ++ later) × Run may mid items later new

@@ -19,7 +19,7 @@ use Rattle.raster_store.specs.Views.{Index, listed_all, reserve}
 use Rattle.coverage_server.specs.declared.opening.OpenFault.{OpenFault}
 use Rattle.coverage_server.specs.declared.opening.OpenFault.TheVariants as opening
 use Rattle.coverage_server.specs.Disk.{IsLaidOut, ListsStore}
-use Rattle.coverage_server.specs.Views.{free_blocks}
+use Rattle.coverage_server.specs.Views.{free_in}
 
 -- the indexes of coverages, as lists
 abbrev pub items_of : List (Vec TileIndex Global) → List (List Index)
@@ -52,7 +52,7 @@ pub record CannotClaim (indexes : List (List Index)) (marks : List ℕ) : Type 0
 pub record ClaimsLayout (metadata : List ℕ) (signatures : List Signature) (indexes : List (List Index)) (old new : List ℕ) : Type 0 where
   pub listed : IsListed metadata signatures indexes
   pub claims : ClaimsListed indexes old new
-  pub room : reserve (length (catalogue_bytes signatures)) indexes ≤ free_blocks indexes
+  pub room : reserve (length (catalogue_bytes signatures)) indexes ≤ free_in indexes []
 
 -- no metadata of any signatures and indexes is laid out
 abbrev pub IsNotLaidOut : List ℕ → Type 0
@@ -79,7 +79,7 @@ Departs departure opening.NotClosed = ⊥
 abbrev pub IsNoLayout : BlockFileView → OpenFault → Type 0
 IsNoLayout file fault = Departs (IsTrue file.honest → (0 < length file.content) × IsNotLaidOut file.content) fault
 
--- why a file is not opened, and why coverages are not attached
+-- why a file is not opened
 abbrev pub chain_fault : ChainFault → OpenFault
 chain_fault chain.NoMemory = opening.NoMemory
 chain_fault chain.DiskFault = opening.DiskFault
@@ -87,8 +87,9 @@ chain_fault chain.Damaged = opening.Damaged
 chain_fault chain.NotAStore = opening.NotAStore
 chain_fault chain.NotClosed = opening.NotClosed
 
-abbrev pub attach_fault : Fault → OpenFault
-attach_fault device.NoMemory = opening.NoMemory
-attach_fault device.DiskFault = opening.DiskFault
-attach_fault device.NoRoom = opening.NoMemory
-attach_fault device.Damaged = opening.Damaged
+-- how it is told why coverages are not attached; the disk is not asked then, and room is never wanting
+abbrev pub TellsAttach : Fault → OpenFault → Type 0
+TellsAttach device.NoMemory told = told ≡ opening.NoMemory
+TellsAttach device.DiskFault told = ⊥
+TellsAttach device.NoRoom told = ⊥
+TellsAttach device.Damaged told = told ≡ opening.Damaged

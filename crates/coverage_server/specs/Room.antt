@@ -19,7 +19,7 @@ use Rattle.kvp_front.specs.declared.request.Interval.{Interval}
 -- the metadata with a new coverage, which has no tiles, takes more blocks than are free
 abbrev pub LacksRoomToInsert : Signature → ServerView → Type 0
 LacksRoomToInsert s v =
-    free_blocks v.indexes < reserve (length (catalogue_bytes (signatures_of v.store ++ s ∷ []))) (indexes_with s v.indexes)
+    free_blocks v < reserve (length (catalogue_bytes (signatures_of v.store ++ s ∷ []))) (indexes_with s v.indexes)
 
 -- the stored numbers of a box's cells
 abbrev pub numbers_of : List Axis → Cells → List ℤ

@@ -9,8 +9,9 @@ use Rattle.coverage_server.specs.declared.opening.OpenFault.TheVariants as openi
 use Rattle.coverage_server.specs.declared.closing.CloseFault.{CloseFault}
 use Rattle.coverage_server.specs.declared.closing.CloseFault.TheVariants as closing
 use Rattle.coverage_server.specs.declared.server.ConnEnd.{ConnEnd}
-use Rattle.coverage_server.specs.Disk.{HoldsStore, IsWant, IsNoStore}
-use Rattle.coverage_server.specs.Machine.{State, begun}
+use Rattle.raster_store.specs.Views.{Index, AreIntact}
+use Rattle.coverage_server.specs.Disk.{ListsStore, HoldsStore, IsWant, IsNoStore}
+use Rattle.coverage_server.specs.Machine.{May, State, begun, may_tell}
 use Rattle.coverage_server.specs.Represents.{Represents}
 use Rattle.coverage_server.specs.Serves.{Ends, ServesConnection, TellsEnd, ends_of}
 use Rattle.coverage_server.specs.Views.{ServerView, SessionView, IsSound, IsUnchanged}
@@ -54,22 +55,31 @@ ends_all remaining read_failed contents write_failed (old ∷ olds) (new ∷ new
 
 -- Connections one after the other: each is served from the state that the one before left, so that the replies of all are those of
 -- one run of the machine. Each has its end, by a fault exactly where one came.
-abbrev pub ServesAll : Type 0 → List Ends → State → State → Type 0
-ServesAll failed [] old new = new ≡ old
-ServesAll failed (e ∷ ends) old new =
-    (mid : State) × (end : ConnEnd) × TellsEnd e end × ServesConnection failed e old mid end × ServesAll failed ends mid new
+abbrev pub ServesAll : May → List Ends → State → State → Type 0
+ServesAll may [] old new = new ≡ old
+ServesAll may (e ∷ ends) old new =
+    (mid : State) × (end : ConnEnd) × TellsEnd e end × ServesConnection may e old mid end × ServesAll may ends mid new
 
--- A session that ended by a close: it began with the store that the disk held, and the disk holds the store that it left.
+-- what may be told from an opening of a disk that lists a store on: a disk fault where its count of failures has risen since,
+-- and damage where a tile that it lists was not spelled then
+abbrev pub may_since : DiskView → ℕ → Store → List (List Index) → May
+may_since old failures store indexes = may_tell (Rose old.failures failures) (AreIntact old.content store indexes → ⊥)
+
+-- A session that ended by a close: it began with the store that the disk listed, and the disk lists the store that it left.
+-- Where each listed tile was spelled it is so again: a disk that held a store holds the next one.
 abbrev pub ServesSession : List Ends → DiskView → DiskView → Type 0
 ServesSession ends old new =
-    IsTrue old.honest → (store : Store) → HoldsStore old.content store
-    → (next : State) × HoldsStore new.content next.store × ServesAll (Rose old.failures new.failures) ends (begun store) next
+    IsTrue old.honest → (store : Store) (indexes : List (List Index)) → ListsStore old.content store indexes
+    → (next : State) × (later : List (List Index)) × ListsStore new.content next.store later
+    × (AreIntact old.content store indexes → AreIntact new.content next.store later)
+    × ServesAll (may_since old new.failures store indexes) ends (begun store) next
 
 -- A session that did not end by a close: the server represents the next state. A disk fault is told where the count of failures has risen
 -- since the opening, and where memory was wanting the header still is that of an open file.
 pub record ServesUnclosed (fault : CloseFault) (ends : List Ends) (old : DiskView) (server : SessionView) : Type 0 where
-  pub served : IsTrue old.honest → (store : Store) → HoldsStore old.content store
-      → IsSound server.coverages × (next : State) × Represents server next × ServesAll (Rose old.failures server.coverages.failures) ends (begun store) next
+  pub served : IsTrue old.honest → (store : Store) (indexes : List (List Index)) → ListsStore old.content store indexes
+      → (AreIntact old.content store indexes → IsSound server.coverages) × (next : State) × Represents server next
+      × ServesAll (may_since old server.coverages.failures store indexes) ends (begun store) next
   pub disk_fault : fault ≡ closing.DiskFault → Rose old.failures server.coverages.failures
   pub no_memory : fault ≡ closing.NoMemory → IsTrue old.honest → (blocks : ℕ) × IsHeader server.coverages.content Open blocks 0 0
   pub honest : server.coverages.honest ≡ old.honest
@@ -82,14 +92,17 @@ Sessions (ends ∷ sessions) old new =
     (mid : DiskView) × ServesSession ends old mid × (mid.honest ≡ old.honest) × (old.failures ≤ mid.failures) × Sessions sessions mid new
 
 -- What one machine does in sessions one after the other: each begins with the store that the one before left, and without jobs.
-abbrev pub ServesSessions : Type 0 → List (List Ends) → Store → Store → Type 0
-ServesSessions failed [] old new = new ≡ old
-ServesSessions failed (ends ∷ sessions) old new =
-    (next : State) × ServesAll failed ends (begun old) next × ServesSessions failed sessions next.store new
+abbrev pub ServesSessions : May → List (List Ends) → Store → Store → Type 0
+ServesSessions may [] old new = new ≡ old
+ServesSessions may (ends ∷ sessions) old new =
+    (next : State) × ServesAll may ends (begun old) next × ServesSessions may sessions next.store new
 
--- Sessions compose: all of them together are what one machine does, from a disk that held a store to one that holds the next. A disk
--- without a byte holds the store without coverages.
+-- Sessions compose: all of them together are what one machine does, from a disk that listed a store to one that lists the next,
+-- and from one that held a store to one that holds it. A disk without a byte holds the store without coverages.
 pub record Composes : Type 0 where
-  pub all : (sessions : List (List Ends)) (old new : DiskView) → Sessions sessions old new → IsTrue old.honest → (store : Store) → HoldsStore old.content store
-      → (next : Store) × HoldsStore new.content next × ServesSessions (Rose old.failures new.failures) sessions store next
+  pub all : (sessions : List (List Ends)) (old new : DiskView) → Sessions sessions old new → IsTrue old.honest
+      → (store : Store) (indexes : List (List Index)) → ListsStore old.content store indexes
+      → (next : Store) × (later : List (List Index)) × ListsStore new.content next later
+      × (AreIntact old.content store indexes → AreIntact new.content next later)
+      × ServesSessions (may_since old new.failures store indexes) sessions store next
   pub begin : HoldsStore [] []

@@ -1,5 +1,5 @@
 -- What the steps from the text of a query to its answer give. Want of memory and faults of the disk say nothing of it.
-use Rattle.std.specs.Prelude.{◌≡◌, ℕ, ◌+◌, ◌*◌, ◌≤◌, ℤ, List, map, length, All, Result, Ok, Err, Vec, String, string_bytes, ⊤}
+use Rattle.std.specs.Prelude.{◌≡◌, ℕ, ◌+◌, ◌*◌, ◌≤◌, ℤ, List, map, length, All, Result, Ok, Err, Vec, String, string_bytes, ⊤, IsTrue}
 use Rattle.std.specs.declared.alloc.Global.{Global}
 use Rattle.arr_core.specs.Stores.{Store}
 use Rattle.wcps_text.specs.declared.token.Token.{Token}
@@ -35,7 +35,9 @@ use Rattle.coverage_server.specs.Tiles.{IsHeld}
 use Rattle.coverage_server.specs.declared.arguments.Refusal.{Refusal}
 use Rattle.coverage_server.specs.declared.arguments.Refusal.TheVariants.{Numbered, NoMemory, DiskFault, NoRoom, Damaged}
 use Rattle.disk_face.specs.Disk.{Rose}
-use Rattle.coverage_server.specs.Views.{ServerView, IsSound}
+use Rattle.arr_core.specs.declared.signature.Signature.{Signature}
+use Rattle.coverage_server.specs.Damage.{AreSpelled}
+use Rattle.coverage_server.specs.Views.{ServerView}
 
 -- the tokens of a text, or what is wrong with it
 abbrev pub GivesTokens : List ℕ → Result (Vec Token Global) Refusal → Type 0
@@ -96,14 +98,14 @@ pub record IsPlanOf (q : TypedTree) (plan : PlanTree) : Type 0 where
   pub units : units plan ≤ length q.combinations * (2 + query_work q.combinations)
   pub some : 1 ≤ length q.combinations
 
--- A failure while a query is answered: a disk fault is told only where the disk's count of failures rose, damage never on a
--- sound disk, and want of room never.
-abbrev pub FailsReading : ServerView → ServerView → Refusal → Type 0
-FailsReading old new (Numbered code) = ⊤
-FailsReading old new NoMemory = ⊤
-FailsReading old new DiskFault = Rose old.failures new.failures
-FailsReading old new NoRoom = ⊥
-FailsReading old new Damaged = IsSound old → ⊥
+-- A failure while a query is answered: a disk fault is told only where the disk's count of failures rose, damage only where a
+-- tile of a coverage that it reads is not spelled, and want of room never.
+abbrev pub FailsReading : List Signature → ServerView → ServerView → Refusal → Type 0
+FailsReading asked old new (Numbered code) = ⊤
+FailsReading asked old new NoMemory = ⊤
+FailsReading asked old new DiskFault = Rose old.failures new.failures
+FailsReading asked old new NoRoom = ⊥
+FailsReading asked old new Damaged = IsTrue old.honest → AreSpelled asked old → ⊥
 
 -- how it is told that cells are not known
 abbrev pub cell_refusal : CellError → Refusal

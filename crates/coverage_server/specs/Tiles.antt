@@ -1,41 +1,93 @@
--- The coverages that a query reads, and the tiles that are fetched for it.
-use Rattle.std.specs.Prelude.{◌≡◌, ℕ, ◌<◌, ℤ, List, map, length, All, IsSomeAnd}
+-- The coverages that a query reads, by their places, and the cells that are fetched of them.
+use Rattle.std.specs.Prelude.{◌≡◌, ℕ, ℤ, nat_eq, cond, IsTrue, List, [], map, All, Option, Some, None}
+use Rattle.std.specs.Prelude.{option_and_then, slice_get, IsSomeAnd}
 use Rattle.arr_core.specs.declared.signature.Signature.{Signature}
-use Rattle.arr_core.specs.Domains.{points}
-use Rattle.arr_core.specs.Stores.{Store, found, value_at}
+use Rattle.arr_core.specs.Domains.{IsDomain}
+use Rattle.arr_core.specs.Stores.{Coverage, Store, found}
 use Rattle.raster_store.specs.Calls.{signature_of}
-use Rattle.tile_store.specs.Stored.{tile_box}
+use Rattle.raster_store.specs.Fetches.{IsSpelledAt}
+use Rattle.raster_store.specs.Snapshots.{held_for}
+use Rattle.raster_store.specs.Views.{Index, SnapshotView}
+use Rattle.raster_store.specs.declared.reading.TileAt.{TileAt}
 use Rattle.tile_store.specs.declared.fault.Fault.{Fault}
 use Rattle.tile_store.specs.declared.fault.Fault.TheVariants as device
 use Rattle.wcps_mean.specs.declared.cells.CellError.{CellError}
 use Rattle.wcps_mean.specs.declared.cells.CellError.TheVariants.{NoMemory, DiskFault, Damaged}
-use Rattle.coverage_server.specs.Views.{ServerView, IsSound}
+use Rattle.coverage_server.specs.Asking.{cells_of, number_in}
+use Rattle.coverage_server.specs.Damage.{IsSpelledPlace}
+use Rattle.coverage_server.specs.Views.{ServerView}
 
 -- the store has a coverage of this signature
 abbrev pub IsHeld : Store → Signature → Type 0
 IsHeld store s = IsSomeAnd (found s.name store) (λ c. signature_of c ≡ s)
 
--- the disk is sound, and the store has the coverages that are read
-pub record ReadsSound (v : ServerView) (asked : List Signature) : Type 0 where
-  pub sound : IsSound v
-  pub held : All (IsHeld v.store) asked
+-- the coverages that are held, and where nothing is held others
+abbrev pub held_or : Option SnapshotView → Store → Store
+held_or None store = store
+held_or (Some x) store = x.coverages
 
--- the coverage of the store with that name has that domain, and a field at the place
-abbrev pub HasDomain : Signature → ℕ → Store → Type 0
-HasDomain s field store = IsSomeAnd (found s.name store) (λ c. (c.domain ≡ s.domain) × (field < length c.fields))
+-- What a number reads: the coverages that are held for it, and for number 0 those of the store as it is where nothing is.
+abbrev pub store_for : ℕ → ServerView → Store
+store_for job v = held_or (held_for job v.held) (cond (nat_eq job 0) v.store [])
 
--- the disk is not sound, or the store has no coverage of this signature
-abbrev pub IsTileFault : Signature → ServerView → Type 0
-IsTileFault s v = IsSound v → IsHeld v.store s → ⊥
+-- and the indexes of these
+abbrev pub indexes_or : Option SnapshotView → List (List Index) → List (List Index)
+indexes_or None indexes = indexes
+indexes_or (Some x) indexes = x.indexes
 
--- the coverage of the store with that name has that domain and a field at the place, and these are its numbers in a tile
-abbrev pub AreNumbers : Signature → ℕ → ℕ → Store → List ℤ → Type 0
-AreNumbers s field tile store numbers =
-    IsSomeAnd (found s.name store) (λ c. (c.domain ≡ s.domain) × (field < length c.fields) × (numbers ≡ map (value_at c field) (points (tile_box s.domain tile))))
+abbrev pub indexes_for : ℕ → ServerView → List (List Index)
+indexes_for job v = indexes_or (held_for job v.held) (cond (nat_eq job 0) v.indexes [])
+
+-- a tile of what a number reads is spelled; and so is each tile of the coverages at places there
+abbrev pub IsSpelledFor : ℕ → TileAt → ServerView → Type 0
+IsSpelledFor job at v = IsSpelledAt at v.content (store_for job v) (indexes_for job v)
+
+abbrev pub ArePlacesSpelled : ℕ → List ℕ → ServerView → Type 0
+ArePlacesSpelled job places v = All (IsSpelledPlace v.content (store_for job v) (indexes_for job v)) places
+
+-- the signature of a coverage, and where there is none one without fields
+abbrev pub signature_or_none : Option Coverage → Signature
+signature_or_none None = record { name = []; domain = []; fields = [] }
+signature_or_none (Some c) = signature_of c
+
+-- the signatures of the coverages at places of a store
+abbrev pub signatures_at : Store → List ℕ → List Signature
+signatures_at store places = map (λ (place : ℕ). signature_or_none (slice_get store place)) places
+
+-- the cells of the coverages at places of a store: by a place among these, a field's place in the coverage, and a point
+abbrev pub cells_at : Store → List ℕ → ℕ → ℕ → List ℤ → ℤ
+cells_at store places n field point =
+    number_in (option_and_then (λ (place : ℕ). slice_get store place) (slice_get places n)) field point
+
+-- at the places are the coverages with the names of these
+abbrev pub ArePlaces : Store → List Signature → List ℕ → Type 0
+ArePlaces store asked places =
+    map (λ (place : ℕ). slice_get store place) places ≡ map (λ (s : Signature). found s.name store) asked
+
+-- each has a domain
+abbrev pub HaveDomains : List Signature → Type 0
+HaveDomains asked = All (λ (s : Signature). IsDomain s.domain) asked
+
+-- Coverages of a store are read by their places: they have these signatures, and their cells are those of the coverages
+-- with these names.
+pub record AreRead (store : Store) (asked : List Signature) (places : List ℕ) : Type 0 where
+  pub coverages : signatures_at store places ≡ asked
+  pub cells : cells_at store places ≡ cells_of store asked
+  pub domains : HaveDomains asked
+
+-- the disk is honest, and the coverages that are read have domains
+pub record ReadsHonest (v : ServerView) (asked : List Signature) : Type 0 where
+  pub honest : IsTrue v.honest
+  pub domains : HaveDomains asked
+
+-- the disk is honest, and each tile of the coverages that are read is spelled
+pub record ReadsSpelled (v : ServerView) (job : ℕ) (places : List ℕ) : Type 0 where
+  pub honest : IsTrue v.honest
+  pub spelled : ArePlacesSpelled job places v
 
 -- how a fault is told to a query; room is never wanting there
-abbrev pub cell_error : Fault → CellError
-cell_error device.NoMemory = NoMemory
-cell_error device.DiskFault = DiskFault
-cell_error device.NoRoom = NoMemory
-cell_error device.Damaged = Damaged
+abbrev pub TellsCells : Fault → CellError → Type 0
+TellsCells device.NoMemory e = e ≡ NoMemory
+TellsCells device.DiskFault e = e ≡ DiskFault
+TellsCells device.NoRoom e = ⊥
+TellsCells device.Damaged e = e ≡ Damaged

@@ -17,8 +17,9 @@ use Rattle.raster_store.specs.declared.fault.WriteFault.{WriteFault}
 use Rattle.raster_store.specs.declared.fault.WriteFault.TheVariants as writing
 use Rattle.raster_store.specs.Calls.{signature_of}
 use Rattle.kvp_front.specs.Contents.{Cells, fill, values}
+use Rattle.coverage_server.specs.Damage.{SpoilsWrite}
 use Rattle.coverage_server.specs.Room.{LacksRoomToInsert, LacksRoomToWrite, numbers_of}
-use Rattle.coverage_server.specs.Views.{ServerView, IsSound, signatures_of}
+use Rattle.coverage_server.specs.Views.{ServerView, signatures_of}
 use Rattle.coverage_server.specs.declared.arguments.Refusal.{Refusal}
 use Rattle.coverage_server.specs.declared.arguments.Refusal.TheVariants.{Numbered, NoMemory, DiskFault, NoRoom, Damaged}
 
@@ -92,5 +93,5 @@ abbrev pub WriteRefused : List ℕ → ℕ → List Axis → Cells → ServerVie
 WriteRefused name field box cells v (Numbered code) = IsSomeAnd (found name v.store) (λ c. IsNoWrite c field box cells code)
 WriteRefused name field box cells v NoMemory = ⊤
 WriteRefused name field box cells v DiskFault = ⊤
-WriteRefused name field box cells v NoRoom = IsSound v → LacksRoomToWrite name field box cells v
-WriteRefused name field box cells v Damaged = IsSound v → ⊥
+WriteRefused name field box cells v NoRoom = IsTrue v.honest → LacksRoomToWrite name field box cells v
+WriteRefused name field box cells v Damaged = IsTrue v.honest → SpoilsWrite name field box v

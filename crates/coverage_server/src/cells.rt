@@ -1,33 +1,47 @@
 //! The coverages of a disk, and those of them that a query or a job reads. Their cells come a tile at a time.
-ghost use Rattle.std.specs.Prelude.{◌≡◌, IfOk, OnOk, map, take};
-ghost use Rattle.coverage_server.specs.Tiles.{cell_error};
+ghost use Rattle.std.specs.Prelude.{◌≡◌, All, IfOk, OnOk, OnErr};
+ghost use Rattle.tile_store.specs.declared.fault.Fault.TheVariants.{NoRoom};
+ghost use Rattle.coverage_server.specs.Tiles.{AreRead, IsHeld, TellsCells, store_for};
 
-use crate::coverages::{Coverages, copy};
-use arr_core::Signature;
+use crate::coverages::Coverages;
+use arr_core::{Name, Signature};
 use disk_face::Disk;
-use raster_store::Fault;
+use job_desk::Snapshots;
+use raster_store::{Fault, TileAt};
 use std::alloc::{AllocError, Global};
 use tile_columns::Tiles;
 use wcps_mean::CellError;
 
-/// The coverages of a disk, and the signatures of those that are read, by their places in a plan.
+/// The coverages of a disk, and what is read of them: of the coverages that are held for a job, or for number 0 of the
+/// store as it is, those at places there, in the order of a plan.
 #[derive(Drop)]
 pub struct AskedCells<D: Disk> {
     pub alloc: Global,
     pub coverages: Coverages<D>,
-    pub asked: Vec<Signature>,
+    pub job: u64,
+    pub places: Vec<usize>,
 }
 
-/// The same signatures again.
-fn copies(alloc: Global, signatures: &[Signature]) -> Result<Vec<Signature>, AllocError>
-    ensures { IfOk result (λ list. list.items ≡ signatures.now) }
+/// The places of coverages, by their signatures, among those that a number reads.
+fn places_of<D: Disk>(
+    alloc: Global,
+    coverages: &Coverages<D>,
+    job: u64,
+    signatures: &[Signature],
+) -> Result<Vec<usize>, AllocError>
+    requires held { All (IsHeld (store_for job coverages.now)) signatures.now }
+    ensures { IfOk result (λ places. AreRead (store_for job coverages.now) signatures.now places.items) }
 {
-    let mut list = Vec::new(alloc);
+    let mut places = Vec::new(alloc);
     for signature in signatures {
-        let same = copy(alloc, signature)?;
-        list.push(same)?;
+        let _axes = signature.domain.axes();
+        let place = match coverages.place(job, &signature.name) {
+            Some(place) => place,
+            None => unreachable!(),
+        };
+        places.push(place)?;
     }
-    Ok(list)
+    Ok(places)
 }
 
 impl<D: Disk> AskedCells<D> {
@@ -38,54 +52,58 @@ impl<D: Disk> AskedCells<D> {
         AskedCells {
             alloc,
             coverages,
-            asked: Vec::new(alloc),
+            job: 0,
+            places: Vec::new(alloc),
         }
     }
 
-    /// From now on these coverages are read.
-    pub fn ask(&mut self, signatures: &[Signature]) -> Result<(), AllocError>
-        ensures asked { OnOk result (self.new.asked.items ≡ signatures.now) }
+    /// From now on these coverages are read, of those that are held for a job, or for number 0 of the store as it is.
+    /// Each is looked up once.
+    pub fn ask(&mut self, job: u64, signatures: &[Signature]) -> Result<(), AllocError>
+        requires held { All (IsHeld (store_for job self.old.coverages)) signatures.now }
+        ensures read { OnOk result (AreRead (store_for job self.old.coverages) signatures.now self.new.places.items) }
+        ensures job { OnOk result (self.new.job ≡ job) }
         ensures coverages { self.new.coverages ≡ self.old.coverages }
     {
-        self.asked = copies(self.alloc, signatures)?;
+        self.places = places_of(self.alloc, &self.coverages, job, signatures)?;
+        self.job = job;
         Ok(())
     }
 }
 
-/// Why a tile is not read.
+/// Why a tile is not read. Room is never wanting there.
 fn cell_error(fault: Fault) -> CellError
-    ensures { result ≡ cell_error fault }
+    requires { fault ≡ NoRoom → ⊥ }
+    ensures { TellsCells fault result }
 {
     match fault {
         Fault::NoMemory => CellError::NoMemory,
         Fault::DiskFault => CellError::DiskFault,
-        Fault::NoRoom => CellError::NoMemory,
+        Fault::NoRoom => unreachable!(),
         Fault::Damaged => CellError::Damaged,
     }
 }
 
 impl<D: Disk> Tiles for AskedCells<D> {
-    ghost use Rattle.std.specs.Prelude.{List};
-    ghost use Rattle.arr_core.specs.declared.signature.Signature.{Signature};
-    ghost use Rattle.coverage_server.specs.Asking.{cells_of};
-    ghost use Rattle.coverage_server.specs.Tiles.{ReadsSound};
+    ghost use Rattle.std.specs.Prelude.{ℕ, List};
+    ghost use Rattle.coverage_server.specs.Tiles.{ReadsHonest, ReadsSpelled, cells_at, signatures_at, store_for};
     ghost use Rattle.coverage_server.specs.Views.{ServerView, still_of};
 
-    ghost coverages = { λ s. s.asked.items };
+    ghost coverages = { λ s. signatures_at (store_for s.job s.coverages) s.places.items };
 
-    ghost cells = { λ s. cells_of s.coverages.store s.asked.items };
+    ghost cells = { λ s. cells_at (store_for s.job s.coverages) s.places.items };
 
     ghost fetched = { λ s. s.coverages.fetched };
 
     ghost failures = { λ s. s.coverages.failures };
 
-    ghost intact = { λ s. ReadsSound s.coverages s.asked.items };
+    ghost intact = { λ s. ReadsHonest s.coverages (signatures_at (store_for s.job s.coverages) s.places.items) };
 
-    ghost Kept = { ServerView × List Signature };
+    ghost Kept = { ServerView × ℕ × List ℕ };
 
-    ghost kept = { λ s. (still_of s.coverages, s.asked.items) };
+    ghost kept = { λ s. (still_of s.coverages, s.job, s.places.items) };
 
-    ghost spelled = { λ k. ReadsSound k.0 k.1 };
+    ghost spelled = { λ k. ReadsSpelled k.0 k.1 k.2 };
 
     fn tile(
         &mut self,
@@ -94,9 +112,12 @@ impl<D: Disk> Tiles for AskedCells<D> {
         tile: u64,
         buffer: &mut Vec<i64>,
     ) -> Result<(), CellError> {
-        let asked = &self.asked[coverage];
-        let _axes = asked.domain.axes();
-        match self.coverages.fetch_tile(asked, field, tile, buffer) {
+        let at = TileAt {
+            coverage: self.places[coverage],
+            field,
+            tile,
+        };
+        match self.coverages.fetch(self.job, at, buffer) {
             Ok(()) => Ok(()),
             Err(fault) => Err(cell_error(fault)),
         }
@@ -104,5 +125,25 @@ impl<D: Disk> Tiles for AskedCells<D> {
 
     fn count(&self) -> u64 {
         self.coverages.fetched()
+    }
+}
+
+impl<D: Disk> Snapshots for AskedCells<D> {
+    ghost use Rattle.coverage_server.specs.Holding.{MayHold, HoldsFor, ReleasesFor};
+
+    ghost may_hold = { λ s job names. MayHold job names s.coverages };
+
+    ghost holds = { λ s job names t. HoldsFor job names s.coverages t.coverages };
+
+    ghost stays = { λ s t. t.coverages ≡ s.coverages };
+
+    ghost releases = { λ s job t. ReleasesFor job s.coverages t.coverages };
+
+    fn hold(&mut self, job: u64, names: &[Name]) -> Result<(), AllocError> {
+        self.coverages.hold(job, names)
+    }
+
+    fn release(&mut self, job: u64) {
+        self.coverages.release(job)
     }
 }

@@ -1,9 +1,10 @@
 //! A server is closed: the metadata is written, then the header, and the disk comes out.
-ghost use Rattle.std.specs.Prelude.{◌≡◌, ◌++◌, ◌≤◌, IsErrOf, IfOk, IfErr, OnOk};
+ghost use Rattle.std.specs.Prelude.{◌≡◌, ◌++◌, ◌≤◌, IsErrOf, IfOk, IfErr, IsTrue, OnOk};
 ghost use Rattle.block_file.specs.Format.{KeepsHeader};
 ghost use Rattle.disk_face.specs.Disk.{Tells};
+ghost use Rattle.raster_store.specs.Views.{AreIntact};
 ghost use Rattle.coverage_server.specs.Closing.{bytes_named, bytes_written, metadata_held, IsWritten};
-ghost use Rattle.coverage_server.specs.Disk.{HoldsStore};
+ghost use Rattle.coverage_server.specs.Disk.{HoldsStore, ListsStore};
 ghost use Rattle.coverage_server.specs.Sessions.{IsNotClosed};
 ghost use Rattle.coverage_server.specs.Views.{IsSound, IsUnchanged};
 
@@ -91,7 +92,7 @@ fn metadata_of<D: Disk>(alloc: Global, coverages: &Coverages<D>) -> Result<Vec<u
 
 /// Writes the metadata, and then the header of a closed file.
 fn write_closed<D: Disk>(alloc: Global, coverages: &mut Coverages<D>) -> Result<(), CloseFault>
-    ensures written { OnOk result (IsSound coverages.old
+    ensures written { OnOk result (IsTrue coverages.old.honest
         → IsWritten coverages.new.content (metadata_held coverages.old) coverages.new.indexes) }
     ensures unchanged { IsUnchanged coverages.old coverages.new }
     ensures sound { IsSound coverages.old → IsSound coverages.new }
@@ -107,6 +108,10 @@ impl<D: Disk> Server<D> {
     /// Writes the metadata into free blocks, and then the header of a closed file, so that the disk holds the store,
     /// and gives the disk. Refused for memory, or where the disk has counted a failure, with the server.
     pub fn close(self) -> Result<D, NotClosed<D>>
+        ensures lists { IfOk result (λ disk. IsTrue self.coverages.honest
+            → ListsStore (D.content disk) self.coverages.store self.coverages.indexes) }
+        ensures intact { IfOk result (λ disk. IsSound self.coverages
+            → AreIntact (D.content disk) self.coverages.store self.coverages.indexes) }
         ensures held { IfOk result (λ disk. IsSound self.coverages → HoldsStore (D.content disk) self.coverages.store) }
         ensures honest { IfOk result (λ disk. D.honest disk ≡ self.coverages.honest) }
         ensures closed_no_fewer { IfOk result (λ disk. self.coverages.failures ≤ D.failures disk) }
@@ -120,7 +125,8 @@ impl<D: Disk> Server<D> {
                 let AskedCells {
                     alloc: _,
                     coverages,
-                    asked: _,
+                    job: _,
+                    places: _,
                 } = cells;
                 Ok(coverages.into_disk())
             }

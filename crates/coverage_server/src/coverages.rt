@@ -1,25 +1,26 @@
 //! The coverages of a disk: their catalogue, and their cells in tiles.
-ghost use Rattle.std.specs.Prelude.{◌≡◌, ◌<◌, ◌≤◌, length, true, false, IfOk, IfErr, OnOk, OnErr};
+ghost use Rattle.std.specs.Prelude.{◌≡◌, ◌≤◌, [], None, length, IfOk, IfErr, IfSome, IfNone, OnOk, OnErr};
 ghost use Rattle.std.specs.Prelude.{IsErr, IsErrOf, IsTrue};
-ghost use Rattle.arr_core.specs.Domains.{points};
-ghost use Rattle.arr_core.specs.Stores.{deleted};
-ghost use Rattle.arr_core.specs.Tiles.{tile_boxes};
+ghost use Rattle.arr_core.specs.Stores.{deleted, found};
 ghost use Rattle.block_file.specs.Format.{HeaderTorn, KeepsHeader, Closes};
 ghost use Rattle.catalogue.specs.Bytes.{catalogue_bytes};
 ghost use Rattle.metadata.specs.Metadata.{part_bytes};
 ghost use Rattle.catalogue.specs.Signatures.{IsCatalogue};
 ghost use Rattle.tile_store.specs.Faults.{Refuses};
-ghost use Rattle.tile_store.specs.Stored.{tile_box};
 ghost use Rattle.raster_store.specs.Calls.{HasField, IsIndexOf};
-ghost use Rattle.raster_store.specs.Views.{Fetched};
-ghost use Rattle.coverage_server.specs.Tiles.{AreNumbers, HasDomain, IsHeld, IsTileFault};
+ghost use Rattle.raster_store.specs.Views.{AreIntact, Fetched};
+ghost use Rattle.raster_store.specs.Fetches.{IsPlaceOf, HasTile, HasTileCount, AreTileCells};
+ghost use Rattle.raster_store.specs.Snapshots.{held_for};
+ghost use Rattle.coverage_server.specs.Holding.{MayHold, HoldsFor, ReleasesFor};
+ghost use Rattle.coverage_server.specs.Tiles.{IsSpelledFor, store_for};
 ghost use Rattle.disk_face.specs.Disk.{Tells};
 ghost use Rattle.kvp_front.specs.Contents.{content_view};
-ghost use Rattle.coverage_server.specs.Closing.{bytes_written, metadata_held, IsWritten, close_fault};
+ghost use Rattle.coverage_server.specs.Closing.{bytes_written, metadata_held, IsWritten, TellsClose};
+ghost use Rattle.tile_store.specs.declared.fault.Fault.TheVariants as device;
 ghost use Rattle.kvp_front.specs.Contents as contents;
-ghost use Rattle.coverage_server.specs.Disk.{HoldsStore};
+ghost use Rattle.coverage_server.specs.Disk.{HoldsStore, ListsStore};
 ghost use Rattle.coverage_server.specs.Opening.{IsOpenFile};
-ghost use Rattle.coverage_server.specs.Views.{IsSound, IsUnchanged, signatures_of, still_of};
+ghost use Rattle.coverage_server.specs.Views.{IsSound, IsUnchanged, KeepsHeld, signatures_of, still_of};
 ghost use Rattle.coverage_server.specs.Writing.{device_refusal, write_refusal, insert_refusal, FindsCoverage};
 ghost use Rattle.coverage_server.specs.Writing.{InsertsCoverage, InsertRefused, WritesCells, WriteRefused};
 
@@ -33,7 +34,7 @@ use http_front::refusals;
 use kvp_front::Content;
 use metadata::catalogue_part;
 use page_pool::PagePool;
-use raster_store::{Fault, RasterStore, WriteFault};
+use raster_store::{Fault, RasterStore, TileAt, WriteFault};
 use std::alloc::{AllocError, Global};
 use std::marker::Model;
 
@@ -53,13 +54,15 @@ impl<D: Disk> Model for Coverages<D> {
     ghost view = { λ s. record {
       store = s.cells.coverages;
       indexes = s.cells.indexes;
+      held = s.cells.snapshots;
       content = s.cells.blocks.content;
       honest = s.cells.blocks.honest;
       failures = s.cells.blocks.failures;
       fetched = s.cells.fetched;
     } };
 
-    ghost invariant = { λ s. IsClosable s.catalogue s.cells.coverages s.cells.indexes (uses_of s.cells.blocks.marks) };
+    ghost invariant = { λ s.
+        IsClosable s.catalogue s.cells.coverages s.cells.indexes s.cells.snapshots (uses_of s.cells.blocks.marks) };
 }
 
 /// Why a signature is not inserted.
@@ -101,13 +104,15 @@ fn device_refusal(fault: Fault) -> Refusal
 
 /// Why a server is not closed. Room is never wanting then, and no tile is read.
 fn close_fault(fault: Fault) -> CloseFault
-    ensures { result ≡ close_fault fault }
+    requires room { fault ≡ device.NoRoom → ⊥ }
+    requires damage { fault ≡ device.Damaged → ⊥ }
+    ensures { TellsClose fault result }
 {
     match fault {
         Fault::NoMemory => CloseFault::NoMemory,
         Fault::DiskFault => CloseFault::DiskFault,
-        Fault::NoRoom => CloseFault::NoMemory,
-        Fault::Damaged => CloseFault::NoMemory,
+        Fault::NoRoom => unreachable!(),
+        Fault::Damaged => unreachable!(),
     }
 }
 
@@ -117,9 +122,10 @@ impl<D: Disk> Coverages<D> {
 
     /// The coverages that cells hold, with their catalogue.
     pub(crate) fn new(catalogue: Catalogue, cells: RasterStore<PagePool<D>>) -> Coverages<D>
-        requires { IsClosable catalogue cells.coverages cells.indexes (uses_of cells.blocks.marks) }
+        requires { IsClosable catalogue cells.coverages cells.indexes cells.snapshots (uses_of cells.blocks.marks) }
         ensures store { result.store ≡ cells.coverages }
         ensures indexes { result.indexes ≡ cells.indexes }
+        ensures held { result.held ≡ cells.snapshots }
         ensures content { result.content ≡ cells.blocks.content }
         ensures honest { result.honest ≡ cells.blocks.honest }
         ensures failures { result.failures ≡ cells.blocks.failures }
@@ -167,6 +173,8 @@ impl<D: Disk> Coverages<D> {
         ensures content { self.new.content ≡ self.old.content }
         ensures honest { self.new.honest ≡ self.old.honest }
         ensures failures { self.new.failures ≡ self.old.failures }
+        ensures held { self.new.held ≡ self.old.held }
+        ensures fetched { self.new.fetched ≡ self.old.fetched }
     {
         if let Err(error) = self.catalogue.check(&signature) {
             return Err(insert_refusal(error));
@@ -192,6 +200,8 @@ impl<D: Disk> Coverages<D> {
         ensures content { self.new.content ≡ self.old.content }
         ensures honest { self.new.honest ≡ self.old.honest }
         ensures failures { self.new.failures ≡ self.old.failures }
+        ensures held { self.new.held ≡ self.old.held }
+        ensures fetched { self.new.fetched ≡ self.old.fetched }
     {
         let _removed = self.catalogue.remove(name);
         self.cells.remove(name);
@@ -215,6 +225,8 @@ impl<D: Disk> Coverages<D> {
         ensures sound { IsSound self.old → IsSound self.new }
         ensures header { KeepsHeader self.old.content self.new.content }
         ensures honest { self.new.honest ≡ self.old.honest }
+        ensures held { KeepsHeld self.old self.new }
+        ensures fetched { self.new.fetched ≡ self.old.fetched }
     {
         match content {
             Content::Fill(cell) => self.fill(name, field, area, *cell),
@@ -232,6 +244,8 @@ impl<D: Disk> Coverages<D> {
         ensures sound { IsSound self.old → IsSound self.new }
         ensures header { KeepsHeader self.old.content self.new.content }
         ensures honest { self.new.honest ≡ self.old.honest }
+        ensures held { KeepsHeld self.old self.new }
+        ensures fetched { self.new.fetched ≡ self.old.fetched }
     {
         let bytes = self.catalogue.bytes_len();
         match self.cells.fill_box(name, field, area, cell, bytes) {
@@ -256,6 +270,8 @@ impl<D: Disk> Coverages<D> {
         ensures sound { IsSound self.old → IsSound self.new }
         ensures header { KeepsHeader self.old.content self.new.content }
         ensures honest { self.new.honest ≡ self.old.honest }
+        ensures held { KeepsHeld self.old self.new }
+        ensures fetched { self.new.fetched ≡ self.old.fetched }
     {
         let bytes = self.catalogue.bytes_len();
         match self.cells.write_box(name, field, area, cells, bytes) {
@@ -264,46 +280,47 @@ impl<D: Disk> Coverages<D> {
         }
     }
 
-    /// Whether the coverage with a signature's name has its domain, and a field at a place.
-    fn is_held(&self, asked: &Signature, field: usize) -> bool
-        ensures yes { result ≡ true → HasDomain asked.now field self.now.store }
-        ensures no { result ≡ false → field < length asked.now.fields
-            → IsHeld self.now.store asked.now → ⊥ }
+    /// Holds the coverages with names for a number, as they are, whatever is written afterwards. Nothing is held for it
+    /// yet. Refused for memory alone; nothing is held then.
+    pub fn hold(&mut self, number: u64, names: &[Name]) -> Result<(), AllocError>
+        requires { MayHold number names.now self.old }
+        ensures held { OnOk result (HoldsFor number names.now self.old self.new) }
+        ensures refused { OnErr result (self.new ≡ self.old) }
     {
-        match self.signature(&asked.name) {
-            None => false,
-            Some(signature) => {
-                signature.domain.is_same(&asked.domain) && field < signature.fields.len()
-            }
-        }
+        self.cells.hold(number, names)
     }
 
-    /// Makes `numbers` those of a field, by its place, in a tile, by its number, of the coverage with a signature. Refused
-    /// as damaged also where there is no such coverage.
-    pub fn fetch_tile(
-        &mut self,
-        asked: &Signature,
-        field: usize,
-        tile: u64,
-        numbers: &mut Vec<i64>,
-    ) -> Result<(), Fault>
-        requires field { field < length asked.now.fields }
-        requires tile { tile < length (tile_boxes asked.now.domain) }
+    /// Ends what is held for a number. Takes no memory. Where nothing is held for it nothing changes.
+    pub fn release(&mut self, number: u64)
+        ensures { ReleasesFor number self.old self.new }
+    {
+        self.cells.release(number)
+    }
+
+    /// The place of the coverage with a name among those that a number reads: those that are held for it, or, for number
+    /// 0 where nothing is, those of the store.
+    pub fn place(&self, number: u64, name: &Name) -> Option<usize>
+        requires { held_for number self.now.held ≡ None → number ≡ 0 }
+        ensures some { IfSome result (IsPlaceOf name.now (store_for number self.now)) }
+        ensures none { IfNone result (found name.now (store_for number self.now) ≡ None) }
+    {
+        self.cells.place_at(number, name)
+    }
+
+    /// Makes `numbers` those of a tile of the coverages that a number reads, by its place there.
+    pub fn fetch(&mut self, number: u64, at: TileAt, numbers: &mut Vec<i64>) -> Result<(), Fault>
+        requires tile { HasTile at (store_for number self.old) }
         ensures value { OnOk result (IsTrue self.old.honest
-            → AreNumbers asked.now field tile self.old.store numbers.new.items) }
-        ensures counted { OnOk result (length numbers.new.items ≡ length (points (tile_box asked.now.domain tile))) }
-        ensures why { Refuses result (IsTileFault asked.now self.old) ⊥ }
+            → AreTileCells at (store_for number self.old) numbers.new.items) }
+        ensures counted { OnOk result (HasTileCount at (store_for number self.old) numbers.new.items) }
+        ensures why { Refuses result (IsTrue self.old.honest → IsSpelledFor number at self.old → ⊥) ⊥ }
         ensures still { still_of self.new ≡ still_of self.old }
         ensures fetched { OnOk result (Fetched 1 self.old.fetched self.new.fetched) }
         ensures rises { self.old.fetched ≤ self.new.fetched }
         ensures told { Tells (IsErrOf result Fault.DiskFault) self.old.failures self.new.failures }
     {
         let _fetched = self.cells.fetched();
-        if !self.is_held(asked, field) {
-            return Err(Fault::Damaged);
-        }
-        self.cells.fetch_tile(&asked.name, field, tile, numbers)?;
-        Ok(())
+        self.cells.fetch_at(number, at, numbers)
     }
 
     /// The first part of the metadata: the catalogue behind its length.
@@ -332,7 +349,7 @@ impl<D: Disk> Coverages<D> {
     /// where the disk has counted a failure.
     pub fn write_metadata(&mut self, metadata: &[u8]) -> Result<(), CloseFault>
         requires { metadata.now ≡ bytes_written self.old.store self.old.indexes }
-        ensures written { OnOk result (IsSound self.old
+        ensures written { OnOk result (IsTrue self.old.honest
             → IsWritten self.new.content (metadata_held self.old) self.new.indexes) }
         ensures unchanged { IsUnchanged self.old self.new }
         ensures sound { IsSound self.old → IsSound self.new }
@@ -369,6 +386,7 @@ impl<D: Disk> Coverages<D> {
         ensures torn { IsTrue self.old.honest → HeaderTorn self.old.content self.new.content }
         ensures indexes { self.new.indexes ≡ self.old.indexes }
         ensures store { IsTrue self.old.honest → self.new.store ≡ self.old.store }
+        ensures held { KeepsHeld self.old self.new }
         ensures sound { IsSound self.old → IsSound self.new }
         ensures honest { self.new.honest ≡ self.old.honest }
         ensures told { Tells (IsErr result) self.old.failures self.new.failures }
@@ -378,8 +396,11 @@ impl<D: Disk> Coverages<D> {
 
     /// The disk below. Once a closing has been written it holds the store.
     pub fn into_disk(self) -> D
+        ensures lists { IsWritten (D.content result) (metadata_held self) self.indexes → IsTrue self.honest
+            → ListsStore (D.content result) self.store self.indexes }
         ensures held { IsWritten (D.content result) (metadata_held self) self.indexes → IsSound self
             → HoldsStore (D.content result) self.store }
+        ensures intact { IsSound self → AreIntact (D.content result) self.store self.indexes }
         ensures content { D.content result ≡ self.content }
         ensures honest { D.honest result ≡ self.honest }
         ensures failures { D.failures result ≡ self.failures }

@@ -1,9 +1,15 @@
 //! Jobs: queries that are submitted, done a few units at a time, and fetched.
-ghost use Rattle.std.specs.Prelude.{◌≡◌, ◌+◌, ◌≤◌, ℕ, List, [], ◌++◌, codes, decimal, length, string_bytes, string_len, string_capacity, IfOk, OnErr};
-ghost use Rattle.coverage_server.specs.Answered.{AnsweredIn, IsAnswer};
+ghost use Rattle.std.specs.Prelude.{◌≡◌, ◌+◌, ◌≤◌, ℕ, All, List, [], ◌++◌, codes, decimal, length};
+ghost use Rattle.std.specs.Prelude.{string_bytes, string_len, string_capacity, IfOk, IfErr, OnErr};
+ghost use Rattle.raster_store.specs.Views.{SnapshotView};
+ghost use Rattle.coverage_server.specs.Answered.{AnsweredIn, IsAnswer, Never};
+ghost use Rattle.coverage_server.specs.Damage.{SpoilsJob};
 ghost use Rattle.coverage_server.specs.Machine.{Submits, StepsJob, Fetches, Cancels};
 ghost use Rattle.coverage_server.specs.Stages.{IsTypedText, submit_refusal, step_refusal, fetch_refusal};
-ghost use Rattle.coverage_server.specs.Views.{ServerView, session, still_of};
+ghost use Rattle.coverage_server.specs.Holding.{IsHolding};
+ghost use Rattle.coverage_server.specs.Leaving.{LeavesJob, LeavesFetched, refusal_number};
+ghost use Rattle.coverage_server.specs.Tiles.{IsHeld};
+ghost use Rattle.coverage_server.specs.Views.{ServerView, IsSound, session, still_of, without_held};
 ghost use Rattle.wcps_types.specs.TypedQueries.{query_view as typed_view};
 
 use crate::arguments::Refusal;
@@ -75,16 +81,32 @@ fn fetch_refusal(error: FetchError) -> Refusal
     }
 }
 
-/// A typed query becomes a job. The reply gives its number and how many units it has left; nothing is evaluated.
-fn submit_typed(alloc: Global, desk: &mut JobDesk, typed: &TypedQuery) -> Result<Reply, Refusal>
+/// A typed query becomes a job, for which its coverages are held as they are. The reply gives its number and how many units
+/// it has left; nothing is evaluated. Where it is refused nothing is held.
+fn submit_typed<D: Disk>(
+    cells: &mut AskedCells<D>,
+    desk: &mut JobDesk,
+    typed: &TypedQuery,
+) -> Result<Reply, Refusal>
     requires some { 1 ≤ length (typed_view typed.now).combinations }
-    ensures answered { (v : ServerView) → (text : List ℕ) → IsTypedText v.store text (typed_view typed.now) → AnsweredIn (Submits text) ⊥ (session v desk.old) (session v desk.new) result }
+    requires held { All (IsHeld cells.old.coverages.store) (typed_view typed.now).coverages }
+    requires holding { IsHolding desk.old cells.old.coverages.held }
+    ensures answered { (text : List ℕ) → IsTypedText cells.old.coverages.store text (typed_view typed.now)
+        → AnsweredIn (Submits text) ⊥ Never
+        (session cells.old.coverages desk.old) (session cells.new.coverages desk.new) result }
     ensures answer { IfOk result IsAnswer }
+    ensures holding { IsHolding desk.new cells.new.coverages.held }
+    ensures others { without_held cells.new.coverages ≡ without_held cells.old.coverages }
+    ensures sound { IsSound cells.old.coverages → IsSound cells.new.coverages }
+    ensures refused { OnErr result (cells.new.coverages ≡ cells.old.coverages) }
+    ensures desk { OnErr result (desk.new ≡ desk.old) }
 {
+    let alloc = cells.alloc;
     let mut reply = String::with_capacity(alloc, JOB_ROOM)?;
     let names = names_of(alloc, typed.coverages())?;
     let plan = plan_of(alloc, typed)?;
-    match desk.submit(plan, names) {
+    let _rising = desk.coverages(0);
+    match desk.submit(plan, names, cells) {
         Ok((number, left)) => {
             write_job(&mut reply, number, left);
             Ok(Reply::Text(reply))
@@ -93,30 +115,45 @@ fn submit_typed(alloc: Global, desk: &mut JobDesk, typed: &TypedQuery) -> Result
     }
 }
 
-/// A query becomes a job. The reply gives its number and how many units it has left; nothing is evaluated.
+/// A query becomes a job, for which its coverages are held as they are. The reply gives its number and how many units it
+/// has left; nothing is evaluated. Where it is refused nothing is held.
 pub fn submit_query<D: Disk>(
-    cells: &AskedCells<D>,
+    cells: &mut AskedCells<D>,
     desk: &mut JobDesk,
     text: &str,
 ) -> Result<Reply, Refusal>
-    ensures answered { AnsweredIn (Submits text.now) ⊥ (session cells.now.coverages desk.old) (session cells.now.coverages desk.new) result }
+    requires holding { IsHolding desk.old cells.old.coverages.held }
+    ensures answered { AnsweredIn (Submits text.now) ⊥ Never
+        (session cells.old.coverages desk.old) (session cells.new.coverages desk.new) result }
     ensures answer { IfOk result IsAnswer }
+    ensures holding { IsHolding desk.new cells.new.coverages.held }
+    ensures others { without_held cells.new.coverages ≡ without_held cells.old.coverages }
+    ensures sound { IsSound cells.old.coverages → IsSound cells.new.coverages }
+    ensures refused { OnErr result (cells.new.coverages ≡ cells.old.coverages) }
+    ensures desk { OnErr result (desk.new ≡ desk.old) }
 {
     let typed = typed_text(cells.alloc, &cells.coverages, text)?;
-    submit_typed(cells.alloc, desk, &typed)
+    submit_typed(cells, desk, &typed)
 }
 
-/// Units of a job are done. The reply, which is written first, gives how many are left.
+/// Units of a job are done, over the coverages that are held for it, which are let go where no unit is left. The reply,
+/// which is written first, gives how many are left.
 pub fn step_job<D: Disk>(
     cells: &mut AskedCells<D>,
     desk: &mut JobDesk,
     number: u64,
     units: u64,
 ) -> Result<Reply, Refusal>
-    ensures answered { AnsweredIn (StepsJob number units) ⊥ (session cells.old.coverages desk.old) (session cells.new.coverages desk.new) result }
+    requires holding { IsHolding desk.old cells.old.coverages.held }
+    ensures answered { AnsweredIn (StepsJob number units) ⊥ (SpoilsJob number cells.old.coverages)
+        (session cells.old.coverages desk.old) (session cells.new.coverages desk.new) result }
     ensures answer { IfOk result IsAnswer }
-    ensures still { still_of cells.new.coverages ≡ still_of cells.old.coverages }
+    ensures holding { IsHolding desk.new cells.new.coverages.held }
+    ensures others { still_of (without_held cells.new.coverages) ≡ still_of (without_held cells.old.coverages) }
+    ensures sound { IsSound cells.old.coverages → IsSound cells.new.coverages }
+    ensures refused { OnErr result (still_of cells.new.coverages ≡ still_of cells.old.coverages) }
     ensures no_fewer { cells.old.coverages.failures ≤ cells.new.coverages.failures }
+    ensures jobs { OnErr result (LeavesJob number desk.old desk.new) }
 {
     let Some(left) = desk.left(number) else {
         return Err(Refusal::Numbered(refusals::NO_SUCH_JOB));
@@ -125,7 +162,10 @@ pub fn step_job<D: Disk>(
         return Err(Refusal::Numbered(refusals::NO_SUCH_JOB));
     };
     let reply = format!(in cells.alloc; "left {}\n", left.saturating_sub(units))?;
-    cells.ask(coverages)?;
+    if left == 0 {
+        return Ok(Reply::Text(reply));
+    }
+    cells.ask(number, coverages)?;
     match desk.step(number, units, cells) {
         Ok(_) => Ok(Reply::Text(reply)),
         Err(error) => Err(step_refusal(error)),
@@ -134,8 +174,11 @@ pub fn step_job<D: Disk>(
 
 /// The answer of a job that has no units left, which is dropped.
 pub fn fetch_job(desk: &mut JobDesk, number: u64) -> Result<Reply, Refusal>
-    ensures answered { (v : ServerView) → AnsweredIn (Fetches number) ⊥ (session v desk.old) (session v desk.new) result }
+    ensures answered { (v : ServerView)
+        → AnsweredIn (Fetches number) ⊥ Never (session v desk.old) (session v desk.new) result }
     ensures answer { IfOk result IsAnswer }
+    ensures holding { (held : List SnapshotView) → IsHolding desk.old held → IsHolding desk.new held }
+    ensures jobs { IfErr result (λ e. LeavesFetched number (refusal_number e) desk.old desk.new) }
 {
     let answer = match desk.fetch(number) {
         Ok(answer) => answer,
@@ -147,13 +190,25 @@ pub fn fetch_job(desk: &mut JobDesk, number: u64) -> Result<Reply, Refusal>
     }
 }
 
-/// A job is dropped.
-pub fn cancel_job(alloc: Global, desk: &mut JobDesk, number: u64) -> Result<Reply, Refusal>
-    ensures answered { (v : ServerView) → AnsweredIn (Cancels number) ⊥ (session v desk.old) (session v desk.new) result }
+/// A job is dropped, and what is held for it is let go.
+pub fn cancel_job<D: Disk>(
+    cells: &mut AskedCells<D>,
+    desk: &mut JobDesk,
+    number: u64,
+) -> Result<Reply, Refusal>
+    requires holding { IsHolding desk.old cells.old.coverages.held }
+    ensures answered { AnsweredIn (Cancels number) ⊥ Never
+        (session cells.old.coverages desk.old) (session cells.new.coverages desk.new) result }
     ensures answer { IfOk result IsAnswer }
+    ensures holding { IsHolding desk.new cells.new.coverages.held }
+    ensures others { without_held cells.new.coverages ≡ without_held cells.old.coverages }
+    ensures sound { IsSound cells.old.coverages → IsSound cells.new.coverages }
+    ensures refused { OnErr result (cells.new.coverages ≡ cells.old.coverages) }
+    ensures desk { OnErr result (desk.new ≡ desk.old) }
 {
-    let reply = String::from_str(alloc, "ok\n")?;
-    match desk.cancel(number) {
+    let reply = String::from_str(cells.alloc, "ok\n")?;
+    let _rising = desk.coverages(number);
+    match desk.cancel(number, cells) {
         Ok(()) => Ok(Reply::Text(reply)),
         Err(NoSuchJob) => Err(Refusal::Numbered(refusals::NO_SUCH_JOB)),
     }

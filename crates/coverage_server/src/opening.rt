@@ -7,10 +7,11 @@ ghost use Rattle.block_file.specs.Uses.{IsFresh};
 ghost use Rattle.block_file.specs.View.{IsOpened};
 ghost use Rattle.metadata.specs.Metadata.{AreCounted};
 ghost use Rattle.raster_store.specs.Calls.{MayAttach};
-ghost use Rattle.raster_store.specs.Views.{Index, coverages_in, listed_all, listed_fields};
+ghost use Rattle.raster_store.specs.Views.{Index, AreIntact, coverages_in, listed_all, listed_fields};
 ghost use Rattle.coverage_server.specs.Disk.{AreTiles, ListsStore, HoldsStore};
 ghost use Rattle.coverage_server.specs.Opening.{items_of, IsListed, IsUnread, ClaimsListed, CannotClaim, ClaimsLayout};
-ghost use Rattle.coverage_server.specs.Opening.{Lists, Departs, IsNoLayout, IsOpenFile, attach_fault, chain_fault};
+ghost use Rattle.coverage_server.specs.Opening.{Lists, Departs, IsNoLayout, IsOpenFile, TellsAttach, chain_fault};
+ghost use Rattle.tile_store.specs.declared.fault.Fault.TheVariants as device;
 ghost use Rattle.coverage_server.specs.Sessions.{IsNotOpened, disk_view};
 ghost use Rattle.coverage_server.specs.Views.{IsSound};
 
@@ -166,14 +167,16 @@ fn claim_layout<D: Disk>(
     Ok(layout)
 }
 
-/// Why coverages are not attached.
+/// Why coverages are not attached. The disk is not asked then, and room is never wanting.
 fn attach_fault(fault: Fault) -> OpenFault
-    ensures { result ≡ attach_fault fault }
+    requires disk { fault ≡ device.DiskFault → ⊥ }
+    requires room { fault ≡ device.NoRoom → ⊥ }
+    ensures { TellsAttach fault result }
 {
     match fault {
         Fault::NoMemory => OpenFault::NoMemory,
-        Fault::DiskFault => OpenFault::DiskFault,
-        Fault::NoRoom => OpenFault::NoMemory,
+        Fault::DiskFault => unreachable!(),
+        Fault::NoRoom => unreachable!(),
         Fault::Damaged => OpenFault::Damaged,
     }
 }
@@ -195,6 +198,7 @@ fn attach_all<B: Blocks>(
         (cells.new.coverages ≡ coverages_in (B.state cells.old.blocks).content catalogue.now (items_of indexes.items)) }
     ensures indexes { OnOk result (cells.new.indexes ≡ items_of indexes.items) }
     ensures tiles { OnOk result (AreTiles catalogue.now (items_of indexes.items)) }
+    ensures unheld { cells.new.snapshots ≡ [] }
     ensures refused { IfErr result (Departs (AreTiles catalogue.now (items_of indexes.items) → ⊥)) }
     ensures blocks { cells.new.blocks ≡ cells.old.blocks }
 {
@@ -231,6 +235,7 @@ fn coverages_of<D: Disk>(alloc: Global, opened: Opened<D>) -> Result<Coverages<D
         → Lists opened.file.content coverages.store coverages.indexes) }
     ensures content { IfOk result (λ coverages. coverages.content ≡ opened.file.content) }
     ensures honest { IfOk result (λ coverages. coverages.honest ≡ opened.file.honest) }
+    ensures unheld { IfOk result (λ coverages. coverages.held ≡ []) }
     ensures failures { IfOk result (λ coverages. coverages.failures ≡ opened.file.failures) }
     ensures refused { IfErr result (λ refused. IsNoLayout opened.file refused.fault) }
     ensures same { IfErr result (λ refused. D.content refused.disk ≡ opened.file.content) }
@@ -270,9 +275,10 @@ impl<D: Disk> Server<D> {
         ensures listed { IfOk result (λ server. IsTrue (D.honest disk)
             → ListsStore (D.content disk) server.coverages.store server.coverages.indexes) }
         ensures store { IfOk result (λ server. IsTrue (D.honest disk)
-            → (store : Store) → HoldsStore (D.content disk) store → server.coverages.store ≡ store) }
+            → (store : Store) (indexes : List (List Index)) → ListsStore (D.content disk) store indexes
+            → (server.coverages.store ≡ store) × (server.coverages.indexes ≡ indexes)) }
         ensures sound { IfOk result (λ server. IsTrue (D.honest disk)
-            → (store : Store) → HoldsStore (D.content disk) store → IsSound server.coverages) }
+            → AreIntact (D.content disk) server.coverages.store server.coverages.indexes → IsSound server.coverages) }
         ensures desk { IfOk result (λ server. server.desk ≡ record { jobs = []; next = Some 1 }) }
         ensures header { IfOk result (λ server. IsTrue (D.honest disk) → IsOpenFile server.coverages.content) }
         ensures honest { IfOk result (λ server. server.coverages.honest ≡ D.honest disk) }

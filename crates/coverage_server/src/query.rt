@@ -1,5 +1,5 @@
 //! The answers of queries over the coverages.
-ghost use Rattle.std.specs.Prelude.{◌≡◌, ◌≤◌, All, Ok, IfOk, IfErr, length, map};
+ghost use Rattle.std.specs.Prelude.{◌≡◌, ◌≤◌, All, None, Ok, IfOk, IfErr, IsTrue, length, map};
 ghost use Rattle.arr_core.specs.declared.signature.Signature.{Signature};
 ghost use Rattle.wcps_text.specs.Token.{tok};
 ghost use Rattle.wcps_text.specs.Tree.{query_view};
@@ -7,12 +7,14 @@ ghost use Rattle.wcps_types.specs.Queries.{typ_query};
 ghost use Rattle.wcps_types.specs.TypedQueries.{query_view as typed_view};
 ghost use Rattle.plan_ir.specs.Plans.{plan_view};
 ghost use Rattle.tile_exec.specs.Standing.{IsBegun, plan_of as plan_in};
+ghost use Rattle.raster_store.specs.Snapshots.{held_for};
 ghost use Rattle.coverage_server.specs.Asking.{evaluated};
 ghost use Rattle.coverage_server.specs.Stages.{GivesTokens, GivesQuery, GivesTyped, GivesText, GivesValues, FailsReading, IsPlanOf};
 ghost use Rattle.coverage_server.specs.Tiles.{IsHeld};
 ghost use Rattle.coverage_server.specs.Machine.{Answers};
 ghost use Rattle.coverage_server.specs.Answered.{Answered, IsAnswer};
-ghost use Rattle.coverage_server.specs.Views.{IsSound, still_of};
+ghost use Rattle.coverage_server.specs.Damage.{SpoilsText};
+ghost use Rattle.coverage_server.specs.Views.{still_of};
 
 use crate::arguments::Refusal;
 use crate::cells::AskedCells;
@@ -130,15 +132,16 @@ fn values_by<D: Disk>(
     typed: &TypedQuery,
     exec: &mut Exec,
 ) -> Result<String, Refusal>
+    requires unheld { held_for 0 cells.old.coverages.held ≡ None }
     requires held { All (IsHeld cells.old.coverages.store) typed.now.coverages.items }
     requires plan { IsPlanOf (typed_view typed.now) (plan_in exec.old) }
     requires begun { IsBegun (plan_in exec.old) exec.old }
-    ensures values { IsSound cells.old.coverages → GivesValues (evaluated cells.old.coverages.store (Ok (typed_view typed.now))) result }
-    ensures faults { IfErr result (FailsReading cells.old.coverages cells.new.coverages) }
+    ensures values { IsTrue cells.old.coverages.honest → GivesValues (evaluated cells.old.coverages.store (Ok (typed_view typed.now))) result }
+    ensures faults { IfErr result (FailsReading typed.now.coverages.items cells.old.coverages cells.new.coverages) }
     ensures still { still_of cells.new.coverages ≡ still_of cells.old.coverages }
     ensures no_fewer { cells.old.coverages.failures ≤ cells.new.coverages.failures }
 {
-    cells.ask(exec.coverages())?;
+    cells.ask(0, exec.coverages())?;
     run_down(exec, cells, 0)?;
     match answer_of(cells.alloc, exec)? {
         Answer::Text(text) => Ok(text),
@@ -148,10 +151,11 @@ fn values_by<D: Disk>(
 
 /// The comma-separated values of a typed query, or the refusal by its evaluation.
 fn values_of<D: Disk>(cells: &mut AskedCells<D>, typed: &TypedQuery) -> Result<String, Refusal>
+    requires unheld { held_for 0 cells.old.coverages.held ≡ None }
     requires held { All (IsHeld cells.old.coverages.store) typed.now.coverages.items }
     requires some { 1 ≤ length (typed_view typed.now).combinations }
-    ensures values { IsSound cells.old.coverages → GivesValues (evaluated cells.old.coverages.store (Ok (typed_view typed.now))) result }
-    ensures faults { IfErr result (FailsReading cells.old.coverages cells.new.coverages) }
+    ensures values { IsTrue cells.old.coverages.honest → GivesValues (evaluated cells.old.coverages.store (Ok (typed_view typed.now))) result }
+    ensures faults { IfErr result (FailsReading typed.now.coverages.items cells.old.coverages cells.new.coverages) }
     ensures still { still_of cells.new.coverages ≡ still_of cells.old.coverages }
     ensures no_fewer { cells.old.coverages.failures ≤ cells.new.coverages.failures }
 {
@@ -160,9 +164,12 @@ fn values_of<D: Disk>(cells: &mut AskedCells<D>, typed: &TypedQuery) -> Result<S
     values_by(cells, typed, &mut exec)
 }
 
-/// The answer to a query, as comma-separated values: the query is typed, then evaluated.
+/// The answer to a query, as comma-separated values: the query is typed, then evaluated. It reads the store as it is, as
+/// number 0, and nothing is held for it.
 pub fn process<D: Disk>(cells: &mut AskedCells<D>, text: &str) -> Result<Reply, Refusal>
-    ensures answered { Answered (Answers text.now) ⊥ cells.old.coverages cells.new.coverages result }
+    requires unheld { held_for 0 cells.old.coverages.held ≡ None }
+    ensures answered { Answered (Answers text.now) ⊥ (SpoilsText text.now cells.old.coverages)
+        cells.old.coverages cells.new.coverages result }
     ensures answer { IfOk result IsAnswer }
     ensures still { still_of cells.new.coverages ≡ still_of cells.old.coverages }
     ensures no_fewer { cells.old.coverages.failures ≤ cells.new.coverages.failures }

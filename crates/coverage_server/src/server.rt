@@ -1,17 +1,20 @@
 //! The server: requests act on the coverages, and each gets a reply.
-ghost use Rattle.std.specs.Prelude.{◌≡◌, ◌≤◌, ℕ, List, Result, IfOk, OnErr};
+ghost use Rattle.std.specs.Prelude.{◌≡◌, ◌≤◌, ℕ, List, Result, IfOk, IfErr, OnErr, IsTrue};
 ghost use Rattle.block_file.specs.Format.{KeepsHeader};
 ghost use Rattle.disk_face.specs.Disk.{Rose};
 ghost use Rattle.kvp_front.specs.Contents.{content_view};
 ghost use Rattle.kvp_front.specs.Requests.{asks};
 ghost use Rattle.http_front.specs.Stream.{Shows};
-ghost use Rattle.coverage_server.specs.Machine.{Inserts, Updates, Deletes, Lists, Describes, Serves, MessageStep, State, axes_of};
-ghost use Rattle.coverage_server.specs.Answered.{Answered, AnsweredIn, IsAnswer, Steps};
+ghost use Rattle.coverage_server.specs.Machine.{Inserts, Updates, Deletes, Lists, Describes, Serves, MessageStep, State, axes_of, may_tell};
+ghost use Rattle.coverage_server.specs.Answered.{Answered, AnsweredIn, IsAnswer, IsQuiet, Steps};
+ghost use Rattle.coverage_server.specs.Damage.{Spoils, SpoilsUpdate};
+ghost use Rattle.coverage_server.specs.Holding.{IsHolding};
+ghost use Rattle.coverage_server.specs.Leaving.{LeavesJobs, IfRefused, refusal_number};
 ghost use Rattle.coverage_server.specs.Represents.{Represents};
 ghost use Rattle.coverage_server.specs.Room.{LacksRoom, LacksRoomToInsert, LacksRoomToUpdate};
 ghost use Rattle.coverage_server.specs.Serves.{ServesConnection, TellsEnd, ends_of};
 ghost use Rattle.catalogue.specs.Signatures.{IsCatalogue};
-ghost use Rattle.coverage_server.specs.Views.{IsSound, IsUnchanged, signatures_of};
+ghost use Rattle.coverage_server.specs.Views.{IsSound, IsUnchanged, KeepsHeld, signatures_of};
 
 use crate::arguments::{Refusal, copied_fields, domain_of};
 use crate::cells::AskedCells;
@@ -46,6 +49,7 @@ pub struct Server<D: Disk> {
 
 impl<D: Disk> Model for Server<D> {
     ghost use Rattle.std.specs.Coded.{codes};
+    ghost use Rattle.coverage_server.specs.Holding.{IsHolding};
     ghost use Rattle.coverage_server.specs.Views.{SessionView, session};
     ghost use Rattle.job_desk.specs.contracts.job.Job as job;
 
@@ -54,6 +58,8 @@ impl<D: Disk> Model for Server<D> {
     ghost coded = { Prim.hlevel (codes, job.the_row.coded) };
 
     ghost view = { λ s. session s.cells.coverages s.desk };
+
+    ghost invariant = { λ s. IsHolding s.desk s.cells.coverages.held };
 }
 
 /// Adds a coverage.
@@ -62,13 +68,15 @@ fn insert<D: Disk>(
     coverages: &mut Coverages<D>,
     insertion: &Insertion,
 ) -> Result<Reply, Refusal>
-    ensures answered { Answered (Inserts insertion.now.coverage insertion.now.intervals.items insertion.now.fields.items) (LacksRoomToInsert (record { name = insertion.now.coverage; domain = axes_of insertion.now.intervals.items; fields = insertion.now.fields.items }) coverages.old) coverages.old coverages.new result }
+    ensures answered { Answered (Inserts insertion.now.coverage insertion.now.intervals.items insertion.now.fields.items) (LacksRoomToInsert (record { name = insertion.now.coverage; domain = axes_of insertion.now.intervals.items; fields = insertion.now.fields.items }) coverages.old) ⊥ coverages.old coverages.new result }
     ensures answer { IfOk result IsAnswer }
     ensures unchanged { OnErr result (IsUnchanged coverages.old coverages.new) }
     ensures sound { IsSound coverages.old → IsSound coverages.new }
     ensures content { coverages.new.content ≡ coverages.old.content }
     ensures honest { coverages.new.honest ≡ coverages.old.honest }
     ensures failures { coverages.new.failures ≡ coverages.old.failures }
+    ensures held { coverages.new.held ≡ coverages.old.held }
+    ensures fetched { coverages.new.fetched ≡ coverages.old.fetched }
 {
     if coverages.signature(&insertion.coverage).is_some() {
         return Err(Refusal::Numbered(refusals::COVERAGE_EXISTS));
@@ -86,20 +94,23 @@ fn insert<D: Disk>(
     Ok(Reply::Text(reply))
 }
 
-/// Writes new cells into a box of a field, unless the coverage is busy.
+/// Writes new cells into a box of a field. What is held for jobs stays as it is.
 fn update<D: Disk>(
     alloc: Global,
     coverages: &mut Coverages<D>,
     update: &Update,
-    busy: bool,
 ) -> Result<Reply, Refusal>
-    ensures answered { Answered (Updates busy update.now.coverage update.now.field update.now.intervals.items (content_view update.now.content)) (LacksRoomToUpdate update.now.coverage update.now.field update.now.intervals.items (content_view update.now.content) coverages.old) coverages.old coverages.new result }
+    ensures answered { Answered (Updates update.now.coverage update.now.field update.now.intervals.items (content_view update.now.content)) (LacksRoomToUpdate update.now.coverage update.now.field update.now.intervals.items (content_view update.now.content) coverages.old)
+        (SpoilsUpdate update.now.coverage update.now.field update.now.intervals.items coverages.old)
+        coverages.old coverages.new result }
     ensures answer { IfOk result IsAnswer }
     ensures unchanged { OnErr result (IsUnchanged coverages.old coverages.new) }
     ensures sound { IsSound coverages.old → IsSound coverages.new }
     ensures header { KeepsHeader coverages.old.content coverages.new.content }
     ensures honest { coverages.new.honest ≡ coverages.old.honest }
     ensures no_fewer { coverages.old.failures ≤ coverages.new.failures }
+    ensures held { KeepsHeld coverages.old coverages.new }
+    ensures fetched { coverages.new.fetched ≡ coverages.old.fetched }
 {
     let Some(signature) = coverages.signature(&update.coverage) else {
         return Err(Refusal::Numbered(refusals::NO_SUCH_COVERAGE));
@@ -107,36 +118,31 @@ fn update<D: Disk>(
     let Some(field) = signature.fields.place_of(update.field.as_str()) else {
         return Err(Refusal::Numbered(refusals::NO_SUCH_FIELD));
     };
-    if busy {
-        return Err(Refusal::Numbered(refusals::BUSY));
-    }
     let area = domain_of(alloc, &update.intervals, refusals::OUTSIDE_DOMAIN)?;
     let reply = String::from_str(alloc, "ok\n")?;
     coverages.write(&update.coverage, field, &area, &update.content)?;
     Ok(Reply::Text(reply))
 }
 
-/// Takes a coverage out, unless it is busy.
+/// Takes a coverage out. What is held for jobs stays as it is.
 fn delete<D: Disk>(
     alloc: Global,
     coverages: &mut Coverages<D>,
     name: &Name,
-    busy: bool,
 ) -> Result<Reply, Refusal>
-    ensures answered { Answered (Deletes busy name.now) ⊥ coverages.old coverages.new result }
+    ensures answered { Answered (Deletes name.now) ⊥ ⊥ coverages.old coverages.new result }
     ensures answer { IfOk result IsAnswer }
     ensures unchanged { OnErr result (IsUnchanged coverages.old coverages.new) }
     ensures sound { IsSound coverages.old → IsSound coverages.new }
     ensures content { coverages.new.content ≡ coverages.old.content }
     ensures honest { coverages.new.honest ≡ coverages.old.honest }
     ensures failures { coverages.new.failures ≡ coverages.old.failures }
+    ensures held { coverages.new.held ≡ coverages.old.held }
+    ensures fetched { coverages.new.fetched ≡ coverages.old.fetched }
 {
     let Some(_) = coverages.signature(name) else {
         return Err(Refusal::Numbered(refusals::NO_SUCH_COVERAGE));
     };
-    if busy {
-        return Err(Refusal::Numbered(refusals::BUSY));
-    }
     let reply = String::from_str(alloc, "ok\n")?;
     coverages.remove(name);
     Ok(Reply::Text(reply))
@@ -144,7 +150,7 @@ fn delete<D: Disk>(
 
 /// The axes and the fields of a coverage, each on a line.
 fn describe<D: Disk>(alloc: Global, coverages: &Coverages<D>, name: &Name) -> Result<Reply, Refusal>
-    ensures answered { Answered (Describes name.now) ⊥ coverages.now coverages.now result }
+    ensures answered { Answered (Describes name.now) ⊥ ⊥ coverages.now coverages.now result }
     ensures answer { IfOk result IsAnswer }
 {
     let Some(signature) = coverages.signature(name) else {
@@ -156,7 +162,7 @@ fn describe<D: Disk>(alloc: Global, coverages: &Coverages<D>, name: &Name) -> Re
 
 /// The names of the coverages, each on a line.
 fn list<D: Disk>(alloc: Global, coverages: &Coverages<D>) -> Result<Reply, Refusal>
-    ensures answered { Answered Lists ⊥ coverages.now coverages.now result }
+    ensures answered { Answered Lists ⊥ ⊥ coverages.now coverages.now result }
     ensures answer { IfOk result IsAnswer }
 {
     let mut text = String::new(alloc);
@@ -172,38 +178,37 @@ fn list<D: Disk>(alloc: Global, coverages: &Coverages<D>) -> Result<Reply, Refus
 impl<D: Disk> Server<D> {
     /// What a request is answered, or why it is refused.
     fn answered(&mut self, request: &Request) -> Result<Reply, Refusal>
-        ensures answered { AnsweredIn (Serves (asks request.now)) (LacksRoom (asks request.now) self.old.coverages) self.old self.new result }
+        ensures answered { AnsweredIn (Serves (asks request.now)) (LacksRoom (asks request.now) self.old.coverages)
+            (Spoils (asks request.now) self.old.coverages) self.old self.new result }
         ensures answer { IfOk result IsAnswer }
         ensures unchanged { OnErr result (IsUnchanged self.old.coverages self.new.coverages) }
         ensures sound { IsSound self.old.coverages → IsSound self.new.coverages }
         ensures header { KeepsHeader self.old.coverages.content self.new.coverages.content }
         ensures honest { self.new.coverages.honest ≡ self.old.coverages.honest }
         ensures no_fewer { self.old.coverages.failures ≤ self.new.coverages.failures }
+        ensures holding { IsHolding self.new.desk self.new.coverages.held }
+        ensures quiet { IsQuiet (asks request.now) → self.new.coverages.fetched ≡ self.old.coverages.fetched }
+        ensures jobs { IfErr result
+            (λ e. LeavesJobs (asks request.now) (refusal_number e) self.old.desk self.new.desk) }
     {
         let alloc = self.cells.alloc;
         match request {
             Request::InsertCoverage(insertion) => {
                 insert(alloc, &mut self.cells.coverages, insertion)
             }
-            Request::UpdateCoverage(change) => {
-                let busy = self.desk.reads(&change.coverage);
-                update(alloc, &mut self.cells.coverages, change, busy)
-            }
-            Request::DeleteCoverage(name) => {
-                let busy = self.desk.reads(name);
-                delete(alloc, &mut self.cells.coverages, name, busy)
-            }
+            Request::UpdateCoverage(change) => update(alloc, &mut self.cells.coverages, change),
+            Request::DeleteCoverage(name) => delete(alloc, &mut self.cells.coverages, name),
             Request::ListCoverages => list(alloc, &self.cells.coverages),
             Request::DescribeCoverage(name) => describe(alloc, &self.cells.coverages, name),
             Request::ProcessCoverages(query) => process(&mut self.cells, query.as_str()),
             Request::SubmitQuery(query) => {
-                submit_query(&self.cells, &mut self.desk, query.as_str())
+                submit_query(&mut self.cells, &mut self.desk, query.as_str())
             }
             Request::StepJob(asked) => {
                 step_job(&mut self.cells, &mut self.desk, asked.job, asked.units)
             }
             Request::FetchJob(job) => fetch_job(&mut self.desk, *job),
-            Request::CancelJob(job) => cancel_job(alloc, &mut self.desk, *job),
+            Request::CancelJob(job) => cancel_job(&mut self.cells, &mut self.desk, *job),
             Request::ExpandTemplate(template) => {
                 expand_template(alloc, &self.cells.coverages, template)
             }
@@ -212,16 +217,23 @@ impl<D: Disk> Server<D> {
     }
 
     /// Answers a request: from each state of the machine that the server represents one step of it to a state that it then
-    /// represents, on an honest disk whose tiles are intact, which stay so. In place of any reply want of memory (90), a disk fault (91) or want of room (92) may be told. A refusal leaves the
-    /// signatures and the indexes as they were on any disk. The coverages are those of a catalogue.
+    /// represents, on an honest disk. In place of any reply want of memory (90), a disk fault (91), want of room (92) or
+    /// damage (93) may be told; damage only where a tile that is in the way of this very request is not spelled. A refusal
+    /// leaves the signatures, the indexes, the jobs and what is held for them as they were on any disk, but for a fault that
+    /// is fetched as the answer of a job, which is dropped then. The coverages are those of a catalogue. Coverages are held
+    /// for exactly the jobs that have units left. Tiles are fetched for ProcessCoverages, ProcessTemplate and StepJob alone.
     pub fn answer(&mut self, request: &Request) -> Reply
-        ensures step { IsSound self.old.coverages → (s : State) → Represents self.old s → (t : State) × Represents self.new t × Steps (asks request.now) self.old self.new s result t }
+        ensures step { IsTrue self.old.coverages.honest → (s : State) → Represents self.old s
+            → (t : State) × Represents self.new t × Steps (asks request.now) self.old self.new s result t }
         ensures catalogue { IsCatalogue (signatures_of self.old.coverages.store) }
         ensures refused { (IsAnswer result → ⊥) → IsUnchanged self.old.coverages self.new.coverages }
         ensures sound { IsSound self.old.coverages → IsSound self.new.coverages }
         ensures header { KeepsHeader self.old.coverages.content self.new.coverages.content }
         ensures honest { self.new.coverages.honest ≡ self.old.coverages.honest }
         ensures no_fewer { self.old.coverages.failures ≤ self.new.coverages.failures }
+        ensures holding { IsHolding self.new.desk self.new.coverages.held }
+        ensures quiet { IsQuiet (asks request.now) → self.new.coverages.fetched ≡ self.old.coverages.fetched }
+        ensures jobs { IfRefused result (λ code. LeavesJobs (asks request.now) code self.old.desk self.new.desk) }
     {
         let _count = self.cells.coverages.len();
         match self.answered(request) {
@@ -236,7 +248,10 @@ impl<D: Disk> Server<D> {
 
     /// The reply to what a connection asks.
     fn reply_to(&mut self, next: Next) -> Reply
-        ensures step { IsSound self.old.coverages → (s : State) → Represents self.old s → (asked : Result (List ℕ) ℕ) → Shows asked next → (t : State) × Represents self.new t × MessageStep (Rose self.old.coverages.failures self.new.coverages.failures) s asked result t }
+        ensures step { IsTrue self.old.coverages.honest → (s : State) → Represents self.old s
+            → (asked : Result (List ℕ) ℕ) → Shows asked next → (t : State) × Represents self.new t
+            × MessageStep (may_tell (Rose self.old.coverages.failures self.new.coverages.failures)
+            (IsSound self.old.coverages → ⊥)) s asked result t }
         ensures sound { IsSound self.old.coverages → IsSound self.new.coverages }
         ensures header { KeepsHeader self.old.coverages.content self.new.coverages.content }
         ensures honest { self.new.coverages.honest ≡ self.old.coverages.honest }
@@ -267,7 +282,11 @@ impl<D: Disk> Server<D> {
         reader: &mut R,
         writer: &mut W,
     ) -> ConnEnd
-        ensures served { IsSound self.old.coverages → (s : State) → Represents self.old s → (t : State) × Represents self.new t × ServesConnection (Rose self.old.coverages.failures self.new.coverages.failures) (ends_of R.remaining R.failed W.contents W.failed reader.old reader.new writer.old writer.new) s t result }
+        ensures served { IsTrue self.old.coverages.honest → (s : State) → Represents self.old s
+            → (t : State) × Represents self.new t
+            × ServesConnection (may_tell (Rose self.old.coverages.failures self.new.coverages.failures)
+            (IsSound self.old.coverages → ⊥))
+            (ends_of R.remaining R.failed W.contents W.failed reader.old reader.new writer.old writer.new) s t result }
         ensures told { TellsEnd (ends_of R.remaining R.failed W.contents W.failed reader.old reader.new writer.old writer.new) result }
         ensures sound { IsSound self.old.coverages → IsSound self.new.coverages }
         ensures header { KeepsHeader self.old.coverages.content self.new.coverages.content }

@@ -1,7 +1,9 @@
 //! Templates of map algebra over the coverages: the text of a template's query, and the answer to it.
-ghost use Rattle.std.specs.Prelude.{◌≡◌, ◌≤◌, IfOk};
+ghost use Rattle.std.specs.Prelude.{◌≡◌, ◌≤◌, None, IfOk};
 ghost use Rattle.kvp_front.specs.Templates.{template_view};
+ghost use Rattle.raster_store.specs.Snapshots.{held_for};
 ghost use Rattle.coverage_server.specs.Answered.{Answered, IsAnswer};
+ghost use Rattle.coverage_server.specs.Damage.{SpoilsTemplate};
 ghost use Rattle.coverage_server.specs.Machine.{AnswersTemplate, Expands};
 ghost use Rattle.coverage_server.specs.Templates.{GivesExpansion, expansion, layer_of, params_of};
 ghost use Rattle.coverage_server.specs.Tomlin.{TemplatesAreTomlins};
@@ -83,7 +85,7 @@ pub fn expand_template<D: Disk>(
     coverages: &Coverages<D>,
     request: &TemplateRequest,
 ) -> Result<Reply, Refusal>
-    ensures answered { Answered (Expands (template_view request.now)) ⊥ coverages.now coverages.now result }
+    ensures answered { Answered (Expands (template_view request.now)) ⊥ ⊥ coverages.now coverages.now result }
     ensures answer { IfOk result IsAnswer }
 {
     let mut text = expansion(alloc, coverages, request)?;
@@ -97,7 +99,10 @@ pub fn process_template<D: Disk>(
     cells: &mut AskedCells<D>,
     request: &TemplateRequest,
 ) -> Result<Reply, Refusal>
-    ensures answered { Answered (AnswersTemplate (template_view request.now)) ⊥ cells.old.coverages cells.new.coverages result }
+    requires unheld { held_for 0 cells.old.coverages.held ≡ None }
+    ensures answered { Answered (AnswersTemplate (template_view request.now)) ⊥
+        (SpoilsTemplate (template_view request.now) cells.old.coverages)
+        cells.old.coverages cells.new.coverages result }
     ensures answer { IfOk result IsAnswer }
     ensures still { still_of cells.new.coverages ≡ still_of cells.old.coverages }
     ensures no_fewer { cells.old.coverages.failures ≤ cells.new.coverages.failures }

@@ -1,7 +1,6 @@
 -- The desk: the jobs that are held, in the order of their numbers, and the number that the next one gets.
-use Rattle.std.specs.Prelude.{◌≡◌, ℕ, ◌+◌, ◌-◌, ◌^◌, ◌<◌, ◌≤◌, nat_lt, nat_eq, ◌&&◌, cond, Bool, ◌⊎◌, ℤ, List, [], ◌∷◌, ◌++◌, length, Option, Some, None, Result, Ok, Err, string_bytes}
-use Rattle.std.specs.List.{find, list_any, All, AllPairs}
-use Rattle.std.specs.Str.{bytes_eq}
+use Rattle.std.specs.Prelude.{◌≡◌, ℕ, ◌+◌, ◌-◌, ◌^◌, ◌<◌, ◌≤◌, nat_lt, nat_eq, cond, ◌⊎◌, ℤ, List, [], ◌∷◌, ◌++◌, length, Option, Some, None, Result, Ok, Err, string_bytes}
+use Rattle.std.specs.List.{find, All, AllPairs}
 use Rattle.wcps_mean.specs.declared.cell.PointFault.{PointFault}
 use Rattle.wcps_mean.specs.declared.item.Item.{Item}
 use Rattle.csv_out.specs.Csv.{csv}
@@ -42,14 +41,6 @@ number_after n = cond (nat_lt n (2 ^ 64 - 1)) (Some (n + 1)) None
 -- no job is taken: 64 are held, or no number is left
 abbrev pub IsFull : DeskView → Type 0
 IsFull desk = (64 ≤ length desk.jobs) ⊎ (desk.next ≡ None)
-
--- a job names the coverage
-abbrev pub is_named : List ℕ → List (List ℕ) → Bool
-is_named name names = list_any (λ (n : List ℕ). bytes_eq n name) names
-
--- a job with units left names the coverage
-abbrev pub is_read : List ℕ → List Job → Bool
-is_read name jobs = list_any (λ (j : Job). nat_lt 0 j.left && is_named name j.names) jobs
 
 -- A job that is held: its executor has no more units left than it shows.
 pub record IsJob (j : Job) : Type 0 where

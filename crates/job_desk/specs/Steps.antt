@@ -1,7 +1,8 @@
 -- What a step makes of a job.
-use Rattle.std.specs.Prelude.{◌≡◌, ℕ, ◌-◌, ◌<◌, ◌≤◌, min, ℤ, List, Some, None, Result, Ok, Err, IfSome}
+use Rattle.std.specs.Prelude.{◌≡◌, ℕ, zero, suc, ◌-◌, ◌<◌, ◌≤◌, min, ℤ, List, Some, None, Result, Ok, Err, IfSome}
 use Rattle.arr_core.specs.declared.signature.Signature.{Signature}
 use Rattle.wcps_mean.specs.Reports.{Reports}
+use Rattle.tile_columns.specs.Sources.{Leaves}
 use Rattle.tile_exec.specs.declared.exec.Exec.{Exec}
 use Rattle.tile_exec.specs.Standing.{StandsFor, IsSound, plan_of, left_of}
 use Rattle.job_desk.specs.declared.job.Job.{Job}
@@ -63,6 +64,17 @@ abbrev pub StepReports : Result ℕ StepError → Type 0 → ℕ → ℕ → Typ
 StepReports (Ok left) intact old new = new ≡ old
 StepReports (Err NoSuchJob) intact old new = new ≡ old
 StepReports (Err (Cells e)) intact old new = Reports {A = ℕ} (Err e) intact old new
+
+-- A source was read: its cells and what it keeps are as before, and so are its coverages; it is intact where it was.
+pub record IsRead {S K : Type 0} (cells : S → ℕ → ℕ → List ℤ → ℤ) (coverages : S → List Signature) (kept : S → K) (intact : S → Type 0) (old new : S) : Type 0 where
+  pub same : Leaves (cells old) (cells new) (coverages old) (coverages new) (kept old) (kept new)
+  pub still : intact old → intact new
+
+-- a job without units left lets go of what was held for it; any other one, and one that failed, does not
+abbrev pub Ends : Result ℕ StepError → Type 0 → Type 0 → Type 0
+Ends (Ok zero) same gone = gone
+Ends (Ok (suc left)) same gone = same
+Ends (Err e) same gone = same
 
 -- why no answer is fetched
 abbrev pub IsRefusedFetch : ℕ → List Job → FetchError → Type 0

@@ -1,19 +1,19 @@
 //! The desk.
 
-ghost use Rattle.std.specs.Prelude.{◌≡◌, ◌<◌, length, [], ◌∷◌, ◌++◌, Some, None, IfOk, IfErr, OnOk, OnErr, IsSome, option_map, option_copied};
+ghost use Rattle.std.specs.Prelude.{◌≡◌, ◌<◌, ◌⊎◌, ℕ, length, vec_len, vec_capacity, [], ◌∷◌, ◌++◌, Some, None, IfOk, IfErr, OnOk, OnErr, IsSome, option_map, option_copied};
 ghost use Rattle.std.specs.List.{remove};
 ghost use Rattle.plan_ir.specs.Plans.{plan_view};
 ghost use Rattle.plan_ir.specs.Placed.{IsPlan};
-ghost use Rattle.tile_columns.specs.Sources.{Leaves};
 ghost use Rattle.tile_exec.specs.Standing.{plan_of};
 ghost use Rattle.job_desk.specs.declared.job.Job.{Job};
-ghost use Rattle.job_desk.specs.Desks.{job_of, taken_out, is_read, number_after, IsSubmitted, IsFetched, IsDesk};
-ghost use Rattle.job_desk.specs.Steps.{HasCoverages, IsLowered, IsChanged, IsRefusedStep, StepReports, IsRefusedFetch, IsRefusedSubmit};
+ghost use Rattle.job_desk.specs.Desks.{job_of, taken_out, number_after, IsSubmitted, IsFetched, IsDesk};
+ghost use Rattle.job_desk.specs.Steps.{HasCoverages, IsLowered, IsChanged, IsRefusedStep, StepReports, IsRead, Ends, IsRefusedFetch, IsRefusedSubmit};
 
 use crate::answer::{Answer, answer_of};
 use crate::error::{FetchError, NoSuchJob, StepError, SubmitError};
 use crate::job::{Job, NameList, place_of};
 use crate::run::step_job;
+use crate::snapshots::Snapshots;
 use arr_core::{Name, Signature};
 use plan_ir::Plan;
 use std::alloc::{AllocError, Global};
@@ -66,11 +66,19 @@ impl JobDesk {
     /// Takes a plan as a job, with the names of the coverages that it reads, and gives its number and how many units it has
     /// left. Nothing is read and no other job goes on. Refused with `TooManyJobs` where 64 jobs are held or the last number
     /// has been given, else with `NoMemory` where none was left; a refusal changes nothing.
-    pub fn submit(&mut self, plan: Plan, names: Vec<Name>) -> Result<(u64, u64), SubmitError>
-        requires { IsPlan (plan_view plan) }
+    pub fn submit<H: Snapshots>(
+        &mut self,
+        plan: Plan,
+        names: Vec<Name>,
+        store: &mut H,
+    ) -> Result<(u64, u64), SubmitError>
+        requires plan { IsPlan (plan_view plan) }
+        requires names { (n : ℕ) → self.old.next ≡ Some n → H.may_hold store.old n names.items }
         ensures submitted { IfOk result (λ r. IsSubmitted (plan_view plan) names.items r.0 r.1 self.old self.new) }
+        ensures held { IfOk result (λ r. H.holds store.old r.0 names.items store.new) }
         ensures refused { IfErr result (λ e. IsRefusedSubmit self.old e) }
         ensures unchanged { OnErr result (self.new ≡ self.old) }
+        ensures stays { OnErr result ((store.new ≡ store.old) ⊎ H.stays store.old store.new) }
     {
         let Some(number) = self.next else {
             return Err(SubmitError::TooManyJobs);
@@ -80,13 +88,15 @@ impl JobDesk {
         }
         let exec = Exec::new(*self.jobs.allocator(), plan)?;
         let left = exec.left();
+        self.jobs.reserve(1)?;
+        store.hold(number, &names)?;
         let job = Job {
             number,
             names: NameList::new(names),
             left,
             exec,
         };
-        push_job(&mut self.jobs, job)?;
+        push_job(&mut self.jobs, job);
         self.next = number_after(number);
         Ok((number, left))
     }
@@ -111,18 +121,24 @@ impl JobDesk {
 
     /// Lowers what a job shows as left by so many units, not below 0, does the units that this asks of its executor, and
     /// gives what is left. Where a unit fails, what is shown stays; the units before it are not done again.
-    pub fn step<S: Tiles>(&mut self, job: u64, units: u64, source: &mut S) -> Result<u64, StepError>
+    pub fn step<S: Tiles + Snapshots>(
+        &mut self,
+        job: u64,
+        units: u64,
+        source: &mut S,
+    ) -> Result<u64, StepError>
         requires { HasCoverages job self.old.jobs (S.coverages source.old) }
         ensures stepped { IfOk result (λ left. IsChanged (IsLowered (S.intact source.old) (S.cells source.old) units left) job self.old self.new) }
         ensures refused { IfErr result (λ e. IsRefusedStep (S.intact source.old) (S.cells source.old) job units self.old self.new e) }
-        ensures same { Leaves (S.cells source.old) (S.cells source.new) (S.coverages source.old) (S.coverages source.new) (S.kept source.old) (S.kept source.new) }
-        ensures intact { S.intact source.old → S.intact source.new }
-        ensures reports { StepReports result (S.spelled (S.kept source.old)) (S.failures source.old) (S.failures source.new) }
+        ensures source { (m : S) × IsRead S.cells S.coverages S.kept S.intact source.old m × StepReports result (S.spelled (S.kept source.old)) (S.failures source.old) (S.failures m) × Ends result (source.new ≡ m) (S.releases m job source.new) }
     {
         let Some(place) = place_of(&self.jobs, job) else {
             return Err(StepError::NoSuchJob);
         };
         let left = step_job(&mut self.jobs[place], units, source)?;
+        if left == 0 {
+            source.release(job);
+        }
         Ok(left)
     }
 
@@ -147,36 +163,32 @@ impl JobDesk {
     }
 
     /// Takes a job out. Takes no memory. Refused where there is none.
-    pub fn cancel(&mut self, job: u64) -> Result<(), NoSuchJob>
+    pub fn cancel<H: Snapshots>(&mut self, job: u64, store: &mut H) -> Result<(), NoSuchJob>
         ensures held { OnOk result (IsSome (job_of job self.old.jobs)) }
         ensures taken_out { OnOk result (self.new ≡ taken_out job self.old) }
         ensures absent { OnErr result (job_of job self.old.jobs ≡ None) }
         ensures unchanged { OnErr result (self.new ≡ self.old) }
+        ensures released { OnOk result (H.releases store.old job store.new) }
+        ensures kept { OnErr result (store.new ≡ store.old) }
     {
         let Some(place) = place_of(&self.jobs, job) else {
             return Err(NoSuchJob);
         };
         take_out(&mut self.jobs, place);
+        store.release(job);
         Ok(())
-    }
-
-    /// Whether a job that has units left was submitted with a name. Takes no memory.
-    pub fn reads(&self, name: &Name) -> bool
-        ensures { result ≡ is_read name.now self.now.jobs }
-    {
-        self.jobs
-            .iter()
-            .any(|job| job.left > 0 && job.names.contains(name))
     }
 }
 
-/// Puts a job at the end. Without memory nothing changes.
-fn push_job(jobs: &mut Vec<Job>, job: Job) -> Result<(), AllocError>
-    ensures pushed { OnOk result (jobs.new.items ≡ jobs.old.items ++ job ∷ []) }
-    ensures unchanged { OnErr result (jobs.new.items ≡ jobs.old.items) }
+/// Puts a job at the end, for which there is room.
+fn push_job(jobs: &mut Vec<Job>, job: Job)
+    requires { vec_len jobs.old < vec_capacity jobs.old }
+    ensures pushed { jobs.new.items ≡ jobs.old.items ++ job ∷ [] }
 {
-    jobs.push(job)?;
-    Ok(())
+    match jobs.push(job) {
+        Ok(()) => {}
+        Err(_) => unreachable!(),
+    }
 }
 
 /// Takes the job at a place out.

@@ -3,7 +3,7 @@
 ghost use Rattle.std.specs.Prelude.{◌≡◌, nat_eq, None, MatchOption};
 ghost use Rattle.std.specs.List.{position};
 ghost use Rattle.job_desk.specs.declared.job.Job.{Job};
-ghost use Rattle.job_desk.specs.Desks.{job_of, is_named};
+ghost use Rattle.job_desk.specs.Desks.{job_of};
 ghost use Rattle.job_desk.specs.Places.{IsPlace};
 
 use arr_core::Name;
@@ -37,13 +37,6 @@ impl NameList {
         ensures { result.now ≡ self.now }
     {
         &self.names
-    }
-
-    /// Whether a name is among them.
-    pub fn contains(&self, name: &Name) -> bool
-        ensures { result ≡ is_named name.now self.now }
-    {
-        self.names.iter().any(|n| *n == *name)
     }
 }
 

@@ -6,9 +6,11 @@ mod desk;
 mod error;
 mod job;
 mod run;
+mod snapshots;
 
 pub use answer::{Answer, answer_of};
 pub use desk::JobDesk;
 pub use error::{FetchError, NoSuchJob, StepError, SubmitError};
 pub use job::{Job, NameList};
 pub use run::run_down;
+pub use snapshots::Snapshots;

@@ -1,6 +1,7 @@
-//! A desk of jobs.
+//! A desk of jobs, and for which of them it has coverages held.
 
 use crate::coverages::Coverages;
+use crate::holders::Holders;
 use anyhow::{Result, bail};
 use arr_core::Name;
 use job_desk::{JobDesk, SubmitError};
@@ -24,54 +25,60 @@ fn say_submitted(answer: &mut Answer, submitted: Result<(u64, u64), SubmitError>
     }
 }
 
-/// Submits the query.
-fn submit(
-    alloc: Global,
-    answer: &mut Answer,
-    jobs: &mut JobDesk,
-    coverages: &Coverages,
-) -> Result<()> {
-    let plan = coverages.rewritten(alloc, QUERY)?;
-    let names = Vec::from_array(alloc, [Name::new(alloc, "lai")?])?;
-    say_submitted(answer, jobs.submit(plan, names));
-    Ok(())
+/// A desk, and the jobs for which coverages are held.
+#[derive(Drop)]
+pub struct Desk {
+    jobs: JobDesk,
+    holders: Holders,
 }
 
-/// Cancels a job.
-fn cancel(answer: &mut Answer, jobs: &mut JobDesk, job: u64) {
-    match jobs.cancel(job) {
-        Ok(()) => answer.say("ok"),
-        Err(_) => answer.refusal(70),
+impl Desk {
+    /// A desk whose first job gets a number.
+    pub fn starting(alloc: Global, first: u64) -> Desk {
+        Desk {
+            jobs: JobDesk::starting(alloc, first),
+            holders: Holders::new(alloc),
+        }
     }
-}
 
-/// Says whether a job with units left names a coverage.
-fn say_reads(alloc: Global, answer: &mut Answer, jobs: &JobDesk, name: &str) -> Result<()> {
-    answer.yes(jobs.reads(&Name::new(alloc, name)?));
-    Ok(())
-}
-
-/// Begins a desk whose first job gets a number.
-fn begin(alloc: Global, answer: &mut Answer, jobs: &mut JobDesk, first: u64) {
-    *jobs = JobDesk::starting(alloc, first);
-    answer.say("ok");
-}
-
-/// Makes a call on a desk.
-pub fn call(
-    alloc: Global,
-    answer: &mut Answer,
-    jobs: &mut JobDesk,
-    coverages: &Coverages,
-    (verb, rest): (&str, &str),
-) -> Result<()> {
-    match verb {
-        "new" => begin(alloc, answer, jobs, 1),
-        "starting" => begin(alloc, answer, jobs, number(rest)),
-        "cancel" => cancel(answer, jobs, number(rest)),
-        "submit" => return submit(alloc, answer, jobs, coverages),
-        "reads" => return say_reads(alloc, answer, jobs, rest),
-        _ => bail!("no such call"),
+    /// Submits the query.
+    fn submit(&mut self, alloc: Global, answer: &mut Answer, coverages: &Coverages) -> Result<()> {
+        let plan = coverages.rewritten(alloc, QUERY)?;
+        let names = Vec::from_array(alloc, [Name::new(alloc, "lai")?])?;
+        say_submitted(answer, self.jobs.submit(plan, names, &mut self.holders));
+        Ok(())
     }
-    Ok(())
+
+    /// Cancels a job.
+    fn cancel(&mut self, answer: &mut Answer, job: u64) {
+        match self.jobs.cancel(job, &mut self.holders) {
+            Ok(()) => answer.say("ok"),
+            Err(_) => answer.refusal(70),
+        }
+    }
+
+    /// Begins anew, with a desk whose first job gets a number.
+    fn begin(&mut self, alloc: Global, answer: &mut Answer, first: u64) {
+        *self = Desk::starting(alloc, first);
+        answer.say("ok");
+    }
+
+    /// Makes a call on the desk.
+    pub fn call(
+        &mut self,
+        alloc: Global,
+        answer: &mut Answer,
+        coverages: &Coverages,
+        (verb, rest): (&str, &str),
+    ) -> Result<()> {
+        match verb {
+            "new" => self.begin(alloc, answer, 1),
+            "starting" => self.begin(alloc, answer, number(rest)),
+            "cancel" => self.cancel(answer, number(rest)),
+            "submit" => return self.submit(alloc, answer, coverages),
+            "holders" => self.holders.say(answer),
+            _ => bail!("no such call"),
+        }
+        Ok(())
+    }
 }

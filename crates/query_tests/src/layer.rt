@@ -1,12 +1,12 @@
 //! The calls of the rows.
 
 use crate::coverages::Coverages;
+use crate::desk::Desk;
+use crate::kernels;
 use crate::outcomes::{say_condensed, say_csv, say_operated};
 use crate::plans::say_plan_run;
 use crate::texts::{say_alike, say_parsed, say_printed, say_tokens, say_tree, say_work};
-use crate::{desk, kernels};
 use anyhow::Result;
-use job_desk::JobDesk;
 use std::alloc::Global;
 use test_rows::{Answer, Layer, cut, text};
 
@@ -14,7 +14,7 @@ use test_rows::{Answer, Layer, cut, text};
 #[derive(Drop)]
 pub struct Fixture {
     coverages: Coverages,
-    jobs: JobDesk,
+    desk: Desk,
 }
 
 /// Calls that need no coverage.
@@ -69,14 +69,14 @@ impl Fixture {
     pub fn new(alloc: Global) -> Fixture {
         Fixture {
             coverages: Coverages::new(alloc),
-            jobs: JobDesk::new(alloc),
+            desk: Desk::starting(alloc, 1),
         }
     }
 
     fn call(&mut self, alloc: Global, answer: &mut Answer, verb: &str, rest: &str) -> Result<()> {
         match verb {
-            "new" | "starting" | "submit" | "cancel" | "reads" => {
-                desk::call(alloc, answer, &mut self.jobs, &self.coverages, (verb, rest))
+            "new" | "starting" | "submit" | "cancel" | "holders" => {
+                self.desk.call(alloc, answer, &self.coverages, (verb, rest))
             }
             _ => self.coverages.call(alloc, answer, verb, rest),
         }

@@ -8,6 +8,7 @@ mod columns;
 mod coverages;
 mod desk;
 mod folds;
+mod holders;
 mod kernels;
 mod keyed;
 mod layer;

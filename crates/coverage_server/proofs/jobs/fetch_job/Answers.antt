@@ -1,6 +1,7 @@
 -- A finished job tells the text or the fault that is its answer, and a fetch is refused for the desk's reason.
-use Rattle.std.proofs.Common.{subst}
+use Rattle.std.proofs.Common.{inl, inr, subst}
 use Rattle.job_desk.specs.Desks.{IsFetched}
+use Rattle.coverage_server.proofs.HoldingLemmas.{holding_done}
 use Rattle.coverage_server.proofs.JobLemmas.{fetched_text, fetched_fault, fetch_refused_as}
 use Rattle.coverage_server.proofs.jobs.fetch_job.Goals as goal
 
@@ -17,3 +18,16 @@ returns-in-Refused-clause-answered c =
 pub returns-in-Err-clause-answered : goal.returns-in-Err-clause-answered
 returns-in-Err-clause-answered c =
     λ v. fetch_refused_as v c.args.desk.now c.fetch.new.self c.args.number c.in-Err.error c.fetch_refusal.result c.fetch_refusal.ensures c.in-Err.ensures.unchanged c.in-Err.ensures.refused
+
+pub returns-in-Text-clause-holding : goal.returns-in-Text-clause-holding
+returns-in-Text-clause-holding c = λ held was. let x = c.in-Ok.ensures.fetched in rw x.desk (holding_done c.args.number x.job c.args.desk.now held was x.held x.done)
+
+pub returns-in-Refused-clause-holding : goal.returns-in-Refused-clause-holding
+returns-in-Refused-clause-holding c = λ held was. let x = c.in-Ok.ensures.fetched in rw x.desk (holding_done c.args.number x.job c.args.desk.now held was x.held x.done)
+
+pub returns-in-Refused-clause-jobs : goal.returns-in-Refused-clause-jobs
+returns-in-Refused-clause-jobs c =
+    inr (c.in-Refused.fault, c.number.ensures, subst (λ a. IsFetched c.args.number a c.args.desk.now c.fetch.new.self) c.in-Refused.is c.in-Ok.ensures.fetched)
+
+pub returns-in-Err-clause-jobs : goal.returns-in-Err-clause-jobs
+returns-in-Err-clause-jobs c = inl c.in-Err.ensures.unchanged

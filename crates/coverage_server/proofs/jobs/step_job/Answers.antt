@@ -1,36 +1,92 @@
 -- Units of a job are done, or one of them fails.
-use Rattle.arr_core.specs.declared.signature.Signature.{Signature}
-use Rattle.std.proofs.Common.{List, rules, ◌≡◌, ◌++◌, ◌∙◌, ◌-◌, Some, ap, subst}
-use Rattle.std.specs.Prelude.{string_bytes, codes, decimal}
-use Rattle.job_desk.specs.declared.job.Job.{Job as Held}
+use Rattle.std.proofs.Common.{List, rules, ◌≡◌, ◌++◌, ◌∙◌, ◌-◌, Ok, inl, refl, sym, ap}
+use Rattle.std.specs.Prelude.{string_bytes, codes, decimal, ℕ}
 use Rattle.job_desk.specs.Desks.{job_of}
-use Rattle.http_front.specs.declared.reply.Reply.TheVariants.{Text}
-use Rattle.coverage_server.specs.Answered.{Moves}
-use Rattle.coverage_server.specs.Machine.{StepsJob}
-use Rattle.coverage_server.specs.Views.{ServerView, session}
-use Rattle.coverage_server.proofs.JobLemmas.{absent_left, step_absent, job_shown, plan_shown, stepped, step_refused_as}
+use Rattle.job_desk.specs.Steps.{Ends}
+use Rattle.coverage_server.specs.Holding.{ReleasesFor}
+use Rattle.coverage_server.specs.Views.{ServerView}
+use Rattle.coverage_server.proofs.FaultLemmas.{any_err}
+use Rattle.coverage_server.proofs.StepLemmas.{absent_left, step_absent, job_told, is_asked, asked_signatures, step_done, StepDone, ends_as, step_ok, step_err, step_leaves}
 use Rattle.coverage_server.proofs.jobs.step_job.Goals as goal
 
 pub returns-in_default-clause-answered : goal.returns-in_default-clause-answered
 returns-in_default-clause-answered g c =
     step_absent c.args.cells.now.coverages c.args.desk.now c.args.number c.args.units (absent_left c.args.number c.args.desk.now.jobs c.in_default.ensures)
 
-pub returns-in-Ok-clause-answered : goal.returns-in-Ok-clause-answered
-returns-in-Ok-clause-answered g c =
+pub returns-then-left-eq0-clause-answered : goal.returns-then-left-eq0-clause-answered
+returns-then-left-eq0-clause-answered g c =
     let old = c.args.desk.now in
     let n = c.args.number in
-    let x = c.in-Ok.ensures.stepped in
-    let shown = job_shown n c.in-Some.left old.jobs x.was x.held c.in-Some.ensures in
-    let asked = c.in_ok-ask.ensures.asked ∙ plan_shown n c.in-Some-coverages.coverages.now old.jobs x.was x.held c.in-Some-coverages.ensures.coverages in
+    let told = job_told (job_of n old.jobs) c.in-Some.left c.in-Some.ensures in
     let text : string_bytes c.in_ok-reply.reply ≡ codes "left " ++ decimal (c.in-Some.left - c.args.units) ++ codes "\n" = search rules in
-    let reply = text ∙ ap (λ l. codes "left " ++ decimal (l - c.args.units) ++ codes "\n") shown in
-    subst (λ (v : ServerView). Moves (StepsJob n c.args.units) (session v old) (Text c.in_ok-reply.reply) (session c.step.new.source.coverages c.step.new.self)) c.in_ok-ask.ensures.coverages
-    (stepped c.ask.new.self.coverages c.step.new.source.coverages (ap (λ (k : ServerView × List Signature). k.0.store) c.in-Ok.ensures.same.kept) old c.step.new.self c.ask.new.self.asked.items n c.args.units c.in-Ok.field-0 x asked c.in_ok-reply.reply reply)
+    let reply = text ∙ ap (λ l. codes "left " ++ decimal (l - c.args.units) ++ codes "\n") c.if-left-eq0.true in
+    step_done c.args.cells.now.coverages old n c.args.units told.0 told.1 (sym told.2 ∙ c.if-left-eq0.true) c.in_ok-reply.reply reply
+
+pub ask-requires : goal.ask-requires
+ask-requires g c =
+    let old = c.args.desk.now in
+    let told = job_told (job_of c.args.number old.jobs) c.in-Some.left c.in-Some.ensures in
+    record {
+      held = (is_asked c.args.cells.now.coverages old c.args.number c.in-Some.left _ c.requires.holding c.in-Some.ensures c.in-Some-coverages.ensures.coverages c.if-left-eq0.false told.0 told.1).held;
+    }
+
+pub step-requires : goal.step-requires
+step-requires g c =
+    let v = c.args.cells.now.coverages in
+    let old = c.args.desk.now in
+    let n = c.args.number in
+    let told = job_told (job_of n old.jobs) c.in-Some.left c.in-Some.ensures in
+    let x = is_asked v old n c.in-Some.left _ c.requires.holding c.in-Some.ensures c.in-Some-coverages.ensures.coverages c.if-left-eq0.false told.0 told.1 in
+    let read = asked_signatures v c.ask.new.self.coverages n c.ask.new.self.job _ c.ask.new.self.places.items c.in_ok-ask.ensures.coverages c.in_ok-ask.ensures.job c.in_ok-ask.ensures.read in
+    rw told.1 (λ some. read ∙ x.coverages)
+
+pub returns-in-Ok-clause-answered : goal.returns-in-Ok-clause-answered
+returns-in-Ok-clause-answered g c =
+    let x = c.in-Ok.ensures.source in
+    let w = c.step.new.source.coverages in
+    let ends : Ends (Ok c.in-Ok.field-0) (w ≡ x.0.coverages) (ReleasesFor c.args.number x.0.coverages w) = ends_as (Ok c.in-Ok.field-0) (λ e. rw e refl) (λ r. r) x.3 in
+    let text : string_bytes c.in_ok-reply.reply ≡ codes "left " ++ decimal (c.in-Some.left - c.args.units) ++ codes "\n" = search rules in
+    let done = step_ok c.args.cells.now.coverages c.ask.new.self.coverages c.args.desk.now c.step.new.self c.args.number c.args.units c.in-Some.left c.in-Some-coverages.coverages.now c.ask.new.self.places.items
+    c.ask.new.self.job c.in_ok-ask.ensures.coverages c.in_ok-ask.ensures.job c.in_ok-ask.ensures.read c.in-Some-coverages.ensures.desk c.requires.holding c.in-Some.ensures c.in-Some-coverages.ensures.coverages c.if-left-eq0.false
+    x.0.coverages (ap (λ (k : ServerView × ℕ × List ℕ). k.0) x.1.same.kept) w c.in-Ok.field-0 c.in-Ok.ensures.stepped ends x.2 in
+    done.moves c.in_ok-reply.reply text
+
+pub returns-in-Ok-clause-holding : goal.returns-in-Ok-clause-holding
+returns-in-Ok-clause-holding g c =
+    let x = c.in-Ok.ensures.source in
+    let w = c.step.new.source.coverages in
+    let ends : Ends (Ok c.in-Ok.field-0) (w ≡ x.0.coverages) (ReleasesFor c.args.number x.0.coverages w) = ends_as (Ok c.in-Ok.field-0) (λ e. rw e refl) (λ r. r) x.3 in
+    (step_ok c.args.cells.now.coverages c.ask.new.self.coverages c.args.desk.now c.step.new.self c.args.number c.args.units c.in-Some.left c.in-Some-coverages.coverages.now c.ask.new.self.places.items
+    c.ask.new.self.job c.in_ok-ask.ensures.coverages c.in_ok-ask.ensures.job c.in_ok-ask.ensures.read c.in-Some-coverages.ensures.desk c.requires.holding c.in-Some.ensures c.in-Some-coverages.ensures.coverages c.if-left-eq0.false
+    x.0.coverages (ap (λ (k : ServerView × ℕ × List ℕ). k.0) x.1.same.kept) w c.in-Ok.field-0 c.in-Ok.ensures.stepped ends x.2).holding
 
 pub returns-in-Err-clause-answered : goal.returns-in-Err-clause-answered
 returns-in-Err-clause-answered g c =
-    let old = c.args.desk.now in
-    let n = c.args.number in
-    let asked = λ (was : Held) (held : job_of n old.jobs ≡ Some was). c.in_ok-ask.ensures.asked ∙ plan_shown n c.in-Some-coverages.coverages.now old.jobs was held c.in-Some-coverages.ensures.coverages in
-    step_refused_as c.args.cells.now.coverages c.ask.new.self.coverages c.step.new.source.coverages c.in_ok-ask.ensures.coverages (ap (λ (k : ServerView × List Signature). k.0.store) c.in-Err.ensures.same.kept) old c.step.new.self
-    c.ask.new.self.asked.items n c.args.units c.in-Some-coverages.ensures.desk asked c.in-Err.error c.step_refusal.result c.step_refusal.ensures c.in-Err.ensures.refused c.in-Err.ensures.reports
+    let x = c.in-Err.ensures.source in
+    let w : c.step.new.source.coverages ≡ x.0.coverages = rw x.3 refl in
+    (step_err c.args.cells.now.coverages c.ask.new.self.coverages c.args.desk.now c.step.new.self c.args.number c.args.units c.in-Some.left c.in-Some-coverages.coverages.now c.ask.new.self.places.items
+    c.ask.new.self.job c.in_ok-ask.ensures.coverages c.in_ok-ask.ensures.job c.in_ok-ask.ensures.read c.in-Some-coverages.ensures.desk c.requires.holding c.in-Some.ensures c.in-Some-coverages.ensures.coverages c.if-left-eq0.false
+    x.0.coverages (ap (λ (k : ServerView × ℕ × List ℕ). k.0) x.1.same.kept) c.step.new.source.coverages c.in-Err.error c.step_refusal.result w c.step_refusal.ensures c.in-Err.ensures.refused x.2).0
+
+pub returns-in-Err-clause-holding : goal.returns-in-Err-clause-holding
+returns-in-Err-clause-holding g c =
+    let x = c.in-Err.ensures.source in
+    let w : c.step.new.source.coverages ≡ x.0.coverages = rw x.3 refl in
+    (step_err c.args.cells.now.coverages c.ask.new.self.coverages c.args.desk.now c.step.new.self c.args.number c.args.units c.in-Some.left c.in-Some-coverages.coverages.now c.ask.new.self.places.items
+    c.ask.new.self.job c.in_ok-ask.ensures.coverages c.in_ok-ask.ensures.job c.in_ok-ask.ensures.read c.in-Some-coverages.ensures.desk c.requires.holding c.in-Some.ensures c.in-Some-coverages.ensures.coverages c.if-left-eq0.false
+    x.0.coverages (ap (λ (k : ServerView × ℕ × List ℕ). k.0) x.1.same.kept) c.step.new.source.coverages c.in-Err.error c.step_refusal.result w c.step_refusal.ensures c.in-Err.ensures.refused x.2).1
+
+pub returns-in-Err-clause-jobs : goal.returns-in-Err-clause-jobs
+returns-in-Err-clause-jobs g c = step_leaves _ _ c.args.number c.args.units c.args.desk.now c.step.new.self c.in-Err.error c.in-Err.ensures.refused
+
+pub returns-in_default-clause-jobs : goal.returns-in_default-clause-jobs
+returns-in_default-clause-jobs g c = inl refl
+
+pub returns-in_default-coverages-clause-jobs : goal.returns-in_default-coverages-clause-jobs
+returns-in_default-coverages-clause-jobs g c = inl refl
+
+pub returns-in_err-reply-clause-jobs : goal.returns-in_err-reply-clause-jobs
+returns-in_err-reply-clause-jobs g c = any_err _ _ (inl refl)
+
+pub returns-in_err-ask-clause-jobs : goal.returns-in_err-ask-clause-jobs
+returns-in_err-ask-clause-jobs g c = any_err _ _ (inl refl)

@@ -54,9 +54,8 @@ loop-fields-preserved g c =
 pub returns-in-Err-clause-refused : goal.returns-in-Err-clause-refused
 returns-in-Err-clause-refused g c =
     let split = items_split _ _ _ _ _ c.loop-fields.invariant.2 (c.in-Some.ensures.steps.0) in
-    rw c.attach_fault.ensures
-    (attach_departs _ c.in-Err.fault (λ e tiles. c.in-Err.ensures.why.for_damage (ap Err e)
-    (next_tiles _ _ _ _ _ _ _ _ _ _ c.loop-fields.invariant.0 c.requires.counted split (rw c.in_ok-signatures.ensures at c.index.ensures) tiles)) (λ e. c.in-Err.ensures.no_disk (ap Err e)))
+    attach_departs _ c.in-Err.fault c.attach_fault.result (λ e tiles. c.in-Err.ensures.why.for_damage (ap Err e)
+    (next_tiles _ _ _ _ _ _ _ _ _ _ c.loop-fields.invariant.0 c.requires.counted split (rw c.in_ok-signatures.ensures at c.index.ensures) tiles)) c.attach_fault.ensures
 
 pub returns-clause-coverages : goal.returns-clause-coverages
 returns-clause-coverages g c =

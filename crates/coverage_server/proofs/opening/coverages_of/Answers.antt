@@ -22,7 +22,7 @@ attach_all-requires-clause-blocks g c before new after split =
 pub new-requires : goal.new-requires
 new-requires g c =
     layout_ready _ _ _ _ c.in-Ok.layout.catalogue (items_of c.in-Ok.layout.indexes.items) c.attach_all.new.cells c.requires.fresh c.in-Ok.ensures.claims
-    c.in-Ok-attach_all.ensures.coverages c.in-Ok-attach_all.ensures.indexes
+    c.in-Ok-attach_all.ensures.coverages c.in-Ok-attach_all.ensures.indexes c.attach_all.ensures.unheld
     (ap (λ (b : BlockFileView). b.marks) (c.attach_all.ensures.blocks ∙ c.new-cells.ensures.blocks ∙ c.new-pool.ensures))
 
 pub returns-in-Ok-attach_all-clause-lists : goal.returns-in-Ok-attach_all-clause-lists

@@ -1,5 +1,5 @@
 -- A coverage of a new name and a spelled domain comes into the store, or is refused as the machine has it.
-use Rattle.std.proofs.Common.{rules, ◌≡◌, None, ap, ◌∙◌, subst}
+use Rattle.std.proofs.Common.{rules, ◌≡◌, None, refl, ap, ◌∙◌, subst}
 use Rattle.std.proofs.lemmas.Result.{err_from_is_err_and}
 use Rattle.arr_core.specs.declared.signature.Signature.{Signature}
 use Rattle.arr_core.specs.Stores.{found, inserted}
@@ -7,6 +7,7 @@ use Rattle.catalogue.specs.Signatures.{MayInsert}
 use Rattle.coverage_server.specs.Machine.{SpellDomain, axes_of}
 use Rattle.coverage_server.specs.Views.{signatures_of}
 use Rattle.coverage_server.specs.Writing.{InsertRefused}
+use Rattle.coverage_server.proofs.FreeLemmas.{unchanged, none_changed}
 use Rattle.coverage_server.proofs.InsertLemmas.{signature_alike, insert_refused, insert_done}
 use Rattle.coverage_server.proofs.WriteLemmas.{not_there}
 use Rattle.coverage_server.proofs.server.insert.Goals as goal
@@ -37,3 +38,18 @@ returns-clause-answered g c =
     insert_done v c.insert.new.self u.coverage u.intervals.items u.fields.items none spelled
     (subst (λ (s : Signature). MayInsert (signatures_of v.store) s) same c.in_ok-insert.ensures.inserted.may) c.in_ok-reply.reply c.in_ok-reply.ensures.ok
     (subst (λ (s : Signature). c.insert.new.self.store ≡ inserted s.name s.domain s.fields v.store) same c.in_ok-insert.ensures.inserted.inserted)
+
+pub returns-then-is_some-clause-unchanged : goal.returns-then-is_some-clause-unchanged
+returns-then-is_some-clause-unchanged g c = unchanged c.args.coverages.now c.args.coverages.now refl
+
+pub returns-in_err-domain-clause-unchanged : goal.returns-in_err-domain-clause-unchanged
+returns-in_err-domain-clause-unchanged g c = none_changed _ c.args.coverages.now c.args.coverages.now refl
+
+pub returns-in_err-fields-clause-unchanged : goal.returns-in_err-fields-clause-unchanged
+returns-in_err-fields-clause-unchanged g c = none_changed _ c.args.coverages.now c.args.coverages.now refl
+
+pub returns-in_err-name-clause-unchanged : goal.returns-in_err-name-clause-unchanged
+returns-in_err-name-clause-unchanged g c = none_changed _ c.args.coverages.now c.args.coverages.now refl
+
+pub returns-in_err-reply-clause-unchanged : goal.returns-in_err-reply-clause-unchanged
+returns-in_err-reply-clause-unchanged g c = none_changed _ c.args.coverages.now c.args.coverages.now refl

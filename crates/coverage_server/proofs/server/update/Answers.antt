@@ -1,5 +1,5 @@
 -- A box of a field that is there is written or refused as the machine has it, and the failures do not fall.
-use Rattle.std.proofs.Common.{◌≡◌, List, ap, ◌∙◌, subst}
+use Rattle.std.proofs.Common.{◌≡◌, List, refl, ap, ◌∙◌, subst}
 use Rattle.std.proofs.lemmas.Result.{err_from_is_err_and}
 use Rattle.arr_core.specs.declared.domain.Axis.{Axis}
 use Rattle.arr_core.specs.Stores.{updated}
@@ -7,10 +7,11 @@ use Rattle.kvp_front.specs.Contents.{content_view}
 use Rattle.coverage_server.specs.Machine.{SpellDomain, axes_of}
 use Rattle.coverage_server.specs.Room.{numbers_of}
 use Rattle.coverage_server.specs.Writing.{MayWrite, WriteRefused}
+use Rattle.coverage_server.proofs.FreeLemmas.{unchanged, none_changed, same_kept}
 use Rattle.coverage_server.proofs.ListLemmas.{position_within}
 use Rattle.coverage_server.proofs.MachineLemmas.{at_field}
 use Rattle.coverage_server.proofs.FaultLemmas.{never_fewer}
-use Rattle.coverage_server.proofs.UpdateLemmas.{has_field, busy_refused, area_refused, write_answered, write_done}
+use Rattle.coverage_server.proofs.UpdateLemmas.{has_field, area_refused, write_answered, write_done}
 use Rattle.coverage_server.proofs.server.update.Goals as goal
 
 pub write-requires : goal.write-requires
@@ -28,7 +29,7 @@ returns-in_err-area-clause-answered g c =
     let place = at_field u.field c.as_str.result.now x.0 c.in-Some.signature.now c.in-Some-place_of.field c.as_str.ensures.value x.2 c.in-Some-place_of.ensures in
     let p = err_from_is_err_and c.from_residual.result c.from_residual.ensures.1 in
     rw (p.1, p.2)
-    (area_refused c.args.busy v u.coverage u.field u.intervals.items (content_view u.content) x.0 x.1 c.in-Some-place_of.field place c.if-busy.false c.in_err-area.field-0.0 c.deref.result.now c.deref.ensures.value c.in_err-area.ensures.err)
+    (area_refused v u.coverage u.field u.intervals.items (content_view u.content) x.0 x.1 c.in-Some-place_of.field place c.in_err-area.field-0.0 c.deref.result.now c.deref.ensures.value c.in_err-area.ensures.err)
 
 pub returns-in_err-write-clause-answered : goal.returns-in_err-write-clause-answered
 returns-in_err-write-clause-answered g c =
@@ -41,7 +42,7 @@ returns-in_err-write-clause-answered g c =
     let area : c.in_ok-area.area ≡ axes_of u.intervals.items = c.in_ok-area.ensures.ok.1 ∙ ap axes_of c.deref.ensures.value in
     let p = err_from_is_err_and c.from_residual-in_err-write.result c.from_residual-in_err-write.ensures.1 in
     rw (p.1, p.2)
-    (write_answered c.args.busy c.if-busy.false v c.write.new.self u.coverage u.field u.intervals.items (content_view u.content) x.0 x.1 k place spelled c.in_err-write.field-0.0
+    (write_answered v c.write.new.self u.coverage u.field u.intervals.items (content_view u.content) x.0 x.1 k place spelled c.in_err-write.field-0.0
     (subst (λ (a : List Axis). WriteRefused u.coverage k a (content_view u.content) v c.in_err-write.field-0.0) area c.in_err-write.ensures.refused)
     c.in_err-write.ensures.told.told c.in_err-write.ensures.unchanged)
 
@@ -54,19 +55,36 @@ returns-clause-answered g c =
     let place = at_field u.field c.as_str.result.now x.0 c.in-Some.signature.now k c.as_str.ensures.value x.2 c.in-Some-place_of.ensures in
     let spelled : SpellDomain u.intervals.items = subst SpellDomain c.deref.ensures.value c.in_ok-area.ensures.ok.0 in
     let area : c.in_ok-area.area ≡ axes_of u.intervals.items = c.in_ok-area.ensures.ok.1 ∙ ap axes_of c.deref.ensures.value in
-    write_done c.args.busy c.if-busy.false v c.write.new.self u.coverage u.field u.intervals.items (content_view u.content) x.0 x.1 k place spelled c.in_ok-reply.reply c.in_ok-reply.ensures.ok
+    write_done v c.write.new.self u.coverage u.field u.intervals.items (content_view u.content) x.0 x.1 k place spelled c.in_ok-reply.reply c.in_ok-reply.ensures.ok
     (subst (λ (a : List Axis). MayWrite u.coverage k a (content_view u.content) v.store) area c.in_ok-write.ensures.done.may)
     (λ honest. subst (λ (a : List Axis). c.write.new.self.store ≡ updated u.coverage k a (numbers_of a (content_view u.content)) v.store) area (c.in_ok-write.ensures.done.written honest))
-
-pub returns-then-busy-clause-answered : goal.returns-then-busy-clause-answered
-returns-then-busy-clause-answered g c =
-    let u = c.args.update.now in
-    let x = c.in-Some.ensures in
-    let place = at_field u.field c.as_str.result.now x.0 c.in-Some.signature.now c.in-Some-place_of.field c.as_str.ensures.value x.2 c.in-Some-place_of.ensures in
-    busy_refused c.args.busy c.args.coverages.now u.coverage u.field u.intervals.items (content_view u.content) x.0 x.1 c.in-Some-place_of.field place c.if-busy.true
 
 pub returns-clause-no_fewer : goal.returns-clause-no_fewer
 returns-clause-no_fewer g c = never_fewer _ _ _ c.write.ensures.told
 
 pub returns-in_err-write-clause-no_fewer : goal.returns-in_err-write-clause-no_fewer
 returns-in_err-write-clause-no_fewer g c = never_fewer _ _ _ c.write.ensures.told
+
+pub returns-in_default-clause-unchanged : goal.returns-in_default-clause-unchanged
+returns-in_default-clause-unchanged g c = unchanged c.args.coverages.now c.args.coverages.now refl
+
+pub returns-in_default-clause-held : goal.returns-in_default-clause-held
+returns-in_default-clause-held g c = same_kept c.args.coverages.now c.args.coverages.now refl
+
+pub returns-in_default-place_of-clause-unchanged : goal.returns-in_default-place_of-clause-unchanged
+returns-in_default-place_of-clause-unchanged g c = unchanged c.args.coverages.now c.args.coverages.now refl
+
+pub returns-in_default-place_of-clause-held : goal.returns-in_default-place_of-clause-held
+returns-in_default-place_of-clause-held g c = same_kept c.args.coverages.now c.args.coverages.now refl
+
+pub returns-in_err-area-clause-unchanged : goal.returns-in_err-area-clause-unchanged
+returns-in_err-area-clause-unchanged g c = none_changed _ c.args.coverages.now c.args.coverages.now refl
+
+pub returns-in_err-area-clause-held : goal.returns-in_err-area-clause-held
+returns-in_err-area-clause-held g c = same_kept c.args.coverages.now c.args.coverages.now refl
+
+pub returns-in_err-reply-clause-unchanged : goal.returns-in_err-reply-clause-unchanged
+returns-in_err-reply-clause-unchanged g c = none_changed _ c.args.coverages.now c.args.coverages.now refl
+
+pub returns-in_err-reply-clause-held : goal.returns-in_err-reply-clause-held
+returns-in_err-reply-clause-held g c = same_kept c.args.coverages.now c.args.coverages.now refl

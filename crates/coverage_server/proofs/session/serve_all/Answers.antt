@@ -1,5 +1,6 @@
 -- Each connection is served from the store that the one before left.
-use Rattle.std.proofs.Common.{◌<◌, ◌∙◌, length, arith}
+use Rattle.std.proofs.Common.{◌<◌, ◌∙◌, length, sym, subst, arith}
+use Rattle.std.specs.Prelude.{IsTrue}
 use Rattle.std.proofs.lemmas.List.{length-set}
 use Rattle.coverage_server.proofs.SessionLemmas.{served-more, rest_kept}
 use Rattle.coverage_server.proofs.session.serve_all.Goals as goal
@@ -12,13 +13,13 @@ loop-connection-preserved g c =
     let first : i < length c.args.connections.now = omega (arith, inside, v.2) in
     let fewer = c.serve_connection-end.ensures.no_fewer in
     let so_far = v.6 in (
-      λ sound s r.
-          let before = v.0 sound s r in
-          let after = c.serve_connection-end.ensures.served (v.3 sound) before.0 before.1 in (
+      λ sure s r.
+          let before = v.0 sure s r in
+          let after = c.serve_connection-end.ensures.served (subst IsTrue (sym v.5) sure) before.0 before.1 in (
             after.0,
             after.1,
             served-more g.R.Source.remaining g.R.Source.failed g.W.Sink.contents g.W.Sink.failed c.args.connections.now c.loop-connection.connections i
-                c.connection-item.result (c.serve_connection-end.new.reader, c.serve_connection-end.new.writer) _ _ _ s before.0 after.0 _ v.2 first v.1 so_far fewer before.2
+                c.connection-item.result (c.serve_connection-end.new.reader, c.serve_connection-end.new.writer) _ _ _ _ _ s before.0 after.0 _ v.3 v.2 first v.1 so_far fewer before.2
                 c.serve_connection-end.ensures.told after.2,
           ),
       rest_kept c.args.connections.now c.loop-connection.connections i (c.serve_connection-end.new.reader, c.serve_connection-end.new.writer) v.1,

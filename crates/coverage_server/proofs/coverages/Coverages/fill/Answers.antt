@@ -1,6 +1,7 @@
 -- A box filled on an honest disk has the cell everywhere; a refusal has its reason, and the header stays.
 use Rattle.std.proofs.Common.{ap}
 use Rattle.block_file.proofs.Headers.{keeps_header}
+use Rattle.coverage_server.proofs.FreeLemmas.{stays_ready, written_ready}
 use Rattle.coverage_server.proofs.WriteLemmas.{fill_done, fill_refused}
 use Rattle.coverage_server.proofs.coverages.Coverages.fill.Goals as goal
 use Rattle.coverage_server.proofs.coverages.Coverages.fill.Goals.{in-Ok, in-Err}
@@ -23,4 +24,10 @@ pub returns-clause-header : goal.returns-clause-header
 returns-clause-header g c = elim c.match-fill_box.branch [
   | in-Ok w ↦ rw (← c.self.view_is) (keeps_header _ _ w.in-Ok.ensures.done.1.moves.header)
   | in-Err w ↦ rw (← c.self.view_is) (keeps_header _ _ w.in-Err.ensures.same.moves.header)
+]
+
+pub invariant_of-self : goal.invariant_of-self
+invariant_of-self g c = elim c.match-fill_box.branch [
+  | in-Ok w ↦ written_ready c.self.inside.catalogue _ _ _ _ _ c.self.inside.cells c.fill_box.new.self c.self.invariant c.bytes_len-bytes.ensures w.in-Ok.ensures.done.1 w.in-Ok.ensures.snapshots
+  | in-Err w ↦ stays_ready c.self.inside.catalogue c.self.inside.cells c.fill_box.new.self c.self.invariant w.in-Err.ensures.same w.in-Err.ensures.snapshots
 ]

@@ -3,4 +3,4 @@ use Rattle.coverage_server.proofs.FreeLemmas.{header_ready}
 use Rattle.coverage_server.proofs.coverages.Coverages.write_header.Goals as goal
 
 pub invariant_of-self : goal.invariant_of-self
-invariant_of-self g c = header_ready c.self.inside.catalogue c.self.inside.cells c.write_header.new.self c.self.invariant c.write_header.ensures.same c.write_header.ensures.frame
+invariant_of-self g c = header_ready c.self.inside.catalogue c.self.inside.cells c.write_header.new.self c.self.invariant c.write_header.ensures.same c.write_header.ensures.frame c.write_header.ensures.snapshots

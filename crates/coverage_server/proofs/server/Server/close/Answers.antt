@@ -1,5 +1,6 @@
 -- What is left of a server that is not closed is what its parts leave.
 use Rattle.std.proofs.Common.{Err, ap, ◌∙◌}
+use Rattle.coverage_server.proofs.HoldingLemmas.{holding_same}
 use Rattle.coverage_server.proofs.FaultLemmas.{never_fewer}
 use Rattle.coverage_server.proofs.server.Server.close.Goals as goal
 
@@ -14,3 +15,6 @@ returns-in-Err-clause-refused g c =
       honest = c.write_closed.ensures.honest;
       no_fewer = never_fewer _ _ _ c.write_closed.ensures.told;
     })
+
+pub invariant_of-result : goal.invariant_of-result
+invariant_of-result g c = holding_same c.self.inside.desk c.self.inside.cells.coverages.held c.write_closed.new.coverages.held c.write_closed.ensures.unchanged.held.told c.self.invariant

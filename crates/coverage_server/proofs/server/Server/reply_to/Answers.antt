@@ -1,35 +1,34 @@
 -- The reply to a message whose pairs came.
 use Rattle.std.proofs.Common.{◌≡◌, ◌∙◌, ℕ, List, Result, Ok, sym, ap, subst}
-use Rattle.disk_face.specs.Disk.{Rose}
 use Rattle.http_front.specs.declared.reply.Reply.TheVariants.{Refused}
 use Rattle.http_front.specs.Stream.{Shows}
 use Rattle.kvp_front.specs.Requests.{asks, spelled}
 use Rattle.coverage_server.specs.Machine.{MessageStep}
-use Rattle.coverage_server.proofs.ReplyLemmas.{spelled_step, spelled_badly}
+use Rattle.coverage_server.proofs.ReplyLemmas.{may_answer, spelled_step, spelled_badly}
 use Rattle.coverage_server.proofs.server.Server.reply_to.Goals as goal
 
 pub returns-in-Ok-clause-step : goal.returns-in-Ok-clause-step
 returns-in-Ok-clause-step g c =
     let v = c.args.self.now in
     let w = c.answer.new.self in
-    λ sound s r asked shows.
+    λ sure s r asked shows.
     let told : asked ≡ Ok c.in-Message.pairs.items = subst (Shows asked) c.in-Message.is shows in
-    let x = c.answer.ensures.step sound s r in
+    let x = c.answer.ensures.step sure s r in
     let read : spelled c.in-Message.pairs.items ≡ Ok (asks c.in-Ok.request) = ap spelled (sym c.as_slice.ensures.value) ∙ c.in-Ok.ensures in (
       x.0,
       x.1,
-      subst (λ (a : Result (List ℕ) ℕ). MessageStep (Rose v.coverages.failures w.coverages.failures) s a c.answer.result x.0) (sym told)
+      subst (λ (a : Result (List ℕ) ℕ). MessageStep (may_answer v.coverages w.coverages) s a c.answer.result x.0) (sym told)
           (spelled_step (spelled c.in-Message.pairs.items) (asks c.in-Ok.request) v w s c.answer.result x.0 read x.2),
     )
 
 pub returns-in-Message-clause-step : goal.returns-in-Message-clause-step
 returns-in-Message-clause-step g c =
-    let failed = Rose c.args.self.now.coverages.failures c.args.self.now.coverages.failures in
-    λ sound s r asked shows.
+    let may = may_answer c.args.self.now.coverages c.args.self.now.coverages in
+    λ sure s r asked shows.
     let told : asked ≡ Ok c.in-Message.pairs.items = subst (Shows asked) c.in-Message.is shows in (
       s,
       r,
-      subst (λ (a : Result (List ℕ) ℕ). MessageStep failed s a (Refused c.number.result) s) (sym told)
-          (subst (λ (bytes : List ℕ). MessageStep failed s (Ok bytes) (Refused c.number.result) s) c.as_slice.ensures.value
-          (spelled_badly failed (spelled c.as_slice.result.now) c.in-Err.error c.number.result s c.number.ensures c.in-Err.ensures)),
+      subst (λ (a : Result (List ℕ) ℕ). MessageStep may s a (Refused c.number.result) s) (sym told)
+          (subst (λ (bytes : List ℕ). MessageStep may s (Ok bytes) (Refused c.number.result) s) c.as_slice.ensures.value
+          (spelled_badly may (spelled c.as_slice.result.now) c.in-Err.error c.number.result s c.number.ensures c.in-Err.ensures)),
     )

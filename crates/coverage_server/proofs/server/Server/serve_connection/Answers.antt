@@ -1,16 +1,17 @@
 -- The replies are those of one run over the messages that came, and the end tells what failed, if anything did.
-use Rattle.std.proofs.Common.{[], refl, sym, ap, ◌∙◌, arith}
+use Rattle.std.proofs.Common.{[], refl, sym, ap, ◌∙◌, subst, arith}
+use Rattle.std.specs.Prelude.{IsTrue}
 use Rattle.std.proofs.KnownBytes.{Appends-nil, Consumes-nil}
 use Rattle.stream_face.specs.Faults.{fault_told}
 use Rattle.http_front.proofs.TakenLemmas.{found_item}
-use Rattle.coverage_server.proofs.ServingLemmas.{ended, faulted, answered, unwritten, continued, roomy, step-later, rose-by, rose-since, quiet_item}
+use Rattle.coverage_server.proofs.ServingLemmas.{ended, faulted, answered, unwritten, continued, roomy, step-later, may-by, may-since, quiet_item}
 use Rattle.coverage_server.proofs.server.Server.serve_connection.Goals as goal
 
 pub serving-init : goal.serving-init
 serving-init g c = record {
   going = c.new-conn.ensures.open;
   few = omega (arith, c.new-conn.ensures.count);
-  served = λ sound s r. (
+  served = λ sure s r. (
     s,
     r,
     record {
@@ -35,7 +36,7 @@ serving-init g c = record {
 pub returns-in-Ended-clause-served : goal.returns-in-Ended-clause-served
 returns-in-Ended-clause-served g c =
     let f = c.in-Ended.ensures.found c.serving.invariant.going in
-    λ sound s r. let x = c.serving.invariant.served sound s r in (x.0, x.1, ended x.2 (g.R.Source.remaining c.next.new.source) f.0 f.1 f.2.0 f.2.1)
+    λ sure s r. let x = c.serving.invariant.served sure s r in (x.0, x.1, ended x.2 (g.R.Source.remaining c.next.new.source) f.0 f.1 f.2.0 f.2.1)
 
 pub returns-in-Ended-clause-told : goal.returns-in-Ended-clause-told
 returns-in-Ended-clause-told g c = (c.in-Ended.ensures.told ∙ c.serving.invariant.read, c.serving.invariant.written)
@@ -43,7 +44,7 @@ returns-in-Ended-clause-told g c = (c.in-Ended.ensures.told ∙ c.serving.invari
 pub returns-in-ReadFault-clause-served : goal.returns-in-ReadFault-clause-served
 returns-in-ReadFault-clause-served g c =
     let f = c.in-ReadFault.ensures.found c.serving.invariant.going in
-    λ sound s r. let x = c.serving.invariant.served sound s r in (x.0, x.1, faulted x.2 (g.R.Source.remaining c.next.new.source) f.0 f.1 f.2.0)
+    λ sure s r. let x = c.serving.invariant.served sure s r in (x.0, x.1, faulted x.2 (g.R.Source.remaining c.next.new.source) f.0 f.1 f.2.0)
 
 pub returns-in-ReadFault-clause-told : goal.returns-in-ReadFault-clause-told
 returns-in-ReadFault-clause-told g c =
@@ -54,13 +55,13 @@ returns-in-Err-clause-served g c =
     let f = c.next.ensures.found c.serving.invariant.going in
     let x = found_item _ _ _ _ c.next.result _ _ f.2 c.in_default.not-Ended c.in_default.not-ReadFault in
     let inv = c.serving.invariant in
-    λ sound s r.
-    let y = inv.served sound s r in
-    let z = c.reply_to-reply.ensures.step (inv.sound sound) y.0 y.1 x.0.asked x.2 in (
+    λ sure s r.
+    let y = inv.served sure s r in
+    let z = c.reply_to-reply.ensures.step (subst IsTrue (sym inv.honest) sure) y.0 y.1 x.0.asked x.2 in (
       z.0,
       z.1,
       unwritten y.2 (g.R.Source.remaining c.next.new.source) f.0 f.1 _ x.0 x.1 z.0 _ _
-          (rose-by _ _ _ c.reply_to-reply.ensures.no_fewer) (step-later (rose-since _ _ _ inv.no_fewer) _ _ _ _ z.2) _ _ x.3 x.4 _ c.in-Err.ensures.sent.0,
+          (may-by _ _ _ _ c.reply_to-reply.ensures.no_fewer) (step-later (may-since _ _ _ _ _ inv.sound inv.no_fewer) _ _ _ _ z.2) _ _ x.3 x.4 _ c.in-Err.ensures.sent.0,
     )
 
 pub returns-in-Err-clause-told : goal.returns-in-Err-clause-told
@@ -75,13 +76,13 @@ returns-then-is_over-clause-served g c =
     let f = c.next.ensures.found c.serving.invariant.going in
     let x = found_item _ _ _ _ c.next.result _ _ f.2 c.in_default.not-Ended c.in_default.not-ReadFault in
     let inv = c.serving.invariant in
-    λ sound s r.
-    let y = inv.served sound s r in
-    let z = c.reply_to-reply.ensures.step (inv.sound sound) y.0 y.1 x.0.asked x.2 in (
+    λ sure s r.
+    let y = inv.served sure s r in
+    let z = c.reply_to-reply.ensures.step (subst IsTrue (sym inv.honest) sure) y.0 y.1 x.0.asked x.2 in (
       z.0,
       z.1,
       answered y.2 (g.R.Source.remaining c.next.new.source) f.0 f.1 _ x.0 x.1 z.0 _ _
-          (rose-by _ _ _ c.reply_to-reply.ensures.no_fewer) (step-later (rose-since _ _ _ inv.no_fewer) _ _ _ _ z.2) _ _ x.3 x.4 _ (sym c.is_over.ensures ∙ c.if-is_over.true) c.in-Ok.ensures.sent.0,
+          (may-by _ _ _ _ c.reply_to-reply.ensures.no_fewer) (step-later (may-since _ _ _ _ _ inv.sound inv.no_fewer) _ _ _ _ z.2) _ _ x.3 x.4 _ (sym c.is_over.ensures ∙ c.if-is_over.true) c.in-Ok.ensures.sent.0,
     )
 
 pub returns-then-is_over-clause-told : goal.returns-then-is_over-clause-told
@@ -102,13 +103,13 @@ serving-preserved-else-is_over g c =
     record {
       going = goes_on;
       few = roomy c.serving.conn.count c.serving.conn.buffer f.0 _ later x.0 x.1 _ x.3 _ counted goes_on inv.few;
-      served = λ sound s r.
-          let y = inv.served sound s r in
-          let z = c.reply_to-reply.ensures.step (inv.sound sound) y.0 y.1 x.0.asked x.2 in (
+      served = λ sure s r.
+          let y = inv.served sure s r in
+          let z = c.reply_to-reply.ensures.step (subst IsTrue (sym inv.honest) sure) y.0 y.1 x.0.asked x.2 in (
             z.0,
             z.1,
             continued y.2 later f.0 f.1 _ x.0 x.1 z.0 _ _
-                (rose-by _ _ _ c.reply_to-reply.ensures.no_fewer) (step-later (rose-since _ _ _ inv.no_fewer) _ _ _ _ z.2) _ _ x.3 x.4 _ _ counted goes_on c.in-Ok.ensures.sent.0,
+                (may-by _ _ _ _ c.reply_to-reply.ensures.no_fewer) (step-later (may-since _ _ _ _ _ inv.sound inv.no_fewer) _ _ _ _ z.2) _ _ x.3 x.4 _ _ counted goes_on c.in-Ok.ensures.sent.0,
           );
       read = quiet_item _ _ c.next.result c.next.ensures.told c.in_default.not-Ended c.in_default.not-ReadFault ∙ inv.read;
       written = c.in-Ok.ensures.sent.1 ∙ inv.written;
@@ -129,13 +130,13 @@ serving-preserved-else-is_over-2 g c =
     record {
       going = goes_on;
       few = roomy c.serving.conn.count c.serving.conn.buffer f.0 _ later x.0 x.1 _ x.3 _ counted goes_on inv.few;
-      served = λ sound s r.
-          let y = inv.served sound s r in
-          let z = c.reply_to-reply.ensures.step (inv.sound sound) y.0 y.1 x.0.asked x.2 in (
+      served = λ sure s r.
+          let y = inv.served sure s r in
+          let z = c.reply_to-reply.ensures.step (subst IsTrue (sym inv.honest) sure) y.0 y.1 x.0.asked x.2 in (
             z.0,
             z.1,
             continued y.2 later f.0 f.1 _ x.0 x.1 z.0 _ _
-                (rose-by _ _ _ c.reply_to-reply.ensures.no_fewer) (step-later (rose-since _ _ _ inv.no_fewer) _ _ _ _ z.2) _ _ x.3 x.4 _ _ counted goes_on c.in-Ok.ensures.sent.0,
+                (may-by _ _ _ _ c.reply_to-reply.ensures.no_fewer) (step-later (may-since _ _ _ _ _ inv.sound inv.no_fewer) _ _ _ _ z.2) _ _ x.3 x.4 _ _ counted goes_on c.in-Ok.ensures.sent.0,
           );
       read = quiet_item _ _ c.next.result c.next.ensures.told c.in_default.not-Ended c.in_default.not-ReadFault ∙ inv.read;
       written = c.in-Ok.ensures.sent.1 ∙ inv.written;
@@ -156,13 +157,13 @@ serving-preserved g c =
     record {
       going = goes_on;
       few = roomy c.serving.conn.count c.serving.conn.buffer f.0 _ later x.0 x.1 _ x.3 _ counted goes_on inv.few;
-      served = λ sound s r.
-          let y = inv.served sound s r in
-          let z = c.reply_to-reply.ensures.step (inv.sound sound) y.0 y.1 x.0.asked x.2 in (
+      served = λ sure s r.
+          let y = inv.served sure s r in
+          let z = c.reply_to-reply.ensures.step (subst IsTrue (sym inv.honest) sure) y.0 y.1 x.0.asked x.2 in (
             z.0,
             z.1,
             continued y.2 later f.0 f.1 _ x.0 x.1 z.0 _ _
-                (rose-by _ _ _ c.reply_to-reply.ensures.no_fewer) (step-later (rose-since _ _ _ inv.no_fewer) _ _ _ _ z.2) _ _ x.3 x.4 _ _ counted goes_on c.in-Ok.ensures.sent.0,
+                (may-by _ _ _ _ c.reply_to-reply.ensures.no_fewer) (step-later (may-since _ _ _ _ _ inv.sound inv.no_fewer) _ _ _ _ z.2) _ _ x.3 x.4 _ _ counted goes_on c.in-Ok.ensures.sent.0,
           );
       read = quiet_item _ _ c.next.result c.next.ensures.told c.in_default.not-Ended c.in_default.not-ReadFault ∙ inv.read;
       written = c.in-Ok.ensures.sent.1 ∙ inv.written;

@@ -1,5 +1,0 @@
-use Rattle.std.proofs.Common.{◌≡◌, take}
-use Rattle.coverage_server.proofs.cells.copies.Given as goal
-
-abbrev pub invariant-loop-signature : goal.invariant-loop-signature
-invariant-loop-signature l = l.list.items ≡ take l.signature-index l.signatures

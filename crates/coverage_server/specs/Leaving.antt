@@ -1,0 +1,60 @@
+-- What a refused request leaves of the jobs, on any disk.
+use Rattle.std.specs.Prelude.{◌≡◌, ◌⊎◌, ℕ, ◌≤◌, ⊤}
+use Rattle.job_desk.specs.declared.answer.Answer.TheVariants as given
+use Rattle.job_desk.specs.declared.job.Job.{Job as Held}
+use Rattle.job_desk.specs.Desks.{DeskView, IsFetched}
+use Rattle.job_desk.specs.Steps.{IsChanged}
+use Rattle.tile_exec.specs.Standing.{plan_of, left_of}
+use Rattle.wcps_mean.specs.declared.cell.PointFault.{PointFault}
+use Rattle.wcps_mean.specs.Faults.{number_of as fault_number}
+use Rattle.http_front.specs.declared.reply.Reply.{Reply}
+use Rattle.http_front.specs.declared.reply.Reply.TheVariants.{Text, Csv, Refused}
+use Rattle.kvp_front.specs.Requests.{Asks, insert_coverage, update_coverage, delete_coverage, list_coverages, describe_coverage, process_coverages, submit_query, step_job, fetch_job, cancel_job, expand_template, process_template}
+use Rattle.coverage_server.specs.declared.arguments.Refusal.{Refusal}
+use Rattle.coverage_server.specs.declared.arguments.Refusal.TheVariants.{Numbered, NoMemory, DiskFault, NoRoom, Damaged}
+
+-- A job is as it was, but that its executor may have done some of the units that it shows as left.
+pub record IsStill (was is : Held) : Type 0 where
+  pub number : is.number ≡ was.number
+  pub names : is.names ≡ was.names
+  pub left : is.left ≡ was.left
+  pub plan : plan_of is.exec ≡ plan_of was.exec
+  pub fewer : left_of is.exec ≤ left_of was.exec
+
+-- the jobs are as they were, but for one that is so
+abbrev pub LeavesJob : ℕ → DeskView → DeskView → Type 0
+LeavesJob n old new = (new ≡ old) ⊎ IsChanged IsStill n old new
+
+-- The jobs are as they were; or the refusal is the fault that was the answer of a job that was done, and which was fetched.
+abbrev pub LeavesFetched : ℕ → ℕ → DeskView → DeskView → Type 0
+LeavesFetched n code old new =
+    (new ≡ old) ⊎ ((f : PointFault) × (code ≡ fault_number f) × IsFetched n (given.Refused f) old new)
+
+-- what a request that is refused by a number leaves of the jobs
+abbrev pub LeavesJobs : Asks → ℕ → DeskView → DeskView → Type 0
+LeavesJobs (insert_coverage name intervals fields) code old new = new ≡ old
+LeavesJobs (update_coverage name field intervals cells) code old new = new ≡ old
+LeavesJobs (delete_coverage name) code old new = new ≡ old
+LeavesJobs list_coverages code old new = new ≡ old
+LeavesJobs (describe_coverage name) code old new = new ≡ old
+LeavesJobs (process_coverages query) code old new = new ≡ old
+LeavesJobs (submit_query query) code old new = new ≡ old
+LeavesJobs (step_job number units) code old new = LeavesJob number old new
+LeavesJobs (fetch_job number) code old new = LeavesFetched number code old new
+LeavesJobs (cancel_job number) code old new = new ≡ old
+LeavesJobs (expand_template template) code old new = new ≡ old
+LeavesJobs (process_template template) code old new = new ≡ old
+
+-- the number by which it is told why a request is refused
+abbrev pub refusal_number : Refusal → ℕ
+refusal_number (Numbered code) = code
+refusal_number NoMemory = 90
+refusal_number DiskFault = 91
+refusal_number NoRoom = 92
+refusal_number Damaged = 93
+
+-- what follows of a reply that is a refusal
+abbrev pub IfRefused : Reply → (ℕ → Type 0) → Type 0
+IfRefused (Text text) P = ⊤
+IfRefused (Csv text) P = ⊤
+IfRefused (Refused code) P = P code
