@@ -63,6 +63,17 @@ impl Accumulator {
         ensures op { self.new.running.op ≡ self.old.running.op }
         ensures count { self.new.running.count ≡ self.old.running.count + other.running.count }
     {
+        self.take_over(&other);
+    }
+
+    /// Takes in the points that another accumulator of the same kind was told, which keeps them.
+    pub fn take_over(&mut self, other: &Accumulator)
+        requires op { self.old.running.op ≡ other.now.running.op }
+        requires room { self.old.running.count + other.now.running.count ≤ 2 ^ 24 }
+        ensures stands { (more : List Told) → Stands other.now more → TakesIn self.old self.new more }
+        ensures op { self.new.running.op ≡ self.old.running.op }
+        ensures count { self.new.running.count ≡ self.old.running.count + other.now.running.count }
+    {
         let first = least_fault(self.placed(), other.placed());
         self.running = joined(&self.running, &other.running, first.fault);
         self.place = first.place;
