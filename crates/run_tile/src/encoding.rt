@@ -4,10 +4,13 @@ ghost use Rattle.std.specs.Prelude.{◌≡◌, ◌≢◌, ◌+◌, ◌*◌, ◌<
 ghost use Rattle.arr_core.specs.Cells.{Fits};
 ghost use Rattle.run_tile.specs.Runs.{IsSpelling, IsRun, runs_in, run_size};
 ghost use Rattle.run_tile.specs.Bytes.{run_bytes};
+ghost use Rattle.run_tile.specs.Raw.{Spells, form_of, tile_size};
 
+use crate::raw::{count_runs, encode_raw};
 use crate::run::{Run, width};
 use arr_core::FieldType;
 use byteorder::{ByteOrder, LittleEndian};
+use file_bytes::Form;
 use std::alloc::{AllocError, Global};
 
 /// Where the cells that are equal to the one at a place end.
@@ -41,17 +44,19 @@ fn push_run(bytes: &mut Vec<u8>, kind: FieldType, run: Run) -> Result<(), AllocE
     Ok(())
 }
 
-/// The bytes that spell the cells, each run as long as it can be: 1 to 40,960 of them.
-pub fn encode(alloc: Global, kind: FieldType, cells: &[i64]) -> Result<Vec<u8>, AllocError>
-    requires some { 1 ≤ length cells.now }
+/// The bytes that spell the cells in runs, each as long as it can be.
+fn encode_runs(
+    alloc: Global,
+    kind: FieldType,
+    cells: &[i64],
+    size: usize,
+) -> Result<Vec<u8>, AllocError>
     requires few { length cells.now ≤ 4096 }
     requires of_type { All (Fits kind) cells.now }
     ensures spelled { IfOk result (λ bytes. IsSpelling kind bytes.items cells.now) }
     ensures length { IfOk result (λ bytes. length bytes.items ≡ runs_in cells.now * run_size kind) }
-    ensures some { IfOk result (λ bytes. 1 ≤ length bytes.items) }
-    ensures few { IfOk result (λ bytes. length bytes.items ≤ 40960) }
 {
-    let mut bytes = Vec::with_capacity(alloc, cells.len() * (2 + width(kind)))?;
+    let mut bytes = Vec::with_capacity(alloc, size)?;
     let mut at = 0;
     while at < cells.len() {
         let end = run_end(cells, at);
@@ -63,4 +68,26 @@ pub fn encode(alloc: Global, kind: FieldType, cells: &[i64]) -> Result<Vec<u8>, 
         at = end;
     }
     Ok(bytes)
+}
+
+/// The bytes that spell the cells, and their form: the cells one after the other where that takes fewer bytes than their
+/// runs, else runs, each as long as it can be. 1 to 32,768 bytes.
+pub fn encode(alloc: Global, kind: FieldType, cells: &[i64]) -> Result<(Form, Vec<u8>), AllocError>
+    requires some { 1 ≤ length cells.now }
+    requires few { length cells.now ≤ 4096 }
+    requires of_type { All (Fits kind) cells.now }
+    ensures spelled { IfOk result (λ it. Spells it.0 kind it.1.items cells.now) }
+    ensures form { IfOk result (λ it. it.0 ≡ form_of kind cells.now) }
+    ensures length { IfOk result (λ it. length it.1.items ≡ tile_size kind cells.now) }
+    ensures some { IfOk result (λ it. 1 ≤ length it.1.items) }
+    ensures few { IfOk result (λ it. length it.1.items ≤ 32768) }
+{
+    let raw = cells.len() * width(kind);
+    let runs = count_runs(cells) * (2 + width(kind));
+    if raw < runs {
+        let bytes = encode_raw(alloc, kind, cells)?;
+        return Ok((Form::Raw, bytes));
+    }
+    let bytes = encode_runs(alloc, kind, cells, runs)?;
+    Ok((Form::Runs, bytes))
 }

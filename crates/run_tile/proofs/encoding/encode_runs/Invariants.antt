@@ -1,6 +1,6 @@
 use Rattle.std.proofs.Common.{◌-◌, length}
 use Rattle.run_tile.proofs.Pushes.{IsWritten}
-use Rattle.run_tile.proofs.encoding.encode.Given as goal
+use Rattle.run_tile.proofs.encoding.encode_runs.Given as goal
 
 abbrev pub invariant-loop-at : goal.invariant-loop-at
 invariant-loop-at l = IsWritten l.kind l.cells l.bytes.items l.at
