@@ -91,5 +91,5 @@ def known_tiles(stored, k):
         try:
             found.append(store.cells_of(stored, k, number))
         except Refused:
-            found.append(stored.tiles[k][number][1])
+            found.append(stored.tiles[k][number])
     return found

@@ -14,9 +14,7 @@ def listed_in(data):
     catalogue = metadata.part().data
     found = store.catalogue(store.Bytes(catalogue))
     fields = [(it.axes, kind) for it in found.values() for _, kind in it.fields]
-    return catalogue, [
-        (axes, kind, store.index(metadata.part(), axes, store.version_of(data))) for axes, kind in fields
-    ]
+    return catalogue, [(axes, kind, store.index(metadata.part(), axes)) for axes, kind in fields]
 
 
 def with_length(data):
@@ -24,7 +22,7 @@ def with_length(data):
 
 
 def index_bytes(entries):
-    parts = [struct.pack(f"<II{len(blocks)}I", number, told, *blocks) for number, told, blocks in entries]
+    parts = [struct.pack(f"<II{len(blocks)}I", number, length, *blocks) for number, length, blocks in entries]
     return struct.pack("<I", len(entries)) + b"".join(parts)
 
 
@@ -174,18 +172,14 @@ class Files(Chance):
     def same_tile(self, entry, used, count):
         """The entry, and another of its tile in a block that nothing uses."""
         free = [block for block in range(1, count) if block not in used]
-        is_raw, length = store.form_and_length(entry[1])
-        told = is_raw * store.RAW + min(length, store.BLOCK)
-        return [entry, (entry[0], told, [self.chance.choice(free)])] if free else [entry]
+        return [entry, (entry[0], min(entry[1], store.BLOCK), [self.chance.choice(free)])] if free else [entry]
 
     def other_tile(self, entry, used, count):
         return [(self.chance.choice([entry[0] + 1, entry[0] - 1, self.edge()]) % 2**32, *entry[1:])]
 
     def other_length(self, entry, used, count):
-        """Another length, the other form, or the longest of either and one more."""
-        ends = [store.LONGEST_RUNS, store.LONGEST_RAW + store.RAW]
-        near = [entry[1] - 1, entry[1] + 1, entry[1] ^ store.RAW, 0, *ends, *(it + 1 for it in ends)]
-        return [(entry[0], self.chance.choice([*near, self.edge() % 2**32]), entry[2])]
+        length = self.chance.choice([entry[1] - 1, entry[1] + 1, 0, 40960, 40961, self.edge() % 2**32])
+        return [(entry[0], length, entry[2])]
 
     def shared_block(self, entry, used, count):
         """A block of a tile, or the one behind all, where the metadata will begin."""
@@ -195,25 +189,24 @@ class Files(Chance):
         return [(*entry[:2], entry[2][:-1] + [self.chance.choice([0, count + 100, self.edge() % 2**32])])]
 
     def runs(self, data):
-        """A tile's runs changed: cut in two alike, exchanged, longer or shorter, more or fewer; or its raw cells."""
+        """A tile's runs changed: cut in two alike, exchanged, longer or shorter, more or fewer."""
         catalogue, fields = listed_in(data)
         choices = [(kind, entries, k) for _, kind, entries in fields for k in range(len(entries))]
         if not choices:
             return data
         kind, entries, k = self.chance.choice(choices)
-        number, told, blocks = entries[k]
-        is_raw, old = store.tile(data, told, blocks)
-        spelling = (store.VALUES if is_raw else store.RUNS)[kind]
-        if len(old) % struct.calcsize(spelling):
+        number, length, blocks = entries[k]
+        old = b"".join(store.block(data, it) for it in blocks)[:length]
+        if len(old) % struct.calcsize(store.RUNS[kind]):
             return data
-        parts = list(struct.iter_unpack(spelling, old))
-        new = b"".join(struct.pack(spelling, *it) for it in (self.other_cells if is_raw else self.other_runs)(parts))
+        runs = self.other_runs(list(struct.iter_unpack(store.RUNS[kind], old)))
+        new = b"".join(struct.pack(store.RUNS[kind], count % 65536, value) for count, value in runs)
         if len(new) > len(blocks) * store.BLOCK:
             return data
         for at, it in enumerate(blocks):
             part = new[at * store.BLOCK : at * store.BLOCK + store.BLOCK]
             data[it * store.BLOCK : it * store.BLOCK + len(part)] = part
-        entries[k] = number, is_raw * store.RAW + len(new), blocks
+        entries[k] = number, len(new), blocks
         return listing(data, catalogue, fields)
 
     def other_runs(self, runs):
@@ -225,14 +218,7 @@ class Files(Chance):
         runs[at : at + 1] = self.chance.choice(changes)
         if self.one_in(3):
             runs[at : at + 2] = reversed(runs[at : at + 2])
-        return [(count % 65536, value) for count, value in runs]
-
-    def other_cells(self, cells):
-        """Raw cells with many alike, or another number of them."""
-        start, end = self.span(len(cells))
-        changes = [[cells[start]] * (end - start), [], cells[start:end] * 2, [(1,)] * (end - start)]
-        cells[start:end] = self.chance.choice(changes) if start < end else []
-        return cells
+        return runs
 
 
 def chained(data, metadata):

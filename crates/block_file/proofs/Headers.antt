@@ -7,14 +7,13 @@ use Rattle.std.proofs.lemmas.List.{get_or_past, length-replicate}
 use borrow.Rule.Slice.PartMut.{mid_of}
 use Rattle.disk_face.specs.Disk.{Holds, Written, Torn}
 use Rattle.block_file.specs.declared.header.State.{State}
-use Rattle.file_bytes.specs.declared.form.Version.TheVariants.{Two}
 use Rattle.block_file.specs.declared.fault.OpenFault.{OpenFault}
 use Rattle.block_file.specs.declared.fault.OpenFault.TheVariants.{NoMemory, DiskFault, Damaged, NotAStore, NotClosed}
 use Rattle.block_file.specs.declared.header.State.TheVariants.{Closed}
 use Rattle.block_file.specs.declared.chain.Layout.{Layout}
 use Rattle.block_file.specs.declared.header.Header.{Header}
 use Rattle.block_file.specs.State.{block_at, BlocksState}
-use Rattle.block_file.specs.Format.{number_at, magic_bytes, state_number, TellsVersion, IsStoreFile, IsHeader, KeepsHeader, Put, IsChain, IsClosed, IsDamaged, HeaderWritten, Closes, Filled, Extends, HeaderTorn, HeaderLast}
+use Rattle.block_file.specs.Format.{number_at, magic_bytes, state_number, IsStoreFile, IsHeader, KeepsHeader, Put, IsChain, IsClosed, IsDamaged, HeaderWritten, Closes, Filled, Extends, HeaderTorn, HeaderLast}
 use Rattle.block_file.specs.View.{IsRefused, IsOpened}
 use Rattle.block_file.specs.Links.{IsNoHeader, IsClosedHeader, ReadsChain}
 use Rattle.block_file.specs.Words.{OthersKept, OnlyHeader}
@@ -29,25 +28,22 @@ pub take_same : (n : ℕ) (xs ys : List ℕ) → n ≤ length xs → n ≤ lengt
 take_same n xs ys a b same = same_number_lists _ _ (grind (arith, common_steps)) (λ i h. grind (arith, elements, same i))
 
 pub header_made : (state : State) (blocks first size : ℕ) (b0 b1 b2 b3 b4 b5 : List ℕ) → length b0 ≡ 4096 → take 8 b0 ≡ magic_bytes → ((i : ℕ) → 8 ≤ i → get_or b0 i 0 ≡ 0)
-    → Put 8 4 2 b0 b1 → Put 12 4 (state_number state) b1 b2 → Put 16 4 blocks b2 b3 → Put 20 4 first b3 b4 → Put 24 8 size b4 b5 → IsHeader b5 state blocks first size × TellsVersion Two b5
+    → Put 8 4 1 b0 b1 → Put 12 4 (state_number state) b1 b2 → Put 16 4 blocks b2 b3 → Put 20 4 first b3 b4 → Put 24 8 size b4 b5 → IsHeader b5 state blocks first size
 header_made state blocks first size b0 b1 b2 b3 b4 b5 len magic zeros p1 p2 p3 p4 p5 =
     let same0 : (i : ℕ) → i < 8 → get_or b5 i 0 ≡ get_or b0 i 0 = λ i h. p5.below i (omega arith) ∙ p4.below i (omega arith) ∙ p3.below i (omega arith) ∙ p2.below i (omega arith) ∙ p1.below i (omega arith) in
     let long : length b5 ≡ 4096 = omega (arith, p1.same_length, p2.same_length, p3.same_length, p4.same_length, p5.same_length) in
-    let told : TellsVersion Two b5 = kept 8 4 24 8 size b4 b5 (omega arith) p5 ∙ kept 8 4 20 4 first b3 b4 (omega arith) p4 ∙ kept 8 4 16 4 blocks b2 b3 (omega arith) p3 ∙ kept 8 4 12 4 _ b1 b2 (omega arith) p2 ∙ p1.number in (
-      record {
-        store = record {
-          whole = omega arith;
-          magic = take_same 8 b5 b0 (omega arith) (omega arith) same0 ∙ magic;
-          version = (Two, told);
-        };
-        state = kept 12 4 24 8 size b4 b5 (omega arith) p5 ∙ kept 12 4 20 4 first b3 b4 (omega arith) p4 ∙ kept 12 4 16 4 blocks b2 b3 (omega arith) p3 ∙ p2.number;
-        blocks = kept 16 4 24 8 size b4 b5 (omega arith) p5 ∙ kept 16 4 20 4 first b3 b4 (omega arith) p4 ∙ p3.number;
-        first = kept 20 4 24 8 size b4 b5 (omega arith) p5 ∙ p4.number;
-        size = p5.number;
-        zeros = λ i a b. p5.above i (omega arith) ∙ p4.above i (omega arith) ∙ p3.above i (omega arith) ∙ p2.above i (omega arith) ∙ p1.above i (omega arith) ∙ zeros i (omega arith);
-      },
-      told,
-    )
+    record {
+      store = record {
+        whole = omega arith;
+        magic = take_same 8 b5 b0 (omega arith) (omega arith) same0 ∙ magic;
+        version = kept 8 4 24 8 size b4 b5 (omega arith) p5 ∙ kept 8 4 20 4 first b3 b4 (omega arith) p4 ∙ kept 8 4 16 4 blocks b2 b3 (omega arith) p3 ∙ kept 8 4 12 4 _ b1 b2 (omega arith) p2 ∙ p1.number;
+      };
+      state = kept 12 4 24 8 size b4 b5 (omega arith) p5 ∙ kept 12 4 20 4 first b3 b4 (omega arith) p4 ∙ kept 12 4 16 4 blocks b2 b3 (omega arith) p3 ∙ p2.number;
+      blocks = kept 16 4 24 8 size b4 b5 (omega arith) p5 ∙ kept 16 4 20 4 first b3 b4 (omega arith) p4 ∙ p3.number;
+      first = kept 20 4 24 8 size b4 b5 (omega arith) p5 ∙ p4.number;
+      size = p5.number;
+      zeros = λ i a b. p5.above i (omega arith) ∙ p4.above i (omega arith) ∙ p3.above i (omega arith) ∙ p2.above i (omega arith) ∙ p1.above i (omega arith) ∙ zeros i (omega arith);
+    }
 
 -- contents that agree on their first block
 pub record SameStart (one other : List ℕ) : Type 0 where
@@ -65,7 +61,7 @@ pub store_in : (one other : List ℕ) → SameStart one other → IsStoreFile on
 store_in one other s h = record {
   whole = s.long;
   magic = take_same 8 other one (omega (arith, s.long)) (omega (arith, s.short)) (λ i lt. s.same i (omega arith)) ∙ h.magic;
-  version = (h.version.0, number_in 8 4 one other (omega arith) s ∙ h.version.1);
+  version = number_in 8 4 one other (omega arith) s ∙ h.version;
 }
 
 -- they have the same header
@@ -210,14 +206,13 @@ only_torn n old new mid mid' after synced last e is is_last uses size honest unu
 
 -- the header is written over a content of whole blocks
 pub header_written : (state : State) (blocks first size : ℕ) (bytes old mid mid' after new : List ℕ) → length old ≤ 4096 * 1048576 → Extends old mid → Filled old mid blocks → mid' ≡ mid → length bytes ≡ 4096
-    → IsHeader bytes state blocks first size → TellsVersion Two bytes → Written 0 bytes mid' after → new ≡ after → HeaderWritten state first size old new
-header_written state blocks first size bytes old mid mid' after new most extends filled same len header version there is =
+    → IsHeader bytes state blocks first size → Written 0 bytes mid' after → new ≡ after → HeaderWritten state first size old new
+header_written state blocks first size bytes old mid mid' after new most extends filled same len header there is =
     let done = rw same at there in
     let behind = torn_behind (length bytes) mid after len done.others in
     let count : blocks ≡ length after / 4096 = omega (arith, filled.count, filled.whole, done.holds.within, done.others.no_longer) in
     rw is (record {
       header = rw (← count) (header_in state blocks first size bytes after (starts after bytes len done.holds) header);
-      version = number_in 8 4 bytes after (omega arith) (starts after bytes len done.holds) ∙ version;
       whole = omega (arith, filled.count, filled.whole, done.holds.within, done.others.no_longer);
       fewest = omega (arith, filled.count, filled.whole, done.holds.within, done.others.no_longer);
       kept = λ i a b. behind i a ∙ extends.kept i b;

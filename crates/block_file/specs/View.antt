@@ -1,11 +1,9 @@
 -- A block file as callers see it, and what its opening gives.
 use Rattle.std.specs.Prelude.{◌≡◌, ℕ, ◌*◌, ◌/◌, ◌<◌, ◌≤◌, max, Bool, IsTrue, List, [], length, ⊤}
-use Rattle.file_bytes.specs.declared.form.Version.{Version}
-use Rattle.file_bytes.specs.declared.form.Version.TheVariants.{Two}
 use Rattle.block_file.specs.declared.fault.OpenFault.{OpenFault}
 use Rattle.block_file.specs.declared.fault.OpenFault.TheVariants.{NoMemory, DiskFault, Damaged, NotAStore, NotClosed}
 use Rattle.block_file.specs.State.{BlocksState, block_at}
-use Rattle.block_file.specs.Format.{number_at, first_of, TellsVersion, IsStoreFile, IsClosed, IsDamaged}
+use Rattle.block_file.specs.Format.{number_at, first_of, IsStoreFile, IsClosed, IsDamaged}
 use Rattle.block_file.specs.Uses.{uses_of, MarksChain}
 
 -- The file's bytes and those that are synced, a mark for each of its blocks, and what is known of the disk.
@@ -37,11 +35,6 @@ pub record IsOpened (content metadata marks : List ℕ) : Type 0 where
   pub marked : 0 < length content → MarksChain (block_at content) (first_of content) (length metadata) marks
   pub blocks : length marks ≡ max 1 (length content / 4096)
   pub whole : (k : ℕ) → 0 < k → k < length marks → length (block_at content k) ≡ 4096
-
--- the version of an opened file: that of its header, and the newest where there is none yet
-pub record IsOfVersion (version : Version) (content : List ℕ) : Type 0 where
-  pub told : 0 < length content → TellsVersion version content
-  pub new_file : content ≡ [] → version ≡ Two
 
 -- Why the content of a disk is not opened. Want of memory and a fault of the disk say nothing of it.
 abbrev pub IsRefused : OpenFault → List ℕ → Type 0

@@ -4,7 +4,7 @@ ghost use Rattle.disk_face.specs.Disk.{Tells, Unwritten};
 ghost use Rattle.block_file.specs.State.{times, none};
 ghost use Rattle.block_file.specs.Words.{Recounts};
 ghost use Rattle.block_file.specs.Format.{Filled, Extends};
-ghost use Rattle.block_file.specs.View.{state_of, IsOpened, IsOfVersion, IsRefused};
+ghost use Rattle.block_file.specs.View.{state_of, IsOpened, IsRefused};
 ghost use Rattle.block_file.specs.Uses.{IsFresh, CanClaim, Claims};
 ghost use Rattle.block_file.specs.Links.{IsClosedHeader};
 
@@ -13,7 +13,6 @@ use crate::header::{Header, header_bytes, parse_header};
 use crate::marks::Marks;
 use crate::{BLOCK_BYTES, Blocks, Damaged, MAX_BLOCKS, OpenFault, State, TakeFault};
 use disk_face::{Disk, DiskFault};
-use file_bytes::Version;
 use std::alloc::{AllocError, Global};
 use std::marker::Model;
 
@@ -41,12 +40,11 @@ impl<D: Disk> Model for BlockFile<D> {
     ghost invariant = { λ s. IsWithin (D.content s.disk) (D.honest s.disk) s.marks };
 }
 
-/// A file that was opened, its version, and its metadata: empty for a disk without a byte, else what the chain holds,
-/// which is never empty.
+/// A file that was opened, and its metadata: empty for a disk without a byte, else what the chain holds, which is
+/// never empty.
 #[derive(Drop)]
 pub struct Opened<D: Disk> {
     pub file: BlockFile<D>,
-    pub version: Version,
     pub metadata: Vec<u8>,
 }
 
@@ -58,7 +56,7 @@ pub struct Refused<D: Disk> {
 }
 
 impl<D: Disk> BlockFile<D> {
-    /// Opens the store file of a disk, of either version. A disk without a byte is a new file. It writes nothing. The blocks of the
+    /// Opens the store file of a disk. A disk without a byte is a new file. It writes nothing. The blocks of the
     /// metadata are free, and may not be claimed: a chain of as many bytes has room in them.
     ///
     /// The refusals, with the disk, in this order: not a store for fewer bytes than a header, another magic or
@@ -67,7 +65,6 @@ impl<D: Disk> BlockFile<D> {
     pub fn open(alloc: Global, mut disk: D) -> Result<Opened<D>, Refused<D>>
         ensures opened { IfOk result (λ it.
             IsTrue (D.honest disk) → IsOpened (D.content disk) it.metadata.items it.file.marks) }
-        ensures version { IfOk result (λ it. IsTrue (D.honest disk) → IsOfVersion it.version (D.content disk)) }
         ensures fresh { IfOk result (λ it. IsFresh it.file.marks) }
         ensures content { IfOk result (λ it. it.file.content ≡ D.content disk) }
         ensures synced { IfOk result (λ it. it.file.synced ≡ D.synced disk) }
@@ -79,15 +76,8 @@ impl<D: Disk> BlockFile<D> {
     {
         match read_layout(alloc, &mut disk) {
             Err(fault) => Err(Refused { disk, fault }),
-            Ok(
-                Layout {
-                    version,
-                    marks,
-                    metadata,
-                },
-            ) => Ok(Opened {
+            Ok(Layout { marks, metadata }) => Ok(Opened {
                 file: BlockFile { disk, marks, alloc },
-                version,
                 metadata,
             }),
         }
@@ -207,7 +197,6 @@ fn fill_last_block<D: Disk>(disk: &mut D) -> Result<u32, DiskFault>
 fn read_layout<D: Disk>(alloc: Global, disk: &mut D) -> Result<Layout, OpenFault>
     ensures opened { IfOk result (λ it.
         IsTrue (D.honest disk.old) → IsOpened (D.content disk.old) it.metadata.items it.marks) }
-    ensures version { IfOk result (λ it. IsTrue (D.honest disk.old) → IsOfVersion it.version (D.content disk.old)) }
     ensures fresh { IfOk result (λ it. IsFresh it.marks) }
     ensures some { IfOk result (λ it. 0 < length it.marks) }
     ensures few { IfOk result (λ it. length it.marks ≤ 1048576) }
@@ -217,7 +206,6 @@ fn read_layout<D: Disk>(alloc: Global, disk: &mut D) -> Result<Layout, OpenFault
 {
     if disk.len() == 0 {
         return Ok(Layout {
-            version: Version::Two,
             marks: Marks::blank(alloc, 1)?,
             metadata: Vec::new(alloc),
         });

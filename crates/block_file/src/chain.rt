@@ -11,13 +11,11 @@ use crate::header::{Header, put_number, u32_at};
 use crate::marks::Marks;
 use crate::{Blocks, CHAIN_BYTES, ChainFault, OpenFault, TakeFault};
 use disk_face::{Disk, DiskFault};
-use file_bytes::Version;
 use std::alloc::{AllocError, Global};
 
-/// The version of a file, the marks of its blocks, and the metadata.
+/// The marks of the blocks of a file, and the metadata.
 #[derive(Drop)]
 pub(crate) struct Layout {
-    pub version: Version,
     pub marks: Marks,
     pub metadata: Vec<u8>,
 }
@@ -44,7 +42,6 @@ pub(crate) fn read_chain<D: Disk>(
     requires few { header.blocks ≤ 1048576 }
     requires whole { IsTrue (D.honest disk.old) → length (D.content disk.old) ≡ 4096 * header.blocks }
     ensures read { IfOk result (λ layout. IsTrue (D.honest disk.old) → ReadsChain (D.content disk.old) header layout) }
-    ensures version { IfOk result (λ layout. layout.version ≡ header.version) }
     ensures size { IfOk result (λ layout. length layout.metadata.items ≡ header.length) }
     ensures blocks { IfOk result (λ layout. length layout.marks ≡ header.blocks) }
     ensures fresh { IfOk result (λ layout. IsFresh layout.marks) }
@@ -72,11 +69,7 @@ pub(crate) fn read_chain<D: Disk>(
     if k != 0 {
         return Err(OpenFault::Damaged);
     }
-    Ok(Layout {
-        version: header.version,
-        marks,
-        metadata,
-    })
+    Ok(Layout { marks, metadata })
 }
 
 /// Writes metadata, of at least one byte, as a chain into blocks that are free and stay so, and gives the first of

@@ -1,5 +1,5 @@
 -- Tiles written as their cells one after the other, the two forms of a tile, and in which of them cells are written.
-use Rattle.std.specs.Prelude.{◌≡◌, ℕ, ◌*◌, ◌/◌, ◌<◌, ℤ, List, length, drop, map, All, min, nat_lt, if◌then◌else◌, get_or, pos}
+use Rattle.std.specs.Prelude.{◌≡◌, ℕ, ◌*◌, ◌/◌, ◌<◌, ◌≤◌, ℤ, List, length, drop, map, All, min, nat_lt, if◌then◌else◌, get_or, pos}
 use Rattle.std.specs.List.{range_with_len}
 use Rattle.byteorder.specs.Endian.{little_number}
 use Rattle.arr_core.specs.declared.cell.FieldType.{FieldType}
@@ -65,3 +65,15 @@ pub record IsRawWritten (kind : FieldType) (cells : List ℤ) (bytes : List ℕ)
 -- how many bytes they take then
 abbrev pub tile_size : FieldType → List ℤ → ℕ
 tile_size kind cells = min (raw_size kind cells) (runs_size kind cells)
+
+-- the bytes spell the cells in runs, each as long as it can be, and are no more than so many
+pub record AreShortRuns (kind : FieldType) (cells : List ℤ) (most : ℕ) (bytes : List ℕ) : Type 0 where
+  pub spelled : IsSpelling kind bytes cells
+  pub size : length bytes ≡ runs_size kind cells
+  pub short : length bytes ≤ most
+
+-- the bytes of a tile as its cells are written
+pub record IsTile (kind : FieldType) (cells : List ℤ) (form : Form) (bytes : List ℕ) : Type 0 where
+  pub spelled : Spells form kind bytes cells
+  pub shorter : form ≡ form_of kind cells
+  pub size : length bytes ≡ tile_size kind cells

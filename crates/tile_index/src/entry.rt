@@ -2,7 +2,6 @@
 
 ghost use Rattle.std.specs.Prelude.{◌≡◌, ◌<◌, ◌^◌, All, IfOk};
 
-use file_bytes::Form;
 use std::alloc::AllocError;
 use std::marker::Model;
 
@@ -53,10 +52,9 @@ impl BlockList {
     }
 }
 
-/// A tile's bytes: in which form they spell its cells, how many there are, and the blocks that they lie in.
+/// A tile's bytes: how many there are, and the blocks that they lie in.
 #[derive(Debug, Drop)]
 pub struct Entry {
-    pub form: Form,
     pub length: u32,
     pub blocks: BlockList,
 }
@@ -68,7 +66,6 @@ impl Entry {
     {
         let blocks = self.blocks.copy()?;
         Ok(Entry {
-            form: self.form,
             length: self.length,
             blocks,
         })

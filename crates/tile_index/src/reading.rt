@@ -1,40 +1,18 @@
 //! Bytes as an index.
 
-ghost use Rattle.std.specs.Prelude.{◌≡◌, ◌++◌, ◌<◌, ◌≤◌, ◌*◌, ◌^◌, ◌↔◌, length, flat_map, IfOk, IsErrOf, IsTrue};
+ghost use Rattle.std.specs.Prelude.{◌≡◌, ◌++◌, ◌<◌, ◌≤◌, ◌*◌, length, flat_map, IfOk, IsErrOf};
 ghost use Rattle.file_bytes.specs.Codes.{NoneIsRead};
 ghost use Rattle.tile_index.specs.Index.{IsIndex, IsPair, ArePairs, AreSoMany};
-ghost use Rattle.tile_index.specs.Entries.{most_bytes, AreOf};
-ghost use Rattle.tile_index.specs.Bytes.{number_bytes, length_number, entry_bytes, index_bytes, IsOfNoIndex, IsOfNoOther};
+ghost use Rattle.tile_index.specs.Bytes.{number_bytes, entry_bytes, index_bytes, IsOfNoIndex, IsOfNoOther};
 
 use crate::entry::{BlockList, Entry};
 use crate::error::IndexError;
 use crate::index::TileIndex;
-use file_bytes::{Form, Reader, Version};
+use file_bytes::Reader;
 use std::alloc::Global;
 
-/// What a number that tells a form and a length has besides the length for raw cells: its highest bit.
-pub(crate) const RAW: u32 = 2_147_483_648;
-
-/// The most bytes that a tile may have: 4,096 runs of 10 bytes, or 4,096 cells of 8.
-fn most_bytes(form: Form) -> u32
-    ensures { result ≡ most_bytes form }
-{
-    match form {
-        Form::Runs => 40_960,
-        Form::Raw => 32_768,
-    }
-}
-
-/// The form and the length that a number tells.
-fn parts_of(number: u32) -> (Form, u32)
-    ensures told { length_number result.0 result.1 ≡ number }
-    ensures small { result.1 < 2 ^ 31 }
-{
-    if number < RAW {
-        return (Form::Runs, number);
-    }
-    (Form::Raw, number - RAW)
-}
+/// The most bytes that a tile may have: 4,096 runs of 10 bytes.
+const MAX_LENGTH: u32 = 40_960;
 
 /// The next `count` numbers.
 fn read_numbers(alloc: Global, bytes: &mut Reader, count: usize) -> Result<Vec<u32>, IndexError>
@@ -62,16 +40,14 @@ fn read_entry(alloc: Global, bytes: &mut Reader) -> Result<(u64, Entry), IndexEr
     let Some(tile) = bytes.read_u32() else {
         return Err(IndexError::Damaged);
     };
-    let Some(number) = bytes.read_u32() else {
+    let Some(length) = bytes.read_u32() else {
         return Err(IndexError::Damaged);
     };
-    let (form, length) = parts_of(number);
-    if !(1..=most_bytes(form)).contains(&length) {
+    if !(1..=MAX_LENGTH).contains(&length) {
         return Err(IndexError::Damaged);
     }
     let blocks = read_numbers(alloc, bytes, length.div_ceil(4096) as usize)?;
     let entry = Entry {
-        form,
         length,
         blocks: BlockList::new(blocks),
     };
@@ -103,29 +79,14 @@ fn read_entries(
     Ok(entries)
 }
 
-/// Whether all tiles are such as a file of a version has.
-fn are_of(version: Version, entries: &[(u64, Entry)]) -> bool
-    ensures { IsTrue result ↔ AreOf version entries.now }
-{
-    match version {
-        Version::One => entries.iter().all(|pair| pair.1.form == Form::Runs),
-        Version::Two => true,
-    }
-}
-
 impl TileIndex {
-    /// The index whose bytes these are in a file of a version: `Damaged` where they are those of none.
+    /// The index whose bytes these are: `Damaged` where they are those of none.
     #[tactic(auto, unfolding(crate::specs::Bytes::index_bytes))]
-    pub fn from_bytes(
-        alloc: Global,
-        version: Version,
-        bytes: &[u8],
-    ) -> Result<TileIndex, IndexError>
+    pub fn from_bytes(alloc: Global, bytes: &[u8]) -> Result<TileIndex, IndexError>
         ensures read { IfOk result (λ index. bytes.now ≡ index_bytes index) }
         ensures index { IfOk result (λ index. IsIndex index) }
-        ensures version { IfOk result (λ index. AreOf version index) }
         ensures only { IfOk result (λ index. IsOfNoOther bytes.now index) }
-        ensures damaged { IsErrOf result IndexError.Damaged → IsOfNoIndex version bytes.now }
+        ensures damaged { IsErrOf result IndexError.Damaged → IsOfNoIndex bytes.now }
     {
         let mut bytes = Reader::new(bytes);
         let Some(count) = bytes.read_u32() else {
@@ -133,9 +94,6 @@ impl TileIndex {
         };
         let entries = read_entries(alloc, &mut bytes, count)?;
         if bytes.len() != 0 {
-            return Err(IndexError::Damaged);
-        }
-        if !are_of(version, &entries) {
             return Err(IndexError::Damaged);
         }
         Ok(TileIndex::from_entries(entries))

@@ -1,23 +1,31 @@
--- With the next cell the runs are as many as before, or one more where it differs from the one before.
-use Rattle.std.proofs.Common.{◌≡◌, ◌-◌, ◌+◌, ◌∙◌, ℕ, ℤ, pos, drop, get_or, ap, ap₂, cond, int_eq, arith, rules, SFits, w64, to_z-of_z}
-use Rattle.run_tile.specs.Runs.{runs_in}
-use Rattle.run_tile.proofs.RawTiles.{runs-step, last-run}
+-- With the next cells there are as many runs more as there are changes among them and the cell before.
+use Rattle.std.proofs.Common.{◌≡◌, ◌-◌, ◌+◌, ℕ, take, drop, length, arith, length-drop}
+use Rattle.std.proofs.lemmas.List.{length-take-le}
+use Rattle.run_tile.proofs.RawTiles.{runs-on, some-run, last-run}
 use Rattle.run_tile.proofs.raw.count_runs.Goals as goal
 
-pub loop-place-preserved : goal.loop-place-preserved
-loop-place-preserved c =
+pub loop-at-preserved : goal.loop-at-preserved
+loop-at-preserved c =
     let cells = c.args.cells.now in
-    let x = get_or cells (c.loop-place.place - 1) (pos 0) in
-    let y = get_or cells c.loop-place.place (pos 0) in
-    let step = runs-step cells (c.loop-place.place - 1) c.loop-place.place (omega arith) (omega arith) in
-    let back : c.loop-place.place + 1 - 1 ≡ c.loop-place.place = omega arith in
-    let same = ap (λ (k : ℕ). runs_in (drop k cells)) back in
-    let fx : SFits w64 x = search rules in
-    let fy : SFits w64 y = search rules in
-    let told : c.change-runs.result ≡ cond (int_eq x y) 0 1 = c.change-runs.ensures.value ∙ ap₂ (λ (a b : ℤ). cond (int_eq a b) 0 1) (to_z-of_z fx) (to_z-of_z fy) in
-    record { counted = omega (arith, step, same, told); few = omega (arith, c.change-runs.ensures.small) }
+    let at = c.loop-at.at in
+    let end = c.min-end.result in
+    let inv = c.loop-at.invariant in
+    let on = runs-on cells at end inv.some (omega (arith, c.min-end.ensures)) (omega (arith, c.min-end.ensures)) in
+    let whole = length-drop (at - 1) cells in
+    let long = length-take-le (end - (at - 1)) (drop (at - 1) cells) (omega (arith, whole, c.min-end.ensures)) in
+    record {
+      counted = omega (arith, on, inv.counted, c.count_changes.ensures.value);
+      few = omega (arith, inv.few, c.count_changes.ensures.few, long);
+      some = omega (arith, inv.some, c.min-end.ensures);
+      within = omega (arith, c.min-end.ensures);
+    }
 
-pub returns-clause-value : goal.returns-clause-value
-returns-clause-value c =
-    let last = last-run c.args.cells.now (c.loop-place.place - 1) (omega arith) in
-    omega (arith, last)
+pub returns-clause-exact : goal.returns-clause-exact
+returns-clause-exact c =
+    let last = last-run c.args.cells.now (c.loop-at.at - 1) (omega (arith, c.loop-at.invariant.within, c.loop-at.invariant.some)) in
+    λ _. omega (arith, last, c.loop-at.invariant.counted)
+
+pub returns-clause-more : goal.returns-clause-more
+returns-clause-more c =
+    let last = last-run c.args.cells.now (c.loop-at.at - 1) (omega (arith, c.loop-at.invariant.within, c.loop-at.invariant.some)) in
+    λ more. omega (arith, last, more, c.loop-at.invariant.counted)

@@ -1,6 +1,6 @@
 -- What was read is spelled exactly where it has the whole length, is of the type, and is shorter than its runs.
-use Rattle.std.proofs.Common.{◌*◌, ℕ, ap, ◌∙◌, sym, refl, arith, ltb-false}
-use Rattle.std.proofs.lemmas.Bool.Decides.{Decides-ltb}
+use Rattle.std.proofs.Common.{◌*◌, ◌<◌, ℕ, length, ap, ◌∙◌, sym, refl, arith, true≢false}
+use Rattle.run_tile.specs.Types.{width_of}
 use Rattle.run_tile.proofs.RawTiles.{spelled-raw, not-shorter, unfit}
 use Rattle.run_tile.proofs.raw.read_all.Goals as goal
 
@@ -11,11 +11,11 @@ returns-then-not-read_values-clause-damaged c _ list len s =
 
 pub returns-clause-spelled : goal.returns-clause-spelled
 returns-clause-spelled c h =
-    spelled-raw c.args.kind c.args.bytes.now c.read_values.new.cells c.width-size.result c.count_runs.result c.width-size.ensures c.count_runs.ensures.value
-    (c.if-bytes-cells.false ∙ ap (λ (n : ℕ). n * c.width-size.result) (sym c.read_values.ensures.places))
-    c.read_values.ensures.read (c.if-not-read_values.ensures.fit refl) ((Decides-ltb _ _).0 h)
+    let cells = c.read_values.new.cells in
+    let whole = c.if-bytes-cells.false ∙ ap (λ (n : ℕ). n * c.width.result) (sym c.read_values.ensures.places) ∙ ap (λ (w : ℕ). length cells * w) c.width.ensures in
+    spelled-raw c.args.kind c.args.bytes.now cells whole c.read_values.ensures.read (c.if-not-read_values.ensures.fit refl) (c.is_shorter.ensures.0 h)
 
 pub returns-clause-damaged : goal.returns-clause-damaged
 returns-clause-damaged c h list len s =
-    not-shorter c.args.kind c.args.bytes.now c.read_values.new.cells list c.width-size.result c.count_runs.result c.width-size.ensures c.count_runs.ensures.value
-    (len ∙ sym c.read_values.ensures.places) c.read_values.ensures.read (ltb-false _ _ h) s
+    not-shorter c.args.kind c.args.bytes.now c.read_values.new.cells list (len ∙ sym c.read_values.ensures.places) c.read_values.ensures.read
+    (λ short. true≢false (sym (c.is_shorter.ensures.1 short) ∙ h)) s

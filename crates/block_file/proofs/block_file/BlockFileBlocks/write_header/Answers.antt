@@ -29,7 +29,7 @@ returns-clause-written g c =
     let only = rw (← c.self.view_is) at (returns-clause-frame g c) in
     let written = λ (honest : IsTrue (g.D.Disk.honest c.self.inside.disk)).
     header_written c.args.session _ c.args.first c.args.length c.header_bytes-header.result _ _ _ _ _ (omega (arith, c.self.invariant.bytes honest, c.self.invariant.few))
-    (c.fill_last_block.ensures.extends honest) (c.in_ok-blocks.ensures.filled honest) c.in_ok-sync.ensures.same (omega arith) c.header_bytes-header.ensures.header c.header_bytes-header.ensures.version
+    (c.fill_last_block.ensures.extends honest) (c.in_ok-blocks.ensures.filled honest) c.in_ok-sync.ensures.same (omega arith) c.header_bytes-header.ensures
     (c.in_ok-write_at.ensures.written (rw (c.in_ok-sync.ensures.honest, c.fill_last_block.ensures.honest) honest)) c.in_ok-sync-2.ensures.same in
     rw (← c.self.view_is) (record {
       synced = c.in_ok-sync-2.ensures.done ∙ sym c.in_ok-sync-2.ensures.same;
