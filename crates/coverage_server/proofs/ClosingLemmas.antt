@@ -15,11 +15,13 @@ use Rattle.catalogue.specs.Bytes.{catalogue_bytes}
 use Rattle.catalogue.specs.Signatures.{names_of, IsCatalogue}
 use Rattle.catalogue.proofs.Held.{contains_here, contains_later}
 use Rattle.block_file.specs.State.{BlocksState, block, block_at, free_up_to}
-use Rattle.block_file.specs.Format.{Closes, link, chain_blocks}
+use Rattle.file_bytes.specs.declared.form.Version.{Version}
+use Rattle.file_bytes.specs.declared.form.Version.TheVariants.{One, Two}
+use Rattle.block_file.specs.Format.{Closes, TellsVersion, link, chain_blocks}
 use Rattle.block_file.specs.Words.{HoldsChain}
 use Rattle.block_file.proofs.Places.{whole_inside}
 use Rattle.metadata.proofs.Sizes.{length_metadata}
-use Rattle.metadata.specs.Metadata.{part_bytes, indexes_bytes, metadata_bytes, AreCounted}
+use Rattle.metadata.specs.Metadata.{IsOfVersion, part_bytes, indexes_bytes, metadata_bytes, AreCounted}
 use Rattle.tile_index.specs.Bytes.{index_bytes}
 use Rattle.raster_store.specs.Views.{Index, SnapshotView, listed_all, listed_snapshots, metadata_size, fields_size, AreIntact}
 use Rattle.raster_store.specs.Calls.{index_of, AreWhole, AreListed}
@@ -124,6 +126,12 @@ metadata_length signatures indexes = length_metadata signatures indexes
 block_within : (content : List ℕ) (k : ℕ) → length (block_at content k) ≡ 4096 → k < length content / 4096
 block_within content k whole = let e = whole_inside content k whole in omega (arith, e)
 
+-- what a file of version 2 has is of its version
+of_version : (content : List ℕ) (signatures : List Signature) (indexes : List (List Index)) → TellsVersion Two content
+    → (v : Version) → TellsVersion v content → IsOfVersion v signatures indexes
+of_version content signatures indexes two One one = absurd (omega (arith, two, one))
+of_version content signatures indexes two Two same = record { axes = tt; forms = λ k d l i e m. tt }
+
 -- what was closed lists the coverages
 pub lists : (s : BlocksState) (store : Store) (indexes : List (List Index)) → AreListed s store indexes → IsTrue s.honest
     → IsCatalogue (signatures_of store) → ((k : ℕ) → listed_all indexes k ≤ 1) → listed_all indexes 0 ≡ 0
@@ -134,6 +142,7 @@ lists s store indexes l h k once zero w = inr (record {
   laid_out = record {
     closed = w.closed;
     written = record { catalogue = k; counted = are_counted store indexes l.each; written = refl };
+    version = of_version s.content (signatures_of store) indexes w.version;
     tiles = are_tiles store indexes l.each;
     blocks = λ n more. record {
       once = (let least = once n in omega (arith, least, more));
@@ -156,13 +165,14 @@ holds s store indexes l h k once zero w intact = record { indexes = indexes; lis
 
 -- what a write of the header makes of a chain that was written before, in blocks that are in no use
 pub is_written : (first : ℕ) (mid : BlocksState) (new shown metadata : List ℕ) (indexes later : List (List Index)) (held : List SnapshotView) → IsTrue mid.honest → shown ≡ metadata
-    → HoldsChain first shown mid → Closes first (length shown) mid.content new → ((k : ℕ) → mid.uses k ≡ uses_in indexes held k) → later ≡ indexes
+    → TellsVersion Two new → HoldsChain first shown mid → Closes first (length shown) mid.content new → ((k : ℕ) → mid.uses k ≡ uses_in indexes held k) → later ≡ indexes
     → IsWritten new metadata later
-is_written first mid new shown metadata indexes later held honest is holds closes counted same =
+is_written first mid new shown metadata indexes later held honest is version holds closes counted same =
     let w = closes shown refl (holds.chain honest) in
     subst (λ (m : List ℕ). IsWritten new m later) is
     (record {
       closed = w.closed;
+      version = version;
       apart = λ i below. ap (listed_all later) (w.links i below) ∙ ap (λ (l : List (List Index)). listed_all l (link (block mid) first i)) same
           ∙ unlisted (link (block mid) first i) (sym (counted (link (block mid) first i)) ∙ holds.unused honest i below);
     })

@@ -2,7 +2,7 @@
 ghost use Rattle.std.specs.Prelude.{◌≡◌, ◌≤◌, [], None, length, IfOk, IfErr, IfSome, IfNone, OnOk, OnErr};
 ghost use Rattle.std.specs.Prelude.{IsErr, IsErrOf, IsTrue};
 ghost use Rattle.arr_core.specs.Stores.{deleted, found};
-ghost use Rattle.block_file.specs.Format.{HeaderTorn, KeepsHeader, Closes};
+ghost use Rattle.block_file.specs.Format.{HeaderTorn, KeepsHeader};
 ghost use Rattle.catalogue.specs.Bytes.{catalogue_bytes};
 ghost use Rattle.metadata.specs.Metadata.{part_bytes};
 ghost use Rattle.catalogue.specs.Signatures.{IsCatalogue};
@@ -15,7 +15,7 @@ ghost use Rattle.coverage_server.specs.Holding.{MayHold, HoldsFor, ReleasesFor};
 ghost use Rattle.coverage_server.specs.Tiles.{IsSpelledFor, store_for};
 ghost use Rattle.disk_face.specs.Disk.{Tells};
 ghost use Rattle.kvp_front.specs.Contents.{content_view};
-ghost use Rattle.coverage_server.specs.Closing.{bytes_written, metadata_held, IsWritten, TellsClose};
+ghost use Rattle.coverage_server.specs.Closing.{bytes_written, metadata_held, ClosesFile, IsWritten, TellsClose};
 ghost use Rattle.tile_store.specs.declared.fault.Fault.TheVariants as device;
 ghost use Rattle.kvp_front.specs.Contents as contents;
 ghost use Rattle.coverage_server.specs.Disk.{HoldsStore, ListsStore};
@@ -367,7 +367,8 @@ impl<D: Disk> Coverages<D> {
 
     /// Writes the header of a closed file.
     fn write_header(&mut self, first: u32, length: u64) -> Result<(), CloseFault>
-        ensures closes { OnOk result (IsTrue self.old.honest → Closes first length self.old.content self.new.content) }
+        ensures closes { OnOk result
+            (IsTrue self.old.honest → ClosesFile first length self.old.content self.new.content) }
         ensures unchanged { IsUnchanged self.old self.new }
         ensures sound { IsSound self.old → IsSound self.new }
         ensures honest { self.new.honest ≡ self.old.honest }

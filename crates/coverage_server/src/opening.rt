@@ -4,7 +4,7 @@ ghost use Rattle.std.specs.Prelude.{◌≡◌, ◌+◌, ◌++◌, ◌∷◌, [],
 ghost use Rattle.arr_core.specs.Stores.{Store};
 ghost use Rattle.block_file.specs.State.{times};
 ghost use Rattle.block_file.specs.Uses.{IsFresh};
-ghost use Rattle.block_file.specs.View.{IsOpened};
+ghost use Rattle.block_file.specs.View.{IsOpened, IsOfVersion};
 ghost use Rattle.metadata.specs.Metadata.{AreCounted};
 ghost use Rattle.raster_store.specs.Calls.{MayAttach};
 ghost use Rattle.raster_store.specs.Views.{Index, AreIntact, coverages_in, listed_all, listed_fields};
@@ -22,6 +22,7 @@ use arr_core::Signature;
 use block_file::{BlockFile, Blocks, CHAIN_BYTES, Opened, Refused, State};
 use catalogue::Catalogue;
 use disk_face::Disk;
+use file_bytes::Version;
 use job_desk::JobDesk;
 use metadata::{Metadata, ReadError, read_metadata};
 use page_pool::PagePool;
@@ -104,10 +105,10 @@ fn blocks_of(alloc: Global, indexes: &[Vec<TileIndex>]) -> Result<Vec<u32>, Allo
     Ok(blocks)
 }
 
-/// The catalogue and the indexes that metadata has. Without a byte there are none.
-fn read_layout(alloc: Global, metadata: &[u8]) -> Result<Metadata, OpenFault>
-    ensures listed { IfOk result (λ m. IsListed metadata.now m.catalogue (items_of m.indexes.items)) }
-    ensures refused { IfErr result (Departs (IsUnread metadata.now)) }
+/// The catalogue and the indexes that metadata has in a file of a version. Without a byte there are none.
+fn read_layout(alloc: Global, version: Version, metadata: &[u8]) -> Result<Metadata, OpenFault>
+    ensures listed { IfOk result (λ m. IsListed version metadata.now m.catalogue (items_of m.indexes.items)) }
+    ensures refused { IfErr result (Departs (IsUnread version metadata.now)) }
 {
     if metadata.is_empty() {
         return Ok(Metadata {
@@ -115,7 +116,7 @@ fn read_layout(alloc: Global, metadata: &[u8]) -> Result<Metadata, OpenFault>
             indexes: Vec::new(alloc),
         });
     }
-    match read_metadata(alloc, metadata) {
+    match read_metadata(alloc, version, metadata) {
         Ok(layout) => Ok(layout),
         Err(ReadError::Damaged) => Err(OpenFault::Damaged),
         Err(ReadError::NoMemory) => Err(OpenFault::NoMemory),
@@ -146,18 +147,20 @@ fn claim_listed<D: Disk>(
 fn claim_layout<D: Disk>(
     alloc: Global,
     file: &mut BlockFile<D>,
+    version: Version,
     metadata: &[u8],
 ) -> Result<Metadata, OpenFault>
     requires opened { IsTrue file.old.honest → IsOpened file.old.content metadata.now file.old.marks }
+    requires version { IsTrue file.old.honest → IsOfVersion version file.old.content }
     requires fresh { IsFresh file.old.marks }
     ensures claims { IfOk result (λ m.
-        ClaimsLayout metadata.now m.catalogue (items_of m.indexes.items) file.old.marks file.new.marks) }
+        ClaimsLayout version metadata.now m.catalogue (items_of m.indexes.items) file.old.marks file.new.marks) }
     ensures refused { IfErr result (IsNoLayout file.old) }
     ensures content { file.new.content ≡ file.old.content }
     ensures failures { file.new.failures ≡ file.old.failures }
     ensures honest { file.new.honest ≡ file.old.honest }
 {
-    let layout = read_layout(alloc, metadata)?;
+    let layout = read_layout(alloc, version, metadata)?;
     if let Err(fault) = claim_listed(alloc, file, &layout.indexes) {
         return Err(fault);
     }
@@ -230,6 +233,7 @@ fn chain_fault(fault: block_file::OpenFault) -> OpenFault
 /// The coverages of a file that was opened. Nothing is written.
 fn coverages_of<D: Disk>(alloc: Global, opened: Opened<D>) -> Result<Coverages<D>, NotOpened<D>>
     requires opened { IsTrue opened.file.honest → IsOpened opened.file.content opened.metadata.items opened.file.marks }
+    requires version { IsTrue opened.file.honest → IsOfVersion opened.version opened.file.content }
     requires fresh { IsFresh opened.file.marks }
     ensures lists { IfOk result (λ coverages. IsTrue opened.file.honest
         → Lists opened.file.content coverages.store coverages.indexes) }
@@ -242,8 +246,12 @@ fn coverages_of<D: Disk>(alloc: Global, opened: Opened<D>) -> Result<Coverages<D
     ensures honest_disk { IfErr result (λ refused. D.honest refused.disk ≡ opened.file.honest) }
     ensures failures_disk { IfErr result (λ refused. D.failures refused.disk ≡ opened.file.failures) }
 {
-    let Opened { mut file, metadata } = opened;
-    let Metadata { catalogue, indexes } = match claim_layout(alloc, &mut file, &metadata) {
+    let Opened {
+        mut file,
+        version,
+        metadata,
+    } = opened;
+    let Metadata { catalogue, indexes } = match claim_layout(alloc, &mut file, version, &metadata) {
         Ok(layout) => layout,
         Err(fault) => {
             return Err(NotOpened {

@@ -31,7 +31,7 @@ returns-in-Ok-clause-written g c =
     let honest = subst (λ (b : Bool). IsTrue b) (sym c.write_meta.ensures.frame.moves.honest) sure in
     is_written c.in-Ok.first (state_of c.write_meta.new.self.blocks) c.write_header.new.self.content c.args.metadata.now
     (metadata_bytes (signatures_of c.self.inside.cells.coverages) c.self.inside.cells.indexes) c.write_meta.new.self.indexes c.write_header.new.self.indexes c.write_meta.new.self.snapshots honest fits.0
-    c.in-Ok.ensures.chain (closes honest) ready.counted c.write_header.ensures.unchanged.indexes)
+    (closes honest).1 c.in-Ok.ensures.chain (closes honest).0 ready.counted c.write_header.ensures.unchanged.indexes)
     c.write_header.ensures.closes)
 
 pub returns-in-Ok-clause-told : goal.returns-in-Ok-clause-told
