@@ -19,6 +19,7 @@ use Rattle.arr_core.specs.Stores.{Store}
 use Rattle.raster_store.specs.Calls.{signature_of}
 use Rattle.raster_store.specs.Words.{OnlyFetches, SameCoverages, Stays, Creates, LacksRoomToCreate, Writes, Removes}
 use Rattle.raster_store.proofs.Totals.{listed_all-push, listed_fields-none}
+use Rattle.coverage_server.specs.Layouts.{layout_of}
 use Rattle.coverage_server.specs.Room.{LacksRoomToInsert}
 use Rattle.coverage_server.specs.Holding.{HoldsFor, ReleasesFor}
 use Rattle.coverage_server.specs.Views.{ServerView, IsClosable, IsSound, IsUnchanged, KeepsHeld, still_of, signatures_of, uses_in, free_in, free_blocks, without_held}
@@ -126,7 +127,7 @@ created_ready catalogue catalogue' s size old new ready more is w same held =
 
 -- room is wanting by what the server tells
 lacks_room : (catalogue : List Signature) (s : Signature) (size : ℕ) (cells : RasterView BlockFileView) → IsReady catalogue cells
-    → size ≡ length (catalogue_bytes (catalogue ++ s ∷ [])) → LacksRoomToCreate state_of s size cells → LacksRoomToInsert s (shown cells)
+    → size ≡ length (catalogue_bytes (catalogue ++ s ∷ [])) → LacksRoomToCreate state_of s size cells → LacksRoomToInsert s cells.coverages (layout_of (shown cells))
 lacks_room catalogue s size cells ready is lacks =
     let free = ready_free catalogue cells ready in
     let bytes : size ≡ length (catalogue_bytes (signatures_of cells.coverages ++ s ∷ [])) = is ∙ ap (λ (l : List Signature). length (catalogue_bytes (l ++ s ∷ []))) ready.signatures in

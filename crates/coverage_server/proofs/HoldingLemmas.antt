@@ -53,10 +53,10 @@ jobs_left n (x ∷ xs) = by_test (nat_eq x.job n) refl (jobs_left n xs)
 -- ---- the jobs that have units left
 
 -- one more or not, by whether it has units left
-more_left : (h : Held) (hs : List Held) (l : ℕ) → h.left ≡ suc l → reading (h ∷ hs) ≡ h.number ∷ reading hs
+pub more_left : (h : Held) (hs : List Held) (l : ℕ) → h.left ≡ suc l → reading (h ∷ hs) ≡ h.number ∷ reading hs
 more_left h hs l e = let t : nat_lt 0 h.left ≡ true = lt-ltb 0 h.left (omega (arith, e)) in rw t refl
 
-none_left : (h : Held) (hs : List Held) → h.left ≡ 0 → reading (h ∷ hs) ≡ reading hs
+pub none_left : (h : Held) (hs : List Held) → h.left ≡ 0 → reading (h ∷ hs) ≡ reading hs
 none_left h hs e = rw e refl
 
 none_read : (n : ℕ) (hs : List Held) → All (λ (j : Held). nat_eq j.number n ≡ false) hs → IsNone n (reading hs)

@@ -20,6 +20,8 @@ pub mod LayoutLemmas
 pub mod OpeningLemmas
 pub mod SessionLemmas
 pub mod StandingLemmas
+pub mod RoomLemmas
+pub mod PlacedLemmas
 pub mod HoldingLemmas
 pub mod JobLemmas
 pub mod StepLemmas

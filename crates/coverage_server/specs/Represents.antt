@@ -7,7 +7,9 @@ use Rattle.raster_store.specs.Views.{SnapshotView}
 use Rattle.raster_store.specs.Snapshots.{held_for}
 use Rattle.tile_exec.specs.Standing.{StandsFor, plan_of}
 use Rattle.coverage_server.specs.Asking.{cells_of, items_answer}
+use Rattle.coverage_server.specs.Layouts.{layout_of}
 use Rattle.coverage_server.specs.Machine.{Job, State}
+use Rattle.coverage_server.specs.Runs.{Placed}
 use Rattle.coverage_server.specs.Views.{SessionView}
 
 -- these are the cells, of what is held for a job, that the job reads
@@ -37,3 +39,8 @@ pub record Represents (v : SessionView) (s : State) : Type 0 where
   pub store : s.store ≡ v.coverages.store
   pub jobs : AreJobs v.coverages.held v.desk.jobs s.jobs
   pub next : s.next ≡ v.desk.next
+
+-- so is the state, and its tiles lie as those of the server do
+pub record Places (v : SessionView) (p : Placed) : Type 0 where
+  pub state : Represents v p.state
+  pub layout : p.layout ≡ layout_of v.coverages

@@ -11,8 +11,8 @@ use Rattle.coverage_server.specs.declared.closing.CloseFault.TheVariants as clos
 use Rattle.coverage_server.specs.declared.server.ConnEnd.{ConnEnd}
 use Rattle.raster_store.specs.Views.{Index, AreIntact}
 use Rattle.coverage_server.specs.Disk.{ListsStore, HoldsStore, IsWant, IsNoStore}
-use Rattle.coverage_server.specs.Machine.{May, State, begun, may_tell}
-use Rattle.coverage_server.specs.Represents.{Represents}
+use Rattle.coverage_server.specs.Runs.{May, Placed, begun_with, may_tell}
+use Rattle.coverage_server.specs.Represents.{Places}
 use Rattle.coverage_server.specs.Serves.{Ends, ServesConnection, TellsEnd, ends_of}
 use Rattle.coverage_server.specs.Views.{ServerView, SessionView, IsSound, IsUnchanged}
 
@@ -55,10 +55,10 @@ ends_all remaining read_failed contents write_failed (old ∷ olds) (new ∷ new
 
 -- Connections one after the other: each is served from the state that the one before left, so that the replies of all are those of
 -- one run of the machine. Each has its end, by a fault exactly where one came.
-abbrev pub ServesAll : May → List Ends → State → State → Type 0
+abbrev pub ServesAll : May → List Ends → Placed → Placed → Type 0
 ServesAll may [] old new = new ≡ old
 ServesAll may (e ∷ ends) old new =
-    (mid : State) × (end : ConnEnd) × TellsEnd e end × ServesConnection may e old mid end × ServesAll may ends mid new
+    (mid : Placed) × (end : ConnEnd) × TellsEnd e end × ServesConnection may e old mid end × ServesAll may ends mid new
 
 -- what may be told from an opening of a disk that lists a store on: a disk fault where its count of failures has risen since,
 -- and damage where a tile that it lists was not spelled then
@@ -70,16 +70,16 @@ may_since old failures store indexes = may_tell (Rose old.failures failures) (Ar
 abbrev pub ServesSession : List Ends → DiskView → DiskView → Type 0
 ServesSession ends old new =
     IsTrue old.honest → (store : Store) (indexes : List (List Index)) → ListsStore old.content store indexes
-    → (next : State) × (later : List (List Index)) × ListsStore new.content next.store later
-    × (AreIntact old.content store indexes → AreIntact new.content next.store later)
-    × ServesAll (may_since old new.failures store indexes) ends (begun store) next
+    → (next : Placed) × ListsStore new.content next.state.store next.layout.indexes
+    × (AreIntact old.content store indexes → AreIntact new.content next.state.store next.layout.indexes)
+    × ServesAll (may_since old new.failures store indexes) ends (begun_with store indexes) next
 
 -- A session that did not end by a close: the server represents the next state. A disk fault is told where the count of failures has risen
 -- since the opening, and where memory was wanting the header still is that of an open file.
 pub record ServesUnclosed (fault : CloseFault) (ends : List Ends) (old : DiskView) (server : SessionView) : Type 0 where
   pub served : IsTrue old.honest → (store : Store) (indexes : List (List Index)) → ListsStore old.content store indexes
-      → (AreIntact old.content store indexes → IsSound server.coverages) × (next : State) × Represents server next
-      × ServesAll (may_since old server.coverages.failures store indexes) ends (begun store) next
+      → (AreIntact old.content store indexes → IsSound server.coverages) × (next : Placed) × Places server next
+      × ServesAll (may_since old server.coverages.failures store indexes) ends (begun_with store indexes) next
   pub disk_fault : fault ≡ closing.DiskFault → Rose old.failures server.coverages.failures
   pub no_memory : fault ≡ closing.NoMemory → IsTrue old.honest → (blocks : ℕ) × IsHeader server.coverages.content Open blocks 0 0
   pub honest : server.coverages.honest ≡ old.honest
@@ -91,11 +91,13 @@ Sessions [] old new = new ≡ old
 Sessions (ends ∷ sessions) old new =
     (mid : DiskView) × ServesSession ends old mid × (mid.honest ≡ old.honest) × (old.failures ≤ mid.failures) × Sessions sessions mid new
 
--- What one machine does in sessions one after the other: each begins with the store that the one before left, and without jobs.
-abbrev pub ServesSessions : May → List (List Ends) → Store → Store → Type 0
-ServesSessions may [] old new = new ≡ old
-ServesSessions may (ends ∷ sessions) old new =
-    (next : State) × ServesAll may ends (begun old) next × ServesSessions may sessions next.store new
+-- What one machine does in sessions one after the other: each begins with the store that the one before left, as its tiles lie,
+-- and without jobs.
+abbrev pub ServesSessions : May → List (List Ends) → Store → List (List Index) → Store → List (List Index) → Type 0
+ServesSessions may [] store indexes store' indexes' = (store' ≡ store) × (indexes' ≡ indexes)
+ServesSessions may (ends ∷ sessions) store indexes store' indexes' =
+    (next : Placed) × ServesAll may ends (begun_with store indexes) next
+    × ServesSessions may sessions next.state.store next.layout.indexes store' indexes'
 
 -- Sessions compose: all of them together are what one machine does, from a disk that listed a store to one that lists the next,
 -- and from one that held a store to one that holds it. A disk without a byte holds the store without coverages.
@@ -104,5 +106,5 @@ pub record Composes : Type 0 where
       → (store : Store) (indexes : List (List Index)) → ListsStore old.content store indexes
       → (next : Store) × (later : List (List Index)) × ListsStore new.content next later
       × (AreIntact old.content store indexes → AreIntact new.content next later)
-      × ServesSessions (may_since old new.failures store indexes) sessions store next
+      × ServesSessions (may_since old new.failures store indexes) sessions store indexes next later
   pub begin : HoldsStore [] []

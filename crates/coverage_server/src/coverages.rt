@@ -7,7 +7,7 @@ ghost use Rattle.catalogue.specs.Bytes.{catalogue_bytes};
 ghost use Rattle.metadata.specs.Metadata.{part_bytes};
 ghost use Rattle.catalogue.specs.Signatures.{IsCatalogue};
 ghost use Rattle.tile_store.specs.Faults.{Refuses};
-ghost use Rattle.raster_store.specs.Calls.{HasField, IsIndexOf};
+ghost use Rattle.raster_store.specs.Calls.{AreWhole, HasField, IsIndexOf, indexes_without};
 ghost use Rattle.raster_store.specs.Views.{AreIntact, Fetched};
 ghost use Rattle.raster_store.specs.Fetches.{IsPlaceOf, HasTile, HasTileCount, AreTileCells};
 ghost use Rattle.raster_store.specs.Snapshots.{held_for};
@@ -140,11 +140,14 @@ impl<D: Disk> Coverages<D> {
         self.cells.fetched()
     }
 
-    /// How many coverages there are: at most 1,024, each with a name of its own.
+    /// How many coverages there are: at most 1,024, each with a name of its own, and an index for each of its fields, which
+    /// lists tiles of its domain.
     pub fn len(&self) -> usize
         ensures len { result ≡ length self.now.store }
         ensures catalogue { IsCatalogue (signatures_of self.now.store) }
+        ensures whole { AreWhole self.now.store self.now.indexes }
     {
+        let _listed = self.cells.len();
         self.catalogue.len()
     }
 
@@ -196,6 +199,7 @@ impl<D: Disk> Coverages<D> {
     /// Takes the coverage with a name out, where there is one. Takes no memory.
     pub fn remove(&mut self, name: &Name)
         ensures removed { self.new.store ≡ deleted name.now self.old.store }
+        ensures indexes { self.new.indexes ≡ indexes_without name.now self.old.store self.old.indexes }
         ensures sound { IsSound self.old → IsSound self.new }
         ensures content { self.new.content ≡ self.old.content }
         ensures honest { self.new.honest ≡ self.old.honest }
@@ -248,6 +252,7 @@ impl<D: Disk> Coverages<D> {
         ensures fetched { self.new.fetched ≡ self.old.fetched }
     {
         let bytes = self.catalogue.bytes_len();
+        let _listed = self.cells.len();
         match self.cells.fill_box(name, field, area, cell, bytes) {
             Ok(()) => Ok(()),
             Err(fault) => Err(write_refusal(fault)),
@@ -274,6 +279,7 @@ impl<D: Disk> Coverages<D> {
         ensures fetched { self.new.fetched ≡ self.old.fetched }
     {
         let bytes = self.catalogue.bytes_len();
+        let _listed = self.cells.len();
         match self.cells.write_box(name, field, area, cells, bytes) {
             Ok(()) => Ok(()),
             Err(fault) => Err(write_refusal(fault)),

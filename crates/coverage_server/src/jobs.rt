@@ -1,9 +1,10 @@
 //! Jobs: queries that are submitted, done a few units at a time, and fetched.
 ghost use Rattle.std.specs.Prelude.{◌≡◌, ◌+◌, ◌≤◌, ℕ, All, List, [], ◌++◌, codes, decimal, length};
-ghost use Rattle.std.specs.Prelude.{string_bytes, string_len, string_capacity, IfOk, IfErr, OnErr};
+ghost use Rattle.std.specs.Prelude.{string_bytes, string_len, string_capacity, IfOk, IfErr, OnOk, OnErr};
 ghost use Rattle.raster_store.specs.Views.{SnapshotView};
 ghost use Rattle.coverage_server.specs.Answered.{AnsweredIn, IsAnswer, Never};
 ghost use Rattle.coverage_server.specs.Damage.{SpoilsJob};
+ghost use Rattle.coverage_server.specs.Layouts.{LaysHeld, LetsGo, layout_of};
 ghost use Rattle.coverage_server.specs.Machine.{Submits, StepsJob, Fetches, Cancels};
 ghost use Rattle.coverage_server.specs.Stages.{IsTypedText, submit_refusal, step_refusal, fetch_refusal};
 ghost use Rattle.coverage_server.specs.Holding.{IsHolding};
@@ -94,6 +95,10 @@ fn submit_typed<D: Disk>(
     ensures answered { (text : List ℕ) → IsTypedText cells.old.coverages.store text (typed_view typed.now)
         → AnsweredIn (Submits text) ⊥ Never
         (session cells.old.coverages desk.old) (session cells.new.coverages desk.new) result }
+    ensures lays { OnOk result ((text : List ℕ)
+        → IsTypedText cells.old.coverages.store text (typed_view typed.now)
+        → LaysHeld text cells.old.coverages.store desk.old.next (layout_of cells.old.coverages)
+        (layout_of cells.new.coverages)) }
     ensures answer { IfOk result IsAnswer }
     ensures holding { IsHolding desk.new cells.new.coverages.held }
     ensures others { without_held cells.new.coverages ≡ without_held cells.old.coverages }
@@ -125,6 +130,8 @@ pub fn submit_query<D: Disk>(
     requires holding { IsHolding desk.old cells.old.coverages.held }
     ensures answered { AnsweredIn (Submits text.now) ⊥ Never
         (session cells.old.coverages desk.old) (session cells.new.coverages desk.new) result }
+    ensures lays { OnOk result (LaysHeld text.now cells.old.coverages.store desk.old.next
+        (layout_of cells.old.coverages) (layout_of cells.new.coverages)) }
     ensures answer { IfOk result IsAnswer }
     ensures holding { IsHolding desk.new cells.new.coverages.held }
     ensures others { without_held cells.new.coverages ≡ without_held cells.old.coverages }
@@ -147,6 +154,7 @@ pub fn step_job<D: Disk>(
     requires holding { IsHolding desk.old cells.old.coverages.held }
     ensures answered { AnsweredIn (StepsJob number units) ⊥ (SpoilsJob number cells.old.coverages)
         (session cells.old.coverages desk.old) (session cells.new.coverages desk.new) result }
+    ensures lays { OnOk result (LetsGo number (layout_of cells.old.coverages) (layout_of cells.new.coverages)) }
     ensures answer { IfOk result IsAnswer }
     ensures holding { IsHolding desk.new cells.new.coverages.held }
     ensures others { still_of (without_held cells.new.coverages) ≡ still_of (without_held cells.old.coverages) }
@@ -199,6 +207,7 @@ pub fn cancel_job<D: Disk>(
     requires holding { IsHolding desk.old cells.old.coverages.held }
     ensures answered { AnsweredIn (Cancels number) ⊥ Never
         (session cells.old.coverages desk.old) (session cells.new.coverages desk.new) result }
+    ensures lays { OnOk result (LetsGo number (layout_of cells.old.coverages) (layout_of cells.new.coverages)) }
     ensures answer { IfOk result IsAnswer }
     ensures holding { IsHolding desk.new cells.new.coverages.held }
     ensures others { without_held cells.new.coverages ≡ without_held cells.old.coverages }

@@ -280,6 +280,7 @@ impl<D: Disk> Server<D> {
         ensures sound { IfOk result (λ server. IsTrue (D.honest disk)
             → AreIntact (D.content disk) server.coverages.store server.coverages.indexes → IsSound server.coverages) }
         ensures desk { IfOk result (λ server. server.desk ≡ record { jobs = []; next = Some 1 }) }
+        ensures unheld { IfOk result (λ server. server.coverages.held ≡ []) }
         ensures header { IfOk result (λ server. IsTrue (D.honest disk) → IsOpenFile server.coverages.content) }
         ensures honest { IfOk result (λ server. server.coverages.honest ≡ D.honest disk) }
         ensures failures { IfOk result (λ server. server.coverages.failures ≡ D.failures disk) }

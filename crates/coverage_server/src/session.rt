@@ -5,8 +5,8 @@ ghost use Rattle.block_file.specs.Format.{KeepsHeader};
 ghost use Rattle.disk_face.specs.Disk.{Rose};
 ghost use Rattle.raster_store.specs.Views.{Index};
 ghost use Rattle.coverage_server.specs.Disk.{ListsStore};
-ghost use Rattle.coverage_server.specs.Machine.{State, may_tell};
-ghost use Rattle.coverage_server.specs.Represents.{Represents};
+ghost use Rattle.coverage_server.specs.Runs.{Placed, may_tell};
+ghost use Rattle.coverage_server.specs.Represents.{Places};
 ghost use Rattle.coverage_server.specs.Sessions.{IsNotOpened, ServesAll, ServesSession, ServesUnclosed, Composes, disk_view, ends_all};
 ghost use Rattle.coverage_server.specs.Views.{IsSound};
 
@@ -27,11 +27,11 @@ pub enum SessionFault<D: Disk> {
 
 /// Serves each connection to its end, one after the other.
 fn serve_all<D: Disk, R: Source, W: Sink>(server: &mut Server<D>, connections: &mut [(R, W)])
-    ensures served { IsTrue server.old.coverages.honest → (s : State) → Represents server.old s
-        → (t : State) × Represents server.new t
+    ensures served { IsTrue server.old.coverages.honest → (p : Placed) → Places server.old p
+        → (q : Placed) × Places server.new q
         × ServesAll (may_tell (Rose server.old.coverages.failures server.new.coverages.failures)
         (IsSound server.old.coverages → ⊥))
-        (ends_all R.remaining R.failed W.contents W.failed connections.old connections.new) s t }
+        (ends_all R.remaining R.failed W.contents W.failed connections.old connections.new) p q }
     ensures sound { IsSound server.old.coverages → IsSound server.new.coverages }
     ensures header { KeepsHeader server.old.coverages.content server.new.coverages.content }
     ensures honest { server.new.coverages.honest ≡ server.old.coverages.honest }

@@ -4,8 +4,9 @@ use Rattle.std.specs.Prelude.{string_bytes, codes, decimal, ℕ}
 use Rattle.job_desk.specs.Desks.{job_of}
 use Rattle.job_desk.specs.Steps.{Ends}
 use Rattle.coverage_server.specs.Holding.{ReleasesFor}
-use Rattle.coverage_server.specs.Views.{ServerView}
+use Rattle.coverage_server.specs.Views.{ServerView, still_of}
 use Rattle.coverage_server.proofs.FaultLemmas.{any_err}
+use Rattle.coverage_server.proofs.PlacedLemmas.{ends_lay}
 use Rattle.coverage_server.proofs.StepLemmas.{absent_left, step_absent, job_told, is_asked, asked_signatures, step_done, StepDone, ends_as, step_ok, step_err, step_leaves}
 use Rattle.coverage_server.proofs.jobs.step_job.Goals as goal
 
@@ -90,3 +91,15 @@ returns-in_err-reply-clause-jobs g c = any_err _ _ (inl refl)
 
 pub returns-in_err-ask-clause-jobs : goal.returns-in_err-ask-clause-jobs
 returns-in_err-ask-clause-jobs g c = any_err _ _ (inl refl)
+
+pub returns-then-left-eq0-clause-lays : goal.returns-then-left-eq0-clause-lays
+returns-then-left-eq0-clause-lays g c = inl refl
+
+pub returns-in-Ok-clause-lays : goal.returns-in-Ok-clause-lays
+returns-in-Ok-clause-lays g c =
+    let x = c.in-Ok.ensures.source in
+    let v = c.args.cells.now.coverages in
+    let w = c.step.new.source.coverages in
+    let ends : Ends (Ok c.in-Ok.field-0) (w ≡ x.0.coverages) (ReleasesFor c.args.number x.0.coverages w) = ends_as (Ok c.in-Ok.field-0) (λ e. rw e refl) (λ r. r) x.3 in
+    let still : still_of x.0.coverages ≡ still_of v = ap (λ (k : ServerView × ℕ × List ℕ). k.0) x.1.same.kept ∙ ap still_of c.in_ok-ask.ensures.coverages in
+    ends_lay c.args.number c.in-Ok.field-0 v x.0.coverages w still ends

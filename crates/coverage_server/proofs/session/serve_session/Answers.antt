@@ -4,7 +4,8 @@ use Rattle.std.specs.Prelude.{IsTrue}
 use Rattle.arr_core.specs.Stores.{Store}
 use Rattle.raster_store.specs.Views.{AreIntact}
 use Rattle.coverage_server.specs.Disk.{ListsStore}
-use Rattle.coverage_server.specs.Machine.{begun}
+use Rattle.coverage_server.specs.Layouts.{Layout}
+use Rattle.coverage_server.specs.Runs.{begun_with}
 use Rattle.coverage_server.proofs.ServingLemmas.{rose-by}
 use Rattle.coverage_server.proofs.SessionLemmas.{all-later, begins, sound_from, unclosed}
 use Rattle.coverage_server.proofs.session.serve_session.Goals as goal
@@ -16,14 +17,15 @@ returns-in-Ok-close-clause-closed g c =
     let sure = subst IsTrue (sym c.in-Ok.ensures.honest) honest in
     let after = subst IsTrue (sym c.serve_all.ensures.honest) sure in
     let sound = sound_from _ c.in-Ok.server.coverages store indexes found.0 found.1 (c.in-Ok.ensures.sound honest) in
-    let run = c.serve_all.ensures.served sure (begun store) (begins c.in-Ok.server c.in-Ok.ensures.desk store found.0) in
+    let run = c.serve_all.ensures.served sure (begun_with store indexes) (begins c.in-Ok.server c.in-Ok.ensures.desk c.in-Ok.ensures.unheld store indexes found.0 found.1) in
     let later = c.serve_all.new.server.coverages.indexes in
     let content = g.D.Disk.content c.in-Ok-close.disk in
     rw (← c.in-Ok.ensures.failures) (
       run.0,
-      later,
-      subst (λ (s : Store). ListsStore content s later) (sym run.1.store) (c.in-Ok-close.ensures.lists after),
-      λ intact. subst (λ (s : Store). AreIntact content s later) (sym run.1.store) (c.in-Ok-close.ensures.intact (c.serve_all.ensures.sound (sound intact))),
+      subst (λ (l : Layout). ListsStore content run.0.state.store l.indexes) (sym run.1.layout)
+          (subst (λ (s : Store). ListsStore content s later) (sym run.1.state.store) (c.in-Ok-close.ensures.lists after)),
+      λ intact. subst (λ (l : Layout). AreIntact content run.0.state.store l.indexes) (sym run.1.layout)
+          (subst (λ (s : Store). AreIntact content s later) (sym run.1.state.store) (c.in-Ok-close.ensures.intact (c.serve_all.ensures.sound (sound intact)))),
       all-later (rose-by _ _ _ c.in-Ok-close.ensures.closed_no_fewer, λ asks s x. (x.0, λ intact. x.1 (sound intact))) _ _ _ run.2,
     )
 
@@ -34,7 +36,7 @@ returns-in-Err-close-clause-not_closed g c =
     let told : c.in-Err-close.field-0.fault ≡ fault = cc in
     rw (← same, ← told)
     (unclosed c.in-Err-close.field-0.fault _ _ c.in-Ok.server c.serve_all.new.server _
-    c.in-Ok.ensures.store c.in-Ok.ensures.sound c.in-Ok.ensures.desk c.in-Ok.ensures.header c.in-Ok.ensures.honest
+    c.in-Ok.ensures.store c.in-Ok.ensures.sound c.in-Ok.ensures.desk c.in-Ok.ensures.unheld c.in-Ok.ensures.header c.in-Ok.ensures.honest
     c.in-Ok.ensures.failures c.serve_all.ensures.served c.serve_all.ensures.sound c.serve_all.ensures.header
     c.serve_all.ensures.honest c.serve_all.ensures.no_fewer c.in-Err-close.ensures.refused c.in-Err-close.ensures.desk)
 

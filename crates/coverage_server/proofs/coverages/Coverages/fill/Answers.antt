@@ -8,7 +8,7 @@ use Rattle.coverage_server.proofs.coverages.Coverages.fill.Goals.{in-Ok, in-Err}
 
 pub returns-clause-done : goal.returns-clause-done
 returns-clause-done g c = elim c.match-fill_box.branch [
-  | in-Ok w ↦ rw (w.result-is, ← c.self.view_is) (fill_done _ _ _ _ _ _ _ w.in-Ok.ensures.done)
+  | in-Ok w ↦ rw (w.result-is, ← c.self.view_is) (fill_done _ _ _ _ _ _ _ w.in-Ok.ensures.done w.in-Ok.ensures.snapshots)
   | in-Err w ↦ rw w.result-is tt
 ]
 
@@ -17,7 +17,7 @@ returns-clause-refused g c = elim c.match-fill_box.branch [
   | in-Ok w ↦ rw w.result-is tt
   | in-Err w ↦
       rw (w.result-is, w.write_refusal.ensures, ← c.self.view_is)
-      (fill_refused c.args.name.now c.args.field c.args.area.now _ c.self.inside.catalogue c.self.inside.cells c.self.invariant c.bytes_len-bytes.ensures c.args.cell w.in-Err.fault w.in-Err.ensures.why)
+      (fill_refused c.args.name.now c.args.field c.args.area.now _ c.self.inside.catalogue c.self.inside.cells c.self.invariant c.len-listed.ensures.held c.bytes_len-bytes.ensures c.args.cell w.in-Err.fault w.in-Err.ensures.why)
 ]
 
 pub returns-clause-header : goal.returns-clause-header

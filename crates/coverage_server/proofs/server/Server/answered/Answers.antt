@@ -5,11 +5,13 @@ use Rattle.kvp_front.specs.Contents.{content_view}
 use Rattle.kvp_front.specs.Templates.{template_view}
 use Rattle.coverage_server.specs.Answered.{Answered}
 use Rattle.coverage_server.specs.Damage.{SpoilsText}
+use Rattle.coverage_server.specs.Layouts.{LaysHeld, layout_of}
 use Rattle.coverage_server.specs.Machine.{Answers, AnswersTemplate, Inserts, Updates, Deletes}
 use Rattle.coverage_server.specs.Views.{ServerView}
-use Rattle.coverage_server.proofs.FaultLemmas.{any_err, each_err, err_each, on_err}
+use Rattle.coverage_server.proofs.FaultLemmas.{any_err, any_ok, each_err, err_each, on_err, on_ok}
 use Rattle.coverage_server.proofs.FreeLemmas.{unchanged, still_unchanged, none_changed}
 use Rattle.coverage_server.proofs.HoldingLemmas.{unheld_zero, holding_same}
+use Rattle.coverage_server.proofs.PlacedLemmas.{still_laid}
 use Rattle.coverage_server.proofs.StandingLemmas.{lifted}
 use Rattle.coverage_server.proofs.server.Server.answered.Goals as goal
 
@@ -135,3 +137,45 @@ returns-in-CancelJob-clause-jobs g c = rw (← c.self.view_is, c.in-CancelJob.is
 
 pub returns-in-FetchJob-clause-jobs : goal.returns-in-FetchJob-clause-jobs
 returns-in-FetchJob-clause-jobs g c = rw (← c.self.view_is, c.in-FetchJob.is) c.fetch_job.ensures.jobs
+
+pub returns-in-InsertCoverage-clause-lays : goal.returns-in-InsertCoverage-clause-lays
+returns-in-InsertCoverage-clause-lays g c = rw (← c.self.view_is, c.in-InsertCoverage.is) (on_ok c.insert.result _ _ (λ lays sure. lays) c.insert.ensures.lays)
+
+pub returns-in-UpdateCoverage-clause-lays : goal.returns-in-UpdateCoverage-clause-lays
+returns-in-UpdateCoverage-clause-lays g c = rw (← c.self.view_is, c.in-UpdateCoverage.is) c.update.ensures.lays
+
+pub returns-in-DeleteCoverage-clause-lays : goal.returns-in-DeleteCoverage-clause-lays
+returns-in-DeleteCoverage-clause-lays g c = rw (← c.self.view_is, c.in-DeleteCoverage.is) (on_ok c.delete.result _ _ (λ lays sure. lays) c.delete.ensures.lays)
+
+pub returns-in-ListCoverages-clause-lays : goal.returns-in-ListCoverages-clause-lays
+returns-in-ListCoverages-clause-lays g c = rw (← c.self.view_is, c.in-ListCoverages.is) (any_ok c.list.result _ (λ sure. refl))
+
+pub returns-in-DescribeCoverage-clause-lays : goal.returns-in-DescribeCoverage-clause-lays
+returns-in-DescribeCoverage-clause-lays g c = rw (← c.self.view_is, c.in-DescribeCoverage.is) (any_ok c.describe.result _ (λ sure. refl))
+
+pub returns-in-ProcessCoverages-clause-lays : goal.returns-in-ProcessCoverages-clause-lays
+returns-in-ProcessCoverages-clause-lays g c = rw (← c.self.view_is, c.in-ProcessCoverages.is) (any_ok c.process.result _ (λ sure. still_laid c.self.inside.cells.coverages c.process.new.cells.coverages c.process.ensures.still))
+
+pub returns-in-SubmitQuery-clause-lays : goal.returns-in-SubmitQuery-clause-lays
+returns-in-SubmitQuery-clause-lays g c =
+    let v = c.self.inside.cells.coverages in
+    let w = c.submit_query.new.cells.coverages in
+    let next = c.self.inside.desk.next in
+    let is : c.as_str-in-SubmitQuery.result.now ≡ string_bytes c.in-SubmitQuery.query = search rules in
+    rw (← c.self.view_is, c.in-SubmitQuery.is)
+    (on_ok c.submit_query.result _ _ (λ lays sure. subst (λ (q : List ℕ). LaysHeld q v.store next (layout_of v) (layout_of w)) is lays) c.submit_query.ensures.lays)
+
+pub returns-in-StepJob-clause-lays : goal.returns-in-StepJob-clause-lays
+returns-in-StepJob-clause-lays g c = rw (← c.self.view_is, c.in-StepJob.is) (on_ok c.step_job.result _ _ (λ lays sure. lays) c.step_job.ensures.lays)
+
+pub returns-in-FetchJob-clause-lays : goal.returns-in-FetchJob-clause-lays
+returns-in-FetchJob-clause-lays g c = rw (← c.self.view_is, c.in-FetchJob.is) (any_ok c.fetch_job.result _ (λ sure. refl))
+
+pub returns-in-CancelJob-clause-lays : goal.returns-in-CancelJob-clause-lays
+returns-in-CancelJob-clause-lays g c = rw (← c.self.view_is, c.in-CancelJob.is) (on_ok c.cancel_job.result _ _ (λ lays sure. lays) c.cancel_job.ensures.lays)
+
+pub returns-in-ExpandTemplate-clause-lays : goal.returns-in-ExpandTemplate-clause-lays
+returns-in-ExpandTemplate-clause-lays g c = rw (← c.self.view_is, c.in-ExpandTemplate.is) (any_ok c.expand_template.result _ (λ sure. refl))
+
+pub returns-in-ProcessTemplate-clause-lays : goal.returns-in-ProcessTemplate-clause-lays
+returns-in-ProcessTemplate-clause-lays g c = rw (← c.self.view_is, c.in-ProcessTemplate.is) (any_ok c.process_template.result _ (λ sure. still_laid c.self.inside.cells.coverages c.process_template.new.cells.coverages c.process_template.ensures.still))

@@ -3,7 +3,7 @@ use Rattle.std.proofs.Common.{◌≡◌, ◌∙◌, ℕ, List, Result, Ok, sym, 
 use Rattle.http_front.specs.declared.reply.Reply.TheVariants.{Refused}
 use Rattle.http_front.specs.Stream.{Shows}
 use Rattle.kvp_front.specs.Requests.{asks, spelled}
-use Rattle.coverage_server.specs.Machine.{MessageStep}
+use Rattle.coverage_server.specs.Runs.{MessageStep}
 use Rattle.coverage_server.proofs.ReplyLemmas.{may_answer, spelled_step, spelled_badly}
 use Rattle.coverage_server.proofs.server.Server.reply_to.Goals as goal
 
