@@ -1,23 +1,26 @@
 #!/usr/bin/env python3
-"""The time of each kernel and each condenser over 4,096 cells, beside a plain loop in C over the same cells.
+"""The time of each kernel and each condenser over columns, beside a plain loop in C over the same cells.
 
-usage: bench/kernels.py [WORD..]    only the lines that have all of these words
+usage: bench/kernels.py [--cells N,..] [--beside PROGRAM] [WORD..]    only the lines that have all of these words
 
-The kernels are run by crates/bench, which `rt run` in its folder builds. Each line is an operation on two columns,
-on a column and the scalar 3 (scalar), or on one column (one); or a condenser of a column (fold), of a column under a
-condition (where), or of 4,096 condensers that are told of a cell each (each). The cells are one number, each kept by
-itself (constant), noise of 32 bits (noise) or of 62 bits (wide), or noise of 32 bits and a fault at the last place.
+The columns have 4,096 cells, or as many as are named. The kernels are run by crates/bench, which `rt run` in its folder
+builds, and by another build of that program, if one is named. Each line is an operation on two columns, on a column and
+the scalar 3 (scalar), or on one column (one); or a condenser of a column (fold), of a column under a condition (where),
+or of as many condensers as the column has cells, each told of one: accumulators (each), or condensers that keep what
+their kind needs (kept). The cells are one number, each kept by itself (constant), noise of 32 bits (noise) or of 62
+bits (wide), or noise of 32 bits and a fault at the last place.
 
 The loops in C make the same tests on numbers of 64 bits: whether a sum, a difference or a product left them, whether a
 divisor is 0, or -1 beside the least number, whether a bit's number is 0 to 63. A sum is kept in 128 bits. They are
-compiled by cc -O2 and by cc -O3, both for the processor that Rattle compiles for. The figure is the processor time that
-one more round takes, the least of several, so that starting, making the cells and what else the machine does do not
-count; the three programs take turns.
+compiled by cc -O2 and by cc -O3, both for the processor that Rattle compiles for and for so many cells. The figure is
+the processor time that one more round takes, the least of several, so that starting, making the cells and what else the
+machine does do not count; the programs take turns.
 """
+import argparse
+import contextlib
 import os
 import resource
 import subprocess
-import sys
 
 from compiled import compiled
 
@@ -39,6 +42,7 @@ LINES = [
     (CONDENSERS, "fold", PLAIN),
     (CONDENSERS, "where", PLAIN),
     (CONDENSERS, "each", PLAIN),
+    (CONDENSERS, "kept", PLAIN),
     (["-", "*", "/", "bit"], "columns", ["faults"]),
 ]
 
@@ -47,7 +51,6 @@ LOOPS = r"""
 #include <stdio.h>
 #include <stdlib.h>
 #include <string.h>
-#define CELLS 4096
 #define LOOP for (long i = 0; i < CELLS; i++)
 #define FUNCTION __attribute__((noinline)) static int64_t
 typedef __int128 wide;
@@ -111,14 +114,14 @@ EACH(count, counts[i] += x != 0)
 
 typedef struct { const char *name, *shape; int64_t (*run)(void); } line;
 #define TWO(word, name) {word, "columns", name##_columns}, {word, "scalar", name##_scalar}
-#define THREE(word, name) {word, "fold", name##_fold}, {word, "where", name##_where}, {word, "each", name##_each}
+#define FOUR(word, name) {word, "fold", name##_fold}, {word, "where", name##_where}, {word, "each", name##_each}, {word, "kept", name##_each}
 static const line lines[] = {
     TWO("+", add), TWO("-", subtract), TWO("*", multiply), TWO("/", divide), TWO("<", less), TWO("<=", at_most),
     TWO(">", greater), TWO(">=", at_least), TWO("=", equal), TWO("!=", other), TWO("and", both), TWO("or", either),
     TWO("xor", one_only), TWO("bit", bit),
     {"negate", "one", negate}, {"plus", "one", plus}, {"not", "one", not}, {"abs", "one", absolute},
-    THREE("sum", sum), THREE("product", product), THREE("greatest", greatest), THREE("least", least),
-    THREE("every", every), THREE("any", any), THREE("count", count), THREE("average", sum),
+    FOUR("sum", sum), FOUR("product", product), FOUR("greatest", greatest), FOUR("least", least),
+    FOUR("every", every), FOUR("any", any), FOUR("count", count), FOUR("average", sum),
 };
 
 static uint64_t mixed(uint64_t place) {
@@ -153,7 +156,7 @@ int main(int count, char **words) {
     fill(words[1], words[3]);
     for (unsigned n = 0; n < sizeof lines / sizeof *lines; n++) {
         if (strcmp(lines[n].name, words[1]) || strcmp(lines[n].shape, words[2])) continue;
-        for (long r = atol(words[4]); r > 0; r--) {
+        for (long r = atol(words[5]); r > 0; r--) {
             seen += lines[n].run() ^ out[r % CELLS];
             __asm__ volatile("" : : : "memory");
         }
@@ -186,20 +189,48 @@ def one_more(programs, case):
     return [(time - start) / rounds for time, start, rounds in zip(least, few, many)]
 
 
+def asked():
+    parser = argparse.ArgumentParser()
+    parser.add_argument("--cells", default="4096", help="how many cells the columns have, joined by commas")
+    parser.add_argument("--beside", help="another build of the program")
+    parser.add_argument("words", nargs="*")
+    return parser.parse_args()
+
+
+def cases(wanted, lengths):
+    """The kernels that are asked for, each with its shape, its data and the number of cells."""
+    for kernels, shape, datas in LINES:
+        for kernel in kernels:
+            for data in datas:
+                for cells in lengths:
+                    if set(wanted) <= {kernel, shape, data}:
+                        yield kernel, shape, data, cells
+
+
+@contextlib.contextmanager
+def loops(lengths):
+    """The loops in C by the number of cells, which the compiler knows: by -O2 and by -O3."""
+    with contextlib.ExitStack() as stack:
+        levels = [[], ["-O3"]]
+        yield {
+            cells: [[stack.enter_context(compiled(LOOPS, PROCESSOR, f"-DCELLS={cells}", *it))] for it in levels]
+            for cells in lengths
+        }
+
+
 def main():
-    wanted = sys.argv[1:]
-    print(f"{'4,096 cells':28} {'us':>8} {'C -O2 us':>9} {'C -O3 us':>9} {'to -O2':>7} {'to -O3':>7}")
-    with compiled(LOOPS, PROCESSOR) as second, compiled(LOOPS, PROCESSOR, "-O3") as third:
-        for kernels, shape, datas in LINES:
-            for case in [(kernel, shape, data) for kernel in kernels for data in datas]:
-                if wanted and not set(wanted) <= set(case):
-                    continue
-                ours, plain, best = one_more([PROGRAM, [second], [third]], case)
-                print(
-                    f"{' '.join(case):28} {ours * 1e6:8.2f} {plain * 1e6:9.2f} {best * 1e6:9.2f}"
-                    f" {ours / plain:7.2f} {ours / best:7.2f}",
-                    flush=True,
-                )
+    options = asked()
+    lengths = options.cells.split(",")
+    others = [[options.beside, "kernel"]] if options.beside else []
+    titles = ["us", *["beside us" for _ in others], "C -O2 us", "C -O3 us"]
+    titles += [*["to it" for _ in others], "to -O2", "to -O3"]
+    print(f"{'':33}" + "".join(f"{title:>10}" for title in titles))
+    with loops(lengths) as plain:
+        for case in cases(options.words, lengths):
+            ours, *rest = one_more([PROGRAM, *others, *plain[case[-1]]], case)
+            times = "".join(f"{time * 1e6:10.3f}" for time in [ours, *rest])
+            ratios = "".join(f"{ours / time:10.2f}" for time in rest)
+            print(f"{' '.join(case):33}{times}{ratios}", flush=True)
 
 
 main()

@@ -105,6 +105,15 @@ FUNCTION zones(void) {
     for (long k = 0; k < 16; k++) at = printed(at, sums[k], k, 16);
     return at;
 }
+static inline char *zonal(long side) {
+    int64_t sums[16] = {0};
+    char *at = text;
+    for (long y = 0; y < side; y++) for (long x = 0; x < side; x++) sums[land[y * SIDE + x]] += noise[y * SIDE + x];
+    for (long y = 0; y < side; y++) for (long x = 0; x < side; x++) at = printed(at, sums[land[y * SIDE + x]], x, side);
+    return at;
+}
+FUNCTION zonal_64(void) { return zonal(64); }
+FUNCTION zonal_130(void) { return zonal(130); }
 FUNCTION cell(void) { return scalar(noise[1000 * SIDE + 1000]); }
 FUNCTION cells(void) {
     char *at = text;
@@ -116,6 +125,7 @@ static const struct { const char *name; char *(*run)(void); } lines[] = {
     {"max_land", max_land}, {"count_noise", count_noise}, {"count_terrain", count_terrain}, {"count_land", count_land},
     {"difference", difference}, {"window", window}, {"focal_1", focal_1}, {"focal_3", focal_3}, {"zones", zones}, {"cells", cells},
     {"cell", cell},
+    {"zonal_64", zonal_64}, {"zonal_130", zonal_130},
 };
 static int earlier(const void *a, const void *b) { double x = *(double *)a, y = *(double *)b; return (x > y) - (x < y); }
 int main(int count, char **words) {
@@ -152,6 +162,14 @@ def focal(radius):
     )
 
 
+def zonal(side):
+    box = f"y(0:{side - 1})", f"x(0:{side - 1})"
+    return (
+        f"for c in (noise), z in (land) return encode(coverage f over $y {box[0]}, $x {box[1]} values"
+        f" condense + over $v {box[0]}, $u {box[1]} where z[y($v), x($u)] = z[y($y), x($x)] using c[y($v), x($u)], csv)"
+    )
+
+
 COUNT = "return count((c * 3 + 7) / 2 > 100 and c != 0)"
 CORNER = "[y(0:1023), x(0:1023)]"
 # what a line is called, its loop in C, its limit where there is one, and its query
@@ -175,6 +193,15 @@ LINES = [
         "for c in (noise), z in (land) return encode(coverage s over $k k(0:15) values"
         f" add(c{CORNER} * (z{CORNER} = $k)), csv)",
     ),
+    (
+        "the same by a condenser",
+        "zones",
+        6,
+        "for c in (noise), z in (land) return encode(coverage s over $k k(0:15) values"
+        " condense + over $y y(0:1023), $x x(0:1023) where z[y($y), x($x)] = $k using c[y($y), x($x)], csv)",
+    ),
+    ("zonal sum, 64 x 64 as CSV", "zonal_64", 12, zonal(64)),
+    ("zonal sum, 130 x 130 as CSV", "zonal_130", 40, zonal(130)),
     ("2^20 cells as CSV", "cells", 4, f"for c in (noise) return encode(c{CORNER}, csv)"),
 ]
 ONE_CELL = "for c in (noise) return c[y(1000), x(1000)]"

@@ -4,9 +4,10 @@
 usage: bench/tiles.py [WORD..]    only the lines that have all of these words
 
 The tiles are of one value, of runs of 64 cells, of runs of twenty and of three on the average, and of noise, each in
-every type of a field. The figure is the processor time that one more call takes, the least of several, so that starting
+every type of a field. Both programs write a tile as runs, or raw where that takes fewer bytes, and both find when they read a
+raw tile that its runs would be longer. The figure is the processor time that one more call takes, the least of several, so that starting
 and making the cells do not count; the two programs take turns. The loops in C write and read the same runs, and are
-compiled here by cc -O2. `rt run` in crates/bench builds the program.
+compiled here by cc -O2 with its vectors. `rt run` in crates/bench builds the program.
 """
 import os
 import sys
@@ -50,8 +51,36 @@ static int64_t cell(int kind, uint64_t n) {
 #define TILES 64
 int64_t tiles[TILES][4096], again[4096];
 uint8_t texts[TILES][4096 * 10 + 8];
+static long count_runs(const int64_t *cells) {
+    long runs = 1;
+    for (long i = 1; i < 4096; i++) runs += cells[i] != cells[i - 1];
+    return runs;
+}
+#define NARROWED(type) { for (long i = 0; i < 4096; i++) ((type *)bytes)[i] = cells[i]; break; }
+#define WIDENED(type) { for (long i = 0; i < 4096; i++) again[i] = ((const type *)bytes)[i]; break; }
+static void encode_raw(int width, const int64_t *cells, uint8_t *bytes) {
+    switch (width) {
+    case 1: NARROWED(uint8_t)
+    case 2: NARROWED(int16_t)
+    case 4: NARROWED(int32_t)
+    default: NARROWED(int64_t)
+    }
+}
+static int decode_raw(int width, const uint8_t *bytes) {
+    switch (width) {
+    case 1: WIDENED(uint8_t)
+    case 2: WIDENED(int16_t)
+    case 4: WIDENED(int32_t)
+    default: WIDENED(int64_t)
+    }
+    return 4096L * width < count_runs(again) * (2 + width);
+}
 __attribute__((noinline)) static long encode(int width, const int64_t *cells, uint8_t *bytes) {
     long end = 0;
+    if (4096L * width < count_runs(cells) * (2 + width)) {
+        encode_raw(width, cells, bytes);
+        return -4096L * width;
+    }
     for (long at = 0; at < 4096;) {
         long stop = at + 1;
         while (stop < 4096 && cells[stop] == cells[at]) stop++;
@@ -63,8 +92,9 @@ __attribute__((noinline)) static long encode(int width, const int64_t *cells, ui
     }
     return end;
 }
-__attribute__((noinline)) static void decode(int width, int is_signed, const uint8_t *bytes, long end) {
+__attribute__((noinline)) static int decode(int width, int is_signed, const uint8_t *bytes, long end) {
     long done = 0;
+    if (end < 0) return decode_raw(width, bytes);
     for (long at = 0; at < end; at += 2 + width) {
         uint16_t count;
         int64_t value = 0;
@@ -73,6 +103,7 @@ __attribute__((noinline)) static void decode(int width, int is_signed, const uin
         if (is_signed) value = (int64_t)((uint64_t)value << (64 - 8 * width)) >> (64 - 8 * width);
         for (long i = 0; i < count; i++) again[done++] = value;
     }
+    return done == 4096;
 }
 int main(int count, char **words) {
     static const char *kinds[] = {"bool", "u8", "i16", "i32", "i64"};
@@ -89,7 +120,7 @@ int main(int count, char **words) {
     }
     for (long r = 0; r < rounds; r++) for (long t = 0; t < TILES; t++) {
         if (is_encoding) encode(widths[kind], tiles[t], texts[t]);
-        else decode(widths[kind], kind > 1, texts[t], ends[t]);
+        else if (!decode(widths[kind], kind > 1, texts[t], ends[t])) return 1;
         __asm__ volatile("" : : : "memory");
     }
     printf("%ld\n", (long)again[count]);
@@ -101,7 +132,9 @@ int main(int count, char **words) {
 def main():
     wanted = sys.argv[1:]
     print(f"{'tile':12} {'encode M/s':>11} {'to C':>6} {'decode M/s':>11} {'to C':>6}")
-    with compiled(LOOPS) as plain:
+    with compiled(
+        LOOPS, "-ftree-vectorize", "-fvect-cost-model=dynamic", "-march=x86-64-v2", "-fno-strict-aliasing"
+    ) as plain:
         for kind in KINDS:
             for pattern in PATTERNS:
                 if not set(wanted) <= {kind, pattern}:

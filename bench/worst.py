@@ -75,6 +75,7 @@ def window(radius, size):
 
 
 TWOS = " + ".join(f"$f{k}" for k in range(16))
+ON_LINE = " + ".join(f"$f{k} * {4099 * (k + 1)}" for k in range(16))
 LIST = f"(coverage m over $i x(0:7999) value list <{'; '.join(str(k % 90) for k in range(8000))}>)"
 ONES = "; ".join(f"a{k}: add(c[y({k}:{k}), x(7:7)])" for k in range(1800))
 RECORD = "; ".join(f"a{k}: add(c + {k})" for k in range(16))
@@ -136,6 +137,7 @@ LINE_QUERIES = [
     ("16,384 scattered reads", C + over("$i i(0:16383)", "c[x($i * 4099 - $i / 255 * 1045245)]", "max")),
     ("a cell of each tile", C + over("$i i(0:255)", "c[x($i * 4096)]", "max")),
     ("a cell of each tile, 64 times", C + over("$i i(0:255)", over("$k k(0:63)", "c[x($i * 4096 + $k)]", "max"))),
+    ("16 folds of two points around a read", C + folds(f"c[x({ON_LINE})]")),
     ("2^18 cells as CSV", C + "encode(c[x(0:262143)], csv)"),
 ]
 

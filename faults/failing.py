@@ -7,14 +7,16 @@ Over a small file the program is asked a script of messages: without a fault, an
 by the library of shim.c, which is loaded before the program. Words choose what is tried: `disk`, the calls on the file (EIO,
 ENOSPC, EINTR, half of the bytes moved, none, half and then EIO; from one call on half or EIO); `lies`, reads that give other
 bytes; `memory`, growths, one and forty in a row; `stream`, reads and writes of the connection; without one of these all are tried.
-`long` takes a script of 64 messages in place of one of ten, `empty` an empty store in memory in place of the file (for
-`memory` alone). Numbers N and M take every Nth growth from the Mth on, all where they are left out.
+`long` takes a script of 64 messages in place of one of ten, `plain` that of ten without its write between the steps of a job,
+`empty` an empty store in memory in place of the file (for `memory` alone). Numbers N and M take every Nth growth from the Mth on, all where they are left out.
 
 Each reply has to be that of oracle/machine.py, or 91 (90 for growths) and that one where the message is sent again. Where the
 opening is refused, the file opens again afterwards, unless the header was being written; where the close is, that is told; where
 it is not, the file holds the store. A failed read or write of the connection ends it, and the store holds what was answered.
 An interrupted read or write is made again, so that all replies come; where each call from one on is interrupted, the connection
-ends as by any fault. Known today, and wrong with `strict`: one growth that is refused at the close loses the session. Prints counts and what was wrong, and ends with status 1 where something was.
+ends as by any fault. One growth alone that is refused at the close loses nothing, since the close is made once more, without
+the jobs and what is kept.
+Prints counts and what was wrong, and ends with status 1 where something was.
 """
 
 import collections
@@ -47,6 +49,7 @@ KINDS = {
     "EIO from then on": (EIO, ALL),
 }
 NAMES = {90: b"NoMemory", 91: b"DiskFault"}
+SCRIPTS = {"long": scripts.LONG, "plain": scripts.PLAIN}
 
 
 def number_in(reply):
@@ -80,8 +83,8 @@ class Trials:
     """A script over a file, what it gives without a fault, and what came with one."""
 
     def __init__(self, program, made, folder, words):
-        self.program, self.made, self.in_memory, self.strict = program, made, "empty" in words, "strict" in words
-        self.messages = scripts.LONG if "long" in words else scripts.SHORT
+        self.program, self.made, self.in_memory = program, made, "empty" in words
+        self.messages = next((it for word, it in SCRIPTS.items() if word in words), scripts.SHORT)
         self.each, self.least = ([int(it) for it in words if it.isdigit()] + [1, 1])[:2]
         self.path, self.log = ("-" if self.in_memory else f"{folder}/store"), f"{folder}/log"
         self.counts, self.wrong = collections.Counter(), 0
@@ -110,10 +113,6 @@ class Trials:
     def fails(self, what, told):
         self.wrong += 1
         print(f"WRONG: {what}: {told}", flush=True)
-
-    def knows(self, what):
-        self.counts[f"known: {what}"] += 1
-        self.wrong += self.strict
 
     def machine(self):
         machine = Machine(units_in(b"".join(self.replies)))
@@ -159,8 +158,8 @@ class Trials:
         if status != 4 or told not in [f"not closed: {it} {NAMES[it].decode()}" for it in allowed]:
             return self.fails(what, f"status {status}, {told}")
         self.counts[told] += 1
-        if on == "memory" and count == 1:
-            self.knows("closes that one growth refused")
+        if on == "memory" and count == 1 and told == "not closed: 90 NoMemory":
+            self.fails(what, "one growth that was refused lost the session")
         if not self.in_memory:
             self.left_by(what, shown_by(self.content()), after)
 

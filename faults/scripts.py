@@ -63,6 +63,9 @@ SHORT = [
     message(request="DeleteCoverage", coverage="w"),
 ]
 
+# the same, where nothing is written between the steps of the job
+PLAIN = SHORT[:5] + SHORT[6:]
+
 CELLS = "3,1,4,1,5,9,2,6"
 
 # all requests, types of cells and numbers of axes, some faults, five jobs, three templates; between the steps of jobs what

@@ -1,5 +1,6 @@
 """Messages over the store of a file, each with the body of its reply, and what the file is to hold after them."""
 
+import re
 import urllib.parse
 
 import store
@@ -11,6 +12,17 @@ def posted(pairs):
     """A message with these pairs as its body."""
     body = urllib.parse.urlencode(pairs, errors="replace").encode()
     return b"POST /ows HTTP/1.1\r\nContent-Length: %d\r\n\r\n%s" % (len(body), body)
+
+
+def replies_in(out):
+    """The head and the body of each reply; the last may lack its body."""
+    found = []
+    while out:
+        head, _, rest = out.partition(b"\r\n\r\n")
+        length = int(re.search(rb"Content-Length: (\d+)", head)[1])
+        found.append((head, rest[:length]))
+        out = rest[length:]
+    return found
 
 
 def csv_of(cells, line):
@@ -91,5 +103,5 @@ def known_tiles(stored, k):
         try:
             found.append(store.cells_of(stored, k, number))
         except Refused:
-            found.append(stored.tiles[k][number])
+            found.append(stored.tiles[k][number][1])
     return found

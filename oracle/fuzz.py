@@ -17,8 +17,6 @@ import contextlib
 import os
 import random
 import re
-import resource
-import subprocess
 import sys
 import tempfile
 import time
@@ -28,15 +26,14 @@ sys.dont_write_bytecode = True
 import meaning
 import sessions
 import store
-from files import Asks, posted
+from files import Asks, posted, replies_in
 from language import Refused
 from machine import Machine, interval_in, listed_in, served
 from meaning import count
 from mutants import Queries, Streams
+from runs import Runs
 from spoilt import Files
 
-# the most that a run may take: processor seconds, and bytes of memory, the program itself included
-MOST_SECONDS, MOST_MEMORY = 10, 128 << 20
 # the most work that is counted here, and the most that is asked; the most points of a domain
 MOST_COUNTED, MOST_ASKED, MOST_POINTS = 40_000, 5_000_000, 50_000
 UNKNOWN = "?"
@@ -82,35 +79,6 @@ class Bounded(Machine):
         return reply
 
 
-def ran(program, file, stream):
-    """The status of a run, what it wrote and what it told, and its processor seconds."""
-    before = resource.getrusage(resource.RUSAGE_CHILDREN)
-    with subprocess.Popen(
-        [program, file, "run"], stdin=subprocess.PIPE, stdout=subprocess.PIPE, stderr=subprocess.PIPE
-    ) as process:
-        resource.prlimit(process.pid, resource.RLIMIT_AS, (MOST_MEMORY, MOST_MEMORY))
-        resource.prlimit(process.pid, resource.RLIMIT_CPU, (MOST_SECONDS, MOST_SECONDS))
-        try:
-            out, errors = process.communicate(stream, timeout=60 * MOST_SECONDS)
-        except subprocess.TimeoutExpired:
-            process.kill()
-            return "did not end", b"", b"", 0.0
-    after = resource.getrusage(resource.RUSAGE_CHILDREN)
-    taken = after.ru_utime + after.ru_stime - before.ru_utime - before.ru_stime
-    return process.returncode, out, errors, taken
-
-
-def replies_in(out):
-    """The head and the body of each reply; the last may lack its body."""
-    found = []
-    while out:
-        head, _, rest = out.partition(b"\r\n\r\n")
-        length = int(re.search(rb"Content-Length: (\d+)", head)[1])
-        found.append((head, rest[:length]))
-        out = rest[length:]
-    return found
-
-
 def is_value(head, body):
     """Whether a reply is a value or a fault."""
     return head.startswith(b"HTTP/1.1 200 OK\r\nContent-Type: text/csv\r\n") or re.fullmatch(
@@ -134,7 +102,9 @@ class Fuzz:
     def __init__(self, program, folder, tells):
         self.program, self.path, self.tells = program, f"{folder}/store", tells
         self.counts, self.replies = collections.Counter(), collections.Counter()
-        self.found, self.longest = [], 0.0
+        self.found, self.runs = [], Runs()
+        # the most that an input took, and which it was, of those that were compared and of those that were left out
+        self.longest, self.largest, self.left_out, self.last = (0.0, ""), (0, ""), (0.0, ""), None
 
     def counted(self, what):
         self.counts[what] += 1
@@ -145,12 +115,20 @@ class Fuzz:
         if self.tells:
             print(*shown, sep="\n")
 
-    def ended(self, name, status, errors, taken, wanted=(0, b"")):
+    def ran(self, name, stream, file=None):
+        """A run on a file."""
+        self.last = run = self.runs.ran(self.program, file or self.path, stream)
+        if self.tells:
+            print(f"{name}: {run.seconds:.3f} processor seconds, {run.kib} KiB")
+        return run
+
+    def ended(self, name, run, wanted=(0, b"")):
         """Whether a run ended as it was to."""
-        self.longest = max(self.longest, taken)
-        if (status, errors) != wanted:
-            self.wrong(name, f"status {status}, {errors}, and not {wanted}, after {taken:.2f} s")
-        return (status, errors) == wanted
+        self.longest, self.largest = max(self.longest, (run.seconds, name)), max(self.largest, (run.kib, name))
+        if (run.status, run.errors) != wanted:
+            told = f"after {run.seconds:.2f} s and {run.kib} KiB"
+            self.wrong(name, f"status {run.status}, {run.errors}, and not {wanted}, {told}")
+        return (run.status, run.errors) == wanted
 
     def trial(self, name):
         chance = random.Random(name)
@@ -159,15 +137,16 @@ class Fuzz:
             chance.choice([self.stream, self.queries, self.file])(name)
         except Beyond:
             self.counted("left out")
+            self.left_out = max(self.left_out, (self.last.seconds, name))
 
     def beside(self, what, name, stream):
         """A stream on an empty store in memory."""
-        status, out, errors, taken = ran(self.program, "-", stream)
-        expected = served(Bounded(sessions.units_in(out)), stream)
+        run = self.ran(name, stream, "-")
+        expected = served(Bounded(sessions.units_in(run.out)), stream)
         self.counted(what)
-        self.replies.update(map(int, re.findall(rb"^(?:refused |HTTP/1.1 (?=200))(\d+)", out, re.M)))
-        if self.ended(name, status, errors, taken) and not agree(out, expected):
-            self.wrong(name, f"{what}: other replies", stream, "wanted:", expected, "came:", out)
+        self.replies.update(map(int, re.findall(rb"^(?:refused |HTTP/1.1 (?=200))(\d+)", run.out, re.M)))
+        if self.ended(name, run) and not agree(run.out, expected):
+            self.wrong(name, f"{what}: other replies", stream, "wanted:", expected, "came:", run.out)
 
     def stream(self, name):
         self.beside(
@@ -213,15 +192,15 @@ class Fuzz:
         stream = self.filled()[1] + sessions.session_of(f"{name}.0")
         if os.path.exists(self.path):
             os.remove(self.path)
-        status, out, errors, taken = ran(self.program, self.path, stream)
-        machine, data = Bounded(sessions.units_in(out)), self.content()
+        run = self.ran(name, stream)
+        machine, data = Bounded(sessions.units_in(run.out)), self.content()
         expected = served(machine, stream)
         if any(count(it.axes) > MOST_POINTS for it in machine.store.values()):
             raise Beyond
         self.counted("files as they were written")
-        if not self.ended(name, status, errors, taken):
+        if not self.ended(name, run):
             return
-        if not agree(out, expected) or not store.is_same(store.read(data), machine.store):
+        if not agree(run.out, expected) or not store.is_same(store.read(data), machine.store):
             self.wrong(name, "other replies over a file, or a file that does not hold the store", stream)
         for _ in range(12):
             self.changed_file(name, Files(self.chance).changed(data))
@@ -233,19 +212,19 @@ class Fuzz:
             found = store.read(data)
         except Refused as refusal:
             line = f"not opened: {refusal.number} {FILE_REFUSALS[refusal.number]}\n".encode()
-            status, out, errors, taken = ran(self.program, self.path, LIST)
+            run = self.ran(name, LIST)
             self.counted(f"files refused as {refusal.number}")
-            if self.ended(name, status, errors, taken, (3, line)) and (out or self.content() != data):
+            if self.ended(name, run, (3, line)) and (run.out or self.content() != data):
                 self.wrong(name, "a file that was refused, and is not as it was")
             return
         if any(count(it.axes) > MOST_POINTS for it in found.values()):
             raise Beyond
         asks = Asks(self.chance, found)
-        status, out, errors, taken = ran(self.program, self.path, b"".join(message for message, _ in asks.made))
+        run = self.ran(name, b"".join(message for message, _ in asks.made))
         self.counted("files with damaged tiles" if asks.damaged else "files that open")
-        if not self.ended(name, status, errors, taken):
+        if not self.ended(name, run):
             return
-        came = [body for _, body in replies_in(out)]
+        came = [body for _, body in replies_in(run.out)]
         for (message, wanted), body in zip(asks.made, came):
             if body != wanted.encode():
                 return self.wrong(name, "another reply over a file", message, "wanted:", wanted, "came:", body)
@@ -276,11 +255,14 @@ def main(program, seconds="60", seed="1"):
         while "." not in seed and time.monotonic() < ends:
             fuzz.trial(f"{seed}.{number}")
             number += 1
-    memory = resource.getrusage(resource.RUSAGE_CHILDREN).ru_maxrss >> 10
     print(", ".join(f"{what}: {times}" for what, times in sorted(fuzz.counts.items())))
     replies = sorted(fuzz.replies.items())
     print("replies:", ", ".join(f"{'answered' if number == 200 else number}: {times}" for number, times in replies))
-    print(f"{len(fuzz.found)} found; at most {fuzz.longest:.2f} processor seconds and {memory} MiB an input")
+    (seconds, slowest), (kib, largest) = fuzz.longest, fuzz.largest
+    print(
+        f"{len(fuzz.found)} found; at most {seconds:.2f} processor seconds, by {slowest}, and {kib} KiB, by {largest};"
+    )
+    print("of those that were left out at most {:.2f} processor seconds, by {}".format(*fuzz.left_out))
     return 1 if fuzz.found else 0
 
 

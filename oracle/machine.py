@@ -6,7 +6,7 @@ import urllib.parse
 from dataclasses import dataclass, replace
 
 from language import KEYWORDS, Refused
-from meaning import Coverage, Fault, answer, count, fits, points, rank, submitted
+from meaning import MOST_AXES, Coverage, Fault, answer, count, fits, points, rank, submitted
 
 RANGES = {
     "bool": None,
@@ -22,16 +22,17 @@ NAMES = (
     " 43 NoSuchAxis 44 AxisTwice 45 DomainMismatch 46 TrimOutside 47 NeedsScalar 48 NeedsBoolean 49 NeedsInteger"
     " 50 NeedsOneField 51 ListLength 52 MustEncode 53 BadInterval 54 TooMuchWork 55 ResultTooLarge 56 TooManyCombinations"
     " 60 Overflow 61 DivideByZero 62 OutOfDomain 63 EmptyCondense 64 BadBit 70 NoSuchJob 71 NotReady 72 TooManyJobs 80 NoSuchTemplate 81 BadParameter"
-    " 92 NoRoom"
+    " 92 NoRoom 93 Damaged"
 ).split()
 REFUSALS = dict(zip(map(int, NAMES[::2]), NAMES[1::2]))
-STATUSES = {3: 404, 20: 404, 70: 404, 21: 409, 28: 409, 71: 409, 2: 413, 4: 501, 27: 503, 72: 503, 92: 503}
+STATUSES = {3: 404, 20: 404, 70: 404, 21: 409, 28: 409, 71: 409, 2: 413, 4: 501, 27: 503, 72: 503, 92: 503, 93: 500}
 PHRASES = {
     200: "OK",
     400: "Bad Request",
     404: "Not Found",
     409: "Conflict",
     413: "Payload Too Large",
+    500: "Internal Server Error",
     501: "Not Implemented",
     503: "Service Unavailable",
 }
@@ -169,7 +170,7 @@ class Machine:
         )
         if name in self.store:
             raise Refused(21)
-        if len(axes) > 4 or not is_domain(axes):
+        if not is_domain(axes):
             raise Refused(22)
         if len(fields) > 16 or len({field for field, _ in fields}) < len(fields):
             raise Refused(23)
@@ -310,7 +311,7 @@ class Machine:
 def is_domain(axes):
     names = [name for name, _, _ in axes]
     return (
-        len(axes) <= 4
+        len(axes) <= MOST_AXES
         and len(set(names)) == len(names)
         and all(fits(lo) and fits(hi) and lo <= hi for _, lo, hi in axes)
         and count(axes) <= 2**24

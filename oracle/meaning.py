@@ -8,7 +8,7 @@ from typing import Callable
 
 from language import Refused, Tree, parsed
 
-MOST_AXES, MOST_POINTS, MOST_CELLS, MOST_WORK = 4, 2**24, 2**20, 2**32
+MOST_AXES, MOST_POINTS, MOST_CELLS, MOST_WORK = 6, 2**24, 2**20, 2**32
 WHOLE = {"add": "+", "max": "max", "min": "min", "some": "or", "all": "and", "avg": "avg", "count": "count"}
 
 

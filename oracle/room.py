@@ -14,7 +14,7 @@ LINK = 4092
 # in the nearly full file: one coverage in 2^21 tiles, of which each that is listed takes ten blocks
 FILLER = "full"
 FILLER_AXES = [("k", 0, 2**24 - 1), ("t", 0, 0), ("y", 0, 0), ("x", 0, 0)]
-TILE_BLOCKS = store.LONGEST_TILE // store.BLOCK
+TILE_BLOCKS = store.LONGEST_RUNS // store.BLOCK
 
 
 def blocks_in(size, block):
@@ -38,8 +38,8 @@ def spelled(name):
 
 
 def tile_length(kind, cells):
-    """How many bytes a tile has: a count and a value for each run of equal cells."""
-    return struct.calcsize(store.RUNS[kind]) * sum(1 for _ in itertools.groupby(cells))
+    """How many bytes a tile has: those of its runs, or of its cells one after the other where these are fewer."""
+    return min(store.runs_size(kind, cells), struct.calcsize(store.VALUES[kind]) * len(cells))
 
 
 def meets(box, other):

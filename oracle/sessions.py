@@ -34,6 +34,7 @@ from texts import NAMES, Texts
 FIELDS = ["v", "w", "b"]
 # domains in 2, 4, 8 and 16 tiles
 WIDE = ["x(0:4099)", "y(-3:62),x(5:70)", "t(0:16),y(0:16),x(0:17)", "k(0:8),t(0:8),y(0:8),x(0:8)"]
+WIDE += ["m(0:4),k(0:4),t(0:1),y(0:4),x(0:1)", "n(0:4),m(0:1),k(0:4),t(0:1),y(0:4),x(0:1)"]
 # the most cells of an update that are listed
 MOST_LISTED = 300
 

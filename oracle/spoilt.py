@@ -12,9 +12,11 @@ def listed_in(data):
     """The bytes of a file's catalogue, and of each field its axes, its type and its index."""
     metadata = store.Bytes(store.chain(data, *store.header(data))[0])
     catalogue = metadata.part().data
-    found = store.catalogue(store.Bytes(catalogue))
+    found = store.catalogue(store.Bytes(catalogue), store.version_of(data))
     fields = [(it.axes, kind) for it in found.values() for _, kind in it.fields]
-    return catalogue, [(axes, kind, store.index(metadata.part(), axes)) for axes, kind in fields]
+    return catalogue, [
+        (axes, kind, store.index(metadata.part(), axes, store.version_of(data))) for axes, kind in fields
+    ]
 
 
 def with_length(data):
@@ -22,7 +24,7 @@ def with_length(data):
 
 
 def index_bytes(entries):
-    parts = [struct.pack(f"<II{len(blocks)}I", number, length, *blocks) for number, length, blocks in entries]
+    parts = [struct.pack(f"<II{len(blocks)}I", number, told, *blocks) for number, told, blocks in entries]
     return struct.pack("<I", len(entries)) + b"".join(parts)
 
 
@@ -172,14 +174,18 @@ class Files(Chance):
     def same_tile(self, entry, used, count):
         """The entry, and another of its tile in a block that nothing uses."""
         free = [block for block in range(1, count) if block not in used]
-        return [entry, (entry[0], min(entry[1], store.BLOCK), [self.chance.choice(free)])] if free else [entry]
+        is_raw, length = store.form_and_length(entry[1])
+        told = is_raw * store.RAW + min(length, store.BLOCK)
+        return [entry, (entry[0], told, [self.chance.choice(free)])] if free else [entry]
 
     def other_tile(self, entry, used, count):
         return [(self.chance.choice([entry[0] + 1, entry[0] - 1, self.edge()]) % 2**32, *entry[1:])]
 
     def other_length(self, entry, used, count):
-        length = self.chance.choice([entry[1] - 1, entry[1] + 1, 0, 40960, 40961, self.edge() % 2**32])
-        return [(entry[0], length, entry[2])]
+        """Another length, the other form, or the longest of either and one more."""
+        ends = [store.LONGEST_RUNS, store.LONGEST_RAW + store.RAW]
+        near = [entry[1] - 1, entry[1] + 1, entry[1] ^ store.RAW, 0, *ends, *(it + 1 for it in ends)]
+        return [(entry[0], self.chance.choice([*near, self.edge() % 2**32]), entry[2])]
 
     def shared_block(self, entry, used, count):
         """A block of a tile, or the one behind all, where the metadata will begin."""
@@ -189,24 +195,25 @@ class Files(Chance):
         return [(*entry[:2], entry[2][:-1] + [self.chance.choice([0, count + 100, self.edge() % 2**32])])]
 
     def runs(self, data):
-        """A tile's runs changed: cut in two alike, exchanged, longer or shorter, more or fewer."""
+        """A tile's runs changed: cut in two alike, exchanged, longer or shorter, more or fewer; or its raw cells."""
         catalogue, fields = listed_in(data)
         choices = [(kind, entries, k) for _, kind, entries in fields for k in range(len(entries))]
         if not choices:
             return data
         kind, entries, k = self.chance.choice(choices)
-        number, length, blocks = entries[k]
-        old = b"".join(store.block(data, it) for it in blocks)[:length]
-        if len(old) % struct.calcsize(store.RUNS[kind]):
+        number, told, blocks = entries[k]
+        is_raw, old = store.tile(data, told, blocks)
+        spelling = (store.VALUES if is_raw else store.RUNS)[kind]
+        if len(old) % struct.calcsize(spelling):
             return data
-        runs = self.other_runs(list(struct.iter_unpack(store.RUNS[kind], old)))
-        new = b"".join(struct.pack(store.RUNS[kind], count % 65536, value) for count, value in runs)
+        parts = list(struct.iter_unpack(spelling, old))
+        new = b"".join(struct.pack(spelling, *it) for it in (self.other_cells if is_raw else self.other_runs)(parts))
         if len(new) > len(blocks) * store.BLOCK:
             return data
         for at, it in enumerate(blocks):
             part = new[at * store.BLOCK : at * store.BLOCK + store.BLOCK]
             data[it * store.BLOCK : it * store.BLOCK + len(part)] = part
-        entries[k] = number, len(new), blocks
+        entries[k] = number, is_raw * store.RAW + len(new), blocks
         return listing(data, catalogue, fields)
 
     def other_runs(self, runs):
@@ -218,7 +225,15 @@ class Files(Chance):
         runs[at : at + 1] = self.chance.choice(changes)
         if self.one_in(3):
             runs[at : at + 2] = reversed(runs[at : at + 2])
-        return runs
+        return [(count % 65536, value) for count, value in runs]
+
+    def other_cells(self, cells):
+        """Raw cells with many alike, or another number of them."""
+        start, end = self.span(len(cells))
+        if start < end:
+            changes = [[cells[start]] * (end - start), [], cells[start:end] * 2, [(1,)] * (end - start)]
+            cells[start:end] = self.chance.choice(changes)
+        return cells
 
 
 def chained(data, metadata):

@@ -5,17 +5,20 @@ import struct
 from dataclasses import dataclass
 
 from machine import is_domain, name_in
-from meaning import count, needs, points, rank
+from meaning import MOST_AXES, count, needs, points, rank
 
-BLOCK, MOST_BLOCKS, MOST_COVERAGES, MOST_FIELDS, LONGEST_TILE = 4096, 2**20, 1024, 16, 40960
-EDGES = {1: 4096, 2: 64, 3: 16, 4: 8}
+BLOCK, MOST_BLOCKS, MOST_COVERAGES, MOST_FIELDS = 4096, 2**20, 1024, 16
+LONGEST_METADATA = 15_000_000
+RAW, LONGEST_RUNS, LONGEST_RAW = 2**31, 40960, 32768
+EDGES = {1: 4096, 2: 64, 3: 16, 4: 8, 5: 4, 6: 4}
 TYPES = ["bool", "u8", "i16", "i32", "i64"]
 RUNS = dict(zip(TYPES, ["<HB", "<HB", "<Hh", "<Hi", "<Hq"]))
+VALUES = dict(zip(TYPES, ["<B", "<B", "<h", "<i", "<q"]))
 
 
 @dataclass
 class Stored:
-    """Axes and fields as a coverage has them, and for each field the bytes of its listed tiles, by number."""
+    """Axes and fields as a coverage has them, and for each field its listed tiles by number: whether raw, and the bytes."""
 
     axes: list
     fields: list
@@ -73,16 +76,31 @@ def tile_box(axes, number):
     return box
 
 
-def decoded(kind, size, data):
-    """The cells of a tile of this size, or 93."""
-    needs(len(data) % struct.calcsize(RUNS[kind]) == 0, 93)
-    cells, last = [], None
-    for times, value in struct.iter_unpack(RUNS[kind], data):
-        needs(1 <= times <= 4096 and value != last and (kind != "bool" or value < 2), 93)
-        cells += [value == 1 if kind == "bool" else value] * times
-        last = value
-    needs(len(cells) == size, 93)
-    return cells
+def runs_size(kind, cells):
+    """How many bytes the runs of cells take."""
+    return struct.calcsize(RUNS[kind]) * sum(1 for _ in itertools.groupby(cells))
+
+
+def values_in(kind, is_raw, data):
+    """The numbers of a tile in either form, or 93."""
+    spelling = VALUES[kind] if is_raw else RUNS[kind]
+    needs(len(data) % struct.calcsize(spelling) == 0, 93)
+    if is_raw:
+        found = [value for value, in struct.iter_unpack(spelling, data)]
+        needs(len(data) < runs_size(kind, found), 93)
+        return found
+    found = []
+    for times, value in struct.iter_unpack(spelling, data):
+        needs(1 <= times <= 4096 and found[-1:] != [value], 93)
+        found += [value] * times
+    return found
+
+
+def decoded(kind, size, is_raw, data):
+    """The cells of a tile of this size in either form, or 93."""
+    values = values_in(kind, is_raw, data)
+    needs(len(values) == size and (kind != "bool" or all(value < 2 for value in values)), 93)
+    return [value == 1 if kind == "bool" else value for value in values]
 
 
 def cells_of(stored, k, number):
@@ -90,7 +108,7 @@ def cells_of(stored, k, number):
     kind, size = stored.fields[k][1], count(tile_box(stored.axes, number))
     if number not in stored.tiles[k]:
         return [False if kind == "bool" else 0] * size
-    return decoded(kind, size, stored.tiles[k][number])
+    return decoded(kind, size, *stored.tiles[k][number])
 
 
 def all_cells(stored, k):
@@ -106,11 +124,16 @@ def header(file):
     """The first block of the metadata and its length."""
     needs(len(file) >= BLOCK, 94)
     magic, version, state, blocks, first, length = struct.unpack_from("<8s4IQ", file)
-    needs(magic == b"WCPSTORE" and version == 1, 94)
+    needs(magic == b"WCPSTORE" and version in (1, 2), 94)
     needs(state != 1, 95)
     needs(state == 2 and not any(file[32:BLOCK]), 93)
-    needs(len(file) == blocks * BLOCK and blocks <= MOST_BLOCKS and length > 0, 93)
+    needs(len(file) == blocks * BLOCK and blocks <= MOST_BLOCKS, 93)
+    needs(0 < length <= LONGEST_METADATA, 93)
     return first, length
+
+
+def version_of(file):
+    return struct.unpack_from("<I", file, 8)[0]
 
 
 def block(file, k):
@@ -139,12 +162,12 @@ def typed_field(data):
     return data.name(), TYPES[data.number("B", 0, len(TYPES) - 1)]
 
 
-def catalogue(data):
+def catalogue(data, version):
     """The coverages of a catalogue by name, without tiles."""
     found = {}
     for _ in range(data.number("<I", 0, MOST_COVERAGES)):
         name = data.name()
-        axes = [axis(data) for _ in range(data.number("B", 1, len(EDGES)))]
+        axes = [axis(data) for _ in range(data.number("B", 1, MOST_AXES if version == 2 else 4))]
         fields = [typed_field(data) for _ in range(data.number("B", 1, MOST_FIELDS))]
         needs(name not in found and is_domain(axes), 93)
         needs(len({it for it, _ in fields}) == len(fields), 93)
@@ -153,16 +176,30 @@ def catalogue(data):
     return found
 
 
-def index(data, axes):
-    """Of each listed tile its number, its length and its blocks."""
+def form_and_length(told):
+    """Whether a tile is raw, and how many bytes it has, by the number that an index tells."""
+    is_raw, length = divmod(told, RAW)
+    return is_raw == 1, length
+
+
+def index(data, axes, version):
+    """Of each listed tile its number, the number that tells its form and length, and its blocks."""
     found, least = [], 0
     for _ in range(data.number("<I")):
         number = data.number("<I", least, tile_count(axes) - 1)
-        length = data.number("<I", 1, LONGEST_TILE)
-        found.append((number, length, [data.number("<I") for _ in range(-(-length // BLOCK))]))
+        told = data.number("<I")
+        is_raw, length = form_and_length(told)
+        needs(1 <= length <= (LONGEST_RAW if is_raw else LONGEST_RUNS) and not (is_raw and version == 1), 93)
+        found.append((number, told, [data.number("<I") for _ in range(-(-length // BLOCK))]))
         least = number + 1
     data.end()
     return found
+
+
+def tile(file, told, blocks):
+    """Whether a tile is raw, and its bytes."""
+    is_raw, length = form_and_length(told)
+    return is_raw, b"".join(block(file, k) for k in blocks)[:length]
 
 
 def read(file):
@@ -171,14 +208,12 @@ def read(file):
         return {}
     metadata, used = chain(file, *header(file))
     data = Bytes(metadata)
-    found = catalogue(data.part())
+    found = catalogue(data.part(), version_of(file))
     for stored in found.values():
         for _ in stored.fields:
-            listed = index(data.part(), stored.axes)
+            listed = index(data.part(), stored.axes, version_of(file))
             used += itertools.chain.from_iterable(blocks for _, _, blocks in listed)
-            stored.tiles.append(
-                {number: b"".join(block(file, k) for k in blocks)[:length] for number, length, blocks in listed}
-            )
+            stored.tiles.append({number: tile(file, told, blocks) for number, told, blocks in listed})
     data.end()
     needs(len(set(used)) == len(used), 93)
     return found

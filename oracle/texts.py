@@ -1,6 +1,6 @@
 """Queries by chance, over the coverages of a store."""
 
-AXES, NAMES = ["x", "y", "t", "k"], ["lai", "hill", "g", "z", "a_1"]
+AXES, NAMES = ["x", "y", "t", "k", "m", "n"], ["lai", "hill", "g", "z", "a_1"]
 
 
 class Texts:
@@ -55,11 +55,13 @@ class Texts:
         return self.chance.choice(["int", "int", "int", "bool"])
 
     def box(self):
-        names = self.chance.sample(AXES, self.chance.choice([1, 1, 2, 2, 3]))
+        """Of one to three axes, and now and then of up to six, along which it is shorter."""
+        is_many = self.one_in(8)
+        names = self.chance.sample(AXES, self.chance.choice([4, 5, 6] if is_many else [1, 1, 2, 2, 3]))
         found = []
         for name in names:
             lo = self.chance.randrange(-3, 3)
-            found.append((name, lo, lo + self.chance.randrange(4)))
+            found.append((name, lo, lo + self.chance.randrange(2 if is_many else 4)))
         return found
 
     def record(self, axes, depth):

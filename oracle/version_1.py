@@ -21,10 +21,10 @@ from dataclasses import dataclass
 sys.dont_write_bytecode = True
 
 import store
-from files import Asks, csv_of, posted
-from fuzz import ran, replies_in
+from files import Asks, csv_of, posted, replies_in
 from language import Refused
 from meaning import cell_text, count, points, rank
+from runs import run
 
 FOLDER = os.path.join(os.path.dirname(os.path.abspath(__file__)), "version_1")
 ROW = 32
@@ -192,7 +192,7 @@ def put(path, data):
 
 def session(program, path, pairs):
     """What was wrong with a session over a file: its end, or the first reply that is another one."""
-    status, out, errors, _ = ran(program, path, b"".join(message for message, _ in pairs))
+    status, _, out, errors = run(program, path, b"".join(message for message, _ in pairs))
     if (status, errors) != (0, b""):
         return f"status {status}, {errors}"
     came = [body for _, body in replies_in(out)]
@@ -211,6 +211,8 @@ def wrong(program, name, path):
     if told := session(program, path, list(asked(coverages))):
         return told
     closed = content(path)
+    if closed[8:12] != b"\2\0\0\0":
+        return "after its close it is no file of version 2"
     if not holds(closed, coverages) or tiles(closed) != tiles(data):
         return "after its close it holds something else, or its tiles in another spelling"
     asks = Asks(random.Random(name), store.read(closed))

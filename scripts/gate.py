@@ -73,6 +73,8 @@ def trials(seed):
     yield "files of version 1", ["oracle/version_1.py", program], None
     yield "words, statuses and lines of the program", ["scripts/statuses.py", program], None
     yield "sessions beside the independent reading", ["oracle/sessions.py", program, "200", seed], None
+    yield "sessions over damaged tiles", ["oracle/damaged.py", program, "100", seed], None
+    yield "folds by zone", ["oracle/zones.py", program, "200", seed], None
     yield "clients that shut, reset, stall and go away", ["bench/sockets.py"], lacking("curl")
     yield "a device without room", ["bench/full_disk.py"], None
     yield "the clients and deploy/serve", ["clients/python/test.py", program], lacking("curl", "flock", "prlimit")

@@ -38,8 +38,8 @@ MOST_CELLS = 2**20
 MOST_POINTS = 2**24
 
 # The side of a tile by the number of axes, and that of a chunk: whole tiles, and no more cells than an answer may have.
-TILE = {1: 4096, 2: 64, 3: 16, 4: 8}
-CHUNK = {1: MOST_CELLS, 2: 1024, 3: 96, 4: 32}
+TILE = {1: 4096, 2: 64, 3: 16, 4: 8, 5: 4, 6: 4}
+CHUNK = {1: MOST_CELLS, 2: 1024, 3: 96, 4: 32, 5: 16, 6: 8}
 
 # How much work one request may ask, of the 2^32 that the server takes: others are served between two of them.
 WORK = 2**29

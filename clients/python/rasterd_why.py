@@ -356,7 +356,7 @@ SAID = {
     50: lambda e, parts, bound: f"it has several fields: select one, as `.{first_of_several(parts)}`",
     51: lambda e, parts, bound: f"it has {len(e.data[1])} items, and its box another number of points",
     52: lambda e, parts, bound: "it has axes: write encode(.., csv) around it",
-    53: lambda e, parts, bound: "a lower bound stands above its upper one, or the box has more than 4 axes or 2^24 points",
+    53: lambda e, parts, bound: "a lower bound stands above its upper one, or the box has more than 6 axes or 2^24 points",
 }
 
 
@@ -395,7 +395,7 @@ ADVICE = {
     11: "requests are InsertCoverage, UpdateCoverage, DeleteCoverage, ListCoverages, DescribeCoverage, ProcessCoverages,"
     " SubmitQuery, StepJob, FetchJob, CancelJob, ExpandTemplate, ProcessTemplate",
     20: "ListCoverages tells the names, which are case-sensitive",
-    22: "a coverage has one to four axes, each named once, bounds of 32 bits with the lower one first, and at most 16,777,216"
+    22: "a coverage has one to six axes, each named once, bounds of 32 bits with the lower one first, and at most 16,777,216"
     " points: rasterd-load --parts cuts a larger raster",
     23: "a coverage has one to sixteen fields, each named once",
     54: "ask what is the same for all cells first, as avg(c), and write the number into the query; or ask for a smaller box:"

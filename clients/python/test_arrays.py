@@ -157,11 +157,11 @@ class OneServer(unittest.TestCase):
         lazy.v.sel(y=slice(0, 9), x=slice(20, 29)).load()
         self.assertEqual(asked, [box_of(0, 9, 20, 29)])
 
-    def test_axes_from_one_to_four(self):
-        for axes in range(1, 5):
-            shape = [5, 4, 3, 2][:axes]
+    def test_axes_from_one_to_six(self):
+        for axes in range(1, 7):
+            shape = [5, 4, 3, 2, 2, 5][:axes]
             data = xarray.DataArray(
-                numpy.arange(numpy.prod(shape)).reshape(shape).astype("int32"), dims=list("tzyx")[:axes]
+                numpy.arange(numpy.prod(shape)).reshape(shape).astype("int32"), dims=list("tzyxmn")[:axes]
             )
             url = self.url.replace("terrain", f"with{axes}")
             rasterd_xarray.to_rasterd(data, url)

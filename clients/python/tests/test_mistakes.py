@@ -115,8 +115,8 @@ REQUESTS = [
     ),
     (
         "InsertCoverage",
-        dict(coverage="a", domain="a(0:1),b(0:1),c(0:1),d(0:1),e(0:1)", fields="v:u8"),
-        "22 BadDomain: a coverage has one to four axes",
+        dict(coverage="a", domain="a(0:1),b(0:1),c(0:1),d(0:1),e(0:1),f(0:1),g(0:1)", fields="v:u8"),
+        "22 BadDomain: a coverage has one to six axes",
     ),
     ("DeleteCoverage", dict(coverage="Hill"), "20 NoSuchCoverage: ListCoverages tells the names, which are case-sens"),
     (

@@ -9,6 +9,7 @@ ghost use Rattle.arr_core.specs.Cells.{Fits};
 use crate::noise::noise;
 use anyhow::{Result, bail};
 use arr_core::FieldType;
+use file_bytes::Form;
 use run_tile::{decode_into, encode};
 use std::alloc::{AllocError, Global};
 
@@ -56,10 +57,10 @@ fn all_fit(kind: FieldType, cells: &[i64]) -> bool
 /// How many tiles there are.
 const TILES: u64 = 64;
 
-/// The bytes of the cells, empty where they are none of a tile.
-fn encoded(alloc: Global, kind: FieldType, cells: &[i64]) -> Result<Vec<u8>, AllocError> {
+/// The form and the bytes of the cells, no bytes where they are none of a tile.
+fn encoded(alloc: Global, kind: FieldType, cells: &[i64]) -> Result<(Form, Vec<u8>), AllocError> {
     if cells.is_empty() || cells.len() > 4096 || !all_fit(kind, cells) {
-        return Ok(Vec::new(alloc));
+        return Ok((Form::Runs, Vec::new(alloc)));
     }
     encode(alloc, kind, cells)
 }
@@ -74,7 +75,7 @@ fn encode_all(
     let mut size: u64 = 0;
     for _ in 0..rounds {
         for cells in tiles {
-            size = size.wrapping_add(encoded(alloc, kind, cells)?.len() as u64);
+            size = size.wrapping_add(encoded(alloc, kind, cells)?.1.len() as u64);
         }
     }
     Ok(size)
@@ -94,8 +95,8 @@ fn decode_all(
     let mut size: u64 = 0;
     let mut again = Vec::new(alloc);
     for _ in 0..rounds {
-        for bytes in &texts {
-            if let Ok(()) = decode_into(kind, 4096, bytes, &mut again) {
+        for (form, bytes) in &texts {
+            if let Ok(()) = decode_into(kind, 4096, *form, bytes, &mut again) {
                 size = size.wrapping_add(again.len() as u64);
             }
         }

@@ -1,14 +1,15 @@
 -- How the words on calls follow one another.
 use Rattle.std.proofs.Common.{◌≡◌, ℕ, ◌+◌, ◌<◌, ◌≤◌, arith, refl, ◌∙◌}
-use Rattle.block_file.specs.State.{BlocksState, none}
-use Rattle.block_file.specs.Words.{OnlyReads, Recounts, Moves}
+use Rattle.block_file.specs.State.{BlocksState}
+use Rattle.block_file.specs.Words.{Moves}
 
 -- uses alone have changed
-pub unmoved : (given taken : ℕ → ℕ) (old new : BlocksState) → ((k : ℕ) → new.uses k + given k ≡ old.uses k + taken k) → new.content ≡ old.content → new.size ≡ old.size → new.honest ≡ old.honest → Moves given taken old new
-unmoved given taken old new uses content size honest = record {
+pub unmoved : (given taken : ℕ → ℕ) (old new : BlocksState) → ((k : ℕ) → new.uses k + given k ≡ old.uses k + taken k) → new.content ≡ old.content → new.overreads ≡ old.overreads → new.size ≡ old.size → new.honest ≡ old.honest → Moves given taken old new
+unmoved given taken old new uses content overreads size honest = record {
   uses = uses;
   kept = λ k h whole. rw content refl;
   header = λ whole. rw content refl;
+  overreads = overreads;
   size = size;
   honest = honest;
 }
@@ -20,6 +21,7 @@ moves_through a b c d e f s1 s2 s3 uses less m n = record {
   uses = uses;
   kept = λ k h whole. let same = m.kept k (less k h).0 whole in n.kept k (less k h).1 (rw same whole) ∙ same;
   header = λ whole. let same = m.header whole in n.header (rw same whole) ∙ same;
+  overreads = n.overreads ∙ m.overreads;
   size = n.size ∙ m.size;
   honest = n.honest ∙ m.honest;
 }
@@ -34,6 +36,7 @@ moves_as a b c d old new same less m = record {
   uses = λ k. omega (arith, m.uses k, same k);
   kept = λ k h whole. m.kept k (less k h) whole;
   header = m.header;
+  overreads = m.overreads;
   size = m.size;
   honest = m.honest;
 }

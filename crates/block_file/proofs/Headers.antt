@@ -7,13 +7,14 @@ use Rattle.std.proofs.lemmas.List.{get_or_past, length-replicate}
 use borrow.Rule.Slice.PartMut.{mid_of}
 use Rattle.disk_face.specs.Disk.{Holds, Written, Torn}
 use Rattle.block_file.specs.declared.header.State.{State}
+use Rattle.file_bytes.specs.declared.form.Version.TheVariants.{Two}
 use Rattle.block_file.specs.declared.fault.OpenFault.{OpenFault}
 use Rattle.block_file.specs.declared.fault.OpenFault.TheVariants.{NoMemory, DiskFault, Damaged, NotAStore, NotClosed}
 use Rattle.block_file.specs.declared.header.State.TheVariants.{Closed}
 use Rattle.block_file.specs.declared.chain.Layout.{Layout}
 use Rattle.block_file.specs.declared.header.Header.{Header}
 use Rattle.block_file.specs.State.{block_at, BlocksState}
-use Rattle.block_file.specs.Format.{number_at, magic_bytes, state_number, IsStoreFile, IsHeader, KeepsHeader, Put, IsChain, IsClosed, IsDamaged, HeaderWritten, Closes, Filled, Extends, HeaderTorn, HeaderLast}
+use Rattle.block_file.specs.Format.{number_at, magic_bytes, state_number, TellsVersion, IsStoreFile, IsHeader, KeepsHeader, Put, IsChain, IsClosed, IsDamaged, HeaderWritten, Closes, Filled, Extends, HeaderTorn, HeaderLast}
 use Rattle.block_file.specs.View.{IsRefused, IsOpened}
 use Rattle.block_file.specs.Links.{IsNoHeader, IsClosedHeader, ReadsChain}
 use Rattle.block_file.specs.Words.{OthersKept, OnlyHeader}
@@ -28,22 +29,25 @@ pub take_same : (n : ℕ) (xs ys : List ℕ) → n ≤ length xs → n ≤ lengt
 take_same n xs ys a b same = same_number_lists _ _ (grind (arith, common_steps)) (λ i h. grind (arith, elements, same i))
 
 pub header_made : (state : State) (blocks first size : ℕ) (b0 b1 b2 b3 b4 b5 : List ℕ) → length b0 ≡ 4096 → take 8 b0 ≡ magic_bytes → ((i : ℕ) → 8 ≤ i → get_or b0 i 0 ≡ 0)
-    → Put 8 4 1 b0 b1 → Put 12 4 (state_number state) b1 b2 → Put 16 4 blocks b2 b3 → Put 20 4 first b3 b4 → Put 24 8 size b4 b5 → IsHeader b5 state blocks first size
+    → Put 8 4 2 b0 b1 → Put 12 4 (state_number state) b1 b2 → Put 16 4 blocks b2 b3 → Put 20 4 first b3 b4 → Put 24 8 size b4 b5 → IsHeader b5 state blocks first size × TellsVersion Two b5
 header_made state blocks first size b0 b1 b2 b3 b4 b5 len magic zeros p1 p2 p3 p4 p5 =
     let same0 : (i : ℕ) → i < 8 → get_or b5 i 0 ≡ get_or b0 i 0 = λ i h. p5.below i (omega arith) ∙ p4.below i (omega arith) ∙ p3.below i (omega arith) ∙ p2.below i (omega arith) ∙ p1.below i (omega arith) in
     let long : length b5 ≡ 4096 = omega (arith, p1.same_length, p2.same_length, p3.same_length, p4.same_length, p5.same_length) in
-    record {
-      store = record {
-        whole = omega arith;
-        magic = take_same 8 b5 b0 (omega arith) (omega arith) same0 ∙ magic;
-        version = kept 8 4 24 8 size b4 b5 (omega arith) p5 ∙ kept 8 4 20 4 first b3 b4 (omega arith) p4 ∙ kept 8 4 16 4 blocks b2 b3 (omega arith) p3 ∙ kept 8 4 12 4 _ b1 b2 (omega arith) p2 ∙ p1.number;
-      };
-      state = kept 12 4 24 8 size b4 b5 (omega arith) p5 ∙ kept 12 4 20 4 first b3 b4 (omega arith) p4 ∙ kept 12 4 16 4 blocks b2 b3 (omega arith) p3 ∙ p2.number;
-      blocks = kept 16 4 24 8 size b4 b5 (omega arith) p5 ∙ kept 16 4 20 4 first b3 b4 (omega arith) p4 ∙ p3.number;
-      first = kept 20 4 24 8 size b4 b5 (omega arith) p5 ∙ p4.number;
-      size = p5.number;
-      zeros = λ i a b. p5.above i (omega arith) ∙ p4.above i (omega arith) ∙ p3.above i (omega arith) ∙ p2.above i (omega arith) ∙ p1.above i (omega arith) ∙ zeros i (omega arith);
-    }
+    let told : TellsVersion Two b5 = kept 8 4 24 8 size b4 b5 (omega arith) p5 ∙ kept 8 4 20 4 first b3 b4 (omega arith) p4 ∙ kept 8 4 16 4 blocks b2 b3 (omega arith) p3 ∙ kept 8 4 12 4 _ b1 b2 (omega arith) p2 ∙ p1.number in (
+      record {
+        store = record {
+          whole = omega arith;
+          magic = take_same 8 b5 b0 (omega arith) (omega arith) same0 ∙ magic;
+          version = (Two, told);
+        };
+        state = kept 12 4 24 8 size b4 b5 (omega arith) p5 ∙ kept 12 4 20 4 first b3 b4 (omega arith) p4 ∙ kept 12 4 16 4 blocks b2 b3 (omega arith) p3 ∙ p2.number;
+        blocks = kept 16 4 24 8 size b4 b5 (omega arith) p5 ∙ kept 16 4 20 4 first b3 b4 (omega arith) p4 ∙ p3.number;
+        first = kept 20 4 24 8 size b4 b5 (omega arith) p5 ∙ p4.number;
+        size = p5.number;
+        zeros = λ i a b. p5.above i (omega arith) ∙ p4.above i (omega arith) ∙ p3.above i (omega arith) ∙ p2.above i (omega arith) ∙ p1.above i (omega arith) ∙ zeros i (omega arith);
+      },
+      told,
+    )
 
 -- contents that agree on their first block
 pub record SameStart (one other : List ℕ) : Type 0 where
@@ -61,7 +65,7 @@ pub store_in : (one other : List ℕ) → SameStart one other → IsStoreFile on
 store_in one other s h = record {
   whole = s.long;
   magic = take_same 8 other one (omega (arith, s.long)) (omega (arith, s.short)) (λ i lt. s.same i (omega arith)) ∙ h.magic;
-  version = number_in 8 4 one other (omega arith) s ∙ h.version;
+  version = (h.version.0, number_in 8 4 one other (omega arith) s ∙ h.version.1);
 }
 
 -- they have the same header
@@ -104,9 +108,17 @@ pub damaged_length : (content : List ℕ) (blocks first size : ℕ) → IsHeader
 damaged_length content blocks first size header wrong = record {
   store = header.store;
   not_open = λ e. let closed = header.state in omega arith;
-  not_closed = λ metadata closed.
+  not_closed = λ metadata short closed.
       let same : blocks ≡ length content / 4096 = sym header.blocks ∙ closed.header.blocks in
       wrong (omega (arith, closed.whole)) (omega (arith, closed.few));
+}
+
+-- a closed header that tells of too much metadata
+pub damaged_long : (content : List ℕ) (blocks first size : ℕ) → IsHeader content Closed blocks first size → 15000000 < size → IsDamaged content
+damaged_long content blocks first size header long = record {
+  store = header.store;
+  not_open = λ e. let closed = header.state in omega arith;
+  not_closed = λ metadata short closed. let same : size ≡ length metadata = sym header.size ∙ closed.header.size in omega (arith, short, long, same);
 }
 
 -- a closed header with a chain
@@ -129,7 +141,7 @@ refused_header NotClosed content bytes s why = (store_in bytes content s why.0, 
 refused_header Damaged content bytes s why = record {
   store = store_in bytes content s why.0;
   not_open = λ e. why.1 (sym (number_in 12 4 bytes content (omega arith) s) ∙ e);
-  not_closed = λ metadata closed. why.2 _ _ _ (header_in Closed _ _ _ content bytes (back bytes content s) closed.header);
+  not_closed = λ metadata short closed. why.2 _ _ _ (header_in Closed _ _ _ content bytes (back bytes content s) closed.header);
 }
 
 -- a file whose header was written as closed, over a chain that it had
@@ -141,13 +153,14 @@ closes first size old new written kept metadata same chain =
     }
 
 -- a closed file that was read
-pub opened_file : (content : List ℕ) (header : Header) (layout : Layout) → IsClosedHeader header content → 0 < header.blocks → header.blocks ≤ 1048576 → length layout.metadata.items ≡ header.length → length layout.marks ≡ header.blocks
+pub opened_file : (content : List ℕ) (header : Header) (layout : Layout) → IsClosedHeader header content → 0 < header.blocks → header.blocks ≤ 1048576 → header.length ≤ 15000000 → length layout.metadata.items ≡ header.length → length layout.marks ≡ header.blocks
     → ReadsChain content header layout → IsOpened content layout.metadata.items layout.marks
-opened_file content header layout head some few size blocks reads =
+opened_file content header layout head some few short size blocks reads =
     let closed : IsClosed content layout.metadata.items = closed_file content layout.metadata.items header.blocks header.first header.length head.is head.whole few size reads.chain in
     record {
       new_file = λ e. absurd (let none : length content ≡ 0 = ap length e in omega (arith, head.whole));
       closed = λ h. closed;
+      short = omega (arith, short, size);
       unique = λ other is.
           let same : length layout.metadata.items ≡ length other = sym closed.header.size ∙ is.header.size in
           same_number_lists _ _ same (λ j lt. closed.chain.bytes j lt ∙ sym (is.chain.bytes j (omega arith)));
@@ -172,31 +185,32 @@ filled_zeros at over n count old new e here is_over some done is_count =
 pub torn_behind : (n : ℕ) (old new : List ℕ) → n ≡ 4096 → Torn 0 n old new → (i : ℕ) → 4096 ≤ i → get_or new i 0 ≡ get_or old i 0
 torn_behind n old new e torn i le = grind (arith, get_or_past, torn.above i, torn.no_longer)
 
-only_header : (old new : BlocksState) (content synced : List ℕ) → new.content ≡ content → new.synced ≡ synced → new.uses ≡ old.uses → new.size ≡ old.size → new.honest ≡ old.honest → old.uses 0 ≡ 0
+only_header : (old new : BlocksState) (content synced : List ℕ) → new.content ≡ content → new.synced ≡ synced → new.uses ≡ old.uses → new.size ≡ old.size → new.honest ≡ old.honest → new.overreads ≡ old.overreads → old.uses 0 ≡ 0
     → (IsTrue old.honest → HeaderTorn old.content content) → (IsTrue old.honest → HeaderLast old.content content synced) → OnlyHeader old new
-only_header old new content synced is is_synced uses size honest unused torn last = record {
+only_header old new content synced is is_synced uses size honest overreads unused torn last = record {
   others = λ h. rw is (same_blocks old.content content (torn h).no_shorter (torn h).kept);
   torn = λ h. rw is (torn h);
   last = λ h. rw (is, is_synced) (last h);
   unused = unused;
   uses = uses;
+  overreads = overreads;
   size = size;
   honest = honest;
 }
 
 -- the header was not reached
-pub only_extends : (old new : BlocksState) (mid : List ℕ) → new.content ≡ mid → new.uses ≡ old.uses → new.size ≡ old.size → new.honest ≡ old.honest → old.uses 0 ≡ 0 → (IsTrue old.honest → Extends old.content mid) → OnlyHeader old new
-only_extends old new mid is uses size honest unused extends =
-    only_header old new mid new.synced is refl uses size honest unused
+pub only_extends : (old new : BlocksState) (mid : List ℕ) → new.content ≡ mid → new.uses ≡ old.uses → new.size ≡ old.size → new.honest ≡ old.honest → new.overreads ≡ old.overreads → old.uses 0 ≡ 0 → (IsTrue old.honest → Extends old.content mid) → OnlyHeader old new
+only_extends old new mid is uses size honest overreads unused extends =
+    only_header old new mid new.synced is refl uses size honest overreads unused
     (λ h. let e = extends h in record { no_shorter = e.no_shorter; no_longer = omega (arith, e.no_longer); kept = λ i a b. e.kept i b })
     (λ h i lt inside changed j behind. absurd (changed ((extends h).kept i inside)))
 
 -- the header was written, however that ended, after all the rest was synced
-pub only_torn : (n : ℕ) (old new : BlocksState) (mid mid' after synced last : List ℕ) → n ≡ 4096 → new.content ≡ after → new.synced ≡ last → new.uses ≡ old.uses → new.size ≡ old.size → new.honest ≡ old.honest → old.uses 0 ≡ 0
+pub only_torn : (n : ℕ) (old new : BlocksState) (mid mid' after synced last : List ℕ) → n ≡ 4096 → new.content ≡ after → new.synced ≡ last → new.uses ≡ old.uses → new.size ≡ old.size → new.honest ≡ old.honest → new.overreads ≡ old.overreads → old.uses 0 ≡ 0
     → (IsTrue old.honest → Extends old.content mid) → mid' ≡ mid → Torn 0 n mid' after → synced ≡ mid → Torn 0 n synced last → OnlyHeader old new
-only_torn n old new mid mid' after synced last e is is_last uses size honest unused extends same torn same_synced torn_synced =
+only_torn n old new mid mid' after synced last e is is_last uses size honest overreads unused extends same torn same_synced torn_synced =
     let torn' : Torn 0 n mid after = rw (← same) torn in
-    only_header old new after last is is_last uses size honest unused
+    only_header old new after last is is_last uses size honest overreads unused
     (λ h. let x = extends h in record {
       no_shorter = omega (arith, x.no_shorter, torn'.no_shorter);
       no_longer = omega (arith, x.no_longer, torn'.no_longer);
@@ -206,13 +220,14 @@ only_torn n old new mid mid' after synced last e is is_last uses size honest unu
 
 -- the header is written over a content of whole blocks
 pub header_written : (state : State) (blocks first size : ℕ) (bytes old mid mid' after new : List ℕ) → length old ≤ 4096 * 1048576 → Extends old mid → Filled old mid blocks → mid' ≡ mid → length bytes ≡ 4096
-    → IsHeader bytes state blocks first size → Written 0 bytes mid' after → new ≡ after → HeaderWritten state first size old new
-header_written state blocks first size bytes old mid mid' after new most extends filled same len header there is =
+    → IsHeader bytes state blocks first size → TellsVersion Two bytes → Written 0 bytes mid' after → new ≡ after → HeaderWritten state first size old new
+header_written state blocks first size bytes old mid mid' after new most extends filled same len header version there is =
     let done = rw same at there in
     let behind = torn_behind (length bytes) mid after len done.others in
     let count : blocks ≡ length after / 4096 = omega (arith, filled.count, filled.whole, done.holds.within, done.others.no_longer) in
     rw is (record {
       header = rw (← count) (header_in state blocks first size bytes after (starts after bytes len done.holds) header);
+      version = number_in 8 4 bytes after (omega arith) (starts after bytes len done.holds) ∙ version;
       whole = omega (arith, filled.count, filled.whole, done.holds.within, done.others.no_longer);
       fewest = omega (arith, filled.count, filled.whole, done.holds.within, done.others.no_longer);
       kept = λ i a b. behind i a ∙ extends.kept i b;

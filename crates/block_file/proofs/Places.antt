@@ -1,13 +1,14 @@
 -- Blocks of a content.
-use Rattle.std.proofs.Common.{◌≡◌, ◌≢◌, ℕ, ◌+◌, ◌*◌, ◌<◌, ◌≤◌, ◌/◌, ◌%◌, ◌++◌, ◌⊎◌, inl, inr, zero, suc, List, length, get_or, take, drop, flat_map, arith, refl, sym, ap, ◌∙◌, length-drop, mul-le-mul_left, mul-suc, take-add, div-add-mod'}
+use Rattle.std.proofs.Common.{Bool, true, false, IsTrue, ◌-◌, ◌≡◌, ◌≢◌, ℕ, ◌+◌, ◌*◌, ◌<◌, ◌≤◌, ◌/◌, ◌%◌, ◌++◌, ◌⊎◌, inl, inr, zero, suc, List, length, get_or, take, drop, flat_map, arith, refl, sym, ap, ◌∙◌, length-drop, mul-le-mul_left, mul-suc, take-add, div-add-mod'}
 use Rattle.std.specs.List.{range_with_len}
 use Rattle.std.proofs.lemmas.Grind.{common_steps, elements, same_number_lists}
 use Rattle.std.proofs.lemmas.List.{same_lists, length-take, drop-drop}
 use Rattle.std.proofs.lemmas.Bool.{cases_lt}
 use Rattle.disk_face.specs.Disk.{Holds, Torn}
-use Rattle.block_file.specs.State.{BlocksState, block_at, one}
-use Rattle.block_file.specs.Words.{OthersKept, Moves}
-use Rattle.block_file.proofs.Times.{one_same}
+use Rattle.std.proofs.lemmas.List.FromFn.{length-range_with_len, get_or-range_with_len}
+use Rattle.block_file.specs.State.{BlocksState, block_at, overreads_of, one, times}
+use Rattle.block_file.specs.Words.{OthersKept, OnlyReads, Moves}
+use Rattle.block_file.proofs.Times.{one_same, times_at}
 
 held : (n k : ℕ) (content bytes : List ℕ) → length bytes ≡ n → Holds content (n * k) bytes → bytes ≡ take n (drop (n * k) content)
 held n k content bytes len holds =
@@ -72,19 +73,55 @@ pub inside_whole : (content : List ℕ) (k : ℕ) → 4096 * k + 4096 ≤ length
 unfolding block_at
 inside_whole content k inside = omega (arith, length-take {A = ℕ}, length-drop {A = ℕ})
 
+-- a count that an honest disk leaves
+pub same_overreads : (h h' : Bool) (a b : ℕ) → h' ≡ h → (IsTrue h → b ≡ a) → overreads_of h' b ≡ overreads_of h a
+same_overreads true h' a b e same = rw e (same refl)
+same_overreads false h' a b e same = rw e refl
+
+-- a block that is whole lies inside, so its read does not go past the end
+pub reads_block : (old new : BlocksState) (k m a b : ℕ) → m ≡ 4096 → new.content ≡ old.content → new.synced ≡ old.synced → new.uses ≡ old.uses → new.size ≡ old.size → new.honest ≡ old.honest
+    → old.overreads ≡ overreads_of old.honest a → new.overreads ≡ overreads_of new.honest b → (IsTrue old.honest → 4096 * k + m ≤ length old.content → b ≡ a) → OnlyReads (one k) old new
+reads_block old new k m a b e content synced uses size honest was is inside = record {
+  content = content;
+  synced = synced;
+  uses = uses;
+  size = size;
+  honest = honest;
+  overreads = λ whole. is ∙ same_overreads old.honest new.honest a b honest (λ h. inside h (omega (arith, e, whole_inside old.content k (whole h k (omega (arith, one_same k)))))) ∙ sym was;
+}
+
+-- so do neighbouring blocks, of which the last one is whole
+pub reads_blocks : (old new : BlocksState) (k m a b : ℕ) → 0 < m → m % 4096 ≡ 0 → new.content ≡ old.content → new.synced ≡ old.synced → new.uses ≡ old.uses → new.size ≡ old.size → new.honest ≡ old.honest
+    → old.overreads ≡ overreads_of old.honest a → new.overreads ≡ overreads_of new.honest b → (IsTrue old.honest → 4096 * k + m ≤ length old.content → b ≡ a)
+    → OnlyReads (times (range_with_len k (m / 4096))) old new
+reads_blocks old new k m a b some all content synced uses size honest was is inside =
+    let n : ℕ = m / 4096 in
+    let count : m ≡ 4096 * n = omega (arith, div-add-mod' m 4096) in
+    let last : get_or (range_with_len k n) (n - 1) 0 ≡ k + (n - 1) = get_or-range_with_len k n (n - 1) 0 (omega arith) in
+    let asked : 0 < times (range_with_len k n) (k + (n - 1)) = rw last at (times_at (range_with_len k n) (n - 1) (omega (arith, length-range_with_len k n))) in
+    record {
+      content = content;
+      synced = synced;
+      uses = uses;
+      size = size;
+      honest = honest;
+      overreads = λ whole. is ∙ same_overreads old.honest new.honest a b honest (λ h. inside h (omega (arith, whole_inside old.content (k + (n - 1)) (whole h (k + (n - 1)) asked)))) ∙ sym was;
+    }
+
 -- contents that agree behind the header have the same whole blocks behind it
 pub same_blocks : (old new : List ℕ) → length old ≤ length new → ((i : ℕ) → 4096 ≤ i → i < length old → get_or new i 0 ≡ get_or old i 0) → OthersKept 0 (block_at old) (block_at new)
 unfolding block_at
 same_blocks old new le same = others_kept 4096 0 old new le (λ i lt out. elim out [ inl below ↦ absurd (omega arith) | inr above ↦ same i (omega arith) lt ])
 
 -- a write to block k, in use once, as its callers see it
-pub write_moves : (old new : BlocksState) (k m : ℕ) → m ≡ 4096 → new.uses ≡ old.uses → new.size ≡ old.size → new.honest ≡ old.honest → old.uses k ≡ 1 → 0 < k → Torn (4096 * k) m old.content new.content → Moves (one k) (one k) old new
-write_moves old new k m e uses size honest once above torn =
+pub write_moves : (old new : BlocksState) (k m : ℕ) → m ≡ 4096 → new.uses ≡ old.uses → new.size ≡ old.size → new.honest ≡ old.honest → new.overreads ≡ old.overreads → old.uses k ≡ 1 → 0 < k → Torn (4096 * k) m old.content new.content → Moves (one k) (one k) old new
+write_moves old new k m e uses size honest overreads once above torn =
     let kept = kept_blocks old.content new.content k m e torn in
     record {
       uses = λ j. rw uses refl;
       kept = λ j h whole. kept j (λ same. absurd (let h' : one k k < old.uses k = rw same at h in omega (arith, one_same k))) whole;
       header = λ whole. kept 0 (omega arith) whole;
+      overreads = overreads;
       size = size;
       honest = honest;
     }

@@ -1,7 +1,9 @@
--- The bytes of a store file, version 1. Numbers stand lowest byte first. Blocks have 4,096 bytes, and block 0
+-- The bytes of a store file, of either version. Numbers stand lowest byte first. Blocks have 4,096 bytes, and block 0
 -- is the header.
 use Rattle.std.specs.Prelude.{◌≡◌, ◌≢◌, ℕ, zero, suc, ◌+◌, ◌*◌, ◌/◌, ◌%◌, ◌<◌, ◌≤◌, max, List, length, take, slice_index, codes}
 use Rattle.byteorder.specs.Endian.{little_from}
+use Rattle.file_bytes.specs.declared.form.Version.{Version}
+use Rattle.file_bytes.specs.declared.form.Version.TheVariants.{One, Two}
 use Rattle.block_file.specs.State.{block_at}
 use Rattle.block_file.specs.declared.header.State.{State}
 use Rattle.block_file.specs.declared.header.State.TheVariants.{Open, Closed}
@@ -21,11 +23,20 @@ pub record Put (at n x : ℕ) (old new : List ℕ) : Type 0 where
 abbrev pub magic_bytes : List ℕ
 magic_bytes = codes "WCPSTORE"
 
--- a header is there, of a store file of version 1
+-- the number by which a header tells the version of its format
+abbrev pub version_number : Version → ℕ
+version_number One = 1
+version_number Two = 2
+
+-- the header tells this version
+abbrev pub TellsVersion : Version → List ℕ → Type 0
+TellsVersion version content = number_at 8 4 content ≡ version_number version
+
+-- a header is there, of a store file of one of the two versions
 pub record IsStoreFile (content : List ℕ) : Type 0 where
   pub whole : 4096 ≤ length content
   pub magic : take 8 content ≡ magic_bytes
-  pub version : number_at 8 4 content ≡ 1
+  pub version : (version : Version) × TellsVersion version content
 
 -- how a header writes its state
 abbrev pub state_number : State → ℕ
@@ -83,16 +94,18 @@ pub record IsClosed (content metadata : List ℕ) : Type 0 where
   pub few : length content / 4096 ≤ 1048576
   pub chain : IsChain (block_at content) (first_of content) metadata
 
--- a store file that is neither open nor closed, whatever its metadata: its header or its chain departs from the format
+-- a store file that is not open, and that is not closed with any metadata of at most 15,000,000 bytes: its header or its
+-- chain departs from the format
 pub record IsDamaged (content : List ℕ) : Type 0 where
   pub store : IsStoreFile content
   pub not_open : number_at 12 4 content ≢ 1
-  pub not_closed : (metadata : List ℕ) → IsClosed content metadata → ⊥
+  pub not_closed : (metadata : List ℕ) → length metadata ≤ 15000000 → IsClosed content metadata → ⊥
 
--- How a header is written: the file then has whole blocks, as few as hold what it held and the header. What was
--- added past its end are zeros, and no byte outside the header has changed.
+-- How a header is written, as one of version 2: the file then has whole blocks, as few as hold what it held and the
+-- header. What was added past its end are zeros, and no byte outside the header has changed.
 pub record HeaderWritten (state : State) (first size : ℕ) (old new : List ℕ) : Type 0 where
   pub header : IsHeader new state (length new / 4096) first size
+  pub version : TellsVersion Two new
   pub whole : 4096 * (length new / 4096) ≡ length new
   pub fewest : length new / 4096 ≡ max 1 ((length old + 4095) / 4096)
   pub kept : (i : ℕ) → 4096 ≤ i → i < length old → slice_index new i ≡ slice_index old i

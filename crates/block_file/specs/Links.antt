@@ -6,12 +6,13 @@ use Rattle.block_file.specs.declared.fault.OpenFault.TheVariants.{NoMemory, Disk
 use Rattle.block_file.specs.declared.header.Header.{Header}
 use Rattle.block_file.specs.declared.header.State.TheVariants.{Closed}
 use Rattle.block_file.specs.State.{BlocksState, block, block_at}
-use Rattle.block_file.specs.Format.{number_at, IsStoreFile, IsHeader, IsChain}
+use Rattle.block_file.specs.Format.{number_at, TellsVersion, IsStoreFile, IsHeader, IsChain}
 use Rattle.block_file.specs.Uses.{MarksChain}
 
--- the header of a closed file whose length is the number of blocks that it tells
+-- the header of a closed file whose length is the number of blocks that it tells, and its version
 pub record IsClosedHeader (header : Header) (content : List ℕ) : Type 0 where
   pub is : IsHeader content Closed header.blocks header.first header.length
+  pub version : TellsVersion header.version content
   pub whole : length content ≡ 4096 * header.blocks
 
 -- why a block of bytes is no header of a closed file

@@ -2,15 +2,20 @@
 use Rattle.std.specs.Prelude.{◌≡◌, ℕ, zero, suc, ◌+◌, ◌-◌, ◌*◌, ◌<◌, nat_eq, if◌then◌else◌, Bool, List, take, drop, sum_by}
 
 -- The bytes of the file, and those that are there whatever comes; how often each block is in use; how many blocks there
--- are at most; how many calls of the disk have failed; and whether it gives back what was written. Block 0 is the
--- header, which is in no use.
+-- are at most; how many calls of the disk have failed; an honest disk's count of reads past the end; and whether it
+-- gives back what was written. Block 0 is the header, which is in no use.
 pub record BlocksState : Type 0 where
   pub content : List ℕ
   pub synced : List ℕ
   pub uses : ℕ → ℕ
   pub size : ℕ
   pub failures : ℕ
+  pub overreads : ℕ
   pub honest : Bool
+
+-- the count of reads past the end of an honest disk; of another disk's end nothing is known
+abbrev pub overreads_of : Bool → ℕ → ℕ
+overreads_of honest count = if honest then count else 0
 
 -- block k of a file's bytes: 4,096 of them where the file reaches so far, else fewer
 unfoldable pub block_at : List ℕ → ℕ → List ℕ

@@ -1,9 +1,11 @@
 -- A block file as callers see it, and what its opening gives.
 use Rattle.std.specs.Prelude.{◌≡◌, ℕ, ◌*◌, ◌/◌, ◌<◌, ◌≤◌, max, Bool, IsTrue, List, [], length, ⊤}
+use Rattle.file_bytes.specs.declared.form.Version.{Version}
+use Rattle.file_bytes.specs.declared.form.Version.TheVariants.{Two}
 use Rattle.block_file.specs.declared.fault.OpenFault.{OpenFault}
 use Rattle.block_file.specs.declared.fault.OpenFault.TheVariants.{NoMemory, DiskFault, Damaged, NotAStore, NotClosed}
-use Rattle.block_file.specs.State.{BlocksState, block_at}
-use Rattle.block_file.specs.Format.{number_at, first_of, IsStoreFile, IsClosed, IsDamaged}
+use Rattle.block_file.specs.State.{BlocksState, block_at, overreads_of}
+use Rattle.block_file.specs.Format.{number_at, first_of, TellsVersion, IsStoreFile, IsClosed, IsDamaged}
 use Rattle.block_file.specs.Uses.{uses_of, MarksChain}
 
 -- The file's bytes and those that are synced, a mark for each of its blocks, and what is known of the disk.
@@ -13,6 +15,7 @@ pub record BlockFileView : Type 0 where
   pub synced : List ℕ
   pub marks : List ℕ
   pub failures : ℕ
+  pub overreads : ℕ
   pub honest : Bool
 
 -- the blocks of a block file, of which there are at most 1,048,576
@@ -23,18 +26,34 @@ state_of file = record {
   uses = uses_of file.marks;
   size = 1048576;
   failures = file.failures;
+  overreads = file.overreads;
   honest = file.honest;
 }
 
+-- a file shows what the disk holds that it was opened from, and an honest one was read nowhere past its end
+pub record Shows {D : Type 0} (content synced : D → List ℕ) (honest : D → Bool) (overreads : D → ℕ) (disk : D)
+    (file : BlockFileView) : Type 0 where
+  pub same_content : file.content ≡ content disk
+  pub same_synced : file.synced ≡ synced disk
+  pub same_honest : file.honest ≡ honest disk
+  pub same_overreads : file.overreads ≡ overreads_of (honest disk) (overreads disk)
+
 -- What an opened file says of its metadata and of its blocks: without a byte there is no metadata, else it is that of
--- the closed file, and no other; its chain is marked; and the file has a mark for each of its blocks, which are whole.
+-- the closed file, which is not too long, and no other; its chain is marked; and the file has a mark for each of its
+-- blocks, which are whole.
 pub record IsOpened (content metadata marks : List ℕ) : Type 0 where
   pub new_file : content ≡ [] → metadata ≡ []
   pub closed : 0 < length content → IsClosed content metadata
+  pub short : length metadata ≤ 15000000
   pub unique : (other : List ℕ) → IsClosed content other → metadata ≡ other
   pub marked : 0 < length content → MarksChain (block_at content) (first_of content) (length metadata) marks
   pub blocks : length marks ≡ max 1 (length content / 4096)
   pub whole : (k : ℕ) → 0 < k → k < length marks → length (block_at content k) ≡ 4096
+
+-- the version of an opened file: that of its header, and the newest where there is none yet
+pub record IsOfVersion (version : Version) (content : List ℕ) : Type 0 where
+  pub told : 0 < length content → TellsVersion version content
+  pub new_file : content ≡ [] → version ≡ Two
 
 -- Why the content of a disk is not opened. Want of memory and a fault of the disk say nothing of it.
 abbrev pub IsRefused : OpenFault → List ℕ → Type 0

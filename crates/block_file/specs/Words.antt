@@ -5,13 +5,16 @@ use Rattle.block_file.specs.declared.header.State.TheVariants.{Closed}
 use Rattle.block_file.specs.State.{BlocksState, block, IsFree, times}
 use Rattle.block_file.specs.Format.{IsChain, IsPadded, link, chain_blocks, HeaderWritten, HeaderTorn, HeaderLast, Closes}
 
--- nothing has changed but the count of failures
-pub record OnlyReads (old new : BlocksState) : Type 0 where
+-- Blocks were asked for, so often each. Nothing has changed but the count of failures; and where they are whole, none was
+-- read past the end of an honest disk.
+pub record OnlyReads (asked : ℕ → ℕ) (old new : BlocksState) : Type 0 where
   pub content : new.content ≡ old.content
   pub synced : new.synced ≡ old.synced
   pub uses : new.uses ≡ old.uses
   pub size : new.size ≡ old.size
   pub honest : new.honest ≡ old.honest
+  pub overreads : (IsTrue old.honest → (k : ℕ) → 0 < asked k → length (block old k) ≡ 4096)
+      → new.overreads ≡ old.overreads
 
 -- uses were given up and taken, and nothing else has changed
 pub record Recounts (given taken : ℕ → ℕ) (old new : BlocksState) : Type 0 where
@@ -20,14 +23,16 @@ pub record Recounts (given taken : ℕ → ℕ) (old new : BlocksState) : Type 0
   pub synced : new.synced ≡ old.synced
   pub size : new.size ≡ old.size
   pub failures : new.failures ≡ old.failures
+  pub overreads : new.overreads ≡ old.overreads
   pub honest : new.honest ≡ old.honest
 
 -- Uses were given up and taken. Each whole block that is in use beyond what was given up holds what it held, and so
--- does the header.
+-- does the header; and no read went past the end of an honest disk.
 pub record Moves (given taken : ℕ → ℕ) (old new : BlocksState) : Type 0 where
   pub uses : (k : ℕ) → new.uses k + given k ≡ old.uses k + taken k
   pub kept : (k : ℕ) → given k < old.uses k → length (block old k) ≡ 4096 → block new k ≡ block old k
   pub header : length (block old 0) ≡ 4096 → block new 0 ≡ block old 0
+  pub overreads : new.overreads ≡ old.overreads
   pub size : new.size ≡ old.size
   pub honest : new.honest ≡ old.honest
 
@@ -59,6 +64,7 @@ pub record OnlyHeader (old new : BlocksState) : Type 0 where
   pub last : IsTrue old.honest → HeaderLast old.content new.content new.synced
   pub unused : old.uses 0 ≡ 0
   pub uses : new.uses ≡ old.uses
+  pub overreads : new.overreads ≡ old.overreads
   pub size : new.size ≡ old.size
   pub honest : new.honest ≡ old.honest
 

@@ -1,18 +1,19 @@
 //! A store file in a disk.
 ghost use Rattle.std.specs.Prelude.{◌≡◌, ◌≤◌, ◌<◌, ◌*◌, length, IfOk, IfErr, IsErr, OnOk, OnErr, IsErrOf, IsTrue};
-ghost use Rattle.disk_face.specs.Disk.{Tells, Unwritten};
-ghost use Rattle.block_file.specs.State.{times, none};
+ghost use Rattle.disk_face.specs.Disk.{Tells, OnlyRead};
+ghost use Rattle.block_file.specs.State.{times, none, overreads_of};
 ghost use Rattle.block_file.specs.Words.{Recounts};
 ghost use Rattle.block_file.specs.Format.{Filled, Extends};
-ghost use Rattle.block_file.specs.View.{state_of, IsOpened, IsRefused};
+ghost use Rattle.block_file.specs.View.{state_of, Shows, IsOpened, IsOfVersion, IsRefused};
 ghost use Rattle.block_file.specs.Uses.{IsFresh, CanClaim, Claims};
 ghost use Rattle.block_file.specs.Links.{IsClosedHeader};
 
 use crate::chain::{Layout, read_chain};
 use crate::header::{Header, header_bytes, parse_header};
 use crate::marks::Marks;
-use crate::{BLOCK_BYTES, Blocks, Damaged, MAX_BLOCKS, OpenFault, State, TakeFault};
+use crate::{BLOCK_BYTES, Blocks, Damaged, MAX_BLOCKS, MAX_METADATA, OpenFault, State, TakeFault};
 use disk_face::{Disk, DiskFault};
+use file_bytes::Version;
 use std::alloc::{AllocError, Global};
 use std::marker::Model;
 
@@ -25,6 +26,7 @@ pub struct BlockFile<D: Disk> {
 }
 
 impl<D: Disk> Model for BlockFile<D> {
+    ghost use Rattle.block_file.specs.State.{overreads_of};
     ghost use Rattle.block_file.specs.View.{BlockFileView, IsWithin};
 
     ghost Value = { BlockFileView };
@@ -34,17 +36,19 @@ impl<D: Disk> Model for BlockFile<D> {
       synced = D.synced s.disk;
       marks = s.marks;
       failures = D.failures s.disk;
+      overreads = overreads_of (D.honest s.disk) (D.overreads s.disk);
       honest = D.honest s.disk;
     } };
 
     ghost invariant = { λ s. IsWithin (D.content s.disk) (D.honest s.disk) s.marks };
 }
 
-/// A file that was opened, and its metadata: empty for a disk without a byte, else what the chain holds, which is
-/// never empty.
+/// A file that was opened, its version, and its metadata: empty for a disk without a byte, else what the chain holds,
+/// which is never empty.
 #[derive(Drop)]
 pub struct Opened<D: Disk> {
     pub file: BlockFile<D>,
+    pub version: Version,
     pub metadata: Vec<u8>,
 }
 
@@ -56,8 +60,8 @@ pub struct Refused<D: Disk> {
 }
 
 impl<D: Disk> BlockFile<D> {
-    /// Opens the store file of a disk. A disk without a byte is a new file. It writes nothing. The blocks of the
-    /// metadata are free, and may not be claimed: a chain of as many bytes has room in them.
+    /// Opens the store file of a disk, of either version. A disk without a byte is a new file, of version 2. It writes
+    /// nothing. The blocks of the metadata are free, and may not be claimed: a chain of as many bytes has room in them.
     ///
     /// The refusals, with the disk, in this order: not a store for fewer bytes than a header, another magic or
     /// another version; not closed for the state of an open file; damaged for any other departure from the format.
@@ -65,19 +69,25 @@ impl<D: Disk> BlockFile<D> {
     pub fn open(alloc: Global, mut disk: D) -> Result<Opened<D>, Refused<D>>
         ensures opened { IfOk result (λ it.
             IsTrue (D.honest disk) → IsOpened (D.content disk) it.metadata.items it.file.marks) }
+        ensures version { IfOk result (λ it. IsTrue (D.honest disk) → IsOfVersion it.version (D.content disk)) }
         ensures fresh { IfOk result (λ it. IsFresh it.file.marks) }
-        ensures content { IfOk result (λ it. it.file.content ≡ D.content disk) }
-        ensures synced { IfOk result (λ it. it.file.synced ≡ D.synced disk) }
-        ensures honest { IfOk result (λ it. it.file.honest ≡ D.honest disk) }
+        ensures shows { IfOk result (λ it. Shows D.content D.synced D.honest D.overreads disk it.file) }
         ensures failures { IfOk result (λ it. it.file.failures ≡ D.failures disk) }
         ensures refused { IfErr result (λ it. IsTrue (D.honest disk) → IsRefused it.fault (D.content disk)) }
-        ensures same { IfErr result (λ it. Unwritten D.content D.synced D.honest disk it.disk) }
+        ensures same { IfErr result (λ it. OnlyRead D.content D.synced D.honest D.overreads disk it.disk) }
         ensures told { IfErr result (λ r. Tells (r.fault ≡ OpenFault.DiskFault) (D.failures disk) (D.failures r.disk)) }
     {
         match read_layout(alloc, &mut disk) {
             Err(fault) => Err(Refused { disk, fault }),
-            Ok(Layout { marks, metadata }) => Ok(Opened {
+            Ok(
+                Layout {
+                    version,
+                    marks,
+                    metadata,
+                },
+            ) => Ok(Opened {
                 file: BlockFile { disk, marks, alloc },
+                version,
                 metadata,
             }),
         }
@@ -103,6 +113,7 @@ impl<D: Disk> BlockFile<D> {
         ensures content { D.content result ≡ self.content }
         ensures synced { D.synced result ≡ self.synced }
         ensures failures { D.failures result ≡ self.failures }
+        ensures overreads { overreads_of (D.honest result) (D.overreads result) ≡ self.overreads }
         ensures honest { D.honest result ≡ self.honest }
     {
         let BlockFile {
@@ -125,6 +136,9 @@ impl<D: Disk> Blocks for BlockFile<D> {
     }
 
     fn read_run(&mut self, k: u32, bytes: &mut [u8]) -> Result<(), DiskFault> {
+        if bytes.len() == 0 {
+            return Ok(());
+        }
         let from = 4096 * k as u64;
         self.disk.read_at(from, bytes)?;
         Ok(())
@@ -160,6 +174,9 @@ impl<D: Disk> Blocks for BlockFile<D> {
         self.give_back(ks);
     }
 
+    /// Nothing is kept here.
+    fn let_go(&mut self) {}
+
     fn free(&self) -> u32 {
         self.marks.free() as u32
     }
@@ -181,6 +198,7 @@ fn fill_last_block<D: Disk>(disk: &mut D) -> Result<u32, DiskFault>
         IsTrue (D.honest disk.old) → Filled (D.content disk.old) (D.content disk.new) n) }
     ensures extends { IsTrue (D.honest disk.old) → Extends (D.content disk.old) (D.content disk.new) }
     ensures honest { D.honest disk.new ≡ D.honest disk.old }
+    ensures overreads { D.overreads disk.new ≡ D.overreads disk.old }
     ensures told { Tells (IsErr result) (D.failures disk.old) (D.failures disk.new) }
 {
     let length = disk.len();
@@ -197,15 +215,17 @@ fn fill_last_block<D: Disk>(disk: &mut D) -> Result<u32, DiskFault>
 fn read_layout<D: Disk>(alloc: Global, disk: &mut D) -> Result<Layout, OpenFault>
     ensures opened { IfOk result (λ it.
         IsTrue (D.honest disk.old) → IsOpened (D.content disk.old) it.metadata.items it.marks) }
+    ensures version { IfOk result (λ it. IsTrue (D.honest disk.old) → IsOfVersion it.version (D.content disk.old)) }
     ensures fresh { IfOk result (λ it. IsFresh it.marks) }
     ensures some { IfOk result (λ it. 0 < length it.marks) }
     ensures few { IfOk result (λ it. length it.marks ≤ 1048576) }
     ensures refused { IfErr result (λ fault. IsTrue (D.honest disk.old) → IsRefused fault (D.content disk.old)) }
-    ensures same { Unwritten D.content D.synced D.honest disk.old disk.new }
+    ensures same { OnlyRead D.content D.synced D.honest D.overreads disk.old disk.new }
     ensures told { Tells (IsErrOf result OpenFault.DiskFault) (D.failures disk.old) (D.failures disk.new) }
 {
     if disk.len() == 0 {
         return Ok(Layout {
+            version: Version::Two,
             marks: Marks::blank(alloc, 1)?,
             metadata: Vec::new(alloc),
         });
@@ -215,14 +235,15 @@ fn read_layout<D: Disk>(alloc: Global, disk: &mut D) -> Result<Layout, OpenFault
     Ok(layout)
 }
 
-/// The header of a closed file whose length is the number of blocks that it tells.
+/// The header of a closed file whose length is the number of blocks that it tells, and whose metadata is not too long.
 fn read_header<D: Disk>(disk: &mut D) -> Result<Header, OpenFault>
     requires { IsTrue (D.honest disk.old) → 0 < length (D.content disk.old) }
     ensures header { IfOk result (λ header. IsTrue (D.honest disk.old) → IsClosedHeader header (D.content disk.old)) }
     ensures some { IfOk result (λ header. 0 < header.blocks) }
     ensures few { IfOk result (λ header. header.blocks ≤ 1048576) }
+    ensures short { IfOk result (λ header. header.length ≤ 15000000) }
     ensures refused { IfErr result (λ fault. IsTrue (D.honest disk.old) → IsRefused fault (D.content disk.old)) }
-    ensures same { Unwritten D.content D.synced D.honest disk.old disk.new }
+    ensures same { OnlyRead D.content D.synced D.honest D.overreads disk.old disk.new }
     ensures told { Tells (IsErrOf result OpenFault.DiskFault) (D.failures disk.old) (D.failures disk.new) }
 {
     let length = disk.len();
@@ -233,6 +254,9 @@ fn read_header<D: Disk>(disk: &mut D) -> Result<Header, OpenFault>
     disk.read_at(0, &mut bytes)?;
     let header = parse_header(&bytes)?;
     if 4096 * header.blocks as u64 != length || header.blocks as usize > MAX_BLOCKS {
+        return Err(OpenFault::Damaged);
+    }
+    if header.length > MAX_METADATA {
         return Err(OpenFault::Damaged);
     }
     Ok(header)

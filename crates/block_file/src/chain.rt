@@ -1,6 +1,6 @@
 //! The chain of metadata blocks: how it is read and how it is written.
 ghost use Rattle.std.specs.Prelude.{◌≡◌, ◌≤◌, ◌<◌, ◌+◌, ◌*◌, ℕ, length, slice_index, IsTrue, IsErr, IfOk, IfErr, OnOk, IsErrOf};
-ghost use Rattle.disk_face.specs.Disk.{Tells, Unwritten};
+ghost use Rattle.disk_face.specs.Disk.{Tells, OnlyRead};
 ghost use Rattle.block_file.specs.State.{free_of, times, none};
 ghost use Rattle.block_file.specs.Words.{Moves, HoldsChain};
 ghost use Rattle.block_file.specs.Format.{number_at, chain_blocks};
@@ -11,11 +11,13 @@ use crate::header::{Header, put_number, u32_at};
 use crate::marks::Marks;
 use crate::{Blocks, CHAIN_BYTES, ChainFault, OpenFault, TakeFault};
 use disk_face::{Disk, DiskFault};
+use file_bytes::Version;
 use std::alloc::{AllocError, Global};
 
-/// The marks of the blocks of a file, and the metadata.
+/// The version of a file, the marks of its blocks, and the metadata.
 #[derive(Drop)]
 pub(crate) struct Layout {
+    pub version: Version,
     pub marks: Marks,
     pub metadata: Vec<u8>,
 }
@@ -42,11 +44,12 @@ pub(crate) fn read_chain<D: Disk>(
     requires few { header.blocks ≤ 1048576 }
     requires whole { IsTrue (D.honest disk.old) → length (D.content disk.old) ≡ 4096 * header.blocks }
     ensures read { IfOk result (λ layout. IsTrue (D.honest disk.old) → ReadsChain (D.content disk.old) header layout) }
+    ensures version { IfOk result (λ layout. layout.version ≡ header.version) }
     ensures size { IfOk result (λ layout. length layout.metadata.items ≡ header.length) }
     ensures blocks { IfOk result (λ layout. length layout.marks ≡ header.blocks) }
     ensures fresh { IfOk result (λ layout. IsFresh layout.marks) }
     ensures refused { IfErr result (λ fault. IsTrue (D.honest disk.old) → IsNoChain fault (D.content disk.old) header) }
-    ensures same { Unwritten D.content D.synced D.honest disk.old disk.new }
+    ensures same { OnlyRead D.content D.synced D.honest D.overreads disk.old disk.new }
     ensures told { Tells (IsErrOf result OpenFault.DiskFault) (D.failures disk.old) (D.failures disk.new) }
 {
     if header.length == 0 {
@@ -69,7 +72,11 @@ pub(crate) fn read_chain<D: Disk>(
     if k != 0 {
         return Err(OpenFault::Damaged);
     }
-    Ok(Layout { marks, metadata })
+    Ok(Layout {
+        version: header.version,
+        marks,
+        metadata,
+    })
 }
 
 /// Writes metadata, of at least one byte, as a chain into blocks that are free and stay so, and gives the first of

@@ -1,16 +1,30 @@
 //! The header of a store file, and the numbers in its bytes.
-ghost use Rattle.std.specs.Prelude.{◌≡◌, ◌≤◌, ◌<◌, ◌+◌, ◌^◌, ℕ, take, length, slice_index, IfOk, IfErr, IsTrue, ◌↔◌};
-ghost use Rattle.block_file.specs.Format.{number_at, magic_bytes, state_number, Put, IsHeader};
+ghost use Rattle.std.specs.Prelude.{◌≡◌, ◌≢◌, ◌≤◌, ◌<◌, ◌+◌, ◌^◌, ℕ, take, length, slice_index, IfOk, IfErr, IsTrue, ◌↔◌, MatchOption};
+ghost use Rattle.file_bytes.specs.declared.form.Version.{Version};
+ghost use Rattle.file_bytes.specs.declared.form.Version.TheVariants.{Two};
+ghost use Rattle.block_file.specs.Format.{number_at, magic_bytes, state_number, version_number, TellsVersion, Put, IsHeader};
 ghost use Rattle.block_file.specs.Links.{IsNoHeader};
 
 use crate::OpenFault;
 use byteorder::{ByteOrder, LittleEndian};
+use file_bytes::Version;
 
 /// What each store file begins with.
 const MAGIC: &[u8; 8] = b"WCPSTORE";
 
-/// The version of the format.
-const VERSION: u32 = 1;
+/// The number of the version in which headers are written.
+const VERSION: u32 = 2;
+
+/// The version that a number tells, if it tells one.
+fn version_of(number: u32) -> Option<Version>
+    ensures { MatchOption result ((v : Version) → version_number v ≢ number) (λ v. version_number v ≡ number) }
+{
+    match number {
+        1 => Some(Version::One),
+        2 => Some(Version::Two),
+        _ => None,
+    }
+}
 
 /// Whether a session has the file open, or closed it.
 #[derive(Clone, Copy, Debug, PartialEq, Eq)]
@@ -30,9 +44,11 @@ impl State {
     }
 }
 
-/// What a closed header tells: the number of blocks, the first metadata block, and the metadata's length in bytes.
+/// What a closed header tells: its version, the number of blocks, the first metadata block, and the metadata's length
+/// in bytes.
 #[derive(Clone, Copy)]
 pub(crate) struct Header {
+    pub version: Version,
     pub blocks: u32,
     pub first: u32,
     pub length: u64,
@@ -74,9 +90,10 @@ fn blank_header() -> [u8; 4096]
     bytes
 }
 
-/// The bytes of a header.
+/// The bytes of a header of version 2.
 pub(crate) fn header_bytes(state: State, blocks: u32, first: u32, length: u64) -> [u8; 4096]
-    ensures { IsHeader result state blocks first length }
+    ensures header { IsHeader result state blocks first length }
+    ensures version { TellsVersion Two result }
 {
     let mut bytes = blank_header();
     put_number(&mut bytes, 8, 4, VERSION as u64);
@@ -91,11 +108,15 @@ pub(crate) fn header_bytes(state: State, blocks: u32, first: u32, length: u64) -
 /// for the state of an open one, then as damaged for another state or bytes behind the fields that are not zero.
 pub(crate) fn parse_header(bytes: &[u8; 4096]) -> Result<Header, OpenFault>
     ensures ok { IfOk result (λ header. IsHeader bytes.now State.Closed header.blocks header.first header.length) }
+    ensures version { IfOk result (λ header. TellsVersion header.version bytes.now) }
     ensures refused { IfErr result (λ fault. IsNoHeader fault bytes.now) }
 {
-    if bytes[..8] != MAGIC[..] || u32_at(bytes, 8) != VERSION {
+    if bytes[..8] != MAGIC[..] {
         return Err(OpenFault::NotAStore);
     }
+    let Some(version) = version_of(u32_at(bytes, 8)) else {
+        return Err(OpenFault::NotAStore);
+    };
     let state = u32_at(bytes, 12);
     if state == State::Open.number() {
         return Err(OpenFault::NotClosed);
@@ -107,6 +128,7 @@ pub(crate) fn parse_header(bytes: &[u8; 4096]) -> Result<Header, OpenFault>
         return Err(OpenFault::Damaged);
     }
     Ok(Header {
+        version,
         blocks: u32_at(bytes, 16),
         first: u32_at(bytes, 20),
         length: u64_at(bytes, 24),

@@ -27,6 +27,10 @@ pub const BLOCK_BYTES: usize = 4096;
 /// How many blocks a file has at most.
 pub const MAX_BLOCKS: usize = 1048576;
 
+/// How many bytes of metadata a file has at most: more than the catalogue and the indexes of any store take, so that a
+/// damaged file takes no more memory than a store.
+pub const MAX_METADATA: u64 = 15_000_000;
+
 /// How many bytes of metadata a block of the chain holds, behind the number of the next block.
 pub const CHAIN_BYTES: usize = 4092;
 
@@ -39,7 +43,7 @@ pub trait Blocks {
     fn read(&mut self, k: u32, bytes: &mut [u8; 4096]) -> Result<(), DiskFault>
         requires { 0 < (state self.old).uses k }
         ensures value { OnOk result (IsTrue (state self.old).honest → bytes.new ≡ block (state self.old) k) }
-        ensures frame { OnlyReads (state self.old) (state self.new) }
+        ensures frame { OnlyReads (one k) (state self.old) (state self.new) }
         ensures told { Tells (IsErr result) (state self.old).failures (state self.new).failures };
 
     /// What neighbouring blocks hold, from block k on, one behind the other: as many as the bytes have room for. Refused
@@ -49,7 +53,7 @@ pub trait Blocks {
         requires used { (i : ℕ) → 4096 * i < length bytes.old → 0 < (state self.old).uses (k + i) }
         ensures value { OnOk result (IsTrue (state self.old).honest
             → bytes.new ≡ flat_map (block (state self.old)) (range_with_len k (length bytes.old / 4096))) }
-        ensures frame { OnlyReads (state self.old) (state self.new) }
+        ensures frame { OnlyReads (times (range_with_len k (length bytes.old / 4096))) (state self.old) (state self.new) }
         ensures told { Tells (IsErr result) (state self.old).failures (state self.new).failures };
 
     /// Writes block k, which is in use once, and nothing else but zeros in a gap before it. A write that fails leaves
@@ -87,6 +91,11 @@ pub trait Blocks {
     fn release(&mut self, ks: &[u32])
         requires { Covers (state self.old) (times ks.now) }
         ensures { Recounts (times ks.now) none (state self.old) (state self.new) };
+
+    /// Lets go what memory holds of blocks so that they need not be read again. Callers see no difference. Takes no
+    /// memory.
+    fn let_go(&mut self)
+        ensures { self.new ≡ self.old };
 
     /// How many blocks may still be taken.
     fn free(&self) -> u32

@@ -55,7 +55,7 @@ pub codes_short : {X : Type 0} (code : X → List ℕ) (bound : ℕ) (P : X → 
 codes_short code bound P short xs each =
     sum_by-le (λ x. length (code x)) bound xs (All-weaker P (λ x. length (code x) ≤ bound) short xs each)
 
-pub signature_short : (s : Signature) → IsSignature s → length (signature_bytes s) ≤ 1415
+pub signature_short : (s : Signature) → IsSignature s → length (signature_bytes s) ≤ 1561
 signature_short s h =
     let few_axes = h.domain.domain.few_axes in
     let few_fields = h.fields.sound.few in

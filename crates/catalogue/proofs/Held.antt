@@ -132,10 +132,10 @@ each_removed test entries h =
 -- what is held in a map
 module _ {entries : List Entry} {bytes : ℕ} {held : List Signature} (h : IsHeld entries bytes) (view : signatures_of entries ≡ held) where
   -- a catalogue is written in few bytes
-  pub held_small : bytes ≤ 1448964
+  pub held_small : bytes ≤ 1598468
   held_small =
       let few = h.catalogue.few in
-      let short = codes_short signature_bytes 1415 IsSignature signature_short (signatures_of entries) h.catalogue.each in
+      let short = codes_short signature_bytes 1561 IsSignature signature_short (signatures_of entries) h.catalogue.each in
       omega (arith, h.counted, catalogue_length (signatures_of entries), length-flat_map signature_bytes (signatures_of entries))
 
   pub longer : (s : Signature) → length (catalogue_bytes (held ++ s ∷ [])) ≡ bytes + length (signature_bytes s)

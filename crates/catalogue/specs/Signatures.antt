@@ -8,6 +8,8 @@ use Rattle.arr_core.specs.declared.signature.Signature.{Signature}
 use Rattle.arr_core.specs.Names.{IsName, AreDistinct}
 use Rattle.arr_core.specs.Domains.{IsDomain}
 use Rattle.arr_core.specs.Fields.{AreFields}
+use Rattle.file_bytes.specs.declared.form.Version.{Version}
+use Rattle.file_bytes.specs.declared.form.Version.TheVariants.{One, Two}
 use Rattle.catalogue.specs.declared.error.InsertError.{InsertError}
 use Rattle.catalogue.specs.declared.error.InsertError.TheVariants.{CoverageExists, BadDomain, BadField, TooManyCoverages, NoMemory}
 
@@ -47,6 +49,11 @@ pub record IsCatalogue (signatures : List Signature) : Type 0 where
   pub few : length signatures ≤ 1024
   pub each : All IsSignature signatures
   pub distinct : AreDistinct (names_of signatures)
+
+-- the domains of a file of version 1 have at most four axes
+abbrev pub HaveAxesOf : Version → List Signature → Type 0
+HaveAxesOf One signatures = All (λ (s : Signature). length s.domain ≤ 4) signatures
+HaveAxesOf Two signatures = Unit {0}
 
 -- the signature with a name
 abbrev pub listed : List ℕ → List Signature → Option Signature

@@ -81,13 +81,13 @@ fn list_len<T: Measured>(list: &[T]) -> u64
     total
 }
 
-/// Of a signature: at most 1,415 bytes.
+/// Of a signature: at most 1,561 bytes.
 #[tactic(auto, using(crate::proofs::ByteCounts::signature_length))]
 pub fn signature_len(signature: &Signature) -> u64
     requires axes { 1 ≤ length signature.now.domain }
     requires fields { AreFields signature.now.fields }
     ensures value { result ≡ length (signature_bytes signature.now) }
-    ensures small { result ≤ 1415 }
+    ensures small { result ≤ 1561 }
     ensures signature { IsSignature signature.now }
 {
     let axes = signature.domain.axes();

@@ -1,11 +1,11 @@
 //! Bytes as a catalogue.
 
-ghost use Rattle.std.specs.Prelude.{◌≡◌, ◌≢◌, ◌≤◌, ◌<◌, ℕ, List, length, flat_map, All, IfOk, OnOk, IsErrOf, MatchOption};
+ghost use Rattle.std.specs.Prelude.{◌≡◌, ◌≢◌, ◌≤◌, ◌<◌, ◌↔◌, ℕ, List, length, flat_map, All, IfOk, OnOk, IsErrOf, IsTrue, MatchOption};
 ghost use Rattle.arr_core.specs.declared.cell.FieldType.{FieldType};
 ghost use Rattle.arr_core.specs.declared.signature.Signature.{Signature};
 ghost use Rattle.arr_core.specs.Names.{IsName};
 ghost use Rattle.file_bytes.specs.Codes.{IsRead, NoneIsRead};
-ghost use Rattle.catalogue.specs.Signatures.{IsAxis, IsCoverageDomain, IsField, AreCoverageFields, IsSignature, IsCatalogue};
+ghost use Rattle.catalogue.specs.Signatures.{IsAxis, IsCoverageDomain, IsField, AreCoverageFields, IsSignature, IsCatalogue, HaveAxesOf};
 ghost use Rattle.catalogue.specs.Bytes.{name_bytes, type_number, axis_bytes, domain_bytes, field_bytes, fields_bytes, signature_bytes, catalogue_bytes};
 ghost use Rattle.catalogue.specs.Reading.{AreMany, IsCatalogueOf};
 
@@ -13,12 +13,15 @@ use crate::catalogue::{Catalogue, MAX_COVERAGES};
 use crate::error::ReadError;
 use arr_core::domain::MAX_AXES;
 use arr_core::{Axis, Domain, Field, FieldType, Fields, Name, NameError, Signature};
-use file_bytes::Reader;
+use file_bytes::{Reader, Version};
 use std::alloc::Global;
 use std::str::from_utf8;
 
 /// The most fields that a coverage has.
 const MAX_FIELDS: u8 = 16;
+
+/// The most axes that a domain has in a file of version 1.
+const MAX_AXES_OF_ONE: usize = 4;
 
 /// The name of these bytes.
 #[tactic(auto, using(crate::proofs::Names::name_utf8))]
@@ -230,18 +233,33 @@ fn read_catalogue(alloc: Global, bytes: &mut Reader) -> Result<Catalogue, ReadEr
 }
 
 impl Catalogue {
-    /// The catalogue whose bytes these are: `Damaged` where they are those of none.
-    pub fn from_bytes(alloc: Global, bytes: &[u8]) -> Result<Catalogue, ReadError>
+    /// Whether its domains have no more axes than those of a file of a version.
+    fn has_axes_of(&self, version: Version) -> bool
+        ensures { IsTrue result ↔ HaveAxesOf version self.now }
+    {
+        match version {
+            Version::One => self.signatures.values().all(|signature| signature.domain.axes().len()
+                <= MAX_AXES_OF_ONE),
+            Version::Two => true,
+        }
+    }
+
+    /// The catalogue whose bytes these are in a file of a version: `Damaged` where they are those of none.
+    pub fn from_bytes(alloc: Global, version: Version, bytes: &[u8]) -> Result<Catalogue, ReadError>
         ensures read { IfOk result (λ held. bytes.now ≡ catalogue_bytes held) }
         ensures catalogue { IfOk result (λ held. IsCatalogue held) }
+        ensures version { IfOk result (λ held. HaveAxesOf version held) }
         ensures only { IfOk result (λ held. (other : List Signature) → IsCatalogue other
             → bytes.now ≡ catalogue_bytes other → other ≡ held) }
         ensures damaged { IsErrOf result ReadError.Damaged → (other : List Signature) → IsCatalogue other
-            → bytes.now ≡ catalogue_bytes other → ⊥ }
+            → HaveAxesOf version other → bytes.now ≡ catalogue_bytes other → ⊥ }
     {
         let mut rest = Reader::new(bytes);
         let catalogue = read_catalogue(alloc, &mut rest)?;
         if rest.len() != 0 {
+            return Err(ReadError::Damaged);
+        }
+        if !catalogue.has_axes_of(version) {
             return Err(ReadError::Damaged);
         }
         Ok(catalogue)

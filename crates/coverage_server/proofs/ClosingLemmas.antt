@@ -1,5 +1,5 @@
 -- The metadata that a closing writes is that of the store, and the disk then holds it.
-use Rattle.std.proofs.Common.{◌≡◌, ◌≢◌, ℕ, ◌+◌, ◌/◌, ◌<◌, ◌≤◌, Bool, true, false, List, [], ◌∷◌, ◌++◌, length, take, get_or, Option, None, Some, Result, Ok, Err, OnOk, refl, sym, ap, ◌∙◌, subst, arith, Contains, inl, inr, append_assoc, append-nil}
+use Rattle.std.proofs.Common.{◌≡◌, ◌≢◌, ℕ, ◌+◌, ◌/◌, ◌<◌, ◌≤◌, Bool, true, false, List, [], ◌∷◌, ◌++◌, length, take, get_or, Option, None, Some, Err, refl, sym, ap, ◌∙◌, subst, arith, Contains, inl, inr, append_assoc, append-nil}
 use Rattle.std.specs.Prelude.{IsErrOf, IsSomeAnd, IsTrue, slice_get}
 use Rattle.std.specs.List.{flat_map}
 use Rattle.std.specs.Str.{bytes_eq}
@@ -15,15 +15,19 @@ use Rattle.catalogue.specs.Bytes.{catalogue_bytes}
 use Rattle.catalogue.specs.Signatures.{names_of, IsCatalogue}
 use Rattle.catalogue.proofs.Held.{contains_here, contains_later}
 use Rattle.block_file.specs.State.{BlocksState, block, block_at, free_up_to}
-use Rattle.block_file.specs.Format.{Closes, link, chain_blocks}
+use Rattle.file_bytes.specs.declared.form.Version.{Version}
+use Rattle.file_bytes.specs.declared.form.Version.TheVariants.{One, Two}
+use Rattle.block_file.specs.Format.{Closes, TellsVersion, link, chain_blocks}
 use Rattle.block_file.specs.Words.{HoldsChain}
 use Rattle.block_file.proofs.Places.{whole_inside}
 use Rattle.metadata.proofs.Sizes.{length_metadata}
-use Rattle.metadata.specs.Metadata.{part_bytes, indexes_bytes, metadata_bytes, AreCounted}
+use Rattle.metadata.specs.Metadata.{IsOfVersion, part_bytes, indexes_bytes, metadata_bytes, AreCounted}
 use Rattle.tile_index.specs.Bytes.{index_bytes}
-use Rattle.raster_store.specs.Views.{Index, SnapshotView, listed_all, listed_snapshots, metadata_size, fields_size, AreIntact}
+use Rattle.raster_store.specs.Views.{Index, SnapshotView, listed_all, metadata_size, fields_size, AreIntact}
 use Rattle.raster_store.specs.Calls.{index_of, AreWhole, AreListed}
-use Rattle.coverage_server.specs.Views.{signatures_of, uses_in, IsClosable}
+use Rattle.coverage_server.specs.Damage.{IsIntactIn, IsIntactNamed}
+use Rattle.coverage_server.specs.Sessions.{IsNotClosed}
+use Rattle.coverage_server.specs.Views.{ServerView, signatures_of, uses_in, IsClosable}
 use Rattle.disk_face.specs.Disk.{Tells}
 use Rattle.tile_store.specs.declared.fault.Fault.{Fault}
 use Rattle.tile_store.specs.declared.fault.Fault.TheVariants as device
@@ -124,6 +128,12 @@ metadata_length signatures indexes = length_metadata signatures indexes
 block_within : (content : List ℕ) (k : ℕ) → length (block_at content k) ≡ 4096 → k < length content / 4096
 block_within content k whole = let e = whole_inside content k whole in omega (arith, e)
 
+-- what a file of version 2 has is of its version
+of_version : (content : List ℕ) (signatures : List Signature) (indexes : List (List Index)) → TellsVersion Two content
+    → (v : Version) → TellsVersion v content → IsOfVersion v signatures indexes
+of_version content signatures indexes two One one = absurd (omega (arith, two, one))
+of_version content signatures indexes two Two same = record { axes = tt; forms = λ k d l i e m. tt }
+
 -- what was closed lists the coverages
 pub lists : (s : BlocksState) (store : Store) (indexes : List (List Index)) → AreListed s store indexes → IsTrue s.honest
     → IsCatalogue (signatures_of store) → ((k : ℕ) → listed_all indexes k ≤ 1) → listed_all indexes 0 ≡ 0
@@ -134,6 +144,7 @@ lists s store indexes l h k once zero w = inr (record {
   laid_out = record {
     closed = w.closed;
     written = record { catalogue = k; counted = are_counted store indexes l.each; written = refl };
+    version = of_version s.content (signatures_of store) indexes w.version;
     tiles = are_tiles store indexes l.each;
     blocks = λ n more. record {
       once = (let least = once n in omega (arith, least, more));
@@ -156,13 +167,14 @@ holds s store indexes l h k once zero w intact = record { indexes = indexes; lis
 
 -- what a write of the header makes of a chain that was written before, in blocks that are in no use
 pub is_written : (first : ℕ) (mid : BlocksState) (new shown metadata : List ℕ) (indexes later : List (List Index)) (held : List SnapshotView) → IsTrue mid.honest → shown ≡ metadata
-    → HoldsChain first shown mid → Closes first (length shown) mid.content new → ((k : ℕ) → mid.uses k ≡ uses_in indexes held k) → later ≡ indexes
+    → TellsVersion Two new → HoldsChain first shown mid → Closes first (length shown) mid.content new → ((k : ℕ) → mid.uses k ≡ uses_in indexes held k) → later ≡ indexes
     → IsWritten new metadata later
-is_written first mid new shown metadata indexes later held honest is holds closes counted same =
+is_written first mid new shown metadata indexes later held honest is version holds closes counted same =
     let w = closes shown refl (holds.chain honest) in
     subst (λ (m : List ℕ). IsWritten new m later) is
     (record {
       closed = w.closed;
+      version = version;
       apart = λ i below. ap (listed_all later) (w.links i below) ∙ ap (λ (l : List (List Index)). listed_all l (link (block mid) first i)) same
           ∙ unlisted (link (block mid) first i) (sym (counted (link (block mid) first i)) ∙ holds.unused honest i below);
     })
@@ -210,3 +222,14 @@ close_told T U device.NoMemory told old new is t = tells_none _ _ old new (λ e.
 close_told T U device.DiskFault told old new is t = tells_as _ _ old new (λ e. ap Err is) (λ e. refl) t
 close_told T U device.NoRoom told old new is t = absurd is
 close_told T U device.Damaged told old new is t = absurd is
+
+-- a close that was refused, and then another
+pub spelled_again : (fault : CloseFault) (old mid : ServerView) (content : List ℕ) → IsNotClosed fault old mid
+    → (IsTrue mid.honest → (name : List ℕ) → IsIntactNamed mid name → IsIntactIn content mid.store mid.indexes name)
+    → IsTrue old.honest → (name : List ℕ) → IsIntactNamed old name → IsIntactIn content old.store old.indexes name
+spelled_again fault old mid content a keeps sure name whole =
+    let still : IsIntactIn content mid.store mid.indexes name =
+    keeps (subst IsTrue (sym a.honest) sure) name
+    (λ field tile. (a.spelled sure).tiles name field tile (whole field tile)) in
+    subst (λ (s : Store). IsIntactIn content s old.indexes name) (a.unchanged.store sure)
+    (subst (λ (l : List (List Index)). IsIntactIn content mid.store l name) a.unchanged.indexes still)

@@ -1,9 +1,15 @@
 -- Where every listed tile is spelled, none is in the way of a request.
-use Rattle.std.proofs.Common.{◌≡◌, ℕ, zero, suc, Bool, true, false, List, [], ◌∷◌, Option, None, Some, refl, sym, subst}
-use Rattle.std.specs.Prelude.{slice_get, IsSomeAnd}
+use Rattle.std.proofs.Common.{◌≡◌, ℕ, zero, suc, ◌<◌, Bool, true, false, List, [], ◌∷◌, length, Option, None, Some, refl, sym, subst, arith, inl, inr, Contains}
+use Rattle.std.specs.Prelude.{slice_get, slice_index_or, IsSomeAnd}
+use Rattle.std.proofs.lemmas.Bool.{cases_Bool}
+use Rattle.std.proofs.lemmas.Slice.Eq.{bytes_eq-Decides}
 use Rattle.std.specs.Str.{bytes_eq}
 use Rattle.arr_core.specs.declared.domain.Axis.{Axis}
 use Rattle.arr_core.specs.declared.field.Field.{Field}
+use Rattle.arr_core.specs.Names.{AreDistinct}
+use Rattle.arr_core.specs.Tiles.{tile_boxes}
+use Rattle.catalogue.specs.Signatures.{names_of}
+use Rattle.catalogue.proofs.Held.{contains_here, contains_later}
 use Rattle.arr_core.specs.Stores.{Coverage, Store, found}
 use Rattle.arr_core.specs.Domains.{IsBoxOf}
 use Rattle.arr_core.specs.Fields.{place_of as field_place}
@@ -14,9 +20,9 @@ use Rattle.raster_store.specs.Snapshots.{held_for}
 use Rattle.raster_store.specs.Calls.{index_of}
 use Rattle.raster_store.specs.Fetches.{IsSpelledOf}
 use Rattle.kvp_front.specs.Requests.{Asks, insert_coverage, update_coverage, delete_coverage, list_coverages, describe_coverage, process_coverages, submit_query, step_job, fetch_job, cancel_job, expand_template, process_template}
-use Rattle.coverage_server.specs.Damage.{IsSpelledNamed, IsSpelledPlace, SpoilsText, SpoilsWrite, SpoilsHeld, Spoils}
+use Rattle.coverage_server.specs.Damage.{IsIntactIn, IsIntactNamed, IsSpelledNamed, IsSpelledPlace, SpoilsText, SpoilsWrite, SpoilsHeld, Spoils}
 use Rattle.coverage_server.specs.Machine.{State, axes_of}
-use Rattle.coverage_server.specs.Views.{ServerView, IsSound}
+use Rattle.coverage_server.specs.Views.{ServerView, IsSound, signatures_of}
 use Rattle.coverage_server.proofs.HeldLemmas.{intact_for}
 use Rattle.coverage_server.proofs.TileLemmas.{intact_at, some_out}
 
@@ -47,13 +53,84 @@ intact_named content (d ∷ store) (x ∷ indexes) name field tile s c f i at e 
         (fields_spelled content d.domain d.fields x field tile f i s.0 (subst (λ (y : Coverage). slice_get y.fields field ≡ Some f) (sym same) e) index)
     by_test rest false t = rest (rw t at at) (rw t at k)
 
+-- ---- places
+
+no_index : (name : List ℕ) (field : ℕ) (store : Store) (i : Index) → index_of name field store [] ≡ Some i → ⊥
+no_index name field [] i e = absurd cc
+no_index name field (c ∷ store) i e = absurd cc
+
+other_name : (a b : List ℕ) → (a ≡ b → ⊥) → bytes_eq a b ≡ false
+other_name a b n = elim (cases_Bool (bytes_eq a b)) [
+  | inl same ↦ absurd (n ((bytes_eq-Decides a b).0 same))
+  | inr apart ↦ apart
+]
+
+contains_at : (store : Store) (place : ℕ) (name : List ℕ)
+    → IsSomeAnd (slice_get store place) (λ (c : Coverage). c.name ≡ name)
+    → Contains (names_of (signatures_of store)) name
+contains_at [] place name here = absurd here
+contains_at (c ∷ store) zero name here =
+    subst (Contains (c.name ∷ names_of (signatures_of store))) here
+    (contains_here c.name (names_of (signatures_of store)))
+contains_at (c ∷ store) (suc place) name here =
+    contains_later c.name (names_of (signatures_of store)) name (contains_at store place name here)
+
+one_field : (content : List ℕ) (domain : List Axis) (fields : List Field) (indexes : List Index) (j tile : ℕ)
+    → ((f : Field) (i : Index) → slice_get fields j ≡ Some f → slice_get indexes j ≡ Some i
+    → IsTileSpelled f.kind domain i content tile) → j < length fields
+    → IsSomeAnd (slice_get fields j)
+    (λ (f : Field). IsTileSpelled f.kind domain (slice_index_or indexes j []) content tile)
+one_field content domain [] indexes j tile x within = absurd (omega (arith, within))
+one_field content domain (f ∷ fields) [] zero tile x within = λ e at. absurd cc
+one_field content domain (f ∷ fields) [] (suc j) tile x within =
+    one_field content domain fields [] j tile (λ g i has of. absurd cc) (omega (arith, within))
+one_field content domain (f ∷ fields) (i ∷ indexes) zero tile x within = x f i refl refl
+one_field content domain (f ∷ fields) (i ∷ indexes) (suc j) tile x within =
+    one_field content domain fields indexes j tile x (omega (arith, within))
+
+pub at_place : (content name : List ℕ) (field tile : ℕ) (store : Store) (indexes : List (List Index)) (place : ℕ)
+    → AreDistinct (names_of (signatures_of store)) → IsIntactIn content store indexes name
+    → IsSomeAnd (slice_get store place) (λ (c : Coverage). c.name ≡ name)
+    → IsSomeAnd (slice_get store place) (λ (c : Coverage). field < length c.fields)
+    → IsSomeAnd (slice_get store place) (λ (c : Coverage). IsSomeAnd (slice_get c.fields field) (λ (f : Field).
+    IsTileSpelled f.kind c.domain (slice_index_or (slice_index_or indexes place []) field []) content tile))
+at_place content name field tile [] indexes place apart x here within = absurd within
+at_place content name field tile (c ∷ store) [] zero apart x here within =
+    one_field content c.domain c.fields [] field tile (λ f i has of. absurd cc) within
+at_place content name field tile (c ∷ store) [] (suc place) apart x here within =
+    at_place content name field tile store [] place apart.1
+    (λ f t b g k there is index. absurd (no_index name f store k index)) here within
+at_place content name field tile (c ∷ store) (j ∷ indexes) zero apart x here within =
+    let this : bytes_eq c.name name ≡ true = (bytes_eq-Decides c.name name).1 here in
+    one_field content c.domain c.fields j field tile (λ f i has of. x field tile c f i (rw this refl) has (rw this of))
+    within
+at_place content name field tile (c ∷ store) (j ∷ indexes) (suc place) apart x here within =
+    let other = other_name c.name name
+    (λ e. apart.0 (subst (Contains (names_of (signatures_of store))) (sym e) (contains_at store place name here))) in
+    at_place content name field tile store indexes place apart.1
+    (λ f t b g k there is index. x f t b g k (rw other there) is (rw other index)) here within
+
+-- where coverages have names of their own, one that is intact is so at its place
+pub named_spelled : (v : ServerView) → AreDistinct (names_of (signatures_of v.store)) → (name : List ℕ)
+    → IsIntactNamed v name → IsSpelledNamed name v
+named_spelled v apart name whole place here at is has =
+    at_place v.content name at.field at.tile v.store v.indexes at.coverage apart whole
+    (subst (λ (n : ℕ). IsSomeAnd (slice_get v.store n) (λ (c : Coverage). c.name ≡ name)) (sym is) here)
+    (field_within (slice_get v.store at.coverage) has)
+  where
+    field_within : (o : Option Coverage)
+        → IsSomeAnd o (λ (c : Coverage). (at.field < length c.fields) × (at.tile < length (tile_boxes c.domain)))
+        → IsSomeAnd o (λ (c : Coverage). at.field < length c.fields)
+    field_within None h = absurd h
+    field_within (Some c) h = h.0
+
 -- ---- requests
 
-named_spelled : (v : ServerView) → IsSound v → (name : List ℕ) → IsSpelledNamed name v
-named_spelled v sound name place here at is has = intact_at v.content v.store v.indexes at has sound.intact
+sound_spelled : (v : ServerView) → IsSound v → (name : List ℕ) → IsSpelledNamed name v
+sound_spelled v sound name place here at is has = intact_at v.content v.store v.indexes at has sound.intact
 
 no_text : (text : List ℕ) (v : ServerView) → IsSound v → SpoilsText text v → ⊥
-no_text text v sound x = x.2 (λ k d l. named_spelled v sound _)
+no_text text v sound x = x.2 (λ k d l. sound_spelled v sound _)
 
 no_write : (name : List ℕ) (field : ℕ) (box : List Axis) (v : ServerView) → IsSound v → SpoilsWrite name field box v → ⊥
 no_write name field box v sound x =

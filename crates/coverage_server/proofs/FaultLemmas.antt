@@ -1,6 +1,6 @@
 -- What answers tell, and what they tell of the disk's failures.
 use Rattle.std.proofs.Common.{◌≡◌, ℕ, ◌≤◌, Result, Ok, Err, OnOk, OnErr, arith, inl, inr}
-use Rattle.std.specs.Prelude.{IfErr}
+use Rattle.std.specs.Prelude.{IfErr, IfOk}
 use Rattle.std.proofs.lemmas.Bool.{cases_lt}
 use Rattle.disk_face.specs.Disk.{Tells}
 
@@ -28,6 +28,10 @@ pub on_ok : {X E : Type 0} (r : Result X E) (P Q : Type 0) → (P → Q) → OnO
 on_ok (Ok x) P Q f p = f p
 on_ok (Err e) P Q f p = tt
 
+pub any_ok : {X E : Type 0} (r : Result X E) (P : Type 0) → P → OnOk r P
+any_ok (Ok x) P p = p
+any_ok (Err e) P p = tt
+
 pub on_err : {X E : Type 0} (r : Result X E) (P Q : Type 0) → (P → Q) → OnErr r P → OnErr r Q
 on_err (Ok x) P Q f p = tt
 on_err (Err e) P Q f p = f p
@@ -44,3 +48,12 @@ err_each (Err e) P p = p
 pub any_err : {X E : Type 0} (r : Result X E) (P : Type 0) → P → OnErr r P
 any_err (Ok x) P p = tt
 any_err (Err e) P p = p
+
+-- what follows of each answer, and of each fault
+pub ok_weaker : {X E : Type 0} (r : Result X E) (P Q : X → Type 0) → ((x : X) → P x → Q x) → IfOk r P → IfOk r Q
+ok_weaker (Ok x) P Q f p = f x p
+ok_weaker (Err e) P Q f p = tt
+
+pub err_weaker : {X E : Type 0} (r : Result X E) (P Q : E → Type 0) → ((e : E) → P e → Q e) → IfErr r P → IfErr r Q
+err_weaker (Ok x) P Q f p = tt
+err_weaker (Err e) P Q f p = f e p

@@ -1,5 +1,5 @@
 -- Which blocks are free: those that no index lists and nothing that is held for jobs. A server stays one that can be closed.
-use Rattle.std.proofs.Common.{◌≡◌, ℕ, map, zero, suc, ◌+◌, ◌-◌, ◌≤◌, ◌<◌, max, List, [], ◌∷◌, ◌++◌, length, Result, Ok, Err, OnOk, OnErr, refl, sym, ap, ◌∙◌, subst, arith}
+use Rattle.std.proofs.Common.{◌≡◌, ℕ, map, zero, suc, ◌+◌, ◌-◌, ◌≤◌, List, [], ◌∷◌, ◌++◌, length, Result, Ok, Err, OnOk, OnErr, refl, sym, ap, ◌∙◌, subst, arith}
 use Rattle.std.specs.Prelude.{ℤ, IsErrOf, IsTrue, replicate}
 use Rattle.arr_core.specs.declared.domain.Axis.{Axis}
 use Rattle.arr_core.specs.declared.signature.Signature.{Signature}
@@ -7,21 +7,22 @@ use Rattle.block_file.specs.State.{BlocksState, free_up_to, free_of}
 use Rattle.block_file.specs.Uses.{uses_of}
 use Rattle.block_file.specs.View.{BlockFileView, state_of}
 use Rattle.block_file.specs.Words.{OnlyHeader}
-use Rattle.block_file.proofs.Free.{free_none, free-suc, free_same}
+use Rattle.block_file.proofs.Free.{free_same}
 use Rattle.catalogue.specs.Bytes.{catalogue_bytes}
 use Rattle.catalogue.specs.Signatures.{without}
 use Rattle.tile_store.specs.declared.fault.Fault.{Fault}
 use Rattle.tile_store.specs.declared.fault.Fault.TheVariants as device
 use Rattle.tile_store.specs.Faults.{Refuses}
 use Rattle.raster_store.specs.Views.{Index, RasterView, SnapshotView, listed_all, listed_snapshots, reserve}
-use Rattle.raster_store.specs.Snapshots.{KeepsSnapshots, AreSameSnapshots, Holds, HoldsNone, Releases, without_job}
+use Rattle.raster_store.specs.Snapshots.{KeepsSnapshots, AreSameSnapshots, Holds, HoldsNone, Releases}
 use Rattle.arr_core.specs.Stores.{Store}
 use Rattle.raster_store.specs.Calls.{signature_of}
 use Rattle.raster_store.specs.Words.{OnlyFetches, SameCoverages, Stays, Creates, LacksRoomToCreate, Writes, Removes}
 use Rattle.raster_store.proofs.Totals.{listed_all-push, listed_fields-none}
+use Rattle.coverage_server.specs.Layouts.{layout_of}
 use Rattle.coverage_server.specs.Room.{LacksRoomToInsert}
 use Rattle.coverage_server.specs.Holding.{HoldsFor, ReleasesFor}
-use Rattle.coverage_server.specs.Views.{ServerView, IsClosable, IsSound, IsUnchanged, KeepsHeld, still_of, signatures_of, uses_in, free_in, free_blocks, without_held}
+use Rattle.coverage_server.specs.Views.{ServerView, IsClosable, IsUnchanged, KeepsHeld, still_of, signatures_of, uses_in, free_in, free_blocks, without_held}
 use Rattle.coverage_server.specs.Writing.{device_refusal, InsertRefused}
 use Rattle.coverage_server.proofs.StoreLemmas.{signatures_inserted}
 use Rattle.coverage_server.proofs.HeldLemmas.{lists_push, lists_left, picked_lists, same_snapshots, same_after, same_lists, intact_push, intact_left}
@@ -126,7 +127,8 @@ created_ready catalogue catalogue' s size old new ready more is w same held =
 
 -- room is wanting by what the server tells
 lacks_room : (catalogue : List Signature) (s : Signature) (size : ℕ) (cells : RasterView BlockFileView) → IsReady catalogue cells
-    → size ≡ length (catalogue_bytes (catalogue ++ s ∷ [])) → LacksRoomToCreate state_of s size cells → LacksRoomToInsert s (shown cells)
+    → size ≡ length (catalogue_bytes (catalogue ++ s ∷ [])) → LacksRoomToCreate state_of s size cells
+    → LacksRoomToInsert s cells.coverages (layout_of (shown cells))
 lacks_room catalogue s size cells ready is lacks =
     let free = ready_free catalogue cells ready in
     let bytes : size ≡ length (catalogue_bytes (signatures_of cells.coverages ++ s ∷ [])) = is ∙ ap (λ (l : List Signature). length (catalogue_bytes (l ++ s ∷ []))) ready.signatures in

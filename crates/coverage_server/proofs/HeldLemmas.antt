@@ -1,5 +1,5 @@
 -- What is held for jobs: what stays of it, how it grows and shrinks, and what is found there.
-use Rattle.std.proofs.Common.{◌≡◌, ℕ, zero, suc, ◌+◌, ◌≤◌, ◌<◌, nat_eq, Bool, true, false, List, [], ◌∷◌, ◌++◌, length, map, Option, None, Some, refl, sym, ap, ◌∙◌, subst, arith}
+use Rattle.std.proofs.Common.{◌≡◌, ℕ, zero, suc, ◌+◌, ◌≤◌, nat_eq, Bool, true, false, List, [], ◌∷◌, ◌++◌, map, None, Some, refl, sym, ap, ◌∙◌, subst, arith}
 use Rattle.std.specs.Prelude.{IsSomeAnd, All, slice_get}
 use Rattle.std.proofs.lemmas.Bool.{eqb-true, eq-eqb}
 use Rattle.std.proofs.lemmas.List.Sums.{sum_by-cons, sum_by_push}
@@ -19,7 +19,8 @@ lists-nil : (k : ℕ) → listed_snapshots [] k ≡ 0
 unfolding listed_snapshots
 lists-nil k = refl
 
-lists-cons : (x : SnapshotView) (xs : List SnapshotView) (k : ℕ) → listed_snapshots (x ∷ xs) k ≡ listed_all x.indexes k + listed_snapshots xs k
+pub lists-cons : (x : SnapshotView) (xs : List SnapshotView) (k : ℕ)
+    → listed_snapshots (x ∷ xs) k ≡ listed_all x.indexes k + listed_snapshots xs k
 unfolding listed_snapshots
 lists-cons x xs k = sum_by-cons (λ (y : SnapshotView). listed_all y.indexes k) x xs
 

@@ -1,11 +1,10 @@
 -- For which jobs coverages are held, where a job comes, is stepped or goes.
-use Rattle.std.proofs.Common.{◌≡◌, ◌⊎◌, ℕ, zero, suc, ◌+◌, ◌^◌, ◌-◌, ◌<◌, ◌≤◌, nat_eq, nat_lt, cond, Bool, true, false, List, [], ◌∷◌, ◌++◌, length, map, Option, None, Some, Result, Ok, Err, refl, sym, ap, ◌∙◌, subst, arith, inl, inr}
+use Rattle.std.proofs.Common.{◌≡◌, ℕ, zero, suc, ◌+◌, ◌^◌, ◌-◌, ◌<◌, nat_eq, nat_lt, cond, Bool, true, false, List, [], ◌∷◌, ◌++◌, map, None, Some, refl, sym, ap, ◌∙◌, subst, arith}
 use Rattle.std.specs.Prelude.{IsSomeAnd, All}
 use Rattle.std.specs.List.{AllByRecursion as Each, AllPairs, filter}
-use Rattle.std.proofs.lemmas.Bool.{eqb-true, eq-eqb, lt-ltb}
+use Rattle.std.proofs.lemmas.Bool.{eqb-true, lt-ltb}
 use Rattle.std.proofs.lemmas.List.{map-append}
-use Rattle.std.proofs.lemmas.List.Elements.{All-head, All-tail, All-cons, All-nil, All-push, All-weaker, filter-append, recursion_from_All}
-use Rattle.arr_core.specs.declared.signature.Signature.{Signature}
+use Rattle.std.proofs.lemmas.List.Elements.{All-head, All-tail, All-cons, All-nil, All-push, All-weaker, filter-append}
 use Rattle.job_desk.specs.declared.job.Job.{Job as Held}
 use Rattle.job_desk.specs.Desks.{DeskView, IsDesk, IsSubmitted, job_of, replaced, without, taken_out, number_after}
 use Rattle.plan_ir.specs.Plans.{PlanTree}
@@ -53,10 +52,10 @@ jobs_left n (x ∷ xs) = by_test (nat_eq x.job n) refl (jobs_left n xs)
 -- ---- the jobs that have units left
 
 -- one more or not, by whether it has units left
-more_left : (h : Held) (hs : List Held) (l : ℕ) → h.left ≡ suc l → reading (h ∷ hs) ≡ h.number ∷ reading hs
+pub more_left : (h : Held) (hs : List Held) (l : ℕ) → h.left ≡ suc l → reading (h ∷ hs) ≡ h.number ∷ reading hs
 more_left h hs l e = let t : nat_lt 0 h.left ≡ true = lt-ltb 0 h.left (omega (arith, e)) in rw t refl
 
-none_left : (h : Held) (hs : List Held) → h.left ≡ 0 → reading (h ∷ hs) ≡ reading hs
+pub none_left : (h : Held) (hs : List Held) → h.left ≡ 0 → reading (h ∷ hs) ≡ reading hs
 none_left h hs e = rw e refl
 
 none_read : (n : ℕ) (hs : List Held) → All (λ (j : Held). nat_eq j.number n ≡ false) hs → IsNone n (reading hs)

@@ -17,6 +17,7 @@ use Rattle.coverage_server.specs.declared.arguments.Refusal.{Refusal}
 use Rattle.coverage_server.specs.declared.arguments.Refusal.TheVariants.{Numbered, NoMemory, DiskFault, NoRoom, Damaged}
 use Rattle.coverage_server.specs.Answered.{Answered}
 use Rattle.coverage_server.specs.Machine.{SpellDomain, SpellWhole, axes_of, axis_of, Inserts}
+use Rattle.coverage_server.specs.Layouts.{layout_of}
 use Rattle.coverage_server.specs.Room.{LacksRoomToInsert}
 use Rattle.coverage_server.specs.Views.{ServerView, IsUnchanged, signatures_of}
 use Rattle.coverage_server.specs.Writing.{InsertRefused, insert_refusal}
@@ -57,7 +58,8 @@ module _ (v w : ServerView) (name : List ℕ) (intervals : List Interval) (field
       (no_room name intervals fields v.store none (some_intervals x.1) x.2 (λ (few : length v.store < 1024). absurd (omega (arith, size, full, few))))
   refused_by insertion.NoMemory code e x = absurd cc
 
-  pub insert_refused : (e : Refusal) → InsertRefused v asked e → IsUnchanged v w → Answered (Inserts name intervals fields) (LacksRoomToInsert asked v) ⊥ v w (Err e)
+  pub insert_refused : (e : Refusal) → InsertRefused v asked e → IsUnchanged v w
+      → Answered (Inserts name intervals fields) (LacksRoomToInsert asked v.store (layout_of v)) ⊥ v w (Err e)
   insert_refused (Numbered code) x same =
       λ sound. subst (λ (s : Store). Inserts name intervals fields v.store (Refused code) s) (sym (same.store sound)) (refused_by x.0 code x.1 x.2)
   insert_refused NoMemory x same = tt
@@ -66,7 +68,8 @@ module _ (v w : ServerView) (name : List ℕ) (intervals : List Interval) (field
   insert_refused Damaged x same = absurd x
 
   pub insert_done : MayInsert (signatures_of v.store) asked → (text : String Global) → string_bytes text ≡ codes "ok\n"
-      → w.store ≡ inserted name (axes_of intervals) fields v.store → Answered (Inserts name intervals fields) (LacksRoomToInsert asked v) ⊥ v w (Ok (Text text))
+      → w.store ≡ inserted name (axes_of intervals) fields v.store
+      → Answered (Inserts name intervals fields) (LacksRoomToInsert asked v.store (layout_of v)) ⊥ v w (Ok (Text text))
   insert_done may text ok new =
       let size = length-map v.store signature_of in
       let room : length v.store < 1024 = omega (arith, size, may.room) in

@@ -1,10 +1,9 @@
 -- Jobs of the desk that stand for jobs of the machine.
-use Rattle.std.proofs.Common.{◌≡◌, ℕ, zero, suc, ◌+◌, ◌*◌, ◌<◌, ◌≤◌, ◌-◌, ◌⊎◌, get_or, Bool, true, false, nat_eq, cond, ℤ, List, [], ◌∷◌, ◌++◌, length, map, max, Option, None, Some, Result, Ok, Err, inl, inr, refl, sym, ap, ◌∙◌, subst, arith}
-use Rattle.std.specs.Prelude.{All, IsSomeAnd, MatchOption, String, string_bytes, codes, decimal, IsSome, option_map}
+use Rattle.std.proofs.Common.{◌≡◌, ℕ, zero, suc, ◌+◌, ◌*◌, ◌<◌, ◌≤◌, get_or, Bool, true, false, nat_eq, List, [], ◌∷◌, ◌++◌, length, map, max, Option, None, Some, Result, Ok, Err, inl, inr, refl, sym, ap, ◌∙◌, subst, arith}
+use Rattle.std.specs.Prelude.{All, IsSomeAnd, MatchOption, String, string_bytes, codes, decimal, IsSome}
 use Rattle.std.specs.declared.alloc.Global.{Global}
 use Rattle.arr_core.specs.declared.signature.Signature.{Signature}
 use Rattle.arr_core.specs.Stores.{Coverage, Store, found}
-use Rattle.std.proofs.lemmas.Bool.{eqb-true}
 use Rattle.std.proofs.lemmas.List.Elements.{All-head, All-tail, All-cons, All-nil, All-map}
 use Rattle.raster_store.specs.Calls.{signature_of}
 use Rattle.raster_store.specs.Snapshots.{held_for, without_job, distinct, AreNames}
@@ -13,40 +12,35 @@ use Rattle.job_desk.specs.declared.job.Job.{Job as Held}
 use Rattle.job_desk.specs.declared.answer.Answer.TheVariants as given
 use Rattle.job_desk.specs.Desks.{DeskView, IsDesk, IsJob, IsFull, IsSubmitted, IsFetched, IsAnswer, replaced, number_after as next_number}
 use Rattle.job_desk.specs.Desks as desks
-use Rattle.job_desk.specs.Steps.{IsChanged, IsLowered, IsHeldUp, IsRefusedStep, StepReports, Ends, IsRefusedFetch, IsRefusedSubmit}
+use Rattle.job_desk.specs.Steps.{IsRefusedFetch, IsRefusedSubmit}
 use Rattle.job_desk.specs.declared.error.FetchError.{FetchError}
 use Rattle.job_desk.specs.declared.error.FetchError.TheVariants as fetching
-use Rattle.job_desk.specs.declared.error.StepError.{StepError}
-use Rattle.job_desk.specs.declared.error.StepError.TheVariants as stepping
 use Rattle.job_desk.specs.declared.error.SubmitError.{SubmitError}
 use Rattle.job_desk.specs.declared.error.SubmitError.TheVariants as submitting
 use Rattle.plan_ir.specs.Plans.{PlanTree}
 use Rattle.plan_ir.specs.Planned.{planned}
 use Rattle.plan_ir.specs.Units.{units}
-use Rattle.tile_exec.specs.Standing.{StandsFor, plan_of, left_of}
+use Rattle.tile_exec.specs.Standing.{plan_of, left_of}
 use Rattle.wcps_mean.specs.declared.cell.PointFault.{PointFault}
-use Rattle.wcps_mean.specs.declared.cells.CellError.{CellError}
-use Rattle.wcps_mean.specs.declared.cells.CellError.TheVariants as cell
 use Rattle.wcps_mean.specs.declared.item.Item.{Item}
 use Rattle.wcps_mean.specs.Faults.{number_of as fault_number}
-use Rattle.wcps_mean.specs.Reports.{Tells as TellsError}
 use Rattle.wcps_types.specs.Typed.{TypedTree}
 use Rattle.wcps_types.specs.Work.{query_work}
 use Rattle.http_front.specs.declared.reply.Reply.{Reply}
 use Rattle.http_front.specs.declared.reply.Reply.TheVariants.{Text, Csv, Refused}
 use Rattle.coverage_server.specs.declared.arguments.Refusal.{Refusal}
 use Rattle.coverage_server.specs.declared.arguments.Refusal.TheVariants.{Numbered, NoMemory, DiskFault, NoRoom, Damaged}
-use Rattle.coverage_server.specs.Answered.{AnsweredIn, Moves, Never, Stays}
+use Rattle.coverage_server.specs.Answered.{AnsweredIn, Moves, Never}
 use Rattle.coverage_server.specs.Asking.{QueryAnswer, cells_of, items_answer, evaluated, TextTyped}
-use Rattle.coverage_server.specs.Machine.{Job, State, job_of, with_left, without, with_jobs, number_after, Refuses, Unless, Adds, Tells, Submits, StepsJob, Fetches, Cancels}
-use Rattle.coverage_server.specs.Holding.{AreHeldOnce, HoldsFor, ReleasesFor, HoldsPlan, IsHolding}
+use Rattle.coverage_server.specs.Machine.{Job, State, job_of, with_left, without, with_jobs, number_after, Refuses, Unless, Adds, Tells, Submits, Fetches, Cancels}
+use Rattle.coverage_server.specs.Holding.{AreHeldOnce, HoldsFor, ReleasesFor, IsHolding}
 use Rattle.coverage_server.specs.Represents.{IsReading, StandsAs, AreJobs, Represents}
-use Rattle.coverage_server.specs.Stages.{GivesText, IsTypedText, IsPlanOf, cell_refusal, submit_refusal, step_refusal, fetch_refusal}
-use Rattle.coverage_server.specs.Tiles.{AreRead, HaveDomains, IsHeld, cells_at, held_or, signatures_at, store_for}
-use Rattle.coverage_server.specs.Views.{ServerView, SessionView, session, still_of}
-use Rattle.coverage_server.proofs.HeldLemmas.{Finds, finds_same, finds_push, finds_left, found_last}
-use Rattle.coverage_server.proofs.HoldingLemmas.{Rise, rise_tail, later_others, holding_more, holding_kept, holding_ended}
-use Rattle.coverage_server.proofs.StandingLemmas.{AreFound, cells_kept, held_kept, represents-same}
+use Rattle.coverage_server.specs.Stages.{GivesText, IsTypedText, IsPlanOf, submit_refusal, fetch_refusal}
+use Rattle.coverage_server.specs.Tiles.{IsHeld}
+use Rattle.coverage_server.specs.Views.{ServerView, SessionView, session}
+use Rattle.coverage_server.proofs.HeldLemmas.{Finds, finds_push, finds_left, found_last}
+use Rattle.coverage_server.proofs.HoldingLemmas.{Rise, rise_tail, later_others, holding_more}
+use Rattle.coverage_server.proofs.StandingLemmas.{AreFound, cells_kept, held_kept}
 
 pub at_this : {X : Type 0} (o : Option X) (x : X) (P : Type 0) (Q : X → Type 0) → o ≡ Some x → Q x → MatchOption o P Q
 at_this o x P Q e q = subst (λ (y : Option _). MatchOption y P Q) (sym e) q

@@ -1,25 +1,26 @@
 -- The blocks that a closed file lists are those that may be claimed, and a disk has one layout.
-use Rattle.std.proofs.Common.{◌≡◌, ℕ, ◌+◌, ◌/◌, ◌<◌, ◌≤◌, List, ◌∷◌, ◌++◌, length, get_or, arith, sym, ◌∙◌, ap, subst, inl, inr}
+use Rattle.std.proofs.Common.{◌≡◌, ℕ, ◌+◌, ◌/◌, ◌<◌, List, ◌∷◌, ◌++◌, length, get_or, arith, sym, subst, inl, inr}
 use Rattle.std.specs.Prelude.{IsTrue}
 use Rattle.std.proofs.lemmas.Bool.{cases_lt}
 use Rattle.std.proofs.lemmas.List.Sums.{sum_by-append}
 use Rattle.arr_core.specs.declared.signature.Signature.{Signature}
 use Rattle.block_file.specs.State.{BlocksState, block, block_at, times}
-use Rattle.block_file.specs.Format.{IsClosed, first_of}
+use Rattle.block_file.specs.Format.{IsClosed, TellsVersion, first_of}
 use Rattle.block_file.specs.Uses.{MarksChain, CanClaim}
-use Rattle.metadata.specs.Metadata.{IsMetadata}
+use Rattle.file_bytes.specs.declared.form.Version.{Version}
+use Rattle.metadata.specs.Metadata.{IsMetadata, IsOfVersion}
 use Rattle.raster_store.specs.Views.{Index, listed_fields, listed_all}
 use Rattle.raster_store.specs.Calls.{MayAttach}
 use Rattle.raster_store.proofs.Totals.{listed_all-cons}
 use Rattle.coverage_server.specs.Disk.{IsTileBlock, IsLaidOut}
 
 -- A file whose metadata is the only one, and spells one catalogue with its indexes, is laid out in one way.
-pub one_layout : (content m m' : List ℕ) (s s' : List Signature) (i i' : List (List Index))
-    → ((metadata : List ℕ) → IsClosed content metadata → m ≡ metadata)
-    → ((signatures : List Signature) (indexes : List (List Index)) → IsMetadata m signatures indexes
+pub one_layout : (v : Version) (content m m' : List ℕ) (s s' : List Signature) (i i' : List (List Index))
+    → TellsVersion v content → ((metadata : List ℕ) → IsClosed content metadata → m ≡ metadata)
+    → ((signatures : List Signature) (indexes : List (List Index)) → IsMetadata m signatures indexes → IsOfVersion v signatures indexes
     → (signatures ≡ s) × (indexes ≡ i)) → IsLaidOut content m' s' i' → (s' ≡ s) × (i' ≡ i)
-one_layout content m m' s s' i i' closed spelled laid =
-    spelled s' i' (subst (λ (l : List ℕ). IsMetadata l s' i') (sym (closed m' laid.closed)) laid.written)
+one_layout v content m m' s s' i i' told closed spelled laid =
+    spelled s' i' (subst (λ (l : List ℕ). IsMetadata l s' i') (sym (closed m' laid.closed)) laid.written) (laid.version v told)
 
 -- The blocks of a closed file's tiles may be claimed where its metadata alone is marked.
 pub laid_claims : (content : List ℕ) (size : ℕ) (marks blocks : List ℕ) (indexes : List (List Index))

@@ -1,55 +1,47 @@
 -- The parts of an opening: the blocks that indexes list, the coverages that are attached so far, and what a disk lists.
 use Rattle.std.proofs.Common.{◌≡◌, ℕ, zero, suc, ◌+◌, ◌/◌, ◌<◌, ◌≤◌, max, List, [], ◌∷◌, ◌++◌, length, take, get_or, Vec, Contains, None, arith, refl, sym, ◌∙◌, ap, subst, inl, inr, append-nil}
-use Rattle.std.specs.Prelude.{◌⊎◌}
-use Rattle.std.specs.List.{flat_map}
+use Rattle.std.specs.Prelude.{◌⊎◌, IsTrue}
 use Rattle.std.specs.declared.alloc.Global.{Global}
 use Rattle.std.proofs.lemmas.Bool.{cases_lt}
 use Rattle.std.proofs.lemmas.List.{take_more, take_all, map-append, length_push}
-use Rattle.std.proofs.lemmas.List.Concat.{flat_map-cons}
-use Rattle.std.proofs.lemmas.List.Sums.{sum_by-cons, sum_by_more}
+use Rattle.std.proofs.lemmas.List.Sums.{sum_by_more}
 use Rattle.arr_core.specs.declared.signature.Signature.{Signature}
 use Rattle.arr_core.specs.Names.{AreDistinct}
 use Rattle.arr_core.specs.Stores.{Store, found}
 use Rattle.block_file.specs.State.{block_at, free_up_to, times}
-use Rattle.block_file.specs.Format.{IsClosed, IsDamaged, HeaderTorn, number_at, link, first_of, chain_blocks}
+use Rattle.file_bytes.specs.declared.form.Version.{Version}
+use Rattle.file_bytes.specs.declared.form.Version.TheVariants.{One, Two}
+use Rattle.block_file.specs.Format.{TellsVersion, IsClosed, IsDamaged, HeaderTorn, number_at, link, first_of, chain_blocks}
 use Rattle.block_file.specs.Uses.{CanClaim, Claims, IsFresh, use_count, uses_of}
-use Rattle.block_file.specs.View.{BlockFileView, IsOpened}
+use Rattle.block_file.specs.View.{BlockFileView, IsOpened, IsRefused, IsOfVersion as HasVersion}
+use Rattle.block_file.specs.declared.fault.OpenFault.{OpenFault as ChainFault}
+use Rattle.block_file.specs.declared.fault.OpenFault.TheVariants as chain
+use Rattle.disk_face.specs.Disk.{Tells}
 use Rattle.block_file.proofs.Free.{free_enough}
 use Rattle.block_file.proofs.Places.{whole_inside}
-use Rattle.block_file.proofs.Times.{one_same, times_none, times-cons, times_append}
+use Rattle.block_file.proofs.Times.{one_same, times_none, times-cons}
 use Rattle.catalogue.proofs.Held.{contains_here, contains_later, contains_cases, nothing_in_nil}
 use Rattle.catalogue.specs.Bytes.{catalogue_bytes}
 use Rattle.catalogue.specs.Signatures.{names_of, IsCatalogue}
-use Rattle.metadata.specs.Metadata.{IsMetadata, AreCounted}
-use Rattle.tile_index.specs.declared.entry.Entry.{Entry}
+use Rattle.metadata.specs.Metadata.{IsMetadata, IsOfVersion, AreCounted}
 use Rattle.tile_index.specs.declared.index.TileIndex.{TileIndex}
 use Rattle.tile_store.specs.Listing.{listed}
 use Rattle.raster_store.specs.Views.{Index, RasterView, listed_fields, listed_all, metadata_size, reserve, coverage_in, coverages_in, AreBelow}
-use Rattle.raster_store.proofs.Totals.{listed_none, listed_all-nil, listed_all-push}
+use Rattle.raster_store.proofs.Totals.{listed_all-nil, listed_all-push}
 use Rattle.coverage_server.specs.Disk.{AreTiles, IsTileBlock, IsLaidOut, HoldsStore, IsWant, IsNoStore}
 use Rattle.tile_store.specs.declared.fault.Fault.{Fault}
 use Rattle.tile_store.specs.declared.fault.Fault.TheVariants as device
-use Rattle.coverage_server.specs.Opening.{items_of, IsListed, ClaimsListed, CannotClaim, ClaimsLayout, IsNotLaidOut, Lists, Departs, TellsAttach}
+use Rattle.coverage_server.specs.Opening.{items_of, IsListed, ClaimsListed, CannotClaim, ClaimsLayout, IsNotLaidOut, Lists, Departs, TellsAttach, chain_fault}
 use Rattle.coverage_server.specs.declared.opening.OpenFault.{OpenFault}
 use Rattle.coverage_server.specs.declared.opening.OpenFault.TheVariants as opening
+use Rattle.coverage_server.specs.Sessions.{DiskView, IsNotOpened}
 use Rattle.coverage_server.specs.Views.{signatures_of, uses_in, free_in}
 use Rattle.coverage_server.proofs.LayoutLemmas.{claimed_blocks, laid_claims, one_layout}
+use Rattle.coverage_server.proofs.MetadataLemmas.{laid_short}
 use Rattle.coverage_server.proofs.ClosingLemmas.{metadata_length}
 use Rattle.coverage_server.proofs.HeldLemmas.{lists_none}
 use Rattle.coverage_server.proofs.FreeLemmas.{IsReady, free_unlisted}
 use Rattle.coverage_server.proofs.StoreLemmas.{fresh_found}
-
-listed-cons : (x : ℕ × Entry) (index : Index) (k : ℕ) → listed (x ∷ index) k ≡ times x.1.blocks k + listed index k
-unfolding listed
-listed-cons x index k = sum_by-cons (λ (y : ℕ × Entry). times y.1.blocks k) x index
-
--- the blocks of an index are those that it lists
-pub times_listed : (index : Index) (k : ℕ) → times (flat_map (λ (x : ℕ × Entry). x.1.blocks) index) k ≡ listed index k
-times_listed [] k = times_none k ∙ sym (listed_none k)
-times_listed (x ∷ index) k =
-    ap (λ (l : List ℕ). times l k) (flat_map-cons (λ (y : ℕ × Entry). y.1.blocks) x index)
-    ∙ times_append x.1.blocks (flat_map (λ (y : ℕ × Entry). y.1.blocks) index) k
-    ∙ ap (λ (n : ℕ). times x.1.blocks k + n) (times_listed index k) ∙ sym (listed-cons x index k)
 
 -- the fields whose blocks are listed so far: none at first, and then one more
 pub no_field_lists : (k : ℕ) → listed_fields [] k ≡ 0
@@ -219,25 +211,26 @@ block_count : (content metadata marks : List ℕ) → IsClosed content metadata 
 block_count content metadata marks closed e = omega (arith, e, closed.header.store.whole, closed.whole)
 
 -- why a layout is refused: the metadata spells none
-pub unread : (content metadata marks : List ℕ) → IsOpened content metadata marks → 0 < length metadata
-    → ((signatures : List Signature) (indexes : List (List Index)) → IsMetadata metadata signatures indexes → ⊥) → (0 < length content) × IsNotLaidOut content
-unread content metadata marks o some none = (
+pub unread : (v : Version) (content metadata marks : List ℕ) → HasVersion v content → IsOpened content metadata marks → 0 < length metadata
+    → ((signatures : List Signature) (indexes : List (List Index)) → IsMetadata metadata signatures indexes → IsOfVersion v signatures indexes → ⊥) → (0 < length content) × IsNotLaidOut content
+unread v content metadata marks told o some none = (
   elim (some_bytes content) [
     | inl e ↦ absurd (no_byte metadata (o.new_file e) some)
     | inr h ↦ h
   ],
-  λ m s i laid. none s i (subst (λ (l : List ℕ). IsMetadata l s i) (sym (o.unique m laid.closed)) laid.written),
+  λ m s i laid. none s i (subst (λ (l : List ℕ). IsMetadata l s i) (sym (o.unique m laid.closed)) laid.written)
+      (laid.version v (told.told (let whole = laid.closed.header.store.whole in omega (arith, whole)))),
 )
 
 -- what any layout is
-the_layout : (content metadata marks : List ℕ) (signatures s : List Signature) (indexes i : List (List Index)) (m : List ℕ) → IsOpened content metadata marks → 0 < length content
-    → IsListed metadata signatures indexes → IsLaidOut content m s i → (s ≡ signatures) × (i ≡ indexes)
-the_layout content metadata marks signatures s indexes i m o h l laid = one_layout content metadata m signatures s indexes i o.unique (l.only (o.closed h).chain.some) laid
+the_layout : (v : Version) (content metadata marks : List ℕ) (signatures s : List Signature) (indexes i : List (List Index)) (m : List ℕ) → HasVersion v content → IsOpened content metadata marks → 0 < length content
+    → IsListed v metadata signatures indexes → IsLaidOut content m s i → (s ≡ signatures) × (i ≡ indexes)
+the_layout v content metadata marks signatures s indexes i m told o h l laid = one_layout v content metadata m signatures s indexes i (told.told h) o.unique (l.only (o.closed h).chain.some) laid
 
 -- its blocks may not be claimed
-pub unclaimed : (content metadata marks : List ℕ) (signatures : List Signature) (indexes : List (List Index)) → IsOpened content metadata marks
-    → IsListed metadata signatures indexes → CannotClaim indexes marks → (0 < length content) × IsNotLaidOut content
-unclaimed content metadata marks signatures indexes o l cannot = elim (some_bytes content) [
+pub unclaimed : (v : Version) (content metadata marks : List ℕ) (signatures : List Signature) (indexes : List (List Index)) → HasVersion v content → IsOpened content metadata marks
+    → IsListed v metadata signatures indexes → CannotClaim indexes marks → (0 < length content) × IsNotLaidOut content
+unclaimed v content metadata marks signatures indexes told o l cannot = elim (some_bytes content) [
   | inl e ↦
       let none : indexes ≡ [] = (l.new_file (o.new_file e)).1 in
       let empty : cannot.blocks ≡ [] = no_blocks cannot.blocks (λ k. cannot.each k ∙ ap (λ (i : List (List Index)). listed_all i k) none) in
@@ -245,7 +238,7 @@ unclaimed content metadata marks signatures indexes o l cannot = elim (some_byte
   | inr h ↦ (
     h,
     λ m s i laid.
-        let same = the_layout content metadata marks signatures s indexes i m o h l laid in
+        let same = the_layout v content metadata marks signatures s indexes i m told o h l laid in
         let size : m ≡ metadata = sym (o.unique m laid.closed) in
         let each : (k : ℕ) → 0 < listed_all indexes k → IsTileBlock content (length metadata) indexes k =
         λ k some. subst (λ (l : List ℕ). IsTileBlock content (length l) indexes k) size
@@ -255,25 +248,32 @@ unclaimed content metadata marks signatures indexes o l cannot = elim (some_byte
 ]
 
 -- it has tiles beyond the domains
-pub beyond : (content metadata marks : List ℕ) (signatures : List Signature) (indexes : List (List Index)) → IsOpened content metadata marks
-    → IsListed metadata signatures indexes → (AreTiles signatures indexes → ⊥) → (0 < length content) × IsNotLaidOut content
-beyond content metadata marks signatures indexes o l refused = elim (some_bytes content) [
+pub beyond : (v : Version) (content metadata marks : List ℕ) (signatures : List Signature) (indexes : List (List Index)) → HasVersion v content → IsOpened content metadata marks
+    → IsListed v metadata signatures indexes → (AreTiles signatures indexes → ⊥) → (0 < length content) × IsNotLaidOut content
+beyond v content metadata marks signatures indexes told o l refused = elim (some_bytes content) [
   | inl e ↦
       let none : signatures ≡ [] = (l.new_file (o.new_file e)).0 in
       absurd (refused (subst (λ (s : List Signature). AreTiles s indexes) (sym none) tt))
   | inr h ↦ (
     h,
     λ m s i laid.
-        let same = the_layout content metadata marks signatures s indexes i m o h l laid in
+        let same = the_layout v content metadata marks signatures s indexes i m told o h l laid in
         refused (subst (λ (x : List (List Index)). AreTiles signatures x) same.1 (subst (λ (x : List Signature). AreTiles x i) same.0 laid.tiles)),
   )
 ]
 
+-- a header tells one version
+one_version : (content : List ℕ) (v w : Version) → TellsVersion v content → TellsVersion w content → v ≡ w
+one_version content One One a b = refl
+one_version content One Two a b = absurd (omega (arith, a, b))
+one_version content Two One a b = absurd (omega (arith, a, b))
+one_version content Two Two a b = refl
+
 -- What was read, claimed and attached is what the disk lists, and it lists nothing else.
-pub lists_all : (content metadata marks marks' : List ℕ) (signatures : List Signature) (indexes held : List (List Index)) (store : Store) → IsOpened content metadata marks
-    → IsListed metadata signatures indexes → ClaimsListed indexes marks marks' → AreTiles signatures indexes → store ≡ coverages_in content signatures indexes → held ≡ indexes
+pub lists_all : (v : Version) (content metadata marks marks' : List ℕ) (signatures : List Signature) (indexes held : List (List Index)) (store : Store) → HasVersion v content → IsOpened content metadata marks
+    → IsListed v metadata signatures indexes → ClaimsListed indexes marks marks' → AreTiles signatures indexes → store ≡ coverages_in content signatures indexes → held ≡ indexes
     → Lists content store held
-lists_all content metadata marks marks' signatures indexes held store o l claimed tiles is index = elim (some_bytes content) [
+lists_all v content metadata marks marks' signatures indexes held store told o l claimed tiles is index = elim (some_bytes content) [
   | inl e ↦
       let none = l.new_file (o.new_file e) in
       let no_store : store ≡ [] = is ∙ ap (λ (s : List Signature). coverages_in content s indexes) none.0 in
@@ -294,6 +294,8 @@ lists_all content metadata marks marks' signatures indexes held store o l claime
           laid_out = record {
             closed = closed;
             written = subst (λ (x : List (List Index)). IsMetadata metadata signatures x) (sym index) (l.read closed.chain.some);
+            version = λ w other. subst (λ (x : List (List Index)). IsOfVersion w signatures x) (sym index)
+                (subst (λ (u : Version). IsOfVersion u signatures indexes) (one_version content v w (told.told h) other) (l.of_version closed.chain.some));
             tiles = subst (λ (x : List (List Index)). AreTiles signatures x) (sym index) tiles;
             blocks = subst (λ (x : List (List Index)). (k : ℕ) → 0 < listed_all x k → IsTileBlock content (length metadata) x k) (sym index)
                 (claimed_blocks content (length metadata) marks claimed.blocks indexes (o.marked h) (block_count content metadata marks closed o.blocks) claimed.each claimed.claims.could);
@@ -303,7 +305,7 @@ lists_all content metadata marks marks' signatures indexes held store o l claime
         only = λ s i other. elim other [
           | inl same ↦ absurd (no_byte content same.0 h)
           | inr more ↦
-              let same = the_layout content metadata marks signatures more.signatures indexes i more.metadata o h l more.laid_out in
+              let same = the_layout v content metadata marks signatures more.signatures indexes i more.metadata told o h l more.laid_out in
               (is ∙ ap (λ (x : List Signature). coverages_in content x indexes) (sym same.0) ∙ ap (λ (x : List (List Index)). coverages_in content more.signatures x) (sym same.1) ∙ sym more.is, index ∙ sym same.1)
         ];
       }
@@ -319,9 +321,9 @@ one_free : 1 ≤ free_in [] []
 one_free = free_enough 1048575 1 (λ i. 1) (uses_in [] []) (λ i below. (omega arith, omega arith, omega (arith, listed_all-nil 1, lists_none 1))) (λ i j a b same. omega (arith, a, b))
 
 -- As many blocks stay free as the metadata takes.
-pub layout_room : (metadata marks marks' : List ℕ) (signatures : List Signature) (indexes : List (List Index)) → IsFresh marks → IsListed metadata signatures indexes → ClaimsListed indexes marks marks'
+pub layout_room : (v : Version) (metadata marks marks' : List ℕ) (signatures : List Signature) (indexes : List (List Index)) → IsFresh marks → IsListed v metadata signatures indexes → ClaimsListed indexes marks marks'
     → chain_blocks (length metadata) ≤ free_up_to 1048575 (uses_of marks') → reserve (length (catalogue_bytes signatures)) indexes ≤ free_in indexes []
-layout_room metadata marks marks' signatures indexes fresh l claimed enough =
+layout_room v metadata marks marks' signatures indexes fresh l claimed enough =
     let free = free_unlisted (uses_of marks') indexes [] (λ k. omega (arith, fresh_counts marks marks' indexes fresh claimed k, lists_none k)) in
     elim (some_bytes metadata) [
       | inl e ↦
@@ -399,7 +401,7 @@ damaged_none content d = (
   d.not_open,
   λ store indexes lists. elim lists [
     | inl none ↦ no_byte content none.0 (let w = d.store.whole in omega (arith, w))
-    | inr more ↦ d.not_closed more.metadata more.laid_out.closed
+    | inr more ↦ d.not_closed more.metadata (laid_short content more.metadata more.signatures indexes more.laid_out) more.laid_out.closed
   ],
 )
 
@@ -410,6 +412,34 @@ torn_none content = record {
   no_longer = omega arith;
   kept = λ i low high. refl;
 }
+
+-- why a disk is not opened whose header or chain is refused
+early_refused : (content : List ℕ) (fault : ChainFault) → IsRefused fault content → IsNoStore content (chain_fault fault)
+early_refused content chain.NoMemory r = tt
+early_refused content chain.DiskFault r = tt
+early_refused content chain.Damaged r = damaged_none content r
+early_refused content chain.NotAStore r = r
+early_refused content chain.NotClosed r = r
+
+-- a fault of the disk is told as one
+disk_fault : (fault : ChainFault) → chain_fault fault ≡ opening.DiskFault → fault ≡ chain.DiskFault
+disk_fault chain.NoMemory e = absurd cc
+disk_fault chain.DiskFault e = refl
+disk_fault chain.Damaged e = absurd cc
+disk_fault chain.NotAStore e = absurd cc
+disk_fault chain.NotClosed e = absurd cc
+
+-- what is left of such a disk is what it was
+pub not_opened : (fault : ChainFault) (told : OpenFault) (old left : DiskView) → told ≡ chain_fault fault → (IsTrue old.honest → IsRefused fault old.content) → left.content ≡ old.content → left.honest ≡ old.honest
+    → Tells (fault ≡ chain.DiskFault) old.failures left.failures → IsNotOpened told old left
+not_opened fault told old left is why content honest tells = rw is (record {
+  why = λ truly. early_refused old.content fault (why truly);
+  want = λ truly store held. want_of old.content (chain_fault fault) store (early_refused old.content fault (why truly)) held;
+  disk_fault = λ e. tells.told (disk_fault fault e);
+  others = λ ne. (content, tells.quiet (λ e. ne (ap chain_fault e)));
+  torn = λ truly. rw content (torn_none old.content);
+  honest = honest;
+})
 
 -- the coverages that are attached, the next one, and those that are left
 pub items_split : (all yielded rest later : List (Vec TileIndex Global)) (x : Vec TileIndex Global) → all ≡ yielded ++ rest → rest ≡ x ∷ later → items_of all ≡ items_of yielded ++ x.items ∷ items_of later
@@ -447,8 +477,8 @@ all_attached content signatures all yielded rest store held place a counted is n
     )
 
 -- what metadata lists is counted
-pub listed_counted : (metadata : List ℕ) (signatures : List Signature) (indexes : List (List Index)) → IsListed metadata signatures indexes → AreCounted signatures indexes
-listed_counted metadata signatures indexes l = elim (some_bytes metadata) [
+pub listed_counted : (v : Version) (metadata : List ℕ) (signatures : List Signature) (indexes : List (List Index)) → IsListed v metadata signatures indexes → AreCounted signatures indexes
+listed_counted v metadata signatures indexes l = elim (some_bytes metadata) [
   | inl e ↦
       let none = l.new_file e in
       subst (λ (s : List Signature). AreCounted s indexes) (sym none.0) (subst (λ (i : List (List Index)). AreCounted [] i) (sym none.1) tt)
@@ -470,11 +500,11 @@ attach_departs P device.NoRoom told f is = absurd is
 attach_departs P device.Damaged told f is = rw is (f refl)
 
 -- the coverages that were attached can be closed
-pub layout_ready : (metadata marks marks' : List ℕ) (content : List ℕ) (signatures : List Signature) (indexes : List (List Index)) (cells : RasterView BlockFileView)
-    → IsFresh marks → ClaimsLayout metadata signatures indexes marks marks' → cells.coverages ≡ coverages_in content signatures indexes → cells.indexes ≡ indexes
+pub layout_ready : (v : Version) (metadata marks marks' : List ℕ) (content : List ℕ) (signatures : List Signature) (indexes : List (List Index)) (cells : RasterView BlockFileView)
+    → IsFresh marks → ClaimsLayout v metadata signatures indexes marks marks' → cells.coverages ≡ coverages_in content signatures indexes → cells.indexes ≡ indexes
     → cells.snapshots ≡ [] → cells.blocks.marks ≡ marks' → IsReady signatures cells
-layout_ready metadata marks marks' content signatures indexes cells fresh laid values listed unheld same =
-    let long = counted_all signatures indexes (listed_counted metadata signatures indexes laid.listed) in
+layout_ready v metadata marks marks' content signatures indexes cells fresh laid values listed unheld same =
+    let long = counted_all signatures indexes (listed_counted v metadata signatures indexes laid.listed) in
     let claims = laid.claims in
     record {
       signatures = sym (ap signatures_of values ∙ signatures_same content signatures indexes long);

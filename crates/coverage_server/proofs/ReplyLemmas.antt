@@ -1,73 +1,54 @@
 -- The reply to a message is a step of the machine.
 use Rattle.std.proofs.Common.{◌≡◌, ℕ, Result, Ok, Err, refl, sym, ap, ◌∙◌, subst, inl, inr}
-use Rattle.std.specs.Prelude.{◌⊎◌}
+use Rattle.std.specs.Prelude.{◌⊎◌, IsTrue}
+use Rattle.catalogue.specs.Signatures.{IsCatalogue}
 use Rattle.disk_face.specs.Disk.{Rose}
 use Rattle.http_front.specs.declared.reply.Reply.{Reply}
 use Rattle.http_front.specs.declared.reply.Reply.TheVariants.{Refused}
-use Rattle.kvp_front.specs.Requests.{Asks, insert_coverage, update_coverage, delete_coverage, list_coverages, describe_coverage, process_coverages, submit_query, step_job, fetch_job, cancel_job, expand_template, process_template, number_of}
+use Rattle.kvp_front.specs.Requests.{Asks, number_of}
 use Rattle.kvp_front.specs.declared.request.RequestError.{RequestError}
 use Rattle.kvp_front.specs.declared.request.RequestError.TheVariants.{NoMemory}
 use Rattle.coverage_server.specs.Answered.{Steps}
-use Rattle.coverage_server.specs.Damage.{Spoils}
-use Rattle.coverage_server.specs.Machine.{May, State, MayWantRoom, ReadsTiles, Step, SpelledStep, may_tell}
-use Rattle.coverage_server.specs.Room.{LacksRoom}
-use Rattle.coverage_server.specs.Views.{ServerView, SessionView, IsSound}
-use Rattle.coverage_server.proofs.DamageLemmas.{none_spoiled}
-
--- a request that lacks room is one that may want it
-may_want : (a : Asks) (v : ServerView) → LacksRoom a v → MayWantRoom a
-may_want (insert_coverage name intervals fields) v x = tt
-may_want (update_coverage name field intervals cells) v x = tt
-may_want (delete_coverage name) v x = absurd x
-may_want list_coverages v x = absurd x
-may_want (describe_coverage name) v x = absurd x
-may_want (process_coverages query) v x = absurd x
-may_want (submit_query query) v x = absurd x
-may_want (step_job number units) v x = absurd x
-may_want (fetch_job number) v x = absurd x
-may_want (cancel_job number) v x = absurd x
-may_want (expand_template template) v x = absurd x
-may_want (process_template template) v x = absurd x
-
--- a request that damage is in the way of is one that reads tiles
-reads_tiles : (a : Asks) (v : ServerView) (s : State) → Spoils a v s → ReadsTiles a
-reads_tiles (insert_coverage name intervals fields) v s x = absurd x
-reads_tiles (update_coverage name field intervals cells) v s x = tt
-reads_tiles (delete_coverage name) v s x = absurd x
-reads_tiles list_coverages v s x = absurd x
-reads_tiles (describe_coverage name) v s x = absurd x
-reads_tiles (process_coverages query) v s x = tt
-reads_tiles (submit_query query) v s x = absurd x
-reads_tiles (step_job number units) v s x = tt
-reads_tiles (fetch_job number) v s x = absurd x
-reads_tiles (cancel_job number) v s x = absurd x
-reads_tiles (expand_template template) v s x = absurd x
-reads_tiles (process_template template) v s x = tt
+use Rattle.coverage_server.specs.Layouts.{Layout}
+use Rattle.coverage_server.specs.Represents.{Places}
+use Rattle.coverage_server.specs.Runs.{Placed, Step, SpelledStep}
+use Rattle.coverage_server.specs.Views.{ServerView, SessionView, signatures_of}
+use Rattle.coverage_server.proofs.NamedLemmas.{spoils_named}
 
 -- what a server may tell of a message, by what it was before and after
-abbrev pub may_answer : ServerView → ServerView → May
-may_answer old new = may_tell (Rose old.failures new.failures) (IsSound old → ⊥)
+abbrev pub may_answer : ServerView → ServerView → Type 0
+may_answer old new = Rose old.failures new.failures
 
-step_of : (a : Asks) (old new : SessionView) (s : State) (reply : Reply) (t : State) → Steps a old new s reply t → Step (may_answer old.coverages new.coverages) a s reply t
-step_of a old new s reply t (inl x) = inl x
-step_of a old new s reply t (inr (inl (inl x))) = inr (inl (inl x))
-step_of a old new s reply t (inr (inl (inr (inl x)))) = inr (inl (inr (inl x)))
-step_of a old new s reply t (inr (inl (inr (inr x)))) = inr (inl (inr (inr (may_want a old.coverages x.0, x.1))))
-step_of a old new s reply t (inr (inr x)) = inr (inr ((reads_tiles a old.coverages s x.0, λ sound. none_spoiled a old.coverages s sound x.0), x.1))
+module _ (old new : SessionView) (sure : IsTrue old.coverages.honest)
+    (catalogue : IsCatalogue (signatures_of old.coverages.store)) (p : Placed) (at : Places old p) where
+  step_of : (a : Asks) (reply : Reply) (q : Placed) → Steps a old new p reply q
+      → Step (may_answer old.coverages new.coverages) a p reply q
+  step_of a reply q (inl x) = inl x
+  step_of a reply q (inr (inl x)) = inr (inl x)
+  step_of a reply q (inr (inr x)) =
+      let laid : p.layout.held ≡ old.coverages.held = ap (λ (l : Layout). l.held) at.layout in
+      inr (inr (
+        spoils_named a old.coverages p at.state.store catalogue.distinct (at.intact sure) x.0 (at.held sure)
+            laid,
+        x.1,
+      ))
 
--- of what pairs spell
-pub spelled_step : (r : Result Asks RequestError) (a : Asks) (old new : SessionView) (s : State) (reply : Reply) (t : State) → r ≡ Ok a → Steps a old new s reply t
-    → SpelledStep (may_answer old.coverages new.coverages) r s reply t
-spelled_step r a old new s reply t is x =
-    subst (λ (q : Result Asks RequestError). SpelledStep (may_answer old.coverages new.coverages) q s reply t) (sym is) (step_of a old new s reply t x)
+  -- of what pairs spell
+  pub spelled_step : (r : Result Asks RequestError) (a : Asks) (reply : Reply) (q : Placed) → r ≡ Ok a
+      → Steps a old new p reply q → SpelledStep (may_answer old.coverages new.coverages) r p reply q
+  spelled_step r a reply q is x =
+      subst (λ (b : Result Asks RequestError). SpelledStep (may_answer old.coverages new.coverages) b p reply q)
+      (sym is)
+      (step_of a reply q x)
 
 -- want of memory may be told of anything
-out_of_memory : (may : May) (r : Result Asks RequestError) (s : State) → SpelledStep may r s (Refused 90) s
+out_of_memory : (may : Type 0) (r : Result Asks RequestError) (s : Placed) → SpelledStep may r s (Refused 90) s
 out_of_memory may (Ok a) s = inr (inl (inl (refl, refl)))
 out_of_memory may (Err e) s = inr (refl, refl)
 
 -- of what they spell badly
-pub spelled_badly : (may : May) (r : Result Asks RequestError) (e : RequestError) (code : ℕ) (s : State) → code ≡ number_of e → (r ≡ Err e) ⊎ (e ≡ NoMemory) → SpelledStep may r s (Refused code) s
+pub spelled_badly : (may : Type 0) (r : Result Asks RequestError) (e : RequestError) (code : ℕ) (s : Placed)
+    → code ≡ number_of e → (r ≡ Err e) ⊎ (e ≡ NoMemory) → SpelledStep may r s (Refused code) s
 spelled_badly may r e code s is (inl x) = subst (λ (q : Result Asks RequestError). SpelledStep may q s (Refused code) s) (sym x) (inl (ap Refused is, refl))
 spelled_badly may r e code s is (inr x) =
     let ninety : code ≡ 90 = is ∙ ap number_of x in subst (λ (n : ℕ). SpelledStep may r s (Refused n) s) (sym ninety) (out_of_memory may r s)

@@ -15,35 +15,39 @@ use Rattle.coverage_server.specs.declared.server.ConnEnd.TheVariants.{Finished, 
 use Rattle.disk_face.specs.Disk.{Rose}
 use Rattle.kvp_front.specs.Requests.{Asks, spelled}
 use Rattle.kvp_front.specs.declared.request.RequestError.{RequestError}
-use Rattle.coverage_server.specs.Machine.{May, State, SpelledStep, MessageStep, Run, may_tell}
+use Rattle.coverage_server.specs.Runs.{Placed, SpelledStep, MessageStep, Run}
 use Rattle.coverage_server.specs.Serves.{Ends, ServesConnection}
-use Rattle.coverage_server.specs.Views.{ServerView, IsSound}
 
 -- what may be told by the one may be told by the other
-abbrev pub Allows : May → May → Type 0
-Allows P Q = (P.fail → Q.fail) × ((asks : Asks) (s : State) → P.spoil asks s → Q.spoil asks s)
+abbrev pub Allows : Type 0 → Type 0 → Type 0
+Allows P Q = P → Q
 
 -- what the machine may tell where the disk may have failed holds where that is told of a longer time too
-spelled-later : {P Q : May} → Allows P Q → (r : Result Asks RequestError) (old : State) (reply : Reply) (new : State) → SpelledStep P r old reply new
+spelled-later : {P Q : Type 0} → Allows P Q → (r : Result Asks RequestError) (old : Placed) (reply : Reply)
+    (new : Placed)
+    → SpelledStep P r old reply new
     → SpelledStep Q r old reply new
 spelled-later f (Ok asks) old reply new (inl x) = inl x
 spelled-later f (Ok asks) old reply new (inr (inl (inl x))) = inr (inl (inl x))
-spelled-later f (Ok asks) old reply new (inr (inl (inr (inl x)))) = inr (inl (inr (inl (f.0 x.0, x.1))))
+spelled-later f (Ok asks) old reply new (inr (inl (inr (inl x)))) = inr (inl (inr (inl (f x.0, x.1))))
 spelled-later f (Ok asks) old reply new (inr (inl (inr (inr x)))) = inr (inl (inr (inr x)))
-spelled-later f (Ok asks) old reply new (inr (inr x)) = inr (inr (f.1 asks old x.0, x.1))
+spelled-later f (Ok asks) old reply new (inr (inr x)) = inr (inr x)
 spelled-later f (Err e) old reply new x = x
 
-pub step-later : {P Q : May} → Allows P Q → (old : State) (asked : Result (List ℕ) ℕ) (reply : Reply) (new : State) → MessageStep P old asked reply new
+pub step-later : {P Q : Type 0} → Allows P Q → (old : Placed) (asked : Result (List ℕ) ℕ) (reply : Reply) (new : Placed)
+    → MessageStep P old asked reply new
     → MessageStep Q old asked reply new
 step-later f old (Ok pairs) reply new x = spelled-later f (spelled pairs) old reply new x
 step-later f old (Err code) reply new x = x
 
-run-later : {P Q : May} → Allows P Q → (old : State) (items : List Item) (text : List ℕ) (new : State) → Run P old items text new → Run Q old items text new
+run-later : {P Q : Type 0} → Allows P Q → (old : Placed) (items : List Item) (text : List ℕ) (new : Placed)
+    → Run P old items text new → Run Q old items text new
 run-later f old [] text new x = x
 run-later f old (item ∷ items) text new x =
     (x.0, x.1, x.2, step-later f old item.asked x.1 x.0 x.3, x.4, run-later f x.0 items x.2 new x.5)
 
-pub connection-later : {P Q : May} → Allows P Q → (e : Ends) (old new : State) (end : ConnEnd) → ServesConnection P e old new end
+pub connection-later : {P Q : Type 0} → Allows P Q → (e : Ends) (old new : Placed) (end : ConnEnd)
+    → ServesConnection P e old new end
     → ServesConnection Q e old new end
 connection-later f e old new Finished x = (x.0, x.1, x.2, x.3, x.4, run-later f old x.2 x.4 new x.5, x.6)
 connection-later f e old new ReadFault x = (x.0, x.1, x.2, x.3, x.4, run-later f old x.2 x.4 new x.5, x.6)
@@ -90,15 +94,8 @@ rose-by old mid new later rose = omega (arith, rose)
 pub rose-since : (old mid new : ℕ) → old ≤ mid → Rose mid new → Rose old new
 rose-since old mid new later rose = omega (arith, rose)
 
--- what may be told until some time may be told until a later one, and since an earlier one, from which on sound tiles stay so
-pub may-by : (damaged : Type 0) (old mid new : ℕ) → mid ≤ new → Allows (may_tell (Rose old mid) damaged) (may_tell (Rose old new) damaged)
-may-by damaged old mid new later = (rose-by old mid new later, λ asks s x. x)
-
-pub may-since : (v w : ServerView) (old mid new : ℕ) → (IsSound v → IsSound w) → old ≤ mid
-    → Allows (may_tell (Rose mid new) (IsSound w → ⊥)) (may_tell (Rose old new) (IsSound v → ⊥))
-may-since v w old mid new keeps later = (rose-since old mid new later, λ asks s x. (x.0, λ sound. x.1 (keeps sound)))
-
-pub Run-push : (P : May) (items : List Item) (old mid new : State) (text : List ℕ) (item : Item) (reply : Reply) → Run P old items text mid
+pub Run-push : (P : Type 0) (items : List Item) (old mid new : Placed) (text : List ℕ) (item : Item) (reply : Reply)
+    → Run P old items text mid
     → MessageStep P mid item.asked reply new → Run P old (items ++ item ∷ []) (text ++ reply_bytes item.last item.bare reply) new
 Run-push P [] old mid new text item reply x s = (
   new,
@@ -118,7 +115,8 @@ Run-push P (first ∷ items) old mid new text item reply x s = (
 )
 
 -- What has come, the messages in it, and their replies, which went out.
-pub record Serving (may : May) (before now held holds : Option (List ℕ)) (old new : State) (buffer : List ℕ) (count : ℕ) : Type 0 where
+pub record Serving (may : Type 0) (before now held holds : Option (List ℕ)) (old new : Placed) (buffer : List ℕ)
+    (count : ℕ) : Type 0 where
   pub came : List ℕ
   pub took : Consumes before now came
   pub items : List Item
@@ -128,7 +126,7 @@ pub record Serving (may : May) (before now held holds : Option (List ℕ)) (old 
   pub sent : Appends held holds replies
   pub counted : count ≡ length items
 
-module _ {may : May} {before now held holds : Option (List ℕ)} {old new : State} {buffer : List ℕ} {count : ℕ}
+module _ {may : Type 0} {before now held holds : Option (List ℕ)} {old new : Placed} {buffer : List ℕ} {count : ℕ}
     (s : Serving may before now held holds old new buffer count) (later : Option (List ℕ)) (more : List ℕ) (took : Consumes now later more) where
   taken_all : Taken 0 ((s.came ++ more) ++ rest_of later) s.items ((buffer ++ more) ++ rest_of later)
   taken_all =
@@ -166,8 +164,10 @@ module _ {may : May} {before now held holds : Option (List ℕ)} {old new : Stat
         s.sent,
       )
 
-  module _ (left : List ℕ) (item : Item) (x : Fronts count (buffer ++ more) left later item) (newer : State) (reply : Reply)
-      (fails : May) (since : Allows may fails) (step : MessageStep fails new item.asked reply newer) (last bare : Bool) (is : last ≡ item.last) (shown : bare ≡ item.bare) (gone : Option (List ℕ)) where
+  module _ (left : List ℕ) (item : Item) (x : Fronts count (buffer ++ more) left later item) (newer : Placed)
+      (reply : Reply)
+      (fails : Type 0) (since : Allows may fails) (step : MessageStep fails new item.asked reply newer)
+      (last bare : Bool) (is : last ≡ item.last) (shown : bare ≡ item.bare) (gone : Option (List ℕ)) where
     ran : Run fails old s.items s.replies new
     ran = run-later since old s.items s.replies new s.run
 

@@ -1,6 +1,7 @@
 -- One connection more, and sessions one after the other.
-use Rattle.std.proofs.Common.{◌≡◌, ℕ, zero, suc, ◌+◌, ◌/◌, ◌<◌, ◌≤◌, Bool, List, [], ◌∷◌, ◌++◌, length, take, drop, slice_set, get_or, Option, Some, refl, sym, ap, ◌∙◌, subst, arith}
-use Rattle.std.specs.Prelude.{IsTrue}
+use Rattle.std.proofs.Common.{◌≡◌, ℕ, zero, suc, ◌+◌, ◌/◌, ◌<◌, ◌≤◌, Bool, List, [], ◌∷◌, ◌++◌, length, take, drop, slice_set, get_or, Option, Some, refl, sym, ap, ◌∙◌, subst, arith, inl, inr}
+use Rattle.std.specs.Prelude.{All, IsTrue}
+use Rattle.std.proofs.lemmas.List.Elements.{All-weaker}
 use Rattle.std.proofs.lemmas.List.{take_more, take_more_set, get_or-drop, drop-set-lt, drop-drop}
 use Rattle.arr_core.specs.Stores.{Store}
 use Rattle.block_file.specs.Format.{IsHeader, KeepsHeader}
@@ -8,25 +9,31 @@ use Rattle.block_file.specs.declared.header.State.TheVariants.{Open}
 use Rattle.disk_face.specs.Disk.{Rose}
 use Rattle.coverage_server.specs.declared.server.ConnEnd.{ConnEnd}
 use Rattle.coverage_server.specs.declared.closing.CloseFault.{CloseFault}
+use Rattle.coverage_server.specs.declared.closing.CloseFault.TheVariants as closing
+use Rattle.coverage_server.specs.Damage.{IsIntactIn, IsIntactNamed}
 use Rattle.coverage_server.specs.Disk.{ListsStore}
-use Rattle.coverage_server.specs.Machine.{May, State, begun, may_tell}
-use Rattle.raster_store.specs.Views.{Index, AreIntact}
-use Rattle.coverage_server.specs.Represents.{Represents}
+use Rattle.coverage_server.specs.Runs.{Placed, begun_with, jobless}
+use Rattle.raster_store.specs.Views.{Index, AreIntact, listed_snapshots}
+use Rattle.coverage_server.specs.Represents.{Places}
 use Rattle.coverage_server.specs.Serves.{Ends, ServesConnection, TellsEnd, ends_of}
-use Rattle.coverage_server.specs.Sessions.{DiskView, IsNotClosed, ServesAll, ServesUnclosed, Sessions, ServesSessions, ends_all, may_since}
-use Rattle.coverage_server.specs.Views.{ServerView, SessionView, IsSound}
-use Rattle.coverage_server.proofs.ServingLemmas.{Allows, connection-later}
-use Rattle.coverage_server.proofs.StandingLemmas.{represents-same}
+use Rattle.coverage_server.specs.Sessions.{DiskView, IsNotClosed, IsLeft, ServesAll, ServesUnclosed, Sessions, ServesSessions, ends_all}
+use Rattle.coverage_server.specs.Views.{ServerView, SessionView, IsSound, without_held, without_jobs}
+use Rattle.coverage_server.proofs.ServingLemmas.{Allows, connection-later, rose-by}
+use Rattle.coverage_server.proofs.HeldLemmas.{lists_none}
+use Rattle.coverage_server.proofs.LettingLemmas.{sound_unheld, places_jobless}
+use Rattle.coverage_server.proofs.PlacedLemmas.{places-same}
 
 -- what is told of a time is told of a longer one
-pub all-later : {P Q : May} → Allows P Q → (ends : List Ends) (old new : State) → ServesAll P ends old new → ServesAll Q ends old new
+pub all-later : {P Q : Type 0} → Allows P Q → (ends : List Ends) (old new : Placed) → ServesAll P ends old new
+    → ServesAll Q ends old new
 all-later f [] old new x = x
 all-later f (e ∷ ends) old new x = (x.0, x.1, x.2, connection-later f e old x.0 x.1 x.3, all-later f ends x.0 new x.4)
 
 -- connections and then others
-pub all-append : (P : May) (first second : List Ends) (old mid new : State) → ServesAll P first old mid → ServesAll P second mid new
+pub all-append : (P : Type 0) (first second : List Ends) (old mid new : Placed) → ServesAll P first old mid
+    → ServesAll P second mid new
     → ServesAll P (first ++ second) old new
-all-append P [] second old mid new x y = subst (λ (s : State). ServesAll P second s new) x y
+all-append P [] second old mid new x y = subst (λ (s : Placed). ServesAll P second s new) x y
 all-append P (e ∷ first) second old mid new x y = (x.0, x.1, x.2, x.3, all-append P first second x.0 mid new x.4 y)
 
 -- the count of failures rose in a longer time
@@ -37,45 +44,73 @@ sessions_rise : (sessions : List (List Ends)) (old new : DiskView) → Sessions 
 sessions_rise [] old new x = let e = ap (λ (v : DiskView). v.failures) x in omega (arith, e)
 sessions_rise (ends ∷ sessions) old new x = let e = sessions_rise sessions x.0 new x.4 in let m = x.3 in omega (arith, e, m)
 
-sessions-later : {P Q : May} → Allows P Q → (sessions : List (List Ends)) (old new : Store) → ServesSessions P sessions old new → ServesSessions Q sessions old new
-sessions-later f [] old new x = x
-sessions-later f (ends ∷ sessions) old new x = (x.0, all-later f ends (begun old) x.0 x.1, sessions-later f sessions x.0.store new x.2)
+sessions-later : {P Q : Type 0} → Allows P Q
+    → (sessions : List (List Ends)) (store : Store) (indexes : List (List Index))
+    (intact : List (List ℕ)) (last : Placed) → ServesSessions P sessions store indexes intact last
+    → ServesSessions Q sessions store indexes intact last
+sessions-later f [] store indexes intact last x = x
+sessions-later f (ends ∷ sessions) store indexes intact last x = (
+  x.0,
+  all-later f ends (begun_with store indexes intact) x.0 x.1,
+  sessions-later f sessions x.0.state.store x.0.layout.indexes x.0.intact last x.2,
+)
 
 -- all sessions of a list are what one machine does
 pub composed : (sessions : List (List Ends)) (old new : DiskView) → Sessions sessions old new → IsTrue old.honest
     → (store : Store) (indexes : List (List Index)) → ListsStore old.content store indexes
-    → (next : Store) × (later : List (List Index)) × ListsStore new.content next later × (AreIntact old.content store indexes → AreIntact new.content next later)
-    × ServesSessions (may_since old new.failures store indexes) sessions store next
-composed [] old new x honest store indexes lists = (
-  store,
-  indexes,
+    → (intact : List (List ℕ)) → All (IsIntactIn old.content store indexes) intact
+    → (last : Placed) × ListsStore new.content last.state.store last.layout.indexes
+    × All (IsIntactIn new.content last.state.store last.layout.indexes) last.intact
+    × (AreIntact old.content store indexes → AreIntact new.content last.state.store last.layout.indexes)
+    × ServesSessions (Rose old.failures new.failures) sessions store indexes intact last
+composed [] old new x honest store indexes lists intact whole = (
+  begun_with store indexes intact,
   subst (λ (v : DiskView). ListsStore v.content store indexes) (sym x) lists,
-  λ intact. subst (λ (v : DiskView). AreIntact v.content store indexes) (sym x) intact,
+  subst (λ (v : DiskView). All (IsIntactIn v.content store indexes) intact) (sym x) whole,
+  λ spelled. subst (λ (v : DiskView). AreIntact v.content store indexes) (sym x) spelled,
   refl,
 )
-composed (ends ∷ sessions) old new x honest store indexes lists =
+composed (ends ∷ sessions) old new x honest store indexes lists intact whole =
     let mid : DiskView = x.0 in
-    let first = x.1 honest store indexes lists in
-    let kept : AreIntact old.content store indexes → AreIntact mid.content first.0.store first.1 = first.3 in
-    let later = composed sessions mid new x.4 (subst IsTrue (sym x.2) honest) first.0.store first.1 first.2 in
+    let first = x.1 honest store indexes lists intact whole in
+    let then_store = first.0.state.store in
+    let then_indexes = first.0.layout.indexes in
+    let kept : AreIntact old.content store indexes → AreIntact mid.content then_store then_indexes = first.3 in
+    let later = composed sessions mid new x.4 (subst IsTrue (sym x.2) honest) then_store then_indexes first.1
+    first.0.intact first.2 in
     let more = sessions_rise sessions mid new x.4 in
-    let here : Allows (may_since old mid.failures store indexes) (may_since old new.failures store indexes) =
-    (rose-within old.failures old.failures mid.failures new.failures (omega arith) more, λ asks s y. y) in
-    let there : Allows (may_since mid new.failures first.0.store first.1) (may_since old new.failures store indexes) =
-    (rose-within old.failures mid.failures new.failures new.failures x.3 (omega arith), λ asks s y. (y.0, λ intact. y.1 (kept intact))) in (
+    let here : Allows (Rose old.failures mid.failures) (Rose old.failures new.failures) =
+    rose-within old.failures old.failures mid.failures new.failures (omega arith) more in
+    let there : Allows (Rose mid.failures new.failures) (Rose old.failures new.failures) =
+    rose-within old.failures mid.failures new.failures new.failures x.3 (omega arith) in (
       later.0,
       later.1,
       later.2,
-      λ intact. later.3 (kept intact),
-      (first.0, all-later here ends (begun store) first.0 first.4, sessions-later there sessions first.0.store later.0 later.4),
+      λ spelled. later.3 (kept spelled),
+      (
+        first.0,
+        all-later here ends (begun_with store indexes intact) first.0 first.4,
+        sessions-later there sessions then_store then_indexes first.0.intact later.0 later.4,
+      ),
     )
 
--- a server without jobs represents the state in which a session begins
-pub begins : (v : SessionView) → v.desk ≡ record { jobs = []; next = Some 1 } → (store : Store) → v.coverages.store ≡ store → Represents v (begun store)
-begins v none store is = record {
-  store = sym is;
-  jobs = rw none tt;
-  next = rw none refl;
+-- a server without jobs, for which nothing is held, has the state and the layout with which a session begins
+pub begins : (v : SessionView) → v.desk ≡ record { jobs = []; next = Some 1 } → v.coverages.held ≡ []
+    → (store : Store) (indexes : List (List Index)) → v.coverages.store ≡ store → v.coverages.indexes ≡ indexes
+    → (content : List ℕ) → ((name : List ℕ) → IsIntactIn content v.coverages.store v.coverages.indexes name
+    → IsIntactNamed v.coverages name) → (intact : List (List ℕ)) → All (IsIntactIn content store indexes) intact
+    → Places v (begun_with store indexes intact)
+begins v none unheld store indexes is alike content spelled intact whole = record {
+  state = record { store = sym is; jobs = rw none tt; next = rw none refl };
+  layout = rw (unheld, alike) refl;
+  intact = λ sure.
+      All-weaker (IsIntactIn content store indexes) (IsIntactNamed v.coverages)
+      (λ name own. spelled name
+      (subst (λ (s : Store). IsIntactIn content s v.coverages.indexes name) (sym is)
+      (subst (λ (l : List (List Index)). IsIntactIn content store l name) (sym alike) own))) intact whole;
+  held = λ sure. rw unheld tt;
+  blocks = λ sure k more. absurd (let lists : listed_snapshots v.coverages.held k ≡ 0 = rw unheld (lists_none k) in
+      omega (arith, lists, more));
 }
 
 -- where each tile that the disk lists is spelled, what was opened is sound
@@ -88,37 +123,94 @@ sound_from content v store indexes same alike sound intact =
 pub unclosed : (fault : CloseFault) (ends : List Ends) (disk : DiskView) (opened served left : SessionView)
     → (IsTrue disk.honest → (store : Store) (indexes : List (List Index)) → ListsStore disk.content store indexes → (opened.coverages.store ≡ store) × (opened.coverages.indexes ≡ indexes))
     → (IsTrue disk.honest → AreIntact disk.content opened.coverages.store opened.coverages.indexes → IsSound opened.coverages)
-    → opened.desk ≡ record { jobs = []; next = Some 1 }
+    → (IsTrue disk.honest → (name : List ℕ) → IsIntactIn disk.content opened.coverages.store opened.coverages.indexes
+    name
+    → IsIntactNamed opened.coverages name)
+    → opened.desk ≡ record { jobs = []; next = Some 1 } → opened.coverages.held ≡ []
     → (IsTrue disk.honest → IsHeader opened.coverages.content Open (length opened.coverages.content / 4096) 0 0) → opened.coverages.honest ≡ disk.honest
     → opened.coverages.failures ≡ disk.failures
-    → (IsTrue opened.coverages.honest → (s : State) → Represents opened s
-    → (t : State) × Represents served t × ServesAll (may_tell (Rose opened.coverages.failures served.coverages.failures) (IsSound opened.coverages → ⊥)) ends s t)
+    → (IsTrue opened.coverages.honest → (s : Placed) → Places opened s
+    → (t : Placed) × Places served t
+    × ServesAll (Rose opened.coverages.failures served.coverages.failures)
+    ends s t)
     → (IsSound opened.coverages → IsSound served.coverages)
     → KeepsHeader opened.coverages.content served.coverages.content → served.coverages.honest ≡ opened.coverages.honest
     → opened.coverages.failures ≤ served.coverages.failures
     → IsNotClosed fault served.coverages left.coverages → left.desk ≡ served.desk → ServesUnclosed fault ends disk left
-unclosed fault ends disk opened served left opens sounds desk header honest count serves stays_sound keeps still more refused same_desk = record {
-  served = λ truly store indexes lists.
-      let found = opens truly store indexes lists in
-      let sure : IsTrue opened.coverages.honest = subst IsTrue (sym honest) truly in
-      let kept : IsTrue served.coverages.honest = subst IsTrue (sym still) sure in
-      let sound = sound_from disk.content opened.coverages store indexes found.0 found.1 (sounds truly) in
-      let run = serves sure (begun store) (begins opened desk store found.0) in
-      let allows : Allows (may_tell (Rose opened.coverages.failures served.coverages.failures) (IsSound opened.coverages → ⊥)) (may_since disk left.coverages.failures store indexes) = (
-        rose-within disk.failures opened.coverages.failures served.coverages.failures left.coverages.failures (omega (arith, count)) refused.no_fewer,
-        λ asks s x. (x.0, λ intact. x.1 (sound intact)),
-      ) in (
-        λ intact. refused.sound (stays_sound (sound intact)),
-        run.0,
-        represents-same served left (refused.unchanged.store kept) (refused.unchanged.held.values kept) same_desk run.0 run.1,
-        all-later allows ends (begun store) run.0 run.2,
-      );
-  disk_fault = λ e. let rose : Rose served.coverages.failures left.coverages.failures = refused.disk_fault e in omega (arith, rose, count, more);
-  no_memory = λ e truly.
-      (length opened.coverages.content / 4096, (refused.no_memory e).0 Open (length opened.coverages.content / 4096) 0 0 (keeps Open (length opened.coverages.content / 4096) 0 0 (header truly)));
-  honest = refused.honest ∙ still ∙ honest;
-  no_fewer = let fewer : served.coverages.failures ≤ left.coverages.failures = refused.no_fewer in omega (arith, count, more, fewer);
-}
+unclosed fault ends disk opened served left opens sounds spells desk unheld header honest count serves stays_sound keeps
+    still more refused same_desk =
+    let rises : disk.failures ≤ opened.coverages.failures = omega (arith, count) in
+    record {
+      served = λ truly store indexes lists intact whole.
+          let found = opens truly store indexes lists in
+          let sure : IsTrue opened.coverages.honest = subst IsTrue (sym honest) truly in
+          let kept : IsTrue served.coverages.honest = subst IsTrue (sym still) sure in
+          let sound = sound_from disk.content opened.coverages store indexes found.0 found.1 (sounds truly) in
+          let began = begins opened desk unheld store indexes found.0 found.1 disk.content (spells truly) intact
+          whole in
+          let run = serves sure (begun_with store indexes intact) began in
+          let allows : Allows (Rose opened.coverages.failures served.coverages.failures)
+          (Rose disk.failures left.coverages.failures) =
+          rose-within disk.failures opened.coverages.failures served.coverages.failures left.coverages.failures rises
+          refused.no_fewer in (
+            λ spelled. refused.sound (stays_sound (sound spelled)),
+            run.0,
+            inl (places-same served left kept refused.unchanged (refused.spelled kept) same_desk run.0 run.1),
+            all-later allows ends (begun_with store indexes intact) run.0 run.2,
+          );
+      disk_fault = λ e.
+          let rose : Rose served.coverages.failures left.coverages.failures = refused.disk_fault e in
+          omega (arith, rose, count, more);
+      no_memory = λ e truly.
+          let blocks = length opened.coverages.content / 4096 in
+          (blocks, (refused.no_memory e).0 Open blocks 0 0 (keeps Open blocks 0 0 (header truly)));
+      honest = refused.honest ∙ still ∙ honest;
+      no_fewer =
+          let fewer : served.coverages.failures ≤ left.coverages.failures = refused.no_fewer in
+          omega (arith, count, more, fewer);
+    }
+
+-- a server whose second close was refused, after its jobs were let go
+pub unclosed_again : (fault : CloseFault) (ends : List Ends) (disk : DiskView) (mid left : SessionView)
+    → ServesUnclosed closing.NoMemory ends disk mid → IsNotClosed fault (without_held mid.coverages) left.coverages
+    → left.desk ≡ (without_jobs mid).desk → ServesUnclosed fault ends disk left
+unclosed_again fault ends disk mid left before refused jobs =
+    let more : mid.coverages.failures ≤ left.coverages.failures = refused.no_fewer in
+    let fewer : disk.failures ≤ mid.coverages.failures = before.no_fewer in
+    record {
+      served = λ truly store indexes lists intact whole.
+          let was = before.served truly store indexes lists intact whole in
+          let sure : IsTrue mid.coverages.honest = subst IsTrue (sym before.honest) truly in
+          let here : Places (without_jobs mid) (jobless was.1) = elim was.2 [
+            | inl with_jobs ↦ places_jobless mid was.1 with_jobs
+            | inr without ↦ places_jobless mid (jobless was.1) without
+          ] in (
+            λ spelled. refused.sound (sound_unheld mid.coverages (was.0 spelled)),
+            was.1,
+            inr (places-same (without_jobs mid) left sure refused.unchanged (refused.spelled sure) jobs (jobless was.1) here),
+            all-later (rose-by disk.failures mid.coverages.failures left.coverages.failures more) ends
+                (begun_with store indexes intact) was.1 was.3,
+          );
+      disk_fault = λ e.
+          let rose : Rose mid.coverages.failures left.coverages.failures = refused.disk_fault e in
+          omega (arith, rose, fewer);
+      no_memory = λ e truly.
+          let was = before.no_memory refl truly in
+          (was.0, (refused.no_memory e).0 Open was.0 0 0 was.1);
+      honest = refused.honest ∙ before.honest;
+      no_fewer = omega (arith, more, fewer);
+    }
+
+-- a server that was left where a close is made once more
+pub unclosed_left : (fault : CloseFault) (ends : List Ends) (disk : DiskView) (served left : SessionView)
+    → ((first : CloseFault) (mid : SessionView) → IsNotClosed first served.coverages mid.coverages
+    → mid.desk ≡ served.desk → ServesUnclosed first ends disk mid)
+    → IsLeft fault served left → ServesUnclosed fault ends disk left
+unclosed_left fault ends disk served left once is = elim is [
+  | inl first ↦ once fault left first.1 first.2
+  | inr twice ↦ unclosed_again fault ends disk twice.mid left
+      (once closing.NoMemory twice.mid twice.first twice.desk) twice.second twice.jobs
+]
 
 module _ {R W : Type 0} where
   pub rest_kept : (xs ys : List (R × W)) (i : ℕ) (y : R × W) → drop i ys ≡ drop i xs → drop (i + 1) (slice_set ys i y) ≡ drop (i + 1) xs
@@ -159,18 +251,24 @@ module _ {R W : Type 0} where
         take_long (suc i) (a ∷ first) (b ∷ second) e = ap suc (take_long i first second (omega (arith, e)))
 
     -- one connection more is served
-    pub served-more : (xs ys : List (R × W)) (i : ℕ) (d y : R × W) (v w : ServerView) (begin now end : ℕ) (old mid new : State) (conn : ConnEnd) → (IsSound v → IsSound w)
+    pub served-more : (xs ys : List (R × W)) (i : ℕ) (d y : R × W) (begin now end : ℕ)
+        (old mid new : Placed) (conn : ConnEnd)
         → length ys ≡ length xs → i < length xs → drop i ys ≡ drop i xs → begin ≤ now → now ≤ end
-        → ServesAll (may_tell (Rose begin now) (IsSound v → ⊥)) (ends_all remaining read_failed contents write_failed (take i xs) (take i ys)) old mid
+        → ServesAll (Rose begin now) (ends_all remaining read_failed contents write_failed (take i xs) (take i ys)) old
+        mid
         → TellsEnd (ends_of remaining read_failed contents write_failed (get_or ys i d).0 y.0 (get_or ys i d).1 y.1) conn
-        → ServesConnection (may_tell (Rose now end) (IsSound w → ⊥)) (ends_of remaining read_failed contents write_failed (get_or ys i d).0 y.0 (get_or ys i d).1 y.1) mid new conn
-        → ServesAll (may_tell (Rose begin end) (IsSound v → ⊥)) (ends_all remaining read_failed contents write_failed (take (i + 1) xs) (take (i + 1) (slice_set ys i y))) old new
-    served-more xs ys i d y v w begin now end old mid new conn keeps long inside e up rest x told c =
-        let first : Allows (may_tell (Rose begin now) (IsSound v → ⊥)) (may_tell (Rose begin end) (IsSound v → ⊥)) = (rose-within begin begin now end (omega arith) rest, λ asks s z. z) in
-        let then_on : Allows (may_tell (Rose now end) (IsSound w → ⊥)) (may_tell (Rose begin end) (IsSound v → ⊥)) =
-        (rose-within begin now end end up (omega arith), λ asks s z. (z.0, λ sound. z.1 (keeps sound))) in
-        subst (λ (ends : List Ends). ServesAll (may_tell (Rose begin end) (IsSound v → ⊥)) ends old new) (sym (ends-more xs ys i d y long inside e))
-        (all-append (may_tell (Rose begin end) (IsSound v → ⊥)) (ends_all remaining read_failed contents write_failed (take i xs) (take i ys))
+        → ServesConnection (Rose now end)
+        (ends_of remaining read_failed contents write_failed (get_or ys i d).0 y.0 (get_or ys i d).1 y.1) mid new conn
+        → ServesAll (Rose begin end) (ends_all remaining read_failed contents write_failed (take (i + 1) xs)
+        (take (i + 1) (slice_set ys i y))) old new
+    served-more xs ys i d y begin now end old mid new conn long inside e up rest x told c =
+        let first : Allows (Rose begin now) (Rose begin end) =
+        rose-within begin begin now end (omega arith) rest in
+        let then_on : Allows (Rose now end) (Rose begin end) =
+        rose-within begin now end end up (omega arith) in
+        subst (λ (ends : List Ends). ServesAll (Rose begin end) ends old new)
+        (sym (ends-more xs ys i d y long inside e))
+        (all-append (Rose begin end) (ends_all remaining read_failed contents write_failed (take i xs) (take i ys))
         (ends_of remaining read_failed contents write_failed (get_or ys i d).0 y.0 (get_or ys i d).1 y.1 ∷ []) old mid new
         (all-later first (ends_all remaining read_failed contents write_failed (take i xs) (take i ys)) old mid x) (
           new,

@@ -1,12 +1,11 @@
 -- When a server represents a state still, and when it represents the next one.
-use Rattle.std.proofs.Common.{◌≡◌, ℕ, zero, suc, ◌<◌, ◌≤◌, ℤ, List, [], ◌∷◌, ◌++◌, length, map, get_or, Option, None, Some, Result, Ok, Err, inl, inr, refl, sym, ap, ◌∙◌, subst, arith}
+use Rattle.std.proofs.Common.{◌≡◌, ℕ, ◌<◌, ◌≤◌, List, length, get_or, Option, None, Some, Result, Ok, Err, inl, inr, refl, sym, ap, ◌∙◌, subst}
 use Rattle.std.specs.Prelude.{◌⊎◌, All, IsSomeAnd, IsTrue, slice_get, option_and_then, OnErr}
 use Rattle.std.proofs.lemmas.Option.{slice_get_cases}
 use mathlib.Core.Path.{fun_ext}
 use Rattle.arr_core.specs.declared.signature.Signature.{Signature}
 use Rattle.arr_core.specs.Stores.{Coverage, Store, found}
 use Rattle.raster_store.specs.Calls.{signature_of}
-use Rattle.raster_store.specs.Views.{SnapshotView}
 use Rattle.job_desk.specs.Desks.{DeskView}
 use Rattle.coverage_server.specs.Asking.{cells_of, number_in}
 use Rattle.http_front.specs.declared.reply.Reply.{Reply}

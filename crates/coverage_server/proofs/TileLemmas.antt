@@ -1,5 +1,5 @@
 -- The numbers of a tile are the cells that are read there, and the coverages that are read are those at their places.
-use Rattle.std.proofs.Common.{◌≡◌, ℕ, zero, suc, ◌<◌, ◌≤◌, nat_eq, cond, ◌++◌, Bool, true, false, ◌&&◌, nat_lt, ℤ, ◌≤ℤ◌, T, List, [], ◌∷◌, length, map, get_or, Option, None, Some, Err, refl, sym, ap, ◌∙◌, subst, arith}
+use Rattle.std.proofs.Common.{◌≡◌, ℕ, zero, suc, ◌<◌, nat_eq, cond, ◌++◌, Bool, true, false, ◌&&◌, nat_lt, ℤ, ◌≤ℤ◌, T, List, [], ◌∷◌, length, map, get_or, Option, None, Some, Err, refl, sym, ap, ◌∙◌, subst, arith}
 use Rattle.std.specs.Prelude.{All, IfSome, IfNone, IsErrOf, IsSomeAnd, IsTrue, int_le, slice_get, slice_index_or, option_and_then}
 use Rattle.std.proofs.lemmas.Bool.{lt-ltb, eqb-true}
 use Rattle.std.proofs.lemmas.List.{map-append}
@@ -12,7 +12,6 @@ use Rattle.arr_core.specs.Domains.{points, is_inside, IsInside, IsDomain, count,
 use Rattle.arr_core.specs.Stores.{Coverage, Store, found, value_at}
 use Rattle.arr_core.specs.Tiles.{tile_boxes}
 use Rattle.arr_core.proofs.Points.{at_place, length-points, point-inside}
-use Rattle.block_file.specs.State.{BlocksState}
 use Rattle.block_file.specs.View.{BlockFileView, state_of}
 use Rattle.tile_columns.specs.Sources.{HasTile as AskedTile, box_of}
 use Rattle.tile_store.specs.Stored.{tile_box, IsTileSpelled, IsSpelled}
@@ -22,7 +21,7 @@ use Rattle.raster_store.specs.Calls.{signature_of}
 use Rattle.raster_store.specs.Fetches.{HasTile, AreTileCells, HasTileCount, IsSpelledAt, IsPlaceOf, IsFetched, IsDamagedAt}
 use Rattle.raster_store.specs.Snapshots.{held_for, held_view, as_held}
 use Rattle.raster_store.specs.Views.{Index, RasterView, SnapshotView, AreIntact, FieldsIntact}
-use Rattle.coverage_server.specs.Asking.{cells_of, number_in, listed_in}
+use Rattle.coverage_server.specs.Asking.{number_in, listed_in}
 use Rattle.tile_store.specs.declared.fault.Fault.{Fault}
 use Rattle.tile_store.specs.declared.fault.Fault.TheVariants as device
 use Rattle.tile_store.specs.Faults.{Refuses}

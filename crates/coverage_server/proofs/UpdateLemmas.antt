@@ -1,5 +1,5 @@
 -- What an update answers.
-use Rattle.std.proofs.Common.{◌≡◌, ℕ, ◌<◌, Bool, true, false, List, length, Some, Ok, Err, refl, sym, subst, inl, inr}
+use Rattle.std.proofs.Common.{◌≡◌, ℕ, ◌<◌, List, length, Some, Ok, Err, refl, sym, subst, inl, inr}
 use Rattle.std.specs.Prelude.{IsSomeAnd, IsTrue, IsErrOf, String, string_bytes, codes, ◌⊎◌, slice_get}
 use Rattle.std.specs.declared.alloc.Global.{Global}
 use Rattle.arr_core.specs.declared.field.Field.{Field}
@@ -14,6 +14,7 @@ use Rattle.coverage_server.specs.declared.arguments.Refusal.{Refusal}
 use Rattle.coverage_server.specs.declared.arguments.Refusal.TheVariants.{Numbered, NoMemory, DiskFault, NoRoom, Damaged}
 use Rattle.coverage_server.specs.Answered.{Answered}
 use Rattle.coverage_server.specs.Damage.{SpoilsWrite, SpoilsUpdate}
+use Rattle.coverage_server.specs.Layouts.{LaysBox, LaysUpdate, layout_of}
 use Rattle.coverage_server.specs.Machine.{SpellDomain, axes_of, Updates}
 use Rattle.coverage_server.specs.Room.{LacksRoomToWrite, LacksRoomToUpdate, numbers_of}
 use Rattle.coverage_server.specs.Views.{ServerView, IsUnchanged}
@@ -30,17 +31,26 @@ module _ (v : ServerView) (name field : List ℕ) (intervals : List Interval) (c
 
   -- intervals that spell no domain
   pub area_refused : (e : Refusal) (shown : List Interval) → shown ≡ intervals → ((e ≡ Numbered 24) × (¬ (SpellDomain shown))) ⊎ (e ≡ NoMemory)
-      → Answered (Updates name field intervals cells) (LacksRoomToUpdate name field intervals cells v) (SpoilsUpdate name field intervals v) v v (Err e)
+      → Answered (Updates name field intervals cells)
+      (LacksRoomToUpdate name field intervals cells v.store (layout_of v)) (SpoilsUpdate name field intervals v) v v
+      (Err e)
   area_refused e shown same (inl x) =
-      subst (λ (d : Refusal). Answered (Updates name field intervals cells) (LacksRoomToUpdate name field intervals cells v) (SpoilsUpdate name field intervals v) v v (Err d)) (sym x.0)
+      subst (λ (d : Refusal). Answered (Updates name field intervals cells)
+      (LacksRoomToUpdate name field intervals cells v.store (layout_of v)) (SpoilsUpdate name field intervals v) v v
+      (Err d)) (sym x.0)
       (λ sure. no_box name field intervals cells v.store c at k there.0 place there.1 (λ w. x.1 (subst SpellDomain (sym same) w.0)))
   area_refused e shown same (inr out) =
-      subst (λ (d : Refusal). Answered (Updates name field intervals cells) (LacksRoomToUpdate name field intervals cells v) (SpoilsUpdate name field intervals v) v v (Err d)) (sym out) tt
+      subst (λ (d : Refusal). Answered (Updates name field intervals cells)
+      (LacksRoomToUpdate name field intervals cells v.store (layout_of v)) (SpoilsUpdate name field intervals v) v v
+      (Err d)) (sym out) tt
 
-  pub lacks_room : LacksRoomToWrite name k (axes_of intervals) cells v → LacksRoomToUpdate name field intervals cells v
+  pub lacks_room : LacksRoomToWrite name k (axes_of intervals) cells v.store (layout_of v)
+      → LacksRoomToUpdate name field intervals cells v.store (layout_of v)
   lacks_room x =
-      subst (λ o. IsSomeAnd o (λ (d : Coverage). IsSomeAnd (field_place field d.fields) (λ j. LacksRoomToWrite name j (axes_of intervals) cells v))) (sym at)
-      (subst (λ o. IsSomeAnd o (λ j. LacksRoomToWrite name j (axes_of intervals) cells v)) (sym place) x)
+      subst (λ o. IsSomeAnd o (λ (d : Coverage). IsSomeAnd (field_place field d.fields)
+      (λ j. LacksRoomToWrite name j (axes_of intervals) cells v.store (layout_of v)))) (sym at)
+      (subst (λ o. IsSomeAnd o (λ j. LacksRoomToWrite name j (axes_of intervals) cells v.store (layout_of v)))
+      (sym place) x)
 
   pub spoils : SpoilsWrite name k (axes_of intervals) v → SpoilsUpdate name field intervals v
   spoils x =
@@ -49,7 +59,9 @@ module _ (v : ServerView) (name field : List ℕ) (intervals : List Interval) (c
 
   module _ (w : ServerView) (spelled : SpellDomain intervals) where
     pub answered : {X : Type 0} (e : Refusal) → WriteRefused name k (axes_of intervals) cells v e → (IsErrOf {T = X} (Err e) DiskFault → Rose v.failures w.failures) → IsUnchanged v w
-        → Answered (Updates name field intervals cells) (LacksRoomToUpdate name field intervals cells v) (SpoilsUpdate name field intervals v) v w (Err e)
+        → Answered (Updates name field intervals cells)
+        (LacksRoomToUpdate name field intervals cells v.store (layout_of v)) (SpoilsUpdate name field intervals v) v w
+        (Err e)
     answered (Numbered code) x rose same =
         λ sure. subst (λ (s : Store). Updates name field intervals cells v.store (Refused code) s) (sym (same.store sure))
         (refused_write name field intervals cells v.store c at k there.0 place there.1 spelled code (said_of (found name v.store) c _ at x))
@@ -60,17 +72,32 @@ module _ (v : ServerView) (name field : List ℕ) (intervals : List Interval) (c
 
     pub done : (text : String Global) → string_bytes text ≡ codes "ok\n" → MayWrite name k (axes_of intervals) cells v.store
         → (IsTrue v.honest → w.store ≡ updated name k (axes_of intervals) (numbers_of (axes_of intervals) cells) v.store)
-        → Answered (Updates name field intervals cells) (LacksRoomToUpdate name field intervals cells v) (SpoilsUpdate name field intervals v) v w (Ok (Text text))
+        → Answered (Updates name field intervals cells)
+        (LacksRoomToUpdate name field intervals cells v.store (layout_of v)) (SpoilsUpdate name field intervals v) v w
+        (Ok (Text text))
     done text ok may new = λ sure. done_write name field intervals cells v.store c at k there.0 place there.1 spelled may text w.store ok (new sure)
 
 pub write_answered : {X : Type 0} (v w : ServerView) (name field : List ℕ) (intervals : List Interval) (cells : Cells) (c : Coverage) → found name v.store ≡ Some c → (k : ℕ)
     → field_place field c.fields ≡ Some k → SpellDomain intervals → (e : Refusal) → WriteRefused name k (axes_of intervals) cells v e
     → (IsErrOf {T = X} (Err e) DiskFault → Rose v.failures w.failures) → IsUnchanged v w
-    → Answered (Updates name field intervals cells) (LacksRoomToUpdate name field intervals cells v) (SpoilsUpdate name field intervals v) v w (Err e)
+    → Answered (Updates name field intervals cells) (LacksRoomToUpdate name field intervals cells v.store (layout_of v))
+    (SpoilsUpdate name field intervals v) v w (Err e)
 write_answered v w name field intervals cells c at k place spelled e x rose same = answered v name field intervals cells c at k place w spelled e x rose same
 
 pub write_done : (v w : ServerView) (name field : List ℕ) (intervals : List Interval) (cells : Cells) (c : Coverage) → found name v.store ≡ Some c → (k : ℕ)
     → field_place field c.fields ≡ Some k → SpellDomain intervals → (text : String Global) → string_bytes text ≡ codes "ok\n"
     → MayWrite name k (axes_of intervals) cells v.store → (IsTrue v.honest → w.store ≡ updated name k (axes_of intervals) (numbers_of (axes_of intervals) cells) v.store)
-    → Answered (Updates name field intervals cells) (LacksRoomToUpdate name field intervals cells v) (SpoilsUpdate name field intervals v) v w (Ok (Text text))
+    → Answered (Updates name field intervals cells) (LacksRoomToUpdate name field intervals cells v.store (layout_of v))
+    (SpoilsUpdate name field intervals v) v w (Ok (Text text))
 write_done v w name field intervals cells c at k place spelled text ok may new = done v name field intervals cells c at k place w spelled text ok may new
+
+-- where the tiles lie after it
+pub lays_update : (v w : ServerView) (name field : List ℕ) (intervals : List Interval) (c : Coverage)
+    → found name v.store ≡ Some c → (k : ℕ) → field_place field c.fields ≡ Some k
+    → LaysBox name k (axes_of intervals) v.store w.store (layout_of v) (layout_of w)
+    → LaysUpdate name field intervals v.store w.store (layout_of v) (layout_of w)
+lays_update v w name field intervals c at k place x =
+    subst (λ o. IsSomeAnd o (λ (d : Coverage). IsSomeAnd (field_place field d.fields)
+    (λ j. LaysBox name j (axes_of intervals) v.store w.store (layout_of v) (layout_of w)))) (sym at)
+    (subst (λ o. IsSomeAnd o (λ j. LaysBox name j (axes_of intervals) v.store w.store (layout_of v) (layout_of w)))
+    (sym place) x)

@@ -18,7 +18,6 @@ use Rattle.wcps_types.specs.Typed.{TypedTree}
 use Rattle.coverage_server.specs.Asking.{QueryAnswer, cells_of, items_answer, evaluated}
 use Rattle.coverage_server.specs.Stages.{GivesValues, FailsReading, IsPlanOf, cell_refusal}
 use Rattle.coverage_server.specs.Tiles.{AreRead, ReadsSpelled, store_for}
-use Rattle.coverage_server.specs.Damage.{AreSpelled}
 use Rattle.coverage_server.specs.Views.{ServerView, still_of}
 use Rattle.raster_store.specs.Snapshots.{held_for}
 use Rattle.coverage_server.proofs.TileLemmas.{reads_store, store_spelled}

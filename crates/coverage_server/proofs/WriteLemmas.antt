@@ -1,6 +1,6 @@
 -- What a write answers.
 use Rattle.std.proofs.Common.{◌≡◌, ℕ, zero, suc, ◌+◌, ◌*◌, ◌<◌, List, [], ◌∷◌, ◌++◌, length, Option, None, Some, Result, Ok, Err, OnOk, OnErr, refl, sym, ap, ◌∙◌, subst, arith, inl, inr, Contains, is_some, false}
-use Rattle.std.specs.Prelude.{ℤ, All, IsErrOf, IsSomeAnd, map, replicate, slice_get, option_copied, option_map}
+use Rattle.std.specs.Prelude.{All, IsErrOf, IsSomeAnd, replicate, slice_get, option_copied, option_map}
 use Rattle.std.specs.Borrow.{Bor}
 use Rattle.std.proofs.lemmas.List.{length-replicate}
 use Rattle.std.proofs.lemmas.Option.{slice_get_cases}
@@ -9,7 +9,7 @@ use Rattle.arr_core.specs.declared.cell.Cell.{Cell}
 use Rattle.arr_core.specs.declared.domain.Axis.{Axis}
 use Rattle.arr_core.specs.declared.field.Field.{Field}
 use Rattle.arr_core.specs.declared.signature.Signature.{Signature}
-use Rattle.arr_core.specs.Cells.{Holds, stored}
+use Rattle.arr_core.specs.Cells.{Holds}
 use Rattle.arr_core.specs.Domains.{count, gap, IsBoxOf}
 use Rattle.arr_core.specs.Stores.{Coverage, Store, found}
 use Rattle.disk_face.specs.Disk.{Tells}
@@ -21,22 +21,36 @@ use Rattle.tile_store.specs.declared.fault.Fault.TheVariants as device
 use Rattle.raster_store.specs.declared.fault.WriteFault.{WriteFault}
 use Rattle.raster_store.specs.declared.fault.WriteFault.TheVariants as writing
 use Rattle.raster_store.specs.Views.{RasterView, metadata_size}
-use Rattle.raster_store.specs.Calls.{signature_of, HasField, index_of, HasNumbers, LacksRoomFor}
+use Rattle.raster_store.specs.Calls.{signature_of, AreListed, HasField, index_of, HasNumbers, LacksRoomFor}
+use Rattle.raster_store.specs.Snapshots.{KeepsSnapshots}
 use Rattle.raster_store.specs.Words.{FillsBox, WritesBox, RefusesFill, RefusesBox}
-use Rattle.kvp_front.specs.Contents.{fill, values}
-use Rattle.coverage_server.specs.Views.{blocks_of, signatures_of}
+use Rattle.kvp_front.specs.Contents.{Cells, fill, values}
+use Rattle.coverage_server.specs.Layouts.{layout_of}
+use Rattle.coverage_server.specs.Room.{LacksRoomToWrite, numbers_of}
+use Rattle.coverage_server.specs.Views.{signatures_of}
 use Rattle.coverage_server.specs.Writing.{write_refusal, FindsCoverage, MayWrite, WritesCells, WriteRefused}
 use Rattle.coverage_server.specs.declared.arguments.Refusal.{Refusal}
 use Rattle.coverage_server.specs.declared.arguments.Refusal.TheVariants.{DiskFault}
 use Rattle.coverage_server.proofs.FaultLemmas.{tells_as, tells_none}
 use Rattle.coverage_server.proofs.FreeLemmas.{IsReady, shown, ready_free}
+use Rattle.coverage_server.proofs.RoomLemmas.{listed_as, room_alike}
 use Rattle.coverage_server.proofs.StoreLemmas.{listed_alike, listed_last, without_last}
-use Rattle.coverage_server.proofs.TileLemmas.{some_both, some_out}
+use Rattle.coverage_server.proofs.TileLemmas.{some_both}
 
 -- what is there has more
 some_and : {X : Type 0} (o : Option X) (P Q : X → Type 0) → ((x : X) → P x → Q x) → IsSomeAnd o P → IsSomeAnd o Q
 some_and None P Q f h = absurd h
 some_and (Some x) P Q f h = f x h
+
+some_there : {X : Type 0} (o : Option X) (P Q : X → Type 0) → ((x : X) → o ≡ Some x → P x → Q x) → IsSomeAnd o P
+    → IsSomeAnd o Q
+some_there None P Q f h = absurd h
+some_there (Some x) P Q f h = f x refl h
+
+some_with : {X : Type 0} (o : Option X) (P R Q : X → Type 0) → ((x : X) → o ≡ Some x → P x → R x → Q x) → IsSomeAnd o P
+    → IsSomeAnd o R → IsSomeAnd o Q
+some_with None P R Q f h k = absurd h
+some_with (Some x) P R Q f h k = f x refl h k
 
 some_of : (o : Option Coverage) → option_map signature_of o ≡ None → o ≡ None
 some_of None e = refl
@@ -95,19 +109,31 @@ some_field fields k P within all = elim (slice_get_cases fields k).1 [
 ]
 
 -- room is wanting by what the server tells
-wanting : (name : List ℕ) (field : ℕ) (area : List Axis) (numbers : List ℤ) (size : ℕ) (catalogue : List Signature) (cells : RasterView BlockFileView) → IsReady catalogue cells
-    → size ≡ length (catalogue_bytes catalogue)
-    → LacksRoomFor name field area numbers size (state_of cells.blocks) cells.coverages cells.indexes
-    → LacksRoomFor name field area numbers (length (catalogue_bytes (signatures_of cells.coverages))) (blocks_of (shown cells)) cells.coverages cells.indexes
-wanting name field area numbers size catalogue cells ready is lacks =
+wanting : (name : List ℕ) (field : ℕ) (area : List Axis) (given : Cells) (size : ℕ) (catalogue : List Signature)
+    (cells : RasterView BlockFileView) → IsReady catalogue cells
+    → AreListed (state_of cells.blocks) cells.coverages cells.indexes → size ≡ length (catalogue_bytes catalogue)
+    → IsSomeAnd (found name cells.coverages) (λ c. IsBoxOf c.domain area)
+    → LacksRoomFor name field area (numbers_of area given) size (state_of cells.blocks) cells.coverages cells.indexes
+    → LacksRoomToWrite name field area given cells.coverages (layout_of (shown cells))
+wanting name field area given size catalogue cells ready listed is box lacks =
     let bytes : size ≡ length (catalogue_bytes (signatures_of cells.coverages)) = is ∙ ap (λ (l : List Signature). length (catalogue_bytes l)) ready.signatures in
     let free = ready_free catalogue cells ready in
-    some_and (found name cells.coverages) _ _
-    (λ c x. some_and (slice_get c.fields field) _ _
-    (λ (f : Field) y. some_and (index_of name field cells.coverages cells.indexes) _ _
-    (λ i z. (z.0, z.1 ∙ ap (λ (n : ℕ). metadata_size n cells.indexes) bytes, (z.2.0, z.2.1, omega (arith, free, z.2.2)))) y) x) lacks
+    some_with (found name cells.coverages) _ _ _
+    (λ c at low x. some_there (slice_get c.fields field) _ _
+    (λ (f : Field) has y. some_there (index_of name field cells.coverages cells.indexes) _ _
+    (λ i of z.
+    let own = listed_as cells.blocks.content name field cells.coverages cells.indexes c i listed.values at of in
+    let room = room_alike cells.blocks.content c field f i area (numbers_of area given) z.2.0 z.0 own has low z.2.1 in
+    (z.0, z.1 ∙ ap (λ (n : ℕ). metadata_size n cells.indexes) bytes, (z.2.0, z.2.1, omega (arith, free, room, z.2.2))))
+    y) x) box lacks
+
+-- the box of cells that are neither too many nor of another type
+boxed : (name : List ℕ) (field : ℕ) (area : List Axis) (list : List Cell) (store : Store)
+    → HasNumbers name field area list store → IsSomeAnd (found name store) (λ c. IsBoxOf c.domain area)
+boxed name field area list store x = some_and (found name store) _ _ (λ c y. y.0) x
 
 module _ (name : List ℕ) (field : ℕ) (area : List Axis) (size : ℕ) (catalogue : List Signature) (cells : RasterView BlockFileView) (ready : IsReady catalogue cells)
+    (listed_all : AreListed (state_of cells.blocks) cells.coverages cells.indexes)
     (is : size ≡ length (catalogue_bytes catalogue)) where
   -- why one cell is not written everywhere
   pub fill_refused : (cell : Cell) (fault : WriteFault) → RefusesFill state_of name field area cell size cells fault
@@ -120,7 +146,8 @@ module _ (name : List ℕ) (field : ℕ) (area : List Axis) (size : ℕ) (catalo
   fill_refused cell (writing.Device device.NoMemory) x = tt
   fill_refused cell (writing.Device device.DiskFault) x = tt
   fill_refused cell (writing.Device device.NoRoom) x =
-      λ sure. wanting name field area (replicate (count area) (stored cell)) size catalogue cells ready is (x.for_room refl sure)
+      λ sure. wanting name field area (fill cell) size catalogue cells ready listed_all is
+      (boxed name field area (replicate (count area) cell) cells.coverages x.for_cells) (x.for_room refl sure)
   fill_refused cell (writing.Device device.Damaged) x = λ sure. x.for_damage refl sure
 
   -- why cells are not written
@@ -135,17 +162,30 @@ module _ (name : List ℕ) (field : ℕ) (area : List Axis) (size : ℕ) (catalo
       (λ c y. inr (y.0, some_and (slice_get c.fields field) _ _ (λ (f : Field) none. inr (y.1, none, refl)) y.2)) x.for_cells
   put_refused has list (writing.Device device.NoMemory) x = tt
   put_refused has list (writing.Device device.DiskFault) x = tt
-  put_refused has list (writing.Device device.NoRoom) x = λ sure. wanting name field area (map stored list) size catalogue cells ready is (x.for_room refl sure)
+  put_refused has list (writing.Device device.NoRoom) x = λ sure. wanting name field area (values list) size catalogue
+      cells ready listed_all is (boxed name field area list cells.coverages x.for_cells) (x.for_room refl sure)
   put_refused has list (writing.Device device.Damaged) x = λ sure. x.for_damage refl sure
 
 -- what was written, by what the server tells
-pub fill_done : (name : List ℕ) (field : ℕ) (area : List Axis) (cell : Cell) (size : ℕ) (old new : RasterView BlockFileView) → FillsBox state_of name field area cell size old new
+pub fill_done : (name : List ℕ) (field : ℕ) (area : List Axis) (cell : Cell) (size : ℕ)
+    (old new : RasterView BlockFileView) → FillsBox state_of name field area cell size old new
+    → KeepsSnapshots state_of old new
     → WritesCells name field area (fill cell) (shown old) (shown new)
-fill_done name field area cell size old new x = record { may = fill_may name field area cell old.coverages x.0; written = x.1.coverages }
+fill_done name field area cell size old new x held = record {
+  may = fill_may name field area cell old.coverages x.0;
+  written = x.1.coverages;
+  lays = λ sure. let t = x.1.tiles sure in record { takes = t.takes; others = t.others; held = held.values sure };
+}
 
-pub put_done : (name : List ℕ) (field : ℕ) (area : List Axis) (list : List Cell) (size : ℕ) (old new : RasterView BlockFileView) → WritesBox state_of name field area list size old new
+pub put_done : (name : List ℕ) (field : ℕ) (area : List Axis) (list : List Cell) (size : ℕ)
+    (old new : RasterView BlockFileView) → WritesBox state_of name field area list size old new
+    → KeepsSnapshots state_of old new
     → WritesCells name field area (values list) (shown old) (shown new)
-put_done name field area list size old new x = record { may = put_may name field area list old.coverages x.0; written = x.1.coverages }
+put_done name field area list size old new x held = record {
+  may = put_may name field area list old.coverages x.0;
+  written = x.1.coverages;
+  lays = λ sure. let t = x.1.tiles sure in record { takes = t.takes; others = t.others; held = held.values sure };
+}
 
 -- what a refused write tells of the disk
 pub write_told : (T U : Type 0) (fault : WriteFault) (told : Refusal) (old new : ℕ) → told ≡ write_refusal fault

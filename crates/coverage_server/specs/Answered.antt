@@ -2,11 +2,11 @@
 use Rattle.std.specs.Prelude.{◌⊎◌, IsTrue, Result, Ok, Err, ⊤}
 use Rattle.disk_face.specs.Disk.{Rose}
 use Rattle.arr_core.specs.Stores.{Store}
-use Rattle.kvp_front.specs.Requests.{Asks, insert_coverage, update_coverage, delete_coverage, list_coverages, describe_coverage, process_coverages, submit_query, step_job, fetch_job, cancel_job, expand_template, process_template}
-use Rattle.coverage_server.specs.Machine.{State, Serves, Fails, Refuses}
+use Rattle.kvp_front.specs.Requests.{Asks}
+use Rattle.coverage_server.specs.Machine.{State, Fails, Refuses}
+use Rattle.coverage_server.specs.Runs.{Placed, ServesPlaced, LacksRoomAt}
 use Rattle.coverage_server.specs.Damage.{Spoils}
 use Rattle.coverage_server.specs.Represents.{Represents}
-use Rattle.coverage_server.specs.Room.{LacksRoom}
 use Rattle.coverage_server.specs.Views.{ServerView, SessionView}
 use Rattle.http_front.specs.declared.reply.Reply.{Reply}
 use Rattle.http_front.specs.declared.reply.Reply.TheVariants.{Text, Csv, Refused}
@@ -58,22 +58,8 @@ Never s = ⊥
 -- A reply of the machine, or a failure: want of memory (90) at any time, a disk fault (91) where the disk's count of failures rose
 -- or stands at its last value, want of room (92) where the request asks for more blocks than are free, and damage (93) where a
 -- tile that is in the way of the request is not spelled.
-abbrev pub Steps : Asks → SessionView → SessionView → State → Reply → State → Type 0
-Steps asks old new s reply t =
-    Serves asks s reply t ⊎ Fails (Rose old.coverages.failures new.coverages.failures) (LacksRoom asks old.coverages) s reply t
-    ⊎ (Spoils asks old.coverages s × Refuses 93 s reply t)
-
--- requests that fetch no tile: all but ProcessCoverages, ProcessTemplate and StepJob
-abbrev pub IsQuiet : Asks → Type 0
-IsQuiet (insert_coverage name intervals fields) = ⊤
-IsQuiet (update_coverage name field intervals cells) = ⊤
-IsQuiet (delete_coverage name) = ⊤
-IsQuiet list_coverages = ⊤
-IsQuiet (describe_coverage name) = ⊤
-IsQuiet (process_coverages query) = ⊥
-IsQuiet (submit_query query) = ⊤
-IsQuiet (step_job number units) = ⊥
-IsQuiet (fetch_job number) = ⊤
-IsQuiet (cancel_job number) = ⊤
-IsQuiet (expand_template template) = ⊤
-IsQuiet (process_template template) = ⊥
+abbrev pub Steps : Asks → SessionView → SessionView → Placed → Reply → Placed → Type 0
+Steps asks old new p reply q =
+    ServesPlaced asks p reply q
+    ⊎ Fails (Rose old.coverages.failures new.coverages.failures) (LacksRoomAt asks p) p reply q
+    ⊎ (Spoils asks old.coverages p.state × Refuses 93 p reply q)

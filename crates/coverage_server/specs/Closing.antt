@@ -5,7 +5,8 @@ use Rattle.std.specs.Str.{bytes_eq}
 use Rattle.arr_core.specs.declared.signature.Signature.{Signature}
 use Rattle.arr_core.specs.Stores.{Coverage, Store, found}
 use Rattle.block_file.specs.State.{block_at}
-use Rattle.block_file.specs.Format.{IsClosed, link, first_of, chain_blocks}
+use Rattle.file_bytes.specs.declared.form.Version.TheVariants.{Two}
+use Rattle.block_file.specs.Format.{IsClosed, Closes, TellsVersion, link, first_of, chain_blocks}
 use Rattle.catalogue.specs.Bytes.{catalogue_bytes}
 use Rattle.metadata.specs.Metadata.{part_bytes, indexes_bytes, metadata_bytes}
 use Rattle.raster_store.specs.Views.{Index, listed_all}
@@ -38,9 +39,14 @@ bytes_written store indexes =
 abbrev pub metadata_held : ServerView → List ℕ
 metadata_held v = metadata_bytes (signatures_of v.store) v.indexes
 
--- The file is closed with this metadata, and no block of its chain holds a tile.
+-- closing makes the metadata that a chain held that of the closed file, of version 2
+abbrev pub ClosesFile : ℕ → ℕ → List ℕ → List ℕ → Type 0
+ClosesFile first size old new = Closes first size old new × TellsVersion Two new
+
+-- The file is closed with this metadata, as one of version 2, and no block of its chain holds a tile.
 pub record IsWritten (content metadata : List ℕ) (indexes : List (List Index)) : Type 0 where
   pub closed : IsClosed content metadata
+  pub version : TellsVersion Two content
   pub apart : (i : ℕ) → i < chain_blocks (length metadata) → listed_all indexes (link (block_at content) (first_of content) i) ≡ 0
 
 -- how it is told why a server is not closed; room is never wanting then, and no tile is read

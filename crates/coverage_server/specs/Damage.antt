@@ -1,16 +1,17 @@
 -- Which tiles are in the way of a request: it is refused as damaged only where one of them is not spelled.
-use Rattle.std.specs.Prelude.{◌≡◌, ℕ, ◌<◌, List, All, Ok, IsSomeAnd, slice_get}
+use Rattle.std.specs.Prelude.{◌≡◌, ℕ, ◌<◌, List, [], ◌∷◌, length, All, Contains, Ok, IsSomeAnd, slice_get}
 use Rattle.arr_core.specs.declared.domain.Axis.{Axis}
 use Rattle.arr_core.specs.declared.signature.Signature.{Signature}
 use Rattle.arr_core.specs.Domains.{IsBoxOf}
 use Rattle.arr_core.specs.Fields.{place_of as field_place}
-use Rattle.arr_core.specs.Stores.{Store, found}
+use Rattle.arr_core.specs.Stores.{Coverage, Store, found}
+use Rattle.block_file.specs.State.{block_at}
 use Rattle.tile_store.specs.Reading.{Meets}
 use Rattle.tile_store.specs.Stored.{tile_box}
 use Rattle.raster_store.specs.declared.reading.TileAt.{TileAt}
 use Rattle.raster_store.specs.Fetches.{HasTile, IsSpelledAt, IsSpelledOf}
 use Rattle.raster_store.specs.Snapshots.{held_for}
-use Rattle.raster_store.specs.Views.{Index}
+use Rattle.raster_store.specs.Views.{Index, SnapshotView, listed_snapshots}
 use Rattle.wcps_types.specs.Typed.{TypedTree}
 use Rattle.kvp_front.specs.declared.request.Interval.{Interval}
 use Rattle.kvp_front.specs.Requests.{Asks, insert_coverage, update_coverage, delete_coverage, list_coverages, describe_coverage, process_coverages, submit_query, step_job, fetch_job, cancel_job, expand_template, process_template}
@@ -20,10 +21,44 @@ use Rattle.coverage_server.specs.Machine.{State, axes_of, job_of}
 use Rattle.coverage_server.specs.Templates.{expansion}
 use Rattle.coverage_server.specs.Views.{ServerView}
 
+-- each tile of the coverage with a name is spelled
+abbrev pub IsIntactIn : List ℕ → Store → List (List Index) → List ℕ → Type 0
+IsIntactIn content coverages indexes name =
+    (field tile : ℕ) → IsSpelledOf name field tile content coverages indexes
+
+abbrev pub IsIntactNamed : ServerView → List ℕ → Type 0
+IsIntactNamed v name = IsIntactIn v.content v.store v.indexes name
+
+-- Each tile that was spelled is, by its coverage's name, its field and its number; and a whole block of what is held
+-- for jobs holds what it held.
+pub record KeepsSpelled (old new : ServerView) : Type 0 where
+  pub tiles : (name : List ℕ) (field tile : ℕ) → IsSpelledOf name field tile old.content old.store old.indexes
+      → IsSpelledOf name field tile new.content new.store new.indexes
+  pub held : (k : ℕ) → 0 < listed_snapshots new.held k → length (block_at old.content k) ≡ 4096
+      → block_at new.content k ≡ block_at old.content k
+
 -- each tile of the coverage at a place is spelled
 abbrev pub IsSpelledPlace : List ℕ → Store → List (List Index) → ℕ → Type 0
 IsSpelledPlace content coverages indexes place =
     (at : TileAt) → at.coverage ≡ place → HasTile at coverages → IsSpelledAt at content coverages indexes
+
+-- of what is held for a job, each tile is spelled of the coverages that have one of these names
+abbrev pub IsIntactHeld : List ℕ → List (List ℕ) → SnapshotView → Type 0
+IsIntactHeld content names x =
+    (place : ℕ) → IsSomeAnd (slice_get x.coverages place) (λ (c : Coverage). Contains names c.name)
+    → IsSpelledPlace content x.coverages x.indexes place
+
+-- so it is with all that is held, each by its job and the names for it
+abbrev pub AreIntactHeld : List ℕ → List SnapshotView → List (ℕ × List (List ℕ)) → Type 0
+AreIntactHeld content [] [] = Unit {0}
+AreIntactHeld content (x ∷ held) (m ∷ names) =
+    (m.0 ≡ x.job) × IsIntactHeld content m.1 x × AreIntactHeld content held names
+AreIntactHeld content [] (m ∷ names) = ⊥
+AreIntactHeld content (x ∷ held) [] = ⊥
+
+-- the blocks of what is held are whole
+abbrev pub AreHeldWhole : List ℕ → List SnapshotView → Type 0
+AreHeldWhole content held = (k : ℕ) → 0 < listed_snapshots held k → length (block_at content k) ≡ 4096
 
 -- so is each tile of the coverages of the store that have a name
 abbrev pub IsSpelledNamed : List ℕ → ServerView → Type 0

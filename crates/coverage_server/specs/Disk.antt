@@ -3,8 +3,9 @@ use Rattle.std.specs.Prelude.{◌≡◌, ◌≢◌, ℕ, ◌/◌, ◌<◌, ◌�
 use Rattle.arr_core.specs.declared.signature.Signature.{Signature}
 use Rattle.arr_core.specs.Stores.{Store}
 use Rattle.block_file.specs.State.{block_at}
-use Rattle.block_file.specs.Format.{IsStoreFile, IsClosed, number_at, link, first_of, chain_blocks}
-use Rattle.metadata.specs.Metadata.{IsMetadata}
+use Rattle.file_bytes.specs.declared.form.Version.{Version}
+use Rattle.block_file.specs.Format.{IsStoreFile, TellsVersion, IsClosed, number_at, link, first_of, chain_blocks}
+use Rattle.metadata.specs.Metadata.{IsMetadata, IsOfVersion}
 use Rattle.coverage_server.specs.declared.opening.OpenFault.{OpenFault}
 use Rattle.coverage_server.specs.declared.opening.OpenFault.TheVariants as opening
 use Rattle.coverage_server.specs.declared.closing.CloseFault.{CloseFault}
@@ -24,10 +25,12 @@ pub record IsTileBlock (content : List ℕ) (size : ℕ) (indexes : List (List I
   pub within : k < length content / 4096
   pub apart : (i : ℕ) → i < chain_blocks size → link (block_at content) (first_of content) i ≢ k
 
--- A closed file: its metadata is that of these signatures and indexes, which list tiles of the domains, in blocks of their own.
+-- A closed file: its metadata is that of these signatures and indexes, which are such as a file of its version has, and
+-- which list tiles of the domains, in blocks of their own.
 pub record IsLaidOut (content metadata : List ℕ) (signatures : List Signature) (indexes : List (List Index)) : Type 0 where
   pub closed : IsClosed content metadata
   pub written : IsMetadata metadata signatures indexes
+  pub version : (version : Version) → TellsVersion version content → IsOfVersion version signatures indexes
   pub tiles : AreTiles signatures indexes
   pub blocks : (k : ℕ) → 0 < listed_all indexes k → IsTileBlock content (length metadata) indexes k
 

@@ -1,5 +1,5 @@
--- What a refused request leaves of the jobs, on any disk.
-use Rattle.std.specs.Prelude.{◌≡◌, ◌⊎◌, ℕ, ◌≤◌, ⊤}
+-- What a refused request leaves, on any disk.
+use Rattle.std.specs.Prelude.{◌≡◌, ◌⊎◌, ℕ, ◌≤◌, Result, Ok, Err, ⊤}
 use Rattle.job_desk.specs.declared.answer.Answer.TheVariants as given
 use Rattle.job_desk.specs.declared.job.Job.{Job as Held}
 use Rattle.job_desk.specs.Desks.{DeskView, IsFetched}
@@ -12,6 +12,7 @@ use Rattle.http_front.specs.declared.reply.Reply.TheVariants.{Text, Csv, Refused
 use Rattle.kvp_front.specs.Requests.{Asks, insert_coverage, update_coverage, delete_coverage, list_coverages, describe_coverage, process_coverages, submit_query, step_job, fetch_job, cancel_job, expand_template, process_template}
 use Rattle.coverage_server.specs.declared.arguments.Refusal.{Refusal}
 use Rattle.coverage_server.specs.declared.arguments.Refusal.TheVariants.{Numbered, NoMemory, DiskFault, NoRoom, Damaged}
+use Rattle.coverage_server.specs.Views.{SessionView, IsUnchanged}
 
 -- A job is as it was, but that its executor may have done some of the units that it shows as left.
 pub record IsStill (was is : Held) : Type 0 where
@@ -45,6 +46,11 @@ LeavesJobs (cancel_job number) code old new = new ≡ old
 LeavesJobs (expand_template template) code old new = new ≡ old
 LeavesJobs (process_template template) code old new = new ≡ old
 
+-- What a request that is refused by a number leaves: the coverages as they were, and the jobs.
+pub record Leaves (asks : Asks) (code : ℕ) (old new : SessionView) : Type 0 where
+  pub coverages : IsUnchanged old.coverages new.coverages
+  pub jobs : LeavesJobs asks code old.desk new.desk
+
 -- the number by which it is told why a request is refused
 abbrev pub refusal_number : Refusal → ℕ
 refusal_number (Numbered code) = code
@@ -52,6 +58,11 @@ refusal_number NoMemory = 90
 refusal_number DiskFault = 91
 refusal_number NoRoom = 92
 refusal_number Damaged = 93
+
+-- the reply to a request, where a refusal is told by its number
+abbrev pub reply_of : Result Reply Refusal → Reply
+reply_of (Ok reply) = reply
+reply_of (Err e) = Refused (refusal_number e)
 
 -- what follows of a reply that is a refusal
 abbrev pub IfRefused : Reply → (ℕ → Type 0) → Type 0

@@ -4,7 +4,9 @@ pub mod Describing
 pub mod Templates
 pub mod Machine
 pub mod Tomlin
+pub mod Layouts
 pub mod Room
+pub mod Runs
 pub mod Writing
 pub mod Damage
 pub mod Answered
@@ -18,3 +20,4 @@ pub mod Opening
 pub mod Represents
 pub mod Holding
 pub mod Leaving
+pub mod Fetching

@@ -1,6 +1,6 @@
 -- The machine: its state is a store of coverages, and jobs, each with the answer that its query had when it was submitted. A request
 -- leads to a reply and a next state; the refusals come in the order in which they stand here, and leave the state as it was.
-use Rattle.std.specs.Prelude.{◌≡◌, ℕ, ◌+◌, ◌-◌, ◌*◌, ◌^◌, ◌<◌, ◌≤◌, ◌⊎◌, nat_lt, nat_eq, cond, ℤ, List, [], ◌∷◌, ◌++◌, length, map, replicate, slice_get, All, Option, Some, None, Result, Ok, Err, MatchOption, codes, string_bytes, FitsSigned, ⊤}
+use Rattle.std.specs.Prelude.{◌≡◌, ℕ, ◌+◌, ◌-◌, ◌*◌, ◌^◌, ◌<◌, ◌≤◌, ◌⊎◌, nat_lt, nat_eq, cond, ℤ, List, [], ◌∷◌, ◌++◌, length, map, replicate, slice_get, All, Option, Some, None, Ok, Err, MatchOption, codes, string_bytes, FitsSigned}
 use Rattle.std.specs.Fmt.{decimal}
 use Rattle.std.specs.Int.{w32}
 use Rattle.std.specs.List.{find, flat_map}
@@ -13,7 +13,7 @@ use Rattle.arr_core.specs.Domains.{count, IsDomain, IsBoxOf}
 use Rattle.arr_core.specs.Fields.{AreFields, place_of as field_place}
 use Rattle.arr_core.specs.Stores.{Coverage, Store, found, inserted, deleted, updated}
 use Rattle.kvp_front.specs.Contents.{Cells, fill, values}
-use Rattle.kvp_front.specs.Requests.{Asks, insert_coverage, update_coverage, delete_coverage, list_coverages, describe_coverage, process_coverages, submit_query, step_job, fetch_job, cancel_job, expand_template, process_template, spelled, number_of}
+use Rattle.kvp_front.specs.Requests.{Asks, insert_coverage, update_coverage, delete_coverage, list_coverages, describe_coverage, process_coverages, submit_query, step_job, fetch_job, cancel_job, expand_template, process_template}
 use Rattle.kvp_front.specs.Templates.{Template}
 use Rattle.map_templates.specs.Refusals.{Answer, number_of as template_number}
 use Rattle.wcps_types.specs.Typed.{TypedTree}
@@ -21,10 +21,7 @@ use Rattle.wcps_types.specs.Work.{query_work}
 use Rattle.coverage_server.specs.Asking.{QueryAnswer, TypedAnswer, TextTyped, TextAnswer, evaluated}
 use Rattle.coverage_server.specs.Describing.{description}
 use Rattle.coverage_server.specs.Templates.{expansion}
-use Rattle.http_front.specs.Replies.{reply_bytes}
-use Rattle.http_front.specs.Stream.{Item}
 use Rattle.kvp_front.specs.declared.request.Interval.{Interval}
-use Rattle.kvp_front.specs.declared.request.RequestError.{RequestError}
 use Rattle.http_front.specs.declared.reply.Reply.{Reply}
 use Rattle.http_front.specs.declared.reply.Reply.TheVariants.{Text, Csv, Refused}
 
@@ -226,7 +223,7 @@ abbrev pub Cancels : ℕ → State → Reply → State → Type 0
 Cancels number old reply new =
     MatchOption (job_of number old.jobs) (Refuses 70 old reply new) (λ j. Does (with_jobs old (without number old.jobs)) reply new)
 
--- ---- steps and runs
+-- ---- requests
 
 -- a request on the coverages leaves the jobs and their numbers as they are
 abbrev pub OnStore : (Store → Reply → Store → Type 0) → State → Reply → State → Type 0
@@ -247,72 +244,8 @@ Serves (cancel_job number) old = Cancels number old
 Serves (expand_template template) old = OnStore (Expands template) old
 Serves (process_template template) old = OnStore (AnswersTemplate template) old
 
--- insertions and updates alone may want room
-abbrev pub MayWantRoom : Asks → Type 0
-MayWantRoom (insert_coverage name intervals fields) = ⊤
-MayWantRoom (update_coverage name field intervals cells) = ⊤
-MayWantRoom (delete_coverage name) = ⊥
-MayWantRoom list_coverages = ⊥
-MayWantRoom (describe_coverage name) = ⊥
-MayWantRoom (process_coverages query) = ⊥
-MayWantRoom (submit_query query) = ⊥
-MayWantRoom (step_job number units) = ⊥
-MayWantRoom (fetch_job number) = ⊥
-MayWantRoom (cancel_job number) = ⊥
-MayWantRoom (expand_template template) = ⊥
-MayWantRoom (process_template template) = ⊥
-
 -- Want of memory, a disk fault or want of room, which change nothing. A disk fault is told only where the disk may have failed,
--- and want of room only where it may be wanting.
-abbrev pub Fails : Type 0 → Type 0 → State → Reply → State → Type 0
+-- and want of room only where it is wanting.
+abbrev pub Fails : {S : Type 0} → Type 0 → Type 0 → S → Reply → S → Type 0
 Fails failed wanting old reply new =
     Refuses 90 old reply new ⊎ (failed × Refuses 91 old reply new) ⊎ (wanting × Refuses 92 old reply new)
-
--- the requests that read tiles, of which a damaged one may be in the way of them
-abbrev pub ReadsTiles : Asks → Type 0
-ReadsTiles (insert_coverage name intervals fields) = ⊥
-ReadsTiles (update_coverage name field intervals cells) = ⊤
-ReadsTiles (delete_coverage name) = ⊥
-ReadsTiles list_coverages = ⊥
-ReadsTiles (describe_coverage name) = ⊥
-ReadsTiles (process_coverages query) = ⊤
-ReadsTiles (submit_query query) = ⊥
-ReadsTiles (step_job number units) = ⊤
-ReadsTiles (fetch_job number) = ⊥
-ReadsTiles (cancel_job number) = ⊥
-ReadsTiles (expand_template template) = ⊥
-ReadsTiles (process_template template) = ⊤
-
--- What may stand in place of replies: whether the disk may have failed, and which requests damage may be in the way of.
-pub record May : Type 1 where
-  pub fail : Type 0
-  pub spoil : Asks → State → Type 0
-
--- where the disk may have failed, and where tiles may be damaged
-abbrev pub may_tell : Type 0 → Type 0 → May
-may_tell failed damaged = record { fail = failed; spoil = λ asks s. ReadsTiles asks × damaged }
-
--- A step: in place of any reply a failure may be told, and of one that reads tiles that one is damaged (93), with the state
--- unchanged.
-abbrev pub Step : May → Asks → State → Reply → State → Type 0
-Step may asks old reply new =
-    Serves asks old reply new ⊎ Fails may.fail (MayWantRoom asks) old reply new
-    ⊎ (may.spoil asks old × Refuses 93 old reply new)
-
--- the step of what the pairs of a message spell, or of their refusal
-abbrev pub SpelledStep : May → Result Asks RequestError → State → Reply → State → Type 0
-SpelledStep may (Ok asks) old reply new = Step may asks old reply new
-SpelledStep may (Err e) old reply new = Refuses (number_of e) old reply new ⊎ Refuses 90 old reply new
-
--- the step of a message: its pairs are read, or it is refused
-abbrev pub MessageStep : May → State → Result (List ℕ) ℕ → Reply → State → Type 0
-MessageStep may old (Ok pairs) reply new = SpelledStep may (spelled pairs) old reply new
-MessageStep may old (Err code) reply new = Refuses code old reply new ⊎ Refuses 90 old reply new
-
--- The messages lead from one state to the other, and these bytes are their replies. Disk faults are among them only where the
--- disk may have failed, and damage only where tiles may be damaged.
-abbrev pub Run : May → State → List Item → List ℕ → State → Type 0
-Run may old [] bytes new = (bytes ≡ []) × (new ≡ old)
-Run may old (item ∷ items) bytes new =
-    (mid : State) × (reply : Reply) × (later : List ℕ) × MessageStep may old item.asked reply mid
-    × (bytes ≡ reply_bytes item.last item.bare reply ++ later) × Run may mid items later new

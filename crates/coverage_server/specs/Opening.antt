@@ -4,14 +4,16 @@ use Rattle.std.specs.declared.alloc.Global.{Global}
 use Rattle.arr_core.specs.declared.signature.Signature.{Signature}
 use Rattle.arr_core.specs.Stores.{Store}
 use Rattle.block_file.specs.State.{times}
-use Rattle.block_file.specs.Format.{IsHeader}
+use Rattle.block_file.specs.Format.{IsHeader, TellsVersion}
 use Rattle.block_file.specs.Uses.{CanClaim, Claims, uses_of}
 use Rattle.block_file.specs.View.{BlockFileView}
 use Rattle.block_file.specs.declared.header.State.TheVariants.{Open}
 use Rattle.block_file.specs.declared.fault.OpenFault.{OpenFault as ChainFault}
 use Rattle.block_file.specs.declared.fault.OpenFault.TheVariants as chain
 use Rattle.catalogue.specs.Bytes.{catalogue_bytes}
-use Rattle.metadata.specs.Metadata.{IsMetadata}
+use Rattle.file_bytes.specs.declared.form.Version.{Version}
+use Rattle.file_bytes.specs.declared.form.Version.TheVariants.{Two}
+use Rattle.metadata.specs.Metadata.{IsMetadata, IsOfVersion}
 use Rattle.tile_index.specs.declared.index.TileIndex.{TileIndex}
 use Rattle.tile_store.specs.declared.fault.Fault.{Fault}
 use Rattle.tile_store.specs.declared.fault.Fault.TheVariants as device
@@ -25,15 +27,17 @@ use Rattle.coverage_server.specs.Views.{free_in}
 abbrev pub items_of : List (Vec TileIndex Global) → List (List Index)
 items_of indexes = map (λ (v : Vec TileIndex Global). v.items) indexes
 
--- the header is that of an open file with as many blocks as there are
+-- the header is that of an open file of version 2 with as many blocks as there are
 abbrev pub IsOpenFile : List ℕ → Type 0
-IsOpenFile content = IsHeader content Open (length content / 4096) 0 0
+IsOpenFile content = IsHeader content Open (length content / 4096) 0 0 × TellsVersion Two content
 
--- what metadata lists, and nothing else: without a byte no coverage
-pub record IsListed (metadata : List ℕ) (signatures : List Signature) (indexes : List (List Index)) : Type 0 where
+-- what metadata of a file of a version lists, and nothing else: without a byte no coverage
+pub record IsListed (version : Version) (metadata : List ℕ) (signatures : List Signature) (indexes : List (List Index)) : Type 0 where
   pub new_file : metadata ≡ [] → (signatures ≡ []) × (indexes ≡ [])
   pub read : 0 < length metadata → IsMetadata metadata signatures indexes
-  pub only : 0 < length metadata → (s : List Signature) (i : List (List Index)) → IsMetadata metadata s i → (s ≡ signatures) × (i ≡ indexes)
+  pub of_version : 0 < length metadata → IsOfVersion version signatures indexes
+  pub only : 0 < length metadata → (s : List Signature) (i : List (List Index)) → IsMetadata metadata s i → IsOfVersion version s i
+      → (s ≡ signatures) × (i ≡ indexes)
 
 -- The blocks that indexes list were claimed, and are in use as often as they are listed besides.
 pub record ClaimsListed (indexes : List (List Index)) (old new : List ℕ) : Type 0 where
@@ -49,8 +53,8 @@ pub record CannotClaim (indexes : List (List Index)) (marks : List ℕ) : Type 0
   pub refused : CanClaim blocks marks → ⊥
 
 -- What metadata lists was claimed, and as many blocks are free as the metadata takes.
-pub record ClaimsLayout (metadata : List ℕ) (signatures : List Signature) (indexes : List (List Index)) (old new : List ℕ) : Type 0 where
-  pub listed : IsListed metadata signatures indexes
+pub record ClaimsLayout (version : Version) (metadata : List ℕ) (signatures : List Signature) (indexes : List (List Index)) (old new : List ℕ) : Type 0 where
+  pub listed : IsListed version metadata signatures indexes
   pub claims : ClaimsListed indexes old new
   pub room : reserve (length (catalogue_bytes signatures)) indexes ≤ free_in indexes []
 
@@ -58,9 +62,10 @@ pub record ClaimsLayout (metadata : List ℕ) (signatures : List Signature) (ind
 abbrev pub IsNotLaidOut : List ℕ → Type 0
 IsNotLaidOut content = (metadata : List ℕ) (signatures : List Signature) (indexes : List (List Index)) → IsLaidOut content metadata signatures indexes → ⊥
 
--- metadata is none of any signatures and indexes
-abbrev pub IsUnread : List ℕ → Type 0
-IsUnread metadata = (0 < length metadata) × ((signatures : List Signature) (indexes : List (List Index)) → IsMetadata metadata signatures indexes → ⊥)
+-- metadata is none of any signatures and indexes such as a file of a version has
+abbrev pub IsUnread : Version → List ℕ → Type 0
+IsUnread version metadata = (0 < length metadata) × ((signatures : List Signature) (indexes : List (List Index))
+    → IsMetadata metadata signatures indexes → IsOfVersion version signatures indexes → ⊥)
 
 -- the disk lists these coverages, and no others
 pub record Lists (content : List ℕ) (store : Store) (indexes : List (List Index)) : Type 0 where

@@ -1,13 +1,16 @@
 -- Which state of the machine a server represents. The answer of a job is not stored while it runs: it is the one that the plan of its
 -- executor has over the cells for which the executor stands.
-use Rattle.std.specs.Prelude.{◌≡◌, ℕ, ◌<◌, ℤ, List, [], ◌∷◌, IsSomeAnd}
+use Rattle.std.specs.Prelude.{◌≡◌, ℕ, ◌<◌, ℤ, List, [], ◌∷◌, All, IsSomeAnd, IsTrue}
 use Rattle.job_desk.specs.declared.job.Job.{Job as Held}
 use Rattle.plan_ir.specs.Planned.{planned}
 use Rattle.raster_store.specs.Views.{SnapshotView}
 use Rattle.raster_store.specs.Snapshots.{held_for}
 use Rattle.tile_exec.specs.Standing.{StandsFor, plan_of}
 use Rattle.coverage_server.specs.Asking.{cells_of, items_answer}
+use Rattle.coverage_server.specs.Damage.{IsIntactNamed, AreIntactHeld, AreHeldWhole}
+use Rattle.coverage_server.specs.Layouts.{layout_of}
 use Rattle.coverage_server.specs.Machine.{Job, State}
+use Rattle.coverage_server.specs.Runs.{Placed}
 use Rattle.coverage_server.specs.Views.{SessionView}
 
 -- these are the cells, of what is held for a job, that the job reads
@@ -37,3 +40,12 @@ pub record Represents (v : SessionView) (s : State) : Type 0 where
   pub store : s.store ≡ v.coverages.store
   pub jobs : AreJobs v.coverages.held v.desk.jobs s.jobs
   pub next : s.next ≡ v.desk.next
+
+-- So is the state, its tiles lie as those of the server do, and where the disk is honest the coverages that are told to
+-- be intact are, and the blocks of what is held are whole.
+pub record Places (v : SessionView) (p : Placed) : Type 0 where
+  pub state : Represents v p.state
+  pub layout : p.layout ≡ layout_of v.coverages
+  pub intact : IsTrue v.coverages.honest → All (IsIntactNamed v.coverages) p.intact
+  pub held : IsTrue v.coverages.honest → AreIntactHeld v.coverages.content v.coverages.held p.held
+  pub blocks : IsTrue v.coverages.honest → AreHeldWhole v.coverages.content v.coverages.held

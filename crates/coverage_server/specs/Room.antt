@@ -1,51 +1,80 @@
--- Which requests are refused for want of room: an insertion or an update, where fewer blocks are free than those of its new
--- tiles and those that the metadata of the state after it takes.
-use Rattle.std.specs.Prelude.{ℕ, ◌<◌, ℤ, List, [], ◌∷◌, ◌++◌, map, length, replicate, IsSomeAnd}
+-- Which requests are refused for want of room: an insertion or an update, where fewer blocks are free than those of its
+-- new tiles and those that the metadata of the state after it takes. A block is free that no index lists, and nothing
+-- that is held for jobs.
+use Rattle.std.specs.Prelude.{◌≡◌, ℕ, ◌+◌, ◌<◌, ℤ, List, [], ◌∷◌, ◌++◌, map, length, replicate, slice_get, IsSomeAnd}
 use Rattle.arr_core.specs.declared.domain.Axis.{Axis}
+use Rattle.arr_core.specs.declared.cell.FieldType.{FieldType}
+use Rattle.arr_core.specs.declared.field.Field.{Field}
 use Rattle.arr_core.specs.declared.signature.Signature.{Signature}
 use Rattle.arr_core.specs.Cells.{stored}
-use Rattle.arr_core.specs.Domains.{count}
+use Rattle.arr_core.specs.Domains.{count, points}
 use Rattle.arr_core.specs.Fields.{place_of as field_place}
-use Rattle.arr_core.specs.Stores.{found}
+use Rattle.arr_core.specs.Stores.{Coverage, Store, found, value_at}
 use Rattle.catalogue.specs.Bytes.{catalogue_bytes}
-use Rattle.raster_store.specs.Views.{reserve}
-use Rattle.raster_store.specs.Calls.{LacksRoomFor, indexes_with}
+use Rattle.tile_index.specs.Bytes.{index_bytes}
+use Rattle.tile_store.specs.Room.{AreMeeting, patched_at, tile_blocks, room_for}
+use Rattle.tile_store.specs.Stored.{tile_box}
+use Rattle.raster_store.specs.Views.{Index, metadata_size, reserve}
+use Rattle.raster_store.specs.Calls.{index_of, indexes_with}
 use Rattle.kvp_front.specs.Contents.{Cells, fill, values}
 use Rattle.kvp_front.specs.Requests.{Asks, insert_coverage, update_coverage, delete_coverage, list_coverages, describe_coverage, process_coverages, submit_query, step_job, fetch_job, cancel_job, expand_template, process_template}
 use Rattle.coverage_server.specs.Machine.{axes_of}
-use Rattle.coverage_server.specs.Views.{ServerView, signatures_of, free_blocks, blocks_of}
+use Rattle.coverage_server.specs.Layouts.{Layout}
+use Rattle.coverage_server.specs.Views.{signatures_of, free_in}
 use Rattle.kvp_front.specs.declared.request.Interval.{Interval}
 
+-- how many blocks are free
+abbrev pub free_of : Layout → ℕ
+free_of l = free_in l.indexes l.held
+
 -- the metadata with a new coverage, which has no tiles, takes more blocks than are free
-abbrev pub LacksRoomToInsert : Signature → ServerView → Type 0
-LacksRoomToInsert s v =
-    free_blocks v < reserve (length (catalogue_bytes (signatures_of v.store ++ s ∷ []))) (indexes_with s v.indexes)
+abbrev pub LacksRoomToInsert : Signature → Store → Layout → Type 0
+LacksRoomToInsert s store l =
+    free_of l < reserve (length (catalogue_bytes (signatures_of store ++ s ∷ []))) (indexes_with s l.indexes)
 
 -- the stored numbers of a box's cells
 abbrev pub numbers_of : List Axis → Cells → List ℤ
 numbers_of box (fill cell) = replicate (count box) (stored cell)
 numbers_of box (values cells) = map stored cells
 
+-- how many blocks a tile of a field takes after numbers are put into a box
+abbrev pub blocks_put : Coverage → ℕ → FieldType → List Axis → List ℤ → ℕ → ℕ
+blocks_put c field kind box numbers tile =
+    tile_blocks kind (map (patched_at box numbers (value_at c field)) (points (tile_box c.domain tile)))
+
+-- the new tiles of a box, its field's index after them, and other metadata of `rest` bytes take more blocks than are
+-- free
+abbrev pub LacksBlocks : Coverage → ℕ → Field → Index → List Axis → List ℤ → ℕ → Layout → Type 0
+LacksBlocks c field f index box numbers rest l =
+    (tiles : List ℕ) × AreMeeting c.domain box tiles
+    × (free_of l < room_for (blocks_put c field f.kind box numbers) index tiles rest)
+
 -- the new tiles of a box and the metadata take more blocks than are free
-abbrev pub LacksRoomToWrite : List ℕ → ℕ → List Axis → Cells → ServerView → Type 0
-LacksRoomToWrite name field box cells v =
-    LacksRoomFor name field box (numbers_of box cells) (length (catalogue_bytes (signatures_of v.store))) (blocks_of v) v.store v.indexes
+abbrev pub LacksRoomToWrite : List ℕ → ℕ → List Axis → Cells → Store → Layout → Type 0
+LacksRoomToWrite name field box cells store l =
+    IsSomeAnd (found name store) (λ c. IsSomeAnd (slice_get c.fields field) (λ (f : Field).
+    IsSomeAnd (index_of name field store l.indexes) (λ i.
+    (rest : ℕ)
+    × (rest + length (index_bytes i) ≡ metadata_size (length (catalogue_bytes (signatures_of store))) l.indexes)
+    × LacksBlocks c field f i box (numbers_of box cells) rest l)))
 
 -- the same of the field with a name
-abbrev pub LacksRoomToUpdate : List ℕ → List ℕ → List Interval → Cells → ServerView → Type 0
-LacksRoomToUpdate name field intervals cells v =
-    IsSomeAnd (found name v.store) (λ c. IsSomeAnd (field_place field c.fields) (λ k. LacksRoomToWrite name k (axes_of intervals) cells v))
+abbrev pub LacksRoomToUpdate : List ℕ → List ℕ → List Interval → Cells → Store → Layout → Type 0
+LacksRoomToUpdate name field intervals cells store l =
+    IsSomeAnd (found name store)
+    (λ c. IsSomeAnd (field_place field c.fields) (λ k. LacksRoomToWrite name k (axes_of intervals) cells store l))
 
-abbrev pub LacksRoom : Asks → ServerView → Type 0
-LacksRoom (insert_coverage name intervals fields) v = LacksRoomToInsert (record { name = name; domain = axes_of intervals; fields = fields }) v
-LacksRoom (update_coverage name field intervals cells) v = LacksRoomToUpdate name field intervals cells v
-LacksRoom (delete_coverage name) v = ⊥
-LacksRoom list_coverages v = ⊥
-LacksRoom (describe_coverage name) v = ⊥
-LacksRoom (process_coverages query) v = ⊥
-LacksRoom (submit_query query) v = ⊥
-LacksRoom (step_job number units) v = ⊥
-LacksRoom (fetch_job number) v = ⊥
-LacksRoom (cancel_job number) v = ⊥
-LacksRoom (expand_template template) v = ⊥
-LacksRoom (process_template template) v = ⊥
+abbrev pub LacksRoom : Asks → Store → Layout → Type 0
+LacksRoom (insert_coverage name intervals fields) store l =
+    LacksRoomToInsert (record { name = name; domain = axes_of intervals; fields = fields }) store l
+LacksRoom (update_coverage name field intervals cells) store l = LacksRoomToUpdate name field intervals cells store l
+LacksRoom (delete_coverage name) store l = ⊥
+LacksRoom list_coverages store l = ⊥
+LacksRoom (describe_coverage name) store l = ⊥
+LacksRoom (process_coverages query) store l = ⊥
+LacksRoom (submit_query query) store l = ⊥
+LacksRoom (step_job number units) store l = ⊥
+LacksRoom (fetch_job number) store l = ⊥
+LacksRoom (cancel_job number) store l = ⊥
+LacksRoom (expand_template template) store l = ⊥
+LacksRoom (process_template template) store l = ⊥

@@ -5,7 +5,7 @@ use Rattle.stream_face.specs.Faults.{AppendsPrefix, fault_told}
 use Rattle.http_front.specs.Stream.{Item, at_end, at_fault, Messages, Begins}
 use Rattle.http_front.specs.Replies.{reply_bytes}
 use Rattle.http_front.specs.declared.reply.Reply.{Reply}
-use Rattle.coverage_server.specs.Machine.{May, State, MessageStep, Run}
+use Rattle.coverage_server.specs.Runs.{Placed, MessageStep, Run}
 use Rattle.coverage_server.specs.declared.server.ConnEnd.{ConnEnd}
 use Rattle.coverage_server.specs.declared.server.ConnEnd.TheVariants.{Finished, ReadFault, WriteFault}
 
@@ -42,19 +42,21 @@ TellsEnd e WriteFault = (e.read_fails ≡ e.read_failed) × (e.write_fails ≡ f
 
 -- The replies of one run of the machine over the messages of a stream: of all of it, or of what had come before a read failed.
 -- Where a write failed, the replies to the first messages went out, and a first part of the reply to the next one, which was
--- taken too. The reader has told all its bytes where `before` is known. Disk faults are told only where the disk may have failed, damage only where
--- tiles may be damaged.
-abbrev pub ServesConnection : May → Ends → State → State → ConnEnd → Type 0
-ServesConnection may e old new Finished =
+-- taken too. The reader has told all its bytes where `before` is known. Disk faults are told only where the disk may
+-- have failed, damage only where it may be in the way.
+abbrev pub ServesConnection : Type 0 → Ends → Placed → Placed → ConnEnd → Type 0
+ServesConnection failed e old new Finished =
     (bytes : List ℕ) × IfSome e.before (λ all. bytes ≡ all)
     × (items : List Item) × Messages at_end 0 bytes items
-    × (replies : List ℕ) × Run may old items replies new × Appends e.held e.holds replies
-ServesConnection may e old new ReadFault =
+    × (replies : List ℕ) × Run failed old items replies new × Appends e.held e.holds replies
+ServesConnection failed e old new ReadFault =
     (bytes : List ℕ) × Consumes e.before e.after bytes
     × (items : List Item) × Messages at_fault 0 bytes items
-    × (replies : List ℕ) × Run may old items replies new × Appends e.held e.holds replies
-ServesConnection may e old new WriteFault =
+    × (replies : List ℕ) × Run failed old items replies new × Appends e.held e.holds replies
+ServesConnection failed e old new WriteFault =
     (bytes : List ℕ) × IfSome e.before (λ all. bytes ≡ all)
     × (items : List Item) × (item : Item) × Begins 0 bytes (items ++ item ∷ [])
-    × (replies : List ℕ) × (mid : State) × Run may old items replies mid × (sent : Option (List ℕ)) × Appends e.held sent replies
-    × (reply : Reply) × MessageStep may mid item.asked reply new × AppendsPrefix sent e.holds (reply_bytes item.last item.bare reply)
+    × (replies : List ℕ) × (mid : Placed) × Run failed old items replies mid
+    × (sent : Option (List ℕ)) × Appends e.held sent replies
+    × (reply : Reply) × MessageStep failed mid item.asked reply new
+    × AppendsPrefix sent e.holds (reply_bytes item.last item.bare reply)

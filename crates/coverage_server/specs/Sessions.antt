@@ -1,5 +1,5 @@
 -- Sessions: a disk is opened, connections are served one after the other, and the disk is closed.
-use Rattle.std.specs.Prelude.{◌≡◌, ◌≢◌, ℕ, ◌≤◌, Bool, IsTrue, List, [], ◌∷◌, Option}
+use Rattle.std.specs.Prelude.{◌≡◌, ◌≢◌, ◌⊎◌, ℕ, ◌≤◌, Bool, IsTrue, List, [], ◌∷◌, All, Option}
 use Rattle.arr_core.specs.Stores.{Store}
 use Rattle.block_file.specs.Format.{IsHeader, HeaderTorn, KeepsHeader}
 use Rattle.block_file.specs.declared.header.State.TheVariants.{Open}
@@ -10,11 +10,12 @@ use Rattle.coverage_server.specs.declared.closing.CloseFault.{CloseFault}
 use Rattle.coverage_server.specs.declared.closing.CloseFault.TheVariants as closing
 use Rattle.coverage_server.specs.declared.server.ConnEnd.{ConnEnd}
 use Rattle.raster_store.specs.Views.{Index, AreIntact}
+use Rattle.coverage_server.specs.Damage.{IsIntactIn, KeepsSpelled}
 use Rattle.coverage_server.specs.Disk.{ListsStore, HoldsStore, IsWant, IsNoStore}
-use Rattle.coverage_server.specs.Machine.{May, State, begun, may_tell}
-use Rattle.coverage_server.specs.Represents.{Represents}
+use Rattle.coverage_server.specs.Runs.{Placed, begun_with, jobless}
+use Rattle.coverage_server.specs.Represents.{Places}
 use Rattle.coverage_server.specs.Serves.{Ends, ServesConnection, TellsEnd, ends_of}
-use Rattle.coverage_server.specs.Views.{ServerView, SessionView, IsSound, IsUnchanged}
+use Rattle.coverage_server.specs.Views.{ServerView, SessionView, IsSound, IsUnchanged, without_held, without_jobs}
 
 -- what a disk tells: the bytes that it holds, whether it is honest, and how many of its calls have failed
 pub record DiskView : Type 0 where
@@ -40,10 +41,26 @@ pub record IsNotOpened (fault : OpenFault) (old left : DiskView) : Type 0 where
 pub record IsNotClosed (fault : CloseFault) (old left : ServerView) : Type 0 where
   pub unchanged : IsUnchanged old left
   pub sound : IsSound old → IsSound left
+  pub spelled : IsTrue old.honest → KeepsSpelled old left
   pub disk_fault : fault ≡ closing.DiskFault → Rose old.failures left.failures
   pub no_memory : fault ≡ closing.NoMemory → KeepsHeader old.content left.content × (left.failures ≡ old.failures)
   pub honest : left.honest ≡ old.honest
   pub no_fewer : old.failures ≤ left.failures
+
+-- A server whose close was refused for memory, whose jobs were let go then, and whose second close was refused.
+pub record IsRefusedTwice (fault : CloseFault) (old left : SessionView) : Type 0 where
+  pub mid : SessionView
+  pub first : IsNotClosed closing.NoMemory old.coverages mid.coverages
+  pub desk : mid.desk ≡ old.desk
+  pub second : IsNotClosed fault (without_held mid.coverages) left.coverages
+  pub jobs : left.desk ≡ (without_jobs mid).desk
+
+-- What is left of a server that was not closed, where a close that was refused for memory is made once more: a fault of
+-- the disk leaves it with its jobs, and a second refusal without them.
+abbrev pub IsLeft : CloseFault → SessionView → SessionView → Type 0
+IsLeft fault old left =
+    ((fault ≡ closing.DiskFault) × IsNotClosed fault old.coverages left.coverages × (left.desk ≡ old.desk))
+    ⊎ IsRefusedTwice fault old left
 
 -- what the reader and the writer of each connection told before the connections and after them
 abbrev pub ends_all : {R W : Type 0} → (R → Option (List ℕ)) → (R → Option Bool) → (W → Option (List ℕ)) → (W → Option Bool)
@@ -55,31 +72,32 @@ ends_all remaining read_failed contents write_failed (old ∷ olds) (new ∷ new
 
 -- Connections one after the other: each is served from the state that the one before left, so that the replies of all are those of
 -- one run of the machine. Each has its end, by a fault exactly where one came.
-abbrev pub ServesAll : May → List Ends → State → State → Type 0
-ServesAll may [] old new = new ≡ old
-ServesAll may (e ∷ ends) old new =
-    (mid : State) × (end : ConnEnd) × TellsEnd e end × ServesConnection may e old mid end × ServesAll may ends mid new
+abbrev pub ServesAll : Type 0 → List Ends → Placed → Placed → Type 0
+ServesAll failed [] old new = new ≡ old
+ServesAll failed (e ∷ ends) old new =
+    (mid : Placed) × (end : ConnEnd) × TellsEnd e end × ServesConnection failed e old mid end
+    × ServesAll failed ends mid new
 
--- what may be told from an opening of a disk that lists a store on: a disk fault where its count of failures has risen since,
--- and damage where a tile that it lists was not spelled then
-abbrev pub may_since : DiskView → ℕ → Store → List (List Index) → May
-may_since old failures store indexes = may_tell (Rose old.failures failures) (AreIntact old.content store indexes → ⊥)
-
--- A session that ended by a close: it began with the store that the disk listed, and the disk lists the store that it left.
--- Where each listed tile was spelled it is so again: a disk that held a store holds the next one.
+-- A session that ended by a close: it began with the store that the disk listed, and with any coverages of it that were
+-- intact, and the disk lists the store that it left, whose coverages are intact that are told to be. Where each listed
+-- tile was spelled it is so again: a disk that held a store holds the next one.
 abbrev pub ServesSession : List Ends → DiskView → DiskView → Type 0
 ServesSession ends old new =
     IsTrue old.honest → (store : Store) (indexes : List (List Index)) → ListsStore old.content store indexes
-    → (next : State) × (later : List (List Index)) × ListsStore new.content next.store later
-    × (AreIntact old.content store indexes → AreIntact new.content next.store later)
-    × ServesAll (may_since old new.failures store indexes) ends (begun store) next
+    → (intact : List (List ℕ)) → All (IsIntactIn old.content store indexes) intact
+    → (next : Placed) × ListsStore new.content next.state.store next.layout.indexes
+    × All (IsIntactIn new.content next.state.store next.layout.indexes) next.intact
+    × (AreIntact old.content store indexes → AreIntact new.content next.state.store next.layout.indexes)
+    × ServesAll (Rose old.failures new.failures) ends (begun_with store indexes intact) next
 
--- A session that did not end by a close: the server represents the next state. A disk fault is told where the count of failures has risen
+-- A session that did not end by a close: the server represents the next state, or that without its jobs, which were let
+-- go where memory was wanting. A disk fault is told where the count of failures has risen
 -- since the opening, and where memory was wanting the header still is that of an open file.
 pub record ServesUnclosed (fault : CloseFault) (ends : List Ends) (old : DiskView) (server : SessionView) : Type 0 where
   pub served : IsTrue old.honest → (store : Store) (indexes : List (List Index)) → ListsStore old.content store indexes
-      → (AreIntact old.content store indexes → IsSound server.coverages) × (next : State) × Represents server next
-      × ServesAll (may_since old server.coverages.failures store indexes) ends (begun store) next
+      → (intact : List (List ℕ)) → All (IsIntactIn old.content store indexes) intact
+      → (AreIntact old.content store indexes → IsSound server.coverages) × (next : Placed) × (Places server next ⊎ Places server (jobless next))
+      × ServesAll (Rose old.failures server.coverages.failures) ends (begun_with store indexes intact) next
   pub disk_fault : fault ≡ closing.DiskFault → Rose old.failures server.coverages.failures
   pub no_memory : fault ≡ closing.NoMemory → IsTrue old.honest → (blocks : ℕ) × IsHeader server.coverages.content Open blocks 0 0
   pub honest : server.coverages.honest ≡ old.honest
@@ -91,18 +109,22 @@ Sessions [] old new = new ≡ old
 Sessions (ends ∷ sessions) old new =
     (mid : DiskView) × ServesSession ends old mid × (mid.honest ≡ old.honest) × (old.failures ≤ mid.failures) × Sessions sessions mid new
 
--- What one machine does in sessions one after the other: each begins with the store that the one before left, and without jobs.
-abbrev pub ServesSessions : May → List (List Ends) → Store → Store → Type 0
-ServesSessions may [] old new = new ≡ old
-ServesSessions may (ends ∷ sessions) old new =
-    (next : State) × ServesAll may ends (begun old) next × ServesSessions may sessions next.store new
+-- What one machine does in sessions one after the other: each begins with the store that the one before left, as its
+-- tiles lie, with the coverages that are intact, and without jobs.
+abbrev pub ServesSessions : Type 0 → List (List Ends) → Store → List (List Index) → List (List ℕ) → Placed → Type 0
+ServesSessions failed [] store indexes intact last = last ≡ begun_with store indexes intact
+ServesSessions failed (ends ∷ sessions) store indexes intact last =
+    (next : Placed) × ServesAll failed ends (begun_with store indexes intact) next
+    × ServesSessions failed sessions next.state.store next.layout.indexes next.intact last
 
--- Sessions compose: all of them together are what one machine does, from a disk that listed a store to one that lists the next,
--- and from one that held a store to one that holds it. A disk without a byte holds the store without coverages.
+-- Sessions compose: all of them together are what one machine does, from a disk that listed a store to one that lists
+-- the next, and from one that held a store to one that holds it. A disk without a byte holds the store without coverages.
 pub record Composes : Type 0 where
   pub all : (sessions : List (List Ends)) (old new : DiskView) → Sessions sessions old new → IsTrue old.honest
       → (store : Store) (indexes : List (List Index)) → ListsStore old.content store indexes
-      → (next : Store) × (later : List (List Index)) × ListsStore new.content next later
-      × (AreIntact old.content store indexes → AreIntact new.content next later)
-      × ServesSessions (may_since old new.failures store indexes) sessions store next
+      → (intact : List (List ℕ)) → All (IsIntactIn old.content store indexes) intact
+      → (last : Placed) × ListsStore new.content last.state.store last.layout.indexes
+      × All (IsIntactIn new.content last.state.store last.layout.indexes) last.intact
+      × (AreIntact old.content store indexes → AreIntact new.content last.state.store last.layout.indexes)
+      × ServesSessions (Rose old.failures new.failures) sessions store indexes intact last
   pub begin : HoldsStore [] []

@@ -70,6 +70,7 @@ blocks_of v = record {
   uses = uses_in v.indexes v.held;
   size = 1048576;
   failures = v.failures;
+  overreads = 0;
   honest = v.honest;
 }
 
@@ -89,3 +90,7 @@ still_of v = record v { failures = 0; fetched = 0 }
 -- what holding and releasing leave as it is besides: all but what is held
 abbrev pub without_held : ServerView → ServerView
 without_held v = record v { held = [] }
+
+-- a server whose jobs were let go: nothing is held for one
+abbrev pub without_jobs : SessionView → SessionView
+without_jobs v = session (without_held v.coverages) (record { jobs = []; next = v.desk.next })

@@ -18,6 +18,7 @@ use Rattle.raster_store.specs.declared.fault.WriteFault.TheVariants as writing
 use Rattle.raster_store.specs.Calls.{signature_of}
 use Rattle.kvp_front.specs.Contents.{Cells, fill, values}
 use Rattle.coverage_server.specs.Damage.{SpoilsWrite}
+use Rattle.coverage_server.specs.Layouts.{LaysBox, LaysNone, layout_of}
 use Rattle.coverage_server.specs.Room.{LacksRoomToInsert, LacksRoomToWrite, numbers_of}
 use Rattle.coverage_server.specs.Views.{ServerView, signatures_of}
 use Rattle.coverage_server.specs.declared.arguments.Refusal.{Refusal}
@@ -48,17 +49,18 @@ abbrev pub FindsCoverage : List ℕ → Store → Option (Bor Signature) → Typ
 FindsCoverage name store None = found name store ≡ None
 FindsCoverage name store (Some s) = (c : Coverage) × (found name store ≡ Some c) × (s.now ≡ signature_of c)
 
--- a coverage came that is 0 or false everywhere
+-- a coverage came that is 0 or false everywhere, without tiles
 pub record InsertsCoverage (s : Signature) (old new : ServerView) : Type 0 where
   pub may : MayInsert (signatures_of old.store) s
   pub inserted : new.store ≡ inserted s.name s.domain s.fields old.store
+  pub lays : LaysNone s (layout_of old) (layout_of new)
 
 -- a coverage is not inserted: the catalogue refuses it, memory is wanting, or room
 abbrev pub InsertRefused : ServerView → Signature → Refusal → Type 0
 InsertRefused v s (Numbered code) = (e : InsertError) × (insert_refusal e ≡ Numbered code) × IsRefused (signatures_of v.store) s e
 InsertRefused v s NoMemory = ⊤
 InsertRefused v s DiskFault = ⊥
-InsertRefused v s NoRoom = LacksRoomToInsert s v
+InsertRefused v s NoRoom = LacksRoomToInsert s v.store (layout_of v)
 InsertRefused v s Damaged = ⊥
 
 -- cells for a box of a field of this type: as many as the box has points, and all of the type
@@ -78,10 +80,12 @@ abbrev pub MayWrite : List ℕ → ℕ → List Axis → Cells → Store → Typ
 MayWrite name field box cells store =
     IsSomeAnd (found name store) (λ c. IsBoxOf c.domain box × IsSomeAnd (slice_get c.fields field) (λ (f : Field). AreCellsOf f.kind box cells))
 
--- Cells were written into a box of a field: they may be, and where the disk is honest the store is function update on the box.
+-- Cells were written into a box of a field: they may be, and where the disk is honest the store is function update on
+-- the box, and the tiles that it meets take as many blocks as they need.
 pub record WritesCells (name : List ℕ) (field : ℕ) (box : List Axis) (cells : Cells) (old new : ServerView) : Type 0 where
   pub may : MayWrite name field box cells old.store
   pub written : IsTrue old.honest → new.store ≡ updated name field box (numbers_of box cells) old.store
+  pub lays : IsTrue old.honest → LaysBox name field box old.store new.store (layout_of old) (layout_of new)
 
 -- no box of the coverage, or no cells for the field
 abbrev pub IsNoWrite : Coverage → ℕ → List Axis → Cells → ℕ → Type 0
@@ -93,5 +97,6 @@ abbrev pub WriteRefused : List ℕ → ℕ → List Axis → Cells → ServerVie
 WriteRefused name field box cells v (Numbered code) = IsSomeAnd (found name v.store) (λ c. IsNoWrite c field box cells code)
 WriteRefused name field box cells v NoMemory = ⊤
 WriteRefused name field box cells v DiskFault = ⊤
-WriteRefused name field box cells v NoRoom = IsTrue v.honest → LacksRoomToWrite name field box cells v
+WriteRefused name field box cells v NoRoom =
+    IsTrue v.honest → LacksRoomToWrite name field box cells v.store (layout_of v)
 WriteRefused name field box cells v Damaged = IsTrue v.honest → SpoilsWrite name field box v

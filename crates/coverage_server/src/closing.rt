@@ -1,12 +1,13 @@
 //! A server is closed: the metadata is written, then the header, and the disk comes out.
-ghost use Rattle.std.specs.Prelude.{◌≡◌, ◌++◌, ◌≤◌, IsErrOf, IfOk, IfErr, IsTrue, OnOk};
+ghost use Rattle.std.specs.Prelude.{◌≡◌, ◌++◌, ◌≤◌, ℕ, List, IsErrOf, IfOk, IfErr, IsTrue, OnOk};
 ghost use Rattle.block_file.specs.Format.{KeepsHeader};
 ghost use Rattle.disk_face.specs.Disk.{Tells};
 ghost use Rattle.raster_store.specs.Views.{AreIntact};
 ghost use Rattle.coverage_server.specs.Closing.{bytes_named, bytes_written, metadata_held, IsWritten};
+ghost use Rattle.coverage_server.specs.Damage.{IsIntactIn, IsIntactNamed, KeepsSpelled};
 ghost use Rattle.coverage_server.specs.Disk.{HoldsStore, ListsStore};
-ghost use Rattle.coverage_server.specs.Sessions.{IsNotClosed};
-ghost use Rattle.coverage_server.specs.Views.{IsSound, IsUnchanged};
+ghost use Rattle.coverage_server.specs.Sessions.{IsNotClosed, IsLeft};
+ghost use Rattle.coverage_server.specs.Views.{IsSound, IsUnchanged, without_jobs};
 
 use crate::cells::AskedCells;
 use crate::coverages::Coverages;
@@ -96,6 +97,7 @@ fn write_closed<D: Disk>(alloc: Global, coverages: &mut Coverages<D>) -> Result<
         → IsWritten coverages.new.content (metadata_held coverages.old) coverages.new.indexes) }
     ensures unchanged { IsUnchanged coverages.old coverages.new }
     ensures sound { IsSound coverages.old → IsSound coverages.new }
+    ensures spelled { IsTrue coverages.old.honest → KeepsSpelled coverages.old coverages.new }
     ensures honest { coverages.new.honest ≡ coverages.old.honest }
     ensures told { Tells (IsErrOf result CloseFault.DiskFault) coverages.old.failures coverages.new.failures }
     ensures header { IsErrOf result CloseFault.NoMemory → KeepsHeader coverages.old.content coverages.new.content }
@@ -112,6 +114,9 @@ impl<D: Disk> Server<D> {
             → ListsStore (D.content disk) self.coverages.store self.coverages.indexes) }
         ensures intact { IfOk result (λ disk. IsSound self.coverages
             → AreIntact (D.content disk) self.coverages.store self.coverages.indexes) }
+        ensures spelled { IfOk result (λ disk. IsTrue self.coverages.honest → (name : List ℕ)
+            → IsIntactNamed self.coverages name
+            → IsIntactIn (D.content disk) self.coverages.store self.coverages.indexes name) }
         ensures held { IfOk result (λ disk. IsSound self.coverages → HoldsStore (D.content disk) self.coverages.store) }
         ensures honest { IfOk result (λ disk. D.honest disk ≡ self.coverages.honest) }
         ensures closed_no_fewer { IfOk result (λ disk. self.coverages.failures ≤ D.failures disk) }
@@ -134,6 +139,43 @@ impl<D: Disk> Server<D> {
                 server: Server { cells, desk },
                 fault,
             }),
+        }
+    }
+
+    /// Lets go what memory holds beside the coverages, so that a close may find some: the jobs, what is held for them,
+    /// and the tiles and pages that are kept. Takes no memory.
+    pub fn let_go(&mut self)
+        ensures { self.new ≡ without_jobs self.old }
+    {
+        self.desk.let_go();
+        self.cells.coverages.let_go();
+    }
+
+    /// Closes as `close` does. Where memory was wanting it lets go what `let_go` does, and closes once more; where that
+    /// is refused too, its fault is the one that is told.
+    pub fn close_with_retry(self) -> Result<D, NotClosed<D>>
+        ensures lists { IfOk result (λ disk. IsTrue self.coverages.honest
+            → ListsStore (D.content disk) self.coverages.store self.coverages.indexes) }
+        ensures intact { IfOk result (λ disk. IsSound self.coverages
+            → AreIntact (D.content disk) self.coverages.store self.coverages.indexes) }
+        ensures spelled { IfOk result (λ disk. IsTrue self.coverages.honest → (name : List ℕ)
+            → IsIntactNamed self.coverages name
+            → IsIntactIn (D.content disk) self.coverages.store self.coverages.indexes name) }
+        ensures held { IfOk result (λ disk. IsSound self.coverages → HoldsStore (D.content disk) self.coverages.store) }
+        ensures honest { IfOk result (λ disk. D.honest disk ≡ self.coverages.honest) }
+        ensures closed_no_fewer { IfOk result (λ disk. self.coverages.failures ≤ D.failures disk) }
+        ensures left { IfErr result (λ refused. IsLeft refused.fault self refused.server) }
+    {
+        match self.close() {
+            Ok(disk) => Ok(disk),
+            Err(refused) => match refused.fault {
+                CloseFault::NoMemory => {
+                    let mut server = refused.server;
+                    server.let_go();
+                    server.close()
+                }
+                CloseFault::DiskFault => Err(refused),
+            },
         }
     }
 }

@@ -1,26 +1,28 @@
 //! The coverages of a disk: their catalogue, and their cells in tiles.
-ghost use Rattle.std.specs.Prelude.{◌≡◌, ◌≤◌, [], None, length, IfOk, IfErr, IfSome, IfNone, OnOk, OnErr};
-ghost use Rattle.std.specs.Prelude.{IsErr, IsErrOf, IsTrue};
+ghost use Rattle.std.specs.Prelude.{◌≡◌, ◌<◌, ◌≤◌, ℕ, None, length, IfOk, IfErr, IfSome, IfNone, OnOk, OnErr};
+ghost use Rattle.std.specs.Prelude.{IsErr, IsErrOf, IsTrue, option_map, slice_get};
 ghost use Rattle.arr_core.specs.Stores.{deleted, found};
-ghost use Rattle.block_file.specs.Format.{HeaderTorn, KeepsHeader, Closes};
+ghost use Rattle.block_file.specs.State.{block_at};
+ghost use Rattle.block_file.specs.Format.{HeaderTorn, KeepsHeader};
 ghost use Rattle.catalogue.specs.Bytes.{catalogue_bytes};
 ghost use Rattle.metadata.specs.Metadata.{part_bytes};
 ghost use Rattle.catalogue.specs.Signatures.{IsCatalogue};
 ghost use Rattle.tile_store.specs.Faults.{Refuses};
-ghost use Rattle.raster_store.specs.Calls.{HasField, IsIndexOf};
-ghost use Rattle.raster_store.specs.Views.{AreIntact, Fetched};
+ghost use Rattle.raster_store.specs.Calls.{AreWhole, HasField, IsIndexOf, indexes_without};
+ghost use Rattle.raster_store.specs.Views.{AreIntact, Fetched, SnapshotView, listed_all};
 ghost use Rattle.raster_store.specs.Fetches.{IsPlaceOf, HasTile, HasTileCount, AreTileCells};
 ghost use Rattle.raster_store.specs.Snapshots.{held_for};
+ghost use Rattle.coverage_server.specs.Damage.{KeepsSpelled};
 ghost use Rattle.coverage_server.specs.Holding.{MayHold, HoldsFor, ReleasesFor};
 ghost use Rattle.coverage_server.specs.Tiles.{IsSpelledFor, store_for};
 ghost use Rattle.disk_face.specs.Disk.{Tells};
 ghost use Rattle.kvp_front.specs.Contents.{content_view};
-ghost use Rattle.coverage_server.specs.Closing.{bytes_written, metadata_held, IsWritten, TellsClose};
+ghost use Rattle.coverage_server.specs.Closing.{bytes_written, metadata_held, ClosesFile, IsWritten, TellsClose};
 ghost use Rattle.tile_store.specs.declared.fault.Fault.TheVariants as device;
 ghost use Rattle.kvp_front.specs.Contents as contents;
 ghost use Rattle.coverage_server.specs.Disk.{HoldsStore, ListsStore};
 ghost use Rattle.coverage_server.specs.Opening.{IsOpenFile};
-ghost use Rattle.coverage_server.specs.Views.{IsSound, IsUnchanged, KeepsHeld, signatures_of, still_of};
+ghost use Rattle.coverage_server.specs.Views.{IsSound, IsUnchanged, KeepsHeld, signatures_of, still_of, without_held};
 ghost use Rattle.coverage_server.specs.Writing.{device_refusal, write_refusal, insert_refusal, FindsCoverage};
 ghost use Rattle.coverage_server.specs.Writing.{InsertsCoverage, InsertRefused, WritesCells, WriteRefused};
 
@@ -140,11 +142,16 @@ impl<D: Disk> Coverages<D> {
         self.cells.fetched()
     }
 
-    /// How many coverages there are: at most 1,024, each with a name of its own.
+    /// How many coverages there are: at most 1,024, each with a name of its own, and an index for each of its fields,
+    /// which lists tiles of its domain, in blocks that are whole on an honest disk.
     pub fn len(&self) -> usize
         ensures len { result ≡ length self.now.store }
         ensures catalogue { IsCatalogue (signatures_of self.now.store) }
+        ensures whole { AreWhole self.now.store self.now.indexes }
+        ensures in_use { IsTrue self.now.honest → (k : ℕ) → 0 < listed_all self.now.indexes k
+            → length (block_at self.now.content k) ≡ 4096 }
     {
+        let _listed = self.cells.len();
         self.catalogue.len()
     }
 
@@ -196,6 +203,7 @@ impl<D: Disk> Coverages<D> {
     /// Takes the coverage with a name out, where there is one. Takes no memory.
     pub fn remove(&mut self, name: &Name)
         ensures removed { self.new.store ≡ deleted name.now self.old.store }
+        ensures indexes { self.new.indexes ≡ indexes_without name.now self.old.store self.old.indexes }
         ensures sound { IsSound self.old → IsSound self.new }
         ensures content { self.new.content ≡ self.old.content }
         ensures honest { self.new.honest ≡ self.old.honest }
@@ -223,6 +231,7 @@ impl<D: Disk> Coverages<D> {
         ensures told { Tells (IsErrOf result Refusal.DiskFault) self.old.failures self.new.failures }
         ensures unchanged { OnErr result (IsUnchanged self.old self.new) }
         ensures sound { IsSound self.old → IsSound self.new }
+        ensures spelled { IsTrue self.old.honest → KeepsSpelled self.old self.new }
         ensures header { KeepsHeader self.old.content self.new.content }
         ensures honest { self.new.honest ≡ self.old.honest }
         ensures held { KeepsHeld self.old self.new }
@@ -242,12 +251,14 @@ impl<D: Disk> Coverages<D> {
         ensures told { Tells (IsErrOf result Refusal.DiskFault) self.old.failures self.new.failures }
         ensures unchanged { OnErr result (IsUnchanged self.old self.new) }
         ensures sound { IsSound self.old → IsSound self.new }
+        ensures spelled { IsTrue self.old.honest → KeepsSpelled self.old self.new }
         ensures header { KeepsHeader self.old.content self.new.content }
         ensures honest { self.new.honest ≡ self.old.honest }
         ensures held { KeepsHeld self.old self.new }
         ensures fetched { self.new.fetched ≡ self.old.fetched }
     {
         let bytes = self.catalogue.bytes_len();
+        let _listed = self.cells.len();
         match self.cells.fill_box(name, field, area, cell, bytes) {
             Ok(()) => Ok(()),
             Err(fault) => Err(write_refusal(fault)),
@@ -268,12 +279,14 @@ impl<D: Disk> Coverages<D> {
         ensures told { Tells (IsErrOf result Refusal.DiskFault) self.old.failures self.new.failures }
         ensures unchanged { OnErr result (IsUnchanged self.old self.new) }
         ensures sound { IsSound self.old → IsSound self.new }
+        ensures spelled { IsTrue self.old.honest → KeepsSpelled self.old self.new }
         ensures header { KeepsHeader self.old.content self.new.content }
         ensures honest { self.new.honest ≡ self.old.honest }
         ensures held { KeepsHeld self.old self.new }
         ensures fetched { self.new.fetched ≡ self.old.fetched }
     {
         let bytes = self.catalogue.bytes_len();
+        let _listed = self.cells.len();
         match self.cells.write_box(name, field, area, cells, bytes) {
             Ok(()) => Ok(()),
             Err(fault) => Err(write_refusal(fault)),
@@ -295,6 +308,23 @@ impl<D: Disk> Coverages<D> {
         ensures { ReleasesFor number self.old self.new }
     {
         self.cells.release(number)
+    }
+
+    /// The first number that something is held for. Takes no memory.
+    fn first_held(&self) -> Option<u64>
+        ensures { result ≡ option_map (λ (x : SnapshotView). x.job) (slice_get self.now.held 0) }
+    {
+        self.cells.first_held()
+    }
+
+    /// Ends what is held for all numbers, and lets go the tiles and the pages that are kept. Takes no memory.
+    pub fn let_go(&mut self)
+        ensures { self.new ≡ without_held self.old }
+    {
+        while let Some(number) = self.first_held() {
+            self.release(number);
+        }
+        self.cells.let_go();
     }
 
     /// The place of the coverage with a name among those that a number reads: those that are held for it, or, for number
@@ -353,6 +383,7 @@ impl<D: Disk> Coverages<D> {
             → IsWritten self.new.content (metadata_held self.old) self.new.indexes) }
         ensures unchanged { IsUnchanged self.old self.new }
         ensures sound { IsSound self.old → IsSound self.new }
+        ensures spelled { IsTrue self.old.honest → KeepsSpelled self.old self.new }
         ensures honest { self.new.honest ≡ self.old.honest }
         ensures told { Tells (IsErrOf result CloseFault.DiskFault) self.old.failures self.new.failures }
         ensures header { IsErrOf result CloseFault.NoMemory → KeepsHeader self.old.content self.new.content }
@@ -367,20 +398,23 @@ impl<D: Disk> Coverages<D> {
 
     /// Writes the header of a closed file.
     fn write_header(&mut self, first: u32, length: u64) -> Result<(), CloseFault>
-        ensures closes { OnOk result (IsTrue self.old.honest → Closes first length self.old.content self.new.content) }
+        ensures closes { OnOk result
+            (IsTrue self.old.honest → ClosesFile first length self.old.content self.new.content) }
         ensures unchanged { IsUnchanged self.old self.new }
         ensures sound { IsSound self.old → IsSound self.new }
+        ensures spelled { IsTrue self.old.honest → KeepsSpelled self.old self.new }
         ensures honest { self.new.honest ≡ self.old.honest }
         ensures told { Tells (IsErrOf result CloseFault.DiskFault) self.old.failures self.new.failures }
         ensures memory { IsErrOf result CloseFault.NoMemory → ⊥ }
     {
+        let _held = self.cells.len();
         match self.cells.write_header(State::Closed, first, length) {
             Ok(()) => Ok(()),
             Err(_) => Err(CloseFault::DiskFault),
         }
     }
 
-    /// Writes the header of an open file. Refused where the disk has counted a failure.
+    /// Writes the header of an open file of version 2. Refused where the disk has counted a failure.
     pub(crate) fn write_open(&mut self) -> Result<(), DiskFault>
         ensures header { OnOk result (IsTrue self.old.honest → IsOpenFile self.new.content) }
         ensures torn { IsTrue self.old.honest → HeaderTorn self.old.content self.new.content }
@@ -388,9 +422,11 @@ impl<D: Disk> Coverages<D> {
         ensures store { IsTrue self.old.honest → self.new.store ≡ self.old.store }
         ensures held { KeepsHeld self.old self.new }
         ensures sound { IsSound self.old → IsSound self.new }
+        ensures spelled { IsTrue self.old.honest → KeepsSpelled self.old self.new }
         ensures honest { self.new.honest ≡ self.old.honest }
         ensures told { Tells (IsErr result) self.old.failures self.new.failures }
     {
+        let _held = self.cells.len();
         self.cells.write_header(State::Open, 0, 0)
     }
 

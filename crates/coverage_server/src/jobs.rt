@@ -1,11 +1,13 @@
 //! Jobs: queries that are submitted, done a few units at a time, and fetched.
-ghost use Rattle.std.specs.Prelude.{◌≡◌, ◌+◌, ◌≤◌, ℕ, All, List, [], ◌++◌, codes, decimal, length};
-ghost use Rattle.std.specs.Prelude.{string_bytes, string_len, string_capacity, IfOk, IfErr, OnErr};
+ghost use Rattle.std.specs.Prelude.{◌≡◌, ◌⊎◌, ◌+◌, ◌≤◌, ℕ, All, List, [], ◌++◌, codes, decimal, length};
+ghost use Rattle.std.specs.Prelude.{string_bytes, string_len, string_capacity, IfOk, IfErr, OnOk, OnErr};
 ghost use Rattle.raster_store.specs.Views.{SnapshotView};
 ghost use Rattle.coverage_server.specs.Answered.{AnsweredIn, IsAnswer, Never};
 ghost use Rattle.coverage_server.specs.Damage.{SpoilsJob};
+ghost use Rattle.coverage_server.specs.Layouts.{LaysHeld, LetsGo, layout_of};
 ghost use Rattle.coverage_server.specs.Machine.{Submits, StepsJob, Fetches, Cancels};
 ghost use Rattle.coverage_server.specs.Stages.{IsTypedText, submit_refusal, step_refusal, fetch_refusal};
+ghost use Rattle.coverage_server.specs.Fetching.{FetchesNone, FetchesUnits, UnlessFails};
 ghost use Rattle.coverage_server.specs.Holding.{IsHolding};
 ghost use Rattle.coverage_server.specs.Leaving.{LeavesJob, LeavesFetched, refusal_number};
 ghost use Rattle.coverage_server.specs.Tiles.{IsHeld};
@@ -94,6 +96,10 @@ fn submit_typed<D: Disk>(
     ensures answered { (text : List ℕ) → IsTypedText cells.old.coverages.store text (typed_view typed.now)
         → AnsweredIn (Submits text) ⊥ Never
         (session cells.old.coverages desk.old) (session cells.new.coverages desk.new) result }
+    ensures lays { OnOk result ((text : List ℕ)
+        → IsTypedText cells.old.coverages.store text (typed_view typed.now)
+        → LaysHeld text cells.old.coverages.store desk.old.next (layout_of cells.old.coverages)
+        (layout_of cells.new.coverages)) }
     ensures answer { IfOk result IsAnswer }
     ensures holding { IsHolding desk.new cells.new.coverages.held }
     ensures others { without_held cells.new.coverages ≡ without_held cells.old.coverages }
@@ -125,6 +131,8 @@ pub fn submit_query<D: Disk>(
     requires holding { IsHolding desk.old cells.old.coverages.held }
     ensures answered { AnsweredIn (Submits text.now) ⊥ Never
         (session cells.old.coverages desk.old) (session cells.new.coverages desk.new) result }
+    ensures lays { OnOk result (LaysHeld text.now cells.old.coverages.store desk.old.next
+        (layout_of cells.old.coverages) (layout_of cells.new.coverages)) }
     ensures answer { IfOk result IsAnswer }
     ensures holding { IsHolding desk.new cells.new.coverages.held }
     ensures others { without_held cells.new.coverages ≡ without_held cells.old.coverages }
@@ -147,13 +155,16 @@ pub fn step_job<D: Disk>(
     requires holding { IsHolding desk.old cells.old.coverages.held }
     ensures answered { AnsweredIn (StepsJob number units) ⊥ (SpoilsJob number cells.old.coverages)
         (session cells.old.coverages desk.old) (session cells.new.coverages desk.new) result }
+    ensures lays { OnOk result (LetsGo number (layout_of cells.old.coverages) (layout_of cells.new.coverages)) }
     ensures answer { IfOk result IsAnswer }
     ensures holding { IsHolding desk.new cells.new.coverages.held }
     ensures others { still_of (without_held cells.new.coverages) ≡ still_of (without_held cells.old.coverages) }
     ensures sound { IsSound cells.old.coverages → IsSound cells.new.coverages }
     ensures refused { OnErr result (still_of cells.new.coverages ≡ still_of cells.old.coverages) }
     ensures no_fewer { cells.old.coverages.failures ≤ cells.new.coverages.failures }
-    ensures jobs { OnErr result (LeavesJob number desk.old desk.new) }
+    ensures jobs { OnErr result (LeavesJob number desk.old desk.new)
+        × UnlessFails result (FetchesNone cells.old.coverages cells.new.coverages
+        ⊎ FetchesUnits number (session cells.old.coverages desk.old) (session cells.new.coverages desk.new)) }
 {
     let Some(left) = desk.left(number) else {
         return Err(Refusal::Numbered(refusals::NO_SUCH_JOB));
@@ -199,6 +210,7 @@ pub fn cancel_job<D: Disk>(
     requires holding { IsHolding desk.old cells.old.coverages.held }
     ensures answered { AnsweredIn (Cancels number) ⊥ Never
         (session cells.old.coverages desk.old) (session cells.new.coverages desk.new) result }
+    ensures lays { OnOk result (LetsGo number (layout_of cells.old.coverages) (layout_of cells.new.coverages)) }
     ensures answer { IfOk result IsAnswer }
     ensures holding { IsHolding desk.new cells.new.coverages.held }
     ensures others { without_held cells.new.coverages ≡ without_held cells.old.coverages }

@@ -4,11 +4,12 @@ ghost use Rattle.std.specs.Prelude.{◌≡◌, ◌+◌, ◌++◌, ◌∷◌, [],
 ghost use Rattle.arr_core.specs.Stores.{Store};
 ghost use Rattle.block_file.specs.State.{times};
 ghost use Rattle.block_file.specs.Uses.{IsFresh};
-ghost use Rattle.block_file.specs.View.{IsOpened};
+ghost use Rattle.block_file.specs.View.{IsOpened, IsOfVersion};
 ghost use Rattle.metadata.specs.Metadata.{AreCounted};
 ghost use Rattle.raster_store.specs.Calls.{MayAttach};
 ghost use Rattle.raster_store.specs.Views.{Index, AreIntact, coverages_in, listed_all, listed_fields};
-ghost use Rattle.coverage_server.specs.Disk.{AreTiles, ListsStore, HoldsStore};
+ghost use Rattle.coverage_server.specs.Damage.{IsIntactIn, IsIntactNamed};
+ghost use Rattle.coverage_server.specs.Disk.{AreTiles, ListsStore};
 ghost use Rattle.coverage_server.specs.Opening.{items_of, IsListed, IsUnread, ClaimsListed, CannotClaim, ClaimsLayout};
 ghost use Rattle.coverage_server.specs.Opening.{Lists, Departs, IsNoLayout, IsOpenFile, TellsAttach, chain_fault};
 ghost use Rattle.tile_store.specs.declared.fault.Fault.TheVariants as device;
@@ -22,6 +23,7 @@ use arr_core::Signature;
 use block_file::{BlockFile, Blocks, CHAIN_BYTES, Opened, Refused, State};
 use catalogue::Catalogue;
 use disk_face::Disk;
+use file_bytes::Version;
 use job_desk::JobDesk;
 use metadata::{Metadata, ReadError, read_metadata};
 use page_pool::PagePool;
@@ -104,10 +106,10 @@ fn blocks_of(alloc: Global, indexes: &[Vec<TileIndex>]) -> Result<Vec<u32>, Allo
     Ok(blocks)
 }
 
-/// The catalogue and the indexes that metadata has. Without a byte there are none.
-fn read_layout(alloc: Global, metadata: &[u8]) -> Result<Metadata, OpenFault>
-    ensures listed { IfOk result (λ m. IsListed metadata.now m.catalogue (items_of m.indexes.items)) }
-    ensures refused { IfErr result (Departs (IsUnread metadata.now)) }
+/// The catalogue and the indexes that metadata has in a file of a version. Without a byte there are none.
+fn read_layout(alloc: Global, version: Version, metadata: &[u8]) -> Result<Metadata, OpenFault>
+    ensures listed { IfOk result (λ m. IsListed version metadata.now m.catalogue (items_of m.indexes.items)) }
+    ensures refused { IfErr result (Departs (IsUnread version metadata.now)) }
 {
     if metadata.is_empty() {
         return Ok(Metadata {
@@ -115,7 +117,7 @@ fn read_layout(alloc: Global, metadata: &[u8]) -> Result<Metadata, OpenFault>
             indexes: Vec::new(alloc),
         });
     }
-    match read_metadata(alloc, metadata) {
+    match read_metadata(alloc, version, metadata) {
         Ok(layout) => Ok(layout),
         Err(ReadError::Damaged) => Err(OpenFault::Damaged),
         Err(ReadError::NoMemory) => Err(OpenFault::NoMemory),
@@ -146,18 +148,20 @@ fn claim_listed<D: Disk>(
 fn claim_layout<D: Disk>(
     alloc: Global,
     file: &mut BlockFile<D>,
+    version: Version,
     metadata: &[u8],
 ) -> Result<Metadata, OpenFault>
     requires opened { IsTrue file.old.honest → IsOpened file.old.content metadata.now file.old.marks }
+    requires version { IsTrue file.old.honest → IsOfVersion version file.old.content }
     requires fresh { IsFresh file.old.marks }
     ensures claims { IfOk result (λ m.
-        ClaimsLayout metadata.now m.catalogue (items_of m.indexes.items) file.old.marks file.new.marks) }
+        ClaimsLayout version metadata.now m.catalogue (items_of m.indexes.items) file.old.marks file.new.marks) }
     ensures refused { IfErr result (IsNoLayout file.old) }
     ensures content { file.new.content ≡ file.old.content }
     ensures failures { file.new.failures ≡ file.old.failures }
     ensures honest { file.new.honest ≡ file.old.honest }
 {
-    let layout = read_layout(alloc, metadata)?;
+    let layout = read_layout(alloc, version, metadata)?;
     if let Err(fault) = claim_listed(alloc, file, &layout.indexes) {
         return Err(fault);
     }
@@ -230,6 +234,7 @@ fn chain_fault(fault: block_file::OpenFault) -> OpenFault
 /// The coverages of a file that was opened. Nothing is written.
 fn coverages_of<D: Disk>(alloc: Global, opened: Opened<D>) -> Result<Coverages<D>, NotOpened<D>>
     requires opened { IsTrue opened.file.honest → IsOpened opened.file.content opened.metadata.items opened.file.marks }
+    requires version { IsTrue opened.file.honest → IsOfVersion opened.version opened.file.content }
     requires fresh { IsFresh opened.file.marks }
     ensures lists { IfOk result (λ coverages. IsTrue opened.file.honest
         → Lists opened.file.content coverages.store coverages.indexes) }
@@ -242,8 +247,12 @@ fn coverages_of<D: Disk>(alloc: Global, opened: Opened<D>) -> Result<Coverages<D
     ensures honest_disk { IfErr result (λ refused. D.honest refused.disk ≡ opened.file.honest) }
     ensures failures_disk { IfErr result (λ refused. D.failures refused.disk ≡ opened.file.failures) }
 {
-    let Opened { mut file, metadata } = opened;
-    let Metadata { catalogue, indexes } = match claim_layout(alloc, &mut file, &metadata) {
+    let Opened {
+        mut file,
+        version,
+        metadata,
+    } = opened;
+    let Metadata { catalogue, indexes } = match claim_layout(alloc, &mut file, version, &metadata) {
         Ok(layout) => layout,
         Err(fault) => {
             return Err(NotOpened {
@@ -264,8 +273,8 @@ fn coverages_of<D: Disk>(alloc: Global, opened: Opened<D>) -> Result<Coverages<D
 }
 
 impl<D: Disk> Server<D> {
-    /// Opens the store of a disk; one without a byte holds the empty store. Once it has given a server, the header
-    /// tells an open file until a close.
+    /// Opens the store of a disk, a file of either version; one without a byte holds the empty store. Once it has given
+    /// a server, the header tells an open file of version 2, and an open file until a close.
     ///
     /// The refusals, with the disk, in this order: not a store, not closed, and damaged for any other departure from
     /// the format: of the chain, the catalogue or an index, a tile beyond its domain, and a block that is listed
@@ -279,7 +288,11 @@ impl<D: Disk> Server<D> {
             → (server.coverages.store ≡ store) × (server.coverages.indexes ≡ indexes)) }
         ensures sound { IfOk result (λ server. IsTrue (D.honest disk)
             → AreIntact (D.content disk) server.coverages.store server.coverages.indexes → IsSound server.coverages) }
+        ensures spelled { IfOk result (λ server. IsTrue (D.honest disk) → (name : List ℕ)
+            → IsIntactIn (D.content disk) server.coverages.store server.coverages.indexes name
+            → IsIntactNamed server.coverages name) }
         ensures desk { IfOk result (λ server. server.desk ≡ record { jobs = []; next = Some 1 }) }
+        ensures unheld { IfOk result (λ server. server.coverages.held ≡ []) }
         ensures header { IfOk result (λ server. IsTrue (D.honest disk) → IsOpenFile server.coverages.content) }
         ensures honest { IfOk result (λ server. server.coverages.honest ≡ D.honest disk) }
         ensures failures { IfOk result (λ server. server.coverages.failures ≡ D.failures disk) }

@@ -1,5 +1,5 @@
 //! The answers of queries over the coverages.
-ghost use Rattle.std.specs.Prelude.{◌≡◌, ◌≤◌, All, None, Ok, IfOk, IfErr, IsTrue, length, map};
+ghost use Rattle.std.specs.Prelude.{◌≡◌, ◌⊎◌, ◌+◌, ◌≤◌, All, None, Ok, IfOk, IfErr, IsTrue, length, map};
 ghost use Rattle.arr_core.specs.declared.signature.Signature.{Signature};
 ghost use Rattle.wcps_text.specs.Token.{tok};
 ghost use Rattle.wcps_text.specs.Tree.{query_view};
@@ -14,6 +14,7 @@ ghost use Rattle.coverage_server.specs.Tiles.{IsHeld};
 ghost use Rattle.coverage_server.specs.Machine.{Answers};
 ghost use Rattle.coverage_server.specs.Answered.{Answered, IsAnswer};
 ghost use Rattle.coverage_server.specs.Damage.{SpoilsText};
+ghost use Rattle.coverage_server.specs.Fetching.{FetchesNone, FetchesPlan, FetchesText, UnlessFails, most_of_plan};
 ghost use Rattle.coverage_server.specs.Views.{still_of};
 
 use crate::arguments::Refusal;
@@ -140,6 +141,8 @@ fn values_by<D: Disk>(
     ensures faults { IfErr result (FailsReading typed.now.coverages.items cells.old.coverages cells.new.coverages) }
     ensures still { still_of cells.new.coverages ≡ still_of cells.old.coverages }
     ensures no_fewer { cells.old.coverages.failures ≤ cells.new.coverages.failures }
+    ensures fetched { UnlessFails result
+        (cells.new.coverages.fetched ≤ cells.old.coverages.fetched + most_of_plan (plan_in exec.old)) }
 {
     cells.ask(0, exec.coverages())?;
     run_down(exec, cells, 0)?;
@@ -158,6 +161,7 @@ fn values_of<D: Disk>(cells: &mut AskedCells<D>, typed: &TypedQuery) -> Result<S
     ensures faults { IfErr result (FailsReading typed.now.coverages.items cells.old.coverages cells.new.coverages) }
     ensures still { still_of cells.new.coverages ≡ still_of cells.old.coverages }
     ensures no_fewer { cells.old.coverages.failures ≤ cells.new.coverages.failures }
+    ensures fetched { UnlessFails result (FetchesPlan (typed_view typed.now) cells.old.coverages cells.new.coverages) }
 {
     let plan = plan_of(cells.alloc, typed)?;
     let mut exec = Exec::new(cells.alloc, plan)?;
@@ -173,6 +177,8 @@ pub fn process<D: Disk>(cells: &mut AskedCells<D>, text: &str) -> Result<Reply, 
     ensures answer { IfOk result IsAnswer }
     ensures still { still_of cells.new.coverages ≡ still_of cells.old.coverages }
     ensures no_fewer { cells.old.coverages.failures ≤ cells.new.coverages.failures }
+    ensures fetched { UnlessFails result (FetchesNone cells.old.coverages cells.new.coverages
+        ⊎ FetchesText text.now cells.old.coverages cells.new.coverages) }
 {
     let typed = typed_text(cells.alloc, &cells.coverages, text)?;
     let values = values_of(cells, &typed)?;

@@ -1,16 +1,19 @@
 //! The server: requests act on the coverages, and each gets a reply.
-ghost use Rattle.std.specs.Prelude.{◌≡◌, ◌≤◌, ℕ, List, Result, IfOk, IfErr, OnErr, IsTrue};
+ghost use Rattle.std.specs.Prelude.{◌≡◌, ◌≤◌, ℕ, List, Result, IfOk, IfErr, OnOk, OnErr, IsTrue};
 ghost use Rattle.block_file.specs.Format.{KeepsHeader};
 ghost use Rattle.disk_face.specs.Disk.{Rose};
 ghost use Rattle.kvp_front.specs.Contents.{content_view};
 ghost use Rattle.kvp_front.specs.Requests.{asks};
 ghost use Rattle.http_front.specs.Stream.{Shows};
-ghost use Rattle.coverage_server.specs.Machine.{Inserts, Updates, Deletes, Lists, Describes, Serves, MessageStep, State, axes_of, may_tell};
-ghost use Rattle.coverage_server.specs.Answered.{Answered, AnsweredIn, IsAnswer, IsQuiet, Steps};
-ghost use Rattle.coverage_server.specs.Damage.{Spoils, SpoilsUpdate};
+ghost use Rattle.coverage_server.specs.Layouts.{Lays, LaysNone, LaysRest, LaysUpdate, layout_of};
+ghost use Rattle.coverage_server.specs.Machine.{Inserts, Updates, Deletes, Lists, Describes, Serves, axes_of};
+ghost use Rattle.coverage_server.specs.Runs.{MessageStep, Placed};
+ghost use Rattle.coverage_server.specs.Answered.{Answered, AnsweredIn, IsAnswer, Steps};
+ghost use Rattle.coverage_server.specs.Damage.{KeepsSpelled, Spoils, SpoilsUpdate};
+ghost use Rattle.coverage_server.specs.Fetching.{FetchesBounded};
 ghost use Rattle.coverage_server.specs.Holding.{IsHolding};
-ghost use Rattle.coverage_server.specs.Leaving.{LeavesJobs, IfRefused, refusal_number};
-ghost use Rattle.coverage_server.specs.Represents.{Represents};
+ghost use Rattle.coverage_server.specs.Leaving.{Leaves, IfRefused, refusal_number, reply_of};
+ghost use Rattle.coverage_server.specs.Represents.{Places};
 ghost use Rattle.coverage_server.specs.Room.{LacksRoom, LacksRoomToInsert, LacksRoomToUpdate};
 ghost use Rattle.coverage_server.specs.Serves.{ServesConnection, TellsEnd, ends_of};
 ghost use Rattle.catalogue.specs.Signatures.{IsCatalogue};
@@ -68,7 +71,19 @@ fn insert<D: Disk>(
     coverages: &mut Coverages<D>,
     insertion: &Insertion,
 ) -> Result<Reply, Refusal>
-    ensures answered { Answered (Inserts insertion.now.coverage insertion.now.intervals.items insertion.now.fields.items) (LacksRoomToInsert (record { name = insertion.now.coverage; domain = axes_of insertion.now.intervals.items; fields = insertion.now.fields.items }) coverages.old) ⊥ coverages.old coverages.new result }
+    ensures answered { Answered
+        (Inserts insertion.now.coverage insertion.now.intervals.items insertion.now.fields.items)
+        (LacksRoomToInsert (record {
+          name = insertion.now.coverage;
+          domain = axes_of insertion.now.intervals.items;
+          fields = insertion.now.fields.items;
+        }) coverages.old.store (layout_of coverages.old))
+        ⊥ coverages.old coverages.new result }
+    ensures lays { OnOk result (LaysNone (record {
+      name = insertion.now.coverage;
+      domain = axes_of insertion.now.intervals.items;
+      fields = insertion.now.fields.items;
+    }) (layout_of coverages.old) (layout_of coverages.new)) }
     ensures answer { IfOk result IsAnswer }
     ensures unchanged { OnErr result (IsUnchanged coverages.old coverages.new) }
     ensures sound { IsSound coverages.old → IsSound coverages.new }
@@ -100,12 +115,19 @@ fn update<D: Disk>(
     coverages: &mut Coverages<D>,
     update: &Update,
 ) -> Result<Reply, Refusal>
-    ensures answered { Answered (Updates update.now.coverage update.now.field update.now.intervals.items (content_view update.now.content)) (LacksRoomToUpdate update.now.coverage update.now.field update.now.intervals.items (content_view update.now.content) coverages.old)
+    ensures answered { Answered
+        (Updates update.now.coverage update.now.field update.now.intervals.items (content_view update.now.content))
+        (LacksRoomToUpdate update.now.coverage update.now.field update.now.intervals.items
+        (content_view update.now.content) coverages.old.store (layout_of coverages.old))
         (SpoilsUpdate update.now.coverage update.now.field update.now.intervals.items coverages.old)
         coverages.old coverages.new result }
+    ensures lays { OnOk result (IsTrue coverages.old.honest
+        → LaysUpdate update.now.coverage update.now.field update.now.intervals.items
+        coverages.old.store coverages.new.store (layout_of coverages.old) (layout_of coverages.new)) }
     ensures answer { IfOk result IsAnswer }
     ensures unchanged { OnErr result (IsUnchanged coverages.old coverages.new) }
     ensures sound { IsSound coverages.old → IsSound coverages.new }
+    ensures spelled { IsTrue coverages.old.honest → KeepsSpelled coverages.old coverages.new }
     ensures header { KeepsHeader coverages.old.content coverages.new.content }
     ensures honest { coverages.new.honest ≡ coverages.old.honest }
     ensures no_fewer { coverages.old.failures ≤ coverages.new.failures }
@@ -131,6 +153,8 @@ fn delete<D: Disk>(
     name: &Name,
 ) -> Result<Reply, Refusal>
     ensures answered { Answered (Deletes name.now) ⊥ ⊥ coverages.old coverages.new result }
+    ensures lays { OnOk result
+        (LaysRest name.now coverages.old.store (layout_of coverages.old) (layout_of coverages.new)) }
     ensures answer { IfOk result IsAnswer }
     ensures unchanged { OnErr result (IsUnchanged coverages.old coverages.new) }
     ensures sound { IsSound coverages.old → IsSound coverages.new }
@@ -178,20 +202,24 @@ fn list<D: Disk>(alloc: Global, coverages: &Coverages<D>) -> Result<Reply, Refus
 impl<D: Disk> Server<D> {
     /// What a request is answered, or why it is refused.
     fn answered(&mut self, request: &Request) -> Result<Reply, Refusal>
-        ensures answered { AnsweredIn (Serves (asks request.now)) (LacksRoom (asks request.now) self.old.coverages)
+        ensures answered { AnsweredIn (Serves (asks request.now))
+            (LacksRoom (asks request.now) self.old.coverages.store (layout_of self.old.coverages))
             (Spoils (asks request.now) self.old.coverages) self.old self.new result }
+        ensures lays { IsTrue self.old.coverages.honest → OnOk result (Lays (asks request.now)
+            self.old.coverages.store self.old.desk.next self.new.coverages.store
+            (layout_of self.old.coverages) (layout_of self.new.coverages))
+            × KeepsSpelled self.old.coverages self.new.coverages }
         ensures answer { IfOk result IsAnswer }
-        ensures unchanged { OnErr result (IsUnchanged self.old.coverages self.new.coverages) }
+        ensures leaves { IfErr result (λ e. Leaves (asks request.now) (refusal_number e) self.old self.new) }
         ensures sound { IsSound self.old.coverages → IsSound self.new.coverages }
         ensures header { KeepsHeader self.old.coverages.content self.new.coverages.content }
         ensures honest { self.new.coverages.honest ≡ self.old.coverages.honest }
         ensures no_fewer { self.old.coverages.failures ≤ self.new.coverages.failures }
         ensures holding { IsHolding self.new.desk self.new.coverages.held }
-        ensures quiet { IsQuiet (asks request.now) → self.new.coverages.fetched ≡ self.old.coverages.fetched }
-        ensures jobs { IfErr result
-            (λ e. LeavesJobs (asks request.now) (refusal_number e) self.old.desk self.new.desk) }
+        ensures fetches { FetchesBounded (asks request.now) (reply_of result) self.old self.new }
     {
         let alloc = self.cells.alloc;
+        let _whole = self.cells.coverages.len();
         match request {
             Request::InsertCoverage(insertion) => {
                 insert(alloc, &mut self.cells.coverages, insertion)
@@ -216,27 +244,30 @@ impl<D: Disk> Server<D> {
         }
     }
 
-    /// Answers a request: from each state of the machine that the server represents one step of it to a state that it then
-    /// represents, on an honest disk. In place of any reply want of memory (90), a disk fault (91), want of room (92) or
-    /// damage (93) may be told; damage only where a tile that is in the way of this very request is not spelled. A refusal
-    /// leaves the signatures, the indexes, the jobs and what is held for them as they were on any disk, but for a fault that
-    /// is fetched as the answer of a job, which is dropped then. The coverages are those of a catalogue. Coverages are held
-    /// for exactly the jobs that have units left. Tiles are fetched for ProcessCoverages, ProcessTemplate and StepJob alone.
+    /// Answers a request: from each state of the machine that the server represents, with its tiles where they lie, one
+    /// step of it to one that it then represents, on an honest disk. In place of any reply want of memory (90), a disk
+    /// fault (91), want of room (92) or damage (93) may be told; damage only where a tile that is in the way of this
+    /// very request is not spelled. A refusal leaves the signatures, the indexes, the jobs and what is held for them as
+    /// they were on any disk, but for a fault that is fetched as the answer of a job, which is dropped then. The
+    /// coverages are those of a catalogue. Coverages are held for exactly the jobs that have units left. Tiles are
+    /// fetched for ProcessCoverages, ProcessTemplate and StepJob alone: no more than the boxes of the query's plan,
+    /// or of the units that were done, bound together, unless it fails.
     pub fn answer(&mut self, request: &Request) -> Reply
-        ensures step { IsTrue self.old.coverages.honest → (s : State) → Represents self.old s
-            → (t : State) × Represents self.new t × Steps (asks request.now) self.old self.new s result t }
+        ensures step { IsTrue self.old.coverages.honest → (p : Placed) → Places self.old p
+            → (q : Placed) × Places self.new q × Steps (asks request.now) self.old self.new p result q }
         ensures catalogue { IsCatalogue (signatures_of self.old.coverages.store) }
-        ensures refused { (IsAnswer result → ⊥) → IsUnchanged self.old.coverages self.new.coverages }
+        ensures leaves { IfRefused result (λ code. Leaves (asks request.now) code self.old self.new) }
         ensures sound { IsSound self.old.coverages → IsSound self.new.coverages }
         ensures header { KeepsHeader self.old.coverages.content self.new.coverages.content }
         ensures honest { self.new.coverages.honest ≡ self.old.coverages.honest }
         ensures no_fewer { self.old.coverages.failures ≤ self.new.coverages.failures }
         ensures holding { IsHolding self.new.desk self.new.coverages.held }
-        ensures quiet { IsQuiet (asks request.now) → self.new.coverages.fetched ≡ self.old.coverages.fetched }
-        ensures jobs { IfRefused result (λ code. LeavesJobs (asks request.now) code self.old.desk self.new.desk) }
+        ensures fetches { FetchesBounded (asks request.now) result self.old self.new }
     {
         let _count = self.cells.coverages.len();
-        match self.answered(request) {
+        let answered = self.answered(request);
+        let _whole = self.cells.coverages.len();
+        match answered {
             Ok(reply) => reply,
             Err(Refusal::Numbered(code)) => Reply::Refused(code),
             Err(Refusal::NoMemory) => Reply::Refused(refusals::NO_MEMORY),
@@ -248,10 +279,9 @@ impl<D: Disk> Server<D> {
 
     /// The reply to what a connection asks.
     fn reply_to(&mut self, next: Next) -> Reply
-        ensures step { IsTrue self.old.coverages.honest → (s : State) → Represents self.old s
-            → (asked : Result (List ℕ) ℕ) → Shows asked next → (t : State) × Represents self.new t
-            × MessageStep (may_tell (Rose self.old.coverages.failures self.new.coverages.failures)
-            (IsSound self.old.coverages → ⊥)) s asked result t }
+        ensures step { IsTrue self.old.coverages.honest → (p : Placed) → Places self.old p
+            → (asked : Result (List ℕ) ℕ) → Shows asked next → (q : Placed) × Places self.new q
+            × MessageStep (Rose self.old.coverages.failures self.new.coverages.failures) p asked result q }
         ensures sound { IsSound self.old.coverages → IsSound self.new.coverages }
         ensures header { KeepsHeader self.old.coverages.content self.new.coverages.content }
         ensures honest { self.new.coverages.honest ≡ self.old.coverages.honest }
@@ -282,11 +312,10 @@ impl<D: Disk> Server<D> {
         reader: &mut R,
         writer: &mut W,
     ) -> ConnEnd
-        ensures served { IsTrue self.old.coverages.honest → (s : State) → Represents self.old s
-            → (t : State) × Represents self.new t
-            × ServesConnection (may_tell (Rose self.old.coverages.failures self.new.coverages.failures)
-            (IsSound self.old.coverages → ⊥))
-            (ends_of R.remaining R.failed W.contents W.failed reader.old reader.new writer.old writer.new) s t result }
+        ensures served { IsTrue self.old.coverages.honest → (p : Placed) → Places self.old p
+            → (q : Placed) × Places self.new q
+            × ServesConnection (Rose self.old.coverages.failures self.new.coverages.failures)
+            (ends_of R.remaining R.failed W.contents W.failed reader.old reader.new writer.old writer.new) p q result }
         ensures told { TellsEnd (ends_of R.remaining R.failed W.contents W.failed reader.old reader.new writer.old writer.new) result }
         ensures sound { IsSound self.old.coverages → IsSound self.new.coverages }
         ensures header { KeepsHeader self.old.coverages.content self.new.coverages.content }

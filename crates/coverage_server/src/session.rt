@@ -1,12 +1,12 @@
 //! A session: a disk is opened, connections are served one after the other, and the disk is closed.
-ghost use Rattle.std.specs.Prelude.{◌≡◌, ◌≤◌, ℕ, List, length, Ok, Err, IfOk, IfErr, IsTrue};
+ghost use Rattle.std.specs.Prelude.{◌≡◌, ◌≤◌, List, length, Ok, Err, IfOk, IsTrue};
 ghost use Rattle.arr_core.specs.Stores.{Store};
 ghost use Rattle.block_file.specs.Format.{KeepsHeader};
 ghost use Rattle.disk_face.specs.Disk.{Rose};
 ghost use Rattle.raster_store.specs.Views.{Index};
 ghost use Rattle.coverage_server.specs.Disk.{ListsStore};
-ghost use Rattle.coverage_server.specs.Machine.{State, may_tell};
-ghost use Rattle.coverage_server.specs.Represents.{Represents};
+ghost use Rattle.coverage_server.specs.Runs.{Placed};
+ghost use Rattle.coverage_server.specs.Represents.{Places};
 ghost use Rattle.coverage_server.specs.Sessions.{IsNotOpened, ServesAll, ServesSession, ServesUnclosed, Composes, disk_view, ends_all};
 ghost use Rattle.coverage_server.specs.Views.{IsSound};
 
@@ -27,11 +27,10 @@ pub enum SessionFault<D: Disk> {
 
 /// Serves each connection to its end, one after the other.
 fn serve_all<D: Disk, R: Source, W: Sink>(server: &mut Server<D>, connections: &mut [(R, W)])
-    ensures served { IsTrue server.old.coverages.honest → (s : State) → Represents server.old s
-        → (t : State) × Represents server.new t
-        × ServesAll (may_tell (Rose server.old.coverages.failures server.new.coverages.failures)
-        (IsSound server.old.coverages → ⊥))
-        (ends_all R.remaining R.failed W.contents W.failed connections.old connections.new) s t }
+    ensures served { IsTrue server.old.coverages.honest → (p : Placed) → Places server.old p
+        → (q : Placed) × Places server.new q
+        × ServesAll (Rose server.old.coverages.failures server.new.coverages.failures)
+        (ends_all R.remaining R.failed W.contents W.failed connections.old connections.new) p q }
     ensures sound { IsSound server.old.coverages → IsSound server.new.coverages }
     ensures header { KeepsHeader server.old.coverages.content server.new.coverages.content }
     ensures honest { server.new.coverages.honest ≡ server.old.coverages.honest }
@@ -65,7 +64,7 @@ pub fn serve_session<D: Disk + Drop, R: Source, W: Sink>(
         Err(NotOpened { disk, fault }) => return Err(SessionFault::NotOpened(disk, fault)),
     };
     serve_all(&mut server, connections);
-    match server.close() {
+    match server.close_with_retry() {
         Ok(disk) => Ok(disk),
         Err(NotClosed { server, fault }) => Err(SessionFault::NotClosed(server, fault)),
     }

@@ -19,13 +19,23 @@ pub record Lying : Type 0 where
   pub left : ℕ
 
 -- A disk over a file as callers see it: its bytes, those that last, whether the file does what it tells, how many of
--- the disk's calls have failed, and whether the length of its file is not known.
+-- the disk's calls have failed, whether the system refuses none of them, and whether the length of its file is not
+-- known.
 pub record Filed : Type 0 where
   pub content : List ℕ
   pub synced : List ℕ
   pub honest : Bool
   pub failures : ℕ
+  pub works : Bool
   pub is_broken : Bool
+
+-- its file works, and its length is known
+abbrev pub Works : Filed → Type 0
+Works disk = IsTrue disk.works × (disk.is_broken ≡ false)
+
+-- a file that worked does so still, and the call was done
+abbrev pub StillWorks : Bool → Bool → Type 0 → Type 0
+StillWorks old new done = IsTrue old → IsTrue new × done
 
 -- The bytes of a file as far as a disk over it knows them: all, or once its length is not known as many as it had
 -- before.
@@ -89,8 +99,16 @@ pub record Tells (fault : Type 0) (old new : ℕ) : Type 0 where
   pub told : fault → Rose old new
   pub quiet : (fault → ⊥) → new ≡ old
 
--- what a disk holds, what of it lasts, and whether it is honest, is as it was
+-- What a disk holds, what of it lasts, and whether it is honest, is as it was.
 pub record Unwritten {D : Type 0} (content synced : D → List ℕ) (honest : D → Bool) (old new : D) : Type 0 where
   pub same_content : content new ≡ content old
   pub same_synced : synced new ≡ synced old
   pub same_honest : honest new ≡ honest old
+
+-- The same, and an honest disk was read nowhere past its end.
+pub record OnlyRead {D : Type 0} (content synced : D → List ℕ) (honest : D → Bool) (overreads : D → ℕ) (old new : D)
+    : Type 0 where
+  pub same_content : content new ≡ content old
+  pub same_synced : synced new ≡ synced old
+  pub same_honest : honest new ≡ honest old
+  pub same_overreads : IsTrue (honest old) → overreads new ≡ overreads old

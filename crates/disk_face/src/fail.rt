@@ -63,6 +63,8 @@ impl Disk for FailDisk {
 
     ghost failures = { λ d. d.failures };
 
+    ghost overreads = { λ _. 0 };
+
     ghost honest = { λ _. true };
 
     /// Fails where its turn has come, else only past the length.

@@ -1,6 +1,6 @@
 //! A disk over a file: each call reads or writes all of its bytes, and the length is right after each.
-ghost use Rattle.std.specs.Prelude.{◌≡◌, ◌≤◌, ◌<◌, ◌+◌, ◌-◌, ◌^◌, min, length, true, false, IfOk, OnOk, OnErr, IsTrue};
-ghost use Rattle.disk_face.specs.Disk.{IsInside, Holds, Torn, Writes, Unwritten};
+ghost use Rattle.std.specs.Prelude.{◌≡◌, ◌≤◌, ◌<◌, ◌+◌, ◌-◌, ◌^◌, min, length, true, false, IfOk, IsOk, IsOkAnd, IsErr, OnOk, OnErr, IsTrue};
+ghost use Rattle.disk_face.specs.Disk.{IsInside, Holds, Torn, Writes, Unwritten, Tells, Works, StillWorks};
 
 use crate::{Disk, DiskFault, RawFault, RawFile, StdFile};
 use std::fs::{File, OpenOptions};
@@ -28,6 +28,7 @@ impl<F: RawFile> Model for FileDisk<F> {
       synced = F.synced d.file;
       honest = F.honest d.file;
       failures = d.failures;
+      works = F.works d.file;
       is_broken = d.is_broken;
     } };
 
@@ -39,7 +40,7 @@ impl FileDisk<StdFile> {
     /// Refused where the system will not open or make it, and where another server has it open; there is no count yet.
     pub fn open<R: Files<File = File>>(rt: &R, path: &str) -> Result<FileDisk<StdFile>, DiskFault>
         ensures failures { IfOk result (λ disk. disk.failures ≡ 0) }
-        ensures works { IfOk result (λ disk. disk.is_broken ≡ false) }
+        ensures known { IfOk result (λ disk. disk.is_broken ≡ false) }
     {
         let mut options = OpenOptions::new();
         options.read(true).write(true).create(true);
@@ -50,7 +51,7 @@ impl FileDisk<StdFile> {
 }
 
 impl<F: RawFile> FileDisk<F> {
-    /// The disk over a file. Refused where the file does not tell its length; there is no count yet.
+    /// The disk over a file. Refused only where the file does not tell its length; there is no count yet.
     pub fn new(file: F) -> Result<FileDisk<F>, DiskFault>
     where
         F: Drop,
@@ -58,7 +59,8 @@ impl<F: RawFile> FileDisk<F> {
         ensures synced { IfOk result (λ disk. disk.synced ≡ F.synced file) }
         ensures honest { IfOk result (λ disk. disk.honest ≡ F.honest file) }
         ensures failures { IfOk result (λ disk. disk.failures ≡ 0) }
-        ensures works { IfOk result (λ disk. disk.is_broken ≡ false) }
+        ensures known { IfOk result (λ disk. disk.is_broken ≡ false) }
+        ensures works { IsTrue (F.works file) → IsOkAnd result (λ disk. Works disk) }
     {
         let mut file = file;
         match file.length() {
@@ -79,6 +81,7 @@ impl<F: RawFile> FileDisk<F> {
         ensures content { IfOk result (λ file. F.content file ≡ self.content) }
         ensures synced { IfOk result (λ file. F.synced file ≡ self.synced) }
         ensures honest { IfOk result (λ file. F.honest file ≡ self.honest) }
+        ensures works { IfOk result (λ file. F.works file ≡ self.works) }
         ensures refused { OnErr result (self.is_broken ≡ true) }
     {
         let FileDisk {
@@ -99,6 +102,7 @@ impl<F: RawFile> FileDisk<F> {
         ensures synced { self.new.synced ≡ self.old.synced }
         ensures honest { self.new.honest ≡ self.old.honest }
         ensures broken { self.new.is_broken ≡ self.old.is_broken }
+        ensures works { self.new.works ≡ self.old.works }
         ensures counted { self.new.failures ≡ min (self.old.failures + 1) (2 ^ 64 - 1) }
         ensures no_fewer { self.old.failures ≤ self.new.failures }
     {
@@ -112,6 +116,8 @@ fn read_all<F: RawFile>(file: &mut F, at: u64, buf: &mut [u8]) -> Result<(), Raw
     requires { at + length buf.old < 2 ^ 64 }
     ensures read { OnOk result (IsTrue (F.honest file.old) → IsInside at buf.new (F.content file.old)
         → Holds (F.content file.old) at buf.new) }
+    ensures works { StillWorks (F.works file.old) (F.works file.new)
+        (IsTrue (F.honest file.old) → IsInside at buf.old (F.content file.old) → IsOk result) }
     ensures same { Unwritten F.content F.synced F.honest file.old file.new }
 {
     let mut filled = 0;
@@ -132,6 +138,7 @@ fn write_all<F: RawFile>(file: &mut F, at: u64, bytes: &[u8]) -> Result<(), RawF
     ensures written { OnOk result (Writes (F.honest file.old) at bytes.now (F.content file.old) (F.content file.new)) }
     ensures torn { Torn at (length bytes.now) (F.content file.old) (F.content file.new) }
     ensures torn_synced { Torn at (length bytes.now) (F.synced file.old) (F.synced file.new) }
+    ensures works { StillWorks (F.works file.old) (F.works file.new) (IsOk result) }
     ensures honest { F.honest file.new ≡ F.honest file.old }
 {
     let mut taken = 0;
@@ -152,9 +159,20 @@ impl<F: RawFile> Disk for FileDisk<F> {
 
     ghost failures = { λ d. d.failures };
 
+    ghost overreads = { λ _. 0 };
+
     ghost honest = { λ d. d.honest };
 
-    fn read_at(&mut self, at: u64, buf: &mut [u8]) -> Result<(), DiskFault> {
+    /// Fails only past the length, or where the disk is broken or the system refused a call or gave nothing.
+    fn read_at(&mut self, at: u64, buf: &mut [u8]) -> Result<(), DiskFault>
+        ensures read { OnOk result (IsTrue self.old.honest → Holds self.old.content at buf.new) }
+        ensures done { Works self.old → IsTrue self.old.honest → IsInside at buf.old self.old.content → IsOk result }
+        ensures works { Works self.old → Works self.new }
+        ensures content { self.new.content ≡ self.old.content }
+        ensures synced { self.new.synced ≡ self.old.synced }
+        ensures honest { self.new.honest ≡ self.old.honest }
+        ensures told { Tells (IsErr result) self.old.failures self.new.failures }
+    {
         let count = buf.len() as u64;
         if self.is_broken || at > self.known || count > self.known - at {
             return Err(self.refuse());
@@ -165,8 +183,18 @@ impl<F: RawFile> Disk for FileDisk<F> {
         Ok(())
     }
 
-    /// No bytes are written past the end: that does not lengthen a file.
-    fn write_at(&mut self, at: u64, bytes: &[u8]) -> Result<(), DiskFault> {
+    /// No bytes are written past the end: that does not lengthen a file. Else it fails only past 64 bits, or where the
+    /// disk is broken or the system refused a call or took nothing.
+    fn write_at(&mut self, at: u64, bytes: &[u8]) -> Result<(), DiskFault>
+        ensures written { OnOk result (Writes self.old.honest at bytes.now self.old.content self.new.content) }
+        ensures done { Works self.old → 0 < length bytes.now → at + length bytes.now < 2 ^ 64 → IsOk result }
+        ensures inside { Works self.old → IsTrue self.old.honest → IsInside at bytes.now self.old.content → IsOk result }
+        ensures works { Works self.old → Works self.new }
+        ensures torn { Torn at (length bytes.now) self.old.content self.new.content }
+        ensures torn_synced { Torn at (length bytes.now) self.old.synced self.new.synced }
+        ensures honest { self.new.honest ≡ self.old.honest }
+        ensures told { Tells (IsErr result) self.old.failures self.new.failures }
+    {
         if self.is_broken {
             return Err(self.refuse());
         }
@@ -194,7 +222,15 @@ impl<F: RawFile> Disk for FileDisk<F> {
         self.known
     }
 
-    fn sync(&mut self) -> Result<(), DiskFault> {
+    /// Fails only where the disk is broken or the system refused it.
+    fn sync(&mut self) -> Result<(), DiskFault>
+        ensures same { self.new.content ≡ self.old.content }
+        ensures done { OnOk result (self.new.synced ≡ self.old.content) }
+        ensures refused { OnErr result (self.new.synced ≡ self.old.synced) }
+        ensures works { Works self.old → IsOk result × Works self.new }
+        ensures honest { self.new.honest ≡ self.old.honest }
+        ensures told { Tells (IsErr result) self.old.failures self.new.failures }
+    {
         if self.is_broken || self.file.sync().is_err() {
             return Err(self.refuse());
         }

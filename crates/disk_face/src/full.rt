@@ -1,5 +1,5 @@
 //! A file on a device that becomes full, to try what stands on a disk.
-ghost use Rattle.std.specs.Prelude.{◌≡◌, ◌≤◌, ◌<◌, ◌-◌, min, max, length, true, IfOk, IsOk, IsErr, Ok};
+ghost use Rattle.std.specs.Prelude.{◌≡◌, ◌≤◌, ◌<◌, ◌-◌, min, max, length, true, false, IfOk, IsOk, IsErr, Ok};
 ghost use Rattle.std.specs.Io.{ReadsAtMost, WritesAtMost};
 ghost use Rattle.disk_face.specs.Disk.{IsInside, HoldsPart, Torn, WrittenPart};
 
@@ -20,6 +20,8 @@ impl RawFile for FullFile {
     ghost synced = { λ f. f.bytes.items };
 
     ghost honest = { λ _. true };
+
+    ghost works = { λ _. false };
 
     /// Gives all bytes that there are and that there is room for.
     fn read_some(&mut self, at: u64, buf: &mut [u8]) -> Result<usize, RawFault>

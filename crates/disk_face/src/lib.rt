@@ -1,10 +1,10 @@
-//! A disk as the store sees it: bytes at places, read, written and synced. What a disk is shows in four ghost
-//! members: the bytes that it holds, those that a sync has made lasting, a count of the calls that failed, and
-//! whether it gives back what was written.
+//! A disk as the store sees it: bytes at places, read, written and synced. What a disk is shows in five ghost
+//! members: the bytes that it holds, those that a sync has made lasting, a count of the calls that failed, one of
+//! the reads past the end, and whether it gives back what was written.
 #![tactic(auto)]
 
 ghost use Rattle.std.specs.Prelude.{◌≡◌, ℕ, Bool, List, length, IsTrue, IsErr, OnOk, OnErr};
-ghost use Rattle.disk_face.specs.Disk.{Holds, Torn, Writes, Tells, Unwritten};
+ghost use Rattle.disk_face.specs.Disk.{IsInside, Holds, Torn, Writes, Tells, Unwritten};
 
 mod fail;
 mod file;
@@ -39,6 +39,10 @@ pub trait Disk {
     /// How many calls have failed, in a `u64`.
     ghost failures: { Self → ℕ };
 
+    /// A count that nothing but a read past the end may change. So code for any disk that leaves it as it was has
+    /// provoked no failure by such a read. A disk need not count.
+    ghost overreads: { Self → ℕ };
+
     /// A read gives what the disk holds, and a write that succeeds is held.
     ghost honest: { Self → Bool };
 
@@ -46,6 +50,8 @@ pub trait Disk {
     fn read_at(&mut self, at: u64, buf: &mut [u8]) -> Result<(), DiskFault>
         ensures read { OnOk result (IsTrue (honest self.old) → Holds (content self.old) at buf.new) }
         ensures same { Unwritten content synced honest self.old self.new }
+        ensures overreads { IsTrue (honest self.old) → IsInside at buf.old (content self.old)
+            → overreads self.new ≡ overreads self.old }
         ensures told { Tells (IsErr result) (failures self.old) (failures self.new) };
 
     /// Writes the bytes from `at` on. A write past the end fills the gap with zeros. One that fails leaves any
@@ -55,6 +61,7 @@ pub trait Disk {
         ensures torn { Torn at (length bytes.now) (content self.old) (content self.new) }
         ensures torn_synced { Torn at (length bytes.now) (synced self.old) (synced self.new) }
         ensures honest { honest self.new ≡ honest self.old }
+        ensures overreads { overreads self.new ≡ overreads self.old }
         ensures told { Tells (IsErr result) (failures self.old) (failures self.new) };
 
     /// How many bytes it holds.
@@ -67,5 +74,6 @@ pub trait Disk {
         ensures done { OnOk result (synced self.new ≡ content self.old) }
         ensures refused { OnErr result (synced self.new ≡ synced self.old) }
         ensures honest { honest self.new ≡ honest self.old }
+        ensures overreads { overreads self.new ≡ overreads self.old }
         ensures told { Tells (IsErr result) (failures self.old) (failures self.new) };
 }

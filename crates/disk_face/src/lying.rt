@@ -74,6 +74,8 @@ impl Disk for LyingDisk {
 
     ghost failures = { λ d. d.failures };
 
+    ghost overreads = { λ _. 0 };
+
     ghost honest = { λ _. false };
 
     /// Fails only past the length. Gives each byte inverted where its turn has come.

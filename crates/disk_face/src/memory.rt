@@ -56,6 +56,8 @@ impl Disk for MemDisk {
 
     ghost failures = { λ d. d.failures };
 
+    ghost overreads = { λ _. 0 };
+
     ghost honest = { λ _. true };
 
     /// Fails only past the length.

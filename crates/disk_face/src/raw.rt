@@ -1,7 +1,7 @@
 //! A file by the calls of the system: one call each, which may do less than it was asked.
-ghost use Rattle.std.specs.Prelude.{◌≡◌, ◌<◌, ℕ, Bool, List, [], length, false, IsTrue, IfOk, OnOk, OnErr};
+ghost use Rattle.std.specs.Prelude.{◌≡◌, ◌<◌, ℕ, Bool, List, [], length, false, IsTrue, IsOk, IsOkAnd, IfOk, OnOk, OnErr};
 ghost use Rattle.std.specs.Io.{ReadsAtMost, WritesAtMost};
-ghost use Rattle.disk_face.specs.Disk.{HoldsPart, Torn, WrittenPart, Unwritten};
+ghost use Rattle.disk_face.specs.Disk.{HoldsPart, Torn, WrittenPart, Unwritten, StillWorks};
 
 use std::fs::File;
 use std::os::fd::AsRawFd;
@@ -27,6 +27,9 @@ pub trait RawFile {
     /// The calls do what they tell.
     ghost honest: { Self → Bool };
 
+    /// From now on the system refuses no call, and each write takes a byte at least.
+    ghost works: { Self → Bool };
+
     /// Reads once from a place on. Gives how many bytes came: none only at the end, and at times fewer than there is
     /// room for.
     fn read_some(&mut self, at: u64, buf: &mut [u8]) -> Result<usize, RawFault>
@@ -34,6 +37,7 @@ pub trait RawFile {
         ensures read { IsTrue (honest self.old) → IfOk result (λ n. HoldsPart (content self.old) at n buf.new) }
         ensures end { IsTrue (honest self.old)
             → IfOk result (λ n. at < length (content self.old) → 0 < length buf.old → 0 < n) }
+        ensures works { StillWorks (works self.old) (works self.new) (IsOk result) }
         ensures same { Unwritten content synced honest self.old self.new };
 
     /// Writes once from a place on. Gives how many of the bytes were taken; where it is refused, any bytes may stand
@@ -44,11 +48,14 @@ pub trait RawFile {
             → IfOk result (λ n. WrittenPart at n bytes.now (content self.old) (content self.new)) }
         ensures torn { Torn at (length bytes.now) (content self.old) (content self.new) }
         ensures torn_synced { Torn at (length bytes.now) (synced self.old) (synced self.new) }
+        ensures works { StillWorks (works self.old) (works self.new)
+            (IsOkAnd result (λ n. 0 < length bytes.now → 0 < n)) }
         ensures honest { honest self.new ≡ honest self.old };
 
     /// How many bytes the file has.
     fn length(&mut self) -> Result<u64, RawFault>
         ensures told { IsTrue (honest self.old) → IfOk result (λ n. n ≡ length (content self.old)) }
+        ensures works { StillWorks (works self.old) (works self.new) (IsOk result) }
         ensures same { Unwritten content synced honest self.old self.new };
 
     /// Makes all that was written last.
@@ -56,11 +63,13 @@ pub trait RawFile {
         ensures same { content self.new ≡ content self.old }
         ensures done { OnOk result (synced self.new ≡ content self.old) }
         ensures refused { OnErr result (synced self.new ≡ synced self.old) }
+        ensures works { StillWorks (works self.old) (works self.new) (IsOk result) }
         ensures honest { honest self.new ≡ honest self.old };
 }
 
 /// A file of the system, under a lock as long as it is open. What it holds no clause can name, so it shows no bytes and
-/// is not honest: that these four calls do what the trait says of an honest file is trusted.
+/// is not honest: that these four calls do what the trait says of an honest file is trusted. Nor is it one that works,
+/// since the system may refuse any call.
 #[derive(Drop)]
 pub struct StdFile {
     file: File,
@@ -84,6 +93,8 @@ impl RawFile for StdFile {
     ghost synced = { λ _. [] };
 
     ghost honest = { λ _. false };
+
+    ghost works = { λ _. false };
 
     fn read_some(&mut self, at: u64, buf: &mut [u8]) -> Result<usize, RawFault> {
         self.file.read_at(buf, at).map_err(|_| RawFault)

@@ -7,7 +7,10 @@ ghost use Rattle.std.specs.Int.{w32};
 ghost use Rattle.byteorder.specs.Endian.{little_bytes};
 ghost use Rattle.file_bytes.specs.Codes.{signed_bytes, IsRead};
 
+mod form;
+
 use byteorder::{ByteOrder, LittleEndian};
+pub use form::{Form, Version};
 use std::alloc::AllocError;
 use std::marker::Model;
 

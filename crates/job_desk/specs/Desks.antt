@@ -6,7 +6,7 @@ use Rattle.wcps_mean.specs.declared.item.Item.{Item}
 use Rattle.csv_out.specs.Csv.{csv}
 use Rattle.plan_ir.specs.Plans.{PlanTree}
 use Rattle.plan_ir.specs.Planned.{planned}
-use Rattle.tile_exec.specs.Standing.{StandsFor, IsSound, IsBegun, plan_of, left_of}
+use Rattle.tile_exec.specs.Standing.{StandsFor, IsBegun, plan_of, left_of}
 use Rattle.job_desk.specs.declared.job.Job.{Job}
 use Rattle.job_desk.specs.declared.answer.Answer.{Answer}
 use Rattle.job_desk.specs.declared.answer.Answer.TheVariants.{Text, Refused}
@@ -44,7 +44,6 @@ IsFull desk = (64 ≤ length desk.jobs) ⊎ (desk.next ≡ None)
 
 -- A job that is held: its executor has no more units left than it shows.
 pub record IsJob (j : Job) : Type 0 where
-  pub sound : IsSound j.exec
   pub ahead : left_of j.exec ≤ j.left
 
 -- at most 64 jobs, whose numbers rise and are below the next one

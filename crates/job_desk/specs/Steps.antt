@@ -1,10 +1,10 @@
 -- What a step makes of a job.
-use Rattle.std.specs.Prelude.{◌≡◌, ℕ, zero, suc, ◌-◌, ◌<◌, ◌≤◌, min, ℤ, List, Some, None, Result, Ok, Err, IfSome}
+use Rattle.std.specs.Prelude.{◌≡◌, ℕ, zero, suc, ◌+◌, ◌-◌, ◌<◌, ◌≤◌, min, ℤ, List, drop, Some, None, Result, Ok, Err, IfSome}
 use Rattle.arr_core.specs.declared.signature.Signature.{Signature}
 use Rattle.wcps_mean.specs.Reports.{Reports}
 use Rattle.tile_columns.specs.Sources.{Leaves}
 use Rattle.tile_exec.specs.declared.exec.Exec.{Exec}
-use Rattle.tile_exec.specs.Standing.{StandsFor, IsSound, plan_of, left_of}
+use Rattle.tile_exec.specs.Standing.{StandsFor, plan_of, left_of, boxes_left, most_fetched}
 use Rattle.job_desk.specs.declared.job.Job.{Job}
 use Rattle.job_desk.specs.declared.error.StepError.{StepError}
 use Rattle.job_desk.specs.declared.error.StepError.TheVariants.{NoSuchJob, Cells}
@@ -14,13 +14,18 @@ use Rattle.job_desk.specs.declared.error.SubmitError.{SubmitError}
 use Rattle.job_desk.specs.declared.error.SubmitError.TheVariants as submitting
 use Rattle.job_desk.specs.Desks.{DeskView, job_of, replaced, IsFull}
 
--- Units of an executor were done, or none: it has the same plan and no more units left, and where the cells that are read
--- are those that were written it stands for them as before.
+-- Units of an executor were done, or none: it has the same plan and no more units left, each unit was on the next box, and
+-- where the cells that are read are those that were written it stands for them as before.
 pub record HasRun (intact : Type 0) (cells : ℕ → ℕ → List ℤ → ℤ) (was is : Exec) : Type 0 where
-  pub sound : IsSound is
   pub plan : plan_of is ≡ plan_of was
   pub fewer : left_of is ≤ left_of was
+  pub boxes : boxes_left is ≡ drop (left_of was - left_of is) (boxes_left was)
   pub stands : intact → StandsFor cells was → StandsFor cells is
+
+-- From one count of fetched tiles to another: the units that an executor has done between two states fetched no more than
+-- the bounds of their boxes together.
+abbrev pub FetchesWithin : Exec → Exec → ℕ → ℕ → Type 0
+FetchesWithin was is before after = after ≤ before + most_fetched was is
 
 -- the same job, whose executor has done units, or none
 pub record IsSameJob (intact : Type 0) (cells : ℕ → ℕ → List ℤ → ℤ) (was is : Job) : Type 0 where
@@ -64,6 +69,13 @@ abbrev pub StepReports : Result ℕ StepError → Type 0 → ℕ → ℕ → Typ
 StepReports (Ok left) intact old new = new ≡ old
 StepReports (Err NoSuchJob) intact old new = new ≡ old
 StepReports (Err (Cells e)) intact old new = Reports {A = ℕ} (Err e) intact old new
+
+-- How many tiles a step fetches: for the units that it does no more than the bounds of their boxes together, and none where
+-- there is no such job. How many a unit that failed has fetched is not bounded.
+abbrev pub StepFetches : Result ℕ StepError → ℕ → DeskView → DeskView → ℕ → ℕ → Type 0
+StepFetches (Ok left) n old new before after = IsChanged (λ was is. FetchesWithin was.exec is.exec before after) n old new
+StepFetches (Err NoSuchJob) n old new before after = after ≡ before
+StepFetches (Err (Cells e)) n old new before after = Unit {0}
 
 -- A source was read: its cells and what it keeps are as before, and so are its coverages; it is intact where it was.
 pub record IsRead {S K : Type 0} (cells : S → ℕ → ℕ → List ℤ → ℤ) (coverages : S → List Signature) (kept : S → K) (intact : S → Type 0) (old new : S) : Type 0 where

@@ -2,7 +2,7 @@
 
 ghost use Rattle.std.specs.Prelude.{◌≡◌, ℕ, ℤ, List, IfOk};
 ghost use Rattle.plan_ir.specs.Planned.{planned};
-ghost use Rattle.tile_exec.specs.Standing.{StandsFor, IsSound, plan_of, left_of};
+ghost use Rattle.tile_exec.specs.Standing.{StandsFor, plan_of, left_of};
 ghost use Rattle.job_desk.specs.Desks.{IsAnswer};
 
 use csv_out::csv_text;
@@ -19,8 +19,7 @@ pub enum Answer {
 
 /// The answer of an executor that has no unit left.
 pub fn answer_of(alloc: Global, exec: &Exec) -> Result<Answer, AllocError>
-    requires sound { IsSound exec.now }
-    requires done { left_of exec.now ≡ 0 }
+    requires { left_of exec.now ≡ 0 }
     ensures { IfOk result (λ a. (s : ℕ → ℕ → List ℤ → ℤ) → StandsFor s exec.now → IsAnswer (planned s (plan_of exec.now)) a) }
 {
     match exec.result() {

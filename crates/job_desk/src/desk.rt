@@ -1,13 +1,14 @@
 //! The desk.
 
 ghost use Rattle.std.specs.Prelude.{◌≡◌, ◌<◌, ◌⊎◌, ℕ, length, vec_len, vec_capacity, [], ◌∷◌, ◌++◌, Some, None, IfOk, IfErr, OnOk, OnErr, IsSome, option_map, option_copied};
+ghost use Rattle.std.specs.Int.NonZero.{non_zero_u64_get};
 ghost use Rattle.std.specs.List.{remove};
 ghost use Rattle.plan_ir.specs.Plans.{plan_view};
 ghost use Rattle.plan_ir.specs.Placed.{IsPlan};
 ghost use Rattle.tile_exec.specs.Standing.{plan_of};
 ghost use Rattle.job_desk.specs.declared.job.Job.{Job};
 ghost use Rattle.job_desk.specs.Desks.{job_of, taken_out, number_after, IsSubmitted, IsFetched, IsDesk};
-ghost use Rattle.job_desk.specs.Steps.{HasCoverages, IsLowered, IsChanged, IsRefusedStep, StepReports, IsRead, Ends, IsRefusedFetch, IsRefusedSubmit};
+ghost use Rattle.job_desk.specs.Steps.{HasCoverages, IsLowered, IsChanged, IsRefusedStep, StepReports, StepFetches, IsRead, Ends, IsRefusedFetch, IsRefusedSubmit};
 
 use crate::answer::{Answer, answer_of};
 use crate::error::{FetchError, NoSuchJob, StepError, SubmitError};
@@ -18,6 +19,7 @@ use arr_core::{Name, Signature};
 use plan_ir::Plan;
 use std::alloc::{AllocError, Global};
 use std::marker::Model;
+use std::num::NonZeroU64;
 use tile_columns::Tiles;
 use tile_exec::Exec;
 
@@ -50,16 +52,16 @@ impl JobDesk {
     pub fn new(alloc: Global) -> JobDesk
         ensures { result ≡ record { jobs = []; next = Some 1 } }
     {
-        JobDesk::starting(alloc, 1)
+        JobDesk::starting(alloc, NonZeroU64::MIN)
     }
 
     /// A desk without jobs, whose first job gets that number.
-    pub fn starting(alloc: Global, first: u64) -> JobDesk
-        ensures { result ≡ record { jobs = []; next = Some first } }
+    pub fn starting(alloc: Global, first: NonZeroU64) -> JobDesk
+        ensures { result ≡ record { jobs = []; next = Some (non_zero_u64_get first) } }
     {
         JobDesk {
             jobs: Vec::new(alloc),
-            next: Some(first),
+            next: Some(first.get()),
         }
     }
 
@@ -130,7 +132,7 @@ impl JobDesk {
         requires { HasCoverages job self.old.jobs (S.coverages source.old) }
         ensures stepped { IfOk result (λ left. IsChanged (IsLowered (S.intact source.old) (S.cells source.old) units left) job self.old self.new) }
         ensures refused { IfErr result (λ e. IsRefusedStep (S.intact source.old) (S.cells source.old) job units self.old self.new e) }
-        ensures source { (m : S) × IsRead S.cells S.coverages S.kept S.intact source.old m × StepReports result (S.spelled (S.kept source.old)) (S.failures source.old) (S.failures m) × Ends result (source.new ≡ m) (S.releases m job source.new) }
+        ensures source { (m : S) × IsRead S.cells S.coverages S.kept S.intact source.old m × StepReports result (S.spelled (S.kept source.old)) (S.failures source.old) (S.failures m) × Ends result (source.new ≡ m) (S.releases m job source.new) × StepFetches result job self.old self.new (S.fetched source.old) (S.fetched m) }
     {
         let Some(place) = place_of(&self.jobs, job) else {
             return Err(StepError::NoSuchJob);
@@ -160,6 +162,13 @@ impl JobDesk {
         let answer = answer_of(*self.jobs.allocator(), &held.exec)?;
         take_out(&mut self.jobs, place);
         Ok(answer)
+    }
+
+    /// Takes all jobs out. The next one gets the number that it would have got. Takes no memory.
+    pub fn let_go(&mut self)
+        ensures { self.new ≡ record { jobs = []; next = self.old.next } }
+    {
+        self.jobs = Vec::new(*self.jobs.allocator());
     }
 
     /// Takes a job out. Takes no memory. Refused where there is none.

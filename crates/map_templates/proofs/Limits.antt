@@ -184,7 +184,7 @@ located_many v layer stem axes rest =
     let last = tk (sign signs.RightBracket) ∷ rest in
     omega (arith, layer_many v layer (tk (sign signs.LeftBracket) ∷ positions_marks stem 1 axes last), positions_many stem 1 axes last)
 
-pub zonal_within : (op : Summary) (layer zones : Layer) (axes : List Axis) → length axes ≤ 4 → IsWithinLimits (toks_of (zonal_query op layer zones axes []))
+pub zonal_within : (op : Summary) (layer zones : Layer) (axes : List Axis) → length axes ≤ 6 → IsWithinLimits (toks_of (zonal_query op layer zones axes []))
 zonal_within op layer zones axes few =
     let value = zonal_value_marks layer axes [] in
     let own = located_marks (layer_marks (codes "z") zones) (codes "$p") axes value in

@@ -584,28 +584,32 @@ located_proper : (v : List ℕ) (layer : Layer) (stem : List ℕ) (axes : List A
 located_proper v layer stem axes rest reads n vs is h =
     layer_proper v layer (tk (sign signs.LeftBracket) ∷ positions_marks stem 1 axes (tk (sign signs.RightBracket) ∷ rest)) reads n (positions_proper stem 1 axes (tk (sign signs.RightBracket) ∷ rest) vs is h)
 
-p_variables : (axes : List Axis) → length axes ≤ 4 → AreVariables (codes "$p") 1 axes
+p_variables : (axes : List Axis) → length axes ≤ 6 → AreVariables (codes "$p") 1 axes
 p_variables [] few = tt
 p_variables (x ∷ []) few = (p_number 1 (omega arith), tt)
 p_variables (x ∷ y ∷ []) few = (p_number 1 (omega arith), (p_number 2 (omega arith), tt))
 p_variables (x ∷ y ∷ z ∷ []) few = (p_number 1 (omega arith), (p_number 2 (omega arith), (p_number 3 (omega arith), tt)))
 p_variables (x ∷ y ∷ z ∷ t ∷ []) few = (p_number 1 (omega arith), (p_number 2 (omega arith), (p_number 3 (omega arith), (p_number 4 (omega arith), tt))))
-p_variables (x ∷ y ∷ z ∷ t ∷ s ∷ axes) few = absurd (omega arith)
+p_variables (x ∷ y ∷ z ∷ t ∷ s ∷ []) few = (p_number 1 (omega arith), (p_number 2 (omega arith), (p_number 3 (omega arith), (p_number 4 (omega arith), (p_number 5 (omega arith), tt)))))
+p_variables (x ∷ y ∷ z ∷ t ∷ s ∷ r ∷ []) few = (p_number 1 (omega arith), (p_number 2 (omega arith), (p_number 3 (omega arith), (p_number 4 (omega arith), (p_number 5 (omega arith), (p_number 6 (omega arith), tt))))))
+p_variables (x ∷ y ∷ z ∷ t ∷ s ∷ r ∷ q ∷ axes) few = absurd (omega arith)
 
-u_variables : (axes : List Axis) → length axes ≤ 4 → AreVariables (codes "$u") 1 axes
+u_variables : (axes : List Axis) → length axes ≤ 6 → AreVariables (codes "$u") 1 axes
 u_variables [] few = tt
 u_variables (x ∷ []) few = (u_number 1 (omega arith), tt)
 u_variables (x ∷ y ∷ []) few = (u_number 1 (omega arith), (u_number 2 (omega arith), tt))
 u_variables (x ∷ y ∷ z ∷ []) few = (u_number 1 (omega arith), (u_number 2 (omega arith), (u_number 3 (omega arith), tt)))
 u_variables (x ∷ y ∷ z ∷ t ∷ []) few = (u_number 1 (omega arith), (u_number 2 (omega arith), (u_number 3 (omega arith), (u_number 4 (omega arith), tt))))
-u_variables (x ∷ y ∷ z ∷ t ∷ s ∷ axes) few = absurd (omega arith)
+u_variables (x ∷ y ∷ z ∷ t ∷ s ∷ []) few = (u_number 1 (omega arith), (u_number 2 (omega arith), (u_number 3 (omega arith), (u_number 4 (omega arith), (u_number 5 (omega arith), tt)))))
+u_variables (x ∷ y ∷ z ∷ t ∷ s ∷ r ∷ []) few = (u_number 1 (omega arith), (u_number 2 (omega arith), (u_number 3 (omega arith), (u_number 4 (omega arith), (u_number 5 (omega arith), (u_number 6 (omega arith), tt))))))
+u_variables (x ∷ y ∷ z ∷ t ∷ s ∷ r ∷ q ∷ axes) few = absurd (omega arith)
 
 zonal_box_spaced : (op : Summary) (axes : List Axis) (rest : List Mark) → spaced rest ≡ true → spaced (zonal_box_marks op axes rest) ≡ true
 zonal_box_spaced summaries.Sum axes rest h = iterators_spaced (codes "$u") 1 axes rest h
 zonal_box_spaced summaries.Maximum axes rest h = iterators_spaced (codes "$u") 1 axes rest h
 zonal_box_spaced summaries.Minimum axes rest h = iterators_spaced (codes "$u") 1 axes rest h
 
-zonal_box_proper : (op : Summary) (axes : List Axis) (rest : List Mark) → length axes ≤ 4 → AreAxes axes → Proper rest → Proper (zonal_box_marks op axes rest)
+zonal_box_proper : (op : Summary) (axes : List Axis) (rest : List Mark) → length axes ≤ 6 → AreAxes axes → Proper rest → Proper (zonal_box_marks op axes rest)
 zonal_box_proper summaries.Sum axes rest few is h = iterators_proper (codes "$u") 1 axes rest (u_variables axes few) is h
 zonal_box_proper summaries.Maximum axes rest few is h = iterators_proper (codes "$u") 1 axes rest (u_variables axes few) is h
 zonal_box_proper summaries.Minimum axes rest few is h = iterators_proper (codes "$u") 1 axes rest (u_variables axes few) is h
@@ -618,7 +622,7 @@ zonal_spaced op layer zones axes =
     (located_spaced (codes "z") zones (codes "$p") axes (zonal_value_marks layer axes [])
     (located_spaced (codes "a") layer (codes "$u") axes (ending []) refl))))
 
-pub zonal_proper : (op : Summary) (layer zones : Layer) (axes : List Axis) → length axes ≤ 4 → IsLayer layer → IsLayer zones → AreAxes axes → Proper (zonal_query op layer zones axes [])
+pub zonal_proper : (op : Summary) (layer zones : Layer) (axes : List Axis) → length axes ≤ 6 → IsLayer layer → IsLayer zones → AreAxes axes → Proper (zonal_query op layer zones axes [])
 zonal_proper op layer zones axes few m n is = (
   a_reads,
   (

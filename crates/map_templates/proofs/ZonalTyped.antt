@@ -198,7 +198,64 @@ arranged (x ∷ y ∷ z ∷ t ∷ []) d w =
       placed = ((0, simp (s1) refl), refl, ((1, simp (d12, s2) refl), simp (d12) refl, ((2, simp (d13, d23, s3) refl), simp (d13, d23) refl, ((3, simp (d14, d24, d34, s4) refl), simp (d14, d24, d34) refl, tt))));
       order = (simp (s1) refl, (simp (d12, s2) refl, (simp (d13, d23, s3) refl, (simp (d14, d24, d34, s4) refl, tt))));
     }
-arranged (x ∷ y ∷ z ∷ t ∷ u ∷ axes) d w = absurd (omega (arith, d.few_axes))
+arranged (x ∷ y ∷ z ∷ t ∷ s ∷ []) d w =
+    let s1 = w.0.self in
+    let s2 = w.1.0.self in
+    let s3 = w.1.1.0.self in
+    let s4 = w.1.1.1.0.self in
+    let s5 = w.1.1.1.1.0.self in
+    let a = not_among x.name (y.name ∷ z.name ∷ t.name ∷ s.name ∷ []) d.distinct.0 in
+    let b = not_among y.name (z.name ∷ t.name ∷ s.name ∷ []) d.distinct.1.0 in
+    let c = not_among z.name (t.name ∷ s.name ∷ []) d.distinct.1.1.0 in
+    let e = not_among t.name (s.name ∷ []) d.distinct.1.1.1.0 in
+    let d12 = a.0 in
+    let d13 = a.1.0 in
+    let d14 = a.1.1.0 in
+    let d15 = a.1.1.1.0 in
+    let d23 = b.0 in
+    let d24 = b.1.0 in
+    let d25 = b.1.1.0 in
+    let d34 = c.0 in
+    let d35 = c.1.0 in
+    let d45 = e.0 in
+    record {
+      new = (refl, w.0, (simp (d12) refl, w.1.0, (simp (d13, d23) refl, w.1.1.0, (simp (d14, d24, d34) refl, w.1.1.1.0, (simp (d15, d25, d35, d45) refl, w.1.1.1.1.0, tt)))));
+      placed = ((0, simp (s1) refl), refl, ((1, simp (d12, s2) refl), simp (d12) refl, ((2, simp (d13, d23, s3) refl), simp (d13, d23) refl, ((3, simp (d14, d24, d34, s4) refl), simp (d14, d24, d34) refl, ((4, simp (d15, d25, d35, d45, s5) refl), simp (d15, d25, d35, d45) refl, tt)))));
+      order = (simp (s1) refl, (simp (d12, s2) refl, (simp (d13, d23, s3) refl, (simp (d14, d24, d34, s4) refl, (simp (d15, d25, d35, d45, s5) refl, tt)))));
+    }
+arranged (x ∷ y ∷ z ∷ t ∷ s ∷ r ∷ []) d w =
+    let s1 = w.0.self in
+    let s2 = w.1.0.self in
+    let s3 = w.1.1.0.self in
+    let s4 = w.1.1.1.0.self in
+    let s5 = w.1.1.1.1.0.self in
+    let s6 = w.1.1.1.1.1.0.self in
+    let a = not_among x.name (y.name ∷ z.name ∷ t.name ∷ s.name ∷ r.name ∷ []) d.distinct.0 in
+    let b = not_among y.name (z.name ∷ t.name ∷ s.name ∷ r.name ∷ []) d.distinct.1.0 in
+    let c = not_among z.name (t.name ∷ s.name ∷ r.name ∷ []) d.distinct.1.1.0 in
+    let e = not_among t.name (s.name ∷ r.name ∷ []) d.distinct.1.1.1.0 in
+    let f = not_among s.name (r.name ∷ []) d.distinct.1.1.1.1.0 in
+    let d12 = a.0 in
+    let d13 = a.1.0 in
+    let d14 = a.1.1.0 in
+    let d15 = a.1.1.1.0 in
+    let d16 = a.1.1.1.1.0 in
+    let d23 = b.0 in
+    let d24 = b.1.0 in
+    let d25 = b.1.1.0 in
+    let d26 = b.1.1.1.0 in
+    let d34 = c.0 in
+    let d35 = c.1.0 in
+    let d36 = c.1.1.0 in
+    let d45 = e.0 in
+    let d46 = e.1.0 in
+    let d56 = f.0 in
+    record {
+      new = (refl, w.0, (simp (d12) refl, w.1.0, (simp (d13, d23) refl, w.1.1.0, (simp (d14, d24, d34) refl, w.1.1.1.0, (simp (d15, d25, d35, d45) refl, w.1.1.1.1.0, (simp (d16, d26, d36, d46, d56) refl, w.1.1.1.1.1.0, tt))))));
+      placed = ((0, simp (s1) refl), refl, ((1, simp (d12, s2) refl), simp (d12) refl, ((2, simp (d13, d23, s3) refl), simp (d13, d23) refl, ((3, simp (d14, d24, d34, s4) refl), simp (d14, d24, d34) refl, ((4, simp (d15, d25, d35, d45, s5) refl), simp (d15, d25, d35, d45) refl, ((5, simp (d16, d26, d36, d46, d56, s6) refl), simp (d16, d26, d36, d46, d56) refl, tt))))));
+      order = (simp (s1) refl, (simp (d12, s2) refl, (simp (d13, d23, s3) refl, (simp (d14, d24, d34, s4) refl, (simp (d15, d25, d35, d45, s5) refl, (simp (d16, d26, d36, d46, d56, s6) refl, tt))))));
+    }
+arranged (x ∷ y ∷ z ∷ t ∷ s ∷ r ∷ q ∷ axes) d w = absurd (omega (arith, d.few_axes))
 
 -- ---- the names of the iterators
 
@@ -234,7 +291,7 @@ pub record Named (cs : List Signature) (place : ℕ) (axes : List Axis) : Type 0
   pub no_a : name_place (codes "a") (ps ++ us) ≡ None
   pub no_z : name_place (codes "z") (ps ++ us) ≡ None
 
-pub named : (axes : List Axis) (cs : List Signature) (place : ℕ) → length axes ≤ 4 → Named cs place axes
+pub named : (axes : List Axis) (cs : List Signature) (place : ℕ) → length axes ≤ 6 → Named cs place axes
 named [] cs place few = record {
   ps = [];
   us = [];
@@ -305,4 +362,32 @@ named (x ∷ y ∷ z ∷ t ∷ []) cs place few = record {
   no_a = refl;
   no_z = refl;
 }
-named (x ∷ y ∷ z ∷ t ∷ u ∷ axes) cs place few = absurd (omega arith)
+named (x ∷ y ∷ z ∷ t ∷ s ∷ []) cs place few = record {
+  ps = digit_name (codes "$p") 49 ∷ digit_name (codes "$p") 50 ∷ digit_name (codes "$p") 51 ∷ digit_name (codes "$p") 52 ∷ digit_name (codes "$p") 53 ∷ [];
+  us = digit_name (codes "$u") 49 ∷ digit_name (codes "$u") 50 ∷ digit_name (codes "$u") 51 ∷ digit_name (codes "$u") 52 ∷ digit_name (codes "$u") 53 ∷ [];
+  are_ps = rw (one_digit 1 (omega arith), one_digit 2 (omega arith), one_digit 3 (omega arith), one_digit 4 (omega arith), one_digit 5 (omega arith)) refl;
+  are_us = rw (one_digit 1 (omega arith), one_digit 2 (omega arith), one_digit 3 (omega arith), one_digit 4 (omega arith), one_digit 5 (omega arith)) refl;
+  many_ps = refl;
+  many_us = refl;
+  free_ps = (refl, (refl, (refl, (refl, (refl, tt)))));
+  free_us = (refl, (refl, (refl, (refl, (refl, tt)))));
+  typed_ps = (refl, (refl, (refl, (refl, (refl, tt)))));
+  typed_us = (refl, (refl, (refl, (refl, (refl, tt)))));
+  no_a = refl;
+  no_z = refl;
+}
+named (x ∷ y ∷ z ∷ t ∷ s ∷ r ∷ []) cs place few = record {
+  ps = digit_name (codes "$p") 49 ∷ digit_name (codes "$p") 50 ∷ digit_name (codes "$p") 51 ∷ digit_name (codes "$p") 52 ∷ digit_name (codes "$p") 53 ∷ digit_name (codes "$p") 54 ∷ [];
+  us = digit_name (codes "$u") 49 ∷ digit_name (codes "$u") 50 ∷ digit_name (codes "$u") 51 ∷ digit_name (codes "$u") 52 ∷ digit_name (codes "$u") 53 ∷ digit_name (codes "$u") 54 ∷ [];
+  are_ps = rw (one_digit 1 (omega arith), one_digit 2 (omega arith), one_digit 3 (omega arith), one_digit 4 (omega arith), one_digit 5 (omega arith), one_digit 6 (omega arith)) refl;
+  are_us = rw (one_digit 1 (omega arith), one_digit 2 (omega arith), one_digit 3 (omega arith), one_digit 4 (omega arith), one_digit 5 (omega arith), one_digit 6 (omega arith)) refl;
+  many_ps = refl;
+  many_us = refl;
+  free_ps = (refl, (refl, (refl, (refl, (refl, (refl, tt))))));
+  free_us = (refl, (refl, (refl, (refl, (refl, (refl, tt))))));
+  typed_ps = (refl, (refl, (refl, (refl, (refl, (refl, tt))))));
+  typed_us = (refl, (refl, (refl, (refl, (refl, (refl, tt))))));
+  no_a = refl;
+  no_z = refl;
+}
+named (x ∷ y ∷ z ∷ t ∷ s ∷ r ∷ q ∷ axes) cs place few = absurd (omega arith)

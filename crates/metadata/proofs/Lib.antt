@@ -2,3 +2,4 @@ pub mod Parts
 pub mod Counted
 pub mod Whole
 pub mod Sizes
+pub mod Bounds

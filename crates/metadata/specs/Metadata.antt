@@ -7,9 +7,11 @@ use Rattle.arr_core.specs.declared.signature.Signature.{Signature}
 use Rattle.tile_index.specs.declared.entry.Entry.{Entry}
 use Rattle.tile_index.specs.declared.index.TileIndex.{TileIndex}
 use Rattle.tile_index.specs.Bytes.{index_bytes}
+use Rattle.tile_index.specs.Entries.{AreOf}
 use Rattle.tile_index.specs.Index.{IsIndex}
+use Rattle.file_bytes.specs.declared.form.Version.{Version}
 use Rattle.catalogue.specs.Bytes.{catalogue_bytes}
-use Rattle.catalogue.specs.Signatures.{IsCatalogue}
+use Rattle.catalogue.specs.Signatures.{IsCatalogue, HaveAxesOf}
 
 -- a part of the metadata: its length in 64 bits, and its bytes
 abbrev pub part_bytes : List ℕ → List ℕ
@@ -40,3 +42,9 @@ pub record IsMetadata (bytes : List ℕ) (signatures : List Signature) (indexes 
   pub catalogue : IsCatalogue signatures
   pub counted : AreCounted signatures indexes
   pub written : bytes ≡ metadata_bytes signatures indexes
+
+-- a catalogue and its indexes are such as a file of a version has
+pub record IsOfVersion (version : Version) (signatures : List Signature) (indexes : List (List (List (ℕ × Entry))))
+    : Type 0 where
+  pub axes : HaveAxesOf version signatures
+  pub forms : All (λ (fields : List (List (ℕ × Entry))). All (AreOf version) fields) indexes

@@ -1,9 +1,13 @@
 -- The parts of the metadata as they are read: each stands behind its length.
-use Rattle.std.specs.Prelude.{ℕ, List}
+use Rattle.std.specs.Prelude.{◌≡◌, ℕ, List, [], ◌∷◌, length, All}
 use Rattle.arr_core.specs.declared.signature.Signature.{Signature}
 use Rattle.tile_index.specs.declared.entry.Entry.{Entry}
 use Rattle.tile_index.specs.Bytes.{index_bytes}
+use Rattle.tile_index.specs.Entries.{AreOf}
+use Rattle.tile_index.specs.Index.{IsIndex}
+use Rattle.file_bytes.specs.declared.form.Version.{Version}
 use Rattle.catalogue.specs.Bytes.{catalogue_bytes}
+use Rattle.catalogue.specs.Signatures.{IsCatalogue, HaveAxesOf}
 use Rattle.metadata.specs.Metadata.{part_bytes}
 
 -- any bytes may stand in a part
@@ -17,3 +21,18 @@ catalogue_part_bytes signatures = part_bytes (catalogue_bytes signatures)
 -- the part of an index
 abbrev pub index_part_bytes : List (ℕ × Entry) → List ℕ
 index_part_bytes index = part_bytes (index_bytes index)
+
+-- a catalogue and an index that a file of a version has
+abbrev pub IsCatalogueIn : Version → List Signature → Type 0
+IsCatalogueIn version signatures = IsCatalogue signatures × HaveAxesOf version signatures
+
+abbrev pub IsIndexIn : Version → List (ℕ × Entry) → Type 0
+IsIndexIn version index = IsIndex index × AreOf version index
+
+-- each coverage has such an index for each of its fields
+abbrev pub AreCountedIn : Version → List Signature → List (List (List (ℕ × Entry))) → Type 0
+AreCountedIn version [] [] = Unit {0}
+AreCountedIn version (s ∷ signatures) (i ∷ indexes) =
+    (length i ≡ length s.fields) × All (IsIndexIn version) i × AreCountedIn version signatures indexes
+AreCountedIn version [] (i ∷ indexes) = ⊥
+AreCountedIn version (s ∷ signatures) [] = ⊥

@@ -5,17 +5,15 @@ ghost use Rattle.arr_core.specs.declared.signature.Signature.{Signature};
 ghost use Rattle.byteorder.specs.Endian.{little_bytes};
 ghost use Rattle.file_bytes.specs.Codes.{IsRead, NoneIsRead};
 ghost use Rattle.tile_index.specs.declared.entry.Entry.{Entry};
-ghost use Rattle.tile_index.specs.Index.{IsIndex};
-ghost use Rattle.catalogue.specs.Signatures.{IsCatalogue};
 ghost use Rattle.catalogue.specs.Reading.{AreMany};
 ghost use Rattle.metadata.specs.declared.reading.ReadError.TheVariants.{NoMemory};
-ghost use Rattle.metadata.specs.Metadata.{part_bytes, indexes_bytes, indexes_of, AreCounted, IsMetadata};
-ghost use Rattle.metadata.specs.Parts.{IsAny, catalogue_part_bytes, index_part_bytes};
+ghost use Rattle.metadata.specs.Metadata.{part_bytes, indexes_bytes, indexes_of, IsMetadata, IsOfVersion};
+ghost use Rattle.metadata.specs.Parts.{IsAny, catalogue_part_bytes, index_part_bytes, IsCatalogueIn, IsIndexIn, AreCountedIn};
 
 use arr_core::Signature;
 use byteorder::{ByteOrder, LittleEndian};
 use catalogue::Catalogue;
-use file_bytes::Reader;
+use file_bytes::{Reader, Version};
 use std::alloc::{AllocError, AllocFailed, Global};
 use thiserror::Error;
 use tile_index::{IndexError, TileIndex};
@@ -76,30 +74,37 @@ fn read_part<'a>(bytes: &mut Reader<'a>) -> Option<&'a [u8]>
     Some(part)
 }
 
-/// The catalogue that the next part is.
-fn read_catalogue(alloc: Global, bytes: &mut Reader) -> Result<Catalogue, ReadError>
-    ensures read { IfOk result (λ held. IsRead IsCatalogue catalogue_part_bytes bytes.old held bytes.new) }
-    ensures damaged { IsErrOf result ReadError.Damaged → NoneIsRead IsCatalogue catalogue_part_bytes bytes.old }
+/// The catalogue of a file of a version that the next part is.
+fn read_catalogue(
+    alloc: Global,
+    version: Version,
+    bytes: &mut Reader,
+) -> Result<Catalogue, ReadError>
+    ensures read { IfOk result
+        (λ held. IsRead (IsCatalogueIn version) catalogue_part_bytes bytes.old held bytes.new) }
+    ensures damaged { IsErrOf result ReadError.Damaged
+        → NoneIsRead (IsCatalogueIn version) catalogue_part_bytes bytes.old }
 {
     let Some(part) = read_part(bytes) else {
         return Err(ReadError::Damaged);
     };
-    match Catalogue::from_bytes(alloc, part) {
+    match Catalogue::from_bytes(alloc, version, part) {
         Ok(catalogue) => Ok(catalogue),
         Err(catalogue::ReadError::Damaged) => Err(ReadError::Damaged),
         Err(catalogue::ReadError::NoMemory) => Err(ReadError::NoMemory),
     }
 }
 
-/// The index that the next part is.
-fn read_index(alloc: Global, bytes: &mut Reader) -> Result<TileIndex, ReadError>
-    ensures read { IfOk result (λ index. IsRead IsIndex index_part_bytes bytes.old index bytes.new) }
-    ensures damaged { IsErrOf result ReadError.Damaged → NoneIsRead IsIndex index_part_bytes bytes.old }
+/// The index of a file of a version that the next part is.
+fn read_index(alloc: Global, version: Version, bytes: &mut Reader) -> Result<TileIndex, ReadError>
+    ensures read { IfOk result (λ index. IsRead (IsIndexIn version) index_part_bytes bytes.old index bytes.new) }
+    ensures damaged { IsErrOf result ReadError.Damaged
+        → NoneIsRead (IsIndexIn version) index_part_bytes bytes.old }
 {
     let Some(part) = read_part(bytes) else {
         return Err(ReadError::Damaged);
     };
-    match TileIndex::from_bytes(alloc, part) {
+    match TileIndex::from_bytes(alloc, version, part) {
         Ok(index) => Ok(index),
         Err(IndexError::Damaged) => Err(ReadError::Damaged),
         Err(IndexError::NoMemory) => Err(ReadError::NoMemory),
@@ -107,14 +112,20 @@ fn read_index(alloc: Global, bytes: &mut Reader) -> Result<TileIndex, ReadError>
 }
 
 /// The indexes of the next `count` fields.
-fn read_fields(alloc: Global, bytes: &mut Reader, count: usize) -> Result<Vec<TileIndex>, ReadError>
+fn read_fields(
+    alloc: Global,
+    version: Version,
+    bytes: &mut Reader,
+    count: usize,
+) -> Result<Vec<TileIndex>, ReadError>
     ensures read { IfOk result
-        (λ indexes. IsRead (AreMany IsIndex count) indexes_bytes bytes.old indexes.items bytes.new) }
-    ensures damaged { IsErrOf result ReadError.Damaged → NoneIsRead (AreMany IsIndex count) indexes_bytes bytes.old }
+        (λ indexes. IsRead (AreMany (IsIndexIn version) count) indexes_bytes bytes.old indexes.items bytes.new) }
+    ensures damaged { IsErrOf result ReadError.Damaged
+        → NoneIsRead (AreMany (IsIndexIn version) count) indexes_bytes bytes.old }
 {
     let mut indexes = Vec::new(alloc);
     for _ in 0..count {
-        let index = read_index(alloc, bytes)?;
+        let index = read_index(alloc, version, bytes)?;
         indexes.push(index)?;
     }
     Ok(indexes)
@@ -123,36 +134,39 @@ fn read_fields(alloc: Global, bytes: &mut Reader, count: usize) -> Result<Vec<Ti
 /// For each of the coverages in order, the indexes of its fields.
 fn read_indexes(
     alloc: Global,
+    version: Version,
     bytes: &mut Reader,
     signatures: &[Signature],
 ) -> Result<Vec<Vec<TileIndex>>, ReadError>
-    ensures read { IfOk result (λ indexes. IsRead (AreCounted signatures.now) (flat_map indexes_bytes)
+    ensures read { IfOk result (λ indexes. IsRead (AreCountedIn version signatures.now) (flat_map indexes_bytes)
         bytes.old (indexes_of indexes.items) bytes.new) }
     ensures damaged { IsErrOf result ReadError.Damaged
-        → NoneIsRead (AreCounted signatures.now) (flat_map indexes_bytes) bytes.old }
+        → NoneIsRead (AreCountedIn version signatures.now) (flat_map indexes_bytes) bytes.old }
 {
     let mut indexes = Vec::new(alloc);
     for signature in signatures {
-        let fields = read_fields(alloc, bytes, signature.fields.len())?;
+        let fields = read_fields(alloc, version, bytes, signature.fields.len())?;
         indexes.push(fields)?;
     }
     Ok(indexes)
 }
 
-/// The metadata whose bytes these are: `Damaged` where they are those of none.
-pub fn read_metadata(alloc: Global, bytes: &[u8]) -> Result<Metadata, ReadError>
+/// The metadata whose bytes these are in a file of a version: `Damaged` where they are those of none. Version 1 has
+/// neither raw tiles nor more than four axes.
+pub fn read_metadata(alloc: Global, version: Version, bytes: &[u8]) -> Result<Metadata, ReadError>
     ensures read { IfOk result (λ m. IsMetadata bytes.now m.catalogue (indexes_of m.indexes.items)) }
+    ensures version { IfOk result (λ m. IsOfVersion version m.catalogue (indexes_of m.indexes.items)) }
     ensures only { IfOk result (λ m. (signatures : List Signature) (indexes : List (List (List (ℕ × Entry))))
-        → IsMetadata bytes.now signatures indexes
+        → IsMetadata bytes.now signatures indexes → IsOfVersion version signatures indexes
         → (signatures ≡ m.catalogue) × (indexes ≡ indexes_of m.indexes.items)) }
     ensures damaged { IsErrOf result ReadError.Damaged
         → (signatures : List Signature) (indexes : List (List (List (ℕ × Entry))))
-        → IsMetadata bytes.now signatures indexes → ⊥ }
+        → IsMetadata bytes.now signatures indexes → IsOfVersion version signatures indexes → ⊥ }
 {
     let mut rest = Reader::new(bytes);
-    let catalogue = read_catalogue(alloc, &mut rest)?;
+    let catalogue = read_catalogue(alloc, version, &mut rest)?;
     let signatures = catalogue.list(alloc)?;
-    let indexes = read_indexes(alloc, &mut rest, &signatures)?;
+    let indexes = read_indexes(alloc, version, &mut rest, &signatures)?;
     if rest.len() != 0 {
         return Err(ReadError::Damaged);
     }

@@ -101,6 +101,11 @@ impl<D: Disk> Blocks for PagePool<D> {
         self.file.release(ks);
     }
 
+    /// No page is kept from now on.
+    fn let_go(&mut self) {
+        self.pages.let_go();
+    }
+
     fn free(&self) -> u32 {
         self.file.free()
     }

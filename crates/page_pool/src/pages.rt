@@ -70,6 +70,14 @@ impl Pages {
         *self = Pages::new(self.alloc, count);
     }
 
+    /// Drops the pages, and keeps none from now on. Takes no memory.
+    pub(crate) fn let_go(&mut self)
+        ensures { self.new ≡ [] }
+    {
+        self.kept = None;
+        self.asked = Vec::new(self.alloc);
+    }
+
     /// Copies the page of block k, where there is one, which it tells.
     pub(crate) fn get(&mut self, k: u32, bytes: &mut [u8; 4096]) -> bool
         ensures kept { IsTrue result → page_of self.old k ≡ Some bytes.new }

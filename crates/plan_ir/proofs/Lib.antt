@@ -1,3 +1,4 @@
 pub mod Folds
 pub mod Registers
 pub mod Parts
+pub mod FirstVariables

@@ -4,3 +4,4 @@ pub mod Plans
 pub mod Planned
 pub mod Placed
 pub mod Units
+pub mod Variables

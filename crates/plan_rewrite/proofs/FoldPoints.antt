@@ -14,7 +14,8 @@ use Rattle.plan_ir.specs.Units.{item_units, steps_units, units}
 use Rattle.plan_ir.proofs.Parts.{slice_get-map}
 use Rattle.plan_rewrite.specs.Settling.{variable, levels, stand_in, bind_or_go, settled}
 use Rattle.plan_rewrite.specs.Settled.{Ground, way, after_bind, ground, kept, kept_binds, settled_pass, settled_field, settled_steps, settled_plan}
-use Rattle.plan_rewrite.specs.Hoisting.{is_from, without, hoisted, pass_without}
+use Rattle.plan_ir.specs.Variables.{is_from, without}
+use Rattle.plan_rewrite.specs.Hoisting.{hoisted, pass_without}
 use Rattle.plan_rewrite.specs.HoistedPlans.{Places, with_pass, with_passes, hoisted_condition, hoisted_fields, hoisted_item, hoisted_steps, hoisted_plan}
 use Rattle.plan_rewrite.proofs.HoistedReduced.{fold_or_register}
 use Rattle.plan_rewrite.specs.FoldPoints.{body_folds, passes_folds, condition_folds, binds_folds, fields_folds, steps_folds, fold_points}

@@ -13,9 +13,10 @@ use Rattle.plan_ir.specs.Plans.{PassTree, BindTree, FieldBody, StepsTree, Choice
 use Rattle.plan_ir.specs.Planned.{cells_of, choice_planned, planned}
 use Rattle.plan_ir.specs.Placed.{AreSteps, IsChoice, IsPlan}
 use Rattle.plan_ir.proofs.Parts.{slice_get-map}
-use Rattle.plan_rewrite.specs.Hoisting.{index_from, is_from, index_without, without, Hoisted, hoisted}
+use Rattle.plan_ir.specs.Variables.{index_from, is_from, index_without, without}
+use Rattle.plan_rewrite.specs.Hoisting.{Hoisted, hoisted}
 use Rattle.plan_rewrite.specs.HoistedPlans.{Places, with_pass, with_passes, hoisted_condition, hoisted_fields, hoisted_item, hoisted_steps, hoisted_plan, HasOpenFolds, PassesAreOpen, ConditionIsOpen, FieldsAreOpen, ItemIsOpen, StepsAreOpen}
-use Rattle.plan_rewrite.proofs.Lifts.{both-true}
+use Rattle.plan_ir.proofs.FirstVariables.{both-true}
 use Rattle.plan_rewrite.proofs.HoistedSteps.{StepsHoist, steps-hoist}
 
 choice-same : (s : ℕ → ℕ → List ℤ → ℤ) (ks : List ℕ) (o : Option StepsTree) (cs : ℕ → Option Signature) → IsSomeAnd o (AreSteps cs) → choice_planned s ks (option_map hoisted_steps o) ≡ choice_planned s ks o

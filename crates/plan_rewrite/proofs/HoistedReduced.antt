@@ -10,9 +10,10 @@ use Rattle.plan_ir.specs.Placed.{span, spans}
 use Rattle.plan_ir.specs.Plans.{PassTree, BindTree, FieldBody, StepsTree}
 use Rattle.plan_rewrite.specs.Settling.{told, literal, constant_in, variable_in, stand_in}
 use Rattle.plan_rewrite.specs.Rewritten.{IsReduced, PassesAreReduced, ConditionIsReduced, FieldsAreReduced, ItemIsReduced, StepsAreReduced}
-use Rattle.plan_rewrite.specs.Hoisting.{is_from, without, Hoisted, hoisted, pass_without}
+use Rattle.plan_ir.specs.Variables.{is_from, without}
+use Rattle.plan_rewrite.specs.Hoisting.{Hoisted, hoisted, pass_without}
 use Rattle.plan_rewrite.specs.HoistedPlans.{Places, with_pass, with_passes, hoisted_condition, hoisted_fields, hoisted_item, hoisted_steps}
-use Rattle.plan_rewrite.proofs.Lifts.{both-true, behind-first}
+use Rattle.plan_ir.proofs.FirstVariables.{both-true, behind-first}
 
 -- a fold or its register
 abbrev pub fold_or_register : Bool → ℕ → List PassTree → PassTree → Hoisted

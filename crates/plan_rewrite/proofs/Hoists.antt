@@ -18,10 +18,12 @@ use Rattle.plan_ir.specs.Planned.{pass_outcome, registers_after, registers}
 use Rattle.std.proofs.lemmas.List.{length-map}
 use Rattle.plan_ir.specs.Placed.{span, spans, IsPlaced, PassesArePlaced}
 use Rattle.plan_ir.proofs.Registers.{registers_more}
-use Rattle.plan_rewrite.specs.Hoisting.{is_from, without, Hoisted, in_body, passed, hoisted}
+use Rattle.plan_ir.specs.Variables.{is_from, without}
+use Rattle.plan_rewrite.specs.Hoisting.{Hoisted, in_body, passed, hoisted}
 use Rattle.plan_rewrite.proofs.Scopes.{Lie, lie-length, points-lie, flat-same}
 use Rattle.plan_rewrite.proofs.Settles.{position-same}
-use Rattle.plan_rewrite.proofs.Lifts.{both-true, without-means, without-placed, more-means, more-placed}
+use Rattle.plan_ir.proofs.FirstVariables.{both-true, without-means}
+use Rattle.plan_rewrite.proofs.Lifts.{without-placed, more-means, more-placed}
 
 -- registers are added behind those before
 registers-added : (s : ℕ → ℕ → List ℤ → ℤ) (regs : List Outcome) (more : List PassTree) → (rest : List Outcome) × (registers_after s regs more ≡ regs ++ rest)

@@ -1,8 +1,7 @@
--- A body that uses none of its first variables means the same without them; more registers change nothing.
+-- A body that uses none of its first variables has its place without them; more registers change nothing.
 use Rattle.std.proofs.Common.{◌≡◌, ℕ, zero, suc, ◌+◌, ◌-◌, ◌<◌, ◌≤◌, List, [], ◌∷◌, ◌++◌, length, map, get_or, refl, sym, ap, ◌∙◌, subst, arith, ℤ, pos, append_assoc, length-append, T, Bool, true, false}
 use Rattle.std.specs.Prelude.{Option, Some, None, slice_get, IsSomeAnd, nat_le, ◌&&◌}
 use Rattle.std.specs.List.{list_all}
-use Rattle.std.proofs.Math.Facts.{leb_yes}
 use Rattle.std.proofs.lemmas.List.{get_or_append_left}
 use Rattle.arr_core.specs.declared.signature.Signature.{Signature}
 use Rattle.arr_core.specs.Domains.{points, rank_of}
@@ -15,60 +14,16 @@ use Rattle.plan_ir.specs.declared.body.Index.TheVariants.{Const, Var}
 use Rattle.plan_ir.specs.declared.body.Interval.{Interval}
 use Rattle.plan_ir.specs.Bodies.{Tree, lit, var, reg, op1, op2, read, table, bind, fold}
 use Rattle.plan_ir.specs.Run.{numbers_at, run}
+use Rattle.plan_ir.proofs.FirstVariables.{both-true, behind-first}
 use Rattle.plan_ir.specs.Placed.{spans, LiesWithin, Indexes, HasCells, IsPlaced}
-use Rattle.plan_rewrite.specs.Hoisting.{index_from, is_from, index_without, without}
+use Rattle.plan_ir.specs.Variables.{index_from, is_from, index_without, without}
 use Rattle.plan_rewrite.proofs.Scopes.{Lie, points-lie, flat-same}
 use Rattle.plan_rewrite.proofs.Settles.{position-same}
-
-pub both-true : (b c : Bool) → T (b && c) → T b × T c
-both-true true true h = (tt, tt)
-both-true true false h = absurd h
-both-true false c h = absurd h
-
--- an element behind the first ones
-behind : {X : Type 0} (outer xs : List X) (d : X) (j k : ℕ) → k ≡ length outer + j → get_or xs j d ≡ get_or (outer ++ xs) k d
-behind [] xs d j k e = let f : j ≡ k = omega (arith, e) in ap (λ i. get_or xs i d) f
-behind (y ∷ outer) xs d j zero e = absurd (omega (arith, e))
-behind (y ∷ outer) xs d j (suc k) e = behind outer xs d j k (omega (arith, e))
 
 some-behind : {X : Type 0} (P : X → Type 0) (outer xs : List X) (j k : ℕ) → k ≡ length outer + j → IsSomeAnd (slice_get (outer ++ xs) k) P → IsSomeAnd (slice_get xs j) P
 some-behind P [] xs j k e s = let f : k ≡ j = omega (arith, e) in subst (λ i. IsSomeAnd (slice_get xs i) P) f s
 some-behind P (y ∷ outer) xs j zero e s = absurd (omega (arith, e))
 some-behind P (y ∷ outer) xs j (suc k) e s = some-behind P outer xs j k (omega (arith, e)) s
-
--- a variable that is none of the first n
-pub behind-first : (n k : ℕ) → T (nat_le n k) → k ≡ n + (k - n)
-behind-first n k h = let l = leb_yes {a = n} {b = k} h in omega (arith, l)
-
-numbers-without : (outer vars : List ℤ) (is : List Index) → T (list_all (index_from (length outer)) is) → numbers_at vars (map (index_without (length outer)) is) ≡ numbers_at (outer ++ vars) is
-numbers-without outer vars [] h = refl
-numbers-without outer vars (Const z ∷ is) h = ap (λ l. z ∷ l) (numbers-without outer vars is h)
-numbers-without outer vars (Var k ∷ is) h =
-    let w = both-true (nat_le (length outer) k) (list_all (index_from (length outer)) is) h in
-    ap (λ z. z ∷ numbers_at vars (map (index_without (length outer)) is)) (behind outer vars (pos 0) (k - length outer) k (behind-first (length outer) k w.0))
-    ∙ ap (λ l. get_or (outer ++ vars) k (pos 0) ∷ l) (numbers-without outer vars is w.1)
-
-pub without-means : (t : Tree) (s : ℕ → ℕ → List ℤ → ℤ) (regs : List Outcome) (outer vars : List ℤ) → T (is_from (length outer) t) → run s regs (without (length outer) t) vars ≡ run s regs t (outer ++ vars)
-without-means (lit z) s regs outer vars h = refl
-without-means (var k) s regs outer vars h = ap Value (behind outer vars (pos 0) (k - length outer) k (behind-first (length outer) k h))
-without-means (reg k) s regs outer vars h = refl
-without-means (op1 op e) s regs outer vars h = ap (operate1 op) (without-means e s regs outer vars h)
-without-means (op2 op l r) s regs outer vars h =
-    let w = both-true (is_from (length outer) l) (is_from (length outer) r) h in
-    ap (λ o. operate2 op o (run s regs (without (length outer) r) vars)) (without-means l s regs outer vars w.0)
-    ∙ ap (operate2 op (run s regs l (outer ++ vars))) (without-means r s regs outer vars w.1)
-without-means (read c f is) s regs outer vars h = ap (λ p. Value (s c f p)) (numbers-without outer vars is h)
-without-means (table box items is) s regs outer vars h = ap (λ p. Value (get_or items (rank_of box p) (pos 0))) (numbers-without outer vars is h)
-without-means (bind i lo hi e) s regs outer vars h =
-    let w = both-true (is_from (length outer) i) (is_from (length outer) e) h in
-    ap (λ o. at_position o lo hi (λ z. run s regs (without (length outer) e) (vars ++ z ∷ []))) (without-means i s regs outer vars w.0)
-    ∙ position-same (run s regs i (outer ++ vars)) lo hi _ _ (λ z above below.
-    without-means e s regs outer (vars ++ z ∷ []) w.1 ∙ ap (run s regs e) (sym (append_assoc outer vars (z ∷ []))))
-without-means (fold op box c e) s regs outer vars h =
-    let w = both-true (is_from (length outer) c) (is_from (length outer) e) h in
-    ap (condensed op) (flat-same (Lie (spans box)) _ _ (points box) (λ x lx.
-    ap (λ o. demanded o (run s regs (without (length outer) e) (vars ++ x))) (without-means c s regs outer (vars ++ x) w.0 ∙ ap (run s regs c) (sym (append_assoc outer vars x)))
-    ∙ ap (demanded (run s regs c ((outer ++ vars) ++ x))) (without-means e s regs outer (vars ++ x) w.1 ∙ ap (run s regs e) (sym (append_assoc outer vars x)))) (points-lie box))
 
 below-without : (n m total k : ℕ) → T (nat_le n k) → total ≡ n + m → k < total → k - n < m
 below-without n m total k h e p = let l = behind-first n k h in omega (arith, l, e, p)

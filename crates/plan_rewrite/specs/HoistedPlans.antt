@@ -3,7 +3,8 @@
 use Rattle.std.specs.Prelude.{◌≡◌, ℕ, ◌+◌, ◌&&◌, false, List, [], ◌∷◌, ◌++◌, map, length, Option, Some, None}
 use Rattle.plan_ir.specs.Bodies.{Tree, lit, var, reg, op1, op2, read, table, bind, fold}
 use Rattle.plan_ir.specs.Plans.{PassTree, BindTree, FieldBody, ItemTree, StepsTree, PlanTree}
-use Rattle.plan_rewrite.specs.Hoisting.{is_from, Hoisted, hoisted}
+use Rattle.plan_ir.specs.Variables.{is_from}
+use Rattle.plan_rewrite.specs.Hoisting.{Hoisted, hoisted}
 
 -- the place of each old pass among all passes so far
 pub record Places : Type 0 where

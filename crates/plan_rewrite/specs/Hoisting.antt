@@ -1,42 +1,8 @@
 -- Hoisting: a fold that uses no variable from outside it becomes a pass, and its register stands in its place.
-use Rattle.std.specs.Prelude.{ℕ, ◌+◌, ◌-◌, nat_le, ◌&&◌, cond, Bool, true, List, [], ◌∷◌, ◌++◌, map, length, slice_index_or}
-use Rattle.std.specs.List.{list_all}
-use Rattle.plan_ir.specs.declared.body.Index.{Index}
-use Rattle.plan_ir.specs.declared.body.Index.TheVariants.{Const, Var}
+use Rattle.std.specs.Prelude.{ℕ, ◌+◌, ◌&&◌, cond, List, [], ◌∷◌, ◌++◌, length, slice_index_or}
 use Rattle.plan_ir.specs.Bodies.{Tree, lit, var, reg, op1, op2, read, table, bind, fold}
 use Rattle.plan_ir.specs.Plans.{PassTree}
-
-abbrev pub index_from : ℕ → Index → Bool
-index_from n (Const z) = true
-index_from n (Var k) = nat_le n k
-
--- no variable of a body is one of the first n
-abbrev pub is_from : ℕ → Tree → Bool
-is_from n (lit z) = true
-is_from n (var k) = nat_le n k
-is_from n (reg k) = true
-is_from n (op1 op e) = is_from n e
-is_from n (op2 op l r) = is_from n l && is_from n r
-is_from n (read c f is) = list_all (index_from n) is
-is_from n (table box items is) = list_all (index_from n) is
-is_from n (bind i lo hi e) = is_from n i && is_from n e
-is_from n (fold op box c e) = is_from n c && is_from n e
-
-abbrev pub index_without : ℕ → Index → Index
-index_without n (Const z) = Const z
-index_without n (Var k) = Var (k - n)
-
--- the body without the first n variables
-abbrev pub without : ℕ → Tree → Tree
-without n (lit z) = lit z
-without n (var k) = var (k - n)
-without n (reg k) = reg k
-without n (op1 op e) = op1 op (without n e)
-without n (op2 op l r) = op2 op (without n l) (without n r)
-without n (read c f is) = read c f (map (index_without n) is)
-without n (table box items is) = table box items (map (index_without n) is)
-without n (bind i lo hi e) = bind (without n i) lo hi (without n e)
-without n (fold op box c e) = fold op box (without n c) (without n e)
+use Rattle.plan_ir.specs.Variables.{is_from, without}
 
 -- a body, and all passes so far
 pub record Hoisted : Type 0 where

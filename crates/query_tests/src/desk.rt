@@ -6,6 +6,7 @@ use anyhow::{Result, bail};
 use arr_core::Name;
 use job_desk::{JobDesk, SubmitError};
 use std::alloc::Global;
+use std::num::NonZeroU64;
 use test_rows::{Answer, number};
 
 /// The query that becomes a job: a scalar item, which is one unit.
@@ -34,7 +35,7 @@ pub struct Desk {
 
 impl Desk {
     /// A desk whose first job gets a number.
-    pub fn starting(alloc: Global, first: u64) -> Desk {
+    pub fn starting(alloc: Global, first: NonZeroU64) -> Desk {
         Desk {
             jobs: JobDesk::starting(alloc, first),
             holders: Holders::new(alloc),
@@ -58,7 +59,7 @@ impl Desk {
     }
 
     /// Begins anew, with a desk whose first job gets a number.
-    fn begin(&mut self, alloc: Global, answer: &mut Answer, first: u64) {
+    fn begin(&mut self, alloc: Global, answer: &mut Answer, first: NonZeroU64) {
         *self = Desk::starting(alloc, first);
         answer.say("ok");
     }
@@ -72,8 +73,11 @@ impl Desk {
         (verb, rest): (&str, &str),
     ) -> Result<()> {
         match verb {
-            "new" => self.begin(alloc, answer, 1),
-            "starting" => self.begin(alloc, answer, number(rest)),
+            "new" => self.begin(alloc, answer, NonZeroU64::MIN),
+            "starting" => match NonZeroU64::new(number(rest)) {
+                Some(first) => self.begin(alloc, answer, first),
+                None => bail!("no number to start from"),
+            },
             "cancel" => self.cancel(answer, number(rest)),
             "submit" => return self.submit(alloc, answer, coverages),
             "holders" => self.holders.say(answer),

@@ -8,6 +8,7 @@ use crate::plans::say_plan_run;
 use crate::texts::{say_alike, say_parsed, say_printed, say_tokens, say_tree, say_work};
 use anyhow::Result;
 use std::alloc::Global;
+use std::num::NonZeroU64;
 use test_rows::{Answer, Layer, cut, text};
 
 /// What the rows speak of: coverages, and a desk of jobs.
@@ -69,7 +70,7 @@ impl Fixture {
     pub fn new(alloc: Global) -> Fixture {
         Fixture {
             coverages: Coverages::new(alloc),
-            desk: Desk::starting(alloc, 1),
+            desk: Desk::starting(alloc, NonZeroU64::MIN),
         }
     }
 

@@ -67,7 +67,7 @@ passes_moves own own' s s' m = record { uses = m.uses; kept = λ sure. m.kept; h
 pub passes_none : (own : ℕ → ℕ) (s s' : BlocksState) → Moves none none s s' → Passes own own s s'
 passes_none own s s' m = record { uses = λ k. omega (arith, m.uses k); kept = λ sure k more. m.kept k (omega (arith, more)); honest = m.honest }
 
-pub passes_reads : (own : ℕ → ℕ) (s s' : BlocksState) → OnlyReads s s' → Passes own own s s'
+pub passes_reads : {asked : ℕ → ℕ} (own : ℕ → ℕ) (s s' : BlocksState) → OnlyReads asked s s' → Passes own own s s'
 passes_reads own s s' r = record { uses = λ k. rw r.uses refl; kept = λ sure k more whole. rw r.content refl; honest = r.honest }
 
 pub passes_same : (own : ℕ → ℕ) (s : BlocksState) → Passes own own s s
@@ -240,6 +240,7 @@ released s s' xs i x within is counts = record {
   synced = counts.synced;
   size = counts.size;
   failures = counts.failures;
+  overreads = counts.overreads;
   honest = counts.honest;
 }
 
@@ -299,6 +300,7 @@ counted_as s s' ks lists same counts = record {
   synced = counts.synced;
   size = counts.size;
   failures = counts.failures;
+  overreads = counts.overreads;
   honest = counts.honest;
 }
 

@@ -39,7 +39,7 @@ store_push s held xs new next following kept is whole fresh may version decoded 
     }
 
 -- a store of which blocks were read
-pub store_read : (s s' : BlocksState) (held : List Held) (xs : List Snapshot) (next : ℕ) (kept : Kept) → IsStore s held xs next kept → OnlyReads s s' → IsStore s' held xs next kept
+pub store_read : {asked : ℕ → ℕ} (s s' : BlocksState) (held : List Held) (xs : List Snapshot) (next : ℕ) (kept : Kept) → IsStore s held xs next kept → OnlyReads asked s s' → IsStore s' held xs next kept
 store_read s s' held xs next kept is reads = record {
   is_held = held_kept s s' held is.is_held (λ k. rw reads.uses refl) reads.honest (λ sure k some. rw reads.content refl);
   snapshots = passed (listed_all (indexes_of held)) (listed_all (indexes_of held)) s s' xs (passes_reads (listed_all (indexes_of held)) s s' reads) is.snapshots;
@@ -47,6 +47,6 @@ store_read s s' held xs next kept is reads = record {
 }
 
 -- and of which a tile was fetched
-pub store_fetched : (s s' : BlocksState) (held : List Held) (xs : List Snapshot) (next : ℕ) (old new : Kept) (h : Held) → IsStore s held xs next old → Serves s next old held xs h → AddsOf s h old new → OnlyReads s s' → IsStore s' held xs next new
+pub store_fetched : {asked : ℕ → ℕ} (s s' : BlocksState) (held : List Held) (xs : List Snapshot) (next : ℕ) (old new : Kept) (h : Held) → IsStore s held xs next old → Serves s next old held xs h → AddsOf s h old new → OnlyReads asked s s' → IsStore s' held xs next new
 store_fetched s s' held xs next old new h is serves adds reads =
     store_read s s' held xs next new (record { is_held = is.is_held; snapshots = is.snapshots; decoded = serves.more new adds }) reads

@@ -200,17 +200,33 @@ decoded_moved s s' next kept held xs honest keeps jobs a = record {
 pub decoded_read : (s s' : BlocksState) (next : ℕ) (kept : Kept) (held : List Held) (xs : List Snapshot) → s'.content ≡ s.content → s'.honest ≡ s.honest → AreDecoded s next kept held xs → AreDecoded s' next kept held xs
 decoded_read s s' next kept held xs content honest a = decoded_moved s s' next kept held xs honest (λ sure k some. rw content refl) (λ k d l sure j some. rw content refl) a
 
+nothing_kept : (kept : Kept) → kept ≡ [] → (key : TileKey) (cells : List ℤ) → IsKept key cells kept → ⊥
+nothing_kept kept is key cells found = Contains-nil (key, found.0) (rw is at found.1)
+
 -- no tile, and no coverage
 pub decoded_none : (s : BlocksState) (next : ℕ) (kept : Kept) → kept ≡ [] → AreDecoded s next kept [] []
 decoded_none s next kept is = record {
   table = λ n. (record { name = []; domain = []; fields = [] }, []);
-  known = λ key cells found. absurd (nothing key cells found);
-  own = record { like = λ n i d l. absurd (omega (arith, l)); below = λ n i d l. absurd (omega (arith, l)); tiles = λ key cells found. absurd (nothing key cells found) };
+  known = λ key cells found. absurd (nothing_kept kept is key cells found);
+  own = record { like = λ n i d l. absurd (omega (arith, l)); below = λ n i d l. absurd (omega (arith, l)); tiles = λ key cells found. absurd (nothing_kept kept is key cells found) };
   jobs = λ k d l. absurd (omega (arith, l));
 }
-  where
-    nothing : (key : TileKey) (cells : List ℤ) → IsKept key cells kept → ⊥
-    nothing key cells found = Contains-nil (key, found.0) (rw is at found.1)
+
+-- all tiles are let go
+versions_let_go : (s : BlocksState) (table : ℕ → Version) (next : ℕ) (old new : Kept) (held : List Held) → new ≡ [] → AreVersions s table next old held → AreVersions s table next new held
+versions_let_go s table next old new held is v = record {
+  like = v.like;
+  below = v.below;
+  tiles = λ key cells found. absurd (nothing_kept new is key cells found);
+}
+
+pub decoded_let_go : (s : BlocksState) (next : ℕ) (old new : Kept) (held : List Held) (xs : List Snapshot) → new ≡ [] → AreDecoded s next old held xs → AreDecoded s next new held xs
+decoded_let_go s next old new held xs is a = record {
+  table = a.table;
+  known = λ key cells found. absurd (nothing_kept new is key cells found);
+  own = versions_let_go s a.table next old new held is a.own;
+  jobs = λ k d l. versions_let_go s a.table next old new (get_or xs k d).coverages.items is (a.jobs k d l);
+}
 
 -- tiles of a coverage were added
 decoded_added : (s : BlocksState) (next : ℕ) (h : Held) (old new : Kept) (held : List Held) (xs : List Snapshot) → AddsOf s h old new → (a : AreDecoded s next old held xs) → ((n : ℕ) → h.version ≡ Some n → a.table n ≡ told_by h) → ((n : ℕ) → h.version ≡ Some n → n < next) → AreDecoded s next new held xs

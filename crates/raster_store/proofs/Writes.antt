@@ -130,6 +130,7 @@ held_remove s s' held i h is within was counts = (
     synced = counts.synced;
     size = counts.size;
     failures = counts.failures;
+    overreads = counts.overreads;
     honest = counts.honest;
   },
 )

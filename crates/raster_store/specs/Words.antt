@@ -34,12 +34,13 @@ TellsFault fault state old new = Tells fault (state old.blocks).failures (state 
 abbrev pub IsIntact : {B : Type 0} → (B → BlocksState) → RasterView B → Type 0
 IsIntact state v = AreIntact (state v.blocks).content v.coverages v.indexes
 
--- a call that only fetches has left the coverages, their indexes and the blocks as they were
+-- a call that only fetches has left the coverages, their indexes and the blocks as they were, and read no block that is
+-- not whole
 pub record OnlyFetches {B : Type 0} (state : B → BlocksState) (old new : RasterView B) : Type 0 where
   pub coverages : new.coverages ≡ old.coverages
   pub indexes : new.indexes ≡ old.indexes
   pub snapshots : new.snapshots ≡ old.snapshots
-  pub reads : OnlyReads (state old.blocks) (state new.blocks)
+  pub reads : OnlyReads none (state old.blocks) (state new.blocks)
 
 -- The coverages are what they were, on an honest disk with their values, and so are their indexes and the count of
 -- fetched tiles.

@@ -74,6 +74,14 @@ impl DecodedTiles {
         }
     }
 
+    /// Drops the tiles, and keeps none from now on. Takes no memory.
+    pub(crate) fn let_go(&mut self, alloc: Global)
+        ensures { self.new ≡ [] }
+    {
+        self.kept = None;
+        self.read = Vec::new(alloc);
+    }
+
     /// Copies the cells of a tile into a buffer, whatever that held before, where the tile is kept, which it tells.
     pub(crate) fn get(&mut self, at: TileKey, cells: &mut Vec<i64>) -> Result<bool, AllocError>
         ensures kept { IfOk result (λ found. IsTrue found → IsKept at cells.new.items self.old) }

@@ -1,6 +1,7 @@
 //! How a tile is fetched: as it is kept decoded, or from its blocks.
 
 ghost use Rattle.std.specs.Prelude.{◌∷◌, [], OnOk, IsErrOf};
+ghost use Rattle.block_file.specs.State.{none};
 ghost use Rattle.block_file.specs.Words.{OnlyReads};
 ghost use Rattle.disk_face.specs.Disk.{Tells};
 ghost use Rattle.tile_store.specs.Faults.{Refuses};
@@ -37,7 +38,7 @@ fn read_of<B: Blocks>(
         (IsTileOf (B.state blocks.old) of.entry.coverage.now of.entry.field of.entry.tile cells.new.items) }
     ensures why { Refuses result
         (IsDamagedIn (B.state blocks.old) of.entry.coverage.now of.entry.field of.entry.tile) ⊥ }
-    ensures frame { OnlyReads (B.state blocks.old) (B.state blocks.new) }
+    ensures frame { OnlyReads none (B.state blocks.old) (B.state blocks.new) }
     ensures told { Tells (IsErrOf result Fault.DiskFault) (B.state blocks.old).failures (B.state blocks.new).failures }
 {
     let tiles = of.coverage.tiles(of.field);
@@ -63,7 +64,7 @@ pub(crate) fn fetch_of<B: Blocks>(
         (IsTileOf (B.state blocks.old) of.entry.coverage.now of.entry.field of.entry.tile cells.new.items) }
     ensures why { Refuses result
         (IsDamagedIn (B.state blocks.old) of.entry.coverage.now of.entry.field of.entry.tile) ⊥ }
-    ensures frame { OnlyReads (B.state blocks.old) (B.state blocks.new) }
+    ensures frame { OnlyReads none (B.state blocks.old) (B.state blocks.new) }
     ensures kept { AddsOf (B.state blocks.old) of.entry.coverage.now decoded.old decoded.new }
     ensures told { Tells (IsErrOf result Fault.DiskFault) (B.state blocks.old).failures (B.state blocks.new).failures }
 {

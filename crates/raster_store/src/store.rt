@@ -9,7 +9,7 @@ ghost use Rattle.block_file.specs.State.{free_of};
 ghost use Rattle.block_file.specs.Words.{OnlyHeader, WritesHeader, HoldsChain};
 ghost use Rattle.block_file.specs.Format.{chain_blocks};
 ghost use Rattle.tile_store.specs.Faults.{Refuses};
-ghost use Rattle.raster_store.specs.Views.{AreBelow, Fetched};
+ghost use Rattle.raster_store.specs.Views.{AreBelow, Fetched, SnapshotView};
 ghost use Rattle.raster_store.specs.Calls.{signature_of, AreWhole, AreListed, HasField, MayAttach, IsIndexOf};
 ghost use Rattle.raster_store.specs.Fetches.{IsPlaceOf, HasTile, HasTileNumber, IsFetched, IsDamagedAt, AreCellsOf};
 ghost use Rattle.raster_store.specs.Fetches.{IsDamagedTile, IsDamagedCell, IsDamagedBox};
@@ -406,6 +406,26 @@ impl<B: Blocks> RasterStore<B> {
             }
             None => {}
         }
+    }
+
+    /// The first job that something is held for. Takes no memory.
+    pub fn first_held(&self) -> Option<u64>
+        ensures { result ≡ option_map (λ (x : SnapshotView). x.job) (slice_get self.now.snapshots 0) }
+    {
+        match self.snapshots.first() {
+            Some(snapshot) => Some(snapshot.job),
+            None => None,
+        }
+    }
+
+    /// Lets go the tiles that are kept decoded, the buffer of bytes and what the blocks keep. Callers see no difference.
+    /// Takes no memory.
+    pub fn let_go(&mut self)
+        ensures { self.new ≡ self.old }
+    {
+        self.decoded.let_go(self.alloc);
+        self.bytes = Vec::new(self.alloc);
+        self.blocks.let_go();
     }
 
     /// Reads a tile as `fetch_tile_into` does, of the coverages that are held at a place.

@@ -53,7 +53,7 @@ fn serve_listener<D: Disk + Drop, E: Sink>(
             Err(_) => {}
         }
     }
-    match server.close() {
+    match server.close_with_retry() {
         Ok(_disk) => CLOSED,
         Err(refused) => {
             tell(errors, "not closed", refused.fault.number());

@@ -2,3 +2,4 @@ pub mod Spelling
 pub mod Values
 pub mod Progress
 pub mod Pushes
+pub mod RawTiles

@@ -85,3 +85,10 @@ written-all kind cells bytes at w h =
     let none = ap runs_in (drop_all at cells h) in
     let same : w.progress.runs ≡ runs_in cells = omega (arith, w.counted) in
     (read-all kind bytes cells w.progress w.read (w.whole ∙ ap (λ k. k * run_size kind) (sym count)) (sym count) (omega (arith, w.reached)), w.whole ∙ ap (λ k. k * run_size kind) same)
+
+-- what was written is no longer than all runs
+pub written-within : (kind : FieldType) (cells : List ℤ) (bytes : List ℕ) (at : ℕ) → IsWritten kind cells bytes at → length bytes ≤ runs_in cells * run_size kind
+written-within kind cells bytes at w =
+    let few : w.progress.runs ≤ runs_in cells = omega (arith, w.counted) in
+    let long = mul-le-mul_right (run_size kind) few in
+    omega (arith, long, w.whole)

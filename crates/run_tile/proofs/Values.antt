@@ -20,6 +20,13 @@ value-back kind z h = grind (arith, ints, nat_tests)
 low_bytes-fit : (n : ℕ) (z : ℤ) → low_bytes w64 n z < 256 ^ n
 low_bytes-fit n z = rw (pow256 n) (mod-lt (cast_unsigned w64 z) (one-le-pow (8 * n) 2 (omega arith)))
 
+-- a value reads back from its own bytes
+pub value-read : (kind : FieldType) (z : ℤ) → Fits kind z → value_of kind (little_number (width_of kind) (little_bytes (width_of kind) (low_bytes w64 (width_of kind) z))) ≡ z
+value-read kind z h =
+    let value = little_bytes (width_of kind) (low_bytes w64 (width_of kind) z) in
+    let number = ap (little_number (width_of kind)) (sym (append-nil value)) ∙ little_number-reads_back (width_of kind) (low_bytes w64 (width_of kind) z) [] (low_bytes-fit (width_of kind) z) in
+    ap (value_of kind) number ∙ value-back kind z h
+
 pub length-run_bytes : (kind : FieldType) (r : Run) → length (run_bytes kind r) ≡ run_size kind
 unfolding run_bytes
 length-run_bytes kind r =

@@ -1,4 +1,5 @@
 pub mod Types
 pub mod Runs
 pub mod Bytes
+pub mod Raw
 pub mod Reading

@@ -45,9 +45,9 @@ pub record IsSpelling (kind : FieldType) (bytes : List ℕ) (cells : List ℤ) :
   pub maximal : (k : ℕ) → k + 1 < run_count kind bytes → (run_at kind bytes k).value ≢ (run_at kind bytes (k + 1)).value
   pub cells_are : cells ≡ cells_of (first_runs kind bytes (run_count kind bytes))
 
--- the bytes spell no list of so many cells
-abbrev pub IsOfNone : ℕ → FieldType → List ℕ → Type 0
-IsOfNone count kind bytes = (list : List ℤ) → length list ≡ count → IsSpelling kind bytes list → ⊥
+-- the bytes spell no list of so many cells in runs
+abbrev pub IsNoSpelling : ℕ → FieldType → List ℕ → Type 0
+IsNoSpelling count kind bytes = (list : List ℤ) → length list ≡ count → IsSpelling kind bytes list → ⊥
 
 -- how many runs spell the cells: one more than there are cells that differ from the one before
 abbrev pub runs_in : List ℤ → ℕ

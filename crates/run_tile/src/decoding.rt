@@ -1,31 +1,46 @@
 //! Bytes to cells.
 
-ghost use Rattle.std.specs.Prelude.{◌≡◌, ◌≤◌, ◌<◌, ℤ, List, length, vec_capacity, IfOk, OnOk, IsErrOf};
-ghost use Rattle.run_tile.specs.Runs.{IsSpelling, IsOfNone};
+ghost use Rattle.std.specs.Prelude.{◌≡◌, ◌≤◌, ◌<◌, ℤ, List, length, vec_capacity, IfOk, OnOk, IsErrOf, IsTrue, false};
+ghost use Rattle.run_tile.specs.Raw.{Spells, IsOfNone};
 
 use crate::error::DecodeError;
+use crate::raw::read_raw;
 use crate::reading::read_cells;
 use arr_core::FieldType;
+use file_bytes::Form;
 use std::alloc::Global;
 
-/// Writes the `count` cells of a type that the bytes spell into a buffer, whatever it held before: `Damaged` where they
-/// spell no such list, so where runs are cut short, empty, too long or of another type, where neighbouring runs have
-/// one value, and where the runs have more or fewer cells. A buffer that has room for the cells takes no memory. After
+/// Whether the bytes spell as many cells in a form as there is room for, which are written then.
+fn read_form(kind: FieldType, form: Form, bytes: &[u8], cells: &mut [i64]) -> bool
+    ensures spelled { IsTrue result → Spells form kind bytes.now cells.new }
+    ensures damaged { (result ≡ false) → IsOfNone (length cells.old) form kind bytes.now }
+{
+    match form {
+        Form::Runs => read_cells(kind, bytes, cells),
+        Form::Raw => read_raw(kind, bytes, cells),
+    }
+}
+
+/// Writes the `count` cells of a type that the bytes spell in a form into a buffer, whatever it held before: `Damaged`
+/// where they spell no such list, so where runs are cut short, empty, too long or of another type, where neighbouring
+/// runs have one value, where there are more or fewer cells, and where raw cells are of another type or take no fewer
+/// bytes than their runs. A buffer that has room for the cells takes no memory. After
 /// a refusal it holds any cells.
 pub fn decode_into(
     kind: FieldType,
     count: usize,
+    form: Form,
     bytes: &[u8],
     cells: &mut Vec<i64>,
 ) -> Result<(), DecodeError>
-    ensures spelled { OnOk result (IsSpelling kind bytes.now cells.new.items) }
+    ensures spelled { OnOk result (Spells form kind bytes.now cells.new.items) }
     ensures counted { OnOk result (length cells.new.items ≡ count) }
-    ensures damaged { IsErrOf result DecodeError.Damaged → IsOfNone count kind bytes.now }
+    ensures damaged { IsErrOf result DecodeError.Damaged → IsOfNone count form kind bytes.now }
     ensures no_memory { IsErrOf result DecodeError.NoMemory → vec_capacity cells.old < count }
     ensures capacity { vec_capacity cells.old ≤ vec_capacity cells.new }
 {
     cells.resize(count, 0)?;
-    if read_cells(kind, bytes, cells) {
+    if read_form(kind, form, bytes, cells) {
         Ok(())
     } else {
         Err(DecodeError::Damaged)
@@ -37,13 +52,14 @@ pub fn decode(
     alloc: Global,
     kind: FieldType,
     count: usize,
+    form: Form,
     bytes: &[u8],
 ) -> Result<Vec<i64>, DecodeError>
-    ensures spelled { IfOk result (λ cells. IsSpelling kind bytes.now cells.items) }
+    ensures spelled { IfOk result (λ cells. Spells form kind bytes.now cells.items) }
     ensures counted { IfOk result (λ cells. length cells.items ≡ count) }
-    ensures damaged { IsErrOf result DecodeError.Damaged → IsOfNone count kind bytes.now }
+    ensures damaged { IsErrOf result DecodeError.Damaged → IsOfNone count form kind bytes.now }
 {
     let mut cells = Vec::new(alloc);
-    decode_into(kind, count, bytes, &mut cells)?;
+    decode_into(kind, count, form, bytes, &mut cells)?;
     Ok(cells)
 }

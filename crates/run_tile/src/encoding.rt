@@ -1,13 +1,16 @@
 //! Cells to bytes.
 
-ghost use Rattle.std.specs.Prelude.{◌≡◌, ◌≢◌, ◌+◌, ◌*◌, ◌<◌, ◌≤◌, ℕ, ℤ, List, length, ◌++◌, All, IfOk, OnOk, get_or, slice_index_or, pos};
+ghost use Rattle.std.specs.Prelude.{◌≡◌, ◌≢◌, ◌+◌, ◌*◌, ◌<◌, ◌≤◌, ℕ, ℤ, List, length, ◌++◌, All, IfOk, OnOk, IsTrue, MatchOption, get_or, slice_index_or, pos};
 ghost use Rattle.arr_core.specs.Cells.{Fits};
 ghost use Rattle.run_tile.specs.Runs.{IsSpelling, IsRun, runs_in, run_size};
 ghost use Rattle.run_tile.specs.Bytes.{run_bytes};
+ghost use Rattle.run_tile.specs.Raw.{Spells, IsTile, AreShortRuns, form_of, raw_size, runs_size, tile_size};
 
+use crate::raw::{encode_raw, is_shorter};
 use crate::run::{Run, width};
 use arr_core::FieldType;
 use byteorder::{ByteOrder, LittleEndian};
+use file_bytes::Form;
 use std::alloc::{AllocError, Global};
 
 /// Where the cells that are equal to the one at a place end.
@@ -41,17 +44,20 @@ fn push_run(bytes: &mut Vec<u8>, kind: FieldType, run: Run) -> Result<(), AllocE
     Ok(())
 }
 
-/// The bytes that spell the cells, each run as long as it can be: 1 to 40,960 of them.
-pub fn encode(alloc: Global, kind: FieldType, cells: &[i64]) -> Result<Vec<u8>, AllocError>
-    requires some { 1 ≤ length cells.now }
+/// The bytes that spell the cells in runs, each as long as it can be; none where there are more than `most`.
+fn encode_runs(
+    alloc: Global,
+    kind: FieldType,
+    cells: &[i64],
+    most: usize,
+) -> Result<Option<Vec<u8>>, AllocError>
     requires few { length cells.now ≤ 4096 }
+    requires short { most ≤ 32768 }
     requires of_type { All (Fits kind) cells.now }
-    ensures spelled { IfOk result (λ bytes. IsSpelling kind bytes.items cells.now) }
-    ensures length { IfOk result (λ bytes. length bytes.items ≡ runs_in cells.now * run_size kind) }
-    ensures some { IfOk result (λ bytes. 1 ≤ length bytes.items) }
-    ensures few { IfOk result (λ bytes. length bytes.items ≤ 40960) }
+    ensures runs { IfOk result (λ it.
+        MatchOption it (most < runs_size kind cells.now) (λ bytes. AreShortRuns kind cells.now most bytes.items)) }
 {
-    let mut bytes = Vec::with_capacity(alloc, cells.len() * (2 + width(kind)))?;
+    let mut bytes = Vec::with_capacity(alloc, most + 2 + width(kind))?;
     let mut at = 0;
     while at < cells.len() {
         let end = run_end(cells, at);
@@ -60,7 +66,60 @@ pub fn encode(alloc: Global, kind: FieldType, cells: &[i64]) -> Result<Vec<u8>, 
             value: cells[at],
         };
         push_run(&mut bytes, kind, run)?;
+        if most < bytes.len() {
+            return Ok(None);
+        }
         at = end;
     }
-    Ok(bytes)
+    Ok(Some(bytes))
+}
+
+/// How many of the first cells tell whether raw is looked at before runs.
+const FIRST: usize = 64;
+
+/// Whether raw is shorter than runs, where it is so of the first cells too. Noise is found here, before its runs would be
+/// written.
+fn is_noise(kind: FieldType, cells: &[i64]) -> bool
+    requires few { length cells.now ≤ 4096 }
+    ensures { IsTrue result → raw_size kind cells.now < runs_size kind cells.now }
+{
+    let first = cells.len().min(FIRST);
+    if !is_shorter(kind, first * width(kind), &cells[..first]) {
+        return false;
+    }
+    is_shorter(kind, cells.len() * width(kind), cells)
+}
+
+/// The raw bytes of cells whose runs take more.
+fn raw_tile(alloc: Global, kind: FieldType, cells: &[i64]) -> Result<(Form, Vec<u8>), AllocError>
+    requires few { length cells.now ≤ 4096 }
+    requires of_type { All (Fits kind) cells.now }
+    requires shorter { raw_size kind cells.now < runs_size kind cells.now }
+    ensures { IfOk result (λ it. IsTile kind cells.now it.0 it.1.items) }
+{
+    let bytes = encode_raw(alloc, kind, cells)?;
+    Ok((Form::Raw, bytes))
+}
+
+/// The bytes that spell the cells, and their form: the cells one after the other where that takes fewer bytes than their
+/// runs, else runs, each as long as it can be. 1 to 32,768 bytes.
+pub fn encode(alloc: Global, kind: FieldType, cells: &[i64]) -> Result<(Form, Vec<u8>), AllocError>
+    requires some { 1 ≤ length cells.now }
+    requires few { length cells.now ≤ 4096 }
+    requires of_type { All (Fits kind) cells.now }
+    ensures spelled { IfOk result (λ it. Spells it.0 kind it.1.items cells.now) }
+    ensures form { IfOk result (λ it. it.0 ≡ form_of kind cells.now) }
+    ensures length { IfOk result (λ it. length it.1.items ≡ tile_size kind cells.now) }
+    ensures some { IfOk result (λ it. 1 ≤ length it.1.items) }
+    ensures few { IfOk result (λ it. length it.1.items ≤ 32768) }
+{
+    if is_noise(kind, cells) {
+        let tile = raw_tile(alloc, kind, cells)?;
+        return Ok(tile);
+    }
+    let Some(bytes) = encode_runs(alloc, kind, cells, cells.len() * width(kind))? else {
+        let tile = raw_tile(alloc, kind, cells)?;
+        return Ok(tile);
+    };
+    Ok((Form::Runs, bytes))
 }

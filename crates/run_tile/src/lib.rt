@@ -1,10 +1,11 @@
 //! The cells of a tile as bytes: runs of equal cells, each a count of 16 bits and a value in the
-//! width of the field's type, both with the lowest byte first.
+//! width of the field's type, both with the lowest byte first; or the values alone, one after the other.
 #![tactic(auto)]
 
 mod decoding;
 mod encoding;
 mod error;
+mod raw;
 mod reading;
 mod run;
 

@@ -1,7 +1,7 @@
 //! The runs of a tile, read one after another into its cells.
 
 ghost use Rattle.std.specs.Prelude.{◌≡◌, ◌+◌, ◌≤◌, ◌<◌, ◌++◌, ℤ, None, false, List, length, take, replicate, IfSome, IfNone, IsTrue, ◌↔◌, Some};
-ghost use Rattle.run_tile.specs.Runs.{IsSpelling, IsOfNone, run_count};
+ghost use Rattle.run_tile.specs.Runs.{IsSpelling, IsNoSpelling, run_count};
 ghost use Rattle.run_tile.specs.Reading.{AreRead};
 
 use crate::run::{Run, width};
@@ -98,7 +98,7 @@ fn read_run(kind: FieldType, bytes: &[u8], cells: &mut [i64], at: Progress) -> O
     requires inside { at.runs < run_count kind bytes.now }
     ensures read { IfSome result (λ next. AreRead kind bytes.now cells.new next) }
     ensures next { IfSome result (λ next. next.runs ≡ at.runs + 1) }
-    ensures damaged { IfNone result (IsOfNone (length cells.old) kind bytes.now) }
+    ensures damaged { IfNone result (IsNoSpelling (length cells.old) kind bytes.now) }
 {
     let run = Run::read_at(kind, bytes, at.runs);
     let after = at.cells + run.count as usize;
@@ -121,7 +121,7 @@ fn read_few(kind: FieldType, bytes: &[u8], cells: &mut [i64], from: Progress) ->
     ensures read { IfSome result (λ next. AreRead kind bytes.now cells.new next) }
     ensures inside { IfSome result (λ next. next.runs ≤ run_count kind bytes.now) }
     ensures further { IfSome result (λ next. from.runs < next.runs) }
-    ensures damaged { IfNone result (IsOfNone (length cells.old) kind bytes.now) }
+    ensures damaged { IfNone result (IsNoSpelling (length cells.old) kind bytes.now) }
 {
     let end = (bytes.len() / (2 + width(kind))).min(from.runs + FEW);
     let mut at = from;
@@ -139,7 +139,7 @@ fn read_few(kind: FieldType, bytes: &[u8], cells: &mut [i64], from: Progress) ->
 #[inline(always)]
 fn read_runs(kind: FieldType, bytes: &[u8], cells: &mut [i64]) -> bool
     ensures spelled { IsTrue result → IsSpelling kind bytes.now cells.new }
-    ensures damaged { (result ≡ false) → IsOfNone (length cells.old) kind bytes.now }
+    ensures damaged { (result ≡ false) → IsNoSpelling (length cells.old) kind bytes.now }
 {
     let size = 2 + width(kind);
     if bytes.len() % size != 0 {
@@ -171,7 +171,7 @@ fn read_runs(kind: FieldType, bytes: &[u8], cells: &mut [i64]) -> bool
 /// The same, by a loop of its own for each type.
 pub fn read_cells(kind: FieldType, bytes: &[u8], cells: &mut [i64]) -> bool
     ensures spelled { IsTrue result → IsSpelling kind bytes.now cells.new }
-    ensures damaged { (result ≡ false) → IsOfNone (length cells.old) kind bytes.now }
+    ensures damaged { (result ≡ false) → IsNoSpelling (length cells.old) kind bytes.now }
 {
     match kind {
         FieldType::Bool => read_runs(FieldType::Bool, bytes, cells),

@@ -31,7 +31,8 @@ pub fn width(kind: FieldType) -> usize
 }
 
 /// The value in the first bytes.
-fn read_value(kind: FieldType, bytes: &[u8]) -> i64
+#[inline(always)]
+pub(crate) fn read_value(kind: FieldType, bytes: &[u8]) -> i64
     requires { width_of kind ≤ length bytes.now }
     ensures { result ≡ value_of kind (little_number (width_of kind) bytes.now) }
 {

@@ -2,18 +2,18 @@
 
 use crate::disks::Site;
 use crate::sessions::{Connection, connections_of, streams_of};
+use crate::storage::disks::TestDisk;
 use anyhow::{Context, Result};
 use coverage_server::{SessionFault, serve_session};
-use disk_face::{Disk, FileDisk, FullFile, MemDisk};
 use std::alloc::Global;
 use std::str;
-use test_rows::{Answer, cut_at, index};
+use test_rows::{Answer, cut_at, number};
 
 /// How many bytes a block has.
-const BLOCK: usize = 4096;
+const BLOCK: u64 = 4096;
 
 /// How many bytes so many blocks and these bytes are.
-fn room_of(blocks: usize, more: usize) -> usize {
+fn room_of(blocks: u64, more: u64) -> u64 {
     blocks.saturating_mul(BLOCK).saturating_add(more)
 }
 
@@ -37,7 +37,7 @@ fn say_replies(answer: &mut Answer, connections: &[Connection<'_>]) {
 }
 
 /// Adds why a session gave no disk.
-fn say_fault<D: Disk>(answer: &mut Answer, fault: &SessionFault<D>) {
+fn say_fault(answer: &mut Answer, fault: &SessionFault<TestDisk>) {
     match fault {
         SessionFault::NotOpened(_, fault) => answer.refusal(fault.number()),
         SessionFault::NotClosed(_, fault) => {
@@ -47,17 +47,19 @@ fn say_fault<D: Disk>(answer: &mut Answer, fault: &SessionFault<D>) {
     }
 }
 
-/// Serves the connections on a disk, and adds what was answered. The disk, where the session was closed.
-fn served<D: Disk + Drop>(
+/// Serves the connections on a device of so many bytes that holds these, and adds what was answered. What it holds
+/// then, where the session was closed.
+fn served(
     alloc: Global,
-    disk: D,
+    bytes: Vec<u8>,
+    room: u64,
     connections: &mut [Connection<'_>],
     answer: &mut Answer,
-) -> Option<D> {
-    let outcome = serve_session(alloc, disk, connections);
+) -> Option<Vec<u8>> {
+    let outcome = serve_session(alloc, TestDisk::new(bytes, 0, 0, room), connections);
     say_replies(answer, connections);
     match outcome {
-        Ok(disk) => Some(disk),
+        Ok(disk) => Some(disk.into_bytes()),
         Err(fault) => {
             say_fault(answer, &fault);
             None
@@ -65,50 +67,18 @@ fn served<D: Disk + Drop>(
     }
 }
 
-/// Adds what the next session answers on what a device holds.
-fn served_later(
-    alloc: Global,
-    disk: FileDisk<FullFile>,
-    connections: &mut [Connection<'_>],
-    answer: &mut Answer,
-) {
-    match disk.into_file() {
-        Ok(file) => {
-            let _disk = served(alloc, MemDisk::new(file.bytes), connections, answer);
-        }
-        Err(_) => answer.wrong("a broken device"),
-    }
-}
-
-/// Adds what a session answers on an empty device of so many bytes, and the next one on what it left.
-fn served_on_device(
-    alloc: Global,
-    room: usize,
-    writes: &mut [Connection<'_>],
-    later: &mut [Connection<'_>],
-    answer: &mut Answer,
-) {
-    let bytes = Vec::new(alloc);
-    match FileDisk::new(FullFile { bytes, room }) {
-        Ok(disk) => {
-            if let Some(disk) = served(alloc, disk, writes, answer) {
-                answer.say("closed: ");
-                served_later(alloc, disk, later, answer);
-            }
-        }
-        Err(_) => answer.wrong("no device"),
-    }
-}
-
 impl Site {
-    /// What both sessions answer on an empty device of so many bytes.
-    fn on_device(&self, alloc: Global, room: usize) -> Result<Answer> {
+    /// What a session answers on an empty device of so many bytes, and the next one on what it left.
+    fn on_device(&self, alloc: Global, room: u64) -> Result<Answer> {
         let written = streams_of(alloc, self.writes.as_str())?;
         let asked = streams_of(alloc, self.later.as_str())?;
         let mut writes = connections_of(alloc, written.as_slice(), 0)?;
         let mut later = connections_of(alloc, asked.as_slice(), 0)?;
         let mut answer = Answer::new(alloc);
-        served_on_device(alloc, room, &mut writes, &mut later, &mut answer);
+        if let Some(left) = served(alloc, Vec::new(alloc), room, &mut writes, &mut answer) {
+            answer.say("closed: ");
+            let _left = served(alloc, left, u64::MAX, &mut later, &mut answer);
+        }
         Ok(answer)
     }
 
@@ -117,7 +87,7 @@ impl Site {
     pub fn on_devices(&self, alloc: Global, rooms: &str) -> Result<String> {
         let (blocks, more) = cut_at(rooms, '+');
         let (least, most) = blocks.split_once("..").context("no bounds")?;
-        let (least, most, more) = (index(least)?, index(most)?, index(more)?);
+        let (least, most, more) = (number(least), number(most), number(more));
         let expected = self.on_device(alloc, room_of(least, more))?;
         for blocks in least.saturating_add(1)..most {
             let found = self.on_device(alloc, room_of(blocks, more))?;

@@ -1,17 +1,19 @@
 //! Servers that are opened on named files, and closed.
 
-use crate::storage::scripts::Scripts;
+use crate::storage::disks::TestDisk;
+use crate::storage::site;
 use anyhow::{Context, Result};
 use coverage_server::{NotOpened, Server};
-use disk_face::{FailDisk, MemDisk};
 use std::alloc::Global;
-use test_rows::{refusal, yes};
+use test_rows::{cut, number, refusal, yes};
 
-/// What the rows of storage speak to, the server that the others speak to, a request that tells its state, and sessions.
+/// What the rows of storage speak to, the server that the others speak to or the disk whose opening was refused, a
+/// request that tells the server's state, and sessions.
 #[derive(Drop)]
 pub struct Site {
-    pub storage: Scripts,
-    pub server: Option<Server<FailDisk>>,
+    pub storage: site::Site,
+    pub server: Option<Server<TestDisk>>,
+    refused: Option<TestDisk>,
     /// The pairs of a request and the body of its reply.
     pub probe: Option<(String, String)>,
     /// The streams of a session on devices, and those of the session behind it.
@@ -22,35 +24,62 @@ pub struct Site {
 impl Site {
     pub fn new(alloc: Global) -> Site {
         Site {
-            storage: Scripts::new(alloc),
+            storage: site::Site::new(alloc),
             server: None,
+            refused: None,
             probe: None,
             writes: String::new(alloc),
             later: String::new(alloc),
         }
     }
 
-    /// Keeps a server that was opened; gives the number of its refusal where none was.
+    /// Keeps a server that was opened, and else the disk, and gives the number of the refusal.
     fn keep_opened(
         &mut self,
-        opened: Result<Server<FailDisk>, NotOpened<FailDisk>>,
+        opened: Result<Server<TestDisk>, NotOpened<TestDisk>>,
     ) -> Option<u16> {
         match opened {
             Ok(server) => {
                 self.server = Some(server);
                 None
             }
-            Err(refused) => Some(refused.fault.number()),
+            Err(refused) => {
+                self.refused = Some(refused.disk);
+                Some(refused.fault.number())
+            }
         }
     }
 
-    /// Opens the server of a file on a disk whose call of that number fails, and none for 0.
-    pub fn open(&mut self, alloc: Global, call: u64, words: &str) -> Result<String> {
-        let disk = MemDisk::new(self.storage.files().bytes(alloc, words)?);
-        let opened = Server::open(alloc, FailDisk::new(disk, call));
-        match self.keep_opened(opened) {
+    /// Opens the server of a disk, which stays where it is refused.
+    fn open_on(&mut self, alloc: Global, disk: TestDisk) -> Result<String> {
+        self.server = None;
+        match self.keep_opened(Server::open(alloc, disk)) {
             None => Ok(String::from_str(alloc, "ok")?),
             Some(number) => refusal(alloc, number),
+        }
+    }
+
+    /// Opens the server of a file on a disk whose call of a number fails and whose read of a number lies, or none for
+    /// 0.
+    pub fn open(&mut self, alloc: Global, fails: u64, lies: u64, words: &str) -> Result<String> {
+        let bytes = self.storage.files.bytes(alloc, words)?;
+        self.open_on(alloc, TestDisk::new(bytes, fails, lies, u64::MAX))
+    }
+
+    /// The same, the number of the call or of the read before the file.
+    pub fn open_numbered(&mut self, alloc: Global, verb: &str, words: &str) -> Result<String> {
+        let (count, words) = cut(words);
+        if verb == "open_lying" {
+            return self.open(alloc, 0, number(count), words);
+        }
+        self.open(alloc, number(count), 0, words)
+    }
+
+    /// Opens the server of the disk whose opening was refused, where it was.
+    pub fn reopen(&mut self, alloc: Global) -> Result<String> {
+        match self.refused.take() {
+            Some(disk) => self.open_on(alloc, disk),
+            None => Ok(String::from_str(alloc, "ok")?),
         }
     }
 
@@ -58,7 +87,7 @@ impl Site {
     /// refusal is given.
     fn closed(&mut self) -> Option<Result<Vec<u8>, u16>> {
         match self.server.take()?.close() {
-            Ok(disk) => Some(Ok(disk.into_disk().into_bytes())),
+            Ok(disk) => Some(Ok(disk.into_bytes())),
             Err(refused) => {
                 let number = refused.fault.number();
                 self.server = Some(refused.server);
@@ -71,7 +100,7 @@ impl Site {
     pub fn close(&mut self, alloc: Global) -> Result<String> {
         match self.closed().context("no server")? {
             Ok(bytes) => {
-                self.storage.files().put(alloc, "closed", bytes)?;
+                self.storage.files.put(alloc, "closed", bytes)?;
                 Ok(String::from_str(alloc, "ok")?)
             }
             Err(number) => refusal(alloc, number),
@@ -80,8 +109,8 @@ impl Site {
 
     /// Whether the file `closed` has the bytes of another one.
     pub fn is_closed(&mut self, alloc: Global, words: &str) -> Result<String> {
-        let closed = self.storage.files().bytes(alloc, "closed")?;
-        let other = self.storage.files().bytes(alloc, words)?;
+        let closed = self.storage.files.bytes(alloc, "closed")?;
+        let other = self.storage.files.bytes(alloc, words)?;
         yes(alloc, closed.as_slice() == other.as_slice())
     }
 }

@@ -2,113 +2,139 @@
 
 use crate::disks::Site;
 use crate::looks::looks;
-use crate::messages::{body_of, fetching, queried, repeated, replied, reply_to, stepping};
+use crate::messages::{fetching, queried, repeated, replied, stepping, told};
+use crate::storage::disks::TestDisk;
 use crate::streams::{broken, failing, halting, limited, pieces, whole};
 use anyhow::{Context, Result, bail};
 use coverage_server::Server;
-use disk_face::FailDisk;
-use http_front::Reply;
 use std::alloc::Global;
 use std::io::ErrorKind;
-use test_rows::{Layer, bytes, text};
+use test_rows::{Layer, bytes, cut, number, text};
 
-/// What is written for a stream that is cut as the verb says.
+/// What is called on the server that is open.
+const OF_SERVER: [&str; 13] = [
+    "get",
+    "query",
+    "repeat",
+    "fetched",
+    "fetching",
+    "stepping",
+    "stream",
+    "pieces",
+    "broken",
+    "limited",
+    "failing",
+    "interrupted",
+    "halting",
+];
+
+/// What opens, closes or compares, or is a whole session.
+const ON_FILES: [&str; 9] = [
+    "open",
+    "open_failing",
+    "open_lying",
+    "reopen",
+    "close",
+    "is_closed",
+    "session",
+    "session_failing",
+    "session_pieces",
+];
+
+/// Whether a word is one of these.
+fn is_one_of(word: &str, words: &[&str]) -> bool {
+    for it in words {
+        if *it == word {
+            return true;
+        }
+    }
+    false
+}
+
+/// What is written for a stream that comes as the verb says.
 fn streamed(
     alloc: Global,
-    server: &mut Server<FailDisk>,
+    server: &mut Server<TestDisk>,
     verb: &str,
     written: &str,
 ) -> Result<String> {
+    let stream = bytes(alloc, written)?;
     let output = match verb {
-        "stream" => whole(alloc, server, &bytes(alloc, written)?)?,
-        "pieces" => pieces(alloc, server, &bytes(alloc, written)?)?,
-        "broken" => broken(alloc, server, &bytes(alloc, written)?)?,
-        "limited" => {
-            let (room, written) = written.split_once(' ').context("no stream")?;
-            let stream = bytes(alloc, written)?;
-            limited(alloc, server, room.parse::<usize>()?, &stream)?
-        }
-        "failing" => {
-            let (step, written) = written.split_once(' ').context("no stream")?;
-            let stream = bytes(alloc, written)?;
-            failing(
-                alloc,
-                server,
-                ErrorKind::Other,
-                step.parse::<usize>()?,
-                &stream,
-            )?
-        }
-        "interrupted" => {
-            let (step, written) = written.split_once(' ').context("no stream")?;
-            let stream = bytes(alloc, written)?;
-            failing(
-                alloc,
-                server,
-                ErrorKind::Interrupted,
-                step.parse::<usize>()?,
-                &stream,
-            )?
-        }
-        "halting" => {
-            let (step, written) = written.split_once(' ').context("no stream")?;
-            let stream = bytes(alloc, written)?;
-            halting(alloc, server, step.parse::<usize>()?, &stream)?
-        }
-        _ => bail!("no call {verb}"),
+        "stream" => whole(alloc, server, &stream),
+        "pieces" => pieces(alloc, server, &stream),
+        _ => broken(alloc, server, &stream),
     };
-    Ok(String::from_utf8(output)?)
+    Ok(String::from_utf8(output?)?)
+}
+
+/// What is written for a stream, with a number before it, whose reader or writer fails as the verb says.
+fn faulty(alloc: Global, server: &mut Server<TestDisk>, verb: &str, words: &str) -> Result<String> {
+    let (count, written) = cut(words);
+    let count = number(count) as usize;
+    let stream = bytes(alloc, written)?;
+    let output = match verb {
+        "limited" => limited(alloc, server, count, &stream),
+        "failing" => failing(alloc, server, ErrorKind::Other, count, &stream),
+        "interrupted" => failing(alloc, server, ErrorKind::Interrupted, count, &stream),
+        _ => halting(alloc, server, count, &stream),
+    };
+    Ok(String::from_utf8(output?)?)
 }
 
 /// What a request gives.
-fn asked(
+fn requested(alloc: Global, server: &mut Server<TestDisk>, written: &str) -> Result<String> {
+    let pairs = text(alloc, written)?;
+    let message = format!(in alloc; "GET /ows?{pairs} HTTP/1.1\r\n\r\n")?;
+    replied(alloc, server, message.as_str())
+}
+
+/// What a call on a server gives that has a number before it.
+fn counted(
     alloc: Global,
-    server: &mut Server<FailDisk>,
+    server: &mut Server<TestDisk>,
     verb: &str,
-    written: &str,
+    words: &str,
 ) -> Result<String> {
+    let (count, rest) = cut(words);
     match verb {
-        "get" => {
-            let pairs = text(alloc, written)?;
-            let message = format!(in alloc; "GET /ows?{pairs} HTTP/1.1\r\n\r\n")?;
-            replied(alloc, server, message.as_str())
-        }
-        "repeat" => {
-            let (count, pairs) = written.split_once(' ').context("no pairs")?;
-            repeated(alloc, server, count.parse::<u64>()?, pairs)
-        }
-        "query" => queried(alloc, server, text(alloc, written)?),
-        "fetching" => {
-            let (most, pairs) = written.split_once(' ').context("no pairs")?;
-            fetching(alloc, server, most.parse::<u64>()?, pairs)
-        }
-        "stepping" => stepping(alloc, server, written),
-        "fetched" => Ok(format!(in alloc; "{}", server.fetched())?),
-        _ => streamed(alloc, server, verb, written),
+        "repeat" => repeated(alloc, server, number(count), rest),
+        "fetching" => fetching(alloc, server, number(count), rest),
+        _ => faulty(alloc, server, verb, words),
     }
 }
 
-/// Whether a reply is want of memory, or that the disk had none.
-fn wants_memory(reply: &Reply) -> bool {
-    matches!(reply, Reply::Refused(90 | 91))
+/// What a call on a server gives.
+fn asked(alloc: Global, server: &mut Server<TestDisk>, verb: &str, words: &str) -> Result<String> {
+    match verb {
+        "get" => requested(alloc, server, words),
+        "query" => queried(alloc, server, text(alloc, words)?),
+        "stepping" => stepping(alloc, server, words),
+        "fetched" => Ok(format!(in alloc; "{}", server.fetched())?),
+        "stream" | "pieces" | "broken" => streamed(alloc, server, verb, words),
+        _ => counted(alloc, server, verb, words),
+    }
+}
+
+/// Whether the body of a reply is want of memory, or that the disk failed.
+fn is_of_device(body: &str) -> bool {
+    body == "refused 90 NoMemory\n" || body == "refused 91 DiskFault\n"
 }
 
 impl Site {
-    /// The body of the reply to a request. Where that is want of memory the request that tells the state is asked, and
-    /// then the request once more.
+    /// The body of the reply to a request. Where that is want of memory or a fault of the disk, the request that tells
+    /// the state is asked, and then the request once more.
     fn ask(&mut self, alloc: Global, pairs: &[u8]) -> Result<String> {
         let server = self.server.as_mut().context("no server")?;
-        let reply = reply_to(alloc, server, pairs);
-        if !wants_memory(&reply) {
-            return body_of(alloc, &reply);
+        let body = told(alloc, server, pairs)?;
+        if !is_of_device(body.as_str()) {
+            return Ok(body);
         }
-        if let Some((request, body)) = &self.probe {
-            let state = body_of(alloc, &reply_to(alloc, server, request.as_bytes()))?;
-            if state.as_str() != body.as_str() {
-                bail!("want of memory changed the state");
+        if let Some((request, state)) = &self.probe {
+            if told(alloc, server, request.as_bytes())?.as_str() != state.as_str() {
+                bail!("a refusal of the device changed the state");
             }
         }
-        body_of(alloc, &reply_to(alloc, server, pairs))
+        told(alloc, server, pairs)
     }
 
     /// Keeps the request that tells the state, and the body of its reply.
@@ -118,78 +144,61 @@ impl Site {
         self.probe = Some((pairs, text(alloc, body.strip_prefix(' ').unwrap_or(body))?));
         Ok(())
     }
-}
 
-impl Site {
     /// A call that opens, closes or compares, or a whole session.
-    fn on_file(&mut self, alloc: Global, verb: &str, rest: &str) -> Result<String> {
+    fn on_files(&mut self, alloc: Global, verb: &str, words: &str) -> Result<String> {
         match verb {
-            "open" => self.open(alloc, 0, rest),
-            "open_failing" => {
-                let (number, words) = rest.split_once(' ').context("no file")?;
-                self.open(alloc, number.parse::<u64>()?, words)
-            }
-            "session" => self.session(alloc, 0, rest),
-            "session_failing" => {
-                let (number, words) = rest.split_once(' ').context("no file")?;
-                self.session(alloc, number.parse::<u64>()?, words)
-            }
-            "session_pieces" => {
-                let (count, words) = rest.split_once(' ').context("no file")?;
-                self.session_pieces(alloc, count.parse::<usize>()?, words)
-            }
-            "devices" => self.on_devices(alloc, rest),
-            "is_closed" => self.is_closed(alloc, rest),
-            _ => self.close(alloc),
+            "open" => self.open(alloc, 0, 0, words),
+            "reopen" => self.reopen(alloc),
+            "close" => self.close(alloc),
+            "is_closed" => self.is_closed(alloc, words),
+            "session" => self.session(alloc, 0, words),
+            "open_failing" | "open_lying" => self.open_numbered(alloc, verb, words),
+            _ => self.session_numbered(alloc, verb, words),
         }
     }
 
+    /// A whole session with a number before its file.
+    fn session_numbered(&mut self, alloc: Global, verb: &str, words: &str) -> Result<String> {
+        let (count, words) = cut(words);
+        if verb == "session_pieces" {
+            return self.session_pieces(alloc, number(count) as usize, words);
+        }
+        self.session(alloc, number(count), words)
+    }
+
     /// Keeps a request that tells the state, or the streams of sessions on devices.
-    fn prepare(&mut self, alloc: Global, verb: &str, rest: &str) -> Result<String> {
+    fn prepare(&mut self, alloc: Global, verb: &str, words: &str) -> Result<String> {
         match verb {
-            "writes" => self.writes = String::from_str(alloc, rest)?,
-            "later" => self.later = String::from_str(alloc, rest)?,
-            _ => self.keep(alloc, rest)?,
+            "writes" => self.writes = String::from_str(alloc, words)?,
+            "later" => self.later = String::from_str(alloc, words)?,
+            _ => self.keep(alloc, words)?,
         }
         Ok(String::from_str(alloc, "ok")?)
     }
 
-    /// A call of the server that is open.
-    fn asked(&mut self, alloc: Global, verb: &str, rest: &str) -> Result<String> {
+    /// A call on the server that is open.
+    fn asked(&mut self, alloc: Global, verb: &str, words: &str) -> Result<String> {
         let server = self.server.as_mut().context("no server")?;
-        asked(alloc, server, verb, rest)
+        asked(alloc, server, verb, words)
     }
 }
 
 impl Layer for Site {
     fn answer(&mut self, rt: &HostRuntime, call: &str) -> Result<String> {
         let alloc = rt.alloc();
-        let (verb, rest) = call.split_once(' ').unwrap_or((call, ""));
+        let (verb, words) = cut(call);
+        if is_one_of(verb, &OF_SERVER) {
+            return self.asked(alloc, verb, words);
+        }
+        if is_one_of(verb, &ON_FILES) {
+            return self.on_files(alloc, verb, words);
+        }
         match verb {
-            "open"
-            | "open_failing"
-            | "close"
-            | "session"
-            | "session_failing"
-            | "session_pieces"
-            | "devices"
-            | "is_closed" => self.on_file(alloc, verb, rest),
-            "writes" | "later" | "state" => self.prepare(alloc, verb, rest),
-            "ask" => self.ask(alloc, &bytes(alloc, rest)?),
-            "looks" => looks(alloc, rest),
-            "get"
-            | "repeat"
-            | "query"
-            | "fetching"
-            | "stepping"
-            | "fetched"
-            | "stream"
-            | "pieces"
-            | "limited"
-            | "broken"
-            | "failing"
-            | "interrupted"
-            | "halting" => self.asked(alloc, verb, rest),
+            "writes" | "later" | "state" => self.prepare(alloc, verb, words),
+            "ask" => self.ask(alloc, &bytes(alloc, words)?),
+            "looks" => looks(alloc, words),
+            "devices" => self.on_devices(alloc, words),
             _ => self.storage.answer(rt, call),
         }
     }

@@ -1,15 +1,15 @@
 //! Whole sessions: connections one after the other over one store, by one call.
 
 use crate::disks::Site;
+use crate::storage::disks::TestDisk;
 use crate::streams::taking_all;
-use anyhow::{Context, Result};
+use anyhow::Result;
 use coverage_server::{SessionFault, serve_session};
-use disk_face::{FailDisk, MemDisk};
 use http_front::{PieceReader, PieceWriter};
 use std::alloc::Global;
 use std::str;
 use stream_face::Watched;
-use test_rows::{bytes, refusal};
+use test_rows::{bytes, cut, refusal};
 
 /// The bytes of a stream, and whether its reader fails behind them.
 #[derive(Drop)]
@@ -76,9 +76,9 @@ enum Ending {
 
 impl Site {
     /// Keeps a server that was not closed, and gives how the session ended.
-    fn ending(&mut self, outcome: Result<FailDisk, SessionFault<FailDisk>>) -> Ending {
+    fn ending(&mut self, outcome: Result<TestDisk, SessionFault<TestDisk>>) -> Ending {
         match outcome {
-            Ok(disk) => Ending::Closed(disk.into_disk().into_bytes()),
+            Ok(disk) => Ending::Closed(disk.into_bytes()),
             Err(SessionFault::NotOpened(_, fault)) => Ending::NotOpened(fault.number()),
             Err(SessionFault::NotClosed(server, fault)) => {
                 self.server = Some(server);
@@ -97,7 +97,7 @@ impl Site {
         let text = replies_of(alloc, connections)?;
         match ending {
             Ending::Closed(bytes) => {
-                self.storage.files().put(alloc, "closed", bytes)?;
+                self.storage.files.put(alloc, "closed", bytes)?;
                 Ok(text)
             }
             Ending::NotOpened(number) => refusal(alloc, number),
@@ -110,12 +110,19 @@ impl Site {
 
     /// What a session on a file writes, on a disk whose call of that number fails, and none for 0. The file `closed` has the
     /// bytes of its disk then. A server that is not closed stays, as after `open`.
-    fn session_cut(&mut self, alloc: Global, call: u64, cut: usize, words: &str) -> Result<String> {
-        let (file, written) = words.split_once(' ').context("no streams")?;
+    fn session_cut(
+        &mut self,
+        alloc: Global,
+        call: u64,
+        part: usize,
+        words: &str,
+    ) -> Result<String> {
+        let (file, written) = cut(words);
         let streams = streams_of(alloc, written)?;
-        let mut connections = connections_of(alloc, streams.as_slice(), cut)?;
-        let disk = MemDisk::new(self.storage.files().bytes(alloc, file)?);
-        let outcome = serve_session(alloc, FailDisk::new(disk, call), connections.as_mut_slice());
+        let mut connections = connections_of(alloc, streams.as_slice(), part)?;
+        let bytes = self.storage.files.bytes(alloc, file)?;
+        let disk = TestDisk::new(bytes, call, 0, u64::MAX);
+        let outcome = serve_session(alloc, disk, connections.as_mut_slice());
         let ending = self.ending(outcome);
         self.told(alloc, connections.as_slice(), ending)
     }

@@ -3,13 +3,12 @@
 
 mod blocks;
 mod catalogues;
-mod disks;
+pub mod disks;
 mod domains;
 mod file_metadata;
 mod formats;
 mod indexes;
-pub mod scripts;
-mod site;
+pub mod site;
 mod stores;
 mod values;
 mod words;

@@ -1,7 +1,7 @@
 //! What is written for streams that come in pieces, and whose readers and writers may fail.
 
+use crate::storage::disks::TestDisk;
 use coverage_server::{ConnEnd, Server};
-use disk_face::FailDisk;
 use http_front::{PieceReader, PieceWriter};
 use std::alloc::{AllocError, Global};
 use std::io::ErrorKind;
@@ -34,7 +34,7 @@ fn ending(end: ConnEnd, read_failed: bool, sink: &Watched<PieceWriter>) -> &'sta
 /// What is written for a connection, and behind it how it ended where that is by a fault.
 fn served(
     alloc: Global,
-    server: &mut Server<FailDisk>,
+    server: &mut Server<TestDisk>,
     reader: PieceReader<'_>,
     writer: PieceWriter,
 ) -> Result<Vec<u8>, AllocError> {
@@ -49,7 +49,7 @@ fn served(
 /// What is written for a stream that comes in one piece.
 pub fn whole(
     alloc: Global,
-    server: &mut Server<FailDisk>,
+    server: &mut Server<TestDisk>,
     stream: &[u8],
 ) -> Result<Vec<u8>, AllocError> {
     served(alloc, server, in_one(stream), taking_all(alloc))
@@ -58,7 +58,7 @@ pub fn whole(
 /// What is written for a stream whose reader fails behind it.
 pub fn broken(
     alloc: Global,
-    server: &mut Server<FailDisk>,
+    server: &mut Server<TestDisk>,
     stream: &[u8],
 ) -> Result<Vec<u8>, AllocError> {
     let mut reader = in_one(stream);
@@ -70,7 +70,7 @@ pub fn broken(
 /// kind, then where it fails at its second, and so on up to the read behind the stream.
 pub fn failing(
     alloc: Global,
-    server: &mut Server<FailDisk>,
+    server: &mut Server<TestDisk>,
     kind: ErrorKind,
     step: usize,
     stream: &[u8],
@@ -89,7 +89,7 @@ pub fn failing(
 /// What is written for a stream by a writer that takes so many bytes.
 pub fn limited(
     alloc: Global,
-    server: &mut Server<FailDisk>,
+    server: &mut Server<TestDisk>,
     room: usize,
     stream: &[u8],
 ) -> Result<Vec<u8>, AllocError> {
@@ -101,7 +101,7 @@ pub fn limited(
 /// first fails; then where its second fails, and so on until none does.
 pub fn halting(
     alloc: Global,
-    server: &mut Server<FailDisk>,
+    server: &mut Server<TestDisk>,
     step: usize,
     stream: &[u8],
 ) -> Result<Vec<u8>, AllocError> {
@@ -123,7 +123,7 @@ pub fn halting(
 /// byte by byte; else what first differs.
 pub fn pieces(
     alloc: Global,
-    server: &mut Server<FailDisk>,
+    server: &mut Server<TestDisk>,
     stream: &[u8],
 ) -> Result<Vec<u8>, AllocError> {
     let expected = whole(alloc, server, stream)?;

@@ -13,3 +13,4 @@ pub mod Condensings
 pub mod TileFolds
 pub mod Fetching
 pub mod Behind
+pub mod ZoneFolds

@@ -158,7 +158,7 @@ rest_more before mid after place found m rest k d le = let ne : k ≢ place = om
 -- ---- the body at the points of a part
 
 -- what the points of a part tell, by columns
-told_chosen : (box : List Axis) (c r : List ℤ → Outcome) (vars : List ℤ) (xs : List (List ℤ)) → demanded_at (map (rank_of box) xs) (map c (map (λ p. vars ++ p) xs)) (map r (map (λ p. vars ++ p) xs)) ≡ flat_map (told_ranked box c r vars) xs
+pub told_chosen : (box : List Axis) (c r : List ℤ → Outcome) (vars : List ℤ) (xs : List (List ℤ)) → demanded_at (map (rank_of box) xs) (map c (map (λ p. vars ++ p) xs)) (map r (map (λ p. vars ++ p) xs)) ≡ flat_map (told_ranked box c r vars) xs
 told_chosen box c r vars [] = refl
 told_chosen box c r vars (x ∷ xs) = ap (λ l. told_ranked box c r vars x ++ l) (told_chosen box c r vars xs)
 

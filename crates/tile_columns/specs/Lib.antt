@@ -6,3 +6,4 @@ pub mod Binding
 pub mod Condensing
 pub mod TileOrder
 pub mod Fields
+pub mod Zones

@@ -18,6 +18,7 @@ ghost use Rattle.tile_columns.specs.Evaluating.{HasPlace, HasPlaceUnder, fetches
 ghost use Rattle.tile_columns.specs.Binding.{coordinate_or_lo, at_positions, with_coordinate};
 ghost use Rattle.tile_columns.specs.Condensing.{told_of, under_vars, told_ranked};
 ghost use Rattle.tile_columns.specs.TileOrder.{IsPart};
+ghost use Rattle.tile_columns.specs.Zones.{operand, own_side, key_side, IsZonal};
 
 use crate::binds::{coordinates, settle};
 use crate::folds::{
@@ -29,6 +30,7 @@ use crate::lookup::{fill_variable, look_up};
 use crate::part::{Part, part_at};
 use crate::scratch::Scratch;
 use crate::source::Tiles;
+use crate::zones::{Keys, Seen, Zones, keys_of, tell_seen, zones_of};
 use plan_ir::{Body, Fold, Interval};
 use tile_kernel::{
     Accumulator, Column, add_column, add_column_where, fold_column, fold_column_where,
@@ -241,8 +243,8 @@ fn condense<S: Tiles>(
     Ok(())
 }
 
-/// Tells accumulators, one for each place of a frame, of all points of a fold's box: a tile box at a time where that takes
-/// fewer column operations, else a point at a time.
+/// Tells accumulators, one for each place of a frame, of all points of a fold's box: in one pass where it is of zones, a
+/// tile box at a time where that takes fewer column operations, else a point at a time.
 #[cycle(evaluate)]
 fn tell_all<S: Tiles>(
     source: &mut S,
@@ -266,10 +268,215 @@ fn tell_all<S: Tiles>(
     ensures reports { Reports result (S.spelled (S.kept source.old)) (S.failures source.old) (S.failures source.new) }
     ensures fetched { OnOk result (S.fetched source.new ≤ S.fetched source.old + (bound_times (length frame.old * count fold.now.domain) (condition_view fold.now.condition) + bound_times (length frame.old * count fold.now.domain) (body_view fold.now.body))) }
 {
+    match zones_of(fold, frame) {
+        Some(zones) => return tell_zones(source, ground, fold, &zones, frame, scratch, folds),
+        None => (),
+    }
     if goes_by_tiles(frame.places(), &fold.domain) {
         return tell_tiles(source, ground, fold, frame, scratch, folds);
     }
     tell_points(source, ground, fold, frame, scratch, folds)
+}
+
+/// Tells accumulators, one for each place of a frame, of all points of the box of a fold of zones, in one pass over it. The
+/// keys of the places are evaluated once.
+#[cycle(evaluate)]
+fn tell_zones<S: Tiles>(
+    source: &mut S,
+    ground: &Ground<'_>,
+    fold: &Fold,
+    zones: &Zones,
+    frame: &mut Frame,
+    scratch: &mut Scratch,
+    folds: &mut [Accumulator],
+) -> Result<(), CellError>
+    requires signatures { ground.now.signatures.now ≡ S.coverages source.old }
+    requires place { HasPlace (signature_of (S.coverages source.old) ground.now.coverages.now) (length ground.now.registers.now) (fold_view fold.now) frame.old }
+    requires zones { IsZonal (condition_view fold.now.condition) (body_view fold.now.body) (own_side zones.now.key_first (condition_view fold.now.condition)) (key_side zones.now.key_first (condition_view fold.now.condition)) zones.now.key_first frame.old }
+    requires folds { length folds.old ≡ length frame.old }
+    requires room { HaveAtMost 0 folds.old }
+    requires op { AreOf fold.now.op folds.old }
+    ensures told { OnOk result (S.intact source.old → EachTakesIn folds.old folds.new (λ k. told_of (under_vars (run (cells_of (S.cells source.old) ground.now.coverages.now) ground.now.registers.now (condition_view fold.now.condition)) (slice_index_or frame.old k [])) (under_vars (run (cells_of (S.cells source.old) ground.now.coverages.now) ground.now.registers.now (body_view fold.now.body)) (slice_index_or frame.old k [])) 0 (points fold.now.domain))) }
+    ensures op { OnOk result (AreOf fold.now.op folds.new) }
+    ensures frame { OnOk result (frame.new ≡ frame.old) }
+    ensures rises { S.fetched source.old ≤ S.fetched source.new }
+    ensures same { Leaves (S.cells source.old) (S.cells source.new) (S.coverages source.old) (S.coverages source.new) (S.kept source.old) (S.kept source.new) }
+    ensures intact { S.intact source.old → S.intact source.new }
+    ensures reports { Reports result (S.spelled (S.kept source.old)) (S.failures source.old) (S.failures source.new) }
+    ensures fetched { OnOk result (S.fetched source.new ≤ S.fetched source.old + (bound_times (length frame.old * count fold.now.domain) (condition_view fold.now.condition) + bound_times (length frame.old * count fold.now.domain) (body_view fold.now.body))) }
+{
+    let column = side_of(source, ground, fold, zones.key_first, frame, scratch)?;
+    let keys = keys_of(scratch.alloc(), column)?;
+    tell_zone_tiles(source, ground, fold, zones, &keys, frame, scratch, folds)?;
+    scratch.give_back(keys.column);
+    Ok(())
+}
+
+/// Tells accumulators, one for each place of a frame with its key, of all points of the box of a fold of zones, a tile box
+/// at a time.
+#[cycle(evaluate)]
+fn tell_zone_tiles<S: Tiles>(
+    source: &mut S,
+    ground: &Ground<'_>,
+    fold: &Fold,
+    zones: &Zones,
+    keys: &Keys,
+    frame: &Frame,
+    scratch: &mut Scratch,
+    folds: &mut [Accumulator],
+) -> Result<(), CellError>
+    requires signatures { ground.now.signatures.now ≡ S.coverages source.old }
+    requires place { HasPlace (signature_of (S.coverages source.old) ground.now.coverages.now) (length ground.now.registers.now) (fold_view fold.now) frame.now }
+    requires zones { IsZonal (condition_view fold.now.condition) (body_view fold.now.body) (own_side zones.now.key_first (condition_view fold.now.condition)) (key_side zones.now.key_first (condition_view fold.now.condition)) zones.now.key_first frame.now }
+    requires places { length keys.now.column ≡ length frame.now }
+    requires folds { length folds.old ≡ length frame.now }
+    requires room { HaveAtMost 0 folds.old }
+    requires op { AreOf fold.now.op folds.old }
+    ensures told { OnOk result (S.intact source.old → keys.now.column ≡ map (run (cells_of (S.cells source.old) ground.now.coverages.now) ground.now.registers.now (key_side zones.now.key_first (condition_view fold.now.condition))) frame.now → EachTakesIn folds.old folds.new (λ k. told_of (under_vars (run (cells_of (S.cells source.old) ground.now.coverages.now) ground.now.registers.now (condition_view fold.now.condition)) (slice_index_or frame.now k [])) (under_vars (run (cells_of (S.cells source.old) ground.now.coverages.now) ground.now.registers.now (body_view fold.now.body)) (slice_index_or frame.now k [])) 0 (points fold.now.domain))) }
+    ensures op { OnOk result (AreOf fold.now.op folds.new) }
+    ensures rises { S.fetched source.old ≤ S.fetched source.new }
+    ensures same { Leaves (S.cells source.old) (S.cells source.new) (S.coverages source.old) (S.coverages source.new) (S.kept source.old) (S.kept source.new) }
+    ensures intact { S.intact source.old → S.intact source.new }
+    ensures reports { Reports result (S.spelled (S.kept source.old)) (S.failures source.old) (S.failures source.new) }
+    ensures fetched { OnOk result (S.fetched source.new ≤ S.fetched source.old + (bound_times (count fold.now.domain) (own_side zones.now.key_first (condition_view fold.now.condition)) + bound_times (count fold.now.domain) (body_view fold.now.body))) }
+{
+    let _axes = fold.domain.axes();
+    for number in 0..fold.domain.tiles() {
+        let part = part_at(scratch.alloc(), &fold.domain, number)?;
+        tell_zone_part(
+            source, ground, fold, zones, keys, &part, frame, scratch, folds,
+        )?;
+    }
+    Ok(())
+}
+
+/// Tells accumulators, one for each place of a frame with its key, of the points of a part of the box of a fold of zones.
+/// Both bodies are evaluated once, under the variables of the first place, of which they use none.
+#[cycle(evaluate)]
+fn tell_zone_part<S: Tiles>(
+    source: &mut S,
+    ground: &Ground<'_>,
+    fold: &Fold,
+    zones: &Zones,
+    keys: &Keys,
+    part: &Part,
+    frame: &Frame,
+    scratch: &mut Scratch,
+    folds: &mut [Accumulator],
+) -> Result<(), CellError>
+    requires signatures { ground.now.signatures.now ≡ S.coverages source.old }
+    requires place { HasPlace (signature_of (S.coverages source.old) ground.now.coverages.now) (length ground.now.registers.now) (fold_view fold.now) frame.now }
+    requires zones { IsZonal (condition_view fold.now.condition) (body_view fold.now.body) (own_side zones.now.key_first (condition_view fold.now.condition)) (key_side zones.now.key_first (condition_view fold.now.condition)) zones.now.key_first frame.now }
+    requires places { length keys.now.column ≡ length frame.now }
+    requires part { IsPart fold.now.domain part.now }
+    requires folds { length folds.old ≡ length frame.now }
+    requires room { HaveAtMost (2 ^ 24 - length (points part.now.area)) folds.old }
+    requires op { AreOf fold.now.op folds.old }
+    ensures told { OnOk result (S.intact source.old → keys.now.column ≡ map (run (cells_of (S.cells source.old) ground.now.coverages.now) ground.now.registers.now (key_side zones.now.key_first (condition_view fold.now.condition))) frame.now → EachTakesIn folds.old folds.new (λ k. flat_map (told_ranked fold.now.domain (run (cells_of (S.cells source.old) ground.now.coverages.now) ground.now.registers.now (condition_view fold.now.condition)) (run (cells_of (S.cells source.old) ground.now.coverages.now) ground.now.registers.now (body_view fold.now.body)) (slice_index_or frame.now k [])) (points part.now.area))) }
+    ensures room { OnOk result ((n : ℕ) → HaveAtMost n folds.old → HaveAtMost (n + length (points part.now.area)) folds.new) }
+    ensures op { OnOk result (AreOf fold.now.op folds.new) }
+    ensures rises { S.fetched source.old ≤ S.fetched source.new }
+    ensures same { Leaves (S.cells source.old) (S.cells source.new) (S.coverages source.old) (S.coverages source.new) (S.kept source.old) (S.kept source.new) }
+    ensures intact { S.intact source.old → S.intact source.new }
+    ensures reports { Reports result (S.spelled (S.kept source.old)) (S.failures source.old) (S.failures source.new) }
+    ensures fetched { OnOk result (S.fetched source.new ≤ S.fetched source.old + (bound_times (count part.now.area) (own_side zones.now.key_first (condition_view fold.now.condition)) + bound_times (count part.now.area) (body_view fold.now.body))) }
+{
+    let mut inner = part_frame(scratch.alloc(), frame, 0, &part.area)?;
+    let own = side_of(source, ground, fold, !zones.key_first, &mut inner, scratch)?;
+    let column = body_of(source, ground, fold, &mut inner, scratch)?;
+    let seen = Seen {
+        own: &own,
+        column: &column,
+        ranks: &part.ranks,
+        key_first: zones.key_first,
+    };
+    tell_seen(fold.op, folds, keys, &seen, scratch)?;
+    scratch.give_back(own);
+    scratch.give_back(column);
+    Ok(())
+}
+
+/// The outcomes of a fold's body at the places of a frame, in a column of the scratch.
+#[cycle(evaluate)]
+fn body_of<S: Tiles>(
+    source: &mut S,
+    ground: &Ground<'_>,
+    fold: &Fold,
+    frame: &mut Frame,
+    scratch: &mut Scratch,
+) -> Result<Column, CellError>
+    requires signatures { ground.now.signatures.now ≡ S.coverages source.old }
+    requires place { HasPlace (signature_of (S.coverages source.old) ground.now.coverages.now) (length ground.now.registers.now) (body_view fold.now.body) frame.old }
+    ensures value { IfOk result (λ c. S.intact source.old → c ≡ map (run (cells_of (S.cells source.old) ground.now.coverages.now) ground.now.registers.now (body_view fold.now.body)) frame.old) }
+    ensures places { IfOk result (λ c. length c ≡ length frame.old) }
+    ensures frame { OnOk result (frame.new ≡ frame.old) }
+    ensures rises { S.fetched source.old ≤ S.fetched source.new }
+    ensures same { Leaves (S.cells source.old) (S.cells source.new) (S.coverages source.old) (S.coverages source.new) (S.kept source.old) (S.kept source.new) }
+    ensures intact { S.intact source.old → S.intact source.new }
+    ensures reports { Reports result (S.spelled (S.kept source.old)) (S.failures source.old) (S.failures source.new) }
+    ensures fetched { OnOk result ((n : ℕ) → All (λ (e : List ℤ). n ≤ length e) frame.old → S.fetched source.new ≤ S.fetched source.old + fetches (signature_of (S.coverages source.old) ground.now.coverages.now) n frame.old (body_view fold.now.body)) }
+{
+    column_of(source, ground, &fold.body, frame, scratch)
+}
+
+/// The outcomes of the left or the right operand of a fold's condition at the places of a frame, in a column of the scratch.
+/// A condition without two operands, which no fold of zones has, is refused as want of memory.
+#[cycle(evaluate)]
+fn side_of<S: Tiles>(
+    source: &mut S,
+    ground: &Ground<'_>,
+    fold: &Fold,
+    left: bool,
+    frame: &mut Frame,
+    scratch: &mut Scratch,
+) -> Result<Column, CellError>
+    requires signatures { ground.now.signatures.now ≡ S.coverages source.old }
+    requires place { HasPlace (signature_of (S.coverages source.old) ground.now.coverages.now) (length ground.now.registers.now) (operand left (condition_view fold.now.condition)) frame.old }
+    ensures value { IfOk result (λ c. S.intact source.old → c ≡ map (run (cells_of (S.cells source.old) ground.now.coverages.now) ground.now.registers.now (operand left (condition_view fold.now.condition))) frame.old) }
+    ensures places { IfOk result (λ c. length c ≡ length frame.old) }
+    ensures frame { OnOk result (frame.new ≡ frame.old) }
+    ensures rises { S.fetched source.old ≤ S.fetched source.new }
+    ensures same { Leaves (S.cells source.old) (S.cells source.new) (S.coverages source.old) (S.coverages source.new) (S.kept source.old) (S.kept source.new) }
+    ensures intact { S.intact source.old → S.intact source.new }
+    ensures reports { Reports result (S.spelled (S.kept source.old)) (S.failures source.old) (S.failures source.new) }
+    ensures fetched { OnOk result ((n : ℕ) → All (λ (e : List ℤ). n ≤ length e) frame.old → S.fetched source.new ≤ S.fetched source.old + fetches (signature_of (S.coverages source.old) ground.now.coverages.now) n frame.old (operand left (condition_view fold.now.condition))) }
+{
+    match &fold.condition {
+        None => Err(CellError::NoMemory),
+        Some(condition) => operand_of(source, ground, condition, left, frame, scratch),
+    }
+}
+
+/// The same of a body.
+#[cycle(evaluate)]
+fn operand_of<S: Tiles>(
+    source: &mut S,
+    ground: &Ground<'_>,
+    body: &Body,
+    left: bool,
+    frame: &mut Frame,
+    scratch: &mut Scratch,
+) -> Result<Column, CellError>
+    requires signatures { ground.now.signatures.now ≡ S.coverages source.old }
+    requires place { HasPlace (signature_of (S.coverages source.old) ground.now.coverages.now) (length ground.now.registers.now) (operand left (body_view body.now)) frame.old }
+    ensures value { IfOk result (λ c. S.intact source.old → c ≡ map (run (cells_of (S.cells source.old) ground.now.coverages.now) ground.now.registers.now (operand left (body_view body.now))) frame.old) }
+    ensures places { IfOk result (λ c. length c ≡ length frame.old) }
+    ensures frame { OnOk result (frame.new ≡ frame.old) }
+    ensures rises { S.fetched source.old ≤ S.fetched source.new }
+    ensures same { Leaves (S.cells source.old) (S.cells source.new) (S.coverages source.old) (S.coverages source.new) (S.kept source.old) (S.kept source.new) }
+    ensures intact { S.intact source.old → S.intact source.new }
+    ensures reports { Reports result (S.spelled (S.kept source.old)) (S.failures source.old) (S.failures source.new) }
+    ensures fetched { OnOk result ((n : ℕ) → All (λ (e : List ℤ). n ≤ length e) frame.old → S.fetched source.new ≤ S.fetched source.old + fetches (signature_of (S.coverages source.old) ground.now.coverages.now) n frame.old (operand left (body_view body.now))) }
+{
+    match body {
+        Body::Op2(_, l, r) => {
+            if left {
+                return column_of(source, ground, l, frame, scratch);
+            }
+            column_of(source, ground, r, frame, scratch)
+        }
+        _ => Err(CellError::NoMemory),
+    }
 }
 
 /// Tells accumulators, one for each place of a frame, of all points of a fold's box, in row-major order: for each point a
@@ -441,7 +648,7 @@ fn tell_part<S: Tiles>(
     for place in 0..frame.places() {
         let mut own = part_frame(scratch.alloc(), frame, place, &part.area)?;
         let found = fold_frame(source, ground, fold, &part.ranks, &mut own, scratch)?;
-        merge_at(folds, place, found);
+        merge_at(folds, place, &found);
     }
     Ok(())
 }

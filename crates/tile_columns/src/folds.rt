@@ -98,13 +98,13 @@ pub(crate) fn part_frame(
 }
 
 /// Tells the accumulator at a place what another one was told.
-pub(crate) fn merge_at(folds: &mut [Accumulator], place: usize, found: Accumulator)
+pub(crate) fn merge_at(folds: &mut [Accumulator], place: usize, found: &Accumulator)
     requires place { place < length folds.old }
-    requires op { AreOf found.running.op folds.old }
-    requires room { (d : Accumulator) → (slice_index_or folds.old place d).running.count + found.running.count ≤ 2 ^ 24 }
-    ensures { MergesAt place found folds.old folds.new }
+    requires op { AreOf found.now.running.op folds.old }
+    requires room { (d : Accumulator) → (slice_index_or folds.old place d).running.count + found.now.running.count ≤ 2 ^ 24 }
+    ensures { MergesAt place found.now folds.old folds.new }
 {
-    folds[place].merge(found);
+    folds[place].take_over(found);
 }
 
 /// Whether a point adds something under a condition with this outcome.

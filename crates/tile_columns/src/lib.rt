@@ -15,6 +15,7 @@ mod numbers;
 mod part;
 mod scratch;
 mod source;
+mod zones;
 
 pub use bodies::evaluate;
 pub use fields::evaluate_fields;

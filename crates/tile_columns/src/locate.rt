@@ -3,7 +3,6 @@
 ghost use Rattle.std.specs.Prelude.{◌≡◌, ℕ, ◌<◌, ◌≤◌, ◌^◌, ◌≤ℤ◌, ℤ, pos, List, length, map, replicate, slice_index_or, OnOk};
 ghost use Rattle.std.specs.List.{All};
 ghost use Rattle.arr_core.specs.Domains.{gap, IsInside};
-ghost use Rattle.arr_core.specs.Tiles.{edge_of};
 ghost use Rattle.plan_ir.specs.Run.{numbers_at};
 ghost use Rattle.plan_ir.specs.Units.{tile_number};
 ghost use Rattle.tile_columns.specs.Gathering.{point_of, rank_in_tile, tile_on, rank_on, tile_from, rank_from};
@@ -113,19 +112,6 @@ fn add_axes(
     }
 }
 
-/// The edge of a tile, by the number of axes.
-fn edge_of(axes: usize) -> u64
-    ensures value { result ≡ edge_of axes }
-    ensures bounds { (0 < result) × (result ≤ 4096) }
-{
-    match axes {
-        1 => 4096,
-        2 => 64,
-        3 => 16,
-        _ => 8,
-    }
-}
-
 /// Makes a list so many zeros.
 fn clear_numbers(len: usize, numbers: &mut Vec<u64>) -> Result<(), AllocError>
     ensures { OnOk result (numbers.new.items ≡ replicate len 0) }
@@ -159,6 +145,6 @@ pub(crate) fn locate(
 {
     let axes = domain.axes();
     clear_counts(frame.places(), scratch)?;
-    add_axes(axes, edge_of(axes.len()), indexes, frame, scratch)?;
+    add_axes(axes, domain.tile_edge(), indexes, frame, scratch)?;
     Ok(())
 }

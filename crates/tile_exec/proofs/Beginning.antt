@@ -18,7 +18,7 @@ use Rattle.plan_ir.specs.Planned.{planned}
 use Rattle.plan_ir.specs.Units.{item_units, steps_units, units, tile_stages, pass_stages, condition_stages, item_stages, passes_boxes, out_boxes, boxes}
 use Rattle.tile_exec.specs.declared.task.Task.{Task}
 use Rattle.tile_exec.specs.declared.begin.Listing.{Listing}
-use Rattle.tile_exec.specs.declared.exec.Exec.{Exec}
+use Rattle.tile_exec.specs.declared.state.State.{State}
 use Rattle.tile_exec.specs.Tasks.{TaskTree, pass, item, bodies_of, stages_of, pass_tasks, choice_passes, register_count, all_passes, condition_tasks, choice_outs, all_outs, tasks_of, AreReady}
 use Rattle.tile_exec.specs.Progress.{start, after_all, answer_of}
 use Rattle.tile_exec.specs.Standing.{plan_of, tasks_left, progress_of, AreTasks, IsLeft, IsBegun}
@@ -247,7 +247,7 @@ left_start zero left h = inr (refl, refl)
 left_start (suc n) left h = inl (omega (arith, h))
 
 -- the executor with the list of its tasks, before the first unit
-pub record Starts (plan : Plan) (l : Listing) (e : Exec) : Type 0 where
+pub record Starts (plan : Plan) (l : Listing) (e : State) : Type 0 where
   pub plan_is : e.plan ≡ plan
   pub tasks : e.tasks ≡ l.tasks
   pub at : e.at ≡ 0
@@ -257,7 +257,7 @@ pub record Starts (plan : Plan) (l : Listing) (e : Exec) : Type 0 where
   pub registers : length l.tasks.items ≤ vec_capacity e.registers
   pub items : length l.tasks.items ≤ vec_capacity e.items
 
-pub begun_is : (plan : Plan) (l : Listing) (e : Exec) → IsPlan (plan_view plan) → Lists plan l (tasks_of (plan_view plan)) → Starts plan l e → IsBegun (plan_view plan) e
+pub begun_is : (plan : Plan) (l : Listing) (e : State) → IsPlan (plan_view plan) → Lists plan l (tasks_of (plan_view plan)) → Starts plan l e → IsBegun (plan_view plan) e
 begun_is plan l e h list g =
     let tree = plan_view plan in
     let trees = tasks_of tree in

@@ -18,7 +18,7 @@ use Rattle.plan_ir.specs.Units.{Stage, bound, bound_of}
 use Rattle.wcps_mean.specs.declared.cell.Outcome.{Outcome}
 use Rattle.tile_exec.specs.declared.task.Task.{Task}
 use Rattle.tile_exec.specs.declared.task.Part.TheVariants as part
-use Rattle.tile_exec.specs.declared.exec.Exec.{Exec}
+use Rattle.tile_exec.specs.declared.state.State.{State}
 use Rattle.tile_exec.specs.Tasks.{PartTree, TaskTree, pass, condition, item, area_of, bodies_of, stages_of}
 use Rattle.tile_columns.specs.TileOrder.{tile_of}
 use Rattle.tile_exec.specs.Passes.{told_to_pass}
@@ -97,7 +97,7 @@ first_there plan f zero (x ∷ xs) ys h = refl
 first_there plan f (suc n) (x ∷ xs) ys h = first_there plan f n xs ys (omega arith)
 
 -- the box of the next unit bounds what it fetches
-pub next_bound : (e : Exec) (t : TaskTree) (ts : List TaskTree) → tasks_left e ≡ t ∷ ts → e.tile < length (tile_boxes (area_of t.part))
+pub next_bound : (e : State) (t : TaskTree) (ts : List TaskTree) → tasks_left e ≡ t ∷ ts → e.tile < length (tile_boxes (area_of t.part))
     → first_bound (plan_of e) (boxes_left e) ≡ sum_by (bound_of (signature_of (plan_of e).coverages t.coverages) (tile_of (area_of t.part) e.tile)) (bodies_of t.part)
 next_bound e t ts h lt =
     ap (λ l. first_bound (plan_of e) (drop e.tile (flat_map stages_of l))) h

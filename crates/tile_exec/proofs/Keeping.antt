@@ -21,7 +21,7 @@ use Rattle.tile_exec.specs.declared.task.Status.{Status}
 use Rattle.tile_exec.specs.declared.task.Status.TheVariants.{Giving, Skipping, Failed}
 use Rattle.tile_exec.specs.declared.task.Task.{Task}
 use Rattle.tile_exec.specs.declared.found.Found.TheVariants as found
-use Rattle.tile_exec.specs.declared.exec.Exec.{Exec}
+use Rattle.tile_exec.specs.declared.state.State.{State}
 use Rattle.tile_exec.specs.Tasks.{PartTree, TaskTree, pass, condition, item, area_of, stages_of, AreReady, IsPartPlaced, registers_made}
 use Rattle.tile_exec.specs.Progress.{read_by, after_part, after_condition, after_item}
 use Rattle.tile_columns.specs.TileOrder.{points_to, tile_of}
@@ -41,7 +41,7 @@ tiles_bound cs n (condition c) h = omega arith
 tiles_bound cs n (item i) h = domain_bound i.domain h.0
 
 -- the task at hand is a pass, of which a tile was found
-pub record PassAt (e : Exec) (last : Bool) (a : Accumulator) : Type 0 where
+pub record PassAt (e : State) (last : Bool) (a : Accumulator) : Type 0 where
   pub task : TaskTree
   pub tasks : List TaskTree
   pub pass_tree : PassTree
@@ -51,33 +51,33 @@ pub record PassAt (e : Exec) (last : Bool) (a : Accumulator) : Type 0 where
   pub op : a.running.op ≡ pass_tree.op
   pub few : a.running.count ≤ length (points (tile_of pass_tree.domain e.tile))
 
-pass_in : (e : Exec) (last : Bool) (a : Accumulator) (task : TaskTree) (tasks : List TaskTree) (p : PartTree) → tasks_left e ≡ task ∷ tasks → task.part ≡ p
+pass_in : (e : State) (last : Bool) (a : Accumulator) (task : TaskTree) (tasks : List TaskTree) (p : PartTree) → tasks_left e ≡ task ∷ tasks → task.part ≡ p
     → IsLast last e.tile (length (tile_boxes (area_of p))) → FitsPart e.tile e.status p (found.Pass a) → PassAt e last a
 pass_in e last a task tasks (pass p) h is l f = record { task = task; tasks = tasks; pass_tree = p; hand = h; is = is; last_tile = l; op = f.0; few = f.1 }
 pass_in e last a task tasks (condition c) h is l f = absurd f
 pass_in e last a task tasks (item i) h is l f = absurd f
 
-pass_among : (e : Exec) (last : Bool) (a : Accumulator) (ts : List TaskTree) → tasks_left e ≡ ts → Fits e ts last (found.Pass a) → PassAt e last a
+pass_among : (e : State) (last : Bool) (a : Accumulator) (ts : List TaskTree) → tasks_left e ≡ ts → Fits e ts last (found.Pass a) → PassAt e last a
 pass_among e last a [] h f = absurd f
 pass_among e last a (t ∷ ts) h f = pass_in e last a t ts t.part h refl f.0 f.1
 
-pub pass_at : (e : Exec) (last : Bool) (a : Accumulator) → Fits e (tasks_left e) last (found.Pass a) → PassAt e last a
+pub pass_at : (e : State) (last : Bool) (a : Accumulator) → Fits e (tasks_left e) last (found.Pass a) → PassAt e last a
 pass_at e last a f = pass_among e last a (tasks_left e) refl f
 
 -- the task at hand has its place
-pub placed_at : (e : Exec) (t : TaskTree) (ts : List TaskTree) → tasks_left e ≡ t ∷ ts → IsSound e → (t.first + t.count ≤ length e.registers.items) × IsPartPlaced (signature_of (plan_of e).coverages t.coverages) t.count t.part
+pub placed_at : (e : State) (t : TaskTree) (ts : List TaskTree) → tasks_left e ≡ t ∷ ts → IsSound e → (t.first + t.count ≤ length e.registers.items) × IsPartPlaced (signature_of (plan_of e).coverages t.coverages) t.count t.part
 placed_at e t ts h sound = let r = subst (AreReady (plan_of e).coverages (length e.registers.items)) h sound.ready in (r.0, r.1)
 
-pub pass_domain : (e : Exec) (last : Bool) (a : Accumulator) (x : PassAt e last a) → IsSound e → IsDomain x.pass_tree.domain
+pub pass_domain : (e : State) (last : Bool) (a : Accumulator) (x : PassAt e last a) → IsSound e → IsDomain x.pass_tree.domain
 pass_domain e last a x sound =
     let p = (placed_at e x.task x.tasks x.hand sound).1 in
     (subst (IsPartPlaced (signature_of (plan_of e).coverages x.task.coverages) x.task.count) x.is p).0
 
-pub pass_under : (e : Exec) (last : Bool) (a : Accumulator) (x : PassAt e last a) → IsSound e → (e.tile < length (tile_boxes x.pass_tree.domain)) × IsUnder (pass x.pass_tree) e
+pub pass_under : (e : State) (last : Bool) (a : Accumulator) (x : PassAt e last a) → IsSound e → (e.tile < length (tile_boxes x.pass_tree.domain)) × IsUnder (pass x.pass_tree) e
 pass_under e last a x sound = let h = at_hand e x.task x.tasks x.hand sound in (subst (λ p. e.tile < length (tile_boxes (area_of p))) x.is h.0, subst (λ p. IsUnder p e) x.is h.1)
 
 -- the points told are few
-pub pass_few : (e : Exec) (last : Bool) (a : Accumulator) (x : PassAt e last a) (n : ℕ) → IsSound e → n ≤ length (points_to x.pass_tree.domain e.tile) → (n + a.running.count ≤ 2 ^ 24) × (n + a.running.count ≤ length (points_to x.pass_tree.domain (e.tile + 1)))
+pub pass_few : (e : State) (last : Bool) (a : Accumulator) (x : PassAt e last a) (n : ℕ) → IsSound e → n ≤ length (points_to x.pass_tree.domain e.tile) → (n + a.running.count ≤ 2 ^ 24) × (n + a.running.count ≤ length (points_to x.pass_tree.domain (e.tile + 1)))
 pass_few e last a x n sound h =
     let area = x.pass_tree.domain in
     let u = pass_under e last a x sound in
@@ -88,7 +88,7 @@ pass_few e last a x n sound h =
     (omega (arith, h, more, sum, few, own), omega (arith, h, more, sum, own))
 
 -- the executor after one more tile of a pass that has more
-pub pass_further : (e : Exec) (a m : Accumulator) (l : ℕ) → IsSound e → Fits e (tasks_left e) false (found.Pass a) → l + 1 ≡ e.left
+pub pass_further : (e : State) (a m : Accumulator) (l : ℕ) → IsSound e → Fits e (tasks_left e) false (found.Pass a) → l + 1 ≡ e.left
     → m.running.op ≡ a.running.op
     → ((n : ℕ) → (0 < e.tile → e.accumulator.running.count ≤ n) → m.running.count ≤ n + a.running.count)
     → ((told : ℕ → List Told) (more : List Told) → told 0 ≡ [] → (0 < e.tile → Stands e.accumulator (told e.tile)) → Stands a more → Stands m (told e.tile ++ more))
@@ -119,7 +119,7 @@ pass_further e a m l sound fits left op counted stands =
     }
 
 -- the executor after the last tile of a pass
-pub pass_next : (e : Exec) (a m w : Accumulator) (v : Vec Outcome Global) (o : Outcome) (l : ℕ) → IsSound e → Fits e (tasks_left e) true (found.Pass a) → l + 1 ≡ e.left
+pub pass_next : (e : State) (a m w : Accumulator) (v : Vec Outcome Global) (o : Outcome) (l : ℕ) → IsSound e → Fits e (tasks_left e) true (found.Pass a) → l + 1 ≡ e.left
     → m.running.op ≡ a.running.op
     → ((told : ℕ → List Told) (more : List Told) → told 0 ≡ [] → (0 < e.tile → Stands e.accumulator (told e.tile)) → Stands a more → Stands m (told e.tile ++ more))
     → ((told : List Told) → Stands m told → ComesTo m.running.op told o)
@@ -159,7 +159,7 @@ pass_next e a m w v o l sound fits left op stands comes items room =
     }
 
 -- a unit is left where a task is
-pub some_left : (e : Exec) (t : TaskTree) (ts : List TaskTree) → tasks_left e ≡ t ∷ ts → IsSound e → 1 ≤ e.left
+pub some_left : (e : State) (t : TaskTree) (ts : List TaskTree) → tasks_left e ≡ t ∷ ts → IsSound e → 1 ≤ e.left
 some_left e t ts h sound =
     let a = at_hand e t ts h sound in
     let lt = a.0 in
@@ -168,7 +168,7 @@ some_left e t ts h sound =
     elim sound.left [ inl e1 ↦ omega (arith, lt, k, l, e1) | inr e2 ↦ (let e3 = e2.0 in absurd (omega (arith, e3, k, l, lt))) ]
 
 -- tiles are few
-pub tile_small : (e : Exec) (t : TaskTree) (ts : List TaskTree) → tasks_left e ≡ t ∷ ts → IsSound e → e.tile + 1 < 2 ^ 64
+pub tile_small : (e : State) (t : TaskTree) (ts : List TaskTree) → tasks_left e ≡ t ∷ ts → IsSound e → e.tile + 1 < 2 ^ 64
 tile_small e t ts h sound =
     let a = at_hand e t ts h sound in
     let lt = a.0 in
@@ -182,31 +182,31 @@ tasks_within plan zero (x ∷ xs) t ts h = omega arith
 tasks_within plan (suc n) (x ∷ xs) t ts h = let k = tasks_within plan n xs t ts h in omega (arith, k)
 
 -- the task at hand is one of the tasks by places
-pub tasks_small : (e : Exec) (t : TaskTree) (ts : List TaskTree) → tasks_left e ≡ t ∷ ts → IsSound e → e.at < length e.tasks.items
+pub tasks_small : (e : State) (t : TaskTree) (ts : List TaskTree) → tasks_left e ≡ t ∷ ts → IsSound e → e.at < length e.tasks.items
 tasks_small e t ts h sound = tasks_within e.plan e.at e.tasks.items t ts (subst (AreTasks e.plan (drop e.at e.tasks.items)) h sound.tasks)
 
 -- the task at hand is a condition
-pub record ConditionAt (e : Exec) : Type 0 where
+pub record ConditionAt (e : State) : Type 0 where
   pub task : TaskTree
   pub tasks : List TaskTree
   pub tree : Tree
   pub hand : tasks_left e ≡ task ∷ tasks
   pub is : task.part ≡ condition tree
 
-condition_in : (e : Exec) (o : Outcome) (task : TaskTree) (tasks : List TaskTree) (p : PartTree) → tasks_left e ≡ task ∷ tasks → task.part ≡ p → FitsPart e.tile e.status p (found.Condition o) → ConditionAt e
+condition_in : (e : State) (o : Outcome) (task : TaskTree) (tasks : List TaskTree) (p : PartTree) → tasks_left e ≡ task ∷ tasks → task.part ≡ p → FitsPart e.tile e.status p (found.Condition o) → ConditionAt e
 condition_in e o task tasks (pass p) h is f = absurd f
 condition_in e o task tasks (condition c) h is f = record { task = task; tasks = tasks; tree = c; hand = h; is = is }
 condition_in e o task tasks (item i) h is f = absurd f
 
-condition_among : (e : Exec) (last : Bool) (o : Outcome) (ts : List TaskTree) → tasks_left e ≡ ts → Fits e ts last (found.Condition o) → ConditionAt e
+condition_among : (e : State) (last : Bool) (o : Outcome) (ts : List TaskTree) → tasks_left e ≡ ts → Fits e ts last (found.Condition o) → ConditionAt e
 condition_among e last o [] h f = absurd f
 condition_among e last o (t ∷ ts) h f = condition_in e o t ts t.part h refl f.1
 
-pub condition_at : (e : Exec) (last : Bool) (o : Outcome) → Fits e (tasks_left e) last (found.Condition o) → ConditionAt e
+pub condition_at : (e : State) (last : Bool) (o : Outcome) → Fits e (tasks_left e) last (found.Condition o) → ConditionAt e
 condition_at e last o f = condition_among e last o (tasks_left e) refl f
 
 -- room for what the further tasks give, where nothing was added
-room_after : (e d : Exec) (t : TaskTree) (ts : List TaskTree) → tasks_left e ≡ t ∷ ts → d.registers ≡ e.registers → d.items ≡ e.items → HasRoom e (length (tasks_left e)) → HasRoom d (length ts)
+room_after : (e d : State) (t : TaskTree) (ts : List TaskTree) → tasks_left e ≡ t ∷ ts → d.registers ≡ e.registers → d.items ≡ e.items → HasRoom e (length (tasks_left e)) → HasRoom d (length ts)
 room_after e d t ts h r i room =
     let k = ap length h in
     let a = room.registers in
@@ -217,7 +217,7 @@ room_after e d t ts h r i room =
     }
 
 -- the executor after a condition
-pub condition_next : (e : Exec) (o : Outcome) (st : Status) (l : ℕ) → IsSound e → ConditionAt e → l + 1 ≡ e.left → st ≡ after_condition e.status o
+pub condition_next : (e : State) (o : Outcome) (st : Status) (l : ℕ) → IsSound e → ConditionAt e → l + 1 ≡ e.left → st ≡ after_condition e.status o
     → Keeps e (record e { status = st; at = e.at + 1; tile = 0; left = l }) (found.Condition o)
 condition_next e o st l sound x left tested =
     let d = record e { status = st; at = e.at + 1; tile = 0; left = l } in
@@ -243,15 +243,15 @@ tasks_past plan (suc n) [] h = omega arith
 tasks_past plan zero (x ∷ xs) h = absurd h
 tasks_past plan (suc n) (x ∷ xs) h = let k = tasks_past plan n xs h in omega (arith, k)
 
-none_among : (e : Exec) (ts : List TaskTree) → tasks_left e ≡ ts → IsSound e → length e.tasks.items ≤ e.at → tasks_left e ≡ []
+none_among : (e : State) (ts : List TaskTree) → tasks_left e ≡ ts → IsSound e → length e.tasks.items ≤ e.at → tasks_left e ≡ []
 none_among e [] h sound le = h
 none_among e (t ∷ ts) h sound le = let k = tasks_small e t ts h sound in absurd (omega (arith, k, le))
 
-pub none_left : (e : Exec) → IsSound e → length e.tasks.items ≤ e.at → tasks_left e ≡ []
+pub none_left : (e : State) → IsSound e → length e.tasks.items ≤ e.at → tasks_left e ≡ []
 none_left e sound le = none_among e (tasks_left e) refl sound le
 
 -- the executor after a unit that does nothing, where no task is left
-pub idle : (e : Exec) (l : ℕ) → IsSound e → l + 1 ≡ e.left → tasks_left e ≡ [] → Keeps e (record e { left = l }) found.Skipped
+pub idle : (e : State) (l : ℕ) → IsSound e → l + 1 ≡ e.left → tasks_left e ≡ [] → Keeps e (record e { left = l }) found.Skipped
 idle e l sound left none =
     let d = record e { left = l } in
     let room = sound.room in
@@ -273,7 +273,7 @@ idle e l sound left none =
     }
 
 -- the task at hand is an item that is not given
-pub record SkippedAt (e : Exec) (last : Bool) : Type 0 where
+pub record SkippedAt (e : State) (last : Bool) : Type 0 where
   pub task : TaskTree
   pub tasks : List TaskTree
   pub tree : ItemTree
@@ -282,17 +282,17 @@ pub record SkippedAt (e : Exec) (last : Bool) : Type 0 where
   pub last_tile : IsLast last e.tile (length (tile_boxes tree.domain))
   pub not_given : IsNotGiven e.status
 
-skipped_in : (e : Exec) (last : Bool) (task : TaskTree) (tasks : List TaskTree) (p : PartTree) → tasks_left e ≡ task ∷ tasks → task.part ≡ p
+skipped_in : (e : State) (last : Bool) (task : TaskTree) (tasks : List TaskTree) (p : PartTree) → tasks_left e ≡ task ∷ tasks → task.part ≡ p
     → IsLast last e.tile (length (tile_boxes (area_of p))) → FitsPart e.tile e.status p found.Skipped → SkippedAt e last
 skipped_in e last task tasks (pass p) h is l f = absurd f
 skipped_in e last task tasks (condition c) h is l f = absurd f
 skipped_in e last task tasks (item i) h is l f = record { task = task; tasks = tasks; tree = i; hand = h; is = is; last_tile = l; not_given = f }
 
-skipped_among : (e : Exec) (last : Bool) (ts : List TaskTree) → tasks_left e ≡ ts → IsSound e → e.at < length e.tasks.items → Fits e ts last found.Skipped → SkippedAt e last
+skipped_among : (e : State) (last : Bool) (ts : List TaskTree) → tasks_left e ≡ ts → IsSound e → e.at < length e.tasks.items → Fits e ts last found.Skipped → SkippedAt e last
 skipped_among e last [] h sound lt f = let k = tasks_past e.plan e.at e.tasks.items (subst (AreTasks e.plan (drop e.at e.tasks.items)) h sound.tasks) in absurd (omega (arith, k, lt))
 skipped_among e last (t ∷ ts) h sound lt f = skipped_in e last t ts t.part h refl f.0 f.1
 
-pub skipped_at : (e : Exec) (last : Bool) → IsSound e → e.at < length e.tasks.items → Fits e (tasks_left e) last found.Skipped → SkippedAt e last
+pub skipped_at : (e : State) (last : Bool) → IsSound e → e.at < length e.tasks.items → Fits e (tasks_left e) last found.Skipped → SkippedAt e last
 skipped_at e last sound lt f = skipped_among e last (tasks_left e) refl sound lt f
 
 after_skipped : (regs : List Outcome) (items : List Item) (st now : Status) (r : Result Item PointFault) → IsNotGiven st → AfterSkipped st now
@@ -301,7 +301,7 @@ after_skipped regs items Giving now r n h = absurd n
 after_skipped regs items Skipping now r n h = ap (λ x. record { registers = regs; items = items; status = x }) h
 after_skipped regs items (Failed f) now r n h = ap (λ x. record { registers = regs; items = items; status = x }) h
 
-pub skipped_next : (e : Exec) (st : Status) (l : ℕ) → IsSound e → SkippedAt e true → l + 1 ≡ e.left → AfterSkipped e.status st
+pub skipped_next : (e : State) (st : Status) (l : ℕ) → IsSound e → SkippedAt e true → l + 1 ≡ e.left → AfterSkipped e.status st
     → Keeps e (record e { status = st; at = e.at + 1; tile = 0; left = l }) found.Skipped
 skipped_next e st l sound x left h =
     let d = record e { status = st; at = e.at + 1; tile = 0; left = l } in
@@ -318,17 +318,17 @@ skipped_next e st l sound x left h =
           stands_next s e d x.task x.tasks g (after_skipped e.registers.items e.items.items e.status st (item_planned c regs x.tree) x.not_given h ∙ ap (after_part c regs (progress_of e)) (sym x.is)) stands;
     }
 
-no_cells : (i : ItemTree) (e : Exec) (st : Status) → IsNotGiven st → HasCells i e st
+no_cells : (i : ItemTree) (e : State) (st : Status) → IsNotGiven st → HasCells i e st
 no_cells i e Giving h = absurd h
 no_cells i e Skipping h = tt
 no_cells i e (Failed f) h = tt
 
-no_item : (s : ℕ → ℕ → List ℤ → ℤ) (regs : List Outcome) (i : ItemTree) (e : Exec) (st : Status) → IsNotGiven st → AtItem s regs i e st
+no_item : (s : ℕ → ℕ → List ℤ → ℤ) (regs : List Outcome) (i : ItemTree) (e : State) (st : Status) → IsNotGiven st → AtItem s regs i e st
 no_item s regs i e Giving h = absurd h
 no_item s regs i e Skipping h = tt
 no_item s regs i e (Failed f) h = tt
 
-pub skipped_further : (e : Exec) (l : ℕ) → IsSound e → SkippedAt e false → l + 1 ≡ e.left → Keeps e (record e { tile = e.tile + 1; left = l }) found.Skipped
+pub skipped_further : (e : State) (l : ℕ) → IsSound e → SkippedAt e false → l + 1 ≡ e.left → Keeps e (record e { tile = e.tile + 1; left = l }) found.Skipped
 skipped_further e l sound x left =
     let d = record e { tile = e.tile + 1; left = l } in
     let below : e.tile + 1 < length (tile_boxes (area_of x.task.part)) = subst (λ p. e.tile + 1 < length (tile_boxes (area_of p))) (sym x.is) x.last_tile in

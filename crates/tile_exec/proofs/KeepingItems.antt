@@ -18,7 +18,7 @@ use Rattle.tile_exec.specs.declared.task.Status.TheVariants.{Giving}
 use Rattle.tile_exec.specs.declared.task.First.{First}
 use Rattle.tile_exec.specs.declared.found.ItemTile.{ItemTile}
 use Rattle.tile_exec.specs.declared.found.Found.TheVariants as found
-use Rattle.tile_exec.specs.declared.exec.Exec.{Exec}
+use Rattle.tile_exec.specs.declared.state.State.{State}
 use Rattle.tile_exec.specs.Tasks.{PartTree, TaskTree, pass, condition, item, area_of, IsPartPlaced, registers_made}
 use Rattle.tile_exec.specs.Progress.{read_by, after_part, after_item}
 use Rattle.tile_columns.specs.TileOrder.{points_to, tile_of}
@@ -31,7 +31,7 @@ use Rattle.tile_exec.proofs.Keeping.{placed_at}
 use Rattle.tile_exec.proofs.Items.{item_or, item_told}
 
 -- the task at hand is an item, of which a tile was found
-pub record ItemAt (e : Exec) (last : Bool) (x : ItemTile) : Type 0 where
+pub record ItemAt (e : State) (last : Bool) (x : ItemTile) : Type 0 where
   pub task : TaskTree
   pub tasks : List TaskTree
   pub tree : ItemTree
@@ -40,30 +40,30 @@ pub record ItemAt (e : Exec) (last : Bool) (x : ItemTile) : Type 0 where
   pub last_tile : IsLast last e.tile (length (tile_boxes tree.domain))
   pub fits : FitsItem tree e.tile e.status x
 
-item_in : (e : Exec) (last : Bool) (x : ItemTile) (task : TaskTree) (tasks : List TaskTree) (p : PartTree) → tasks_left e ≡ task ∷ tasks → task.part ≡ p
+item_in : (e : State) (last : Bool) (x : ItemTile) (task : TaskTree) (tasks : List TaskTree) (p : PartTree) → tasks_left e ≡ task ∷ tasks → task.part ≡ p
     → IsLast last e.tile (length (tile_boxes (area_of p))) → FitsPart e.tile e.status p (found.Item x) → ItemAt e last x
 item_in e last x task tasks (pass p) h is l f = absurd f
 item_in e last x task tasks (condition c) h is l f = absurd f
 item_in e last x task tasks (item i) h is l f = record { task = task; tasks = tasks; tree = i; hand = h; is = is; last_tile = l; fits = f }
 
-item_among : (e : Exec) (last : Bool) (x : ItemTile) (ts : List TaskTree) → tasks_left e ≡ ts → Fits e ts last (found.Item x) → ItemAt e last x
+item_among : (e : State) (last : Bool) (x : ItemTile) (ts : List TaskTree) → tasks_left e ≡ ts → Fits e ts last (found.Item x) → ItemAt e last x
 item_among e last x [] h f = absurd f
 item_among e last x (t ∷ ts) h f = item_in e last x t ts t.part h refl f.0 f.1
 
-pub item_at : (e : Exec) (last : Bool) (x : ItemTile) → Fits e (tasks_left e) last (found.Item x) → ItemAt e last x
+pub item_at : (e : State) (last : Bool) (x : ItemTile) → Fits e (tasks_left e) last (found.Item x) → ItemAt e last x
 item_at e last x f = item_among e last x (tasks_left e) refl f
 
 -- where the item is given, what holds of it by its status
-cells_given : (i : ItemTree) (e : Exec) (st : Status) → st ≡ Giving → HasCells i e st → 0 < e.tile → length e.cells.items ≡ count i.domain * length i.fields
+cells_given : (i : ItemTree) (e : State) (st : Status) → st ≡ Giving → HasCells i e st → 0 < e.tile → length e.cells.items ≡ count i.domain * length i.fields
 cells_given i e st g h = subst (HasCells i e) g h
 
-pub item_under : (e : Exec) (last : Bool) (x : ItemTile) (a : ItemAt e last x) → IsSound e → (e.tile < length (tile_boxes a.tree.domain)) × (0 < e.tile → length e.cells.items ≡ count a.tree.domain * length a.tree.fields)
+pub item_under : (e : State) (last : Bool) (x : ItemTile) (a : ItemAt e last x) → IsSound e → (e.tile < length (tile_boxes a.tree.domain)) × (0 < e.tile → length e.cells.items ≡ count a.tree.domain * length a.tree.fields)
 item_under e last x a sound =
     let h = at_hand e a.task a.tasks a.hand sound in
     let u : IsUnder (item a.tree) e = subst (λ p. IsUnder p e) a.is h.1 in
     (subst (λ p. e.tile < length (tile_boxes (area_of p))) a.is h.0, cells_given a.tree e e.status a.fits.giving u)
 
-pub item_placed : (e : Exec) (last : Bool) (x : ItemTile) (a : ItemAt e last x) → IsSound e → IsDomain a.tree.domain × (0 < length a.tree.fields)
+pub item_placed : (e : State) (last : Bool) (x : ItemTile) (a : ItemAt e last x) → IsSound e → IsDomain a.tree.domain × (0 < length a.tree.fields)
 item_placed e last x a sound =
     let p = subst (IsPartPlaced (signature_of (plan_of e).coverages a.task.coverages) a.task.count) a.is (placed_at e a.task a.tasks a.hand sound).1 in
     (p.0, p.2)
@@ -73,7 +73,7 @@ some_or_zero zero = inl refl
 some_or_zero (suc n) = inr (omega arith)
 
 -- how many cells there are before a tile
-pub cells_before : (e : Exec) (last : Bool) (x : ItemTile) (a : ItemAt e last x) (before : List Cell) → IsSound e
+pub cells_before : (e : State) (last : Bool) (x : ItemTile) (a : ItemAt e last x) (before : List Cell) → IsSound e
     → (0 < e.tile → before ≡ e.cells.items) → (e.tile ≡ 0 → before ≡ x.fresh.items) → length before ≡ count a.tree.domain * length a.tree.fields
 cells_before e last x a before sound kept fresh =
     elim (some_or_zero e.tile) [
@@ -82,7 +82,7 @@ cells_before e last x a before sound kept fresh =
     ]
 
 -- what a tile is found to tell, and what was told before it
-pub record ItemKept (e : Exec) (x : ItemTile) (before cells : List Cell) (first now : First) : Type 0 where
+pub record ItemKept (e : State) (x : ItemTile) (before cells : List Cell) (first now : First) : Type 0 where
   pub kept : 0 < e.tile → before ≡ e.cells.items
   pub fresh : e.tile ≡ 0 → before ≡ x.fresh.items
   pub long : length cells ≡ length before
@@ -90,11 +90,11 @@ pub record ItemKept (e : Exec) (x : ItemTile) (before cells : List Cell) (first 
   pub begun : (told : ℕ → List Told) → told 0 ≡ [] → (0 < e.tile → IsFirst e.first.fault e.first.place (told e.tile)) → IsFirst first.fault first.place (told e.tile)
   pub joined : (told more : List Told) → IsFirst first.fault first.place told → IsFirst x.first.fault x.first.place more → IsFirst now.fault now.place (told ++ more)
 
-item_given : (s : ℕ → ℕ → List ℤ → ℤ) (regs : List Outcome) (i : ItemTree) (e : Exec) (st : Status) → st ≡ Giving → AtItem s regs i e st → 0 < e.tile → Fills s regs i e.tile e.cells.items e.first.fault e.first.place
+item_given : (s : ℕ → ℕ → List ℤ → ℤ) (regs : List Outcome) (i : ItemTree) (e : State) (st : Status) → st ≡ Giving → AtItem s regs i e st → 0 < e.tile → Fills s regs i e.tile e.cells.items e.first.fault e.first.place
 item_given s regs i e st g h = subst (AtItem s regs i e) g h
 
 -- the cells and the first fault after one more tile
-fills_more : (s : ℕ → ℕ → List ℤ → ℤ) (regs : List Outcome) (i : ItemTree) (e : Exec) (x : ItemTile) (before cells : List Cell) (first now : First) → e.tile < length (tile_boxes i.domain)
+fills_more : (s : ℕ → ℕ → List ℤ → ℤ) (regs : List Outcome) (i : ItemTree) (e : State) (x : ItemTile) (before cells : List Cell) (first now : First) → e.tile < length (tile_boxes i.domain)
     → (0 < e.tile → Fills s regs i e.tile e.cells.items e.first.fault e.first.place) → TellsItem s regs i e.tile x → ItemKept e x before cells first now
     → Fills s regs i (e.tile + 1) cells now.fault now.place
 fills_more s regs i e x before cells first now lt h t k =
@@ -112,7 +112,7 @@ fills_more s regs i e x before cells first now lt h t k =
           (k.joined (told e.tile) (flat_map (told_to_item s regs i) (points (tile_of i.domain e.tile))) (k.begun told refl (λ some. (h some).first)) t.first);
     }
 
-pub filled_at : (e : Exec) (last : Bool) (x : ItemTile) (a : ItemAt e last x) (before cells : List Cell) (first now : First) (s : ℕ → ℕ → List ℤ → ℤ) → IsSound e → ItemKept e x before cells first now
+pub filled_at : (e : State) (last : Bool) (x : ItemTile) (a : ItemAt e last x) (before cells : List Cell) (first now : First) (s : ℕ → ℕ → List ℤ → ℤ) → IsSound e → ItemKept e x before cells first now
     → AtPart (cells_of s a.task.coverages) (read_by a.task e.registers.items) e a.task.part → Tells s e (tasks_left e) (found.Item x)
     → Fills (cells_of s a.task.coverages) (read_by a.task e.registers.items) a.tree (e.tile + 1) cells now.fault now.place
 filled_at e last x a before cells first now s sound k at t =
@@ -122,14 +122,14 @@ filled_at e last x a before cells first now s sound k at t =
     let here : TellsPart c regs e.tile (item a.tree) (found.Item x) = subst (λ q. TellsPart c regs e.tile q (found.Item x)) a.is (subst (λ l. Tells s e l (found.Item x)) a.hand t) in
     fills_more c regs a.tree e x before cells first now (item_under e last x a sound).0 (item_given c regs a.tree e e.status a.fits.giving was) here k
 
-by_status : (i : ItemTree) (e : Exec) (st : Status) → st ≡ Giving → (0 < e.tile → length e.cells.items ≡ count i.domain * length i.fields) → HasCells i e st
+by_status : (i : ItemTree) (e : State) (st : Status) → st ≡ Giving → (0 < e.tile → length e.cells.items ≡ count i.domain * length i.fields) → HasCells i e st
 by_status i e st g h = subst (HasCells i e) (sym g) h
 
-at_by_status : (s : ℕ → ℕ → List ℤ → ℤ) (regs : List Outcome) (i : ItemTree) (e : Exec) (st : Status) → st ≡ Giving → (0 < e.tile → Fills s regs i e.tile e.cells.items e.first.fault e.first.place) → AtItem s regs i e st
+at_by_status : (s : ℕ → ℕ → List ℤ → ℤ) (regs : List Outcome) (i : ItemTree) (e : State) (st : Status) → st ≡ Giving → (0 < e.tile → Fills s regs i e.tile e.cells.items e.first.fault e.first.place) → AtItem s regs i e st
 at_by_status s regs i e st g h = subst (AtItem s regs i e) (sym g) h
 
 -- the executor after one more tile of an item that has more
-pub item_further : (e : Exec) (x : ItemTile) (before : List Cell) (v : Vec Cell Global) (first now : First) (l : ℕ) → IsSound e → Fits e (tasks_left e) false (found.Item x) → l + 1 ≡ e.left
+pub item_further : (e : State) (x : ItemTile) (before : List Cell) (v : Vec Cell Global) (first now : First) (l : ℕ) → IsSound e → Fits e (tasks_left e) false (found.Item x) → l + 1 ≡ e.left
     → ItemKept e x before v.items first now → Keeps e (record e { cells = v; first = now; tile = e.tile + 1; left = l }) (found.Item x)
 item_further e x before v first now l sound fits left k =
     let a = item_at e false x fits in
@@ -150,7 +150,7 @@ item_further e x before v first now l sound fits left k =
     }
 
 -- how it stands once an item is given, or its fault stands
-progress_given : (o : Option PointFault) (e d : Exec) (line fields : ℕ) → GivesBy o e d line fields → d.registers ≡ e.registers → e.status ≡ Giving
+progress_given : (o : Option PointFault) (e d : State) (line fields : ℕ) → GivesBy o e d line fields → d.registers ≡ e.registers → e.status ≡ Giving
     → progress_of d ≡ after_item (progress_of e) e.status (item_or o (record { line = line; fields = fields; cells = e.cells.items }))
 progress_given None e d line fields by r g =
     let i : Item = record { line = line; fields = fields; cells = e.cells.items } in
@@ -165,7 +165,7 @@ progress_given (Some f) e d line fields by r g =
     ∙ ap (λ x. after_item (progress_of e) x (Err f)) (sym g)
 
 -- at most one item more
-items_given : (o : Option PointFault) (e d : Exec) (line fields : ℕ) → GivesBy o e d line fields → length d.items.items ≤ length e.items.items + 1
+items_given : (o : Option PointFault) (e d : State) (line fields : ℕ) → GivesBy o e d line fields → length d.items.items ≤ length e.items.items + 1
 items_given None e d line fields by =
     let n = ap length by.1 in
     let i : Item = record { line = line; fields = fields; cells = e.cells.items } in
@@ -174,7 +174,7 @@ items_given None e d line fields by =
 items_given (Some f) e d line fields by = let n = ap (λ v. length v.items) by.1 in omega (arith, n)
 
 -- the executor after the last tile of an item
-pub item_next : (e d : Exec) (x : ItemTile) (before : List Cell) (v : Vec Cell Global) (first now : First) (l : ℕ) → IsSound e → Fits e (tasks_left e) true (found.Item x) → l + 1 ≡ e.left
+pub item_next : (e d : State) (x : ItemTile) (before : List Cell) (v : Vec Cell Global) (first now : First) (l : ℕ) → IsSound e → Fits e (tasks_left e) true (found.Item x) → l + 1 ≡ e.left
     → ItemKept e x before v.items first now → Gives (record e { cells = v; first = now; left = l }) d x.line x.fields → Keeps e d (found.Item x)
 item_next e d x before v first now l sound fits left k gives =
     let a = item_at e true x fits in

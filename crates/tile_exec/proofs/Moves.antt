@@ -13,7 +13,7 @@ use Rattle.plan_ir.specs.Units.{Stage}
 use Rattle.tile_exec.specs.declared.task.Status.{Status}
 use Rattle.tile_exec.specs.declared.task.Status.TheVariants.{Giving, Skipping, Failed}
 use Rattle.tile_exec.specs.declared.task.Task.{Task}
-use Rattle.tile_exec.specs.declared.exec.Exec.{Exec}
+use Rattle.tile_exec.specs.declared.state.State.{State}
 use Rattle.tile_exec.specs.Tasks.{PartTree, TaskTree, pass, condition, item, area_of, stages_of, registers_made, tasks_of, AreReady}
 use Rattle.tile_exec.specs.Progress.{read_by, after, after_all, answer_of}
 use Rattle.tile_exec.specs.Standing.{plan_of, tasks_left, boxes_left, progress_of, AtItem, AtPart, AtTask, StandsFor, HasCells, IsUnder, IsAt, AreTasks, IsLeft, HasRoom, IsSound}
@@ -56,36 +56,36 @@ stages_more t ts =
     let c : length (stages_of t) ≡ length (tile_boxes (area_of t.part)) = length-map (tile_boxes (area_of t.part)) _ in
     omega (arith, a, b, c)
 
-cells_start : (i : ItemTree) (e : Exec) (st : Status) → e.tile ≡ 0 → HasCells i e st
+cells_start : (i : ItemTree) (e : State) (st : Status) → e.tile ≡ 0 → HasCells i e st
 cells_start i e Giving z = λ lt. absurd (omega arith)
 cells_start i e Skipping z = tt
 cells_start i e (Failed f) z = tt
 
-under_start : (p : PartTree) (e : Exec) → e.tile ≡ 0 → IsUnder p e
+under_start : (p : PartTree) (e : State) → e.tile ≡ 0 → IsUnder p e
 under_start (pass p) e z = λ lt. absurd (omega arith)
 under_start (condition c) e z = tt
 under_start (item i) e z = cells_start i e e.status z
 
-pub at_start : (ts : List TaskTree) (e : Exec) → e.tile ≡ 0 → IsAt ts e
+pub at_start : (ts : List TaskTree) (e : State) → e.tile ≡ 0 → IsAt ts e
 at_start [] e z = z
 at_start (t ∷ ts) e z = ((let k = tiles-pos (area_of t.part) in omega (arith, k, z)), under_start t.part e z)
 
-item_start : (s : ℕ → ℕ → List ℤ → ℤ) (regs : List Outcome) (i : ItemTree) (e : Exec) (st : Status) → e.tile ≡ 0 → AtItem s regs i e st
+item_start : (s : ℕ → ℕ → List ℤ → ℤ) (regs : List Outcome) (i : ItemTree) (e : State) (st : Status) → e.tile ≡ 0 → AtItem s regs i e st
 item_start s regs i e Giving z = λ lt. absurd (omega arith)
 item_start s regs i e Skipping z = tt
 item_start s regs i e (Failed f) z = tt
 
-part_start : (s : ℕ → ℕ → List ℤ → ℤ) (regs : List Outcome) (e : Exec) (p : PartTree) → e.tile ≡ 0 → AtPart s regs e p
+part_start : (s : ℕ → ℕ → List ℤ → ℤ) (regs : List Outcome) (e : State) (p : PartTree) → e.tile ≡ 0 → AtPart s regs e p
 part_start s regs e (pass p) z = λ lt. absurd (omega arith)
 part_start s regs e (condition c) z = tt
 part_start s regs e (item i) z = item_start s regs i e e.status z
 
-pub stands_start : (s : ℕ → ℕ → List ℤ → ℤ) (e : Exec) (ts : List TaskTree) → e.tile ≡ 0 → AtTask s e ts
+pub stands_start : (s : ℕ → ℕ → List ℤ → ℤ) (e : State) (ts : List TaskTree) → e.tile ≡ 0 → AtTask s e ts
 stands_start s e [] z = tt
 stands_start s e (t ∷ ts) z = part_start (cells_of s t.coverages) (read_by t e.registers.items) e t.part z
 
 -- the executor goes on to the next task
-pub record GoesOn (e d : Exec) (t : TaskTree) (ts : List TaskTree) : Type 0 where
+pub record GoesOn (e d : State) (t : TaskTree) (ts : List TaskTree) : Type 0 where
   pub hand : tasks_left e ≡ t ∷ ts
   pub plan : d.plan ≡ e.plan
   pub tasks : d.tasks ≡ e.tasks
@@ -94,10 +94,10 @@ pub record GoesOn (e d : Exec) (t : TaskTree) (ts : List TaskTree) : Type 0 wher
   pub left : d.left + 1 ≡ e.left
   pub last : e.tile + 1 ≡ length (tile_boxes (area_of t.part))
 
-pub left_next : (e d : Exec) (t : TaskTree) (ts : List TaskTree) → GoesOn e d t ts → tasks_left d ≡ ts
+pub left_next : (e d : State) (t : TaskTree) (ts : List TaskTree) → GoesOn e d t ts → tasks_left d ≡ ts
 left_next e d t ts g = ap (λ p. drop d.at (tasks_of (plan_view p))) g.plan ∙ ap (λ k. drop k (tasks_of (plan_of e))) g.at ∙ drop_next e.at (tasks_of (plan_of e)) t ts g.hand
 
-pub sound_next : (e d : Exec) (t : TaskTree) (ts : List TaskTree) → GoesOn e d t ts → length d.registers.items ≡ length e.registers.items + registers_made t.part → HasRoom d (length ts) → IsSound e → IsSound d
+pub sound_next : (e d : State) (t : TaskTree) (ts : List TaskTree) → GoesOn e d t ts → length d.registers.items ≡ length e.registers.items + registers_made t.part → HasRoom d (length ts) → IsSound e → IsSound d
 sound_next e d t ts g n room h =
     let next = left_next e d t ts g in
     let tasks : AreTasks e.plan (drop e.at e.tasks.items) (t ∷ ts) = subst (AreTasks e.plan (drop e.at e.tasks.items)) g.hand h.tasks in
@@ -119,7 +119,7 @@ sound_next e d t ts g n room h =
           (elim more [ inl e1 ↦ inl (omega (arith, e1, k, l, z, last)) | inr e2 ↦ (let e3 = e2.0 in absurd (omega (arith, e3, k, some))) ]);
     }
 
-pub stands_next : (s : ℕ → ℕ → List ℤ → ℤ) (e d : Exec) (t : TaskTree) (ts : List TaskTree) → GoesOn e d t ts → progress_of d ≡ after s (progress_of e) t → StandsFor s e → StandsFor s d
+pub stands_next : (s : ℕ → ℕ → List ℤ → ℤ) (e d : State) (t : TaskTree) (ts : List TaskTree) → GoesOn e d t ts → progress_of d ≡ after s (progress_of e) t → StandsFor s e → StandsFor s d
 stands_next s e d t ts g p st =
     let next = left_next e d t ts g in
     record {
@@ -132,7 +132,7 @@ stands_next s e d t ts g p st =
       at_hand = stands_start s d (tasks_left d) g.tile;
     }
 
-pub boxes_next : (e d : Exec) (t : TaskTree) (ts : List TaskTree) → GoesOn e d t ts → LosesFirst (boxes_left e) (boxes_left d)
+pub boxes_next : (e d : State) (t : TaskTree) (ts : List TaskTree) → GoesOn e d t ts → LosesFirst (boxes_left e) (boxes_left d)
 boxes_next e d t ts g =
     let next = left_next e d t ts g in
     let all = flat_map stages_of (tasks_left e) in
@@ -142,7 +142,7 @@ boxes_next e d t ts g =
     subst (LosesFirst (boxes_left e)) (here ∙ sym there) (loses_drop e.tile all)
 
 -- the executor stays with its task
-pub record GoesFurther (e d : Exec) (t : TaskTree) (ts : List TaskTree) : Type 0 where
+pub record GoesFurther (e d : State) (t : TaskTree) (ts : List TaskTree) : Type 0 where
   pub hand : tasks_left e ≡ t ∷ ts
   pub plan : d.plan ≡ e.plan
   pub tasks : d.tasks ≡ e.tasks
@@ -154,10 +154,10 @@ pub record GoesFurther (e d : Exec) (t : TaskTree) (ts : List TaskTree) : Type 0
   pub items : d.items ≡ e.items
   pub status : d.status ≡ e.status
 
-pub left_further : (e d : Exec) (t : TaskTree) (ts : List TaskTree) → GoesFurther e d t ts → tasks_left d ≡ tasks_left e
+pub left_further : (e d : State) (t : TaskTree) (ts : List TaskTree) → GoesFurther e d t ts → tasks_left d ≡ tasks_left e
 left_further e d t ts g = ap (λ p. drop d.at (tasks_of (plan_view p))) g.plan ∙ ap (λ k. drop k (tasks_of (plan_of e))) g.at
 
-pub sound_further : (e d : Exec) (t : TaskTree) (ts : List TaskTree) → GoesFurther e d t ts → IsUnder t.part d → IsSound e → IsSound d
+pub sound_further : (e d : State) (t : TaskTree) (ts : List TaskTree) → GoesFurther e d t ts → IsUnder t.part d → IsSound e → IsSound d
 sound_further e d t ts g under h =
     let same = left_further e d t ts g in
     let l = g.left in
@@ -179,7 +179,7 @@ sound_further e d t ts g under h =
           (elim h.left [ inl e1 ↦ inl (omega (arith, e1, l, z)) | inr e2 ↦ (let e3 = e2.0 in let e4 = ap (λ l. length (flat_map stages_of l)) g.hand in absurd (omega (arith, e3, e4, k, some))) ]);
     }
 
-pub stands_further : (s : ℕ → ℕ → List ℤ → ℤ) (e d : Exec) (t : TaskTree) (ts : List TaskTree) → GoesFurther e d t ts → AtPart (cells_of s t.coverages) (read_by t e.registers.items) d t.part → StandsFor s e → StandsFor s d
+pub stands_further : (s : ℕ → ℕ → List ℤ → ℤ) (e d : State) (t : TaskTree) (ts : List TaskTree) → GoesFurther e d t ts → AtPart (cells_of s t.coverages) (read_by t e.registers.items) d t.part → StandsFor s e → StandsFor s d
 stands_further s e d t ts g part st =
     let same = left_further e d t ts g in
     let progress : progress_of d ≡ progress_of e =
@@ -195,7 +195,7 @@ stands_further s e d t ts g part st =
       at_hand = subst (AtTask s d) (sym (same ∙ g.hand)) (subst (λ v. AtPart (cells_of s t.coverages) (read_by t v.items) d t.part) (sym g.registers) part);
     }
 
-pub boxes_further : (e d : Exec) (t : TaskTree) (ts : List TaskTree) → GoesFurther e d t ts → LosesFirst (boxes_left e) (boxes_left d)
+pub boxes_further : (e d : State) (t : TaskTree) (ts : List TaskTree) → GoesFurther e d t ts → LosesFirst (boxes_left e) (boxes_left d)
 boxes_further e d t ts g =
     let same = left_further e d t ts g in
     let all = flat_map stages_of (tasks_left e) in
@@ -203,8 +203,8 @@ boxes_further e d t ts g =
     subst (LosesFirst (boxes_left e)) (sym there) (loses_drop e.tile all)
 
 -- what is kept of the task at hand
-pub at_hand : (e : Exec) (t : TaskTree) (ts : List TaskTree) → tasks_left e ≡ t ∷ ts → IsSound e → (e.tile < length (tile_boxes (area_of t.part))) × IsUnder t.part e
+pub at_hand : (e : State) (t : TaskTree) (ts : List TaskTree) → tasks_left e ≡ t ∷ ts → IsSound e → (e.tile < length (tile_boxes (area_of t.part))) × IsUnder t.part e
 at_hand e t ts h sound = subst (λ l. IsAt l e) h sound.at_hand
 
-pub stands_at : (s : ℕ → ℕ → List ℤ → ℤ) (e : Exec) (t : TaskTree) (ts : List TaskTree) → tasks_left e ≡ t ∷ ts → StandsFor s e → AtPart (cells_of s t.coverages) (read_by t e.registers.items) e t.part
+pub stands_at : (s : ℕ → ℕ → List ℤ → ℤ) (e : State) (t : TaskTree) (ts : List TaskTree) → tasks_left e ≡ t ∷ ts → StandsFor s e → AtPart (cells_of s t.coverages) (read_by t e.registers.items) e t.part
 stands_at s e t ts h st = subst (AtTask s e) h st.at_hand

@@ -1,5 +1,5 @@
 -- What an executor stands for.
-use Rattle.std.specs.Prelude.{◌≡◌, ℕ, ◌+◌, ◌*◌, ◌<◌, ◌≤◌, max, ℤ, vec_capacity, ◌⊎◌, List, [], ◌∷◌, length, drop, slice_get, IsSomeAnd}
+use Rattle.std.specs.Prelude.{◌≡◌, ℕ, ◌+◌, ◌-◌, ◌*◌, ◌<◌, ◌≤◌, max, ℤ, vec_capacity, ◌⊎◌, List, [], ◌∷◌, length, take, drop, sum_by, slice_get, IsSomeAnd}
 use Rattle.std.specs.List.{flat_map}
 use Rattle.arr_core.specs.Domains.{count}
 use Rattle.arr_core.specs.Tiles.{tile_boxes}
@@ -17,7 +17,7 @@ use Rattle.tile_exec.specs.declared.task.Status.TheVariants.{Giving, Skipping, F
 use Rattle.tile_exec.specs.declared.task.Task.{Task}
 use Rattle.tile_exec.specs.declared.task.Part.{Part}
 use Rattle.tile_exec.specs.declared.task.Part.TheVariants as part
-use Rattle.tile_exec.specs.declared.exec.Exec.{Exec}
+use Rattle.tile_exec.specs.declared.state.State.{State}
 use Rattle.tile_exec.specs.Tasks.{PartTree, TaskTree, pass, condition, item, area_of, stages_of, tasks_of, AreReady}
 use Rattle.tile_exec.specs.Progress.{Progress, read_by, after_all, answer_of}
 use Rattle.tile_columns.specs.TileOrder.{points_to}
@@ -25,59 +25,59 @@ use Rattle.tile_exec.specs.Passes.{told_to_pass}
 use Rattle.tile_exec.specs.Items.{Fills}
 
 -- the plan that is done
-abbrev pub plan_of : Exec → PlanTree
+abbrev pub plan_of : State → PlanTree
 plan_of e = plan_view e.plan
 
 -- how many units are left
-abbrev pub left_of : Exec → ℕ
+abbrev pub left_of : State → ℕ
 left_of e = e.left
 
 -- the tasks that are not done, that at hand first
-abbrev pub tasks_left : Exec → List TaskTree
+abbrev pub tasks_left : State → List TaskTree
 tasks_left e = drop e.at (tasks_of (plan_of e))
 
-abbrev pub progress_of : Exec → Progress
+abbrev pub progress_of : State → Progress
 progress_of e = record { registers = e.registers.items; items = e.items.items; status = e.status }
 
 -- the boxes that are not done, that of the next unit first
-abbrev pub boxes_left : Exec → List Stage
+abbrev pub boxes_left : State → List Stage
 boxes_left e = drop e.tile (flat_map stages_of (tasks_left e))
 
 -- the tiles of an item that are done: nothing is kept of one that is not given
-abbrev pub AtItem : (ℕ → ℕ → List ℤ → ℤ) → List Outcome → ItemTree → Exec → Status → Type 0
+abbrev pub AtItem : (ℕ → ℕ → List ℤ → ℤ) → List Outcome → ItemTree → State → Status → Type 0
 AtItem s regs i e Giving = 0 < e.tile → Fills s regs i e.tile e.cells.items e.first.fault e.first.place
 AtItem s regs i e Skipping = Unit {0}
 AtItem s regs i e (Failed f) = Unit {0}
 
 -- what is kept of the task at hand, once a tile of it is done
-abbrev pub AtPart : (ℕ → ℕ → List ℤ → ℤ) → List Outcome → Exec → PartTree → Type 0
+abbrev pub AtPart : (ℕ → ℕ → List ℤ → ℤ) → List Outcome → State → PartTree → Type 0
 AtPart s regs e (pass p) = 0 < e.tile → Stands e.accumulator (flat_map (told_to_pass s regs p) (points_to p.domain e.tile))
 AtPart s regs e (condition c) = Unit {0}
 AtPart s regs e (item i) = AtItem s regs i e e.status
 
-abbrev pub AtTask : (ℕ → ℕ → List ℤ → ℤ) → Exec → List TaskTree → Type 0
+abbrev pub AtTask : (ℕ → ℕ → List ℤ → ℤ) → State → List TaskTree → Type 0
 AtTask s e [] = Unit {0}
 AtTask s e (t ∷ tasks) = AtPart (cells_of s t.coverages) (read_by t e.registers.items) e t.part
 
 -- It stands for a store, where s gives the cells of the plan's coverages: with what the tasks left give besides, it has what
 -- the plan gives, and what it keeps of the task at hand is that of the tiles that are done.
-pub record StandsFor (s : ℕ → ℕ → List ℤ → ℤ) (e : Exec) : Type 0 where
+pub record StandsFor (s : ℕ → ℕ → List ℤ → ℤ) (e : State) : Type 0 where
   pub answer : answer_of (after_all s (progress_of e) (tasks_left e)) ≡ planned s (plan_of e)
   pub at_hand : AtTask s e (tasks_left e)
 
 -- of an item: there is a cell for each point and field
-abbrev pub HasCells : ItemTree → Exec → Status → Type 0
+abbrev pub HasCells : ItemTree → State → Status → Type 0
 HasCells i e Giving = 0 < e.tile → length e.cells.items ≡ count i.domain * length i.fields
 HasCells i e Skipping = Unit {0}
 HasCells i e (Failed f) = Unit {0}
 
-abbrev pub IsUnder : PartTree → Exec → Type 0
+abbrev pub IsUnder : PartTree → State → Type 0
 IsUnder (pass p) e = 0 < e.tile → (e.accumulator.running.op ≡ p.op) × (e.accumulator.running.count ≤ length (points_to p.domain e.tile))
 IsUnder (condition c) e = Unit {0}
 IsUnder (item i) e = HasCells i e e.status
 
 -- not all tiles of the task at hand are done
-abbrev pub IsAt : List TaskTree → Exec → Type 0
+abbrev pub IsAt : List TaskTree → State → Type 0
 IsAt [] e = e.tile ≡ 0
 IsAt (t ∷ tasks) e = (e.tile < length (tile_boxes (area_of t.part))) × IsUnder t.part e
 
@@ -108,12 +108,12 @@ abbrev pub IsLeft : ℕ → ℕ → ℕ → Type 0
 IsLeft left tile n = (left + tile ≡ n) ⊎ ((n ≡ 0) × (tile ≡ 0))
 
 -- room for what further tasks give
-pub record HasRoom (e : Exec) (n : ℕ) : Type 0 where
+pub record HasRoom (e : State) (n : ℕ) : Type 0 where
   pub registers : length e.registers.items + n ≤ vec_capacity e.registers
   pub items : length e.items.items + n ≤ vec_capacity e.items
 
 -- an executor of a well-formed plan
-pub record IsSound (e : Exec) : Type 0 where
+pub record IsSound (e : State) : Type 0 where
   pub tasks : AreTasks e.plan (drop e.at e.tasks.items) (tasks_left e)
   pub ready : AreReady (plan_of e).coverages (length e.registers.items) (tasks_left e)
   pub at_hand : IsAt (tasks_left e) e
@@ -125,11 +125,20 @@ abbrev pub MovesOver : PlanTree → List Stage → List Stage → ℕ → Type 0
 MovesOver plan [] after fetched = (after ≡ []) × (fetched ≡ 0)
 MovesOver plan (b ∷ before) after fetched = (after ≡ before) × (fetched ≤ bound plan b)
 
-abbrev pub MovesOn : Exec → Exec → ℕ → Type 0
+abbrev pub MovesOn : State → State → ℕ → Type 0
 MovesOn old new fetched = MovesOver (plan_of old) (boxes_left old) (boxes_left new) fetched
 
+-- The units between two states, each on a box of its own: the first of the boxes that were left, as many as there are units
+-- fewer. A unit for which there is no box does nothing.
+abbrev pub boxes_done : State → State → List Stage
+boxes_done was is = take (left_of was - left_of is) (boxes_left was)
+
+-- at most so many tiles these units fetch together
+abbrev pub most_fetched : State → State → ℕ
+most_fetched was is = sum_by (bound (plan_of was)) (boxes_done was is)
+
 -- an executor before its first unit
-pub record IsBegun (tree : PlanTree) (e : Exec) : Type 0 where
+pub record IsBegun (tree : PlanTree) (e : State) : Type 0 where
   pub sound : IsSound e
   pub plan : plan_of e ≡ tree
   pub stands : (s : ℕ → ℕ → List ℤ → ℤ) → StandsFor s e

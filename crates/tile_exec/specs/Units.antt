@@ -18,7 +18,7 @@ use Rattle.tile_exec.specs.declared.task.Status.TheVariants.{Giving, Skipping, F
 use Rattle.tile_exec.specs.declared.found.ItemTile.{ItemTile}
 use Rattle.tile_exec.specs.declared.found.Found.{Found}
 use Rattle.tile_exec.specs.declared.found.Found.TheVariants as found
-use Rattle.tile_exec.specs.declared.exec.Exec.{Exec}
+use Rattle.tile_exec.specs.declared.state.State.{State}
 use Rattle.tile_exec.specs.Tasks.{PartTree, TaskTree, pass, condition, item, area_of}
 use Rattle.tile_exec.specs.Progress.{read_by}
 use Rattle.tile_columns.specs.TileOrder.{tile_of}
@@ -59,7 +59,7 @@ FitsPart tile status (item i) (found.Item x) = FitsItem i tile status x
 FitsPart tile status (item i) found.Skipped = IsNotGiven status
 FitsPart tile status _ _ = ⊥
 
-abbrev pub Fits : Exec → List TaskTree → Bool → Found → Type 0
+abbrev pub Fits : State → List TaskTree → Bool → Found → Type 0
 Fits e [] last found.Skipped = Unit {0}
 Fits e [] last _ = ⊥
 Fits e (t ∷ tasks) last x = IsLast last e.tile (length (tile_boxes (area_of t.part))) × FitsPart e.tile e.status t.part x
@@ -77,7 +77,7 @@ TellsPart s regs tile (condition c) (found.Condition o) = o ≡ run s regs c []
 TellsPart s regs tile (item i) (found.Item x) = TellsItem s regs i tile x
 TellsPart s regs tile _ _ = Unit {0}
 
-abbrev pub Tells : (ℕ → ℕ → List ℤ → ℤ) → Exec → List TaskTree → Found → Type 0
+abbrev pub Tells : (ℕ → ℕ → List ℤ → ℤ) → State → List TaskTree → Found → Type 0
 Tells s e [] x = Unit {0}
 Tells s e (t ∷ tasks) x = TellsPart (cells_of s t.coverages) (read_by t e.registers.items) e.tile t.part x
 
@@ -87,7 +87,7 @@ LosesFirst [] after = after ≡ []
 LosesFirst (b ∷ before) after = after ≡ before
 
 -- what was found is kept, and the unit is done
-pub record Keeps (old new : Exec) (x : Found) : Type 0 where
+pub record Keeps (old new : State) (x : Found) : Type 0 where
   pub sound : IsSound new
   pub plan : new.plan ≡ old.plan
   pub left : new.left + 1 ≡ old.left
@@ -100,13 +100,13 @@ first_bound plan [] = 0
 first_bound plan (b ∷ boxes) = bound plan b
 
 -- what becomes of an item: its fault stands, or it is put behind the others
-abbrev pub GivesBy : Option PointFault → Exec → Exec → ℕ → ℕ → Type 0
+abbrev pub GivesBy : Option PointFault → State → State → ℕ → ℕ → Type 0
 GivesBy (Some f) old new line fields = (new.status ≡ Failed f) × (new.items ≡ old.items)
 GivesBy None old new line fields =
     (new.status ≡ old.status) × (new.items.items ≡ old.items.items ++ record { line = line; fields = fields; cells = old.cells.items } ∷ [])
 
 -- an item whose tiles are all told is given, or its first fault stands
-pub record Gives (old new : Exec) (line fields : ℕ) : Type 0 where
+pub record Gives (old new : State) (line fields : ℕ) : Type 0 where
   pub by : GivesBy old.first.fault old new line fields
   pub plan : new.plan ≡ old.plan
   pub tasks : new.tasks ≡ old.tasks

@@ -10,7 +10,7 @@ ghost use Rattle.tile_exec.specs.Tasks.{TaskTree, area_of, choice_passes, condit
 ghost use Rattle.tile_exec.specs.Standing.{IsTask, IsBegun};
 ghost use Rattle.tile_exec.specs.Begun.{IsFit, Lists, Adds, IsChosen};
 
-use crate::exec::Exec;
+use crate::state::State;
 use crate::task::{First, Part, Status, Task};
 use crate::workspace::Workspace;
 use plan_ir::{Plan, Steps};
@@ -170,7 +170,7 @@ fn tasks_of_plan(alloc: Global, plan: &Plan) -> Result<Listing, AllocError>
 }
 
 /// A plan before its first unit. There is room for what all its tasks give.
-pub(crate) fn begun(alloc: Global, plan: Plan) -> Result<Exec, AllocError>
+pub(crate) fn begun(alloc: Global, plan: Plan) -> Result<State, AllocError>
     requires { IsPlan (plan_view plan) }
     ensures { IfOk result (λ e. IsBegun (plan_view plan) e) }
 {
@@ -179,7 +179,7 @@ pub(crate) fn begun(alloc: Global, plan: Plan) -> Result<Exec, AllocError>
     let registers = Vec::with_capacity(alloc, room)?;
     let items = Vec::with_capacity(alloc, room)?;
     let workspace = Workspace::new(alloc)?;
-    Ok(Exec {
+    Ok(State {
         alloc,
         plan,
         tasks: list.tasks,

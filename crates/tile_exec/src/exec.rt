@@ -6,41 +6,37 @@ ghost use Rattle.plan_ir.specs.Plans.{plan_view};
 ghost use Rattle.plan_ir.specs.Planned.{planned};
 ghost use Rattle.plan_ir.specs.Placed.{IsPlan};
 ghost use Rattle.tile_columns.specs.Sources.{Leaves};
-ghost use Rattle.tile_exec.specs.Standing.{IsSound, IsBegun, StandsFor, plan_of, left_of, MovesOn};
+ghost use Rattle.tile_exec.specs.Standing.{IsBegun, StandsFor, plan_of, left_of, MovesOn};
 
 use crate::begin::begun;
-use crate::task::{First, Status, Task};
-use crate::workspace::Workspace;
-use arr_core::{Cell, Signature};
+use crate::state::State;
+use crate::task::Status;
+use arr_core::Signature;
 use plan_ir::Plan;
 use std::alloc::{AllocError, Global};
+use std::marker::Model;
 use tile_columns::Tiles;
-use tile_kernel::Accumulator;
-use wcps_mean::{CellError, Item, Outcome, PointFault};
+use wcps_mean::{CellError, Item, PointFault};
 
 /// A plan that is partly done, a tile at a time.
 #[derive(Drop)]
 pub struct Exec {
-    pub(crate) alloc: Global,
-    pub(crate) plan: Plan,
-    pub(crate) tasks: Vec<Task>,
-    /// How many tasks are done.
-    pub(crate) at: usize,
-    /// How many tiles of the task at hand are done.
-    pub(crate) tile: u64,
-    /// How many units are left.
-    pub(crate) left: u64,
-    /// The outcomes of the passes that are done. There is room for all.
-    pub(crate) registers: Vec<Outcome>,
-    /// The items that are done. There is room for all.
-    pub(crate) items: Vec<Item>,
-    pub(crate) status: Status,
-    /// What is kept of the pass at hand.
-    pub(crate) accumulator: Accumulator,
-    /// The cells of the item at hand, and its first fault.
-    pub(crate) cells: Vec<Cell>,
-    pub(crate) first: First,
-    pub(crate) workspace: Workspace,
+    state: State,
+}
+
+impl Model for Exec {
+    ghost use Rattle.tile_exec.specs.declared.state.State.{State};
+    ghost use Rattle.tile_exec.specs.contracts.state.State.{the_row};
+
+    ghost Value = { State };
+
+    ghost coded = { the_row.coded };
+
+    ghost use Rattle.tile_exec.specs.Standing.{IsSound};
+
+    ghost view = { λ e. e.state };
+
+    ghost invariant = { λ e. IsSound e.state };
 }
 
 /// What a step did: how many units are left, and how many tiles it fetched.
@@ -56,28 +52,27 @@ impl Exec {
         requires { IsPlan (plan_view plan) }
         ensures { IfOk result (λ e. IsBegun (plan_view plan) e) }
     {
-        begun(alloc, plan)
+        let state = begun(alloc, plan)?;
+        Ok(Exec { state })
     }
 
     /// How many units are left.
     pub fn left(&self) -> u64
         ensures { result ≡ left_of self.now }
     {
-        self.left
+        self.state.left
     }
 
     /// The coverages that the plan reads, by their places.
     pub fn coverages(&self) -> &[Signature]
         ensures { result.now ≡ (plan_of self.now).coverages }
     {
-        self.plan.coverages.as_slice()
+        self.state.plan.coverages.as_slice()
     }
 
     /// Does one unit. After a refusal it is as it was.
     pub fn step<S: Tiles>(&mut self, source: &mut S) -> Result<StepInfo, CellError>
-        requires sound { IsSound self.old }
         requires coverages { S.coverages source.old ≡ (plan_of self.old).coverages }
-        ensures sound { IsSound self.new }
         ensures plan { plan_of self.new ≡ plan_of self.old }
         ensures left { IfOk result (λ i. (left_of self.new ≡ left_of self.old - 1) × (i.left ≡ left_of self.new)) }
         ensures stands { OnOk result (S.intact source.old → StandsFor (S.cells source.old) self.old → StandsFor (S.cells source.old) self.new) }
@@ -89,34 +84,33 @@ impl Exec {
         ensures reports { Reports result (S.spelled (S.kept source.old)) (S.failures source.old) (S.failures source.new) }
     {
         let before = source.count();
-        if self.left == 0 {
+        if self.state.left == 0 {
             return Ok(StepInfo {
                 left: 0,
                 fetched: 0,
             });
         }
-        let unit = self.unit(source)?;
+        let unit = self.state.unit(source)?;
         let fetched = source.count() - before;
-        self.keep(unit);
+        self.state.keep(unit);
         Ok(StepInfo {
-            left: self.left,
+            left: self.state.left,
             fetched,
         })
     }
 
     /// The items, or the first fault, once no unit is left.
     pub fn result(&self) -> Option<Result<&[Item], PointFault>>
-        requires sound { IsSound self.now }
         ensures ready { MatchOption result (0 < left_of self.now) (λ _. left_of self.now ≡ 0) }
         ensures value { (s : ℕ → ℕ → List ℤ → ℤ) → StandsFor s self.now → IfSome result (λ r. MatchResult r (λ items. planned s (plan_of self.now) ≡ Ok items.now) (λ f. planned s (plan_of self.now) ≡ Err f)) }
     {
-        if self.left > 0 {
+        if self.state.left > 0 {
             return None;
         }
-        match self.status {
+        match self.state.status {
             Status::Failed(f) => Some(Err(f)),
-            Status::Giving => Some(Ok(&self.items)),
-            Status::Skipping => Some(Ok(&self.items)),
+            Status::Giving => Some(Ok(&self.state.items)),
+            Status::Skipping => Some(Ok(&self.state.items)),
         }
     }
 }

@@ -14,8 +14,8 @@ ghost use Rattle.tile_exec.specs.Progress.{after_condition};
 ghost use Rattle.tile_exec.specs.Standing.{IsSound, tasks_left};
 ghost use Rattle.tile_exec.specs.Units.{Fits, IsNotGiven, AfterSkipped, Gives, Keeps};
 
-use crate::exec::Exec;
 use crate::found::{Found, ItemTile, Unit};
+use crate::state::State;
 use crate::task::{First, Status};
 use arr_core::Cell;
 use std::mem;
@@ -157,7 +157,7 @@ fn after_skipped(status: Status) -> Status
     }
 }
 
-impl Exec {
+impl State {
     /// Keeps what a unit found.
     pub(crate) fn keep(&mut self, unit: Unit)
         requires sound { IsSound self.old }

@@ -9,6 +9,7 @@ mod item;
 mod keep;
 mod pass;
 mod row;
+mod state;
 mod task;
 mod unit;
 mod workspace;

@@ -12,10 +12,10 @@ ghost use Rattle.tile_columns.specs.TileOrder.{tile_of};
 ghost use Rattle.tile_exec.specs.Standing.{IsSound, IsPartOf, plan_of, tasks_left, boxes_left};
 ghost use Rattle.tile_exec.specs.Units.{Fits, Tells, FitsPart, TellsPart, IsLast, first_bound};
 
-use crate::exec::Exec;
 use crate::found::{Found, Unit};
 use crate::item::item_tile;
 use crate::pass::{condition_of, pass_tile};
+use crate::state::State;
 use crate::task::{Part, Status, Task};
 use crate::workspace::Workspace;
 use arr_core::Domain;
@@ -119,7 +119,7 @@ fn unit_of<S: Tiles>(
     }
 }
 
-impl Exec {
+impl State {
     /// What the next unit gives. It changes nothing but what units work in.
     pub(crate) fn unit<S: Tiles>(&mut self, source: &mut S) -> Result<Unit, CellError>
         requires sound { IsSound self.old }

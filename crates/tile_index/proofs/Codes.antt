@@ -1,13 +1,15 @@
 -- The bytes of numbers, entries and indexes can be told apart with whatever follows them.
-use Rattle.std.proofs.Common.{◌≡◌, ℕ, ◌*◌, ◌<◌, ◌^◌, List, [], ◌∷◌, ◌++◌, length, flat_map, refl, sym, ap, ap₂, subst, ◌∙◌, arith, append_assoc, append-nil, length-append, All}
+use Rattle.std.proofs.Common.{◌≡◌, ℕ, ◌*◌, ◌<◌, ◌≤◌, ◌^◌, List, [], ◌∷◌, ◌++◌, length, flat_map, refl, sym, ap, ap₂, subst, ◌∙◌, arith, append_assoc, append-nil, length-append, All}
 use Rattle.std.proofs.lemmas.List.{get_or_at, get_or_append_left, flat_map_more}
 use Rattle.file_bytes.specs.Codes.{IsPrefixCode, IsRead}
 use Rattle.file_bytes.proofs.Numbers.{same-numbers}
 use Rattle.file_bytes.proofs.Codes.{begins, same-lists}
 use Rattle.tile_index.specs.declared.entry.Entry.{Entry}
-use Rattle.tile_index.specs.Entries.{blocks_filled}
+use Rattle.file_bytes.specs.declared.form.Form.{Form}
+use Rattle.file_bytes.specs.declared.form.Form.TheVariants.{Runs, Raw}
+use Rattle.tile_index.specs.Entries.{blocks_filled, most_bytes}
 use Rattle.tile_index.specs.Index.{IsPair, ArePairs, AreSoMany, IsIndex}
-use Rattle.tile_index.specs.Bytes.{number_bytes, entry_bytes, index_bytes}
+use Rattle.tile_index.specs.Bytes.{number_bytes, length_number, entry_bytes, index_bytes}
 
 number-code : IsPrefixCode (λ n. n < 2 ^ 32) number_bytes
 number-code x y a b hx hy e = same-numbers 4 x y a b hx hy e
@@ -16,7 +18,7 @@ pub length-numbers : (xs : List ℕ) → length (flat_map number_bytes xs) ≡ 4
 length-numbers [] = refl
 length-numbers (x ∷ xs) = let ih = length-numbers xs in omega (arith, ih)
 
-pub entry-parts : (x : ℕ × Entry) (rest : List ℕ) → entry_bytes x ++ rest ≡ number_bytes x.0 ++ (number_bytes x.1.length ++ (flat_map number_bytes x.1.blocks ++ rest))
+pub entry-parts : (x : ℕ × Entry) (rest : List ℕ) → entry_bytes x ++ rest ≡ number_bytes x.0 ++ (number_bytes (length_number x.1.form x.1.length) ++ (flat_map number_bytes x.1.blocks ++ rest))
 unfolding entry_bytes
 entry-parts x rest = refl
 
@@ -24,24 +26,42 @@ pub index-parts : (index : List (ℕ × Entry)) → index_bytes index ≡ number
 unfolding index_bytes
 index-parts index = refl
 
--- what a number in front says of an entry, and what two do
-pub one-number : (tile : ℕ) (old left : List ℕ) (x : ℕ × Entry) (rest : List ℕ) → IsRead (λ n. n < 2 ^ 32) number_bytes old tile left → IsPair x → old ≡ entry_bytes x ++ rest → (x.0 ≡ tile) × (number_bytes x.1.length ++ (flat_map number_bytes x.1.blocks ++ rest) ≡ left)
-one-number tile old left x rest r v e =
-    r.only x.0 (number_bytes x.1.length ++ (flat_map number_bytes x.1.blocks ++ rest)) v.0 (e ∙ entry-parts x rest)
+-- lengths are small, and their numbers tell them and their forms
+pub small-length : (f : Form) (n : ℕ) → n ≤ most_bytes f → n < 2 ^ 31
+small-length Runs n h = omega arith
+small-length Raw n h = omega arith
 
-pub two-numbers : (tile n : ℕ) (old mid left : List ℕ) (x : ℕ × Entry) (rest : List ℕ) → IsRead (λ n. n < 2 ^ 32) number_bytes old tile mid → IsRead (λ n. n < 2 ^ 32) number_bytes mid n left → IsPair x → old ≡ entry_bytes x ++ rest → (x.1.length ≡ n) × (flat_map number_bytes x.1.blocks ++ rest ≡ left)
+pub small-number : (f : Form) (n : ℕ) → n ≤ most_bytes f → length_number f n < 2 ^ 32
+small-number Runs n h = omega arith
+small-number Raw n h = omega arith
+
+pub same-length : (f g : Form) (m n : ℕ) → m < 2 ^ 31 → n < 2 ^ 31 → length_number f m ≡ length_number g n → (f ≡ g) × (m ≡ n)
+same-length Runs Runs m n h k e = (refl, e)
+same-length Runs Raw m n h k e = absurd (omega arith)
+same-length Raw Runs m n h k e = absurd (omega arith)
+same-length Raw Raw m n h k e = (refl, omega arith)
+
+-- what a number in front says of an entry, and what two do
+pub one-number : (tile : ℕ) (old left : List ℕ) (x : ℕ × Entry) (rest : List ℕ) → IsRead (λ n. n < 2 ^ 32) number_bytes old tile left → IsPair x → old ≡ entry_bytes x ++ rest → (x.0 ≡ tile) × (number_bytes (length_number x.1.form x.1.length) ++ (flat_map number_bytes x.1.blocks ++ rest) ≡ left)
+one-number tile old left x rest r v e =
+    r.only x.0 (number_bytes (length_number x.1.form x.1.length) ++ (flat_map number_bytes x.1.blocks ++ rest)) v.0 (e ∙ entry-parts x rest)
+
+pub two-numbers : (tile n : ℕ) (old mid left : List ℕ) (x : ℕ × Entry) (rest : List ℕ) → IsRead (λ n. n < 2 ^ 32) number_bytes old tile mid → IsRead (λ n. n < 2 ^ 32) number_bytes mid n left → IsPair x → old ≡ entry_bytes x ++ rest → (length_number x.1.form x.1.length ≡ n) × (flat_map number_bytes x.1.blocks ++ rest ≡ left)
 two-numbers tile n old mid left x rest r s v e =
-    let few = v.1.few in
-    s.only x.1.length (flat_map number_bytes x.1.blocks ++ rest) (omega arith) (sym (one-number tile old mid x rest r v e).1)
+    s.only (length_number x.1.form x.1.length) (flat_map number_bytes x.1.blocks ++ rest) (small-number x.1.form x.1.length v.1.few) (sym (one-number tile old mid x rest r v e).1)
 
 pub entry-code : IsPrefixCode IsPair entry_bytes
 entry-code x y a b hx hy e =
     let fx = hx.1.few in
     let fy = hy.1.few in
+    let sx = small-length x.1.form x.1.length fx in
+    let sy = small-length y.1.form y.1.length fy in
     let tile = same-numbers 4 x.0 y.0 _ _ hx.0 hy.0 (sym (entry-parts x a) ∙ e ∙ entry-parts y b) in
-    let size = same-numbers 4 x.1.length y.1.length _ _ (omega arith) (omega arith) tile.1 in
-    let blocks = same-lists (λ n. n < 2 ^ 32) number_bytes number-code x.1.blocks y.1.blocks a b hx.1.numbers hy.1.numbers (hx.1.filled ∙ ap blocks_filled size.0 ∙ sym hy.1.filled) size.1 in
-    let entry : x.1 ≡ y.1 = ap₂ (λ (n : ℕ) (bs : List ℕ). record { length = n; blocks = bs }) size.0 blocks.0 in
+    let told = same-numbers 4 (length_number x.1.form x.1.length) (length_number y.1.form y.1.length) _ _ (small-number x.1.form x.1.length fx) (small-number y.1.form y.1.length fy) tile.1 in
+    let size = same-length x.1.form y.1.form x.1.length y.1.length sx sy told.0 in
+    let blocks = same-lists (λ n. n < 2 ^ 32) number_bytes number-code x.1.blocks y.1.blocks a b hx.1.numbers hy.1.numbers (hx.1.filled ∙ ap blocks_filled size.1 ∙ sym hy.1.filled) told.1 in
+    let front : x.1 ≡ record { form = y.1.form; length = y.1.length; blocks = x.1.blocks } = ap₂ (λ (f : Form) (n : ℕ). record { form = f; length = n; blocks = x.1.blocks }) size.0 size.1 in
+    let entry : x.1 ≡ y.1 = front ∙ ap (λ (bs : List ℕ). record { form = y.1.form; length = y.1.length; blocks = bs }) blocks.0 in
     (ap₂ (λ (n : ℕ) (d : Entry). (n, d)) tile.0 entry, blocks.1)
 
 -- Where the bytes of some pairs begin with those of fewer pairs, a later pair comes next.

@@ -1,5 +1,6 @@
 pub mod Between
 pub mod Found
 pub mod Merging
+pub mod Exchanging
 pub mod Changed
 pub mod Codes

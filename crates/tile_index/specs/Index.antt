@@ -1,5 +1,5 @@
 -- An index: a finite map from tile numbers to entries, as the list of its pairs in rising order.
-use Rattle.std.specs.Prelude.{◌≡◌, ℕ, ◌<◌, ◌^◌, List, [], ◌∷◌, length, All, AllPairs, Option, Some, None, ◌==◌, if◌then◌else◌, unwrap_or}
+use Rattle.std.specs.Prelude.{◌≡◌, ℕ, ◌<◌, ◌^◌, List, [], ◌∷◌, length, get_or, All, AllPairs, Option, Some, None, IsSome, ◌==◌, if◌then◌else◌, unwrap_or}
 use Rattle.tile_index.specs.declared.entry.Entry.{Entry}
 use Rattle.tile_index.specs.Entries.{IsEntry}
 
@@ -49,3 +49,11 @@ pub record AreChanges (changes : List (ℕ × Option Entry)) (index : List (ℕ 
   pub small : AreSmall changes
   pub entries : AreEntries changes
   pub room : (tile : ℕ) × (tile < 2 ^ 32) × (changed_at tile changes index ≡ None)
+
+-- the pair of a tile stands at this place
+abbrev pub IsPlaceOf : ℕ → List (ℕ × Entry) → ℕ → Type 0
+IsPlaceOf tile index place = (place < length index) × ((d : ℕ × Entry) → (get_or index place d).0 ≡ tile)
+
+-- changes that give listed tiles other entries: none is added, and none is taken away
+abbrev pub AreExchanges : List (ℕ × Option Entry) → List (ℕ × Entry) → Type 0
+AreExchanges changes index = All (λ (x : ℕ × Option Entry). IsSome x.1 × IsSome (found_at x.0 index)) changes

@@ -5,7 +5,7 @@ ghost use Rattle.tile_index.specs.declared.entry.Entry.{Entry};
 ghost use Rattle.tile_index.specs.Entries.{IsEntry};
 ghost use Rattle.tile_index.specs.Index.{found_at, changed_at, IsRising, AreSmall, AreEntries, IsIndex};
 
-use crate::changes::merged;
+use crate::changes::{are_exchanges, exchange_all, merged};
 use crate::entry::Entry;
 use std::alloc::{AllocError, Global};
 use std::marker::Model;
@@ -68,7 +68,7 @@ impl TileIndex {
     }
 
     /// Gives each listed tile its entry, or none, and leaves the others as they are. Where memory
-    /// is wanting, all stay as they are.
+    /// is wanting, all stay as they are. Takes no memory where each of the tiles has an entry and is given another.
     pub fn replace_all(&mut self, changes: Vec<(u64, Option<Entry>)>) -> Result<(), AllocError>
         requires rising { IsRising changes.items }
         requires small { AreSmall changes.items }
@@ -78,6 +78,10 @@ impl TileIndex {
         ensures unchanged { OnErr result (self.new ≡ self.old) }
         ensures index { IsIndex self.new }
     {
+        if are_exchanges(&self.entries, &changes) {
+            exchange_all(&mut self.entries, changes);
+            return Ok(());
+        }
         let alloc = *self.entries.allocator();
         let room = Vec::with_capacity(alloc, self.entries.len() + changes.len())?;
         let entries = mem::replace(&mut self.entries, Vec::new(alloc));
@@ -91,7 +95,7 @@ impl TileIndex {
     {
         let mut entries = Vec::with_capacity(*self.entries.allocator(), self.entries.len())?;
         for (tile, entry) in &self.entries {
-            entries.push((*tile, entry.copy()?))?;
+            entries.push((*tile, entry.copy()))?;
         }
         Ok(TileIndex { entries })
     }

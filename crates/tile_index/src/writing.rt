@@ -2,11 +2,12 @@
 
 ghost use Rattle.std.specs.Prelude.{◌≡◌, ◌++◌, ◌<◌, ◌^◌, ℕ, All, flat_map, IfOk, OnOk};
 ghost use Rattle.tile_index.specs.declared.entry.Entry.{Entry};
-ghost use Rattle.tile_index.specs.Bytes.{number_bytes, entry_bytes, index_bytes};
+ghost use Rattle.tile_index.specs.Bytes.{number_bytes, length_number, entry_bytes, index_bytes};
 
 use crate::entry::Entry;
 use crate::index::TileIndex;
-use file_bytes::push_u32;
+use crate::reading::RAW;
+use file_bytes::{Form, push_u32};
 use std::alloc::{AllocError, Global};
 
 /// Writes numbers after the bytes.
@@ -19,13 +20,25 @@ fn push_numbers(bytes: &mut Vec<u8>, numbers: &[u32]) -> Result<(), AllocError>
     Ok(())
 }
 
+/// The number that tells a form and a length.
+fn length_number(form: Form, length: u32) -> u32
+    requires { length < 2 ^ 31 }
+    ensures { result ≡ length_number form length }
+{
+    match form {
+        Form::Runs => length,
+        Form::Raw => RAW + length,
+    }
+}
+
 /// Writes a tile and its entry after the bytes.
 #[tactic(auto, unfolding(crate::specs::Bytes::entry_bytes))]
 fn push_entry(bytes: &mut Vec<u8>, tile: u32, entry: &Entry) -> Result<(), AllocError>
+    requires { entry.now.length < 2 ^ 31 }
     ensures { OnOk result (bytes.new.items ≡ bytes.old.items ++ entry_bytes (tile, entry.now)) }
 {
     push_u32(bytes, tile)?;
-    push_u32(bytes, entry.length)?;
+    push_u32(bytes, length_number(entry.form, entry.length))?;
     push_numbers(bytes, entry.blocks.as_slice())
 }
 

@@ -1,5 +1,5 @@
 -- Cells that are told by their keys.
-use Rattle.std.proofs.Common.{◌≡◌, ◌≢◌, ⊎_elim, ℕ, suc, ◌+◌, ◌<◌, ◌≤◌, ℤ, ◌≤ℤ◌, ◌+ℤ◌, ◌-◌, int_le, pos, take_all, length-set, List, [], ◌∷◌, ◌++◌, length, get_or, set, take, refl, sym, ap, ◌∙◌, subst, arith, append_assoc, get_or-set_other, get_or-set_same, Some, None, Bool, true, false, cond}
+use Rattle.std.proofs.Common.{◌≡◌, ◌≢◌, ⊎_elim, ℕ, zero, suc, length-append, ◌+◌, ◌<◌, ◌≤◌, ℤ, ◌≤ℤ◌, ◌+ℤ◌, ◌-◌, int_le, pos, take_all, length-set, List, [], ◌∷◌, ◌++◌, length, get_or, set, take, refl, sym, ap, ◌∙◌, subst, arith, append_assoc, get_or-set_other, get_or-set_same, Some, None, Bool, true, false, cond}
 use Rattle.std.specs.Prelude.{slice_get}
 use Rattle.std.proofs.lemmas.List.{append-nil, get_or-map, length-map}
 use Rattle.std.proofs.lemmas.Option.{slice_get-get_or}
@@ -141,3 +141,59 @@ some_there low z table numbers i n s lt at is some k l =
           let p : n - 1 ≡ k = cc in
           ap (number_at numbers) (sym p ∙ ap (λ m. m - 1) (sym is)) ∙ b.1 ∙ sym at),
     )
+
+-- ---- one more number
+
+last_of : (xs : List ℤ) (x d : ℤ) → get_or (xs ++ x ∷ []) (length xs) d ≡ x
+last_of [] x d = refl
+last_of (y ∷ xs) x d = last_of xs x d
+
+before_last : (xs : List ℤ) (x d : ℤ) (k : ℕ) → k < length xs → get_or (xs ++ x ∷ []) k d ≡ get_or xs k d
+before_last [] x d k lt = absurd (omega (arith, lt))
+before_last (y ∷ xs) x d zero lt = refl
+before_last (y ∷ xs) x d (suc k) lt = before_last xs x d k (omega (arith, lt))
+
+-- a number that was in none of the places, behind the others
+pub slots_more : (low z : ℤ) (table : List ℕ) (numbers : List ℤ) (i n : ℕ) → AreSlots low table numbers → i < length table → z ≡ low +ℤ pos i → get_or table i 0 ≡ 0 → n ≡ length numbers + 1 → AreSlots low (set table i n) (numbers ++ z ∷ [])
+slots_more low z table numbers i n s lt at none e = record { there = there; back = back }
+  where
+    long : length (numbers ++ z ∷ []) ≡ length numbers + 1
+    long = length-append numbers (z ∷ [])
+
+    earlier : (k : ℕ) → k < length numbers → (j : ℕ) × (j < length (set table i n)) × (number_at (numbers ++ z ∷ []) k ≡ low +ℤ pos j) × (get_or (set table i n) j 0 ≡ k + 1)
+    earlier k l =
+        let t = s.there k l in
+        let ne : t.0 ≢ i = λ q. (let zero : get_or table t.0 0 ≡ 0 = ap (λ j. get_or table j 0) q ∙ none in absurd (omega (arith, zero, t.3))) in
+        (t.0, omega (arith, t.1, length-set {A = ℕ}), before_last numbers z (pos 0) k l ∙ t.2, get_or-set_other table i t.0 n 0 ne ∙ t.3)
+
+    there : (k : ℕ) → k < length (numbers ++ z ∷ []) → (j : ℕ) × (j < length (set table i n)) × (number_at (numbers ++ z ∷ []) k ≡ low +ℤ pos j) × (get_or (set table i n) j 0 ≡ k + 1)
+    there k l =
+        ⊎_elim
+        (λ (h : (_ × (k ≡ length numbers))). (
+          i,
+          omega (arith, lt, length-set {A = ℕ}),
+          ap (number_at (numbers ++ z ∷ [])) h.1 ∙ last_of numbers z (pos 0) ∙ at,
+          get_or-set_same table i n 0 lt ∙ e ∙ ap (λ m. m + 1) (sym h.1),
+        ))
+        (λ (h : (_ × (k ≢ length numbers))). earlier k (omega (arith, l, h.1, long)))
+        (eqb_tells k (length numbers))
+
+    new_back : (j : ℕ) → j ≡ i → (get_or (set table i n) j 0 ≤ length (numbers ++ z ∷ [])) × (number_at (numbers ++ z ∷ []) (get_or (set table i n) j 0 - 1) ≡ low +ℤ pos j)
+    new_back j h =
+        let is : get_or (set table i n) j 0 ≡ n = ap (λ k. get_or (set table i n) k 0) h ∙ get_or-set_same table i n 0 lt in
+        let place : get_or (set table i n) j 0 - 1 ≡ length numbers = omega (arith, is, e) in
+        (omega (arith, is, e, long), ap (number_at (numbers ++ z ∷ [])) place ∙ last_of numbers z (pos 0) ∙ at ∙ ap (λ k. low +ℤ pos k) (sym h))
+
+    old_back : (j : ℕ) → j ≢ i → j < length table → 0 < get_or (set table i n) j 0 → (get_or (set table i n) j 0 ≤ length (numbers ++ z ∷ [])) × (number_at (numbers ++ z ∷ []) (get_or (set table i n) j 0 - 1) ≡ low +ℤ pos j)
+    old_back j ne l some =
+        let is : get_or (set table i n) j 0 ≡ get_or table j 0 = get_or-set_other table i j n 0 ne in
+        let b = s.back j l (omega (arith, is, some)) in
+        let few : get_or table j 0 - 1 < length numbers = omega (arith, b.0, is, some) in
+        (omega (arith, is, b.0, long), ap (λ m. number_at (numbers ++ z ∷ []) (m - 1)) is ∙ before_last numbers z (pos 0) (get_or table j 0 - 1) few ∙ b.1)
+
+    back : (j : ℕ) → j < length (set table i n) → 0 < get_or (set table i n) j 0 → (get_or (set table i n) j 0 ≤ length (numbers ++ z ∷ [])) × (number_at (numbers ++ z ∷ []) (get_or (set table i n) j 0 - 1) ≡ low +ℤ pos j)
+    back j l some =
+        ⊎_elim
+        (λ (h : (_ × (j ≡ i))). new_back j h.1)
+        (λ (h : (_ × (j ≢ i))). old_back j h.1 (omega (arith, l, length-set {A = ℕ})) some)
+        (eqb_tells j i)

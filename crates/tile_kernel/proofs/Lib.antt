@@ -8,3 +8,5 @@ pub mod Merges
 pub mod Reductions
 pub mod Tellings
 pub mod Keys
+pub mod Pairs
+pub mod Condensing

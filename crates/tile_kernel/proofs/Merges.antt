@@ -28,11 +28,11 @@ use Rattle.tile_kernel.proofs.Orders.{total-permuted, trues-permuted, every-perm
 
 -- ---- values one after the other
 
-total-append : (zs ws : List ℤ) → total (zs ++ ws) ≡ total zs +ℤ total ws
+pub total-append : (zs ws : List ℤ) → total (zs ++ ws) ≡ total zs +ℤ total ws
 total-append [] ws = omega (arith, ints)
 total-append (z ∷ zs) ws = let e = total-append zs ws in omega (arith, ints)
 
-trues-append : (zs ws : List ℤ) → trues (zs ++ ws) ≡ trues zs + trues ws
+pub trues-append : (zs ws : List ℤ) → trues (zs ++ ws) ≡ trues zs + trues ws
 trues-append [] ws = omega arith
 trues-append (z ∷ zs) ws = let e = trues-append zs ws in omega arith
 
@@ -51,11 +51,11 @@ differ_assoc true true false = refl
 differ_assoc true false true = refl
 differ_assoc true false false = refl
 
-every-append : (zs ws : List ℤ) → every (zs ++ ws) ≡ (every zs && every ws)
+pub every-append : (zs ws : List ℤ) → every (zs ++ ws) ≡ (every zs && every ws)
 every-append [] ws = refl
 every-append (z ∷ zs) ws = ap (λ b. is_true z && b) (every-append zs ws) ∙ sym (and_assoc (is_true z) (every zs) (every ws))
 
-any-append : (zs ws : List ℤ) → any (zs ++ ws) ≡ (any zs || any ws)
+pub any-append : (zs ws : List ℤ) → any (zs ++ ws) ≡ (any zs || any ws)
 any-append [] ws = refl
 any-append (z ∷ zs) ws = ap (λ b. is_true z || b) (any-append zs ws) ∙ sym (or_assoc (is_true z) (any zs) (any ws))
 
@@ -71,7 +71,7 @@ size-append : (zs ws : List ℤ) → size_of (zs ++ ws) ≡ size_of zs * size_of
 size-append [] ws = omega arith
 size-append (z ∷ zs) ws = ap (λ n. magnitude_of z * n) (size-append zs ws) ∙ sym (mul_assoc (magnitude_of z) (size_of zs) (size_of ws))
 
-values-append : (a b : List Outcome) → values (a ++ b) ≡ values a ++ values b
+pub values-append : (a b : List Outcome) → values (a ++ b) ≡ values a ++ values b
 values-append [] b = refl
 values-append (Fault f ∷ a) b = values-append a b
 values-append (Value z ∷ a) b = ap (λ l. z ∷ l) (values-append a b)
@@ -143,7 +143,7 @@ keeps_joined Every a b r zs ws o j h g = j.all ∙ ap (λ c. c && b.all) h ∙ a
 keeps_joined Any a b r zs ws o j h g = j.some ∙ ap (λ c. c || b.some) h ∙ ap (λ c. any zs || c) g ∙ sym (any-append zs ws)
 keeps_joined Count a b r zs ws o j h g = j.trues ∙ ap (λ n. n + b.trues) h ∙ ap (λ n. trues zs + n) g ∙ sym (trues-append zs ws)
 
-keeps_permuted : (op : Aggregate) (r : Running) (told ordered : List Told) → IsPermutation told ordered → Keeps op r (values (outcomes told)) → Keeps op r (values (outcomes ordered))
+pub keeps_permuted : (op : Aggregate) (r : Running) (told ordered : List Told) → IsPermutation told ordered → Keeps op r (values (outcomes told)) → Keeps op r (values (outcomes ordered))
 keeps_permuted Sum r told ordered p h = h ∙ total-permuted told ordered p
 keeps_permuted Average r told ordered p h = h ∙ total-permuted told ordered p
 keeps_permuted Product r told ordered p h = record {

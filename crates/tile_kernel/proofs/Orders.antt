@@ -90,6 +90,9 @@ times_exchange a b c = sym (mul_assoc a b c) ∙ ap (λ k. k * c) (mul_comm a b)
 pub total-permuted : (told more : List Told) → IsPermutation told more → total (values (outcomes told)) ≡ total (values (outcomes more))
 total-permuted = values_permuted (λ z b. z +ℤ b) total (λ z zs. refl) (λ x y b. omega (arith, ints))
 
+pub length-permuted : (told more : List Told) → IsPermutation told more → length (values (outcomes told)) ≡ length (values (outcomes more))
+length-permuted = values_permuted (λ z b. suc b) length (λ z zs. refl) (λ x y b. refl)
+
 pub trues-permuted : (told more : List Told) → IsPermutation told more → trues (values (outcomes told)) ≡ trues (values (outcomes more))
 trues-permuted = values_permuted (λ z b. cond (is_true z) 1 0 + b) trues (λ z zs. refl) (λ x y b. omega arith)
 

@@ -1,5 +1,5 @@
 -- Results that lie in 64 bits.
-use Rattle.std.proofs.Common.{◌≡◌, ◌-◌, ◌≤◌, ◌^◌, unsigned_abs, arith, ℤ, pos, negsuc, ◌*ℤ◌, ap, sym, ◌∙◌, w64, to_z, FitsSigned, SFits, cond, Bool, false, subst, of_z}
+use Rattle.std.proofs.Common.{◌≡◌, ◌≤◌, ◌^◌, unsigned_abs, arith, ℤ, pos, negsuc, ◌*ℤ◌, ap, sym, ◌∙◌, w64, to_z, FitsSigned, SFits, cond, Bool, false, subst, of_z}
 use Rattle.std.specs.Int.{w32, int_wrapping_mul}
 use Rattle.std.specs.Bool.{FalseIff}
 use Rattle.wcps_mean.specs.declared.cell.Outcome.{Outcome}

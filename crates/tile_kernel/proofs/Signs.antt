@@ -57,7 +57,7 @@ two_bits a b c p q i j k e f h = by_lt (a + c) 1 (λ l. inl (omega arith)) (λ g
 pub below_64 : (z : ℤ) → SFits w64 z → of_z w64 z < 2 ^ 64
 below_64 z f = let g : Fits w64 (of_z w64 z) = Fits-of_z f in omega arith
 
-mask_below : (a b : ℕ) → a < 2 ^ 64 → bit_and a b < 2 ^ 64
+pub mask_below : (a b : ℕ) → a < 2 ^ 64 → bit_and a b < 2 ^ 64
 mask_below a b h = let e = and_le_l a b in omega arith
 
 -- a sum whose mark is not negative did not wrap

@@ -35,13 +35,17 @@ get_or-told_at [] (q ∷ os) k p o d h lt = absurd (omega arith)
 get_or-told_at (q ∷ ps) (r ∷ os) zero p o d h lt = refl
 get_or-told_at (q ∷ ps) (r ∷ os) (suc k) p o d h lt = get_or-told_at ps os k p o d (omega arith) (omega arith)
 
-pub told_more : (ps : List ℕ) (os : List Outcome) (k p : ℕ) (o : Outcome) (a b : Accumulator) → length ps ≡ length os → k < length os → p ≡ get_or ps k 0 → slice_get os k ≡ Some o
-    → ((told : List Told) → Stands a told → Stands b (told ++ (p, o) ∷ [])) → Stands a (take k (told_at ps os)) → Stands b (take (k + 1) (told_at ps os))
-told_more ps os k p o a b h lt e f step s =
+pub told_next : (ps : List ℕ) (os : List Outcome) (k p : ℕ) (o : Outcome) (before after : List Told → Type 0) → length ps ≡ length os → k < length os → p ≡ get_or ps k 0 → slice_get os k ≡ Some o
+    → ((told : List Told) → before told → after (told ++ (p, o) ∷ [])) → before (take k (told_at ps os)) → after (take (k + 1) (told_at ps os))
+told_next ps os k p o before after h lt e f step s =
     let n = length-told_at ps os h in
     let there : outcome_at os k ≡ o = outcome_there os k o f in
     let here : get_or (told_at ps os) k (p, o) ≡ (p, o) = get_or-told_at ps os k 0 (Value (pos 0)) (p, o) h lt ∙ ap (λ q. (q, outcome_at os k)) (sym e) ∙ ap (λ x. (p, x)) there in
-    subst (Stands b) (sym (take_more (told_at ps os) k (p, o) (omega arith) ∙ ap (λ t. take k (told_at ps os) ++ t ∷ []) here)) (step (take k (told_at ps os)) s)
+    subst after (sym (take_more (told_at ps os) k (p, o) (omega arith) ∙ ap (λ t. take k (told_at ps os) ++ t ∷ []) here)) (step (take k (told_at ps os)) s)
+
+pub told_more : (ps : List ℕ) (os : List Outcome) (k p : ℕ) (o : Outcome) (a b : Accumulator) → length ps ≡ length os → k < length os → p ≡ get_or ps k 0 → slice_get os k ≡ Some o
+    → ((told : List Told) → Stands a told → Stands b (told ++ (p, o) ∷ [])) → Stands a (take k (told_at ps os)) → Stands b (take (k + 1) (told_at ps os))
+told_more ps os k p o a b = told_next ps os k p o (Stands a) (Stands b)
 
 -- ---- under a condition
 
@@ -71,8 +75,11 @@ whole zero (x ∷ xs) h = absurd (omega arith)
 whole (suc n) [] h = refl
 whole (suc n) (x ∷ xs) h = ap (λ l. x ∷ l) (whole n xs (omega arith))
 
+pub told_all : (ps : List ℕ) (os : List Outcome) (k : ℕ) (stands : List Told → Type 0) → length ps ≡ length os → length os ≤ k → stands (take k (told_at ps os)) → stands (told_at ps os)
+told_all ps os k stands h le s = let n = length-told_at ps os h in subst stands (whole k (told_at ps os) (omega arith)) s
+
 pub told_whole : (ps : List ℕ) (os : List Outcome) (k : ℕ) (a : Accumulator) → length ps ≡ length os → length os ≤ k → Stands a (take k (told_at ps os)) → Stands a (told_at ps os)
-told_whole ps os k a h le s = let n = length-told_at ps os h in subst (Stands a) (whole k (told_at ps os) (omega arith)) s
+told_whole ps os k a = told_all ps os k (Stands a)
 
 pub demanded_whole : (ps : List ℕ) (cs os : List Outcome) (k : ℕ) (a : Accumulator) → length ps ≡ length os → length cs ≡ length os → length os ≤ k → Stands a (demanded_at (take k ps) (take k cs) (take k os)) → Stands a (demanded_at ps cs os)
 demanded_whole ps cs os k a h g le s =
@@ -193,10 +200,10 @@ few_demanded (p ∷ ps) (Fault f ∷ cs) (o ∷ os) = let h = few_demanded ps cs
 -- ---- an accumulator at each place
 
 -- one more place of a column
-pub each_more : (folds : List Accumulator) (P : ℕ → Accumulator → Accumulator → Type 0) (place : ℕ) (m : Accumulator) → place < length folds
-    → ((k : ℕ) (d : Accumulator) → k < place → P k d (get_or folds k d)) → ((d : Accumulator) → P place d m) → (k : ℕ) (d : Accumulator) → k < place + 1 → P k d (get_or (set folds place m) k d)
-each_more folds P place m lt h here k d l =
-    below_more (λ k. (d : Accumulator) → P k d (get_or (set folds place m) k d)) place
+pub each_more : {X : Type 0} (folds : List X) (P : ℕ → X → X → Type 0) (place : ℕ) (m : X) → place < length folds
+    → ((k : ℕ) (d : X) → k < place → P k d (get_or folds k d)) → ((d : X) → P place d m) → (k : ℕ) (d : X) → k < place + 1 → P k d (get_or (set folds place m) k d)
+each_more {X} folds P place m lt h here k d l =
+    below_more (λ k. (d : X) → P k d (get_or (set folds place m) k d)) place
     (λ k l d. let ne : k ≢ place = omega arith in subst (P k d) (sym (get_or-set_other folds place k m d ne)) (h k d l))
     (λ d. subst (P place d) (sym (get_or-set_same folds place m d lt)) (here d))
     k l d

@@ -4,3 +4,5 @@ pub mod Told
 pub mod Joins
 pub mod Standing
 pub mod Keyed
+pub mod Lanes
+pub mod Condensing

@@ -63,6 +63,17 @@ impl Accumulator {
         ensures op { self.new.running.op ≡ self.old.running.op }
         ensures count { self.new.running.count ≡ self.old.running.count + other.running.count }
     {
+        self.take_over(&other);
+    }
+
+    /// Takes in the points that another accumulator of the same kind was told, which keeps them.
+    pub fn take_over(&mut self, other: &Accumulator)
+        requires op { self.old.running.op ≡ other.now.running.op }
+        requires room { self.old.running.count + other.now.running.count ≤ 2 ^ 24 }
+        ensures stands { (more : List Told) → Stands other.now more → TakesIn self.old self.new more }
+        ensures op { self.new.running.op ≡ self.old.running.op }
+        ensures count { self.new.running.count ≡ self.old.running.count + other.now.running.count }
+    {
         let first = least_fault(self.placed(), other.placed());
         self.running = joined(&self.running, &other.running, first.fault);
         self.place = first.place;
@@ -111,13 +122,13 @@ impl Accumulator {
 
 /// A fault, if there is one, and its place.
 #[derive(Clone, Copy)]
-struct Placed {
-    fault: Option<PointFault>,
-    place: u64,
+pub(crate) struct Placed {
+    pub fault: Option<PointFault>,
+    pub place: u64,
 }
 
 /// The fault at the lower place of two.
-fn least_fault(a: Placed, b: Placed) -> Placed
+pub(crate) fn least_fault(a: Placed, b: Placed) -> Placed
     ensures { HoldsOfBoth (IsFirst a.fault a.place) (IsFirst b.fault b.place) (IsFirst result.fault result.place) }
 {
     match a.fault {

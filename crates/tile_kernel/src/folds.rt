@@ -10,9 +10,12 @@ ghost use Rattle.tile_kernel.specs.Standing.{StandsAnywhere, IsCondensedWhere};
 use crate::accumulator::Accumulator;
 use crate::choice::{Always, Choice, Where};
 use crate::column::Column;
+use crate::condenser::{Condensed, condense};
 use crate::form::Form;
 use crate::operand::{Each, Same};
 use crate::reduce::condense_values;
+use crate::summaries::{AllTrue, Factors, Greatest, Least, Mean, SomeTrue, Total, Trues};
+use crate::summary::Summary;
 use wcps_mean::{Outcome, is_set};
 use wcps_text::Aggregate;
 
@@ -87,11 +90,26 @@ fn fold_each(op: Aggregate, column: &Column, places: &[u64]) -> Accumulator
     ensures op { result.running.op ≡ op }
     ensures count { result.running.count ≡ length column.now }
 {
-    let mut accumulator = Accumulator::empty(op);
-    for k in 0..column.len() {
-        accumulator.add(places[k], column.at(k));
+    match op {
+        Aggregate::Sum => fold_by::<Total>(column, places),
+        Aggregate::Product => fold_by::<Factors>(column, places),
+        Aggregate::Greatest => fold_by::<Greatest>(column, places),
+        Aggregate::Least => fold_by::<Least>(column, places),
+        Aggregate::Every => fold_by::<AllTrue>(column, places),
+        Aggregate::Any => fold_by::<SomeTrue>(column, places),
+        Aggregate::Count => fold_by::<Trues>(column, places),
+        Aggregate::Average => fold_by::<Mean>(column, places),
     }
-    accumulator
+}
+
+/// The accumulator of a column, by the condenser that keeps this summary.
+fn fold_by<S: Summary>(column: &Column, places: &[u64]) -> Accumulator
+    requires { length places.now ≡ length column.now }
+    ensures stands { Stands result (told_at places.now column.now) }
+    ensures op { result.running.op ≡ S.op }
+    ensures count { result.running.count ≡ length column.now }
+{
+    condense::<Condensed<S>>(column, places).accumulator(column.len() as u32)
 }
 
 /// Each accumulator is told of one more point, that with this place in the box of all of them: the k-th of the outcome

@@ -34,7 +34,7 @@ pub(crate) fn joined(a: &Running, b: &Running, fault: Option<PointFault>) -> Run
 }
 
 /// The product of two products.
-fn product_of(a: Product, b: Product) -> Product
+pub(crate) fn product_of(a: Product, b: Product) -> Product
     ensures { HoldsOfBoth (StandsFor a) (StandsFor b) (StandsFor result) }
 {
     Product {
@@ -59,7 +59,7 @@ fn capped(m: u64, n: u64) -> u64
 }
 
 /// The better of two values, where there are such.
-fn best_of(op: Aggregate, a: Option<i64>, b: Option<i64>) -> Option<i64>
+pub(crate) fn best_of(op: Aggregate, a: Option<i64>, b: Option<i64>) -> Option<i64>
     ensures { result ≡ best_both op a b }
 {
     match a {
@@ -96,14 +96,14 @@ pub(crate) fn smaller(x: i64, y: i64) -> i64
 }
 
 /// Whether both are true.
-fn both(a: bool, b: bool) -> bool
+pub(crate) fn both(a: bool, b: bool) -> bool
     ensures { result ≡ (a && b) }
 {
     if a { b } else { false }
 }
 
 /// Whether one is true.
-fn either(a: bool, b: bool) -> bool
+pub(crate) fn either(a: bool, b: bool) -> bool
     ensures { result ≡ (a || b) }
 {
     if a { true } else { b }

@@ -5,10 +5,13 @@
 mod accumulator;
 mod choice;
 mod column;
+mod condenser;
 mod folds;
 mod form;
 mod joined;
 mod keyed;
+mod lane_operations;
+mod lanes;
 mod loops;
 mod operand;
 mod operate;
@@ -16,10 +19,13 @@ mod operate_one;
 mod operations;
 mod reduce;
 mod slots;
+mod summaries;
+mod summary;
 mod trial;
 
 pub use accumulator::Accumulator;
 pub use column::{Column, MAX_PLACES};
+pub use condenser::{Condensed, Condenser, condense, finish_both, tell_each};
 pub use folds::{
     add_column, add_column_where, fold_column, fold_column_where, fold_values, fold_values_where,
 };
@@ -27,3 +33,5 @@ pub use keyed::{Numbers, add_keyed};
 pub use operate::operate_columns;
 pub use operate_one::operate_column;
 pub use slots::Slots;
+pub use summaries::{AllTrue, Factors, Greatest, Least, Mean, SomeTrue, Total, Trues};
+pub use summary::Summary;

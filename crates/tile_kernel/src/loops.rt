@@ -1,6 +1,6 @@
 //! The loop of a kernel.
 
-ghost use Rattle.std.specs.Prelude.{◌≤◌, length, IsTrue};
+ghost use Rattle.std.specs.Prelude.{◌≤◌, ◌≤ℤ◌, pos, length, IsTrue};
 ghost use Rattle.tile_kernel.specs.Columns.{AreValues};
 
 use crate::operand::Operand;
@@ -18,8 +18,28 @@ pub(crate) fn try_places<O: Trial, L: Operand, R: Operand>(
     requires out { len ≤ length out.old }
     ensures { IsTrue result → AreValues len (λ k. O.exact (L.value left.now k) (R.value right.now k)) out.new }
 {
-    let mut marks: i64 = 0;
-    for place in 0..len {
+    try_from::<O, L, R>(0, len, left, right, out, 0)
+}
+
+/// Tries an operation at the places from one on, where a mark tells of those before; tells whether each result is the
+/// operation's value.
+pub(crate) fn try_from<O: Trial, L: Operand, R: Operand>(
+    from: usize,
+    len: usize,
+    left: &L,
+    right: &R,
+    out: &mut [i64],
+    mark: i64,
+) -> bool
+    requires from { from ≤ len }
+    requires left { len ≤ L.places left.now }
+    requires right { len ≤ R.places right.now }
+    requires out { len ≤ length out.old }
+    requires before { pos 0 ≤ℤ mark → AreValues from (λ k. O.exact (L.value left.now k) (R.value right.now k)) out.old }
+    ensures { IsTrue result → AreValues len (λ k. O.exact (L.value left.now k) (R.value right.now k)) out.new }
+{
+    let mut marks = mark;
+    for place in from..len {
         let tried = O::tried(left.value(place), right.value(place));
         out[place] = tried.value;
         marks |= tried.mark;

@@ -1,6 +1,9 @@
 //! Operands of a kernel: a value at each place, or one at every place.
 
-ghost use Rattle.std.specs.Prelude.{◌≡◌, ℕ, ℤ, pos, ◌<◌, length, slice_index_or};
+ghost use Rattle.std.specs.Prelude.{◌≡◌, ℕ, ℤ, pos, ◌+◌, ◌<◌, ◌≤◌, length, slice_index_or};
+ghost use Rattle.tile_kernel.specs.Lanes.{IsPair, AreAt};
+
+use std::simd::prelude::*;
 
 /// The values that a kernel reads.
 pub(crate) trait Operand {
@@ -12,6 +15,12 @@ pub(crate) trait Operand {
     fn value(&self, place: usize) -> i64
         requires { place < places self.now }
         ensures { result ≡ value self.now place };
+
+    /// The values at a place and at the next one.
+    fn pair(&self, place: usize) -> i64x2
+        requires { place + 2 ≤ places self.now }
+        ensures lanes { IsPair result }
+        ensures values { AreAt (value self.now) place result };
 }
 
 /// A value at each place.
@@ -27,6 +36,10 @@ impl Operand for Each<'_> {
 
     fn value(&self, place: usize) -> i64 {
         self.values[place]
+    }
+
+    fn pair(&self, place: usize) -> i64x2 {
+        i64x2::from_array([self.values[place], self.values[place + 1]])
     }
 }
 
@@ -44,6 +57,10 @@ impl Operand for Same {
     fn value(&self, _: usize) -> i64 {
         self.value
     }
+
+    fn pair(&self, _: usize) -> i64x2 {
+        i64x2::splat(self.value)
+    }
 }
 
 /// The same value at every place, one that the compiler knows.
@@ -57,5 +74,9 @@ impl<const VALUE: u32> Operand for Literal<VALUE> {
 
     fn value(&self, _: usize) -> i64 {
         VALUE as i64
+    }
+
+    fn pair(&self, _: usize) -> i64x2 {
+        i64x2::splat(self.value(0))
     }
 }

@@ -7,6 +7,7 @@ ghost use Rattle.tile_kernel.specs.Columns.{operate_all, each2, each_with, AreVa
 
 use crate::column::{Column, parts};
 use crate::form::Form;
+use crate::lanes::try_lanes;
 use crate::loops::try_places;
 use crate::operand::{Each, Literal, Operand, Same};
 use crate::operations::{
@@ -144,17 +145,17 @@ fn try_operation<L: Operand, R: Operand>(
     match op {
         BinaryOperator::Multiply => try_product(len, left, right, out),
         BinaryOperator::Divide => try_places::<Quotient, L, R>(len, left, right, out),
-        BinaryOperator::Add => try_places::<Sum, L, R>(len, left, right, out),
-        BinaryOperator::Subtract => try_places::<Difference, L, R>(len, left, right, out),
-        BinaryOperator::Less => try_places::<IsLess, L, R>(len, left, right, out),
-        BinaryOperator::LessEqual => try_places::<IsAtMost, L, R>(len, left, right, out),
-        BinaryOperator::Greater => try_places::<IsGreater, L, R>(len, left, right, out),
-        BinaryOperator::GreaterEqual => try_places::<IsAtLeast, L, R>(len, left, right, out),
-        BinaryOperator::Equal => try_places::<IsEqual, L, R>(len, left, right, out),
-        BinaryOperator::NotEqual => try_places::<IsOther, L, R>(len, left, right, out),
-        BinaryOperator::And => try_places::<Both, L, R>(len, left, right, out),
-        BinaryOperator::Or => try_places::<Either, L, R>(len, left, right, out),
-        BinaryOperator::Xor => try_places::<OneOnly, L, R>(len, left, right, out),
+        BinaryOperator::Add => try_lanes::<Sum, L, R>(len, left, right, out),
+        BinaryOperator::Subtract => try_lanes::<Difference, L, R>(len, left, right, out),
+        BinaryOperator::Less => try_lanes::<IsLess, L, R>(len, left, right, out),
+        BinaryOperator::LessEqual => try_lanes::<IsAtMost, L, R>(len, left, right, out),
+        BinaryOperator::Greater => try_lanes::<IsGreater, L, R>(len, left, right, out),
+        BinaryOperator::GreaterEqual => try_lanes::<IsAtLeast, L, R>(len, left, right, out),
+        BinaryOperator::Equal => try_lanes::<IsEqual, L, R>(len, left, right, out),
+        BinaryOperator::NotEqual => try_lanes::<IsOther, L, R>(len, left, right, out),
+        BinaryOperator::And => try_lanes::<Both, L, R>(len, left, right, out),
+        BinaryOperator::Or => try_lanes::<Either, L, R>(len, left, right, out),
+        BinaryOperator::Xor => try_lanes::<OneOnly, L, R>(len, left, right, out),
         BinaryOperator::Bit => try_places::<BitSet, L, R>(len, left, right, out),
     }
 }

@@ -9,7 +9,9 @@ use Rattle.arr_core.specs.declared.domain.Axis.{Axis}
 use Rattle.arr_core.specs.Domains.{points, count, rank_of, point_at, AreOrdered, IsInside, IsBoxOf, is_inside}
 use Rattle.arr_core.specs.Tiles.{tile_boxes, IsInTile}
 use Rattle.arr_core.proofs.Grids.{in-no-other, in-own-tile}
-use Rattle.run_tile.specs.Runs.{IsSpelling}
+use Rattle.file_bytes.specs.declared.form.Form.{Form}
+use Rattle.file_bytes.specs.declared.form.Form.TheVariants.{Runs, Raw}
+use Rattle.run_tile.specs.Raw.{Spells}
 use Rattle.tile_index.specs.declared.entry.Entry.{Entry}
 use Rattle.tile_index.specs.Index.{found_at}
 use Rattle.block_file.specs.State.{BlocksState, block_at}
@@ -28,17 +30,18 @@ use Rattle.tile_store.proofs.Rows.{inside_cases, overlaid_same}
 use Rattle.tile_store.proofs.Kept.{data_same, padded_same, map_same, number_kept}
 
 -- a spelling is read as what it spells
-pub spelled_cells : (kind : FieldType) (bytes : List ℕ) (cells : List ℤ) → IsSpelling kind bytes cells → cells_read kind bytes ≡ cells
+spelled_cells : (form : Form) (kind : FieldType) (bytes : List ℕ) (cells : List ℤ) → Spells form kind bytes cells → cells_read form kind bytes ≡ cells
 unfolding cells_read
-spelled_cells kind bytes cells s = sym s.cells_are
+spelled_cells Runs kind bytes cells s = sym s.cells_are
+spelled_cells Raw kind bytes cells s = sym s.cells_are
 
 -- a tile whose bytes spell cells has them, and is spelled
-spelled_some : (kind : FieldType) (content : List ℕ) (e : Entry) (bytes : List ℕ) (cells : List ℤ) → bytes ≡ entry_data content e → IsSpelling kind bytes cells → HasCells kind content (Some e) cells × EntrySpells kind content (Some e) (length cells)
+spelled_some : (kind : FieldType) (content : List ℕ) (e : Entry) (bytes : List ℕ) (cells : List ℤ) → bytes ≡ entry_data content e → Spells e.form kind bytes cells → HasCells kind content (Some e) cells × EntrySpells kind content (Some e) (length cells)
 spelled_some kind content e bytes cells is s =
-    let there : cells_read kind (entry_data content e) ≡ cells = rw (← is) (spelled_cells kind bytes cells s) in
+    let there : cells_read e.form kind (entry_data content e) ≡ cells = rw (← is) (spelled_cells e.form kind bytes cells s) in
     (λ i. rw there refl, λ e' some. (let other : e ≡ e' = cc in rw (← other, there, ← is) (s, refl)))
 
-pub written_some : (kind : FieldType) (content : List ℕ) (e : Entry) (bytes : List ℕ) (cells : List ℤ) → bytes ≡ entry_data content e → IsSpelling kind bytes cells → length e.blocks ≡ tile_blocks kind cells → IsPadded content e → IsWritten kind content (Some e) cells
+pub written_some : (kind : FieldType) (content : List ℕ) (e : Entry) (bytes : List ℕ) (cells : List ℤ) → bytes ≡ entry_data content e → Spells e.form kind bytes cells → length e.blocks ≡ tile_blocks kind cells → IsPadded content e → IsWritten kind content (Some e) cells
 written_some kind content e bytes cells is s size padded = record {
   has = (spelled_some kind content e bytes cells is s).0;
   spelled = (spelled_some kind content e bytes cells is s).1;
@@ -46,10 +49,10 @@ written_some kind content e bytes cells is s size padded = record {
   padded = λ e' some. (let other : e ≡ e' = cc in rw (← other) padded);
 }
 
-pub read_some : (kind : FieldType) (n : ℕ) (s : BlocksState) (entry : Option Entry) (e : Entry) (bytes : List ℕ) (cells : List ℤ) → entry ≡ Some e → (IsTrue s.honest → bytes ≡ entry_data s.content e) → IsSpelling kind bytes cells → length cells ≡ n → IsRead kind n s entry cells
+pub read_some : (kind : FieldType) (n : ℕ) (s : BlocksState) (entry : Option Entry) (e : Entry) (bytes : List ℕ) (cells : List ℤ) → entry ≡ Some e → (IsTrue s.honest → bytes ≡ entry_data s.content e) → Spells e.form kind bytes cells → length cells ≡ n → IsRead kind n s entry cells
 read_some kind n s entry e bytes cells some is spells size = rw (some, ← size) (record {
   counted = refl;
-  fit = fits_spelled kind bytes cells spells;
+  fit = fits_spelled e.form kind bytes cells spells;
   has = λ honest. (spelled_some kind s.content e bytes cells (is honest) spells).0;
   spelled = λ honest. (spelled_some kind s.content e bytes cells (is honest) spells).1;
 })

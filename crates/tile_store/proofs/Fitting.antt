@@ -17,19 +17,27 @@ use Rattle.arr_core.specs.declared.cell.FieldType.{FieldType}
 use Rattle.arr_core.specs.declared.cell.FieldType.TheVariants as kind
 use Rattle.arr_core.specs.Cells.{Fits}
 use Rattle.run_tile.specs.declared.run.Run.{Run}
+use Rattle.file_bytes.specs.declared.form.Form.{Form}
+use Rattle.file_bytes.specs.declared.form.Form.TheVariants.{Runs, Raw}
 use Rattle.run_tile.specs.Runs.{IsSpelling, run_at, run_count, first_runs, cells_of}
+use Rattle.run_tile.specs.Raw.{Spells}
 
 all-runs : (P : ℤ → Type 0) (runs : List Run) → All (λ (r : Run). P r.value) runs → All P (flat_map (λ (r : Run). replicate r.count r.value) runs)
 all-runs P [] h = All-nil P
 all-runs P (r ∷ runs) h =
     rw flat_map-cons (All-append P (replicate r.count r.value) _ (All-replicate P r.count r.value (h 0 r (omega arith))) (all-runs P runs (λ i d lt. h (suc i) d (omega (arith, lt)))))
 
--- cells that are spelled
-pub fits_spelled : (k : FieldType) (bytes : List ℕ) (cells : List ℤ) → IsSpelling k bytes cells → All (Fits k) cells
+-- cells that are spelled in runs
+fits_runs : (k : FieldType) (bytes : List ℕ) (cells : List ℤ) → IsSpelling k bytes cells → All (Fits k) cells
 unfolding cells_of first_runs
-fits_spelled k bytes cells s = rw s.cells_are (all-runs (Fits k) (first_runs k bytes (run_count k bytes)) (λ i d h.
+fits_runs k bytes cells s = rw s.cells_are (all-runs (Fits k) (first_runs k bytes (run_count k bytes)) (λ i d h.
     let below : i < run_count k bytes = omega (arith, h, length-map-range_with_len (run_at k bytes) 0 (run_count k bytes)) in
     rw (get_or-map-range_with_len (run_at k bytes) 0 (run_count k bytes) i i d below (omega arith)) (s.runs i below).2))
+
+-- cells that are spelled in a form
+pub fits_spelled : (f : Form) (k : FieldType) (bytes : List ℕ) (cells : List ℤ) → Spells f k bytes cells → All (Fits k) cells
+fits_spelled Runs k bytes cells s = fits_runs k bytes cells s
+fits_spelled Raw k bytes cells s = s.fit
 
 -- 0 is in each range
 pub fits_zero : (k : FieldType) → Fits k (pos 0)

@@ -4,14 +4,13 @@ use Rattle.std.proofs.lemmas.List.Concat.{flat_map-cons}
 use Rattle.arr_core.specs.declared.cell.FieldType.{FieldType}
 use Rattle.arr_core.specs.declared.domain.Axis.{Axis}
 use Rattle.arr_core.specs.Domains.{points, count}
-use Rattle.run_tile.specs.Runs.{IsSpelling}
 use Rattle.tile_index.specs.declared.entry.Entry.{Entry}
 use Rattle.tile_index.specs.Index.{found_at}
 use Rattle.block_file.specs.State.{BlocksState, block, block_at, times, none}
 use Rattle.block_file.specs.Words.{Moves}
 use Rattle.block_file.proofs.Times.{one_same, times-cons}
 use Rattle.tile_store.specs.Listing.{listed, IsSound}
-use Rattle.tile_store.specs.Stored.{entry_data, IsPadded, cells_read, tile_cells, tile_box, tile_number, number_at, field_values, IsTileSpelled, IsSpelled, KeepsListed}
+use Rattle.tile_store.specs.Stored.{entry_data, IsPadded, cells_read, SpellsMany, tile_cells, tile_box, tile_number, number_at, field_values, IsTileSpelled, IsSpelled, KeepsListed}
 use Rattle.tile_store.proofs.Listed.{listed_found}
 
 -- bytes of blocks that hold the same
@@ -44,7 +43,7 @@ padded_kept index old new tile e kept found =
 -- the cells of a tile, listed or not
 pub cells_kept : (kind : FieldType) (index : List (ℕ × Entry)) (old new : List ℕ) (tile : ℕ) (o : Option Entry) → KeepsListed index old new → found_at tile index ≡ o → tile_cells kind new o ≡ tile_cells kind old o
 cells_kept kind index old new tile None kept found = refl
-cells_kept kind index old new tile (Some e) kept found = ap (cells_read kind) (data_kept index old new tile e kept found)
+cells_kept kind index old new tile (Some e) kept found = ap (cells_read e.form kind) (data_kept index old new tile e kept found)
 
 -- the number at a point
 pub number_kept : (kind : FieldType) (domain : List Axis) (index : List (ℕ × Entry)) (old new : List ℕ) → KeepsListed index old new → (p : List ℤ) → number_at kind domain index new p ≡ number_at kind domain index old p
@@ -64,7 +63,7 @@ values_kept kind domain index old new kept = map_same (number_at kind domain ind
 -- Where the listed blocks hold what they held, they spell what they spelled.
 pub tile_kept : (kind : FieldType) (domain : List Axis) (index : List (ℕ × Entry)) (old new : List ℕ) (tile : ℕ) → KeepsListed index old new → IsTileSpelled kind domain index old tile → IsTileSpelled kind domain index new tile
 tile_kept kind domain index old new tile kept spelled e found =
-    subst (λ (bytes : List ℕ). IsSpelling kind bytes (cells_read kind bytes) × (length (cells_read kind bytes) ≡ count (tile_box domain tile))) (sym (data_kept index old new tile e kept found)) (spelled e found)
+    subst (λ (bytes : List ℕ). SpellsMany e.form kind bytes (count (tile_box domain tile))) (sym (data_kept index old new tile e kept found)) (spelled e found)
 
 pub spelled_kept : (kind : FieldType) (domain : List Axis) (index : List (ℕ × Entry)) (old new : List ℕ) → KeepsListed index old new → IsSpelled kind domain index old → IsSpelled kind domain index new
 unfolding IsSpelled

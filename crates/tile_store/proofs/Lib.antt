@@ -1,5 +1,5 @@
 pub mod Listed
-mod Takes
+pub mod Takes
 pub mod Kept
 mod Rows
 mod Fitting

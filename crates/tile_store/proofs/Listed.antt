@@ -20,6 +20,9 @@ listed_found t (x ∷ xs) k = elim (cases_Bool (t == x.0)) [
 pub found_covered : (index : List (ℕ × Entry)) (s : BlocksState) (t : ℕ) (entry : Option Entry) → entry ≡ found_at t index → Covers s (listed index) → Covers s (entry_times entry)
 found_covered index s t entry is covers k = rw is (omega (arith, listed_found t index k, covers k))
 
+pub found_times : (index : List (ℕ × Entry)) (t : ℕ) (entry : Option Entry) → entry ≡ found_at t index → (k : ℕ) → entry_times entry k ≤ listed index k
+found_times index t entry is k = rw is (listed_found t index k)
+
 -- one more entry
 pub listed_part : (entries : List (ℕ × Entry)) (i : ℕ) (x : ℕ × Entry) (k : ℕ) → i < length entries → x ≡ get_or entries i x → listed (take (i + 1) entries) k ≡ listed (take i entries) k + times x.1.blocks k
 unfolding listed

@@ -19,7 +19,8 @@ use Rattle.tile_index.specs.Entries.{IsEntry}
 use Rattle.tile_index.specs.Index.{found_at, IsIndex}
 use Rattle.tile_store.specs.declared.numbers.Patch.{Patch}
 use Rattle.tile_store.specs.declared.update.Fresh.{Fresh}
-use Rattle.tile_store.specs.Listing.{tiles_of, IsSound, Takes}
+use Rattle.tile_store.specs.Listing.{listed, tiles_of, IsSound, Takes}
+use Rattle.tile_store.proofs.Takes.{reads_whole}
 use Rattle.tile_store.specs.Patches.{CoversTile, MeetsTile, IsSpelledFor, numbers_of, values_for, patched, IsPatched}
 use Rattle.tile_store.specs.Room.{entry_blocks, tile_blocks, patched_at}
 use Rattle.tile_store.specs.Stored.{tile_box, tile_number, number_at, field_values, KeepsListed}
@@ -115,8 +116,14 @@ sizes_written weight kind content cells (x ∷ xs) all =
 pub keeps_taken : (domain : List Axis) (index : List (ℕ × Entry)) (taken : List ℕ) (old new : BlocksState) → IsSound domain old index → IsTrue old.honest → Takes [] taken old new → KeepsListed index old.content new.content
 keeps_taken domain index taken old new sound honest t = keeps_listed domain index none (λ k. times taken k - times [] k) old new sound honest (λ k some. omega (arith, some, sound.counted k)) t.moves
 
+-- what a field lists is whole while blocks are taken, so its tiles are read inside
+pub reads_taken : (domain : List Axis) (index : List (ℕ × Entry)) (taken : List ℕ) (start now mid : BlocksState) → IsSound domain start index → Takes [] taken start now → OnlyReads (listed index) now mid → OnlyReads none now mid
+reads_taken domain index taken start now mid sound t = reads_whole (listed index) now mid (λ h k some.
+    let was : IsTrue start.honest = rw t.moves.honest at h in
+    rw (keeps_taken domain index taken start now sound was t k some) (sound.whole was k some))
+
 -- the blocks taken hold what they held while more are taken
-still_held : (taken taken' : List ℕ) (start now mid new : BlocksState) → Takes [] taken start now → OnlyReads now mid → Takes taken taken' mid new → (k : ℕ) → 0 < times taken k → length (block now k) ≡ 4096 → block new k ≡ block now k
+still_held : (taken taken' : List ℕ) (start now mid new : BlocksState) → Takes [] taken start now → OnlyReads none now mid → Takes taken taken' mid new → (k : ℕ) → 0 < times taken k → length (block now k) ≡ 4096 → block new k ≡ block now k
 still_held taken taken' start now mid new t reads step k some whole =
     let same : block mid k ≡ block now k = ap (λ (c : List ℕ). block_at c k) reads.content in
     let used : 0 < mid.uses k = rw reads.uses (omega (arith, some, t.moves.uses k, times_none k)) in
@@ -124,7 +131,7 @@ still_held taken taken' start now mid new t reads step k some whole =
 
 -- one tile more is written
 pub more_written : (u : Patch) (start now mid new : BlocksState) (index : List (ℕ × Entry)) (tiles : List ℕ) (i : ℕ) (fresh fresh' : Fresh) (entry : Option Entry) (cells : List ℤ) → i < length tiles → IsSound u.domain.now start index
-    → Takes [] fresh.blocks.items start now → OnlyReads now mid → Takes fresh.blocks.items fresh'.blocks.items mid new → AreWritten u start index (take i tiles) fresh now
+    → Takes [] fresh.blocks.items start now → OnlyReads none now mid → Takes fresh.blocks.items fresh'.blocks.items mid new → AreWritten u start index (take i tiles) fresh now
     → AreAfter u now index (get_or tiles i 0) cells → IsNewTile u.kind new fresh.blocks.items fresh'.blocks.items cells entry → fresh'.changes.items ≡ fresh.changes.items ++ (get_or tiles i 0, entry) ∷ []
     → AreWritten u start index (take (i + 1) tiles) fresh' new
 more_written u start now mid new index tiles i fresh fresh' entry cells h sound t reads step w after n items =

@@ -4,8 +4,10 @@ use Rattle.std.proofs.lemmas.List.{length-map}
 use Rattle.std.proofs.lemmas.List.Sums.{sum_by-cons, sum_by-le}
 use Rattle.std.proofs.lemmas.List.Concat.{length-flat_map}
 use Rattle.tile_index.specs.declared.entry.Entry.{Entry}
-use Rattle.tile_index.specs.Bytes.{number_bytes, entry_bytes, index_bytes}
-use Rattle.tile_index.specs.Entries.{IsEntry, blocks_filled}
+use Rattle.tile_index.specs.Bytes.{number_bytes, length_number, entry_bytes, index_bytes}
+use Rattle.file_bytes.specs.declared.form.Form.{Form}
+use Rattle.file_bytes.specs.declared.form.Form.TheVariants.{Runs, Raw}
+use Rattle.tile_index.specs.Entries.{IsEntry, blocks_filled, most_bytes}
 use Rattle.tile_index.specs.Index.{found_at, changed_at, IsPair, IsIndex}
 use Rattle.tile_index.proofs.Between.{few-between}
 use Rattle.tile_index.proofs.Codes.{length-numbers, index-parts}
@@ -25,9 +27,16 @@ pub listed_some : (n : ℕ) → 1 ≤ n → listed_bytes n ≡ 8 + 4 * n
 listed_some zero h = absurd (omega (arith, h))
 listed_some (suc n) h = refl
 
+-- how many bytes the forms have at most
+most-most : (form : Form) → (32768 ≤ most_bytes form) × (most_bytes form ≤ 40960)
+most-most Runs = (omega arith, omega arith)
+most-most Raw = (omega arith, omega arith)
+
 -- an entry has 1 to 10 blocks
 pub entry_few : (e : Entry) → IsEntry e → (1 ≤ length e.blocks) × (length e.blocks ≤ 10)
-entry_few e is = (omega (arith, is.some, is.few, is.filled), omega (arith, is.some, is.few, is.filled))
+entry_few e is =
+    let most = (most-most e.form).1 in
+    (omega (arith, is.some, is.few, is.filled), omega (arith, is.some, is.few, is.filled, most))
 
 pub entry_bytes_are : (e : Entry) → IsEntry e → listed_bytes (length e.blocks) ≡ 8 + 4 * length e.blocks
 entry_bytes_are e is = listed_some (length e.blocks) (entry_few e is).0
@@ -41,7 +50,7 @@ number_long n = refl
 entry_long : (x : ℕ × Entry) → length (entry_bytes x) ≡ 8 + 4 * length x.1.blocks
 unfolding entry_bytes
 entry_long x =
-    omega (arith, length-append (number_bytes x.0) (number_bytes x.1.length ++ flat_map number_bytes x.1.blocks), length-append (number_bytes x.1.length) (flat_map number_bytes x.1.blocks), number_long x.0, number_long x.1.length, length-numbers x.1.blocks)
+    omega (arith, length-append (number_bytes x.0) (number_bytes (length_number x.1.form x.1.length) ++ flat_map number_bytes x.1.blocks), length-append (number_bytes (length_number x.1.form x.1.length)) (flat_map number_bytes x.1.blocks), number_long x.0, number_long (length_number x.1.form x.1.length), length-numbers x.1.blocks)
 
 entries_long : (index : List (ℕ × Entry)) → All IsPair index → sum_by (λ (x : ℕ × Entry). length (entry_bytes x)) index ≡ sum_by pair_bytes index
 entries_long [] h = refl
@@ -64,12 +73,13 @@ pub found_entry : (index : List (ℕ × Entry)) (t : ℕ) (e : Entry) → IsInde
 found_entry index t e is some = (found_is IsPair t index e is.pairs.each some).1
 
 -- an entry that was made of bytes and blocks
-pub made_entry : (x e : Entry) (size : ℕ) (ks : List ℕ) → Some x ≡ Some e → x.length ≡ size → x.blocks ≡ ks → 1 ≤ size → size ≤ 40960 → length ks ≡ blocks_filled size → All (λ b. b < 2 ^ 32) ks → IsEntry e
+pub made_entry : (x e : Entry) (size : ℕ) (ks : List ℕ) → Some x ≡ Some e → x.length ≡ size → x.blocks ≡ ks → 1 ≤ size → size ≤ 32768 → length ks ≡ blocks_filled size → All (λ b. b < 2 ^ 32) ks → IsEntry e
 made_entry x e size ks is len blocks some few filled numbers =
     let same : x ≡ e = cc in
+    let most = (most-most x.form).0 in
     subst IsEntry same (record {
       some = omega (arith, len, some);
-      few = omega (arith, len, few);
+      few = omega (arith, len, few, most);
       filled = ap length blocks ∙ filled ∙ ap blocks_filled (sym len);
       numbers = subst (λ (l : List ℕ). All (λ b. b < 2 ^ 32) l) (sym blocks) numbers;
     })

@@ -1,5 +1,5 @@
 -- Blocks that are taken, written and given back.
-use Rattle.std.proofs.Common.{◌≡◌, ℕ, zero, suc, ◌+◌, ◌-◌, ◌≤◌, inl, inr, List, [], ◌++◌, length, length-append, arith, refl, ◌∙◌, ap, Err, Result, IsErrOf}
+use Rattle.std.proofs.Common.{◌≡◌, ℕ, ◌<◌, zero, suc, ◌+◌, ◌-◌, ◌≤◌, inl, inr, IsTrue, List, [], ◌++◌, length, length-append, arith, refl, ◌∙◌, ap, Err, Result, IsErrOf}
 use Rattle.std.proofs.lemmas.Bool.{cases_eq}
 use Rattle.block_file.specs.State.{BlocksState, block, block_at, free_up_to, free_of, times, none}
 use Rattle.block_file.specs.Words.{OnlyReads, Recounts, Moves, Covers, AreLowestFree}
@@ -22,20 +22,20 @@ free_taken n ks old new taken lowest =
 free_kept : (old new : BlocksState) → ((k : ℕ) → new.uses k ≡ old.uses k) → new.size ≡ old.size → free_of new ≡ free_of old
 free_kept old new same size = rw size (free_same (old.size - 1) old.uses new.uses (λ k a b. let e = same k in omega arith))
 
-pub free_read : (old new : BlocksState) → OnlyReads old new → free_of new ≡ free_of old
+pub free_read : {asked : ℕ → ℕ} (old new : BlocksState) → OnlyReads asked old new → free_of new ≡ free_of old
 free_read old new r = rw (r.size, r.uses) refl
 
 -- nothing was taken
-pub takes_none : (taken : List ℕ) (old new : BlocksState) → OnlyReads old new → Takes taken taken old new
+pub takes_none : (taken : List ℕ) (old new : BlocksState) → OnlyReads none old new → Takes taken taken old new
 takes_none taken old new reads = record {
   more = λ k. omega arith;
-  moves = moves_as none none none (λ k. times taken k - times taken k) old new (λ k. omega arith) (λ k h. h) (unmoved none none old new (λ k. rw reads.uses refl) reads.content reads.size reads.honest);
+  moves = moves_as none none none (λ k. times taken k - times taken k) old new (λ k. omega arith) (λ k h. h) (unmoved none none old new (λ k. rw reads.uses refl) reads.content (reads.overreads (λ h k some. absurd (omega (arith, some)))) reads.size reads.honest);
   once = λ k. rw reads.uses (omega arith);
   free = omega (arith, free_read old new reads);
 }
 
-pub reads_same : (s : BlocksState) → OnlyReads s s
-reads_same s = record { content = refl; synced = refl; uses = refl; size = refl; honest = refl }
+pub reads_same : (asked : ℕ → ℕ) (s : BlocksState) → OnlyReads asked s s
+reads_same asked s = record { content = refl; synced = refl; uses = refl; size = refl; honest = refl; overreads = λ whole. refl }
 
 pub takes_then : (t0 t1 t2 : List ℕ) (s0 s1 s2 : BlocksState) → Takes t0 t1 s0 s1 → Takes t1 t2 s1 s2 → Takes t0 t2 s0 s2
 takes_then t0 t1 t2 s0 s1 s2 a b = record {
@@ -47,7 +47,7 @@ takes_then t0 t1 t2 s0 s1 s2 a b = record {
 }
 
 -- after a read
-pub takes_read : (t0 t1 t2 : List ℕ) (s0 s1 s2 s3 : BlocksState) → Takes t0 t1 s0 s1 → OnlyReads s1 s2 → Takes t1 t2 s2 s3 → Takes t0 t2 s0 s3
+pub takes_read : (t0 t1 t2 : List ℕ) (s0 s1 s2 s3 : BlocksState) → Takes t0 t1 s0 s1 → OnlyReads none s1 s2 → Takes t1 t2 s2 s3 → Takes t0 t2 s0 s3
 takes_read t0 t1 t2 s0 s1 s2 s3 a reads b = takes_then t0 t1 t2 s0 s1 s3 a (takes_then t1 t1 t2 s1 s2 s3 (takes_none t1 s1 s2 reads) b)
 
 -- fresh blocks come to those taken
@@ -56,7 +56,7 @@ takes_fresh n taken fresh taken' old new is free recounts =
     let total : (k : ℕ) → times taken' k ≡ times taken k + times fresh k = λ k. ap (λ (ks : List ℕ). times ks k) is ∙ times_append taken fresh k in
     record {
       more = λ k. omega (arith, total k);
-      moves = moves_as none (times fresh) none (λ k. times taken' k - times taken k) old new (λ k. omega (arith, total k)) (λ k h. h) (unmoved none (times fresh) old new recounts.uses recounts.content recounts.size recounts.honest);
+      moves = moves_as none (times fresh) none (λ k. times taken' k - times taken k) old new (λ k. omega (arith, total k)) (λ k h. h) (unmoved none (times fresh) old new recounts.uses recounts.content recounts.overreads recounts.size recounts.honest);
       once = λ k. elim (cases_eq (times fresh k) 0) [
         | inl e ↦ omega (arith, recounts.uses k)
         | inr ne ↦ omega (arith, recounts.uses k, free.once k, (free.free k (omega arith)).unused)
@@ -88,6 +88,7 @@ exchanged_moves taken replaced old new s0 s1 s2 t r sums = record {
   uses = λ k. omega (arith, t.moves.uses k, r.uses k, times_none k, sums k);
   kept = λ k used whole. same_block s1 s2 k r.content ∙ t.moves.kept k (omega (arith, used)) whole;
   header = λ whole. same_block s1 s2 0 r.content ∙ t.moves.header whole;
+  overreads = r.overreads ∙ t.moves.overreads;
   size = r.size ∙ t.moves.size;
   honest = r.honest ∙ t.moves.honest;
 }
@@ -108,8 +109,37 @@ free_rises (suc n) old new h = omega (arith, free-suc n old, free-suc n new, fre
 pub free_given : (given : ℕ → ℕ) (old new : BlocksState) → Recounts given none old new → free_of old ≤ free_of new
 free_given given old new r = rw r.size (free_rises (old.size - 1) old.uses new.uses (λ k. omega (arith, r.uses k)))
 
-pub reads_then : (a b c : BlocksState) → OnlyReads a b → OnlyReads b c → OnlyReads a c
-reads_then a b c r q = record { content = q.content ∙ r.content; synced = q.synced ∙ r.synced; uses = q.uses ∙ r.uses; size = q.size ∙ r.size; honest = q.honest ∙ r.honest }
+pub reads_then : {asked : ℕ → ℕ} (a b c : BlocksState) → OnlyReads asked a b → OnlyReads asked b c → OnlyReads asked a c
+reads_then a b c r q = record {
+  content = q.content ∙ r.content;
+  synced = q.synced ∙ r.synced;
+  uses = q.uses ∙ r.uses;
+  size = q.size ∙ r.size;
+  honest = q.honest ∙ r.honest;
+  overreads = λ whole. q.overreads (λ h k some. rw (same_block a b k r.content) (whole (rw r.honest at h) k some)) ∙ r.overreads whole;
+}
+
+-- the same by more blocks
+pub reads_more : (asked more : ℕ → ℕ) (old new : BlocksState) → ((k : ℕ) → asked k ≤ more k) → OnlyReads asked old new → OnlyReads more old new
+reads_more asked more old new fewer r = record {
+  content = r.content;
+  synced = r.synced;
+  uses = r.uses;
+  size = r.size;
+  honest = r.honest;
+  overreads = λ whole. r.overreads (λ h k some. whole h k (omega (arith, some, fewer k)));
+}
+
+-- blocks that are whole were read
+pub reads_whole : (asked : ℕ → ℕ) (old new : BlocksState) → (IsTrue old.honest → (k : ℕ) → 0 < asked k → length (block old k) ≡ 4096) → OnlyReads asked old new → OnlyReads none old new
+reads_whole asked old new whole r = record {
+  content = r.content;
+  synced = r.synced;
+  uses = r.uses;
+  size = r.size;
+  honest = r.honest;
+  overreads = λ no. r.overreads whole;
+}
 
 -- why a call is refused that hands on the refusal of another
 pub refuses_as : {T U D D' R R' : Type 0} {result : Result T Fault} {e : Fault} → ((x : Fault) → IsErrOf result x → IsErrOf {T = U} (Err e) x) → Refuses {T = U} (Err e) D R → (D → D') → (R → R') → Refuses result D' R'

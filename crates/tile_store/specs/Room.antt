@@ -7,7 +7,7 @@ use Rattle.arr_core.specs.declared.cell.FieldType.{FieldType}
 use Rattle.arr_core.specs.declared.domain.Axis.{Axis}
 use Rattle.arr_core.specs.Domains.{points, is_inside, rank_of}
 use Rattle.arr_core.specs.Tiles.{tile_boxes, Meet}
-use Rattle.run_tile.specs.Runs.{runs_in, run_size}
+use Rattle.run_tile.specs.Raw.{tile_size}
 use Rattle.tile_index.specs.declared.entry.Entry.{Entry}
 use Rattle.tile_index.specs.Entries.{blocks_filled}
 use Rattle.tile_index.specs.Index.{found_at}
@@ -21,9 +21,10 @@ pub record AreMeeting (domain area : List Axis) (tiles : List ℕ) : Type 0 wher
   pub rising : IsStrictlyIncreasing tiles
   pub exact : (n : ℕ) → Contains tiles n ↔ ((n < length (tile_boxes domain)) × Meet (tile_box domain n) area)
 
--- how many blocks a tile with these cells takes: none where all are 0, else those that its runs fill
+-- how many blocks a tile with these cells takes: none where all are 0, else those that its
+-- bytes fill in the shorter form
 abbrev pub tile_blocks : FieldType → List ℤ → ℕ
-tile_blocks kind cells = if list_all (int_eq (pos 0)) cells then 0 else blocks_filled (runs_in cells * run_size kind)
+tile_blocks kind cells = if list_all (int_eq (pos 0)) cells then 0 else blocks_filled (tile_size kind cells)
 
 -- how many bytes a tile with so many blocks takes in an index; one without blocks is not listed
 abbrev pub listed_bytes : ℕ → ℕ

@@ -6,7 +6,8 @@ use Rattle.arr_core.specs.declared.domain.Axis.{Axis}
 use Rattle.arr_core.specs.Domains.{points, count, rank_of}
 use Rattle.arr_core.specs.Tiles.{tile_boxes, grid, edge_of}
 use Rattle.arr_core.specs.Meeting.{tile_at}
-use Rattle.run_tile.specs.Runs.{IsSpelling, cells_of, first_runs, run_count}
+use Rattle.file_bytes.specs.declared.form.Form.{Form}
+use Rattle.run_tile.specs.Raw.{Spells, cells_in}
 use Rattle.tile_index.specs.declared.entry.Entry.{Entry}
 use Rattle.tile_index.specs.Index.{found_at}
 use Rattle.block_file.specs.State.{block_at}
@@ -20,18 +21,19 @@ entry_data content e = take e.length (flat_map (block_at content) e.blocks)
 unfoldable pub IsPadded : List ℕ → Entry → Type 0
 IsPadded content e = All (λ b. b ≡ 0) (drop e.length (flat_map (block_at content) e.blocks))
 
--- the cells that bytes read as
-unfoldable pub cells_read : FieldType → List ℕ → List ℤ
-cells_read kind bytes = cells_of (first_runs kind bytes (run_count kind bytes))
+-- the cells that bytes read as in a form
+unfoldable pub cells_read : Form → FieldType → List ℕ → List ℤ
+cells_read form kind bytes = cells_in form kind bytes
 
 -- the cells of a tile; one that is not listed has none
 abbrev pub tile_cells : FieldType → List ℕ → Option Entry → List ℤ
 tile_cells kind content None = []
-tile_cells kind content (Some e) = cells_read kind (entry_data content e)
+tile_cells kind content (Some e) = cells_read e.form kind (entry_data content e)
 
--- bytes spell so many cells
-abbrev pub Spells : FieldType → List ℕ → ℕ → Type 0
-Spells kind bytes n = IsSpelling kind bytes (cells_read kind bytes) × (length (cells_read kind bytes) ≡ n)
+-- bytes spell so many cells in a form
+abbrev pub SpellsMany : Form → FieldType → List ℕ → ℕ → Type 0
+SpellsMany form kind bytes n =
+    Spells form kind bytes (cells_read form kind bytes) × (length (cells_read form kind bytes) ≡ n)
 
 -- the box of a tile of a domain
 abbrev pub tile_box : List Axis → ℕ → List Axis
@@ -55,7 +57,7 @@ field_values kind domain index content = map (number_at kind domain index conten
 abbrev pub IsTileSpelled : FieldType → List Axis → List (ℕ × Entry) → List ℕ → ℕ → Type 0
 IsTileSpelled kind domain index content tile =
     (e : Entry) → found_at tile index ≡ Some e
-    → Spells kind (entry_data content e) (count (tile_box domain tile))
+    → SpellsMany e.form kind (entry_data content e) (count (tile_box domain tile))
 
 -- a tile is not listed, or zeros follow its bytes
 abbrev pub IsTilePadded : List (ℕ × Entry) → List ℕ → ℕ → Type 0

@@ -19,7 +19,7 @@ use Rattle.tile_store.specs.Listing.{Index, entry_times, listed_for, tiles_of, g
 use Rattle.tile_store.specs.Overlays.{cell_at}
 use Rattle.tile_store.specs.Patches.{CoversTile, IsSpelledFor, patched, HasDamaged, blocks_after}
 use Rattle.tile_store.specs.Room.{tile_blocks, entry_blocks, new_blocks, replaced_bytes, given_bytes, AreMeeting}
-use Rattle.tile_store.specs.Stored.{Spells, entry_data, IsPadded, tile_cells, tile_box, number_at}
+use Rattle.tile_store.specs.Stored.{SpellsMany, entry_data, IsPadded, tile_cells, tile_box, number_at}
 
 -- a block holds the part of some bytes that stands at a place, counted in blocks, and zeros behind the last of them
 pub record HoldsPart (block : List ℕ) (place : ℕ) (bytes : List ℕ) : Type 0 where
@@ -34,7 +34,7 @@ IsDataRead s entry bytes = IsTrue s.honest → bytes ≡ entry_data s.content en
 
 -- a tile's entry, where it has one, spells so many cells
 abbrev pub EntrySpells : FieldType → List ℕ → Option Entry → ℕ → Type 0
-EntrySpells kind content entry n = (e : Entry) → entry ≡ Some e → Spells kind (entry_data content e) n
+EntrySpells kind content entry n = (e : Entry) → entry ≡ Some e → SpellsMany e.form kind (entry_data content e) n
 
 -- zeros follow the bytes of a tile, where it has an entry
 abbrev pub EntryPadded : List ℕ → Option Entry → Type 0

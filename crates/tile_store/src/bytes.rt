@@ -49,7 +49,7 @@ fn read_neighbours<B: Blocks>(
     ensures value { OnOk result (IsTrue (B.state blocks.old).honest
         → bytes.new.items ≡ flat_map (block (B.state blocks.old)) numbers.now) }
     ensures why { Refuses result ⊥ ⊥ }
-    ensures frame { OnlyReads (B.state blocks.old) (B.state blocks.new) }
+    ensures frame { OnlyReads (times numbers.now) (B.state blocks.old) (B.state blocks.new) }
     ensures told { Tells (IsErrOf result Fault.DiskFault) (B.state blocks.old).failures (B.state blocks.new).failures }
 {
     bytes.resize(numbers.len() * BLOCK_BYTES, 0)?;
@@ -64,7 +64,7 @@ fn read_each<B: Blocks>(blocks: &mut B, numbers: &[u32], bytes: &mut Vec<u8>) ->
     ensures value { OnOk result (IsTrue (B.state blocks.old).honest
         → bytes.new.items ≡ flat_map (block (B.state blocks.old)) numbers.now) }
     ensures why { Refuses result ⊥ ⊥ }
-    ensures frame { OnlyReads (B.state blocks.old) (B.state blocks.new) }
+    ensures frame { OnlyReads (times numbers.now) (B.state blocks.old) (B.state blocks.new) }
     ensures told { Tells (IsErrOf result Fault.DiskFault) (B.state blocks.old).failures (B.state blocks.new).failures }
 {
     bytes.clear();
@@ -82,7 +82,7 @@ fn read_blocks<B: Blocks>(blocks: &mut B, numbers: &[u32], bytes: &mut Vec<u8>) 
     ensures value { OnOk result (IsTrue (B.state blocks.old).honest
         → bytes.new.items ≡ flat_map (block (B.state blocks.old)) numbers.now) }
     ensures why { Refuses result ⊥ ⊥ }
-    ensures frame { OnlyReads (B.state blocks.old) (B.state blocks.new) }
+    ensures frame { OnlyReads (times numbers.now) (B.state blocks.old) (B.state blocks.new) }
     ensures told { Tells (IsErrOf result Fault.DiskFault) (B.state blocks.old).failures (B.state blocks.new).failures }
 {
     if numbers.len() > 1 && are_neighbours(numbers) {
@@ -100,7 +100,7 @@ pub(crate) fn read_bytes<B: Blocks>(
     requires { Covers (B.state blocks.old) (times entry.now.blocks) }
     ensures value { OnOk result (IsDataRead (B.state blocks.old) entry.now bytes.new.items) }
     ensures why { Refuses result ⊥ ⊥ }
-    ensures frame { OnlyReads (B.state blocks.old) (B.state blocks.new) }
+    ensures frame { OnlyReads (times entry.now.blocks) (B.state blocks.old) (B.state blocks.new) }
     ensures told { Tells (IsErrOf result Fault.DiskFault) (B.state blocks.old).failures (B.state blocks.new).failures }
 {
     read_blocks(blocks, entry.blocks.as_slice(), bytes)?;

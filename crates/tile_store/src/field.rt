@@ -136,7 +136,7 @@ pub fn read_tile_into<B: Blocks>(
     requires used { Covers (B.state blocks.old) (listed field.index.now) }
     ensures read { OnOk result (IsTileRead field.entry tile (B.state blocks.old) cells.new.items) }
     ensures why { Refuses result (IsTileDamaged field.entry tile (B.state blocks.old)) ⊥ }
-    ensures frame { OnlyReads (B.state blocks.old) (B.state blocks.new) }
+    ensures frame { OnlyReads (listed field.entry.index.now) (B.state blocks.old) (B.state blocks.new) }
     ensures told { Tells (IsErrOf result Fault.DiskFault) (B.state blocks.old).failures (B.state blocks.new).failures }
 {
     let part = part_of(alloc, field.domain, tile)?;
@@ -157,7 +157,7 @@ pub(crate) fn read_tile<B: Blocks>(
     requires used { Covers (B.state blocks.old) (listed field.index.now) }
     ensures read { IfOk result (λ cells. IsTileRead field.entry tile (B.state blocks.old) cells.items) }
     ensures why { Refuses result (IsTileDamaged field.entry tile (B.state blocks.old)) ⊥ }
-    ensures frame { OnlyReads (B.state blocks.old) (B.state blocks.new) }
+    ensures frame { OnlyReads (listed field.entry.index.now) (B.state blocks.old) (B.state blocks.new) }
     ensures told { Tells (IsErrOf result Fault.DiskFault) (B.state blocks.old).failures (B.state blocks.new).failures }
 {
     let mut bytes = Vec::new(alloc);
@@ -177,7 +177,7 @@ pub fn read_point<B: Blocks>(
     requires used { Covers (B.state blocks.old) (listed field.index.now) }
     ensures read { IfOk result (IsPointRead field.entry point.now (B.state blocks.old)) }
     ensures why { Refuses result (IsPointDamaged field.entry point.now (B.state blocks.old)) ⊥ }
-    ensures frame { OnlyReads (B.state blocks.old) (B.state blocks.new) }
+    ensures frame { OnlyReads (listed field.entry.index.now) (B.state blocks.old) (B.state blocks.new) }
     ensures told { Tells (IsErrOf result Fault.DiskFault) (B.state blocks.old).failures (B.state blocks.new).failures }
 {
     let tile = field.domain.tile_of(point);
@@ -202,7 +202,7 @@ fn copy_tile<B: Blocks>(
     ensures copied { OnOk result (IsCopied field.entry tile area.now (B.state blocks.old) cells.old cells.new) }
     ensures fit { All (Fits field.entry.kind) cells.new }
     ensures why { Refuses result (IsTileDamaged field.entry tile (B.state blocks.old)) ⊥ }
-    ensures frame { OnlyReads (B.state blocks.old) (B.state blocks.new) }
+    ensures frame { OnlyReads (listed field.entry.index.now) (B.state blocks.old) (B.state blocks.new) }
     ensures told { Tells (IsErrOf result Fault.DiskFault) (B.state blocks.old).failures (B.state blocks.new).failures }
 {
     let part = part_of(alloc, field.domain, tile)?;
@@ -225,7 +225,7 @@ pub fn read_area<B: Blocks>(
     requires used { Covers (B.state blocks.old) (listed field.index.now) }
     ensures read { IfOk result (λ cells. IsAreaRead field.entry area.now (B.state blocks.old) cells.items) }
     ensures why { Refuses result (IsAreaDamaged field.entry area.now (B.state blocks.old)) ⊥ }
-    ensures frame { OnlyReads (B.state blocks.old) (B.state blocks.new) }
+    ensures frame { OnlyReads (listed field.entry.index.now) (B.state blocks.old) (B.state blocks.new) }
     ensures told { Tells (IsErrOf result Fault.DiskFault) (B.state blocks.old).failures (B.state blocks.new).failures }
 {
     let mut cells = zeros(alloc, cell_count(area))?;

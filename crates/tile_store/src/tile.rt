@@ -45,7 +45,7 @@ pub(crate) fn fill_tile<B: Blocks>(
     requires { Covers (B.state blocks.old) (entry_times (option_copied entry)) }
     ensures read { OnOk result (IsRead kind count (B.state blocks.old) (option_copied entry.entry) cells.new.items) }
     ensures why { Refuses result (IsEntryDamaged kind count (B.state blocks.old) (option_copied entry.entry)) ⊥ }
-    ensures frame { OnlyReads (B.state blocks.old) (B.state blocks.new) }
+    ensures frame { OnlyReads (entry_times (option_copied entry.entry)) (B.state blocks.old) (B.state blocks.new) }
     ensures told { Tells (IsErrOf result Fault.DiskFault) (B.state blocks.old).failures (B.state blocks.new).failures }
 {
     match entry {
@@ -56,7 +56,7 @@ pub(crate) fn fill_tile<B: Blocks>(
         }
         Some(entry) => {
             read_bytes(blocks, entry, bytes)?;
-            decode_into(kind, count, bytes, cells)?;
+            decode_into(kind, count, entry.form, bytes, cells)?;
             Ok(())
         }
     }
@@ -99,8 +99,8 @@ fn take_fresh<B: Blocks>(
     Ok(fresh)
 }
 
-/// Writes the cells of a tile to fresh blocks, which come after the others in `taken`. There is no entry for cells that
-/// are all 0.
+/// Writes the cells of a tile to fresh blocks, in the shorter form; the blocks come after the others in `taken`. There is
+/// no entry for cells that are all 0.
 pub(crate) fn write_tile<B: Blocks>(
     alloc: Global,
     blocks: &mut B,
@@ -119,11 +119,12 @@ pub(crate) fn write_tile<B: Blocks>(
     if are_zero(cells) {
         return Ok(None);
     }
-    let bytes = encode(alloc, kind, cells)?;
+    let (form, bytes) = encode(alloc, kind, cells)?;
     let fresh = take_fresh(blocks, taken, bytes.len().div_ceil(BLOCK_BYTES))?;
     write_bytes(blocks, &fresh, &bytes)?;
     Ok(Some(Entry {
+        form,
         length: bytes.len() as u32,
-        blocks: BlockList::new(fresh),
+        blocks: BlockList::new(&fresh),
     }))
 }

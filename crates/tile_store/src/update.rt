@@ -59,7 +59,7 @@ fn cells_before<B: Blocks>(
     requires used { Covers (B.state blocks.old) (listed field.now) }
     ensures before { IfOk result (λ cells. AreBefore patch.now (B.state blocks.old) field.now tile cells.items) }
     ensures why { Refuses result (IsCutDamaged patch.now (B.state blocks.old) field.now tile) ⊥ }
-    ensures frame { OnlyReads (B.state blocks.old) (B.state blocks.new) }
+    ensures frame { OnlyReads (listed field.now) (B.state blocks.old) (B.state blocks.new) }
     ensures told { Tells (IsErrOf result Fault.DiskFault) (B.state blocks.old).failures (B.state blocks.new).failures }
 {
     if part.is_box_of(patch.area) {
@@ -88,7 +88,7 @@ fn cells_after<B: Blocks>(
     requires used { Covers (B.state blocks.old) (listed field.now) }
     ensures after { IfOk result (λ cells. AreAfter patch.now (B.state blocks.old) field.now tile cells.items) }
     ensures why { Refuses result (IsCutDamaged patch.now (B.state blocks.old) field.now tile) ⊥ }
-    ensures frame { OnlyReads (B.state blocks.old) (B.state blocks.new) }
+    ensures frame { OnlyReads (listed field.now) (B.state blocks.old) (B.state blocks.new) }
     ensures told { Tells (IsErrOf result Fault.DiskFault) (B.state blocks.old).failures (B.state blocks.new).failures }
 {
     let part = part_of(alloc, patch.domain, tile)?;

@@ -38,7 +38,7 @@ fn point_count(axes: &[Axis]) -> u64
 pub fn place_of(axes: &[Axis], point: &[i32]) -> u64
     requires ordered { AreOrdered axes.now }
     requires few { count_of axes.now ≤ 2 ^ 24 }
-    requires few_axes { length axes.now ≤ 4 }
+    requires few_axes { length axes.now ≤ 6 }
     ensures computed { result ≡ rank_of axes.now point.now }
     ensures below { result ≤ length axes.now * 2 ^ 56 }
 {

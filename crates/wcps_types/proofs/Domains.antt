@@ -32,5 +32,5 @@ Decides-ordered (a ∷ axes) = Decides-and _ _ (Decides-int_le a.lo a.hi) (Decid
 
 pub Decides-domain : (axes : List Axis) → Decides (is_domain axes) (IsDomain axes)
 Decides-domain axes =
-    let parts = Decides-and _ _ (Decides-and _ _ (Decides-leb (length axes) 4) (Decides-distinct (names_of axes))) (Decides-and _ _ (Decides-ordered axes) (Decides-leb (count axes) (2 ^ 24))) in
+    let parts = Decides-and _ _ (Decides-and _ _ (Decides-leb (length axes) 6) (Decides-distinct (names_of axes))) (Decides-and _ _ (Decides-ordered axes) (Decides-leb (count axes) (2 ^ 24))) in
     Decides-like (is_domain axes) (λ p. record { few_axes = p.0.0; distinct = p.0.1; ordered = p.1.0; few_points = p.1.1 }) (λ (d : IsDomain axes). ((d.few_axes, d.distinct), (d.ordered, d.few_points))) parts

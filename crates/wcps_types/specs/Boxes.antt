@@ -53,9 +53,9 @@ abbrev pub are_ordered : List Axis → Bool
 are_ordered [] = true
 are_ordered (a ∷ axes) = int_le a.lo a.hi && are_ordered axes
 
--- axes make a domain, as a test: at most 4, no name twice, no lower bound above its upper one, at most 2^24 points
+-- axes make a domain, as a test: at most 6, no name twice, no lower bound above its upper one, at most 2^24 points
 abbrev pub is_domain : List Axis → Bool
-is_domain axes = (nat_le (length axes) 4 && are_distinct (names_of axes)) && (are_ordered axes && nat_le (count axes) (2 ^ 24))
+is_domain axes = (nat_le (length axes) 6 && are_distinct (names_of axes)) && (are_ordered axes && nat_le (count axes) (2 ^ 24))
 
 -- the box of the iterators
 abbrev pub box_of : List Axis → Answer (List Axis)

@@ -27,22 +27,23 @@ fn signed(data: Data, number: u64) -> i64 {
     }
 }
 
-/// The cell of a left operand.
-fn left(data: Data, place: u64) -> i64 {
+/// The cell of a left operand; whether its place is the last one.
+fn left(data: Data, place: u64, last: bool) -> i64 {
     match data {
         Data::Constant => 7,
-        Data::Faults if place == 4095 => i64::MAX,
+        Data::Faults if last => i64::MAX,
         _ => signed(data, noise(place)),
     }
 }
 
-/// The cell of a right operand: never 0 as a divisor, save for the fault, and of 0 to 63 as the number of a bit.
-fn right(op: BinaryOperator, data: Data, place: u64) -> i64 {
+/// The cell of a right operand: never 0 as a divisor, save for the fault at the last place, and of 0 to 63 as the
+/// number of a bit.
+fn right(op: BinaryOperator, data: Data, place: u64, last: bool) -> i64 {
     let number = noise(place | 4096);
     match (op, data) {
-        (BinaryOperator::Bit, Data::Faults) if place == 4095 => 64,
-        (BinaryOperator::Divide, Data::Faults) if place == 4095 => 0,
-        (BinaryOperator::Subtract, Data::Faults) if place == 4095 => -2,
+        (BinaryOperator::Bit, Data::Faults) if last => 64,
+        (BinaryOperator::Divide, Data::Faults) if last => 0,
+        (BinaryOperator::Subtract, Data::Faults) if last => -2,
         (BinaryOperator::Bit, _) => (number % 64) as i64,
         (_, Data::Constant) => 3,
         (BinaryOperator::Divide, _) => signed(data, number) | 1,
@@ -59,47 +60,54 @@ fn column(cells: &[i64], alloc: Global) -> Result<Column, AllocError> {
 }
 
 /// A column of left operands.
-pub fn lefts(alloc: Global, data: Data) -> Result<Column, AllocError> {
+pub fn lefts(alloc: Global, data: Data, len: u32) -> Result<Column, AllocError> {
     let mut cells = Vec::new(alloc);
-    for place in 0u64..4096 {
-        cells.push(left(data, place))?;
+    for place in 0..len {
+        cells.push(left(data, u64::from(place), place + 1 == len))?;
     }
     column(&cells, alloc)
 }
 
 /// A column of right operands.
-pub fn rights(alloc: Global, op: BinaryOperator, data: Data) -> Result<Column, AllocError> {
+pub fn rights(
+    alloc: Global,
+    op: BinaryOperator,
+    data: Data,
+    len: u32,
+) -> Result<Column, AllocError> {
     let mut cells = Vec::new(alloc);
-    for place in 0u64..4096 {
-        cells.push(right(op, data, place))?;
+    for place in 0..len {
+        cells.push(right(op, data, u64::from(place), place + 1 == len))?;
     }
     column(&cells, alloc)
 }
 
 /// A column of truth values: true everywhere for constant data, else noise.
-pub fn conditions(alloc: Global, data: Data) -> Result<Column, AllocError> {
+pub fn conditions(alloc: Global, data: Data, len: u32) -> Result<Column, AllocError> {
     let mut cells = Vec::new(alloc);
-    for place in 0u64..4096 {
+    for place in 0..len {
         cells.push(match data {
             Data::Constant => 1,
-            _ => (noise(place) >> 63) as i64,
+            _ => (noise(u64::from(place)) >> 63) as i64,
         })?;
     }
     column(&cells, alloc)
 }
 
 /// A column that is one scalar at each place.
-pub fn scalar(alloc: Global, number: i64) -> Result<Column, AllocError> {
+pub fn scalar(alloc: Global, number: i64, len: u32) -> Result<Column, AllocError> {
     let mut column = Column::new(alloc)?;
-    column.fill(MAX_PLACES, Outcome::Value(number));
+    if len as usize <= MAX_PLACES {
+        column.fill(len as usize, Outcome::Value(number));
+    }
     Ok(column)
 }
 
 /// The places of a column's cells, from 0 on.
-pub fn places(alloc: Global) -> Result<Vec<u64>, AllocError> {
+pub fn places(alloc: Global, len: u32) -> Result<Vec<u64>, AllocError> {
     let mut places = Vec::new(alloc);
-    for place in 0u64..4096 {
-        places.push(place)?;
+    for place in 0..len {
+        places.push(u64::from(place))?;
     }
     Ok(places)
 }

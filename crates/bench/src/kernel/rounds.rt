@@ -1,14 +1,15 @@
 //! Kernels and condensers, run again and again.
 
-ghost use Rattle.std.specs.Prelude.{◌≡◌, ◌≤◌, ◌<◌, ◌^◌, length, All, IsTrue};
+ghost use Rattle.std.specs.Prelude.{◌≡◌, ◌≤◌, ◌<◌, ◌^◌, length, All, IsTrue, IfOk};
 ghost use Rattle.tile_kernel.specs.declared.accumulator.Accumulator.{Accumulator};
 
 use crate::kernel::cells::{Data, conditions, lefts, places, rights, scalar};
 use anyhow::Result;
-use std::alloc::Global;
+use std::alloc::{AllocError, Global};
 use tile_kernel::{
-    Accumulator, Column, add_column, fold_column, fold_column_where, operate_column,
-    operate_columns,
+    Accumulator, AllTrue, Column, Condensed, Condenser, Factors, Greatest, Least, Mean, SomeTrue,
+    Total, Trues, add_column, fold_column, fold_column_where, operate_column, operate_columns,
+    tell_each,
 };
 use wcps_mean::Outcome;
 use wcps_text::{Aggregate, BinaryOperator, UnaryOperator};
@@ -23,11 +24,10 @@ fn number(outcome: Outcome) -> i64 {
 
 /// A number for one of the outcomes of a column, another one in each round.
 fn picked(column: &Column, round: u32) -> i64 {
-    let place = (round % 4096) as usize;
-    if place < column.len() {
-        return number(column.at(place));
+    if column.len() == 0 {
+        return 0;
     }
-    0
+    number(column.at(round as usize % column.len()))
 }
 
 fn operated(
@@ -48,24 +48,30 @@ fn operated(
 }
 
 /// An operation on two columns.
-pub fn both(alloc: Global, op: BinaryOperator, data: Data, rounds: u32) -> Result<i64> {
-    let left = lefts(alloc, data)?;
-    let right = rights(alloc, op, data)?;
+pub fn both(alloc: Global, op: BinaryOperator, data: Data, len: u32, rounds: u32) -> Result<i64> {
+    let left = lefts(alloc, data, len)?;
+    let right = rights(alloc, op, data, len)?;
     let mut out = Column::new(alloc)?;
     Ok(operated(op, &left, &right, &mut out, rounds))
 }
 
 /// An operation on a column and the scalar 3.
-pub fn with_scalar(alloc: Global, op: BinaryOperator, data: Data, rounds: u32) -> Result<i64> {
-    let left = lefts(alloc, data)?;
-    let right = scalar(alloc, 3)?;
+pub fn with_scalar(
+    alloc: Global,
+    op: BinaryOperator,
+    data: Data,
+    len: u32,
+    rounds: u32,
+) -> Result<i64> {
+    let left = lefts(alloc, data, len)?;
+    let right = scalar(alloc, 3, len)?;
     let mut out = Column::new(alloc)?;
     Ok(operated(op, &left, &right, &mut out, rounds))
 }
 
 /// An operation on one column.
-pub fn one(alloc: Global, op: UnaryOperator, data: Data, rounds: u32) -> Result<i64> {
-    let operand = lefts(alloc, data)?;
+pub fn one(alloc: Global, op: UnaryOperator, data: Data, len: u32, rounds: u32) -> Result<i64> {
+    let operand = lefts(alloc, data, len)?;
     let mut out = Column::new(alloc)?;
     let mut sum: i64 = 0;
     for round in 0..rounds {
@@ -83,9 +89,9 @@ fn fold_once(op: Aggregate, column: &Column, places: &[u64]) -> i64 {
 }
 
 /// A condenser of a column.
-pub fn folded(alloc: Global, op: Aggregate, data: Data, rounds: u32) -> Result<i64> {
-    let column = lefts(alloc, data)?;
-    let places = places(alloc)?;
+pub fn folded(alloc: Global, op: Aggregate, data: Data, len: u32, rounds: u32) -> Result<i64> {
+    let column = lefts(alloc, data, len)?;
+    let places = places(alloc, len)?;
     let mut sum: i64 = 0;
     for _ in 0..rounds {
         sum = sum.wrapping_add(fold_once(op, &column, &places));
@@ -101,10 +107,16 @@ fn fold_once_where(op: Aggregate, condition: &Column, column: &Column, places: &
 }
 
 /// A condenser of a column under a condition.
-pub fn folded_where(alloc: Global, op: Aggregate, data: Data, rounds: u32) -> Result<i64> {
-    let column = lefts(alloc, data)?;
-    let condition = conditions(alloc, data)?;
-    let places = places(alloc)?;
+pub fn folded_where(
+    alloc: Global,
+    op: Aggregate,
+    data: Data,
+    len: u32,
+    rounds: u32,
+) -> Result<i64> {
+    let column = lefts(alloc, data, len)?;
+    let condition = conditions(alloc, data, len)?;
+    let places = places(alloc, len)?;
     let mut sum: i64 = 0;
     for _ in 0..rounds {
         sum = sum.wrapping_add(fold_once_where(op, &condition, &column, &places));
@@ -141,8 +153,8 @@ fn told(folds: &mut [Accumulator], column: &Column, rounds: u32)
 }
 
 /// Condensers of one cell of a column each.
-pub fn added(alloc: Global, op: Aggregate, data: Data, rounds: u32) -> Result<i64> {
-    let column = lefts(alloc, data)?;
+pub fn added(alloc: Global, op: Aggregate, data: Data, len: u32, rounds: u32) -> Result<i64> {
+    let column = lefts(alloc, data, len)?;
     let mut folds = empties(alloc, op, column.len())?;
     if folds.len() == column.len() && rounds <= 16_777_216 && are_empty(&folds) {
         told(folds.as_mut_slice(), &column, rounds);
@@ -152,4 +164,56 @@ pub fn added(alloc: Global, op: Aggregate, data: Data, rounds: u32) -> Result<i6
         sum = sum.wrapping_add(number(accumulator.finish()));
     }
     Ok(sum)
+}
+
+/// So many condensers of no point.
+fn none<C: Condenser>(alloc: Global, len: usize) -> Result<Vec<C>, AllocError>
+    ensures length { IfOk result (λ v. length v.items ≡ len) }
+    ensures empty { IfOk result (λ v. All (λ c. C.counted c ≤ 0) v.items) }
+{
+    let mut condensers = Vec::new(alloc);
+    for place in 0..len {
+        condensers.push(C::empty())?;
+    }
+    Ok(condensers)
+}
+
+/// Condensers that are told of a column's cells in each round.
+fn told_by_kind<C: Condenser>(condensers: &mut [C], column: &Column, rounds: u32)
+    requires length { length condensers.old ≡ length column.now }
+    requires empty { All (λ c. C.counted c ≤ 0) condensers.old }
+    requires few { rounds ≤ 2 ^ 24 }
+    ensures { length condensers.new ≡ length condensers.old }
+{
+    for round in 0..rounds {
+        tell_each(condensers, u64::from(round), column);
+    }
+}
+
+/// Condensers of one kind, each of one cell of a column.
+fn added_by_kind<C: Condenser>(alloc: Global, data: Data, len: u32, rounds: u32) -> Result<i64> {
+    let column = lefts(alloc, data, len)?;
+    let mut condensers = none::<C>(alloc, column.len())?;
+    if rounds <= 16_777_216 {
+        told_by_kind(condensers.as_mut_slice(), &column, rounds);
+    }
+    let mut sum: i64 = 0;
+    for condenser in condensers {
+        sum = sum.wrapping_add(number(condenser.finish()));
+    }
+    Ok(sum)
+}
+
+/// Condensers that keep what their kind needs, of one cell of a column each.
+pub fn kept(alloc: Global, op: Aggregate, data: Data, len: u32, rounds: u32) -> Result<i64> {
+    Ok(match op {
+        Aggregate::Sum => added_by_kind::<Condensed<Total>>(alloc, data, len, rounds)?,
+        Aggregate::Product => added_by_kind::<Condensed<Factors>>(alloc, data, len, rounds)?,
+        Aggregate::Greatest => added_by_kind::<Condensed<Greatest>>(alloc, data, len, rounds)?,
+        Aggregate::Least => added_by_kind::<Condensed<Least>>(alloc, data, len, rounds)?,
+        Aggregate::Every => added_by_kind::<Condensed<AllTrue>>(alloc, data, len, rounds)?,
+        Aggregate::Any => added_by_kind::<Condensed<SomeTrue>>(alloc, data, len, rounds)?,
+        Aggregate::Count => added_by_kind::<Condensed<Trues>>(alloc, data, len, rounds)?,
+        Aggregate::Average => added_by_kind::<Condensed<Mean>>(alloc, data, len, rounds)?,
+    })
 }

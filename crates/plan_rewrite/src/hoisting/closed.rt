@@ -1,10 +1,10 @@
 //! Closed folds, which use no variable from outside them, and the passes that they become.
 
-ghost use Rattle.std.specs.Prelude.{◌≡◌, ◌&&◌, IfOk, map};
-ghost use Rattle.std.specs.List.{list_all};
-ghost use Rattle.plan_ir.specs.Bodies.{body_view, condition_view};
+ghost use Rattle.std.specs.Prelude.{◌≡◌, IfOk, map};
+ghost use Rattle.plan_ir.specs.Bodies.{body_view};
 ghost use Rattle.plan_ir.specs.Plans.{pass_view};
-ghost use Rattle.plan_rewrite.specs.Hoisting.{index_from, is_from, index_without, without, pass_without};
+ghost use Rattle.plan_ir.specs.Variables.{index_without, without};
+ghost use Rattle.plan_rewrite.specs.Hoisting.{pass_without};
 
 use crate::nodes::{
     bind_body, boxed, conditional_fold, fold_body, op1_body, op2_body, plain_fold, read_body,
@@ -12,67 +12,6 @@ use crate::nodes::{
 };
 use plan_ir::{Body, Fold, Index};
 use std::alloc::{AllocError, Global};
-
-/// Whether no variable of a body is one of the first `n`.
-#[cycle(from)]
-fn is_from(n: usize, e: &Body) -> bool
-    ensures { result ≡ is_from n (body_view e.now) }
-{
-    match e {
-        Body::Lit(_) => true,
-        Body::Var(k) => n <= *k,
-        Body::Reg(_) => true,
-        Body::Op1(_, e) => is_from(n, e),
-        Body::Op2(_, l, r) => is_from(n, l) && is_from(n, r),
-        Body::Read {
-            coverage: _,
-            field: _,
-            indexes,
-        } => indexes_from(n, indexes),
-        Body::Table {
-            domain: _,
-            items: _,
-            indexes,
-        } => indexes_from(n, indexes),
-        Body::Bind {
-            position,
-            interval: _,
-            body,
-        } => is_from(n, position) && is_from(n, body),
-        Body::Fold(f) => fold_is_from(n, f),
-    }
-}
-
-/// The same of the condition and the body of a fold.
-#[cycle(from)]
-pub fn fold_is_from(n: usize, f: &Fold) -> bool
-    ensures { result ≡ (is_from n (pass_view f.now).condition && is_from n (pass_view f.now).body) }
-{
-    match &f.condition {
-        None => is_from(n, &f.body),
-        Some(c) => is_from(n, c) && is_from(n, &f.body),
-    }
-}
-
-/// The same of indexes.
-fn indexes_from(n: usize, indexes: &[Index]) -> bool
-    ensures { result ≡ list_all (index_from n) indexes.now }
-{
-    match indexes {
-        [] => true,
-        [index, rest @ ..] => index_from(n, *index) && indexes_from(n, rest),
-    }
-}
-
-/// The same of an index.
-fn index_from(n: usize, index: Index) -> bool
-    ensures { result ≡ index_from n index }
-{
-    match index {
-        Index::Const(_) => true,
-        Index::Var(k) => n <= k,
-    }
-}
 
 /// A body without its first `n` variables, of which it uses none.
 #[cycle(without)]

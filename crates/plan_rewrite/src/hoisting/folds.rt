@@ -5,14 +5,14 @@ ghost use Rattle.plan_ir.specs.Bodies.{body_view, condition_view, bind};
 ghost use Rattle.plan_ir.specs.Plans.{pass_view};
 ghost use Rattle.plan_rewrite.specs.Hoisting.{passed, hoisted, inner_pass, inner_passes};
 
-use crate::hoisting::closed::{fold_is_from, fold_without};
+use crate::hoisting::closed::fold_without;
 use crate::nodes::{
     bind_body, boxed, conditional_fold, fold_body, op1_body, op2_body, plain_fold, read_at,
     table_at,
 };
 use crate::variables::{with_interval, with_spans};
 use arr_core::Domain;
-use plan_ir::{Body, Fold, Interval};
+use plan_ir::{Body, Fold, Interval, fold_is_from};
 use std::alloc::{AllocError, Global};
 
 /// A body under the variables of `scope`. Its closed folds go to the end of the passes, the innermost first. `regs` has the

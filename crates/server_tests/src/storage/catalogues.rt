@@ -4,6 +4,7 @@ use crate::storage::words::{DAMAGED, NO_MEMORY, say_signature, signature};
 use anyhow::Result;
 use arr_core::Name;
 use catalogue::{Catalogue, InsertError, ReadError};
+use file_bytes::Version;
 use std::alloc::Global;
 use test_rows::{Answer, Files, number};
 
@@ -35,7 +36,7 @@ fn read(
     words: &str,
 ) -> Result<()> {
     let bytes = files.bytes(alloc, words)?;
-    match Catalogue::from_bytes(alloc, &bytes) {
+    match Catalogue::from_bytes(alloc, Version::Two, &bytes) {
         Ok(read) => {
             *catalogue = read;
             answer.say("ok");

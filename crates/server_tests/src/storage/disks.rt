@@ -20,12 +20,22 @@ pub struct TestDisk {
 impl TestDisk {
     /// The disk with these bytes whose call of a number fails, and whose read of a number lies, or none for 0, and that has
     /// room for so many bytes.
-    fn new(bytes: Vec<u8>, fails: u64, lies: u64, room: u64) -> TestDisk {
+    pub fn new(bytes: Vec<u8>, fails: u64, lies: u64, room: u64) -> TestDisk {
         TestDisk {
             disk: FailDisk::new(MemDisk::new(bytes), fails),
             left: lies,
             room,
         }
+    }
+
+    /// The bytes that it holds.
+    pub fn into_bytes(self) -> Vec<u8> {
+        let TestDisk {
+            disk,
+            left: _,
+            room: _,
+        } = self;
+        disk.into_disk().into_bytes()
     }
 }
 
@@ -37,6 +47,8 @@ impl Disk for TestDisk {
     ghost synced = { λ d. d.disk.content };
 
     ghost failures = { λ d. d.disk.failures };
+
+    ghost overreads = { λ _. 0 };
 
     ghost honest = { λ _. false };
 
@@ -190,7 +202,7 @@ impl AnyDisk {
     pub fn into_bytes(self) -> Result<Vec<u8>> {
         match self {
             AnyDisk::Memory(disk) => Ok(disk.into_bytes()),
-            AnyDisk::Test(disk) => Ok(disk.disk.into_disk().into_bytes()),
+            AnyDisk::Test(disk) => Ok(disk.into_bytes()),
             AnyDisk::Full(disk) => Ok(disk.into_file()?.bytes),
             AnyDisk::Real(_) => bail!("a file of the system"),
         }

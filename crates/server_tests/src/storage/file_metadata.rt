@@ -2,6 +2,7 @@
 
 use crate::storage::words::{DAMAGED, NO_MEMORY, say_list};
 use anyhow::Result;
+use file_bytes::Version;
 use metadata::{Metadata, ReadError, catalogue_part, push_part, read_metadata};
 use std::alloc::{AllocError, Global};
 use test_rows::{Answer, Files};
@@ -68,7 +69,15 @@ fn say(alloc: Global, answer: &mut Answer, verb: &str, metadata: &Metadata) -> R
     }
 }
 
-/// What the metadata of a file holds, as `of lai`, and for `again` its bytes.
+/// The version of the file that a call reads.
+fn version_of(verb: &str) -> Version {
+    match verb {
+        "of_version_1" => Version::One,
+        _ => Version::Two,
+    }
+}
+
+/// What the metadata of a file holds, as `of lai`, of one of version 1 as `of_version_1 lai`, and for `again` its bytes.
 pub fn call(
     alloc: Global,
     answer: &mut Answer,
@@ -77,7 +86,7 @@ pub fn call(
     words: &str,
 ) -> Result<()> {
     let bytes = files.bytes(alloc, words)?;
-    match read_metadata(alloc, &bytes) {
+    match read_metadata(alloc, version_of(verb), &bytes) {
         Ok(metadata) => say(alloc, answer, verb, &metadata)?,
         Err(error) => answer.refusal(unread(error)),
     }

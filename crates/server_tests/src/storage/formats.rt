@@ -3,7 +3,7 @@
 ghost use Rattle.std.specs.Prelude.{All, IsTrue};
 ghost use Rattle.arr_core.specs.Cells.{Fits};
 
-use crate::storage::words::{DAMAGED, NO_MEMORY, say_list};
+use crate::storage::words::{DAMAGED, NO_MEMORY, form_of, say_form, say_list};
 use anyhow::{Result, bail};
 use arr_core::FieldType;
 use file_bytes::{Reader, push_i32, push_u32};
@@ -76,10 +76,11 @@ fn refused(error: DecodeError) -> u16 {
     }
 }
 
-/// The cells of the bytes of a tile, of a type and so many, as `i16:2`.
+/// The cells of the bytes of a tile, of a type and so many, as `i16:2`; of a raw tile as `raw:i16:2`.
 fn decoded(alloc: Global, answer: &mut Answer, words: &str, bytes: &[u8]) -> Result<()> {
+    let (form, words) = form_of(words);
     let (type_name, count) = cut_at(words, ':');
-    match decode(alloc, kind(type_name)?, number(count) as usize, bytes) {
+    match decode(alloc, kind(type_name)?, number(count) as usize, form, bytes) {
         Ok(cells) => say_list(alloc, answer, &cells),
         Err(error) => answer.refusal(refused(error)),
     }
@@ -88,10 +89,11 @@ fn decoded(alloc: Global, answer: &mut Answer, words: &str, bytes: &[u8]) -> Res
 
 /// The same cells, read into a buffer that held five others.
 fn decoded_into(alloc: Global, answer: &mut Answer, words: &str, bytes: &[u8]) -> Result<()> {
+    let (form, words) = form_of(words);
     let (type_name, count) = cut_at(words, ':');
     let kind = kind(type_name)?;
     let mut cells = vec![in alloc; 3i64; 5]?;
-    match decode_into(kind, number(count) as usize, bytes, &mut cells) {
+    match decode_into(kind, number(count) as usize, form, bytes, &mut cells) {
         Ok(()) => say_list(alloc, answer, &cells),
         Err(error) => answer.refusal(refused(error)),
     }
@@ -134,12 +136,14 @@ fn all_fit(kind: FieldType, numbers: &[i64]) -> bool
     numbers.iter().all(|number| kind.fits(*number))
 }
 
-/// The bytes of the cells of a tile.
+/// The form and the bytes of the cells of a tile.
 fn say_encoded(alloc: Global, answer: &mut Answer, kind: FieldType, cells: &[i64]) -> Result<()> {
     if cells.is_empty() || cells.len() > 4096 || !all_fit(kind, cells) {
         bail!("not the cells of a tile");
     }
-    answer.hex(&encode(alloc, kind, cells)?);
+    let (form, bytes) = encode(alloc, kind, cells)?;
+    say_form(answer, form);
+    answer.hex(&bytes);
     Ok(())
 }
 

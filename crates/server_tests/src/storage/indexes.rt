@@ -2,11 +2,12 @@
 
 ghost use Rattle.std.specs.Prelude.{◌≡◌, ◌<◌, None, Some, IfOk, IsTrue};
 ghost use Rattle.tile_index.specs.declared.entry.Entry.{Entry};
-ghost use Rattle.tile_index.specs.Entries.{IsEntry};
+ghost use Rattle.tile_index.specs.Entries.{IsEntry, most_bytes};
 ghost use Rattle.tile_index.specs.Index.{found_at};
 
-use crate::storage::words::{DAMAGED, NO_MEMORY, block_numbers, say_list};
+use crate::storage::words::{DAMAGED, NO_MEMORY, block_numbers, form_of, say_form, say_list};
 use anyhow::{Result, bail};
+use file_bytes::{Form, Version};
 use std::alloc::{AllocError, Global};
 use test_rows::{Answer, Files, cut, number};
 use tile_index::{BlockList, Entry, IndexError, TileIndex};
@@ -21,16 +22,17 @@ fn unread(error: IndexError) -> u16 {
     }
 }
 
-/// Reads the index of bytes into one.
+/// Reads the index of bytes in a file of a version into one.
 fn read(
     alloc: Global,
     answer: &mut Answer,
     index: &mut TileIndex,
+    version: Version,
     files: &Files,
     words: &str,
 ) -> Result<()> {
     let bytes = files.bytes(alloc, words)?;
-    match TileIndex::from_bytes(alloc, &bytes) {
+    match TileIndex::from_bytes(alloc, version, &bytes) {
         Ok(read) => {
             *index = read;
             answer.say("ok");
@@ -40,10 +42,11 @@ fn read(
     Ok(())
 }
 
-/// The length of a tile and its blocks, as `4 in 1`; `none` where it is not listed.
+/// The length of a tile and its blocks, as `4 in 1`, of a raw one as `raw:4 in 1`; `none` where it is not listed.
 fn say_entry(alloc: Global, answer: &mut Answer, entry: Option<&Entry>) {
     match entry {
         Some(entry) => {
+            say_form(answer, entry.form);
             answer.count(u64::from(entry.length));
             answer.say(" in ");
             say_list(alloc, answer, entry.blocks.as_slice());
@@ -52,18 +55,33 @@ fn say_entry(alloc: Global, answer: &mut Answer, entry: Option<&Entry>) {
     }
 }
 
-/// The entry of a length and its blocks, as `4 1`.
+/// How many bytes a tile has at most.
+fn most_bytes(form: Form) -> u32
+    ensures { result ≡ most_bytes form }
+{
+    match form {
+        Form::Runs => 40960,
+        Form::Raw => 32768,
+    }
+}
+
+/// The entry of a length and its blocks, as `4 1`, of a raw tile as `raw:4 1`.
 fn entry_of(alloc: Global, words: &str) -> Result<Entry>
     ensures { IfOk result (λ e. IsEntry e) }
 {
+    let (form, words) = form_of(words);
     let (length, list) = cut(words);
     let length = length.parse::<u32>()?;
     let numbers = block_numbers(alloc, list)?;
-    if length == 0 || length > 40960 || numbers.len() != length.div_ceil(4096) as usize {
+    if length == 0 || length > most_bytes(form) || numbers.len() != length.div_ceil(4096) as usize {
         bail!("no such tile");
     }
-    let blocks = BlockList::new(numbers);
-    Ok(Entry { length, blocks })
+    let blocks = BlockList::new(&numbers);
+    Ok(Entry {
+        form,
+        length,
+        blocks,
+    })
 }
 
 /// Whether an index does not list the last tile, so that it has room for one below it.
@@ -113,7 +131,8 @@ pub fn call(
     words: &str,
 ) -> Result<()> {
     match verb {
-        "of" => read(alloc, answer, index, files, words)?,
+        "of" => read(alloc, answer, index, Version::Two, files, words)?,
+        "of_version_1" => read(alloc, answer, index, Version::One, files, words)?,
         "replace" => replace(alloc, answer, index, words)?,
         "entry" => say_entry(alloc, answer, index.get(number(words))),
         "tiles" => answer.count(index.as_slice().len() as u64),

@@ -2,9 +2,10 @@
 
 use anyhow::Result;
 use arr_core::{Cell, Field, FieldType, Name, Signature};
+use file_bytes::Form;
 use std::alloc::{AllocError, Global};
 use std::fmt::Display;
-use test_rows::{Answer, cell, cut, domain, fields, integer, say_domain, text};
+use test_rows::{Answer, cell, cut, cut_at, domain, fields, integer, say_domain, text};
 
 /// The numbers of refusals that any call on a disk may have.
 pub const NO_MEMORY: u16 = 90;
@@ -14,6 +15,23 @@ pub const DISK_FAULT: u16 = 91;
 pub const NO_ROOM: u16 = 92;
 
 pub const DAMAGED: u16 = 93;
+
+/// The form of a tile and the words behind it: raw as `raw:i16:2`, else runs.
+pub fn form_of(words: &str) -> (Form, &str) {
+    let (first, rest) = cut_at(words, ':');
+    if first == "raw" {
+        (Form::Raw, rest)
+    } else {
+        (Form::Runs, words)
+    }
+}
+
+/// The word for a form that stands before what is said of a tile: none for runs.
+pub fn say_form(answer: &mut Answer, form: Form) {
+    if form == Form::Raw {
+        answer.say("raw:");
+    }
+}
 
 fn say_number<T: Display>(alloc: Global, answer: &mut Answer, number: &T) {
     match format!(in alloc; "{number}") {

@@ -1,4 +1,4 @@
-use Rattle.std.proofs.Common.{◌≡◌, take}
+use Rattle.std.proofs.Common.{take}
 use Rattle.coverage_server.specs.Tiles.{ArePlaces, HaveDomains, store_for}
 use Rattle.coverage_server.proofs.cells.places_of.Given as goal
 

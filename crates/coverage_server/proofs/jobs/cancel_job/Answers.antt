@@ -1,6 +1,7 @@
 -- A job that is there is dropped with what is held for it, and a number of no job is refused.
 use Rattle.coverage_server.proofs.HoldingLemmas.{holding_left}
 use Rattle.coverage_server.proofs.JobLemmas.{cancelled, cancel_absent}
+use Rattle.coverage_server.proofs.PlacedLemmas.{lets_go}
 use Rattle.coverage_server.proofs.jobs.cancel_job.Goals as goal
 
 pub returns-in-Ok-clause-answered : goal.returns-in-Ok-clause-answered
@@ -16,3 +17,7 @@ returns-in-Ok-clause-holding g c =
 pub returns-in-Err-clause-answered : goal.returns-in-Err-clause-answered
 returns-in-Err-clause-answered g c =
     rw (c.in-Err.ensures.unchanged, c.in-Err.ensures.kept) (cancel_absent c.args.cells.now.coverages c.args.desk.now c.args.number c.in-Err.ensures.absent)
+
+pub returns-in-Ok-clause-lays : goal.returns-in-Ok-clause-lays
+returns-in-Ok-clause-lays g c = lets_go c.args.number c.args.cells.now.coverages c.cancel.new.store.coverages
+    c.in-Ok.ensures.released

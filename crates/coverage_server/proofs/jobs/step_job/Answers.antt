@@ -1,12 +1,14 @@
 -- Units of a job are done, or one of them fails.
-use Rattle.std.proofs.Common.{List, rules, ◌≡◌, ◌++◌, ◌∙◌, ◌-◌, Ok, inl, refl, sym, ap}
+use Rattle.std.proofs.Common.{List, rules, ◌≡◌, ◌++◌, ◌∙◌, ◌-◌, Ok, inl, inr, refl, sym, ap}
 use Rattle.std.specs.Prelude.{string_bytes, codes, decimal, ℕ}
 use Rattle.job_desk.specs.Desks.{job_of}
 use Rattle.job_desk.specs.Steps.{Ends}
 use Rattle.coverage_server.specs.Holding.{ReleasesFor}
-use Rattle.coverage_server.specs.Views.{ServerView}
+use Rattle.coverage_server.specs.Views.{ServerView, still_of}
 use Rattle.coverage_server.proofs.FaultLemmas.{any_err}
-use Rattle.coverage_server.proofs.StepLemmas.{absent_left, step_absent, job_told, is_asked, asked_signatures, step_done, StepDone, ends_as, step_ok, step_err, step_leaves}
+use Rattle.coverage_server.proofs.FetchingLemmas.{refused_units, units_fetched, unless_any}
+use Rattle.coverage_server.proofs.PlacedLemmas.{ends_lay}
+use Rattle.coverage_server.proofs.StepLemmas.{absent_left, step_absent, job_told, is_asked, asked_signatures, step_done, ends_as, step_ok, step_err, step_leaves}
 use Rattle.coverage_server.proofs.jobs.step_job.Goals as goal
 
 pub returns-in_default-clause-answered : goal.returns-in_default-clause-answered
@@ -77,16 +79,54 @@ returns-in-Err-clause-holding g c =
     x.0.coverages (ap (λ (k : ServerView × ℕ × List ℕ). k.0) x.1.same.kept) c.step.new.source.coverages c.in-Err.error c.step_refusal.result w c.step_refusal.ensures c.in-Err.ensures.refused x.2).1
 
 pub returns-in-Err-clause-jobs : goal.returns-in-Err-clause-jobs
-returns-in-Err-clause-jobs g c = step_leaves _ _ c.args.number c.args.units c.args.desk.now c.step.new.self c.in-Err.error c.in-Err.ensures.refused
+returns-in-Err-clause-jobs g c =
+    let x = c.in-Err.ensures.source in
+    let v = c.args.cells.now.coverages in
+    let w = c.step.new.source.coverages in
+    let as_was : w ≡ x.0.coverages = rw x.3 refl in (
+      step_leaves _ _ c.args.number c.args.units c.args.desk.now c.step.new.self c.in-Err.error c.in-Err.ensures.refused,
+      refused_units c.args.number c.args.desk.now c.step.new.self c.ask.new.self.coverages v x.0.coverages w
+          c.in_ok-ask.ensures.coverages c.in-Err.error c.step_refusal.result as_was c.step_refusal.ensures x.4,
+    )
+
+pub returns-in-Ok-clause-jobs : goal.returns-in-Ok-clause-jobs
+returns-in-Ok-clause-jobs g c =
+    let x = c.in-Ok.ensures.source in
+    let v = c.args.cells.now.coverages in
+    let w = c.step.new.source.coverages in
+    let ends : Ends (Ok c.in-Ok.field-0) (w ≡ x.0.coverages) (ReleasesFor c.args.number x.0.coverages w) = ends_as
+    (Ok c.in-Ok.field-0) (λ e. rw e refl) (λ r. r) x.3 in (
+      tt,
+      inr (units_fetched c.args.number c.args.desk.now c.step.new.self c.ask.new.self.coverages v x.0.coverages w
+          c.in_ok-ask.ensures.coverages c.in-Ok.field-0 ends x.4),
+    )
+
+pub returns-then-left-eq0-clause-jobs : goal.returns-then-left-eq0-clause-jobs
+returns-then-left-eq0-clause-jobs g c = (tt, inl refl)
 
 pub returns-in_default-clause-jobs : goal.returns-in_default-clause-jobs
-returns-in_default-clause-jobs g c = inl refl
+returns-in_default-clause-jobs g c = (inl refl, inr (inl refl))
 
 pub returns-in_default-coverages-clause-jobs : goal.returns-in_default-coverages-clause-jobs
-returns-in_default-coverages-clause-jobs g c = inl refl
+returns-in_default-coverages-clause-jobs g c = (inl refl, inr (inl refl))
 
 pub returns-in_err-reply-clause-jobs : goal.returns-in_err-reply-clause-jobs
-returns-in_err-reply-clause-jobs g c = any_err _ _ (inl refl)
+returns-in_err-reply-clause-jobs g c = (any_err _ _ (inl refl), unless_any _ _ (inl refl))
 
 pub returns-in_err-ask-clause-jobs : goal.returns-in_err-ask-clause-jobs
-returns-in_err-ask-clause-jobs g c = any_err _ _ (inl refl)
+returns-in_err-ask-clause-jobs g c =
+    (any_err _ _ (inl refl), unless_any _ _ (inl (ap (λ (v : ServerView). v.fetched) c.ask.ensures.coverages)))
+
+pub returns-then-left-eq0-clause-lays : goal.returns-then-left-eq0-clause-lays
+returns-then-left-eq0-clause-lays g c = inl refl
+
+pub returns-in-Ok-clause-lays : goal.returns-in-Ok-clause-lays
+returns-in-Ok-clause-lays g c =
+    let x = c.in-Ok.ensures.source in
+    let v = c.args.cells.now.coverages in
+    let w = c.step.new.source.coverages in
+    let ends : Ends (Ok c.in-Ok.field-0) (w ≡ x.0.coverages) (ReleasesFor c.args.number x.0.coverages w) = ends_as
+    (Ok c.in-Ok.field-0) (λ e. rw e refl) (λ r. r) x.3 in
+    let still : still_of x.0.coverages ≡ still_of v = ap (λ (k : ServerView × ℕ × List ℕ). k.0) x.1.same.kept ∙ ap
+    still_of c.in_ok-ask.ensures.coverages in
+    ends_lay c.args.number c.in-Ok.field-0 v x.0.coverages w still ends

@@ -3,6 +3,7 @@ use Rattle.std.proofs.Common.{◌≡◌, ◌∙◌, map, refl, ap, inl, inr}
 use Rattle.arr_core.specs.declared.signature.Signature.{Signature}
 use Rattle.coverage_server.proofs.HoldingLemmas.{unheld_next}
 use Rattle.coverage_server.proofs.JobLemmas.{may_hold, submit_failed_as, submit_holds, submitted}
+use Rattle.coverage_server.proofs.PlacedLemmas.{lays_held}
 use Rattle.coverage_server.proofs.jobs.submit_typed.Goals as goal
 
 pub submit-requires-clause-names : goal.submit-requires-clause-names
@@ -45,3 +46,11 @@ returns-in-Err-clause-refused g c = elim c.in-Err.ensures.stays [
   | inl e ↦ rw e refl
   | inr e ↦ e
 ]
+
+pub returns-in-Ok-clause-lays : goal.returns-in-Ok-clause-lays
+returns-in-Ok-clause-lays g c =
+    let v = c.args.cells.now.coverages in
+    let named = c.in_ok-names.ensures ∙ ap (map (λ (s : Signature). s.name)) c.coverages.ensures in
+    let x = c.in-Ok.ensures.submitted in
+    λ text told. lays_held v c.submit.new.store.coverages text _ c.in_ok-names.names.items _ c.args.desk.now.next
+    x.given named told.typed c.in-Ok.ensures.held

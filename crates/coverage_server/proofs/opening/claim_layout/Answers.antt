@@ -10,14 +10,14 @@ returns-clause-claims g c =
     record {
       listed = c.in_ok-layout.ensures.listed;
       claims = claims;
-      room = layout_room c.args.metadata.now c.args.file.now.marks c.claim_listed.new.file.marks c.in_ok-layout.layout.catalogue (items_of c.in_ok-layout.layout.indexes.items) c.requires.fresh
+      room = layout_room c.args.version c.args.metadata.now c.args.file.now.marks c.claim_listed.new.file.marks c.in_ok-layout.layout.catalogue (items_of c.in_ok-layout.layout.indexes.items) c.requires.fresh
           c.in_ok-layout.ensures.listed claims (omega (arith, c.if-div_ceil-free.false, c.free.ensures, c.div_ceil.ensures));
     }
 
 pub returns-in-Err-clause-refused : goal.returns-in-Err-clause-refused
 returns-in-Err-clause-refused g c =
     departs_map _ _ c.in-Err.fault
-    (λ cannot honest. unclaimed _ c.args.metadata.now c.args.file.now.marks _ _ (c.requires.opened honest) c.in_ok-layout.ensures.listed (rw c.deref.ensures.value at cannot))
+    (λ cannot honest. unclaimed c.args.version _ c.args.metadata.now c.args.file.now.marks _ _ (c.requires.version honest) (c.requires.opened honest) c.in_ok-layout.ensures.listed (rw c.deref.ensures.value at cannot))
     c.in-Err.ensures.refused
 
 pub returns-then-div_ceil-free-clause-refused : goal.returns-then-div_ceil-free-clause-refused

@@ -2,7 +2,7 @@
 use Rattle.std.proofs.Common.{◌≡◌, ◌<◌, ◌∙◌, ap, sym, subst, List, ℕ}
 use Rattle.block_file.specs.Uses.{uses_of}
 use Rattle.block_file.specs.View.{BlockFileView, state_of}
-use Rattle.raster_store.specs.Views.{Index, RasterView, listed_all, coverages_in}
+use Rattle.raster_store.specs.Views.{Index, listed_all, coverages_in}
 use Rattle.raster_store.specs.Calls.{MayAttach}
 use Rattle.coverage_server.specs.Opening.{items_of}
 use Rattle.coverage_server.proofs.LayoutLemmas.{may_attach}
@@ -21,7 +21,7 @@ attach_all-requires-clause-blocks g c before new after split =
 
 pub new-requires : goal.new-requires
 new-requires g c =
-    layout_ready _ _ _ _ c.in-Ok.layout.catalogue (items_of c.in-Ok.layout.indexes.items) c.attach_all.new.cells c.requires.fresh c.in-Ok.ensures.claims
+    layout_ready _ _ _ _ _ c.in-Ok.layout.catalogue (items_of c.in-Ok.layout.indexes.items) c.attach_all.new.cells c.requires.fresh c.in-Ok.ensures.claims
     c.in-Ok-attach_all.ensures.coverages c.in-Ok-attach_all.ensures.indexes c.attach_all.ensures.unheld
     (ap (λ (b : BlockFileView). b.marks) (c.attach_all.ensures.blocks ∙ c.new-cells.ensures.blocks ∙ c.new-pool.ensures))
 
@@ -29,7 +29,7 @@ pub returns-in-Ok-attach_all-clause-lists : goal.returns-in-Ok-attach_all-clause
 returns-in-Ok-attach_all-clause-lists g c honest =
     let opened = c.requires.opened honest in
     let content = ap (λ (b : BlockFileView). b.content) (c.new-cells.ensures.blocks ∙ c.new-pool.ensures) ∙ c.in-Ok.ensures.content in
-    lists_all _ _ _ _ c.in-Ok.layout.catalogue (items_of c.in-Ok.layout.indexes.items) _ _ opened (rw c.deref.ensures.value at c.in-Ok.ensures.claims.listed) c.in-Ok.ensures.claims.claims
+    lists_all _ _ _ _ _ c.in-Ok.layout.catalogue (items_of c.in-Ok.layout.indexes.items) _ _ (c.requires.version honest) opened (rw c.deref.ensures.value at c.in-Ok.ensures.claims.listed) c.in-Ok.ensures.claims.claims
     c.in-Ok-attach_all.ensures.tiles
     (c.new.ensures.store ∙ c.in-Ok-attach_all.ensures.coverages ∙ ap (λ (l : List ℕ). coverages_in l c.in-Ok.layout.catalogue (items_of c.in-Ok.layout.indexes.items)) content)
     (c.new.ensures.indexes ∙ c.in-Ok-attach_all.ensures.indexes)
@@ -37,5 +37,5 @@ returns-in-Ok-attach_all-clause-lists g c honest =
 pub returns-clause-refused : goal.returns-clause-refused
 returns-clause-refused g c =
     departs_map _ _ c.in-Err-attach_all.fault
-    (λ beyond_domains honest. beyond _ _ _ _ _ (c.requires.opened honest) (rw c.deref.ensures.value at c.in-Ok.ensures.claims.listed) beyond_domains)
+    (λ beyond_domains honest. beyond _ _ _ _ _ _ (c.requires.version honest) (c.requires.opened honest) (rw c.deref.ensures.value at c.in-Ok.ensures.claims.listed) beyond_domains)
     c.in-Err-attach_all.ensures.refused

@@ -4,6 +4,7 @@ use Rattle.std.proofs.lemmas.Result.{err_from_is_err_and}
 use Rattle.arr_core.specs.declared.signature.Signature.{Signature}
 use Rattle.arr_core.specs.Stores.{found, inserted}
 use Rattle.catalogue.specs.Signatures.{MayInsert}
+use Rattle.coverage_server.specs.Layouts.{LaysNone, layout_of}
 use Rattle.coverage_server.specs.Machine.{SpellDomain, axes_of}
 use Rattle.coverage_server.specs.Views.{signatures_of}
 use Rattle.coverage_server.specs.Writing.{InsertRefused}
@@ -53,3 +54,16 @@ returns-in_err-name-clause-unchanged g c = none_changed _ c.args.coverages.now c
 
 pub returns-in_err-reply-clause-unchanged : goal.returns-in_err-reply-clause-unchanged
 returns-in_err-reply-clause-unchanged g c = none_changed _ c.args.coverages.now c.args.coverages.now refl
+
+pub returns-clause-lays : goal.returns-clause-lays
+returns-clause-lays g c =
+    let u = c.args.insertion.now in
+    let v = c.args.coverages.now in
+    let domain : c.in_ok-domain.domain ≡ axes_of u.intervals.items = c.in_ok-domain.ensures.ok.1 ∙ ap axes_of
+    c.deref.ensures.value in
+    let fields : c.in_ok-fields.fields ≡ u.fields.items = c.in_ok-fields.ensures ∙ c.deref-2.ensures.value in
+    let same = signature_alike (record
+    { name = c.in_ok-name.name; domain = c.in_ok-domain.domain; fields = c.in_ok-fields.fields }) u.coverage
+    (axes_of u.intervals.items) u.fields.items c.in_ok-name.ensures domain fields in
+    subst (λ (s : Signature). LaysNone s (layout_of v) (layout_of c.insert.new.self)) same
+    c.in_ok-insert.ensures.inserted.lays

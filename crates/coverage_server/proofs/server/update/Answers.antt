@@ -4,6 +4,7 @@ use Rattle.std.proofs.lemmas.Result.{err_from_is_err_and}
 use Rattle.arr_core.specs.declared.domain.Axis.{Axis}
 use Rattle.arr_core.specs.Stores.{updated}
 use Rattle.kvp_front.specs.Contents.{content_view}
+use Rattle.coverage_server.specs.Layouts.{LaysBox, layout_of}
 use Rattle.coverage_server.specs.Machine.{SpellDomain, axes_of}
 use Rattle.coverage_server.specs.Room.{numbers_of}
 use Rattle.coverage_server.specs.Writing.{MayWrite, WriteRefused}
@@ -11,7 +12,7 @@ use Rattle.coverage_server.proofs.FreeLemmas.{unchanged, none_changed, same_kept
 use Rattle.coverage_server.proofs.ListLemmas.{position_within}
 use Rattle.coverage_server.proofs.MachineLemmas.{at_field}
 use Rattle.coverage_server.proofs.FaultLemmas.{never_fewer}
-use Rattle.coverage_server.proofs.UpdateLemmas.{has_field, area_refused, write_answered, write_done}
+use Rattle.coverage_server.proofs.UpdateLemmas.{has_field, area_refused, lays_update, write_answered, write_done}
 use Rattle.coverage_server.proofs.server.update.Goals as goal
 
 pub write-requires : goal.write-requires
@@ -88,3 +89,18 @@ returns-in_err-reply-clause-unchanged g c = none_changed _ c.args.coverages.now 
 
 pub returns-in_err-reply-clause-held : goal.returns-in_err-reply-clause-held
 returns-in_err-reply-clause-held g c = same_kept c.args.coverages.now c.args.coverages.now refl
+
+pub returns-clause-lays : goal.returns-clause-lays
+returns-clause-lays g c =
+    let u = c.args.update.now in
+    let v = c.args.coverages.now in
+    let w = c.write.new.self in
+    let x = c.in-Some.ensures in
+    let k = c.in-Some-place_of.field in
+    let place = at_field u.field c.as_str.result.now x.0 c.in-Some.signature.now k c.as_str.ensures.value x.2
+    c.in-Some-place_of.ensures in
+    let area : c.in_ok-area.area ≡ axes_of u.intervals.items = c.in_ok-area.ensures.ok.1 ∙ ap axes_of
+    c.deref.ensures.value in
+    λ sure. lays_update v w u.coverage u.field u.intervals.items x.0 x.1 k place
+    (subst (λ (a : List Axis). LaysBox u.coverage k a v.store w.store (layout_of v) (layout_of w)) area
+    (c.in_ok-write.ensures.done.lays sure))

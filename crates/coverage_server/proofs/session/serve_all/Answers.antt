@@ -19,7 +19,8 @@ loop-connection-preserved g c =
             after.0,
             after.1,
             served-more g.R.Source.remaining g.R.Source.failed g.W.Sink.contents g.W.Sink.failed c.args.connections.now c.loop-connection.connections i
-                c.connection-item.result (c.serve_connection-end.new.reader, c.serve_connection-end.new.writer) _ _ _ _ _ s before.0 after.0 _ v.3 v.2 first v.1 so_far fewer before.2
+                c.connection-item.result (c.serve_connection-end.new.reader, c.serve_connection-end.new.writer) _ _ _ s
+                before.0 after.0 _ v.2 first v.1 so_far fewer before.2
                 c.serve_connection-end.ensures.told after.2,
           ),
       rest_kept c.args.connections.now c.loop-connection.connections i (c.serve_connection-end.new.reader, c.serve_connection-end.new.writer) v.1,

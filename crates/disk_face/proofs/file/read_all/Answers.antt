@@ -22,4 +22,5 @@ reading-preserved g c =
         same_synced = c.in-Ok.ensures.same.same_synced ∙ c.reading.invariant.2.same_synced;
         same_honest = c.in-Ok.ensures.same.same_honest ∙ c.reading.invariant.2.same_honest;
       },
+      λ works. (c.in-Ok.ensures.works (c.reading.invariant.3 works)).0,
     )

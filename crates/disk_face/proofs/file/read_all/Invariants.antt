@@ -8,6 +8,7 @@ invariant-reading g l =
     × (IsTrue (g.F.RawFile.honest l.initial.file) → (i : ℕ) → i < l.filled
     → slice_index (g.F.RawFile.content l.initial.file) (l.at + i) ≡ slice_index l.buf i)
     × Unwritten g.F.RawFile.content g.F.RawFile.synced g.F.RawFile.honest l.initial.file l.file
+    × (IsTrue (g.F.RawFile.works l.initial.file) → IsTrue (g.F.RawFile.works l.file))
 
 abbrev pub decreases-reading : goal.decreases-reading
 decreases-reading g l = length l.initial.buf - l.filled

@@ -11,6 +11,7 @@ invariant-writing g l =
     × Torn l.at (length l.bytes) (g.F.RawFile.content l.initial.file) (g.F.RawFile.content l.file)
     × Torn l.at (length l.bytes) (g.F.RawFile.synced l.initial.file) (g.F.RawFile.synced l.file)
     × (g.F.RawFile.honest l.file ≡ g.F.RawFile.honest l.initial.file)
+    × (IsTrue (g.F.RawFile.works l.initial.file) → IsTrue (g.F.RawFile.works l.file))
 
 abbrev pub decreases-writing : goal.decreases-writing
 decreases-writing g l = length l.bytes - l.taken

@@ -1,37 +1,46 @@
--- The bytes are the metadata of what was read, and of nothing else.
+-- The bytes are the metadata of what was read, and of nothing else that a file of the version has.
 use Rattle.std.proofs.Common.{length, ap, sym, ◌∙◌, [], arith, append-nil}
 use Rattle.catalogue.proofs.Sequences.{none-first, none-second, whole-only, whole-read, handed_on}
-use Rattle.metadata.proofs.Whole.{metadata-parts, read-whole}
+use Rattle.metadata.proofs.Counted.{counted-out}
+use Rattle.metadata.proofs.Whole.{metadata-parts, of-version, read-whole}
 use Rattle.metadata.proofs.reading.read_metadata.Goals as goal
 
 pub returns-in_err-catalogue-clause-damaged : goal.returns-in_err-catalogue-clause-damaged
-returns-in_err-catalogue-clause-damaged c h signatures indexes m =
-    none-first metadata-parts (c.in_err-catalogue.ensures.damaged (handed_on _ c.from_residual.ensures.1 h)) (signatures, indexes) [] (m.catalogue, m.counted)
+returns-in_err-catalogue-clause-damaged c h signatures indexes m o =
+    none-first (metadata-parts c.args.version) (c.in_err-catalogue.ensures.damaged (handed_on _ c.from_residual.ensures.1 h)) (signatures, indexes) [] (of-version m o)
     (c.new-rest.ensures ∙ m.written ∙ sym (append-nil _))
 
 pub returns-in_err-indexes-clause-damaged : goal.returns-in_err-indexes-clause-damaged
-returns-in_err-indexes-clause-damaged c h signatures indexes m =
+returns-in_err-indexes-clause-damaged c h signatures indexes m o =
     let listed = c.deref.ensures.value ∙ c.in_ok-signatures.ensures in
     let none = rw listed at (c.in_err-indexes.ensures.damaged (handed_on _ c.from_residual-in_err-indexes.ensures.1 h)) in
-    none-second metadata-parts c.in_ok-catalogue.ensures.read none (signatures, indexes) [] (m.catalogue, m.counted)
+    none-second (metadata-parts c.args.version) c.in_ok-catalogue.ensures.read none (signatures, indexes) [] (of-version m o)
     (c.new-rest.ensures ∙ m.written ∙ sym (append-nil _))
 
 pub returns-then-len-ne0-clause-damaged : goal.returns-then-len-ne0-clause-damaged
-returns-then-len-ne0-clause-damaged c _ signatures indexes m =
-    let whole = read-whole c.deref.ensures.value c.in_ok-signatures.ensures c.in_ok-catalogue.ensures.read c.in_ok-indexes.ensures.read in
-    omega (arith, ap length (whole-only whole (signatures, indexes) (m.catalogue, m.counted) (c.new-rest.ensures ∙ m.written)).1)
+returns-then-len-ne0-clause-damaged c _ signatures indexes m o =
+    let whole = read-whole c.args.version c.deref.ensures.value c.in_ok-signatures.ensures c.in_ok-catalogue.ensures.read c.in_ok-indexes.ensures.read in
+    omega (arith, ap length (whole-only whole (signatures, indexes) (of-version m o) (c.new-rest.ensures ∙ m.written)).1)
 
 pub returns-clause-read : goal.returns-clause-read
 returns-clause-read c =
-    let whole = read-whole c.deref.ensures.value c.in_ok-signatures.ensures c.in_ok-catalogue.ensures.read c.in_ok-indexes.ensures.read in
+    let whole = read-whole c.args.version c.deref.ensures.value c.in_ok-signatures.ensures c.in_ok-catalogue.ensures.read c.in_ok-indexes.ensures.read in
     record {
-      catalogue = whole.value.0;
-      counted = whole.value.1;
+      catalogue = whole.value.0.0;
+      counted = (counted-out c.args.version _ _ whole.value.1).0;
       written = sym c.new-rest.ensures ∙ whole-read whole (omega arith);
     }
 
+pub returns-clause-version : goal.returns-clause-version
+returns-clause-version c =
+    let whole = read-whole c.args.version c.deref.ensures.value c.in_ok-signatures.ensures c.in_ok-catalogue.ensures.read c.in_ok-indexes.ensures.read in
+    record {
+      axes = whole.value.0.1;
+      forms = (counted-out c.args.version _ _ whole.value.1).1;
+    }
+
 pub returns-clause-only : goal.returns-clause-only
-returns-clause-only c signatures indexes m =
-    let whole = read-whole c.deref.ensures.value c.in_ok-signatures.ensures c.in_ok-catalogue.ensures.read c.in_ok-indexes.ensures.read in
-    let one = (whole-only whole (signatures, indexes) (m.catalogue, m.counted) (c.new-rest.ensures ∙ m.written)).0 in
+returns-clause-only c signatures indexes m o =
+    let whole = read-whole c.args.version c.deref.ensures.value c.in_ok-signatures.ensures c.in_ok-catalogue.ensures.read c.in_ok-indexes.ensures.read in
+    let one = (whole-only whole (signatures, indexes) (of-version m o) (c.new-rest.ensures ∙ m.written)).0 in
     (ap (λ p. p.0) one, ap (λ p. p.1) one)

@@ -1,6 +1,8 @@
 -- A tile of the coverage is read as one of its field.
 use Rattle.std.proofs.Common.{[], ◌∷◌, refl}
 use Rattle.std.proofs.lemmas.Result.{err_from_is_err_and}
+use Rattle.tile_store.specs.Listing.{listed}
+use Rattle.tile_store.proofs.Takes.{reads_whole}
 use Rattle.raster_store.specs.Holding.{tile_in}
 use Rattle.raster_store.proofs.Readings.{placed, spelled_is, decoded_tile}
 use Rattle.raster_store.proofs.fetching.read_of.Goals as goal
@@ -29,3 +31,13 @@ pub returns-clause-read : goal.returns-clause-read
 returns-clause-read g c =
     let at = placed _ (c.args.of.coverage.now ∷ []) (tile_in c.args.of.field c.args.of.tile) c.args.of.coverage.now c.requires.held c.requires.tile refl in
     decoded_tile at c.tiles-tiles.result c.read_tile_into.new.cells.items c.tiles-tiles.ensures c.in_ok-read_tile_into.ensures.read
+
+pub returns-in_err-read_tile_into-clause-frame : goal.returns-in_err-read_tile_into-clause-frame
+returns-in_err-read_tile_into-clause-frame g c =
+    let at = placed _ (c.args.of.coverage.now ∷ []) (tile_in c.args.of.field c.args.of.tile) c.args.of.coverage.now c.requires.held c.requires.tile refl in
+    reads_whole (listed c.tiles-tiles.result.index.now) _ _ (rw c.tiles-tiles.ensures.index at.of.sound.whole) c.in_err-read_tile_into.ensures.frame
+
+pub returns-clause-frame : goal.returns-clause-frame
+returns-clause-frame g c =
+    let at = placed _ (c.args.of.coverage.now ∷ []) (tile_in c.args.of.field c.args.of.tile) c.args.of.coverage.now c.requires.held c.requires.tile refl in
+    reads_whole (listed c.tiles-tiles.result.index.now) _ _ (rw c.tiles-tiles.ensures.index at.of.sound.whole) c.in_ok-read_tile_into.ensures.frame

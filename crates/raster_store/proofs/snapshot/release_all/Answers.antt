@@ -5,7 +5,7 @@ use Rattle.raster_store.proofs.Snapshots.{one_held_more, held_front}
 use Rattle.raster_store.proofs.snapshot.release_all.Goals as goal
 
 pub loop-coverage-init : goal.loop-coverage-init
-loop-coverage-init g c = record { uses = λ k. omega (arith, listed_all-nil k); content = refl; synced = refl; size = refl; failures = refl; honest = refl }
+loop-coverage-init g c = record { uses = λ k. omega (arith, listed_all-nil k); content = refl; synced = refl; size = refl; failures = refl; overreads = refl; honest = refl }
 
 pub release_fields-requires : goal.release_fields-requires
 release_fields-requires g c = λ k.
@@ -22,5 +22,6 @@ loop-coverage-preserved g c =
       synced = back.synced ∙ inv.synced;
       size = back.size ∙ inv.size;
       failures = back.failures ∙ inv.failures;
+      overreads = back.overreads ∙ inv.overreads;
       honest = back.honest ∙ inv.honest;
     }

@@ -1,36 +1,11 @@
--- The bytes spell the cells in runs, each as long as it can be, and are 1 to 40,960 in number.
-use Rattle.std.proofs.Common.{◌-◌, ℤ, pos, ◌++◌, get_or, refl, ap, ◌∙◌, arith, rules, SFits, w64, to_z-of_z}
-use Rattle.std.proofs.Math.Nat.{one-le-mul}
-use Rattle.std.proofs.lemmas.Nat.{mul-le}
-use Rattle.run_tile.specs.Runs.{IsRun, run_size, runs_in}
-use Rattle.run_tile.specs.Bytes.{run_bytes}
-use Rattle.run_tile.specs.declared.run.Run.{Run}
-use Rattle.run_tile.proofs.Pushes.{written-none, written-more, written-all, runs-bounds}
+-- Cells are written in the form that takes fewer bytes.
+use Rattle.std.proofs.Common.{arith}
+use Rattle.run_tile.specs.Raw.{AreShortRuns}
+use Rattle.run_tile.proofs.RawTiles.{tile-bounds}
 use Rattle.run_tile.proofs.encoding.encode.Goals as goal
 
-pub loop-at-init : goal.loop-at-init
-loop-at-init c = rw c.in_ok-bytes.ensures.items (written-none c.args.kind c.args.cells.now)
-
-pub loop-at-preserved : goal.loop-at-preserved
-loop-at-preserved c =
-    let kind = c.args.kind in
-    let at = c.loop-at.at in
-    let end = c.run_end-end.result in
-    let stops = c.run_end-end.ensures in
-    let run : Run = record { count = end - at; value = get_or c.args.cells.now at (pos 0) } in
-    let sound : IsRun kind run = (omega arith, omega (arith, c.requires.few), c.requires.of_type at (pos 0) (omega arith)) in
-    let fits : SFits w64 run.value = search rules in
-    let pushed = c.in_ok-push_run.ensures ∙ ap (λ (z : ℤ). c.loop-at.bytes.items ++ run_bytes kind (record { count = end - at; value = z })) (to_z-of_z fits) in
-    rw pushed (written-more kind c.args.cells.now c.loop-at.bytes.items at end run c.loop-at.invariant sound refl (omega arith) stops.within stops.equal stops.longest)
-
-pub returns : goal.returns
-returns c =
-    let cells = c.args.cells.now in
-    let written = written-all c.args.kind cells c.loop-at.bytes.items c.loop-at.at c.loop-at.invariant (omega (arith, c.loop-at-test.false)) in
-    let bounds = runs-bounds cells c.requires.some in
-    record {
-      spelled = written.0;
-      length = written.1;
-      some = rw written.1 (one-le-mul bounds.0 (omega arith));
-      few = rw written.1 (mul-le (runs_in cells) (run_size c.args.kind) 4096 10 (omega (arith, bounds.1, c.requires.few)) (grind arith));
-    }
+pub returns-clause-some : goal.returns-clause-some
+returns-clause-some c =
+    let short : AreShortRuns c.args.kind c.args.cells.now _ c.in-Some.bytes.items = rw c.in-Some.is at c.in_ok-bytes.ensures.runs in
+    let bounds = (tile-bounds c.args.kind c.args.cells.now c.requires.some c.requires.few).0 in
+    omega (arith, short.size, bounds)

@@ -1,6 +1,6 @@
 -- Each node of a body gives its column of outcomes, a fold by points or by tiles, and fetches within its bound.
-use Rattle.std.proofs.Common.{◌≡◌, ◌∙◌, ◌+◌, ◌*◌, ◌<◌, ◌≤◌, ℕ, ℤ, List, [], ◌∷◌, ◌++◌, refl, ap, sym, subst, length, map, get_or, take, drop, arith, pos, rules}
-use Rattle.std.specs.Prelude.{replicate, OnOk, Option}
+use Rattle.std.proofs.Common.{◌≡◌, ◌∙◌, ◌+◌, ◌-◌, ◌*◌, ◌^◌, ◌<◌, ◌≤◌, ℕ, ℤ, List, [], ◌∷◌, ◌++◌, refl, ap, sym, subst, length, map, get_or, take, drop, arith, pos, rules}
+use Rattle.std.specs.Prelude.{replicate, OnOk, IfOk, Option, true, false}
 use Rattle.wcps_mean.specs.declared.cell.Outcome.TheVariants.{Value}
 use Rattle.plan_ir.specs.Bodies.{read}
 use Rattle.plan_ir.proofs.Folds.{folded}
@@ -30,14 +30,16 @@ use Rattle.tile_columns.proofs.Fetching.{read_few, times_few, times_more, fetche
 use Rattle.std.specs.List.{flat_map}
 use Rattle.std.proofs.Math.Nat.{mul_comm}
 use Rattle.arr_core.specs.Tiles.{tile_boxes}
-use Rattle.arr_core.proofs.Points.{length-points}
+use Rattle.arr_core.proofs.Points.{length-points, count-pos}
 use Rattle.tile_kernel.specs.declared.accumulator.Accumulator.{Accumulator}
 use Rattle.tile_kernel.specs.Told.{Told, told_at, demanded_at}
 use Rattle.tile_kernel.specs.Standing.{Stands, AreOf, HaveAtMost, EachTakesIn}
-use Rattle.tile_columns.specs.Condensing.{told_ranked}
+use Rattle.tile_columns.specs.Condensing.{told_of, told_ranked}
+use Rattle.tile_columns.specs.Zones.{operand, own_side, key_side, IsZonal}
 use Rattle.tile_columns.specs.TileOrder.{points_to}
 use Rattle.tile_columns.proofs.TileOrders.{points_whole}
 use Rattle.tile_columns.proofs.TileFolds.{no_tile, tile_more, all_tiles, points_next, room_more, place_more, count_more, rest_more, stands_ranked, always_told, never_told, one_place, place_in_part, times_tile}
+use Rattle.tile_columns.proofs.ZoneFolds.{zone_told, own_place, key_place, zone_bound, times_next}
 use Rattle.tile_columns.proofs.bodies.+evaluate.Goals as goal
 
 pub at_coordinates-evaluate-requires : goal.at_coordinates-evaluate-requires
@@ -508,3 +510,203 @@ tell_part-returns-in_err-found-clause-reports g t c =
     let e = c.in_err-found.ensures.reports in
     let i = inv.intact in
     search (rules, inv.failures, e, i)
+
+-- ---- folds of zones
+
+pub operand_of-returns-then-left-clause-value : goal.operand_of-returns-then-left-clause-value
+operand_of-returns-then-left-clause-value g t c =
+    subst (λ b. IfOk c.column_of.result (λ o. g.S.Tiles.intact c.args.source.now → o ≡ map (run (cells_of (g.S.Tiles.cells c.args.source.now) c.args.ground.now.coverages.now) c.args.ground.now.registers.now b) c.args.frame.now))
+    (ap body_view c.deref.ensures ∙ ap (λ b. operand true (body_view b)) (sym c.in-Op2.is) ∙ ap (λ b. operand b (body_view c.args.body.now)) (sym c.if-left.true)) c.column_of.ensures.value
+
+pub operand_of-returns-else-left-clause-value : goal.operand_of-returns-else-left-clause-value
+operand_of-returns-else-left-clause-value g t c =
+    subst (λ b. IfOk c.column_of-in-Op2.result (λ o. g.S.Tiles.intact c.args.source.now → o ≡ map (run (cells_of (g.S.Tiles.cells c.args.source.now) c.args.ground.now.coverages.now) c.args.ground.now.registers.now b) c.args.frame.now))
+    (ap body_view c.deref-in-Op2.ensures ∙ ap (λ b. operand false (body_view b)) (sym c.in-Op2.is) ∙ ap (λ b. operand b (body_view c.args.body.now)) (sym c.if-left.false)) c.column_of-in-Op2.ensures.value
+
+pub operand_of-returns-then-left-clause-fetched : goal.operand_of-returns-then-left-clause-fetched
+operand_of-returns-then-left-clause-fetched g t c =
+    subst (λ b. OnOk c.column_of.result ((n : ℕ) → All (λ (e : List ℤ). n ≤ length e) c.args.frame.now → g.S.Tiles.fetched c.column_of.new.source ≤ g.S.Tiles.fetched c.args.source.now + fetches (signature_of (g.S.Tiles.coverages c.args.source.now) c.args.ground.now.coverages.now) n c.args.frame.now b))
+    (ap body_view c.deref.ensures ∙ ap (λ b. operand true (body_view b)) (sym c.in-Op2.is) ∙ ap (λ b. operand b (body_view c.args.body.now)) (sym c.if-left.true)) c.column_of.ensures.fetched
+
+pub operand_of-returns-else-left-clause-fetched : goal.operand_of-returns-else-left-clause-fetched
+operand_of-returns-else-left-clause-fetched g t c =
+    subst (λ b. OnOk c.column_of-in-Op2.result ((n : ℕ) → All (λ (e : List ℤ). n ≤ length e) c.args.frame.now → g.S.Tiles.fetched c.column_of-in-Op2.new.source ≤ g.S.Tiles.fetched c.args.source.now + fetches (signature_of (g.S.Tiles.coverages c.args.source.now) c.args.ground.now.coverages.now) n c.args.frame.now b))
+    (ap body_view c.deref-in-Op2.ensures ∙ ap (λ b. operand false (body_view b)) (sym c.in-Op2.is) ∙ ap (λ b. operand b (body_view c.args.body.now)) (sym c.if-left.false)) c.column_of-in-Op2.ensures.fetched
+
+pub side_of-returns-in-Some-clause-value : goal.side_of-returns-in-Some-clause-value
+side_of-returns-in-Some-clause-value g t c =
+    subst (λ b. IfOk c.operand_of.result (λ o. g.S.Tiles.intact c.args.source.now → o ≡ map (run (cells_of (g.S.Tiles.cells c.args.source.now) c.args.ground.now.coverages.now) c.args.ground.now.registers.now b) c.args.frame.now))
+    (ap (λ (o : Option _). operand c.args.left (condition_view o)) (sym c.in-Some.is)) c.operand_of.ensures.value
+
+pub side_of-returns-in-Some-clause-fetched : goal.side_of-returns-in-Some-clause-fetched
+side_of-returns-in-Some-clause-fetched g t c =
+    subst (λ b. OnOk c.operand_of.result ((n : ℕ) → All (λ (e : List ℤ). n ≤ length e) c.args.frame.now → g.S.Tiles.fetched c.operand_of.new.source ≤ g.S.Tiles.fetched c.args.source.now + fetches (signature_of (g.S.Tiles.coverages c.args.source.now) c.args.ground.now.coverages.now) n c.args.frame.now b))
+    (ap (λ (o : Option _). operand c.args.left (condition_view o)) (sym c.in-Some.is)) c.operand_of.ensures.fetched
+
+pub tell_zone_tiles-loop-number-init : goal.tell_zone_tiles-loop-number-init
+tell_zone_tiles-loop-number-init g t c =
+    record {
+      told = λ i h. no_tile c.args.fold.now.domain (run (cells_of (g.S.Tiles.cells c.args.source.now) c.args.ground.now.coverages.now) c.args.ground.now.registers.now (condition_view c.args.fold.now.condition)) (run (cells_of (g.S.Tiles.cells c.args.source.now) c.args.ground.now.coverages.now) c.args.ground.now.registers.now (body_view c.args.fold.now.body)) c.args.frame.now c.args.folds.now;
+      room = λ k d lt. let few = c.requires.room k d lt in omega (arith, few);
+      op = c.requires.op;
+      rises = omega arith;
+      fetched = omega arith;
+      same = record { cells = refl; coverages = refl; kept = refl };
+      intact = λ i. i;
+      failures = refl;
+    }
+
+pub tell_zone_tiles-tell_zone_part-requires : goal.tell_zone_tiles-tell_zone_part-requires
+tell_zone_tiles-tell_zone_part-requires g t c =
+    let inv = c.loop-number.invariant in
+    let lt : c.loop-number.number < length (tile_boxes c.args.fold.now.domain) = omega (arith, c.loop-number-test.true, c.tiles-number-end.ensures.value) in
+    let signatures : c.args.ground.now.signatures.now ≡ g.S.Tiles.coverages c.loop-number.source = c.requires.signatures ∙ sym inv.same.coverages in
+    let place : HasPlace (signature_of (g.S.Tiles.coverages c.loop-number.source) c.args.ground.now.coverages.now) (length c.args.ground.now.registers.now) (fold_view c.args.fold.now) c.args.frame.now =
+    subst (λ all. HasPlace (signature_of all c.args.ground.now.coverages.now) (length c.args.ground.now.registers.now) (fold_view c.args.fold.now) c.args.frame.now) (sym inv.same.coverages) c.requires.place in
+    let zones = c.requires.zones in
+    let places = c.requires.places in
+    let part = c.in_ok-part.ensures.part in
+    let long : length c.loop-number.folds ≡ length c.args.frame.now = c.loop-number.auto.folds ∙ c.requires.folds in
+    let room = room_more c.args.fold.now.domain c.in_ok-part.part.area c.loop-number.number c.loop-number.folds c.axes-axes.ensures.domain lt c.in_ok-part.ensures.tile inv.room in
+    let op : AreOf c.args.fold.now.op c.loop-number.folds = inv.op in
+    search (rules, signatures, place, zones, places, part, long, room, op)
+
+pub tell_zone_tiles-loop-number-preserved : goal.tell_zone_tiles-loop-number-preserved
+tell_zone_tiles-loop-number-preserved g t c =
+    let inv = c.loop-number.invariant in
+    let dom = c.args.fold.now.domain in
+    let part = c.in_ok-part.part.area in
+    let lt : c.loop-number.number < length (tile_boxes dom) = omega (arith, c.loop-number-test.true, c.tiles-number-end.ensures.value) in
+    let is = c.in_ok-part.ensures.tile in
+    record {
+      told = λ i h.
+          tile_more dom (run (cells_of (g.S.Tiles.cells c.args.source.now) c.args.ground.now.coverages.now) c.args.ground.now.registers.now (condition_view c.args.fold.now.condition)) (run (cells_of (g.S.Tiles.cells c.args.source.now) c.args.ground.now.coverages.now) c.args.ground.now.registers.now (body_view c.args.fold.now.body)) c.args.frame.now part c.loop-number.number c.args.folds.now c.loop-number.folds c.tell_zone_part.new.folds lt is (inv.told i h)
+          (subst (λ s. EachTakesIn c.loop-number.folds c.tell_zone_part.new.folds (λ k. flat_map (told_ranked dom (run (cells_of s c.args.ground.now.coverages.now) c.args.ground.now.registers.now (condition_view c.args.fold.now.condition)) (run (cells_of s c.args.ground.now.coverages.now) c.args.ground.now.registers.now (body_view c.args.fold.now.body)) (get_or c.args.frame.now k [])) (points part))) inv.same.cells
+          (c.in_ok-tell_zone_part.ensures.told (inv.intact i) (subst (λ s. c.args.keys.now.column ≡ map (run (cells_of s c.args.ground.now.coverages.now) c.args.ground.now.registers.now (key_side c.args.zones.now.key_first (condition_view c.args.fold.now.condition))) c.args.frame.now) (sym inv.same.cells) h)));
+      room = subst (λ n. HaveAtMost n c.tell_zone_part.new.folds) (sym (points_next dom part c.loop-number.number lt is)) (c.in_ok-tell_zone_part.ensures.room (length (points_to dom c.loop-number.number)) inv.room);
+      op = c.in_ok-tell_zone_part.ensures.op;
+      rises = omega (arith, c.tell_zone_part.ensures.rises, inv.rises);
+      fetched =
+          let x = times_next dom part c.loop-number.number (own_side c.args.zones.now.key_first (condition_view c.args.fold.now.condition)) lt is in
+          let y = times_next dom part c.loop-number.number (body_view c.args.fold.now.body) lt is in
+          omega (arith, c.in_ok-tell_zone_part.ensures.fetched, inv.fetched, x, y);
+      same = record { cells = c.tell_zone_part.ensures.same.cells ∙ inv.same.cells; coverages = c.tell_zone_part.ensures.same.coverages ∙ inv.same.coverages; kept = c.tell_zone_part.ensures.same.kept ∙ inv.same.kept };
+      intact = λ i. c.tell_zone_part.ensures.intact (inv.intact i);
+      failures = c.in_ok-tell_zone_part.ensures.reports ∙ inv.failures;
+    }
+
+pub tell_zone_tiles-returns-clause-told : goal.tell_zone_tiles-returns-clause-told
+tell_zone_tiles-returns-clause-told g t c = λ i h.
+    let whole : c.loop-number.number ≡ length (tile_boxes c.args.fold.now.domain) = omega (arith, c.loop-number-test.false, c.loop-number.auto.number-end, c.tiles-number-end.ensures.value) in
+    all_tiles c.args.fold.now.domain (run (cells_of (g.S.Tiles.cells c.args.source.now) c.args.ground.now.coverages.now) c.args.ground.now.registers.now (condition_view c.args.fold.now.condition)) (run (cells_of (g.S.Tiles.cells c.args.source.now) c.args.ground.now.coverages.now) c.args.ground.now.registers.now (body_view c.args.fold.now.body)) c.args.frame.now c.args.folds.now c.loop-number.folds c.loop-number.number c.axes-axes.ensures.domain.ordered whole (c.loop-number.invariant.told i h)
+
+pub tell_zone_tiles-returns-clause-fetched : goal.tell_zone_tiles-returns-clause-fetched
+tell_zone_tiles-returns-clause-fetched g t c =
+    let whole : c.loop-number.number ≡ length (tile_boxes c.args.fold.now.domain) = omega (arith, c.loop-number-test.false, c.loop-number.auto.number-end, c.tiles-number-end.ensures.value) in
+    let n : length (points_to c.args.fold.now.domain c.loop-number.number) ≡ count c.args.fold.now.domain = ap (λ n. length (points_to c.args.fold.now.domain n)) whole ∙ points_whole c.args.fold.now.domain c.axes-axes.ensures.domain.ordered in
+    subst (λ k. g.S.Tiles.fetched c.loop-number.source ≤ g.S.Tiles.fetched c.args.source.now + (bound_times k (own_side c.args.zones.now.key_first (condition_view c.args.fold.now.condition)) + bound_times k (body_view c.args.fold.now.body))) n c.loop-number.invariant.fetched
+
+pub tell_zone_part-side_of-requires : goal.tell_zone_part-side_of-requires
+tell_zone_part-side_of-requires g t c =
+    let one = one_place (fold_view c.args.fold.now) c.args.frame.now 0 c.requires.zones.some c.requires.place in
+    let both = folded_place c.args.fold.now.op c.args.fold.now.domain (condition_view c.args.fold.now.condition) (body_view c.args.fold.now.body) (get_or c.args.frame.now 0 [] ∷ []) one in
+    let there : HasPlace (signature_of (g.S.Tiles.coverages c.args.source.now) c.args.ground.now.coverages.now) (length c.args.ground.now.registers.now) (own_side c.args.zones.now.key_first (condition_view c.args.fold.now.condition)) c.in_ok-inner.inner =
+    subst (HasPlace (signature_of (g.S.Tiles.coverages c.args.source.now) c.args.ground.now.coverages.now) (length c.args.ground.now.registers.now) (own_side c.args.zones.now.key_first (condition_view c.args.fold.now.condition))) (sym c.in_ok-inner.ensures)
+    (own_place c.requires.zones.depth (condition_view c.args.fold.now.condition) (own_side c.args.zones.now.key_first (condition_view c.args.fold.now.condition)) (key_side c.args.zones.now.key_first (condition_view c.args.fold.now.condition)) c.args.zones.now.key_first (map (λ p. get_or c.args.frame.now 0 [] ++ p) (points c.args.part.now.area)) c.requires.zones.sides
+    (place_in_part c.args.fold.now.domain c.args.part.now.area (condition_view c.args.fold.now.condition) (get_or c.args.frame.now 0 []) both.0 c.requires.part.inside c.requires.part.ordered)) in
+    search (rules, there)
+
+pub tell_zone_part-body_of-requires : goal.tell_zone_part-body_of-requires
+tell_zone_part-body_of-requires g t c =
+    let one = one_place (fold_view c.args.fold.now) c.args.frame.now 0 c.requires.zones.some c.requires.place in
+    let both = folded_place c.args.fold.now.op c.args.fold.now.domain (condition_view c.args.fold.now.condition) (body_view c.args.fold.now.body) (get_or c.args.frame.now 0 [] ∷ []) one in
+    let signatures : c.args.ground.now.signatures.now ≡ g.S.Tiles.coverages c.side_of.new.source = c.requires.signatures ∙ sym c.side_of.ensures.same.coverages in
+    let there : HasPlace (signature_of (g.S.Tiles.coverages c.side_of.new.source) c.args.ground.now.coverages.now) (length c.args.ground.now.registers.now) (body_view c.args.fold.now.body) c.side_of.new.frame =
+    subst (HasPlace (signature_of (g.S.Tiles.coverages c.side_of.new.source) c.args.ground.now.coverages.now) (length c.args.ground.now.registers.now) (body_view c.args.fold.now.body)) (sym (c.in_ok-own.ensures.frame ∙ c.in_ok-inner.ensures))
+    (subst (λ all. HasPlace (signature_of all c.args.ground.now.coverages.now) (length c.args.ground.now.registers.now) (body_view c.args.fold.now.body) (map (λ p. get_or c.args.frame.now 0 [] ++ p) (points c.args.part.now.area))) (sym c.side_of.ensures.same.coverages)
+    (place_in_part c.args.fold.now.domain c.args.part.now.area (body_view c.args.fold.now.body) (get_or c.args.frame.now 0 []) both.1 c.requires.part.inside c.requires.part.ordered)) in
+    search (rules, signatures, there)
+
+pub tell_zone_part-tell_seen-requires : goal.tell_zone_part-tell_seen-requires
+tell_zone_part-tell_seen-requires g t c =
+    let area = c.args.part.now.area in
+    let wide : length c.in_ok-column.column ≡ length (points area) =
+    c.in_ok-column.ensures.places ∙ ap length (c.in_ok-own.ensures.frame ∙ c.in_ok-inner.ensures) ∙ length-map (points area) (λ p. get_or c.args.frame.now 0 [] ++ p) in
+    let own : length c.in_ok-own.own ≡ length c.in_ok-column.column =
+    c.in_ok-own.ensures.places ∙ sym (c.in_ok-column.ensures.places ∙ ap length c.in_ok-own.ensures.frame) in
+    let ranks : length c.deref.result.now ≡ length c.in_ok-column.column =
+    ap length (c.deref.ensures.value ∙ c.requires.part.ranks) ∙ length-map (points area) (rank_of c.args.fold.now.domain) ∙ sym wide in
+    let keys : length c.args.folds.now ≡ length c.args.keys.now.column = c.requires.folds ∙ sym c.requires.places in
+    let op = c.requires.op in
+    let room : HaveAtMost (2 ^ 24 - length c.in_ok-column.column) c.args.folds.now = subst (λ n. HaveAtMost (2 ^ 24 - n) c.args.folds.now) (sym wide) c.requires.room in
+    search (rules, own, ranks, keys, op, room)
+
+pub tell_zone_part-returns-clause-told : goal.tell_zone_part-returns-clause-told
+tell_zone_part-returns-clause-told g t c = λ i h.
+    let column = c.in_ok-column.ensures.value (c.side_of.ensures.intact i) ∙ ap (λ s. map (run (cells_of s c.args.ground.now.coverages.now) c.args.ground.now.registers.now (body_view c.args.fold.now.body)) c.side_of.new.frame) c.side_of.ensures.same.cells ∙ ap (map (run (cells_of (g.S.Tiles.cells c.args.source.now) c.args.ground.now.coverages.now) c.args.ground.now.registers.now (body_view c.args.fold.now.body))) c.in_ok-own.ensures.frame in
+    zone_told (cells_of (g.S.Tiles.cells c.args.source.now) c.args.ground.now.coverages.now) c.args.ground.now.registers.now c.args.fold.now.domain (condition_view c.args.fold.now.condition) (body_view c.args.fold.now.body) (own_side c.args.zones.now.key_first (condition_view c.args.fold.now.condition)) (key_side c.args.zones.now.key_first (condition_view c.args.fold.now.condition)) c.args.zones.now.key_first
+    c.args.frame.now (points c.args.part.now.area) c.in_ok-inner.inner c.args.keys.now.column c.in_ok-own.own c.in_ok-column.column c.deref.result.now c.args.folds.now c.tell_seen.new.folds
+    c.requires.zones (c.tell_seen.auto.folds ∙ c.requires.folds) c.in_ok-inner.ensures (c.deref.ensures.value ∙ c.requires.part.ranks) h (c.in_ok-own.ensures.value i) column c.in_ok-tell_seen.ensures.told
+
+pub tell_zone_part-returns-clause-room : goal.tell_zone_part-returns-clause-room
+tell_zone_part-returns-clause-room g t c = λ n h.
+    let area = c.args.part.now.area in
+    let wide : length c.in_ok-column.column ≡ length (points area) =
+    c.in_ok-column.ensures.places ∙ ap length (c.in_ok-own.ensures.frame ∙ c.in_ok-inner.ensures) ∙ length-map (points area) (λ p. get_or c.args.frame.now 0 [] ++ p) in
+    subst (λ m. HaveAtMost (n + m) c.tell_seen.new.folds) wide (c.in_ok-tell_seen.ensures.room n h)
+
+pub tell_zone_part-returns-clause-fetched : goal.tell_zone_part-returns-clause-fetched
+tell_zone_part-returns-clause-fetched g t c =
+    let area = c.args.part.now.area in
+    let a = c.in_ok-own.ensures.fetched 0 (λ k d lt. omega arith) in
+    let b = c.in_ok-column.ensures.fetched 0 (λ k d lt. omega arith) in
+    let x = times_few (signature_of (g.S.Tiles.coverages c.args.source.now) c.args.ground.now.coverages.now) 0 c.in_ok-inner.inner (own_side c.args.zones.now.key_first (condition_view c.args.fold.now.condition)) in
+    let y = times_few (signature_of (g.S.Tiles.coverages c.args.source.now) c.args.ground.now.coverages.now) 0 c.in_ok-inner.inner (body_view c.args.fold.now.body) in
+    let e : fetches (signature_of (g.S.Tiles.coverages c.side_of.new.source) c.args.ground.now.coverages.now) 0 c.side_of.new.frame (body_view c.args.fold.now.body) ≡ fetches (signature_of (g.S.Tiles.coverages c.args.source.now) c.args.ground.now.coverages.now) 0 c.in_ok-inner.inner (body_view c.args.fold.now.body) =
+    ap (λ all. fetches (signature_of all c.args.ground.now.coverages.now) 0 c.side_of.new.frame (body_view c.args.fold.now.body)) c.side_of.ensures.same.coverages ∙ ap (λ f. fetches (signature_of (g.S.Tiles.coverages c.args.source.now) c.args.ground.now.coverages.now) 0 f (body_view c.args.fold.now.body)) c.in_ok-own.ensures.frame in
+    let n : length c.in_ok-inner.inner ≡ count area = ap length c.in_ok-inner.ensures ∙ length-map (points area) (λ p. get_or c.args.frame.now 0 [] ++ p) ∙ length-points area in
+    let u = ap (λ m. bound_times m (own_side c.args.zones.now.key_first (condition_view c.args.fold.now.condition))) n in
+    let v = ap (λ m. bound_times m (body_view c.args.fold.now.body)) n in
+    omega (arith, a, b, x, y, e, u, v)
+
+pub tell_zones-side_of-requires : goal.tell_zones-side_of-requires
+tell_zones-side_of-requires g t c =
+    let there : HasPlace (signature_of (g.S.Tiles.coverages c.args.source.now) c.args.ground.now.coverages.now) (length c.args.ground.now.registers.now) (key_side c.args.zones.now.key_first (condition_view c.args.fold.now.condition)) c.args.frame.now =
+    key_place c.args.fold.now.op c.args.fold.now.domain (condition_view c.args.fold.now.condition) (body_view c.args.fold.now.body) (own_side c.args.zones.now.key_first (condition_view c.args.fold.now.condition)) (key_side c.args.zones.now.key_first (condition_view c.args.fold.now.condition)) c.args.zones.now.key_first c.args.frame.now c.requires.zones c.requires.place in
+    search (rules, there)
+
+pub tell_zones-tell_zone_tiles-requires : goal.tell_zones-tell_zone_tiles-requires
+tell_zones-tell_zone_tiles-requires g t c =
+    let same = c.side_of.ensures.same.coverages in
+    let frame = c.in_ok-column.ensures.frame in
+    let signatures : c.args.ground.now.signatures.now ≡ g.S.Tiles.coverages c.side_of.new.source = c.requires.signatures ∙ sym same in
+    let place : HasPlace (signature_of (g.S.Tiles.coverages c.side_of.new.source) c.args.ground.now.coverages.now) (length c.args.ground.now.registers.now) (fold_view c.args.fold.now) c.side_of.new.frame =
+    subst (HasPlace (signature_of (g.S.Tiles.coverages c.side_of.new.source) c.args.ground.now.coverages.now) (length c.args.ground.now.registers.now) (fold_view c.args.fold.now)) (sym frame)
+    (subst (λ all. HasPlace (signature_of all c.args.ground.now.coverages.now) (length c.args.ground.now.registers.now) (fold_view c.args.fold.now) c.args.frame.now) (sym same) c.requires.place) in
+    let zones : IsZonal (condition_view c.args.fold.now.condition) (body_view c.args.fold.now.body) (own_side c.args.zones.now.key_first (condition_view c.args.fold.now.condition)) (key_side c.args.zones.now.key_first (condition_view c.args.fold.now.condition)) c.args.zones.now.key_first c.side_of.new.frame =
+    subst (IsZonal (condition_view c.args.fold.now.condition) (body_view c.args.fold.now.body) (own_side c.args.zones.now.key_first (condition_view c.args.fold.now.condition)) (key_side c.args.zones.now.key_first (condition_view c.args.fold.now.condition)) c.args.zones.now.key_first) (sym frame) c.requires.zones in
+    let places : length c.in_ok-keys.keys.column ≡ length c.side_of.new.frame = ap length c.in_ok-keys.ensures ∙ c.in_ok-column.ensures.places ∙ ap length (sym frame) in
+    let folds : length c.args.folds.now ≡ length c.side_of.new.frame = c.requires.folds ∙ ap length (sym frame) in
+    let room = c.requires.room in
+    let op = c.requires.op in
+    search (rules, signatures, place, zones, places, folds, room, op)
+
+pub tell_zones-returns-clause-told : goal.tell_zones-returns-clause-told
+tell_zones-returns-clause-told g t c = λ i.
+    let same = c.side_of.ensures.same.cells in
+    let frame = c.in_ok-column.ensures.frame in
+    let keys : c.in_ok-keys.keys.column ≡ map (run (cells_of (g.S.Tiles.cells c.side_of.new.source) c.args.ground.now.coverages.now) c.args.ground.now.registers.now (key_side c.args.zones.now.key_first (condition_view c.args.fold.now.condition))) c.side_of.new.frame =
+    c.in_ok-keys.ensures ∙ c.in_ok-column.ensures.value i
+    ∙ ap (λ s. map (run (cells_of s c.args.ground.now.coverages.now) c.args.ground.now.registers.now (key_side c.args.zones.now.key_first (condition_view c.args.fold.now.condition))) c.args.frame.now) (sym same) ∙ ap (map (run (cells_of (g.S.Tiles.cells c.side_of.new.source) c.args.ground.now.coverages.now) c.args.ground.now.registers.now (key_side c.args.zones.now.key_first (condition_view c.args.fold.now.condition)))) (sym frame) in
+    subst (λ s. EachTakesIn c.args.folds.now c.tell_zone_tiles.new.folds (λ k. told_of (under_vars (run (cells_of s c.args.ground.now.coverages.now) c.args.ground.now.registers.now (condition_view c.args.fold.now.condition)) (get_or c.args.frame.now k [])) (under_vars (run (cells_of s c.args.ground.now.coverages.now) c.args.ground.now.registers.now (body_view c.args.fold.now.body)) (get_or c.args.frame.now k [])) 0 (points c.args.fold.now.domain))) same
+    (subst (λ f. EachTakesIn c.args.folds.now c.tell_zone_tiles.new.folds (λ k. told_of (under_vars (run (cells_of (g.S.Tiles.cells c.side_of.new.source) c.args.ground.now.coverages.now) c.args.ground.now.registers.now (condition_view c.args.fold.now.condition)) (get_or f k [])) (under_vars (run (cells_of (g.S.Tiles.cells c.side_of.new.source) c.args.ground.now.coverages.now) c.args.ground.now.registers.now (body_view c.args.fold.now.body)) (get_or f k [])) 0 (points c.args.fold.now.domain))) frame
+    (c.in_ok-tell_zone_tiles.ensures.told (c.side_of.ensures.intact i) keys))
+
+pub tell_zones-returns-clause-fetched : goal.tell_zones-returns-clause-fetched
+tell_zones-returns-clause-fetched g t c =
+    let z = c.requires.zones in
+    let a = c.in_ok-column.ensures.fetched 0 (λ k d lt. omega arith) in
+    let x = times_few (signature_of (g.S.Tiles.coverages c.args.source.now) c.args.ground.now.coverages.now) 0 c.args.frame.now (key_side c.args.zones.now.key_first (condition_view c.args.fold.now.condition)) in
+    let b = c.in_ok-tell_zone_tiles.ensures.fetched in
+    let m = zone_bound (length c.args.frame.now) (count c.args.fold.now.domain) z.depth (condition_view c.args.fold.now.condition) (own_side c.args.zones.now.key_first (condition_view c.args.fold.now.condition)) (key_side c.args.zones.now.key_first (condition_view c.args.fold.now.condition)) (body_view c.args.fold.now.body) c.args.zones.now.key_first z.sides z.some (count-pos c.args.fold.now.domain) in
+    omega (arith, a, x, b, m)

@@ -1,4 +1,4 @@
-use Rattle.std.proofs.Common.{◌≡◌, ℕ, ◌<◌, ◌≤◌, ◌+◌, ◌*◌, length, take, get_or, []}
+use Rattle.std.proofs.Common.{◌≡◌, ℕ, map, ◌<◌, ◌≤◌, ◌+◌, ◌*◌, length, take, get_or, []}
 use Rattle.std.specs.List.{flat_map}
 use Rattle.arr_core.specs.Domains.{points, count}
 use Rattle.wcps_text.specs.declared.operator.Aggregate.{Aggregate}
@@ -11,6 +11,7 @@ use Rattle.tile_kernel.specs.Standing.{AreOf, HaveAtMost, TakesIn, EachTakesIn}
 use Rattle.tile_columns.specs.Sources.{Leaves}
 use Rattle.tile_columns.specs.Condensing.{told_of, under_vars, told_ranked}
 use Rattle.tile_columns.specs.TileOrder.{points_to}
+use Rattle.tile_columns.specs.Zones.{own_side, key_side}
 use Rattle.tile_columns.proofs.bodies.+evaluate.Given as goal
 
 abbrev pub invariant-tell_points-loop-place : goal.invariant-tell_points-loop-place
@@ -55,6 +56,19 @@ invariant-tell_part-loop-place g l = record {
   op : AreOf l.fold.op l.folds;
   rises : g.S.Tiles.fetched l.fn.source ≤ g.S.Tiles.fetched l.source;
   fetched : g.S.Tiles.fetched l.source ≤ g.S.Tiles.fetched l.fn.source + (bound_times (count l.part.area * l.place) (condition_view l.fold.condition) + bound_times (count l.part.area * l.place) (body_view l.fold.body));
+  same : Leaves (g.S.Tiles.cells l.fn.source) (g.S.Tiles.cells l.source) (g.S.Tiles.coverages l.fn.source) (g.S.Tiles.coverages l.source) (g.S.Tiles.kept l.fn.source) (g.S.Tiles.kept l.source);
+  intact : g.S.Tiles.intact l.fn.source → g.S.Tiles.intact l.source;
+  failures : g.S.Tiles.failures l.source ≡ g.S.Tiles.failures l.fn.source;
+}
+
+abbrev pub invariant-tell_zone_tiles-loop-number : goal.invariant-tell_zone_tiles-loop-number
+invariant-tell_zone_tiles-loop-number g l = record {
+  told : g.S.Tiles.intact l.fn.source → l.keys.column ≡ map (run (cells_of (g.S.Tiles.cells l.fn.source) l.ground.coverages.now) l.ground.registers.now (key_side l.zones.key_first (condition_view l.fold.condition))) l.frame → EachTakesIn l.fn.folds l.folds (λ k. flat_map (told_ranked l.fold.domain
+      (run (cells_of (g.S.Tiles.cells l.fn.source) l.ground.coverages.now) l.ground.registers.now (condition_view l.fold.condition)) (run (cells_of (g.S.Tiles.cells l.fn.source) l.ground.coverages.now) l.ground.registers.now (body_view l.fold.body)) (get_or l.frame k [])) (points_to l.fold.domain l.number));
+  room : HaveAtMost (length (points_to l.fold.domain l.number)) l.folds;
+  op : AreOf l.fold.op l.folds;
+  rises : g.S.Tiles.fetched l.fn.source ≤ g.S.Tiles.fetched l.source;
+  fetched : g.S.Tiles.fetched l.source ≤ g.S.Tiles.fetched l.fn.source + (bound_times (length (points_to l.fold.domain l.number)) (own_side l.zones.key_first (condition_view l.fold.condition)) + bound_times (length (points_to l.fold.domain l.number)) (body_view l.fold.body));
   same : Leaves (g.S.Tiles.cells l.fn.source) (g.S.Tiles.cells l.source) (g.S.Tiles.coverages l.fn.source) (g.S.Tiles.coverages l.source) (g.S.Tiles.kept l.fn.source) (g.S.Tiles.kept l.source);
   intact : g.S.Tiles.intact l.fn.source → g.S.Tiles.intact l.source;
   failures : g.S.Tiles.failures l.source ≡ g.S.Tiles.failures l.fn.source;

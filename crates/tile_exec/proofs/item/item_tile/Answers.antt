@@ -1,5 +1,5 @@
 -- A tile of an item, point by point.
-use Rattle.std.proofs.Common.{◌∙◌, ◌+◌, ◌*◌, ◌<◌, ◌≤◌, ◌^◌, ap, sym, subst, refl, length, map, []}
+use Rattle.std.proofs.Common.{◌≡◌, ◌∙◌, ◌+◌, ◌*◌, ◌<◌, ◌≤◌, ◌^◌, ap, sym, subst, refl, length, map, []}
 use Rattle.std.specs.Prelude.{All, sum_by}
 use Rattle.std.specs.List.{flat_map}
 use Rattle.std.proofs.lemmas.List.{length-map}
@@ -11,6 +11,7 @@ use Rattle.plan_ir.specs.Plans.{signature_of, item_view, field_view}
 use Rattle.plan_ir.specs.Planned.{cells_of}
 use Rattle.plan_ir.specs.Units.{bound_of}
 use Rattle.tile_kernel.specs.Told.{IsFirst}
+use Rattle.tile_columns.specs.Fields.{HavePlaces}
 use Rattle.tile_exec.specs.Items.{places_of, told_to_item}
 use Rattle.tile_exec.specs.Rows.{cells_told}
 use Rattle.tile_exec.specs.Tasks.{item, bodies_of}
@@ -21,6 +22,12 @@ pub tell_points-requires-clause-ranks : goal.tell_points-requires-clause-ranks
 tell_points-requires-clause-ranks g c =
     subst (All (λ r. r < 2 ^ 24)) (sym (c.deref.ensures.value ∙ c.in_ok-ranks.ensures))
     (ranks_small c.args.planned.now.domain (points c.in_ok-part.part) c.requires.placed.0.few_points (part_inside c.args.planned.now.domain c.in_ok-part.part c.in_ok-part.ensures.inside c.axes-axes.ensures.domain.ordered))
+
+pub tell_points-requires-clause-there : goal.tell_points-requires-clause-there
+tell_points-requires-clause-there g c =
+    let ranks = c.deref.ensures.value ∙ c.in_ok-ranks.ensures in
+    let many : length c.deref.result.now ≡ length (points c.in_ok-part.part) = ap length ranks ∙ length-map (points c.in_ok-part.part) _ in
+    subst (λ n. HavePlaces n c.deref-3.result.now) (sym many) (subst (HavePlaces (length (points c.in_ok-part.part))) (sym c.deref-3.ensures.value) c.in_ok-columns.ensures.places)
 
 pub returns-clause-fits : goal.returns-clause-fits
 returns-clause-fits g c =

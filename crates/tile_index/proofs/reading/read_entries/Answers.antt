@@ -2,34 +2,32 @@
 use Rattle.std.proofs.Common.{◌≡◌, ◌++◌, ◌+◌, ℕ, [], ◌∷◌, length, sym, ap, ◌∙◌, length-append, refl, arith}
 use Rattle.std.proofs.lemmas.List.{get_or_push}
 use Rattle.std.proofs.lemmas.List.Elements.{All-push}
-use Rattle.std.proofs.lemmas.Result.{err_from_is_err_and}
 use Rattle.tile_index.specs.declared.entry.Entry.{Entry}
 use Rattle.tile_index.specs.Index.{IsPair}
 use Rattle.tile_index.proofs.Between.{between-append, rising-between}
 use Rattle.tile_index.proofs.Codes.{next-pair, entry-code, one-more}
 use Rattle.tile_index.proofs.reading.read_entries.Goals as goal
 
-pub returns-in_err-tile-clause-damaged : goal.returns-in_err-tile-clause-damaged
-returns-in_err-tile-clause-damaged c h pairs rest p e =
+pub returns-in_default-clause-damaged : goal.returns-in_default-clause-damaged
+returns-in_default-clause-damaged c _ pairs rest p e =
     let old = c.loop.invariant in
     let n = next-pair c.loop.entries.items pairs c.loop.bytes rest old.each p.1 (omega (arith, old.counted, p.0, c.loop-test.true)) (sym old.read ∙ e) in
-    let q = err_from_is_err_and c.from_residual.result c.from_residual.ensures.1 in
-    c.in_err-tile.ensures.damaged (cc (q.1, q.2)) n.next n.after n.pair n.left_is
+    c.in_default.ensures.damaged n.next n.after n.pair n.left_is
 
 pub returns-then-tile-after-clause-damaged : goal.returns-then-tile-after-clause-damaged
 returns-then-tile-after-clause-damaged c _ pairs rest p e =
     let old = c.loop.invariant in
     let n = next-pair c.loop.entries.items pairs c.loop.bytes rest old.each p.1 (omega (arith, old.counted, p.0, c.loop-test.true)) (sym old.read ∙ e) in
-    let read = c.in_ok-tile.ensures.read in
-    let same = entry-code (c.in_ok-tile.tile, c.in_ok-tile.entry) n.next c.read_entry.new.bytes n.after read.0 n.pair (sym read.1 ∙ n.left_is) in
+    let read = c.in-Some.ensures.read in
+    let same = entry-code (c.in-Some.tile, c.in-Some.entry) n.next c.read_entry.new.bytes n.after read.0 n.pair (sym read.1 ∙ n.left_is) in
     omega (arith, old.least n.next.0 n.later, ap (λ (x : ℕ × Entry). x.0) same.0, c.if-tile-after.true)
 
 pub loop-preserved : goal.loop-preserved
 loop-preserved c =
     let old = c.loop.invariant in
-    let read = c.in_ok-tile.ensures.read in
+    let read = c.in-Some.ensures.read in
     let xs = c.loop.entries.items in
-    let x : ℕ × Entry = (c.in_ok-tile.tile, c.in_ok-tile.entry) in
+    let x : ℕ × Entry = (c.in-Some.tile, c.in-Some.entry) in
     let pushed : c.push.new.self.items ≡ xs ++ x ∷ [] = c.in_ok-push.ensures.items in
     rw pushed (record {
       read = one-more xs x c.args.bytes.now c.loop.bytes c.read_entry.new.bytes old.read read.1;

@@ -5,5 +5,5 @@ use Rattle.tile_index.proofs.Codes.{length-numbers}
 use Rattle.tile_index.proofs.reading.read_numbers.Goals as goal
 
 pub returns-in_default-clause-damaged : goal.returns-in_default-clause-damaged
-returns-in_default-clause-damaged c _ =
-    omega (arith, ap length c.loop.invariant.read, length-append (flat_map number_bytes c.loop.numbers.items) c.loop.bytes, length-numbers c.loop.numbers.items, c.loop.invariant.counted, c.in_default.ensures.read, c.loop-test.true)
+returns-in_default-clause-damaged c =
+    omega (arith, ap length c.loop.invariant.read, length-append (flat_map number_bytes c.loop.numbers) c.loop.bytes, length-numbers c.loop.numbers, c.loop.invariant.counted, c.in_default.ensures.read, c.loop-test.true)

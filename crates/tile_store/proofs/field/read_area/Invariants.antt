@@ -2,6 +2,7 @@ use Rattle.std.proofs.Common.{◌≡◌, ℕ, ◌<◌, List, length, get_or, All
 use Rattle.arr_core.specs.Cells.{Fits}
 use Rattle.arr_core.specs.Domains.{count, rank_of, IsInside}
 use Rattle.block_file.specs.Words.{OnlyReads}
+use Rattle.tile_store.specs.Listing.{listed}
 use Rattle.tile_store.specs.Reading.{number_in, IsSpelledIn}
 use Rattle.tile_store.specs.Stored.{tile_box}
 use Rattle.tile_store.proofs.field.read_area.Given as goal
@@ -13,6 +14,6 @@ invariant-loop-tile g l = let state = g.B.Blocks.state in record {
   spelled : IsTrue (state l.fn.blocks).honest → (j : ℕ) → j < l.tile-index → IsSpelledIn l.field (state l.fn.blocks) (get_or l.tiles j 0);
   fit : All (Fits l.field.kind) l.cells.items;
   counted : length l.cells.items ≡ count l.area;
-  frame : OnlyReads (state l.fn.blocks) (state l.blocks);
+  frame : OnlyReads (listed l.field.index.now) (state l.fn.blocks) (state l.blocks);
   quiet : (state l.blocks).failures ≡ (state l.fn.blocks).failures;
 }

@@ -1,8 +1,8 @@
 -- The tile that was read is the one with the number, and its box has as many points as it has cells.
 use Rattle.std.proofs.Common.{rules}
 use Rattle.tile_store.proofs.Cells.{tile_spells, tile_read}
-use Rattle.tile_store.proofs.Listed.{found_covered}
-use Rattle.tile_store.proofs.Takes.{refuses_as}
+use Rattle.tile_store.proofs.Listed.{found_covered, found_times}
+use Rattle.tile_store.proofs.Takes.{refuses_as, reads_more}
 use Rattle.tile_store.proofs.field.read_tile_into.Goals as goal
 
 pub fill_tile-requires : goal.fill_tile-requires
@@ -20,3 +20,9 @@ pub returns-clause-read : goal.returns-clause-read
 returns-clause-read g c =
     let f = c.args.field in
     tile_read f c.args.tile _ c.in_ok-part.part _ _ _ c.requires.tile c.in_ok-part.ensures.part c.get-entry.ensures c.cell_count-count.ensures.count c.cell_count-count.ensures.ordered c.in_ok-fill_tile.ensures.read
+
+pub returns-in_err-fill_tile-clause-frame : goal.returns-in_err-fill_tile-clause-frame
+returns-in_err-fill_tile-clause-frame g c = reads_more _ _ _ _ (found_times c.args.field.index.now c.args.tile _ c.get-entry.ensures) c.in_err-fill_tile.ensures.frame
+
+pub returns-clause-frame : goal.returns-clause-frame
+returns-clause-frame g c = reads_more _ _ _ _ (found_times c.args.field.index.now c.args.tile _ c.get-entry.ensures) c.in_ok-fill_tile.ensures.frame

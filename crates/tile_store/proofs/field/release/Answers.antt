@@ -7,7 +7,7 @@ use Rattle.tile_store.proofs.field.release.Goals as goal
 
 pub loop-tile-init : goal.loop-tile-init
 unfolding listed
-loop-tile-init g c = record { uses = λ k. refl; content = refl; synced = refl; size = refl; failures = refl; honest = refl }
+loop-tile-init g c = record { uses = λ k. refl; content = refl; synced = refl; size = refl; failures = refl; overreads = refl; honest = refl }
 
 pub release-requires : goal.release-requires
 release-requires g c = λ k.
@@ -27,5 +27,6 @@ loop-tile-preserved g c =
       synced = back.synced ∙ inv.synced;
       size = back.size ∙ inv.size;
       failures = back.failures ∙ inv.failures;
+      overreads = back.overreads ∙ inv.overreads;
       honest = back.honest ∙ inv.honest;
     }

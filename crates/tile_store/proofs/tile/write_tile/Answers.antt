@@ -23,18 +23,20 @@ returns-clause-takes g c =
 
 pub returns-clause-written : goal.returns-clause-written
 returns-clause-written g c =
-    let bytes = c.in_ok-bytes.bytes.items in
+    let bytes = c.in_ok-form.bytes.items in
     let holds = rw (c.deref.ensures.value, c.deref-2.ensures.value) at c.in_ok-write_bytes.ensures.written in
     let long : c.len-2.result ≡ length bytes = first_of (search rules, grind (arith, common_steps)) in
+    let blocks : c.new.result ≡ c.in_ok-fresh.fresh.items = c.new.ensures.blocks ∙ c.deref-3.ensures.value in
+    let numbers = rw c.deref-3.ensures.value at c.new.ensures.numbers in
     let filled : length c.in_ok-fresh.fresh.items ≡ blocks_filled (length bytes) = first_of (omega arith, grind (arith, common_steps)) in
     record {
-      is_entry = λ e is. made_entry _ e (length bytes) c.in_ok-fresh.fresh.items is long c.new.ensures.blocks c.in_ok-bytes.ensures.some c.in_ok-bytes.ensures.few filled c.new.ensures.numbers;
-      added = λ k. ap (λ (ks : List ℕ). times ks k) c.in_ok-fresh.ensures.added ∙ times_append c.args.taken.now.items c.in_ok-fresh.fresh.items k ∙ ap (λ (b : List ℕ). times c.args.taken.now.items k + times b k) (sym c.new.ensures.blocks);
-      size = omega (arith, ap length c.in_ok-fresh.ensures.added, length-append c.args.taken.now.items c.in_ok-fresh.fresh.items, ap length c.new.ensures.blocks);
+      is_entry = λ e is. made_entry _ e (length bytes) c.in_ok-fresh.fresh.items is long blocks c.in_ok-form.ensures.some c.in_ok-form.ensures.few filled numbers;
+      added = λ k. ap (λ (ks : List ℕ). times ks k) c.in_ok-fresh.ensures.added ∙ times_append c.args.taken.now.items c.in_ok-fresh.fresh.items k ∙ ap (λ (b : List ℕ). times c.args.taken.now.items k + times b k) (sym blocks);
+      size = omega (arith, ap length c.in_ok-fresh.ensures.added, length-append c.args.taken.now.items c.in_ok-fresh.fresh.items, ap length blocks);
       written = λ honest. written_some c.args.kind _ _ bytes c.args.cells.now
-          (data_written _ _ bytes c.in_ok-fresh.fresh.items c.new.ensures.blocks long (holds.bytes_are honest))
-          c.in_ok-bytes.ensures.spelled
-          (ap length c.new.ensures.blocks ∙ filled ∙ ap blocks_filled c.in_ok-bytes.ensures.length ∙ rw (sym c.are_zero.ensures.test ∙ c.if-are_zero.false) refl)
-          (padded_written _ _ bytes c.in_ok-fresh.fresh.items c.new.ensures.blocks long (holds.padded honest));
-      whole = λ honest. rw (sym c.new.ensures.blocks) at (holds.whole honest);
+          (data_written _ _ bytes c.in_ok-fresh.fresh.items blocks long (holds.bytes_are honest))
+          c.in_ok-form.ensures.spelled
+          (ap length blocks ∙ filled ∙ ap blocks_filled c.in_ok-form.ensures.length ∙ rw (sym c.are_zero.ensures.test ∙ c.if-are_zero.false) refl)
+          (padded_written _ _ bytes c.in_ok-fresh.fresh.items blocks long (holds.padded honest));
+      whole = λ honest. rw (sym blocks) at (holds.whole honest);
     }

@@ -1,13 +1,14 @@
 -- Each tile so far stands in fresh blocks as it is after the write, and the field still has its numbers.
-use Rattle.std.proofs.Common.{rules, arith, ◌≡◌, ℕ, List, take, length, get_or, ap, refl, ◌∙◌, ℤ, sum_by, take_all}
+use Rattle.std.proofs.Common.{rules, arith, subst, ◌≡◌, ℕ, List, take, length, get_or, ap, refl, ◌∙◌, ℤ, sum_by, take_all}
 use Rattle.std.proofs.lemmas.List.Sums.{sum_by_more_le}
+use Rattle.disk_face.specs.Disk.{Rose}
 use Rattle.block_file.proofs.Times.{times_none}
 use Rattle.tile_store.specs.Patches.{patched, blocks_after}
 use Rattle.tile_store.specs.Room.{tile_blocks}
 use Rattle.tile_store.proofs.Cells.{after_kept, meets_at}
 use Rattle.tile_store.proofs.Kept.{tile_kept}
 use Rattle.tile_store.specs.Listing.{given}
-use Rattle.tile_store.proofs.Patched.{more_written, keeps_taken, sizes_written}
+use Rattle.tile_store.proofs.Patched.{more_written, keeps_taken, reads_taken, sizes_written}
 use Rattle.tile_store.proofs.Takes.{takes_none, takes_read, reads_same, free_read, refuses_as}
 use Rattle.tile_store.proofs.update.write_tiles.Goals as goal
 
@@ -23,7 +24,7 @@ loop-tile-init g c = record {
     written = λ honest. rw c.requires.none.0 (λ i d h. absurd (omega (arith, h)));
     read = λ honest. rw c.requires.none.0 (λ i d h. absurd (omega (arith, h)));
   };
-  takes = rw c.requires.none.1 (takes_none _ _ _ (reads_same _));
+  takes = rw c.requires.none.1 (takes_none _ _ _ (reads_same _ _));
   quiet = refl;
 }
 
@@ -36,21 +37,28 @@ cells_after-requires-clause-used g c = λ k. omega (arith, c.requires.sound.coun
 pub loop-tile-preserved : goal.loop-tile-preserved
 loop-tile-preserved g c =
     let inv = c.loop-tile.invariant in
+    let read = reads_taken c.args.patch.now.domain.now c.args.field.now _ _ _ _ c.requires.sound inv.takes c.in_ok-cells.ensures.frame in
     record {
-      written = more_written c.args.patch.now _ _ _ _ c.args.field.now c.args.tiles.now c.loop-tile.tile-index c.loop-tile.fresh _ _ _ c.loop-tile-test.true c.requires.sound inv.takes c.in_ok-cells.ensures.frame c.in_ok-entry.ensures.takes inv.written
+      written = more_written c.args.patch.now _ _ _ _ c.args.field.now c.args.tiles.now c.loop-tile.tile-index c.loop-tile.fresh _ _ _ c.loop-tile-test.true c.requires.sound inv.takes read c.in_ok-entry.ensures.takes inv.written
           c.in_ok-cells.ensures.after (rw c.deref.ensures.value at c.in_ok-entry.ensures.written) c.in_ok-push.ensures.items;
-      takes = takes_read _ _ _ _ _ _ _ inv.takes c.in_ok-cells.ensures.frame c.in_ok-entry.ensures.takes;
+      takes = takes_read _ _ _ _ _ _ _ inv.takes read c.in_ok-entry.ensures.takes;
       quiet = c.in_ok-entry.ensures.told.quiet (λ e. cc) ∙ c.in_ok-cells.ensures.told.quiet (λ e. cc) ∙ inv.quiet;
     }
 
 pub returns-in_err-cells-clause-takes : goal.returns-in_err-cells-clause-takes
-returns-in_err-cells-clause-takes g c = takes_read _ _ _ _ _ _ _ c.loop-tile.invariant.takes c.in_err-cells.ensures.frame (takes_none _ _ _ (reads_same _))
+returns-in_err-cells-clause-takes g c =
+    let takes = c.loop-tile.invariant.takes in
+    takes_read _ _ _ _ _ _ _ takes (reads_taken c.args.patch.now.domain.now c.args.field.now _ _ _ _ c.requires.sound takes c.in_err-cells.ensures.frame) (takes_none _ _ _ (reads_same _ _))
 
 pub returns-in_err-entry-clause-takes : goal.returns-in_err-entry-clause-takes
-returns-in_err-entry-clause-takes g c = takes_read _ _ _ _ _ _ _ c.loop-tile.invariant.takes c.in_ok-cells.ensures.frame c.in_err-entry.ensures.takes
+returns-in_err-entry-clause-takes g c =
+    let takes = c.loop-tile.invariant.takes in
+    takes_read _ _ _ _ _ _ _ takes (reads_taken c.args.patch.now.domain.now c.args.field.now _ _ _ _ c.requires.sound takes c.in_ok-cells.ensures.frame) c.in_err-entry.ensures.takes
 
 pub returns-in_err-push-clause-takes : goal.returns-in_err-push-clause-takes
-returns-in_err-push-clause-takes g c = takes_read _ _ _ _ _ _ _ c.loop-tile.invariant.takes c.in_ok-cells.ensures.frame c.in_ok-entry.ensures.takes
+returns-in_err-push-clause-takes g c =
+    let takes = c.loop-tile.invariant.takes in
+    takes_read _ _ _ _ _ _ _ takes (reads_taken c.args.patch.now.domain.now c.args.field.now _ _ _ _ c.requires.sound takes c.in_ok-cells.ensures.frame) c.in_ok-entry.ensures.takes
 
 pub returns-clause-written : goal.returns-clause-written
 returns-clause-written g c = rw (take_all c.loop-tile.tile-index c.args.tiles.now c.loop-tile-test.false) at c.loop-tile.invariant.written
@@ -79,3 +87,12 @@ returns-in_err-entry-clause-why g c = refuses_as (λ x is. search rules) c.in_er
     let done : length c.loop-tile.fresh.blocks.items ≡ sum_by blocks (take i tiles) =
     inv.written.size ∙ sizes_written (λ n. n) u.kind now.content (patched u start c.args.field.now) c.loop-tile.fresh.changes.items (inv.written.written honest) ∙ ap (sum_by blocks) inv.written.tiles_are in
     omega (arith, sum_by_more_le blocks tiles i 0 c.loop-tile-test.true, inv.takes.free, done, less, ap (λ (l : List ℤ). tile_blocks u.kind l) cells))
+
+pub returns-in_err-entry-clause-told : goal.returns-in_err-entry-clause-told
+returns-in_err-entry-clause-told g c =
+    let before = c.in_ok-cells.ensures.told.quiet (λ e. cc) ∙ c.loop-tile.invariant.quiet in
+    let last = c.in_err-entry.ensures.told in
+    record {
+      told = λ is. subst (λ n. Rose n (g.B.Blocks.state c.write_tile.new.blocks).failures) before (last.told (search rules));
+      quiet = λ none. last.quiet (λ is. none (search rules)) ∙ before;
+    }

@@ -1,7 +1,7 @@
 -- A write to a block changes the bytes of that block alone, whether it is done or torn.
 use Rattle.std.proofs.Common.{sym, refl, arith}
 use Rattle.block_file.proofs.Markings.{is_used}
-use Rattle.block_file.proofs.Places.{held_block, kept_blocks, write_moves}
+use Rattle.block_file.proofs.Places.{held_block, kept_blocks, same_overreads, write_moves}
 use Rattle.block_file.proofs.block_file.BlockFileBlocks.write.Goals as goal
 
 pub returns-clause-written : goal.returns-clause-written
@@ -16,9 +16,11 @@ returns-clause-others g c = rw (← c.self.view_is) (kept_blocks _ _ c.args.k _ 
 pub returns-in_err-write_at-clause-frame : goal.returns-in_err-write_at-clause-frame
 returns-in_err-write_at-clause-frame g c =
     let once = rw (← c.self.view_is) at c.requires in
-    rw (← c.self.view_is) (write_moves _ _ c.args.k _ (omega arith) refl refl c.in_err-write_at.ensures.honest once (is_used c.self.inside.marks c.args.k (omega arith)).above_zero c.in_err-write_at.ensures.torn)
+    rw (← c.self.view_is) (write_moves _ _ c.args.k _ (omega arith) refl refl c.in_err-write_at.ensures.honest
+    (same_overreads _ _ _ _ c.in_err-write_at.ensures.honest (λ h. c.in_err-write_at.ensures.overreads)) once (is_used c.self.inside.marks c.args.k (omega arith)).above_zero c.in_err-write_at.ensures.torn)
 
 pub returns-clause-frame : goal.returns-clause-frame
 returns-clause-frame g c =
     let once = rw (← c.self.view_is) at c.requires in
-    rw (← c.self.view_is) (write_moves _ _ c.args.k _ (omega arith) refl refl c.in_ok-write_at.ensures.honest once (is_used c.self.inside.marks c.args.k (omega arith)).above_zero c.in_ok-write_at.ensures.torn)
+    rw (← c.self.view_is) (write_moves _ _ c.args.k _ (omega arith) refl refl c.in_ok-write_at.ensures.honest
+    (same_overreads _ _ _ _ c.in_ok-write_at.ensures.honest (λ h. c.in_ok-write_at.ensures.overreads)) once (is_used c.self.inside.marks c.args.k (omega arith)).above_zero c.in_ok-write_at.ensures.torn)

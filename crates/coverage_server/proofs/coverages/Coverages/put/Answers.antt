@@ -2,9 +2,16 @@
 use Rattle.block_file.proofs.Headers.{keeps_header}
 use Rattle.raster_store.specs.Calls.{HasField}
 use Rattle.coverage_server.proofs.FreeLemmas.{stays_ready, written_ready}
-use Rattle.coverage_server.proofs.WriteLemmas.{put_refused}
+use Rattle.coverage_server.proofs.SpelledLemmas.{stays_spelled, writes_spelled}
+use Rattle.coverage_server.proofs.WriteLemmas.{put_done, put_refused}
 use Rattle.coverage_server.proofs.coverages.Coverages.put.Goals as goal
 use Rattle.coverage_server.proofs.coverages.Coverages.put.Goals.{in-Ok, in-Err}
+
+pub returns-clause-done : goal.returns-clause-done
+returns-clause-done g c = elim c.match-write_box.branch [
+  | in-Ok w ↦ rw (w.result-is, ← c.self.view_is) (put_done _ _ _ _ _ _ _ w.in-Ok.ensures.done w.in-Ok.ensures.snapshots)
+  | in-Err w ↦ rw w.result-is tt
+]
 
 pub returns-clause-refused : goal.returns-clause-refused
 returns-clause-refused g c =
@@ -13,8 +20,23 @@ returns-clause-refused g c =
       | in-Ok w ↦ rw w.result-is tt
       | in-Err w ↦
           rw (w.result-is, w.write_refusal.ensures, ← c.self.view_is)
-          (put_refused c.args.name.now c.args.field c.args.area.now _ c.self.inside.catalogue c.self.inside.cells c.self.invariant c.bytes_len-bytes.ensures has c.args.cells.now w.in-Err.fault w.in-Err.ensures.why)
+          (put_refused c.args.name.now c.args.field c.args.area.now _ c.self.inside.catalogue c.self.inside.cells
+          c.self.invariant c.len-listed.ensures.held c.bytes_len-bytes.ensures has c.args.cells.now w.in-Err.fault
+          w.in-Err.ensures.why)
     ]
+
+pub returns-clause-spelled : goal.returns-clause-spelled
+returns-clause-spelled g c = elim c.match-write_box.branch [
+  | in-Ok w ↦
+      rw (← c.self.view_is)
+      (writes_spelled c.self.inside.catalogue _ _ _ _ _ c.self.inside.cells c.write_box.new.self c.self.invariant
+      w.in-Ok.ensures.done.1 w.in-Ok.ensures.snapshots)
+  | in-Err w ↦
+      rw (← c.self.view_is)
+      (stays_spelled c.self.inside.catalogue c.self.inside.cells c.write_box.new.self c.self.invariant
+      w.in-Err.ensures.same
+      w.in-Err.ensures.snapshots)
+]
 
 pub returns-clause-header : goal.returns-clause-header
 returns-clause-header g c = elim c.match-write_box.branch [

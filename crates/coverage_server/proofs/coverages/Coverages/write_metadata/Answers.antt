@@ -1,5 +1,5 @@
 -- The metadata has room and closes an honest disk's file; faults are told, and want of memory keeps the header.
-use Rattle.std.proofs.Common.{◌≡◌, ◌∙◌, sym, subst}
+use Rattle.std.proofs.Common.{◌≡◌, sym, subst}
 use Rattle.std.specs.Prelude.{Bool, IsTrue}
 use Rattle.block_file.proofs.Headers.{keeps_header}
 use Rattle.block_file.specs.Uses.{uses_of}
@@ -9,6 +9,8 @@ use Rattle.coverage_server.specs.Closing.{bytes_written}
 use Rattle.coverage_server.specs.Views.{ServerView, signatures_of}
 use Rattle.coverage_server.proofs.ClosingLemmas.{written_fits, is_written, close_told}
 use Rattle.coverage_server.proofs.FaultLemmas.{on_ok, tells_after}
+use Rattle.coverage_server.proofs.HeldLemmas.{same_lists}
+use Rattle.coverage_server.proofs.SpelledLemmas.{spelled_after, stays_spelled}
 use Rattle.coverage_server.proofs.FreeLemmas.{stays_ready, stays_unchanged, unchanged_after}
 use Rattle.coverage_server.proofs.coverages.Coverages.write_metadata.Goals as goal
 
@@ -31,7 +33,7 @@ returns-in-Ok-clause-written g c =
     let honest = subst (λ (b : Bool). IsTrue b) (sym c.write_meta.ensures.frame.moves.honest) sure in
     is_written c.in-Ok.first (state_of c.write_meta.new.self.blocks) c.write_header.new.self.content c.args.metadata.now
     (metadata_bytes (signatures_of c.self.inside.cells.coverages) c.self.inside.cells.indexes) c.write_meta.new.self.indexes c.write_header.new.self.indexes c.write_meta.new.self.snapshots honest fits.0
-    c.in-Ok.ensures.chain (closes honest) ready.counted c.write_header.ensures.unchanged.indexes)
+    (closes honest).1 c.in-Ok.ensures.chain (closes honest).0 ready.counted c.write_header.ensures.unchanged.indexes)
     c.write_header.ensures.closes)
 
 pub returns-in-Ok-clause-told : goal.returns-in-Ok-clause-told
@@ -54,3 +56,20 @@ returns-in-Ok-clause-unchanged g c =
     rw (← c.self.view_is)
     (unchanged_after _ _ _ c.write_meta.ensures.frame.moves.honest (stays_unchanged c.self.inside.cells c.write_meta.new.self c.write_meta.ensures.frame.same c.write_meta.ensures.snapshots)
     c.write_header.ensures.unchanged)
+
+pub returns-in-Ok-clause-spelled : goal.returns-in-Ok-clause-spelled
+returns-in-Ok-clause-spelled g c =
+    rw (← c.self.view_is)
+    (λ (sure : IsTrue _).
+    let honest = subst (λ (b : Bool). IsTrue b) (sym c.write_meta.ensures.frame.moves.honest) sure in
+    spelled_after _ _ _
+    (stays_spelled c.self.inside.catalogue c.self.inside.cells c.write_meta.new.self c.self.invariant
+    c.write_meta.ensures.frame c.write_meta.ensures.snapshots sure)
+    (c.write_header.ensures.spelled honest)
+    (λ k. same_lists _ _ k c.write_header.ensures.unchanged.held.told))
+
+pub returns-in-Err-clause-spelled : goal.returns-in-Err-clause-spelled
+returns-in-Err-clause-spelled g c =
+    rw (← c.self.view_is)
+    (stays_spelled c.self.inside.catalogue c.self.inside.cells c.write_meta.new.self c.self.invariant
+    c.write_meta.ensures.frame c.write_meta.ensures.snapshots)

@@ -1,15 +1,20 @@
 -- What the parts on the coverages answer, over states.
 use Rattle.std.proofs.Common.{rules, ◌≡◌, ℕ, List, refl, ap, subst}
-use Rattle.std.specs.Prelude.{string_bytes}
+use Rattle.std.specs.Prelude.{◌⊎◌, string_bytes}
 use Rattle.kvp_front.specs.Contents.{content_view}
 use Rattle.kvp_front.specs.Templates.{template_view}
 use Rattle.coverage_server.specs.Answered.{Answered}
 use Rattle.coverage_server.specs.Damage.{SpoilsText}
+use Rattle.coverage_server.specs.Fetching.{FetchesNone, FetchesText, UnlessFails}
+use Rattle.coverage_server.specs.Layouts.{LaysHeld, layout_of}
 use Rattle.coverage_server.specs.Machine.{Answers, AnswersTemplate, Inserts, Updates, Deletes}
 use Rattle.coverage_server.specs.Views.{ServerView}
-use Rattle.coverage_server.proofs.FaultLemmas.{any_err, each_err, err_each, on_err}
+use Rattle.coverage_server.proofs.FaultLemmas.{any_err, any_ok, each_err, err_each, on_err, on_ok}
+use Rattle.coverage_server.proofs.FetchingLemmas.{unless_told}
 use Rattle.coverage_server.proofs.FreeLemmas.{unchanged, still_unchanged, none_changed}
 use Rattle.coverage_server.proofs.HoldingLemmas.{unheld_zero, holding_same}
+use Rattle.coverage_server.proofs.PlacedLemmas.{refused_leaves, still_laid}
+use Rattle.coverage_server.proofs.SpelledLemmas.{insert_keeps, delete_keeps, still_spelled, stepped_spelled, unheld_spelled}
 use Rattle.coverage_server.proofs.StandingLemmas.{lifted}
 use Rattle.coverage_server.proofs.server.Server.answered.Goals as goal
 
@@ -55,6 +60,9 @@ returns-in-ProcessTemplate-clause-answered g c =
     (lifted c.self.inside.desk v w (AnswersTemplate (template_view c.in-ProcessTemplate.template)) (λ honest. ap (λ (u : ServerView). u.held) c.process_template.ensures.still) _ _ c.process_template.result
     (any_err c.process_template.result _ (still_unchanged v w c.process_template.ensures.still)) c.process_template.ensures.answered)
 
+pub returns-in-StepJob-clause-answered : goal.returns-in-StepJob-clause-answered
+returns-in-StepJob-clause-answered g c = rw (← c.self.view_is, c.in-StepJob.is) c.step_job.ensures.answered
+
 pub returns-in-FetchJob-clause-answered : goal.returns-in-FetchJob-clause-answered
 returns-in-FetchJob-clause-answered g c = rw (← c.self.view_is, c.in-FetchJob.is) (c.fetch_job.ensures.answered c.self.inside.cells.coverages)
 
@@ -73,65 +81,257 @@ process-requires g c = record { unheld = unheld_zero c.self.inside.desk c.self.i
 pub process_template-requires : goal.process_template-requires
 process_template-requires g c = record { unheld = unheld_zero c.self.inside.desk c.self.inside.cells.coverages.held c.self.invariant }
 
-pub returns-in-ListCoverages-clause-unchanged : goal.returns-in-ListCoverages-clause-unchanged
-returns-in-ListCoverages-clause-unchanged g c = rw (← c.self.view_is) (none_changed c.list.result c.self.inside.cells.coverages c.self.inside.cells.coverages refl)
+pub returns-in-InsertCoverage-clause-lays : goal.returns-in-InsertCoverage-clause-lays
+returns-in-InsertCoverage-clause-lays g c =
+    let u = c.in-InsertCoverage.insertion in
+    let v = c.self.inside.cells.coverages in
+    rw (← c.self.view_is, c.in-InsertCoverage.is)
+    (λ sure. (
+      c.insert.ensures.lays,
+      insert_keeps v c.insert.new.coverages u.coverage u.intervals.items u.fields.items _ c.insert.result
+          c.len-whole.ensures.whole
+          c.insert.ensures.answered c.insert.ensures.lays c.insert.ensures.answer c.insert.ensures.unchanged
+          c.insert.ensures.content sure,
+    ))
 
-pub returns-in-DescribeCoverage-clause-unchanged : goal.returns-in-DescribeCoverage-clause-unchanged
-returns-in-DescribeCoverage-clause-unchanged g c = rw (← c.self.view_is) (none_changed c.describe.result c.self.inside.cells.coverages c.self.inside.cells.coverages refl)
+pub returns-in-UpdateCoverage-clause-lays : goal.returns-in-UpdateCoverage-clause-lays
+returns-in-UpdateCoverage-clause-lays g c =
+    rw (← c.self.view_is, c.in-UpdateCoverage.is)
+    (λ sure. (on_ok c.update.result _ _ (λ lays. lays sure) c.update.ensures.lays, c.update.ensures.spelled sure))
 
-pub returns-in-ExpandTemplate-clause-unchanged : goal.returns-in-ExpandTemplate-clause-unchanged
-returns-in-ExpandTemplate-clause-unchanged g c = rw (← c.self.view_is) (none_changed c.expand_template.result c.self.inside.cells.coverages c.self.inside.cells.coverages refl)
+pub returns-in-DeleteCoverage-clause-lays : goal.returns-in-DeleteCoverage-clause-lays
+returns-in-DeleteCoverage-clause-lays g c =
+    let v = c.self.inside.cells.coverages in
+    rw (← c.self.view_is, c.in-DeleteCoverage.is)
+    (λ sure. (
+      c.delete.ensures.lays,
+      delete_keeps v c.delete.new.coverages c.in-DeleteCoverage.name c.delete.result c.len-whole.ensures.whole
+          c.delete.ensures.answered
+          c.delete.ensures.lays c.delete.ensures.answer c.delete.ensures.unchanged c.delete.ensures.content sure,
+    ))
 
-pub returns-in-FetchJob-clause-unchanged : goal.returns-in-FetchJob-clause-unchanged
-returns-in-FetchJob-clause-unchanged g c = rw (← c.self.view_is) (none_changed c.fetch_job.result c.self.inside.cells.coverages c.self.inside.cells.coverages refl)
+pub returns-in-ListCoverages-clause-lays : goal.returns-in-ListCoverages-clause-lays
+returns-in-ListCoverages-clause-lays g c =
+    rw (← c.self.view_is, c.in-ListCoverages.is)
+    (λ sure. (
+      any_ok c.list.result _ refl,
+      still_spelled c.self.inside.cells.coverages c.self.inside.cells.coverages
+          refl,
+    ))
 
-pub returns-in-ProcessCoverages-clause-unchanged : goal.returns-in-ProcessCoverages-clause-unchanged
-returns-in-ProcessCoverages-clause-unchanged g c = rw (← c.self.view_is) (any_err c.process.result _ (still_unchanged c.self.inside.cells.coverages c.process.new.cells.coverages c.process.ensures.still))
+pub returns-in-DescribeCoverage-clause-lays : goal.returns-in-DescribeCoverage-clause-lays
+returns-in-DescribeCoverage-clause-lays g c =
+    rw (← c.self.view_is, c.in-DescribeCoverage.is)
+    (λ sure. (
+      any_ok c.describe.result _ refl,
+      still_spelled c.self.inside.cells.coverages c.self.inside.cells.coverages
+          refl,
+    ))
 
-pub returns-in-ProcessTemplate-clause-unchanged : goal.returns-in-ProcessTemplate-clause-unchanged
-returns-in-ProcessTemplate-clause-unchanged g c = rw (← c.self.view_is) (any_err c.process_template.result _ (still_unchanged c.self.inside.cells.coverages c.process_template.new.cells.coverages c.process_template.ensures.still))
+pub returns-in-FetchJob-clause-lays : goal.returns-in-FetchJob-clause-lays
+returns-in-FetchJob-clause-lays g c =
+    rw (← c.self.view_is, c.in-FetchJob.is)
+    (λ sure. (
+      any_ok c.fetch_job.result _ refl,
+      still_spelled c.self.inside.cells.coverages
+          c.self.inside.cells.coverages refl,
+    ))
 
-pub returns-in-SubmitQuery-clause-unchanged : goal.returns-in-SubmitQuery-clause-unchanged
-returns-in-SubmitQuery-clause-unchanged g c = rw (← c.self.view_is) (on_err c.submit_query.result _ _ (unchanged c.self.inside.cells.coverages c.submit_query.new.cells.coverages) c.submit_query.ensures.refused)
+pub returns-in-ExpandTemplate-clause-lays : goal.returns-in-ExpandTemplate-clause-lays
+returns-in-ExpandTemplate-clause-lays g c =
+    rw (← c.self.view_is, c.in-ExpandTemplate.is)
+    (λ sure. (
+      any_ok c.expand_template.result _ refl,
+      still_spelled c.self.inside.cells.coverages
+          c.self.inside.cells.coverages refl,
+    ))
 
-pub returns-in-StepJob-clause-unchanged : goal.returns-in-StepJob-clause-unchanged
-returns-in-StepJob-clause-unchanged g c = rw (← c.self.view_is) (on_err c.step_job.result _ _ (still_unchanged c.self.inside.cells.coverages c.step_job.new.cells.coverages) c.step_job.ensures.refused)
+pub returns-in-ProcessCoverages-clause-lays : goal.returns-in-ProcessCoverages-clause-lays
+returns-in-ProcessCoverages-clause-lays g c =
+    let v = c.self.inside.cells.coverages in
+    rw (← c.self.view_is, c.in-ProcessCoverages.is)
+    (λ sure. (
+      any_ok c.process.result _ (still_laid v c.process.new.cells.coverages c.process.ensures.still),
+      still_spelled v c.process.new.cells.coverages c.process.ensures.still,
+    ))
 
-pub returns-in-CancelJob-clause-unchanged : goal.returns-in-CancelJob-clause-unchanged
-returns-in-CancelJob-clause-unchanged g c = rw (← c.self.view_is) (on_err c.cancel_job.result _ _ (unchanged c.self.inside.cells.coverages c.cancel_job.new.cells.coverages) c.cancel_job.ensures.refused)
+pub returns-in-ProcessTemplate-clause-lays : goal.returns-in-ProcessTemplate-clause-lays
+returns-in-ProcessTemplate-clause-lays g c =
+    let v = c.self.inside.cells.coverages in
+    rw (← c.self.view_is, c.in-ProcessTemplate.is)
+    (λ sure. (
+      any_ok c.process_template.result _
+          (still_laid v c.process_template.new.cells.coverages c.process_template.ensures.still),
+      still_spelled v c.process_template.new.cells.coverages c.process_template.ensures.still,
+    ))
 
-pub returns-in-InsertCoverage-clause-jobs : goal.returns-in-InsertCoverage-clause-jobs
-returns-in-InsertCoverage-clause-jobs g c = rw (← c.self.view_is, c.in-InsertCoverage.is) (each_err c.insert.result _ (λ e. refl))
+pub returns-in-SubmitQuery-clause-lays : goal.returns-in-SubmitQuery-clause-lays
+returns-in-SubmitQuery-clause-lays g c =
+    let v = c.self.inside.cells.coverages in
+    let w = c.submit_query.new.cells.coverages in
+    let next = c.self.inside.desk.next in
+    let is : c.as_str-in-SubmitQuery.result.now ≡ string_bytes c.in-SubmitQuery.query = search rules in
+    rw (← c.self.view_is, c.in-SubmitQuery.is)
+    (λ sure. (
+      on_ok c.submit_query.result _ _ (subst (λ (q : List ℕ). LaysHeld q v.store next (layout_of v) (layout_of w)) is)
+          c.submit_query.ensures.lays,
+      unheld_spelled v w c.submit_query.ensures.others,
+    ))
 
-pub returns-in-UpdateCoverage-clause-jobs : goal.returns-in-UpdateCoverage-clause-jobs
-returns-in-UpdateCoverage-clause-jobs g c = rw (← c.self.view_is, c.in-UpdateCoverage.is) (each_err c.update.result _ (λ e. refl))
+pub returns-in-StepJob-clause-lays : goal.returns-in-StepJob-clause-lays
+returns-in-StepJob-clause-lays g c =
+    rw (← c.self.view_is, c.in-StepJob.is)
+    (λ sure. (
+      c.step_job.ensures.lays,
+      stepped_spelled c.self.inside.cells.coverages c.step_job.new.cells.coverages
+          c.step_job.ensures.others,
+    ))
 
-pub returns-in-DeleteCoverage-clause-jobs : goal.returns-in-DeleteCoverage-clause-jobs
-returns-in-DeleteCoverage-clause-jobs g c = rw (← c.self.view_is, c.in-DeleteCoverage.is) (each_err c.delete.result _ (λ e. refl))
+pub returns-in-CancelJob-clause-lays : goal.returns-in-CancelJob-clause-lays
+returns-in-CancelJob-clause-lays g c =
+    rw (← c.self.view_is, c.in-CancelJob.is)
+    (λ sure. (
+      c.cancel_job.ensures.lays,
+      unheld_spelled c.self.inside.cells.coverages c.cancel_job.new.cells.coverages
+          c.cancel_job.ensures.others,
+    ))
 
-pub returns-in-ListCoverages-clause-jobs : goal.returns-in-ListCoverages-clause-jobs
-returns-in-ListCoverages-clause-jobs g c = rw (← c.self.view_is, c.in-ListCoverages.is) (each_err c.list.result _ (λ e. refl))
+pub returns-in-InsertCoverage-clause-leaves : goal.returns-in-InsertCoverage-clause-leaves
+returns-in-InsertCoverage-clause-leaves g c =
+    rw (← c.self.view_is, c.in-InsertCoverage.is)
+    (refused_leaves _ _ _ c.insert.result
+    c.insert.ensures.unchanged
+    (each_err c.insert.result _ (λ e. refl)))
 
-pub returns-in-DescribeCoverage-clause-jobs : goal.returns-in-DescribeCoverage-clause-jobs
-returns-in-DescribeCoverage-clause-jobs g c = rw (← c.self.view_is, c.in-DescribeCoverage.is) (each_err c.describe.result _ (λ e. refl))
+pub returns-in-UpdateCoverage-clause-leaves : goal.returns-in-UpdateCoverage-clause-leaves
+returns-in-UpdateCoverage-clause-leaves g c =
+    rw (← c.self.view_is, c.in-UpdateCoverage.is)
+    (refused_leaves _ _ _ c.update.result
+    c.update.ensures.unchanged
+    (each_err c.update.result _ (λ e. refl)))
 
-pub returns-in-ProcessCoverages-clause-jobs : goal.returns-in-ProcessCoverages-clause-jobs
-returns-in-ProcessCoverages-clause-jobs g c = rw (← c.self.view_is, c.in-ProcessCoverages.is) (each_err c.process.result _ (λ e. refl))
+pub returns-in-DeleteCoverage-clause-leaves : goal.returns-in-DeleteCoverage-clause-leaves
+returns-in-DeleteCoverage-clause-leaves g c =
+    rw (← c.self.view_is, c.in-DeleteCoverage.is)
+    (refused_leaves _ _ _ c.delete.result
+    c.delete.ensures.unchanged
+    (each_err c.delete.result _ (λ e. refl)))
 
-pub returns-in-ExpandTemplate-clause-jobs : goal.returns-in-ExpandTemplate-clause-jobs
-returns-in-ExpandTemplate-clause-jobs g c = rw (← c.self.view_is, c.in-ExpandTemplate.is) (each_err c.expand_template.result _ (λ e. refl))
+pub returns-in-ListCoverages-clause-leaves : goal.returns-in-ListCoverages-clause-leaves
+returns-in-ListCoverages-clause-leaves g c =
+    let v = c.self.inside.cells.coverages in
+    rw (← c.self.view_is, c.in-ListCoverages.is)
+    (refused_leaves _ _ _ c.list.result
+    (none_changed c.list.result v v refl)
+    (each_err c.list.result _ (λ e. refl)))
 
-pub returns-in-ProcessTemplate-clause-jobs : goal.returns-in-ProcessTemplate-clause-jobs
-returns-in-ProcessTemplate-clause-jobs g c = rw (← c.self.view_is, c.in-ProcessTemplate.is) (each_err c.process_template.result _ (λ e. refl))
+pub returns-in-DescribeCoverage-clause-leaves : goal.returns-in-DescribeCoverage-clause-leaves
+returns-in-DescribeCoverage-clause-leaves g c =
+    let v = c.self.inside.cells.coverages in
+    rw (← c.self.view_is, c.in-DescribeCoverage.is)
+    (refused_leaves _ _ _ c.describe.result
+    (none_changed c.describe.result v v refl)
+    (each_err c.describe.result _ (λ e. refl)))
 
-pub returns-in-SubmitQuery-clause-jobs : goal.returns-in-SubmitQuery-clause-jobs
-returns-in-SubmitQuery-clause-jobs g c = rw (← c.self.view_is, c.in-SubmitQuery.is) (err_each c.submit_query.result _ c.submit_query.ensures.desk)
+pub returns-in-ProcessCoverages-clause-leaves : goal.returns-in-ProcessCoverages-clause-leaves
+returns-in-ProcessCoverages-clause-leaves g c =
+    let v = c.self.inside.cells.coverages in
+    rw (← c.self.view_is, c.in-ProcessCoverages.is)
+    (refused_leaves _ _ _ c.process.result
+    (any_err c.process.result _ (still_unchanged v c.process.new.cells.coverages c.process.ensures.still))
+    (each_err c.process.result _ (λ e. refl)))
 
-pub returns-in-StepJob-clause-jobs : goal.returns-in-StepJob-clause-jobs
-returns-in-StepJob-clause-jobs g c = rw (← c.self.view_is, c.in-StepJob.is) (err_each c.step_job.result _ c.step_job.ensures.jobs)
+pub returns-in-SubmitQuery-clause-leaves : goal.returns-in-SubmitQuery-clause-leaves
+returns-in-SubmitQuery-clause-leaves g c =
+    let v = c.self.inside.cells.coverages in
+    rw (← c.self.view_is, c.in-SubmitQuery.is)
+    (refused_leaves _ _ _ c.submit_query.result
+    (on_err c.submit_query.result _ _ (unchanged v c.submit_query.new.cells.coverages) c.submit_query.ensures.refused)
+    (err_each c.submit_query.result _ c.submit_query.ensures.desk))
 
-pub returns-in-CancelJob-clause-jobs : goal.returns-in-CancelJob-clause-jobs
-returns-in-CancelJob-clause-jobs g c = rw (← c.self.view_is, c.in-CancelJob.is) (err_each c.cancel_job.result _ c.cancel_job.ensures.desk)
+pub returns-in-StepJob-clause-leaves : goal.returns-in-StepJob-clause-leaves
+returns-in-StepJob-clause-leaves g c =
+    let v = c.self.inside.cells.coverages in
+    rw (← c.self.view_is, c.in-StepJob.is)
+    (refused_leaves _ _ _ c.step_job.result
+    (on_err c.step_job.result _ _ (still_unchanged v c.step_job.new.cells.coverages) c.step_job.ensures.refused)
+    c.step_job.ensures.jobs.0)
 
-pub returns-in-FetchJob-clause-jobs : goal.returns-in-FetchJob-clause-jobs
-returns-in-FetchJob-clause-jobs g c = rw (← c.self.view_is, c.in-FetchJob.is) c.fetch_job.ensures.jobs
+pub returns-in-FetchJob-clause-leaves : goal.returns-in-FetchJob-clause-leaves
+returns-in-FetchJob-clause-leaves g c =
+    let v = c.self.inside.cells.coverages in
+    rw (← c.self.view_is, c.in-FetchJob.is)
+    (refused_leaves _ _ _ c.fetch_job.result
+    (none_changed c.fetch_job.result v v refl)
+    c.fetch_job.ensures.jobs)
+
+pub returns-in-CancelJob-clause-leaves : goal.returns-in-CancelJob-clause-leaves
+returns-in-CancelJob-clause-leaves g c =
+    let v = c.self.inside.cells.coverages in
+    rw (← c.self.view_is, c.in-CancelJob.is)
+    (refused_leaves _ _ _ c.cancel_job.result
+    (on_err c.cancel_job.result _ _ (unchanged v c.cancel_job.new.cells.coverages) c.cancel_job.ensures.refused)
+    (err_each c.cancel_job.result _ c.cancel_job.ensures.desk))
+
+pub returns-in-ExpandTemplate-clause-leaves : goal.returns-in-ExpandTemplate-clause-leaves
+returns-in-ExpandTemplate-clause-leaves g c =
+    let v = c.self.inside.cells.coverages in
+    rw (← c.self.view_is, c.in-ExpandTemplate.is)
+    (refused_leaves _ _ _ c.expand_template.result
+    (none_changed c.expand_template.result v v refl)
+    (each_err c.expand_template.result _ (λ e. refl)))
+
+pub returns-in-ProcessTemplate-clause-leaves : goal.returns-in-ProcessTemplate-clause-leaves
+returns-in-ProcessTemplate-clause-leaves g c =
+    let v = c.self.inside.cells.coverages in
+    rw (← c.self.view_is, c.in-ProcessTemplate.is)
+    (refused_leaves _ _ _ c.process_template.result
+    (any_err c.process_template.result _
+    (still_unchanged v c.process_template.new.cells.coverages c.process_template.ensures.still))
+    (each_err c.process_template.result _ (λ e. refl)))
+
+pub returns-in-InsertCoverage-clause-fetches : goal.returns-in-InsertCoverage-clause-fetches
+returns-in-InsertCoverage-clause-fetches g c = rw (← c.self.view_is, c.in-InsertCoverage.is) c.insert.ensures.fetched
+
+pub returns-in-UpdateCoverage-clause-fetches : goal.returns-in-UpdateCoverage-clause-fetches
+returns-in-UpdateCoverage-clause-fetches g c = rw (← c.self.view_is, c.in-UpdateCoverage.is) c.update.ensures.fetched
+
+pub returns-in-DeleteCoverage-clause-fetches : goal.returns-in-DeleteCoverage-clause-fetches
+returns-in-DeleteCoverage-clause-fetches g c = rw (← c.self.view_is, c.in-DeleteCoverage.is) c.delete.ensures.fetched
+
+pub returns-in-ListCoverages-clause-fetches : goal.returns-in-ListCoverages-clause-fetches
+returns-in-ListCoverages-clause-fetches g c = rw (← c.self.view_is, c.in-ListCoverages.is) refl
+
+pub returns-in-DescribeCoverage-clause-fetches : goal.returns-in-DescribeCoverage-clause-fetches
+returns-in-DescribeCoverage-clause-fetches g c = rw (← c.self.view_is, c.in-DescribeCoverage.is) refl
+
+pub returns-in-FetchJob-clause-fetches : goal.returns-in-FetchJob-clause-fetches
+returns-in-FetchJob-clause-fetches g c = rw (← c.self.view_is, c.in-FetchJob.is) refl
+
+pub returns-in-ExpandTemplate-clause-fetches : goal.returns-in-ExpandTemplate-clause-fetches
+returns-in-ExpandTemplate-clause-fetches g c = rw (← c.self.view_is, c.in-ExpandTemplate.is) refl
+
+pub returns-in-SubmitQuery-clause-fetches : goal.returns-in-SubmitQuery-clause-fetches
+returns-in-SubmitQuery-clause-fetches g c =
+    rw (← c.self.view_is, c.in-SubmitQuery.is) (ap (λ (u : ServerView). u.fetched) c.submit_query.ensures.others)
+
+pub returns-in-CancelJob-clause-fetches : goal.returns-in-CancelJob-clause-fetches
+returns-in-CancelJob-clause-fetches g c =
+    rw (← c.self.view_is, c.in-CancelJob.is) (ap (λ (u : ServerView). u.fetched) c.cancel_job.ensures.others)
+
+pub returns-in-StepJob-clause-fetches : goal.returns-in-StepJob-clause-fetches
+returns-in-StepJob-clause-fetches g c =
+    rw (← c.self.view_is, c.in-StepJob.is) (unless_told c.step_job.result _ c.step_job.ensures.jobs.1)
+
+pub returns-in-ProcessTemplate-clause-fetches : goal.returns-in-ProcessTemplate-clause-fetches
+returns-in-ProcessTemplate-clause-fetches g c =
+    rw (← c.self.view_is, c.in-ProcessTemplate.is) (unless_told c.process_template.result _ c.process_template.ensures.fetched)
+
+pub returns-in-ProcessCoverages-clause-fetches : goal.returns-in-ProcessCoverages-clause-fetches
+returns-in-ProcessCoverages-clause-fetches g c =
+    let v = c.self.inside.cells.coverages in
+    let w = c.process.new.cells.coverages in
+    let is : c.as_str.result.now ≡ string_bytes c.in-ProcessCoverages.query = search rules in
+    rw (← c.self.view_is, c.in-ProcessCoverages.is)
+    (unless_told c.process.result _
+    (subst (λ (q : List ℕ). UnlessFails c.process.result (FetchesNone v w ⊎ FetchesText q v w)) is c.process.ensures.fetched))

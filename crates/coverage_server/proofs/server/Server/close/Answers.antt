@@ -1,6 +1,7 @@
 -- What is left of a server that is not closed is what its parts leave.
 use Rattle.std.proofs.Common.{Err, ap, ◌∙◌}
 use Rattle.coverage_server.proofs.HoldingLemmas.{holding_same}
+use Rattle.coverage_server.proofs.SpelledLemmas.{closed_spelled}
 use Rattle.coverage_server.proofs.FaultLemmas.{never_fewer}
 use Rattle.coverage_server.proofs.server.Server.close.Goals as goal
 
@@ -10,6 +11,7 @@ returns-in-Err-clause-refused g c =
     (record {
       unchanged = c.write_closed.ensures.unchanged;
       sound = c.write_closed.ensures.sound;
+      spelled = c.write_closed.ensures.spelled;
       disk_fault = λ e. c.write_closed.ensures.told.told (c.in-Err.is ∙ ap Err e);
       no_memory = λ e. (c.write_closed.ensures.header (c.in-Err.is ∙ ap Err e), c.write_closed.ensures.told.quiet (λ f. absurd cc));
       honest = c.write_closed.ensures.honest;
@@ -18,3 +20,9 @@ returns-in-Err-clause-refused g c =
 
 pub invariant_of-result : goal.invariant_of-result
 invariant_of-result g c = holding_same c.self.inside.desk c.self.inside.cells.coverages.held c.write_closed.new.coverages.held c.write_closed.ensures.unchanged.held.told c.self.invariant
+
+pub returns-in-Ok-clause-spelled : goal.returns-in-Ok-clause-spelled
+returns-in-Ok-clause-spelled g c =
+    rw (← c.self.view_is)
+    (closed_spelled c.self.inside.cells.coverages c.write_closed.new.coverages _ c.into_disk.ensures.content
+    c.write_closed.ensures.unchanged c.write_closed.ensures.spelled)

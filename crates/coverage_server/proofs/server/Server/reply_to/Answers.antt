@@ -3,7 +3,7 @@ use Rattle.std.proofs.Common.{◌≡◌, ◌∙◌, ℕ, List, Result, Ok, sym, 
 use Rattle.http_front.specs.declared.reply.Reply.TheVariants.{Refused}
 use Rattle.http_front.specs.Stream.{Shows}
 use Rattle.kvp_front.specs.Requests.{asks, spelled}
-use Rattle.coverage_server.specs.Machine.{MessageStep}
+use Rattle.coverage_server.specs.Runs.{MessageStep}
 use Rattle.coverage_server.proofs.ReplyLemmas.{may_answer, spelled_step, spelled_badly}
 use Rattle.coverage_server.proofs.server.Server.reply_to.Goals as goal
 
@@ -18,7 +18,8 @@ returns-in-Ok-clause-step g c =
       x.0,
       x.1,
       subst (λ (a : Result (List ℕ) ℕ). MessageStep (may_answer v.coverages w.coverages) s a c.answer.result x.0) (sym told)
-          (spelled_step (spelled c.in-Message.pairs.items) (asks c.in-Ok.request) v w s c.answer.result x.0 read x.2),
+          (spelled_step v w sure c.answer.ensures.catalogue s r (spelled c.in-Message.pairs.items)
+          (asks c.in-Ok.request) c.answer.result x.0 read x.2),
     )
 
 pub returns-in-Message-clause-step : goal.returns-in-Message-clause-step

@@ -4,7 +4,7 @@ use Rattle.std.specs.Prelude.{IsTrue}
 use Rattle.std.proofs.KnownBytes.{Appends-nil, Consumes-nil}
 use Rattle.stream_face.specs.Faults.{fault_told}
 use Rattle.http_front.proofs.TakenLemmas.{found_item}
-use Rattle.coverage_server.proofs.ServingLemmas.{ended, faulted, answered, unwritten, continued, roomy, step-later, may-by, may-since, quiet_item}
+use Rattle.coverage_server.proofs.ServingLemmas.{ended, faulted, answered, unwritten, continued, roomy, step-later, rose-by, rose-since, quiet_item}
 use Rattle.coverage_server.proofs.server.Server.serve_connection.Goals as goal
 
 pub serving-init : goal.serving-init
@@ -61,7 +61,8 @@ returns-in-Err-clause-served g c =
       z.0,
       z.1,
       unwritten y.2 (g.R.Source.remaining c.next.new.source) f.0 f.1 _ x.0 x.1 z.0 _ _
-          (may-by _ _ _ _ c.reply_to-reply.ensures.no_fewer) (step-later (may-since _ _ _ _ _ inv.sound inv.no_fewer) _ _ _ _ z.2) _ _ x.3 x.4 _ c.in-Err.ensures.sent.0,
+          (rose-by _ _ _ c.reply_to-reply.ensures.no_fewer) (step-later (rose-since _ _ _ inv.no_fewer) _ _ _ _ z.2) _ _
+          x.3 x.4 _ c.in-Err.ensures.sent.0,
     )
 
 pub returns-in-Err-clause-told : goal.returns-in-Err-clause-told
@@ -82,7 +83,8 @@ returns-then-is_over-clause-served g c =
       z.0,
       z.1,
       answered y.2 (g.R.Source.remaining c.next.new.source) f.0 f.1 _ x.0 x.1 z.0 _ _
-          (may-by _ _ _ _ c.reply_to-reply.ensures.no_fewer) (step-later (may-since _ _ _ _ _ inv.sound inv.no_fewer) _ _ _ _ z.2) _ _ x.3 x.4 _ (sym c.is_over.ensures ∙ c.if-is_over.true) c.in-Ok.ensures.sent.0,
+          (rose-by _ _ _ c.reply_to-reply.ensures.no_fewer) (step-later (rose-since _ _ _ inv.no_fewer) _ _ _ _ z.2) _ _
+          x.3 x.4 _ (sym c.is_over.ensures ∙ c.if-is_over.true) c.in-Ok.ensures.sent.0,
     )
 
 pub returns-then-is_over-clause-told : goal.returns-then-is_over-clause-told
@@ -109,7 +111,9 @@ serving-preserved-else-is_over g c =
             z.0,
             z.1,
             continued y.2 later f.0 f.1 _ x.0 x.1 z.0 _ _
-                (may-by _ _ _ _ c.reply_to-reply.ensures.no_fewer) (step-later (may-since _ _ _ _ _ inv.sound inv.no_fewer) _ _ _ _ z.2) _ _ x.3 x.4 _ _ counted goes_on c.in-Ok.ensures.sent.0,
+                (rose-by _ _ _ c.reply_to-reply.ensures.no_fewer)
+                (step-later (rose-since _ _ _ inv.no_fewer) _ _ _ _ z.2) _ _ x.3 x.4 _ _ counted goes_on
+                c.in-Ok.ensures.sent.0,
           );
       read = quiet_item _ _ c.next.result c.next.ensures.told c.in_default.not-Ended c.in_default.not-ReadFault ∙ inv.read;
       written = c.in-Ok.ensures.sent.1 ∙ inv.written;
@@ -136,7 +140,9 @@ serving-preserved-else-is_over-2 g c =
             z.0,
             z.1,
             continued y.2 later f.0 f.1 _ x.0 x.1 z.0 _ _
-                (may-by _ _ _ _ c.reply_to-reply.ensures.no_fewer) (step-later (may-since _ _ _ _ _ inv.sound inv.no_fewer) _ _ _ _ z.2) _ _ x.3 x.4 _ _ counted goes_on c.in-Ok.ensures.sent.0,
+                (rose-by _ _ _ c.reply_to-reply.ensures.no_fewer)
+                (step-later (rose-since _ _ _ inv.no_fewer) _ _ _ _ z.2) _ _ x.3 x.4 _ _ counted goes_on
+                c.in-Ok.ensures.sent.0,
           );
       read = quiet_item _ _ c.next.result c.next.ensures.told c.in_default.not-Ended c.in_default.not-ReadFault ∙ inv.read;
       written = c.in-Ok.ensures.sent.1 ∙ inv.written;
@@ -163,7 +169,9 @@ serving-preserved g c =
             z.0,
             z.1,
             continued y.2 later f.0 f.1 _ x.0 x.1 z.0 _ _
-                (may-by _ _ _ _ c.reply_to-reply.ensures.no_fewer) (step-later (may-since _ _ _ _ _ inv.sound inv.no_fewer) _ _ _ _ z.2) _ _ x.3 x.4 _ _ counted goes_on c.in-Ok.ensures.sent.0,
+                (rose-by _ _ _ c.reply_to-reply.ensures.no_fewer)
+                (step-later (rose-since _ _ _ inv.no_fewer) _ _ _ _ z.2) _ _ x.3 x.4 _ _ counted goes_on
+                c.in-Ok.ensures.sent.0,
           );
       read = quiet_item _ _ c.next.result c.next.ensures.told c.in_default.not-Ended c.in_default.not-ReadFault ∙ inv.read;
       written = c.in-Ok.ensures.sent.1 ∙ inv.written;

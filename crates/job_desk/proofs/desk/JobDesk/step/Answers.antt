@@ -1,4 +1,5 @@
 -- Only the job with the number is changed, lowered or held up, and the numbers on the desk still rise.
+use Rattle.std.proofs.Common.{rules}
 use Rattle.std.proofs.lemmas.Result.{err_from_is_err_and}
 use Rattle.job_desk.specs.Places.{IsPlace}
 use Rattle.job_desk.proofs.Desks.{changed, desk_set}
@@ -24,3 +25,13 @@ pub invariant_of-self : goal.invariant_of-self
 invariant_of-self g c =
     let at : IsPlace c.args.job c.self.inside.jobs.items c.in-Some.place = rw (← c.deref.ensures.value) c.in-Some.ensures in
     desk_set c.self.inside.jobs.items c.self.inside.next c.in-Some.place c.index_mut.result.now c.step_job.new.job at.within c.index_mut.ensures.value c.in_err-left.ensures.held_up.same.number c.step_job.ensures.job c.self.invariant
+
+pub returns-clause-source : goal.returns-clause-source
+returns-clause-source g c =
+    let at : IsPlace c.args.job c.self.inside.jobs.items c.in-Some.place = rw (← c.deref.ensures.value) c.in-Some.ensures in (
+      c.step_job.new.source,
+      search rules,
+      search rules,
+      search rules,
+      rw (← c.self.view_is) (changed _ c.args.job c.self.inside.jobs.items c.self.inside.next c.in-Some.place c.index_mut.result.now c.step_job.new.job at c.index_mut.ensures.value c.in_ok-left.ensures.fetched),
+    )

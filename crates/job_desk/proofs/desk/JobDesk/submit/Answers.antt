@@ -9,7 +9,7 @@ pub invariant_of-self-2 : goal.invariant_of-self-2
 invariant_of-self-2 g c =
     let room : length c.self.inside.jobs.items < 64 = omega arith in
     let ahead : left_of c.in_ok-exec.exec ≤ c.left-left.result = omega arith in
-    rw (c.push_job.ensures.pushed, c.in_ok-reserve.ensures.items) (desk_push c.self.inside.jobs.items c.self.inside.next c.number_after-self-inside.result c.in-Some.number _ c.in-Some.is c.number_after-self-inside.ensures refl room (record { sound = c.in_ok-exec.ensures.sound; ahead = ahead }) c.self.invariant)
+    rw (c.push_job.ensures.pushed, c.in_ok-reserve.ensures.items) (desk_push c.self.inside.jobs.items c.self.inside.next c.number_after-self-inside.result c.in-Some.number _ c.in-Some.is c.number_after-self-inside.ensures refl room (record { ahead = ahead }) c.self.invariant)
 
 pub returns-clause-submitted : goal.returns-clause-submitted
 returns-clause-submitted g c =

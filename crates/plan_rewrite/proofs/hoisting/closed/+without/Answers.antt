@@ -3,7 +3,7 @@ use Rattle.std.proofs.Common.{◌∙◌, ap, sym}
 use Rattle.plan_ir.specs.Bodies.{Tree, body_view, fold_view, fold}
 use Rattle.plan_ir.specs.Plans.{PassTree}
 use Rattle.plan_ir.proofs.Folds.{folded}
-use Rattle.plan_rewrite.specs.Hoisting.{without}
+use Rattle.plan_ir.specs.Variables.{without}
 use Rattle.plan_rewrite.proofs.hoisting.closed.+without.Goals as goal
 
 abbrev tree_of : PassTree → Tree

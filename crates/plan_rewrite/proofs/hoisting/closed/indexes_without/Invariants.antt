@@ -1,5 +1,5 @@
 use Rattle.std.proofs.Common.{◌≡◌, take, map}
-use Rattle.plan_rewrite.specs.Hoisting.{index_without}
+use Rattle.plan_ir.specs.Variables.{index_without}
 use Rattle.plan_rewrite.proofs.hoisting.closed.indexes_without.Given as goal
 
 abbrev pub invariant-loop-index : goal.invariant-loop-index

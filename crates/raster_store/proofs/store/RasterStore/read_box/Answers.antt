@@ -1,6 +1,8 @@
 -- The numbers that the field has in the tiles of the box are the values of the coverage there.
-use Rattle.std.proofs.Common.{arith}
+use Rattle.std.proofs.Common.{rules, arith}
 use Rattle.std.proofs.lemmas.Result.{err_from_is_err_and}
+use Rattle.tile_store.specs.Listing.{listed}
+use Rattle.tile_store.proofs.Takes.{reads_whole}
 use Rattle.raster_store.proofs.Readings.{named_field, numbers_are, box_damaged}
 use Rattle.raster_store.proofs.Stored.{store_read}
 use Rattle.raster_store.proofs.store.RasterStore.read_box.Goals as goal
@@ -51,3 +53,15 @@ returns-clause-fetched g c =
     let tiles = c.in_ok-tiles.ensures in
     rw (← c.self.view_is, at.facts.at)
     (c.in_ok-tiles.tiles.items, record { rising = tiles.rising; exact = tiles.exact }, omega (arith, c.saturating_add-self-inside.ensures, c.len.ensures, c.in_ok-tiles.tiles.ok))
+
+pub returns-in_err-cells-clause-frame : goal.returns-in_err-cells-clause-frame
+returns-in_err-cells-clause-frame g c =
+    let at = named_field _ _ c.args.name.now c.args.field _ c.self.invariant.is_held (rw c.deref.ensures.value at c.named-coverage.ensures) (rw (← c.self.view_is) at c.requires.field) in
+    let reads = reads_whole (listed c.tiles.result.index.now) _ _ (rw c.tiles.ensures.index at.sound.whole) c.in_err-cells.ensures.frame in
+    search rules
+
+pub returns-clause-frame : goal.returns-clause-frame
+returns-clause-frame g c =
+    let at = named_field _ _ c.args.name.now c.args.field _ c.self.invariant.is_held (rw c.deref.ensures.value at c.named-coverage.ensures) (rw (← c.self.view_is) at c.requires.field) in
+    let reads = reads_whole (listed c.tiles.result.index.now) _ _ (rw c.tiles.ensures.index at.sound.whole) c.in_ok-cells.ensures.frame in
+    search rules

@@ -2,6 +2,8 @@
 use Rattle.std.proofs.Common.{SFits, w64, rules, ◌∙◌}
 use Rattle.std.proofs.lemmas.Int.{to_z-of_z}
 use Rattle.std.proofs.lemmas.Result.{err_from_is_err_and}
+use Rattle.tile_store.specs.Listing.{listed}
+use Rattle.tile_store.proofs.Takes.{reads_whole}
 use Rattle.raster_store.proofs.Readings.{named_field, number_is, cell_damaged}
 use Rattle.raster_store.proofs.Stored.{store_read}
 use Rattle.raster_store.proofs.store.RasterStore.read_cell.Goals as goal
@@ -41,3 +43,15 @@ returns-clause-read g c =
     let fits : SFits w64 c.in_ok-number.number = search rules in
     rw (← c.self.view_is, at.facts.at, to_z-of_z w64 c.in_ok-number.number fits)
     (λ sure. (c.in_ok-number.ensures.read sure).0 ∙ number_is at c.tiles-tiles.result c.tiles-tiles.ensures c.args.point.now inside)
+
+pub returns-in_err-number-clause-frame : goal.returns-in_err-number-clause-frame
+returns-in_err-number-clause-frame g c =
+    let at = named_field _ _ c.args.name.now c.args.field _ c.self.invariant.is_held (rw c.deref.ensures.value at c.named.ensures) (rw (← c.self.view_is) at c.requires.field) in
+    let reads = reads_whole (listed c.tiles-tiles.result.index.now) _ _ (rw c.tiles-tiles.ensures.index at.sound.whole) c.in_err-number.ensures.frame in
+    search rules
+
+pub returns-clause-frame : goal.returns-clause-frame
+returns-clause-frame g c =
+    let at = named_field _ _ c.args.name.now c.args.field _ c.self.invariant.is_held (rw c.deref.ensures.value at c.named.ensures) (rw (← c.self.view_is) at c.requires.field) in
+    let reads = reads_whole (listed c.tiles-tiles.result.index.now) _ _ (rw c.tiles-tiles.ensures.index at.sound.whole) c.in_ok-number.ensures.frame in
+    search rules

@@ -44,5 +44,5 @@ returns-in-None g c =
     rw (← c.self.view_is) (record {
       snapshots = sym same.1;
       same = record { coverages = refl; indexes = refl; fetched = refl };
-      recounts = record { uses = λ k. refl; content = refl; synced = refl; size = refl; failures = refl; honest = refl };
+      recounts = record { uses = λ k. refl; content = refl; synced = refl; size = refl; failures = refl; overreads = refl; honest = refl };
     })

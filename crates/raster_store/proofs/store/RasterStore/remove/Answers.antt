@@ -41,4 +41,4 @@ returns-in-Some g c =
 pub returns-in-None : goal.returns-in-None
 returns-in-None g c =
     let none = deleted_none (g.B.Blocks.state c.self.inside.blocks).content c.args.name.now c.self.inside.coverages.items (rw c.deref.ensures.value at c.in-None.ensures.none) in
-    rw (← c.self.view_is) (record { coverages = sym none.0; indexes = sym none.1; snapshots = refl; recounts = record { uses = λ k. refl; content = refl; synced = refl; size = refl; failures = refl; honest = refl }; intact = λ intact. intact; fetched = refl })
+    rw (← c.self.view_is) (record { coverages = sym none.0; indexes = sym none.1; snapshots = refl; recounts = record { uses = λ k. refl; content = refl; synced = refl; size = refl; failures = refl; overreads = refl; honest = refl }; intact = λ intact. intact; fetched = refl })

@@ -1,5 +1,5 @@
 -- The product of two values that fit 32 bits does not wrap.
-use Rattle.std.proofs.Common.{◌≡◌, ◌*◌, ◌%◌, ◌^◌, rules, sym, ap, ◌∙◌, SFits, FitsSigned, w64, to_z, of_z, true}
+use Rattle.std.proofs.Common.{◌≡◌, ◌*◌, ◌%◌, ◌^◌, rules, sym, ap, ◌∙◌, SFits, FitsSigned, w64, to_z, of_z}
 use Rattle.std.specs.Int.{w32, int_wrapping_mul}
 use Rattle.std.proofs.lemmas.Int.{to_z-of_z}
 use Rattle.wcps_mean.specs.declared.cell.Outcome.TheVariants.{Value}

@@ -1,0 +1,76 @@
+-- How many tiles a request fetches.
+use Rattle.std.specs.Prelude.{◌≡◌, ◌⊎◌, ℕ, ◌+◌, ◌≤◌, List, Result, Ok, Err, sum_by}
+use Rattle.job_desk.specs.Steps.{FetchesWithin, IsChanged}
+use Rattle.plan_ir.specs.Plans.{PlanTree}
+use Rattle.plan_ir.specs.Units.{boxes, bound}
+use Rattle.wcps_types.specs.Typed.{TypedTree}
+use Rattle.http_front.specs.declared.reply.Reply.{Reply}
+use Rattle.http_front.specs.declared.reply.Reply.TheVariants.{Text, Csv, Refused}
+use Rattle.kvp_front.specs.Requests.{Asks, insert_coverage, update_coverage, delete_coverage, list_coverages, describe_coverage, process_coverages, submit_query, step_job, fetch_job, cancel_job, expand_template, process_template}
+use Rattle.kvp_front.specs.Templates.{Template}
+use Rattle.coverage_server.specs.declared.arguments.Refusal.{Refusal}
+use Rattle.coverage_server.specs.Asking.{TextTyped}
+use Rattle.coverage_server.specs.Leaving.{refusal_number}
+use Rattle.coverage_server.specs.Stages.{IsPlanOf}
+use Rattle.coverage_server.specs.Templates.{expansion}
+use Rattle.coverage_server.specs.Views.{ServerView, SessionView}
+
+-- no tile was fetched
+abbrev pub FetchesNone : ServerView → ServerView → Type 0
+FetchesNone old new = new.fetched ≡ old.fetched
+
+-- at most so many tiles the units of a plan fetch together
+abbrev pub most_of_plan : PlanTree → ℕ
+most_of_plan plan = sum_by (bound plan) (boxes plan)
+
+-- no more tiles were fetched than the boxes of a plan of the query bound together
+abbrev pub FetchesPlan : TypedTree → ServerView → ServerView → Type 0
+FetchesPlan q old new = (plan : PlanTree) × IsPlanOf q plan × (new.fetched ≤ old.fetched + most_of_plan plan)
+
+-- so it is with the query that a text is over the store
+abbrev pub FetchesText : List ℕ → ServerView → ServerView → Type 0
+FetchesText text old new = (q : TypedTree) × TextTyped old.store text (Ok q) × FetchesPlan q old new
+
+-- and with the text of a template
+abbrev pub FetchesTemplate : Template → ServerView → ServerView → Type 0
+FetchesTemplate template old new = (text : List ℕ) × (expansion template old.store ≡ Ok text) × FetchesText text old new
+
+-- no more tiles were fetched than the boxes of those units bound together that the job with a number has done meanwhile
+abbrev pub FetchesUnits : ℕ → SessionView → SessionView → Type 0
+FetchesUnits number old new =
+    IsChanged (λ was is. FetchesWithin was.exec is.exec old.coverages.fetched new.coverages.fetched) number
+    old.desk new.desk
+
+-- want of memory, a disk fault or damage, by its number
+abbrev pub IsFailure : ℕ → Type 0
+IsFailure code = (code ≡ 90) ⊎ (code ≡ 91) ⊎ (code ≡ 93)
+
+-- This holds, or the reply tells of such a failure. How many tiles were fetched before one is not said.
+abbrev pub UnlessFailed : Reply → Type 0 → Type 0
+UnlessFailed (Text text) P = P
+UnlessFailed (Csv text) P = P
+UnlessFailed (Refused code) P = IsFailure code ⊎ P
+
+-- the same of an answer that is not yet told
+abbrev pub UnlessFails : {A : Type 0} → Result A Refusal → Type 0 → Type 0
+UnlessFails (Ok a) P = P
+UnlessFails (Err e) P = IsFailure (refusal_number e) ⊎ P
+
+-- Nine requests fetch no tile. A query and the units of a job that are done fetch no more than their boxes bound
+-- together; a query whose text is refused, a number of no job, and a job without units left fetch none.
+abbrev pub FetchesBounded : Asks → Reply → SessionView → SessionView → Type 0
+FetchesBounded (insert_coverage name intervals fields) reply old new = FetchesNone old.coverages new.coverages
+FetchesBounded (update_coverage name field intervals cells) reply old new = FetchesNone old.coverages new.coverages
+FetchesBounded (delete_coverage name) reply old new = FetchesNone old.coverages new.coverages
+FetchesBounded list_coverages reply old new = FetchesNone old.coverages new.coverages
+FetchesBounded (describe_coverage name) reply old new = FetchesNone old.coverages new.coverages
+FetchesBounded (process_coverages query) reply old new =
+    UnlessFailed reply (FetchesNone old.coverages new.coverages ⊎ FetchesText query old.coverages new.coverages)
+FetchesBounded (submit_query query) reply old new = FetchesNone old.coverages new.coverages
+FetchesBounded (step_job number units) reply old new =
+    UnlessFailed reply (FetchesNone old.coverages new.coverages ⊎ FetchesUnits number old new)
+FetchesBounded (fetch_job number) reply old new = FetchesNone old.coverages new.coverages
+FetchesBounded (cancel_job number) reply old new = FetchesNone old.coverages new.coverages
+FetchesBounded (expand_template template) reply old new = FetchesNone old.coverages new.coverages
+FetchesBounded (process_template template) reply old new =
+    UnlessFailed reply (FetchesNone old.coverages new.coverages ⊎ FetchesTemplate template old.coverages new.coverages)

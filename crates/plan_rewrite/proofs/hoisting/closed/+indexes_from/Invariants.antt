@@ -1,5 +1,0 @@
-use Rattle.std.proofs.Common.{length}
-use Rattle.plan_rewrite.proofs.hoisting.closed.+indexes_from.Given as goal
-
-abbrev pub decreases-indexes_from : goal.decreases-indexes_from
-decreases-indexes_from l = length l.indexes.now

@@ -1,0 +1,214 @@
+-- Folds of zones: what their accumulators are told, their places and what is fetched.
+use Rattle.std.proofs.Common.{◌≡◌, ◌≢◌, ℕ, zero, suc, ◌+◌, ◌-◌, ◌*◌, ◌<◌, ◌≤◌, List, [], ◌∷◌, ◌++◌, length, get_or, map, refl, sym, ap, ◌∙◌, subst, arith, ℤ, pos, T, Bool, true, false, below_more, Option, Some, None}
+use Rattle.std.specs.Prelude.{replicate, int_le, ◌&&◌, IfSome}
+use Rattle.std.specs.List.{flat_map}
+use Rattle.std.proofs.Math.Nat.{mul_comm}
+use Rattle.std.proofs.lemmas.List.{get_or-map}
+use Rattle.arr_core.specs.declared.domain.Axis.{Axis}
+use Rattle.arr_core.specs.declared.signature.Signature.{Signature}
+use Rattle.arr_core.specs.Domains.{points, count, rank_of}
+use Rattle.arr_core.specs.Tiles.{tile_boxes}
+use Rattle.arr_core.proofs.Points.{length-points}
+use Rattle.wcps_text.specs.declared.operator.Aggregate.{Aggregate}
+use Rattle.wcps_text.specs.declared.operator.BinaryOperator.TheVariants.{Equal}
+use Rattle.wcps_mean.specs.declared.cell.Outcome.{Outcome}
+use Rattle.wcps_mean.specs.declared.cell.Outcome.TheVariants.{Value, Fault}
+use Rattle.wcps_mean.specs.Cells.{operate2, number}
+use Rattle.plan_ir.specs.declared.body.Interval.{Interval}
+use Rattle.plan_ir.specs.Bodies.{Tree, fold}
+use Rattle.plan_ir.specs.Run.{run}
+use Rattle.plan_ir.specs.Placed.{spans, IsPlaced}
+use Rattle.plan_ir.specs.Units.{bound_times}
+use Rattle.plan_ir.specs.Variables.{is_from, is_below}
+use Rattle.plan_ir.proofs.FirstVariables.{flat-same, from-same, below-means, below-placed}
+use Rattle.tile_kernel.specs.declared.accumulator.Accumulator.{Accumulator}
+use Rattle.tile_kernel.specs.Columns.{outcome_at, operate_all}
+use Rattle.tile_kernel.specs.Keyed.{having, number_at, IsPlaceOf}
+use Rattle.tile_kernel.specs.Told.{Told, demanded_of, demanded_at}
+use Rattle.tile_kernel.specs.Standing.{Stands, TakesIn, EachTakesIn}
+use Rattle.tile_columns.specs.Condensing.{told_ranked, MergesAt}
+use Rattle.tile_columns.specs.Evaluating.{AreWithin, HasPlace}
+use Rattle.tile_columns.specs.TileOrder.{tile_of, points_to}
+use Rattle.tile_columns.specs.Zones.{compared, equality, AreSides, IsZonal, TakesInAt}
+use Rattle.tile_columns.proofs.Condensings.{takes_same}
+use Rattle.tile_columns.proofs.Fetching.{times_both}
+use Rattle.tile_columns.proofs.Placing.{left_place, right_place}
+use Rattle.tile_columns.proofs.Ranges.{map_map}
+use Rattle.tile_columns.proofs.TileFolds.{told_chosen, points_next}
+
+-- ---- outcomes that are compared with a key
+
+both_ways : (a b : Bool) → (a && b) ≡ (b && a)
+both_ways true true = refl
+both_ways true false = refl
+both_ways false true = refl
+both_ways false false = refl
+
+equal_either : (o : Outcome) (z : ℤ) → operate2 Equal o (Value z) ≡ operate2 Equal (Value z) o
+equal_either (Fault f) z = refl
+equal_either (Value x) z = ap (λ b. Value (number b)) (both_ways (int_le x z) (int_le z x))
+
+-- with a value it does not matter which operand is the key
+pub having_compared : (first : Bool) (os : List Outcome) (z : ℤ) → having os z ≡ map (compared first (Value z)) os
+having_compared first [] z = refl
+having_compared true (o ∷ os) z = ap (λ x. x ∷ having os z) (equal_either o z) ∙ ap (λ l. operate2 Equal (Value z) o ∷ l) (having_compared true os z)
+having_compared false (o ∷ os) z = ap (λ l. operate2 Equal o (Value z) ∷ l) (having_compared false os z)
+
+-- the number at the place of a number is that number
+pub placed_key : (r : Option ℕ) (z : ℤ) (numbers : List ℤ) → IfSome r (λ k. k < length numbers) → IsPlaceOf z numbers r → IfSome r (λ k. Value z ≡ Value (number_at numbers k))
+placed_key None z numbers w p = w
+placed_key (Some k) z numbers w p = ap Value (sym ((p k w).1 refl))
+
+-- a column of the key in each place
+pub compared_right : (os : List Outcome) (n : ℕ) (key : Outcome) → n ≡ length os → operate_all Equal os (replicate n key) ≡ map (compared false key) os
+compared_right [] n key e = refl
+compared_right (o ∷ os) zero key e = absurd (omega (arith, e))
+compared_right (o ∷ os) (suc n) key e = ap (λ l. operate2 Equal o key ∷ l) (compared_right os n key (omega (arith, e)))
+
+pub compared_left : (os : List Outcome) (n : ℕ) (key : Outcome) → n ≡ length os → operate_all Equal (replicate n key) os ≡ map (compared true key) os
+compared_left [] zero key e = refl
+compared_left [] (suc n) key e = refl
+compared_left (o ∷ os) zero key e = absurd (omega (arith, e))
+compared_left (o ∷ os) (suc n) key e = ap (λ l. operate2 Equal key o ∷ l) (compared_left os n key (omega (arith, e)))
+
+-- ---- accumulators
+
+-- an accumulator that took over what another one was told
+pub merged_at : (place n : ℕ) (found : Accumulator) (more : List Told) (before after : List Accumulator) → MergesAt place found before after → Stands found more → found.running.count ≤ n → TakesInAt place more n before after
+merged_at place n found more before after m s le = record {
+  told = λ d. m.told more d s;
+  count = λ d. let e = m.count d in omega (arith, e, le);
+  kinds = m.kinds;
+  others = m.others;
+}
+
+-- one more place
+pub place_told : (before mid after : List Accumulator) (place n : ℕ) (told : ℕ → List Told) → TakesInAt place (told place) n mid after
+    → ((k : ℕ) (d : Accumulator) → place ≤ k → get_or mid k d ≡ get_or before k d) → ((k : ℕ) (d : Accumulator) → k < place → TakesIn (get_or before k d) (get_or mid k d) (told k))
+    → (k : ℕ) (d : Accumulator) → k < place + 1 → TakesIn (get_or before k d) (get_or after k d) (told k)
+place_told before mid after place n told m rest h k d lt =
+    below_more (λ k. (d : Accumulator) → TakesIn (get_or before k d) (get_or after k d) (told k)) place
+    (λ k l d. let ne : k ≢ place = omega arith in subst (λ a. TakesIn (get_or before k d) a (told k)) (sym (m.others k d ne)) (h k d l))
+    (λ d. subst (λ a. TakesIn a (get_or after place d) (told place)) (rest place d (omega arith)) (m.told d))
+    k lt d
+
+pub place_count : (before mid after : List Accumulator) (place n : ℕ) (more : List Told) → TakesInAt place more n mid after
+    → ((k : ℕ) (d : Accumulator) → place ≤ k → get_or mid k d ≡ get_or before k d) → ((k : ℕ) (d : Accumulator) → k < place → (get_or mid k d).running.count ≤ (get_or before k d).running.count + n)
+    → (k : ℕ) (d : Accumulator) → k < place + 1 → (get_or after k d).running.count ≤ (get_or before k d).running.count + n
+place_count before mid after place n more m rest h k d lt =
+    below_more (λ k. (d : Accumulator) → (get_or after k d).running.count ≤ (get_or before k d).running.count + n) place
+    (λ k l d. let ne : k ≢ place = omega arith in subst (λ (a : Accumulator). a.running.count ≤ (get_or before k d).running.count + n) (sym (m.others k d ne)) (h k d l))
+    (λ d. let e = m.count d in let r = ap (λ (a : Accumulator). a.running.count) (rest place d (omega arith)) in omega (arith, e, r))
+    k lt d
+
+pub place_rest : (before mid after : List Accumulator) (place n : ℕ) (more : List Told) → TakesInAt place more n mid after → ((k : ℕ) (d : Accumulator) → place ≤ k → get_or mid k d ≡ get_or before k d)
+    → (k : ℕ) (d : Accumulator) → place + 1 ≤ k → get_or after k d ≡ get_or before k d
+place_rest before mid after place n more m rest k d le = let ne : k ≢ place = omega arith in m.others k d ne ∙ rest k d (omega arith)
+
+-- ---- a fold of zones at the points of a part
+
+compared_run : (s : ℕ → ℕ → List ℤ → ℤ) (regs : List Outcome) (own key : Tree) (first : Bool) (v : List ℤ) → run s regs (equality first own key) v ≡ compared first (run s regs key v) (run s regs own v)
+compared_run s regs own key true v = refl
+compared_run s regs own key false v = refl
+
+is_t : {b : Bool} → b ≡ true → T b
+is_t e = subst T (sym e) tt
+
+-- what a point adds at a place is told by the place's key and by what the bodies give under the variables of another place
+zone_point : (s : ℕ → ℕ → List ℤ → ℤ) (regs : List Outcome) (dom : List Axis) (condition body own key : Tree) (first : Bool) (depth : ℕ) (one vars x : List ℤ) → AreSides depth condition own key first → T (is_from depth body) → length one ≡ depth → length vars ≡ depth
+    → told_ranked dom (λ v. compared first (run s regs key vars) (run s regs own v)) (run s regs body) one x ≡ told_ranked dom (run s regs condition) (run s regs body) vars x
+zone_point s regs dom condition body own key first depth one vars x z b e f =
+    let k : run s regs key (vars ++ x) ≡ run s regs key vars = below-means key s regs vars x (subst (λ n. T (is_below n key)) (sym f) (is_t z.key_below)) in
+    let o : run s regs own (one ++ x) ≡ run s regs own (vars ++ x) = from-same own s regs depth one vars x (is_t z.own_from) e f in
+    let r : run s regs body (one ++ x) ≡ run s regs body (vars ++ x) = from-same body s regs depth one vars x b e f in
+    let c : compared first (run s regs key vars) (run s regs own (one ++ x)) ≡ run s regs condition (vars ++ x) =
+    ap (compared first (run s regs key vars)) o ∙ ap (λ q. compared first q (run s regs own (vars ++ x))) (sym k)
+    ∙ sym (compared_run s regs own key first (vars ++ x)) ∙ ap (λ t. run s regs t (vars ++ x)) (sym z.is) in
+    ap (λ q. demanded_of (rank_of dom x) q (run s regs body (one ++ x))) c ∙ ap (demanded_of (rank_of dom x) (run s regs condition (vars ++ x))) r
+
+-- what the columns of a part tell of a place's key is what the points of the part tell at the place
+pub zone_told : (s : ℕ → ℕ → List ℤ → ℤ) (regs : List Outcome) (dom : List Axis) (condition body own key : Tree) (first : Bool) (envs xs inner : List (List ℤ)) (keys zone column : List Outcome) (ranks : List ℕ) (before after : List Accumulator)
+    → IsZonal condition body own key first envs → length after ≡ length envs
+    → inner ≡ map (λ p. get_or envs 0 [] ++ p) xs → ranks ≡ map (rank_of dom) xs → keys ≡ map (run s regs key) envs → zone ≡ map (run s regs own) inner → column ≡ map (run s regs body) inner
+    → EachTakesIn before after (λ k. demanded_at ranks (map (compared first (outcome_at keys k)) zone) column)
+    → EachTakesIn before after (λ k. flat_map (told_ranked dom (run s regs condition) (run s regs body) (get_or envs k [])) xs)
+zone_told s regs dom condition body own key first envs xs inner keys zone column ranks before after z n i q h o c t =
+    let one = get_or envs 0 [] in
+    takes_same before after (λ k. demanded_at ranks (map (compared first (outcome_at keys k)) zone) column) (λ k. flat_map (told_ranked dom (run s regs condition) (run s regs body) (get_or envs k [])) xs) t
+    (λ k lt.
+    let vars = get_or envs k [] in
+    let l : k < length envs = omega (arith, lt, n) in
+    let at : outcome_at keys k ≡ run s regs key vars = ap (λ l. outcome_at l k) h ∙ get_or-map (run s regs key) envs k [] (Value (pos 0)) l in
+    let go : List ℤ → Outcome = λ v. compared first (run s regs key vars) (run s regs own v) in
+    ap (λ y. demanded_at ranks (map (compared first y) zone) column) at
+    ∙ ap (λ l. demanded_at l (map (compared first (run s regs key vars)) zone) column) q
+    ∙ ap (λ l. demanded_at (map (rank_of dom) xs) (map (compared first (run s regs key vars)) l) column) (o ∙ ap (map (run s regs own)) i)
+    ∙ ap (λ l. demanded_at (map (rank_of dom) xs) l column) (map_map (compared first (run s regs key vars)) (run s regs own) (map (λ p. one ++ p) xs))
+    ∙ ap (demanded_at (map (rank_of dom) xs) (map go (map (λ p. one ++ p) xs))) (c ∙ ap (map (run s regs body)) i)
+    ∙ told_chosen dom go (run s regs body) one xs
+    ∙ flat-same (told_ranked dom go (run s regs body) one) (told_ranked dom (run s regs condition) (run s regs body) vars) xs
+    (λ x. zone_point s regs dom condition body own key first z.depth one vars x z.sides (is_t z.body_from) (z.deep 0 [] z.some) (z.deep k [] l)))
+
+-- ---- places of the bodies
+
+pub own_place : {cs : ℕ → Option Signature} {n : ℕ} (depth : ℕ) (condition own key : Tree) (first : Bool) (envs : List (List ℤ)) → AreSides depth condition own key first → HasPlace cs n condition envs → HasPlace cs n own envs
+own_place {cs} {n} depth condition own key true envs z h = right_place Equal key own envs (subst (λ e. HasPlace cs n e envs) z.is h)
+own_place {cs} {n} depth condition own key false envs z h = left_place Equal own key envs (subst (λ e. HasPlace cs n e envs) z.is h)
+
+key_placed : (cs : ℕ → Option Signature) (n : ℕ) (scope : List Interval) (own key : Tree) (first : Bool) → IsPlaced cs n scope (equality first own key) → IsPlaced cs n scope key
+key_placed cs n scope own key true p = p.0
+key_placed cs n scope own key false p = p.1
+
+within_length : (scope : List Interval) (e : List ℤ) → AreWithin scope e → length e ≡ length scope
+within_length [] [] h = refl
+within_length [] (z ∷ e) h = absurd h
+within_length (b ∷ scope) [] h = absurd h
+within_length (b ∷ scope) (z ∷ e) h = ap suc (within_length scope e h.2)
+
+pub key_place : {cs : ℕ → Option Signature} {n : ℕ} (op : Aggregate) (box : List Axis) (condition body own key : Tree) (first : Bool) (envs : List (List ℤ)) → IsZonal condition body own key first envs → HasPlace cs n (fold op box condition body) envs → HasPlace cs n key envs
+key_place {cs} {n} op box condition body own key first envs z h =
+    let e : length h.scope ≡ z.depth = sym (within_length h.scope (get_or envs 0 []) (h.within 0 [] z.some)) ∙ z.deep 0 [] z.some in
+    record {
+      scope = h.scope;
+      placed =
+          below-placed key cs n h.scope (spans box) (subst (λ m. T (is_below m key)) (sym e) (is_t z.sides.key_below))
+          (key_placed cs n (h.scope ++ spans box) own key first (subst (λ t. IsPlaced cs n (h.scope ++ spans box) t) z.sides.is h.placed.0));
+      within = h.within;
+    }
+
+-- ---- how many tiles are fetched
+
+times_least : (a b : ℕ) (e : Tree) → a ≤ b → bound_times a e ≤ bound_times b e
+times_least a b e le =
+    let s : b ≡ a + (b - a) = omega (arith, le) in
+    let m = ap (λ n. bound_times n e) s ∙ times_both a (b - a) e in
+    omega (arith, m)
+
+sides_bound : (n : ℕ) (condition own key : Tree) (first : Bool) → condition ≡ equality first own key → bound_times n condition ≡ bound_times n own + bound_times n key
+sides_bound n condition own key true e = let m : bound_times n condition ≡ bound_times n key + bound_times n own = ap (bound_times n) e in omega (arith, m)
+sides_bound n condition own key false e = ap (bound_times n) e
+
+more_times : (a b : ℕ) → 0 < b → a ≤ a * b
+more_times a b some =
+    let s : b ≡ (b - 1) + 1 = omega (arith, some) in
+    let m : a * ((b - 1) + 1) ≡ a * (b - 1) + a = grind arith in
+    let e = ap (λ k. a * k) s ∙ m in
+    omega (arith, e)
+
+-- the keys once for each place, and both bodies once for each point
+pub zone_bound : (places n depth : ℕ) (condition own key body : Tree) (first : Bool) → AreSides depth condition own key first → 0 < places → 0 < n
+    → bound_times places key + (bound_times n own + bound_times n body) ≤ bound_times (places * n) condition + bound_times (places * n) body
+zone_bound places n depth condition own key body first z some more =
+    let a : places ≤ places * n = more_times places n more in
+    let b : n ≤ places * n = subst (λ m. n ≤ m) (mul_comm n places) (more_times n places some) in
+    let k = times_least places (places * n) key a in
+    let o = times_least n (places * n) own b in
+    let r = times_least n (places * n) body b in
+    let c = sides_bound (places * n) condition own key first z.is in
+    omega (arith, k, o, r, c)
+
+-- one more tile
+pub times_next : (box part : List Axis) (t : ℕ) (e : Tree) → t < length (tile_boxes box) → part ≡ tile_of box t → bound_times (length (points_to box (t + 1))) e ≡ bound_times (length (points_to box t)) e + bound_times (count part) e
+times_next box part t e lt is =
+    ap (λ m. bound_times m e) (points_next box part t lt is ∙ ap (λ m. length (points_to box t) + m) (length-points part))
+    ∙ times_both (length (points_to box t)) (count part) e

@@ -1,0 +1,84 @@
+-- Each cell of a tile lies in the item; the tile is kept, and after the last one the item or its fault is given.
+use Rattle.std.proofs.Common.{◌≡◌, arith, ◌-◌, subst, sym, ap, ◌<◌, ◌++◌, length, map, ℕ, List, Some}
+use Rattle.std.specs.Prelude.{slice_get}
+use Rattle.std.specs.List.{All}
+use Rattle.arr_core.specs.declared.cell.Cell.{Cell}
+use Rattle.tile_exec.specs.declared.found.Found.TheVariants as found
+use Rattle.tile_exec.specs.Items.{AreWritten}
+use Rattle.tile_exec.specs.Standing.{tasks_left}
+use Rattle.tile_exec.specs.Units.{Fits}
+use Rattle.tile_exec.proofs.Keeping.{some_left, tile_small, tasks_small}
+use Rattle.tile_exec.proofs.KeepingItems.{item_at, item_further, item_next, cells_before}
+use Rattle.tile_exec.proofs.state.State.keep_item.Goals as goal
+
+pub write_cells-requires : goal.write_cells-requires
+write_cells-requires c =
+    let e = c.args.self.now in
+    let x = c.args.found in
+    let a = item_at e c.args.last x c.requires.fits in
+    let n = cells_before e c.args.last x a c.begin_cells.new.cells.items c.requires.sound c.begin_cells.ensures.kept c.begin_cells.ensures.fresh in
+    record {
+      below = subst (λ ws. All (λ (w : ℕ × Cell). w.0 < length c.begin_cells.new.cells.items) ws) (sym c.deref.ensures.value) (subst (λ l. All (λ (w : ℕ × Cell). w.0 < l) x.written.items) (sym n) a.fits.below);
+    }
+
+pub overflow_sub-self : goal.overflow_sub-self
+overflow_sub-self c =
+    let e = c.args.self.now in
+    let a = item_at e c.args.last c.args.found c.requires.fits in
+    let h = some_left e a.task a.tasks a.hand c.requires.sound in
+    omega (arith, h)
+
+pub give_item-requires-clause-small : goal.give_item-requires-clause-small
+give_item-requires-clause-small c =
+    let e = c.args.self.now in
+    let a = item_at e c.args.last c.args.found c.requires.fits in
+    let h = tasks_small e a.task a.tasks a.hand c.requires.sound in
+    omega (arith, h, e.tasks.ok.0)
+
+pub give_item-requires-clause-room : goal.give_item-requires-clause-room
+give_item-requires-clause-room c =
+    let e = c.args.self.now in
+    let a = item_at e c.args.last c.args.found c.requires.fits in
+    let n = ap length a.hand in
+    let sound = c.requires.sound in
+    let had = sound.room in
+    let room = had.items in
+    omega (arith, n, room)
+
+pub returns-then-last : goal.returns-then-last
+returns-then-last c =
+    let e = c.args.self.now in
+    let a = item_at e c.args.last c.args.found c.requires.fits in
+    let h = some_left e a.task a.tasks a.hand c.requires.sound in
+    item_next e c.give_item.new.self c.args.found c.begin_cells.new.cells.items c.write_cells.new.cells c.begin_first.result c.least_first-self.result (e.left - 1) c.requires.sound (subst (λ b. Fits e (tasks_left e) b (found.Item c.args.found)) c.if-last.true c.requires.fits) (omega (arith, h))
+    record {
+      kept = c.begin_cells.ensures.kept;
+      fresh = c.begin_cells.ensures.fresh;
+      long = c.write_cells.ensures.length;
+      written = subst (λ ws. (all : List Cell) (places : List ℕ) → All (λ (w : ℕ × Cell). slice_get all w.0 ≡ Some w.1) ws → AreWritten all c.begin_cells.new.cells.items places → AreWritten all c.write_cells.new.cells.items (places ++ map (λ (w : ℕ × Cell). w.0) ws)) c.deref.ensures.value c.write_cells.ensures.written;
+      begun = c.begin_first.ensures;
+      joined = c.least_first-self.ensures;
+    }
+    c.give_item.ensures
+
+pub overflow_add-self : goal.overflow_add-self
+overflow_add-self c =
+    let e = c.args.self.now in
+    let a = item_at e c.args.last c.args.found c.requires.fits in
+    let h = tile_small e a.task a.tasks a.hand c.requires.sound in
+    omega (arith, h)
+
+pub returns : goal.returns
+returns c =
+    let e = c.args.self.now in
+    let a = item_at e c.args.last c.args.found c.requires.fits in
+    let h = some_left e a.task a.tasks a.hand c.requires.sound in
+    item_further e c.args.found c.begin_cells.new.cells.items c.write_cells.new.cells c.begin_first.result c.least_first-self.result (e.left - 1) c.requires.sound (subst (λ b. Fits e (tasks_left e) b (found.Item c.args.found)) c.if-last.false c.requires.fits) (omega (arith, h))
+    record {
+      kept = c.begin_cells.ensures.kept;
+      fresh = c.begin_cells.ensures.fresh;
+      long = c.write_cells.ensures.length;
+      written = subst (λ ws. (all : List Cell) (places : List ℕ) → All (λ (w : ℕ × Cell). slice_get all w.0 ≡ Some w.1) ws → AreWritten all c.begin_cells.new.cells.items places → AreWritten all c.write_cells.new.cells.items (places ++ map (λ (w : ℕ × Cell). w.0) ws)) c.deref.ensures.value c.write_cells.ensures.written;
+      begun = c.begin_first.ensures;
+      joined = c.least_first-self.ensures;
+    }

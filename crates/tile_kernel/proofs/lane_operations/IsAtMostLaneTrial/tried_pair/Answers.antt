@@ -1,0 +1,9 @@
+-- Each lane is the number of its comparison.
+use Rattle.tile_kernel.proofs.Pairs.{chosen_pair, at_most_tried}
+use Rattle.tile_kernel.proofs.lane_operations.IsAtMostLaneTrial.tried_pair.Goals as goal
+
+pub returns-clause-values : goal.returns-clause-values
+returns-clause-values c = chosen_pair _ c.args.x c.args.y c.requires.left c.requires.right
+
+pub returns-clause-tried : goal.returns-clause-tried
+returns-clause-tried c = at_most_tried c.args.x c.args.y c.requires.left c.requires.right

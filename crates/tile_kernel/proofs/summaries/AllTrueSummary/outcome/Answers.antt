@@ -1,0 +1,8 @@
+-- The number of the truth value.
+use Rattle.std.proofs.Common.{ap, ◌∙◌}
+use Rattle.wcps_mean.specs.Cells.{truth}
+use Rattle.tile_kernel.proofs.Condensing.{every_unordered}
+use Rattle.tile_kernel.proofs.summaries.AllTrueSummary.outcome.Goals as goal
+
+pub returns : goal.returns
+returns c = λ told ordered p h. c.truth.ensures ∙ ap truth (every_unordered c.args.self.all told ordered p h)

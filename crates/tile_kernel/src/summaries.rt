@@ -1,0 +1,378 @@
+//! The summary of each condenser.
+
+ghost use Rattle.std.specs.Prelude.{◌≡◌, ◌+◌, ◌*◌, ◌≤◌, ◌^◌, ℤ, pos, neg_ℤ, ◌+ℤ◌, ◌≤ℤ◌, List, length};
+ghost use Rattle.std.specs.Prelude.{None, cond};
+ghost use Rattle.wcps_mean.specs.Best.{greatest_of, least_of};
+ghost use Rattle.wcps_mean.specs.Cells.{truth, is_true};
+ghost use Rattle.wcps_mean.specs.Condensers.{combined, total, every, any, trues};
+ghost use Rattle.wcps_text.specs.declared.operator.Aggregate.TheVariants as kind;
+
+use crate::joined::{best_of, both, either, product_of};
+use crate::summary::Summary;
+use wcps_mean::{Outcome, PointFault, Product, Running, is_set};
+use wcps_text::Aggregate;
+
+/// Of a sum: the exact sum of so many values.
+#[derive(Clone, Copy, Debug)]
+pub struct Total {
+    sum: i128,
+    count: u32,
+    ghost few: { count ≤ 2 ^ 24 },
+    ghost from_below: { neg_ℤ (pos (count * 2 ^ 63)) ≤ℤ sum },
+    ghost from_above: { (sum +ℤ pos count) ≤ℤ pos (count * 2 ^ 63) },
+}
+
+/// Of an average: the exact sum of so many values.
+#[derive(Clone, Copy, Debug)]
+pub struct Mean {
+    total: Total,
+}
+
+/// Of a product: its sign, its magnitude, and whether a factor is 0.
+#[derive(Clone, Copy, Debug)]
+pub struct Factors {
+    product: Product,
+}
+
+/// Of a greatest: the greatest value, if there is any.
+#[derive(Clone, Copy, Debug)]
+pub struct Greatest {
+    best: Option<i64>,
+}
+
+/// Of a least: the least value, if there is any.
+#[derive(Clone, Copy, Debug)]
+pub struct Least {
+    best: Option<i64>,
+}
+
+/// Of `every`: whether all values are true.
+#[derive(Clone, Copy, Debug)]
+pub struct AllTrue {
+    all: bool,
+}
+
+/// Of `any`: whether some value is true.
+#[derive(Clone, Copy, Debug)]
+pub struct SomeTrue {
+    some: bool,
+}
+
+/// Of a count: how many values are true.
+#[derive(Clone, Copy, Debug)]
+pub struct Trues {
+    trues: u32,
+    ghost few: { trues ≤ 2 ^ 24 },
+}
+
+/// A truth value as a number: 1 or 0.
+fn truth(b: bool) -> Outcome
+    ensures { result ≡ truth b }
+{
+    Outcome::Value(if b { 1 } else { 0 })
+}
+
+/// How many of one value are true.
+fn weight(x: i64) -> u32
+    ensures value { result ≡ cond (is_true x) 1 0 }
+    ensures small { result ≤ 1 }
+{
+    if is_set(x) { 1 } else { 0 }
+}
+
+/// The value, or the fault of a greatest or a least of nothing.
+fn best_or_empty(best: Option<i64>) -> Outcome
+    ensures greatest { (zs : List ℤ) → best ≡ greatest_of zs → result ≡ combined kind.Greatest zs }
+    ensures least { (zs : List ℤ) → best ≡ least_of zs → result ≡ combined kind.Least zs }
+{
+    match best {
+        Some(m) => Outcome::Value(m),
+        None => Outcome::Fault(PointFault::EmptyCondense),
+    }
+}
+
+impl Summary for Total {
+    ghost op = { kind.Sum };
+
+    ghost keeps = { λ s zs. (s.sum ≡ total zs) × (s.count ≡ length zs) };
+
+    ghost counted = { λ s. s.count };
+
+    fn none() -> Total {
+        Total { sum: 0, count: 0 }
+    }
+
+    fn of(x: i64) -> Total {
+        Total {
+            sum: x as i128,
+            count: 1,
+        }
+    }
+
+    fn with(self, other: Total) -> Total {
+        Total {
+            sum: self.sum + other.sum,
+            count: self.count + other.count,
+        }
+    }
+
+    fn running(self, count: u32, fault: Option<PointFault>) -> Running {
+        let mut running = Running::new(Aggregate::Sum);
+        running.count = count;
+        running.fault = fault;
+        running.sum = self.sum;
+        running
+    }
+
+    fn outcome(self) -> Outcome {
+        self.running(self.count, None).finish()
+    }
+}
+
+impl Summary for Mean {
+    ghost op = { kind.Average };
+
+    ghost keeps = { λ s zs. (s.total.sum ≡ total zs) × (s.total.count ≡ length zs) };
+
+    ghost counted = { λ s. s.total.count };
+
+    fn none() -> Mean {
+        Mean {
+            total: Total::none(),
+        }
+    }
+
+    fn of(x: i64) -> Mean {
+        Mean {
+            total: Total::of(x),
+        }
+    }
+
+    fn with(self, other: Mean) -> Mean {
+        Mean {
+            total: self.total.with(other.total),
+        }
+    }
+
+    fn running(self, count: u32, fault: Option<PointFault>) -> Running {
+        let mut running = Running::new(Aggregate::Average);
+        running.count = count;
+        running.fault = fault;
+        running.sum = self.total.sum;
+        running
+    }
+
+    fn outcome(self) -> Outcome {
+        self.running(self.total.count, None).finish()
+    }
+}
+
+impl Summary for Factors {
+    ghost use Rattle.wcps_mean.specs.Products.{StandsFor};
+
+    ghost op = { kind.Product };
+
+    ghost keeps = { λ s zs. StandsFor s.product zs };
+
+    ghost counted = { λ s. 0 };
+
+    fn none() -> Factors {
+        Factors {
+            product: Product::new(),
+        }
+    }
+
+    fn of(x: i64) -> Factors {
+        Factors {
+            product: Product::new().times(x),
+        }
+    }
+
+    fn with(self, other: Factors) -> Factors {
+        Factors {
+            product: product_of(self.product, other.product),
+        }
+    }
+
+    fn running(self, count: u32, fault: Option<PointFault>) -> Running {
+        let mut running = Running::new(Aggregate::Product);
+        running.count = count;
+        running.fault = fault;
+        running.product = self.product;
+        running
+    }
+
+    fn outcome(self) -> Outcome {
+        self.product.finish()
+    }
+}
+
+impl Summary for Greatest {
+    ghost op = { kind.Greatest };
+
+    ghost keeps = { λ s zs. s.best ≡ greatest_of zs };
+
+    ghost counted = { λ s. 0 };
+
+    fn none() -> Greatest {
+        Greatest { best: None }
+    }
+
+    fn of(x: i64) -> Greatest {
+        Greatest { best: Some(x) }
+    }
+
+    fn with(self, other: Greatest) -> Greatest {
+        Greatest {
+            best: best_of(Aggregate::Greatest, self.best, other.best),
+        }
+    }
+
+    fn running(self, count: u32, fault: Option<PointFault>) -> Running {
+        let mut running = Running::new(Aggregate::Greatest);
+        running.count = count;
+        running.fault = fault;
+        running.best = self.best;
+        running
+    }
+
+    fn outcome(self) -> Outcome {
+        best_or_empty(self.best)
+    }
+}
+
+impl Summary for Least {
+    ghost op = { kind.Least };
+
+    ghost keeps = { λ s zs. s.best ≡ least_of zs };
+
+    ghost counted = { λ s. 0 };
+
+    fn none() -> Least {
+        Least { best: None }
+    }
+
+    fn of(x: i64) -> Least {
+        Least { best: Some(x) }
+    }
+
+    fn with(self, other: Least) -> Least {
+        Least {
+            best: best_of(Aggregate::Least, self.best, other.best),
+        }
+    }
+
+    fn running(self, count: u32, fault: Option<PointFault>) -> Running {
+        let mut running = Running::new(Aggregate::Least);
+        running.count = count;
+        running.fault = fault;
+        running.best = self.best;
+        running
+    }
+
+    fn outcome(self) -> Outcome {
+        best_or_empty(self.best)
+    }
+}
+
+impl Summary for AllTrue {
+    ghost op = { kind.Every };
+
+    ghost keeps = { λ s zs. s.all ≡ every zs };
+
+    ghost counted = { λ s. 0 };
+
+    fn none() -> AllTrue {
+        AllTrue { all: true }
+    }
+
+    fn of(x: i64) -> AllTrue {
+        AllTrue { all: is_set(x) }
+    }
+
+    fn with(self, other: AllTrue) -> AllTrue {
+        AllTrue {
+            all: both(self.all, other.all),
+        }
+    }
+
+    fn running(self, count: u32, fault: Option<PointFault>) -> Running {
+        let mut running = Running::new(Aggregate::Every);
+        running.count = count;
+        running.fault = fault;
+        running.all = self.all;
+        running
+    }
+
+    fn outcome(self) -> Outcome {
+        truth(self.all)
+    }
+}
+
+impl Summary for SomeTrue {
+    ghost op = { kind.Any };
+
+    ghost keeps = { λ s zs. s.some ≡ any zs };
+
+    ghost counted = { λ s. 0 };
+
+    fn none() -> SomeTrue {
+        SomeTrue { some: false }
+    }
+
+    fn of(x: i64) -> SomeTrue {
+        SomeTrue { some: is_set(x) }
+    }
+
+    fn with(self, other: SomeTrue) -> SomeTrue {
+        SomeTrue {
+            some: either(self.some, other.some),
+        }
+    }
+
+    fn running(self, count: u32, fault: Option<PointFault>) -> Running {
+        let mut running = Running::new(Aggregate::Any);
+        running.count = count;
+        running.fault = fault;
+        running.some = self.some;
+        running
+    }
+
+    fn outcome(self) -> Outcome {
+        truth(self.some)
+    }
+}
+
+impl Summary for Trues {
+    ghost op = { kind.Count };
+
+    ghost keeps = { λ s zs. s.trues ≡ trues zs };
+
+    ghost counted = { λ s. s.trues };
+
+    fn none() -> Trues {
+        Trues { trues: 0 }
+    }
+
+    fn of(x: i64) -> Trues {
+        Trues { trues: weight(x) }
+    }
+
+    fn with(self, other: Trues) -> Trues {
+        Trues {
+            trues: self.trues + other.trues,
+        }
+    }
+
+    fn running(self, count: u32, fault: Option<PointFault>) -> Running {
+        let mut running = Running::new(Aggregate::Count);
+        running.count = count;
+        running.fault = fault;
+        running.trues = self.trues;
+        running
+    }
+
+    fn outcome(self) -> Outcome {
+        Outcome::Value(self.trues as i64)
+    }
+}
