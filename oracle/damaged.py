@@ -35,6 +35,8 @@ from spoilt import listed_in
 
 DAMAGED = b"refused 93 Damaged\n"
 # how often bytes of a tile are rewritten until it is damaged
+# the most bytes of a body
+MOST_BYTES = 2**20
 MOST_TRIES = 50
 LIMIT = 600
 
@@ -159,7 +161,10 @@ class Asking(sessions.Session):
     """Messages by chance over coverages that are there."""
 
     def message_of(self, pairs):
+        """The message of pairs; a list in place of one whose body is too long, behind which no message would be read."""
         message = posted(pairs)
+        if len(message) > MOST_BYTES:
+            message = posted([("request", "ListCoverages")])
         served(self.machine, message)
         return message
 
