@@ -4,7 +4,7 @@
     scripts/check.py [PROGRAM [DOCUMENT..]]
 
 Without a program it compares alone: the tables of crates (`crate_table.py`), the public calls (`surface.py`), the
-limits (`limits.py`) and the refusals (`refusals.py`).
+limits (`limits.py`) and the refusals (`refusals.py`); and it tells which contracts are too wide or too long (`contracts.py`).
 
 An example is a line of an indented block that begins with `$ `: a command for bash. The indented lines below it, up to the
 next such line or the next paragraph, are what it prints. All of a document's commands run in one shell, in a folder of their own,
@@ -21,6 +21,7 @@ sys.dont_write_bytecode = True
 TOP = os.path.dirname(os.path.dirname(os.path.abspath(__file__)))
 DOCS = f"{TOP}/docs"
 
+import contracts
 import crate_table
 import limits
 import refusals
@@ -85,7 +86,7 @@ def differences(program, document):
 
 def compared():
     """Prints where the documents and the crates differ, and tells how many places that are."""
-    found = [it for part in (crate_table, surface, limits, refusals) for it in part.faults()]
+    found = [it for part in (crate_table, surface, limits, refusals, contracts) for it in part.faults()]
     print(*found, sep="\n", end="\n" if found else "")
     print(f"documents beside crates: {len(found)} differ")
     return len(found)

@@ -13,7 +13,7 @@ use block_file::{BlockFile, Blocks};
 use disk_face::{Disk, FileDisk, MemDisk};
 use grid::Grid;
 use page_pool::PagePool;
-use rounds::{Action, place, repeat};
+use rounds::{Action, Whole, place, repeat};
 use std::alloc::Global;
 
 /// What is read on a new disk, with so many pages kept of its file, or without a pool.
@@ -57,7 +57,12 @@ fn read_in<B: Blocks + Drop>(
     if !cells.is_empty() {
         grid.write(&area, &cells)?;
     }
-    let sum = repeat(alloc, grid, action, side, &area, &cells, rounds)?;
+    let whole = Whole {
+        side,
+        area: &area,
+        cells: &cells,
+    };
+    let sum = repeat(alloc, grid, action, whole, rounds)?;
     let (row, column) = place(rounds, side);
     Ok(sum.wrapping_add(grid.number(&[row as i32, column as i32])?))
 }

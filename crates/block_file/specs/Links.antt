@@ -7,7 +7,7 @@ use Rattle.block_file.specs.declared.header.Header.{Header}
 use Rattle.block_file.specs.declared.header.State.TheVariants.{Closed}
 use Rattle.block_file.specs.State.{BlocksState, block, block_at}
 use Rattle.block_file.specs.Format.{number_at, TellsVersion, IsStoreFile, IsHeader, IsChain}
-use Rattle.block_file.specs.Uses.{MarksChain}
+use Rattle.block_file.specs.Uses.{IsFresh, MarksChain}
 
 -- the header of a closed file whose length is the number of blocks that it tells, and its version
 pub record IsClosedHeader (header : Header) (content : List ℕ) : Type 0 where
@@ -24,6 +24,14 @@ IsNoHeader NotClosed bytes = IsStoreFile bytes × (number_at 12 4 bytes ≡ 1)
 IsNoHeader Damaged bytes =
     IsStoreFile bytes × (number_at 12 4 bytes ≢ 1)
     × ((blocks first size : ℕ) → IsHeader bytes Closed blocks first size → ⊥)
+
+-- The layout has what a header tells: its version, so many bytes of metadata, and a mark for each block, of which none
+-- is in use.
+pub record IsLayoutOf (header : Header) (layout : Layout) : Type 0 where
+  pub version : layout.version ≡ header.version
+  pub size : length layout.metadata.items ≡ header.length
+  pub blocks : length layout.marks ≡ header.blocks
+  pub fresh : IsFresh layout.marks
 
 -- the chain that a header tells of was read: its metadata, and marks for its blocks
 pub record ReadsChain (content : List ℕ) (header : Header) (layout : Layout) : Type 0 where

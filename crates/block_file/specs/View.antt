@@ -50,6 +50,10 @@ pub record IsOpened (content metadata marks : List ℕ) : Type 0 where
   pub blocks : length marks ≡ max 1 (length content / 4096)
   pub whole : (k : ℕ) → 0 < k → k < length marks → length (block_at content k) ≡ 4096
 
+-- what an opened file says of the content of an honest disk
+abbrev pub Opens : Bool → List ℕ → List ℕ → List ℕ → Type 0
+Opens honest content metadata marks = IsTrue honest → IsOpened content metadata marks
+
 -- the version of an opened file: that of its header, and the newest where there is none yet
 pub record IsOfVersion (version : Version) (content : List ℕ) : Type 0 where
   pub told : 0 < length content → TellsVersion version content

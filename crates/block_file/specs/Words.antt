@@ -1,5 +1,6 @@
 -- What calls do to blocks. Blocks are given up and taken by counts: so many uses of each block.
 use Rattle.std.specs.Prelude.{◌≡◌, ◌≢◌, ℕ, ◌+◌, ◌<◌, ◌≤◌, IsTrue, List, length}
+use Rattle.std.specs.List.{flat_map}
 use Rattle.block_file.specs.declared.header.State.{State}
 use Rattle.block_file.specs.declared.header.State.TheVariants.{Closed}
 use Rattle.block_file.specs.State.{BlocksState, block, IsFree, times}
@@ -35,6 +36,10 @@ pub record Moves (given taken : ℕ → ℕ) (old new : BlocksState) : Type 0 wh
   pub overreads : new.overreads ≡ old.overreads
   pub size : new.size ≡ old.size
   pub honest : new.honest ≡ old.honest
+
+-- on an honest disk the bytes are what these blocks hold, one behind the other
+abbrev pub AreBytesOf : List ℕ → BlocksState → List ℕ → Type 0
+AreBytesOf ks s bytes = IsTrue s.honest → bytes ≡ flat_map (block s) ks
 
 -- these are n free blocks, each once, and below each other block that is free
 pub record AreLowestFree (n : ℕ) (ks : List ℕ) (s : BlocksState) : Type 0 where

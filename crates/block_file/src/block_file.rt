@@ -4,7 +4,7 @@ ghost use Rattle.disk_face.specs.Disk.{Tells, OnlyRead};
 ghost use Rattle.block_file.specs.State.{times, none, overreads_of};
 ghost use Rattle.block_file.specs.Words.{Recounts};
 ghost use Rattle.block_file.specs.Format.{Filled, Extends};
-ghost use Rattle.block_file.specs.View.{state_of, Shows, IsOpened, IsOfVersion, IsRefused};
+ghost use Rattle.block_file.specs.View.{state_of, Shows, Opens, IsOfVersion, IsRefused};
 ghost use Rattle.block_file.specs.Uses.{IsFresh, CanClaim, Claims};
 ghost use Rattle.block_file.specs.Links.{IsClosedHeader};
 
@@ -67,8 +67,7 @@ impl<D: Disk> BlockFile<D> {
     /// another version; not closed for the state of an open file; damaged for any other departure from the format.
     /// Want of memory and a fault of the disk may come at any time.
     pub fn open(alloc: Global, mut disk: D) -> Result<Opened<D>, Refused<D>>
-        ensures opened { IfOk result (λ it.
-            IsTrue (D.honest disk) → IsOpened (D.content disk) it.metadata.items it.file.marks) }
+        ensures opened { IfOk result (λ it. Opens (D.honest disk) (D.content disk) it.metadata.items it.file.marks) }
         ensures version { IfOk result (λ it. IsTrue (D.honest disk) → IsOfVersion it.version (D.content disk)) }
         ensures fresh { IfOk result (λ it. IsFresh it.file.marks) }
         ensures shows { IfOk result (λ it. Shows D.content D.synced D.honest D.overreads disk it.file) }
@@ -181,6 +180,10 @@ impl<D: Disk> Blocks for BlockFile<D> {
         self.marks.free() as u32
     }
 
+    fn uses(&self, k: u32) -> u32 {
+        self.marks.uses(k)
+    }
+
     fn write_header(&mut self, session: State, first: u32, length: u64) -> Result<(), DiskFault> {
         let blocks = fill_last_block(&mut self.disk)?;
         self.disk.sync()?;
@@ -213,8 +216,7 @@ fn fill_last_block<D: Disk>(disk: &mut D) -> Result<u32, DiskFault>
 
 /// The layout of the file in a disk.
 fn read_layout<D: Disk>(alloc: Global, disk: &mut D) -> Result<Layout, OpenFault>
-    ensures opened { IfOk result (λ it.
-        IsTrue (D.honest disk.old) → IsOpened (D.content disk.old) it.metadata.items it.marks) }
+    ensures opened { IfOk result (λ it. Opens (D.honest disk.old) (D.content disk.old) it.metadata.items it.marks) }
     ensures version { IfOk result (λ it. IsTrue (D.honest disk.old) → IsOfVersion it.version (D.content disk.old)) }
     ensures fresh { IfOk result (λ it. IsFresh it.marks) }
     ensures some { IfOk result (λ it. 0 < length it.marks) }

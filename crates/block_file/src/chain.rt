@@ -4,8 +4,7 @@ ghost use Rattle.disk_face.specs.Disk.{Tells, OnlyRead};
 ghost use Rattle.block_file.specs.State.{free_of, times, none};
 ghost use Rattle.block_file.specs.Words.{Moves, HoldsChain};
 ghost use Rattle.block_file.specs.Format.{number_at, chain_blocks};
-ghost use Rattle.block_file.specs.Uses.{IsFresh};
-ghost use Rattle.block_file.specs.Links.{IsNoChain, ReadsChain, AddsLink, HoldsLinks};
+ghost use Rattle.block_file.specs.Links.{IsNoChain, IsLayoutOf, ReadsChain, AddsLink, HoldsLinks};
 
 use crate::header::{Header, put_number, u32_at};
 use crate::marks::Marks;
@@ -44,10 +43,7 @@ pub(crate) fn read_chain<D: Disk>(
     requires few { header.blocks ≤ 1048576 }
     requires whole { IsTrue (D.honest disk.old) → length (D.content disk.old) ≡ 4096 * header.blocks }
     ensures read { IfOk result (λ layout. IsTrue (D.honest disk.old) → ReadsChain (D.content disk.old) header layout) }
-    ensures version { IfOk result (λ layout. layout.version ≡ header.version) }
-    ensures size { IfOk result (λ layout. length layout.metadata.items ≡ header.length) }
-    ensures blocks { IfOk result (λ layout. length layout.marks ≡ header.blocks) }
-    ensures fresh { IfOk result (λ layout. IsFresh layout.marks) }
+    ensures layout { IfOk result (λ layout. IsLayoutOf header layout) }
     ensures refused { IfErr result (λ fault. IsTrue (D.honest disk.old) → IsNoChain fault (D.content disk.old) header) }
     ensures same { OnlyRead D.content D.synced D.honest D.overreads disk.old disk.new }
     ensures told { Tells (IsErrOf result OpenFault.DiskFault) (D.failures disk.old) (D.failures disk.new) }

@@ -3,10 +3,10 @@
 #![tactic(auto)]
 
 ghost use Rattle.std.specs.Prelude.{◌≡◌, ℕ, ◌+◌, ◌*◌, ◌/◌, ◌%◌, ◌<◌, ◌↔◌, length, IsTrue, IsErr, OnOk, OnErr, IfOk, IsErrOf};
-ghost use Rattle.std.specs.List.{flat_map, range_with_len};
+ghost use Rattle.std.specs.List.{range_with_len};
 ghost use Rattle.disk_face.specs.Disk.{Torn, Tells};
 ghost use Rattle.block_file.specs.State.{BlocksState, block, free_of, one, times, none};
-ghost use Rattle.block_file.specs.Words.{OnlyReads, Recounts, Moves, AreLowestFree, AreUsed, Covers, OthersKept, OnlyHeader, WritesHeader};
+ghost use Rattle.block_file.specs.Words.{OnlyReads, Recounts, Moves, AreLowestFree, AreUsed, AreBytesOf, Covers, OthersKept, OnlyHeader, WritesHeader};
 
 mod block_file;
 mod chain;
@@ -51,8 +51,8 @@ pub trait Blocks {
     fn read_run(&mut self, k: u32, bytes: &mut [u8]) -> Result<(), DiskFault>
         requires whole { length bytes.old % 4096 ≡ 0 }
         requires used { (i : ℕ) → 4096 * i < length bytes.old → 0 < (state self.old).uses (k + i) }
-        ensures value { OnOk result (IsTrue (state self.old).honest
-            → bytes.new ≡ flat_map (block (state self.old)) (range_with_len k (length bytes.old / 4096))) }
+        ensures value { OnOk result
+            (AreBytesOf (range_with_len k (length bytes.old / 4096)) (state self.old) bytes.new) }
         ensures frame { OnlyReads (times (range_with_len k (length bytes.old / 4096))) (state self.old) (state self.new) }
         ensures told { Tells (IsErr result) (state self.old).failures (state self.new).failures };
 
@@ -100,6 +100,11 @@ pub trait Blocks {
     /// How many blocks may still be taken.
     fn free(&self) -> u32
         ensures { result ≡ free_of (state self.now) };
+
+    /// How often block k is in use: not at all where it is the header, is free or lies past the end of the file. It tests
+    /// what the other calls ask of uses.
+    fn uses(&self, k: u32) -> u32
+        ensures { result ≡ (state self.now).uses k };
 
     /// Writes the header, after a sync of all the rest, and syncs it: whether a session has the file open, the number
     /// of the file's blocks, and where its metadata of `length` bytes begins. A last block that a failed write cut

@@ -66,6 +66,21 @@ impl Marks {
         self.free
     }
 
+    /// How often block k is in use: not at all where it is the header, is free or has no mark.
+    pub(crate) fn uses(&self, k: u32) -> u32
+        ensures { result ≡ uses_of self.now k }
+    {
+        let at = k as usize;
+        if at == 0 || at >= self.marks.len() {
+            return 0;
+        }
+        let mark = self.marks[at];
+        if is_free(mark) {
+            return 0;
+        }
+        mark
+    }
+
     /// Marks block k as one of the metadata's. Says whether it could: it is inside the file and was not marked.
     pub(crate) fn keep(&mut self, k: u32) -> bool
         ensures above_zero { OnTrue result (0 < k) }

@@ -148,7 +148,7 @@ impl Catalogue {
     {
         let mut list = Vec::with_capacity(alloc, self.signatures.len())?;
         for signature in self.signatures.values() {
-            list.push(copy(alloc, signature)?)?;
+            list.push(signature.copy(alloc)?)?;
         }
         Ok(list)
     }
@@ -170,18 +170,4 @@ impl Catalogue {
     {
         self.bytes + signature_len(signature)
     }
-}
-
-/// The same signature again.
-fn copy(alloc: Global, signature: &Signature) -> Result<Signature, AllocError>
-    ensures { IfOk result (λ s. s ≡ signature.now) }
-{
-    let name = signature.name.copy(alloc)?;
-    let domain = signature.domain.copy(alloc)?;
-    let fields = signature.fields.copy(alloc)?;
-    Ok(Signature {
-        name,
-        domain,
-        fields,
-    })
 }

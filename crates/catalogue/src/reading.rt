@@ -7,7 +7,7 @@ ghost use Rattle.arr_core.specs.Names.{IsName};
 ghost use Rattle.file_bytes.specs.Codes.{IsRead, NoneIsRead};
 ghost use Rattle.catalogue.specs.Signatures.{IsAxis, IsCoverageDomain, IsField, AreCoverageFields, IsSignature, IsCatalogue, HaveAxesOf};
 ghost use Rattle.catalogue.specs.Bytes.{name_bytes, type_number, axis_bytes, domain_bytes, field_bytes, fields_bytes, signature_bytes, catalogue_bytes};
-ghost use Rattle.catalogue.specs.Reading.{AreMany, IsCatalogueOf};
+ghost use Rattle.catalogue.specs.Reading.{AreMany, AreManyRead, IsCatalogueOf, AreOfNoCatalogue, AreOfNoOther};
 
 use crate::catalogue::{Catalogue, MAX_COVERAGES};
 use crate::error::ReadError;
@@ -73,8 +73,7 @@ fn read_list<T: Readable>(
     bytes: &mut Reader,
     count: u32,
 ) -> Result<Vec<T>, ReadError>
-    ensures read { IfOk result
-        (λ list. IsRead (AreMany T.is_value count) (flat_map T.code) bytes.old list.items bytes.new) }
+    ensures read { IfOk result (λ list. AreManyRead T.is_value T.code count bytes.old list.items bytes.new) }
     ensures damaged { IsErrOf result ReadError.Damaged
         → NoneIsRead (AreMany T.is_value count) (flat_map T.code) bytes.old }
 {
@@ -249,10 +248,8 @@ impl Catalogue {
         ensures read { IfOk result (λ held. bytes.now ≡ catalogue_bytes held) }
         ensures catalogue { IfOk result (λ held. IsCatalogue held) }
         ensures version { IfOk result (λ held. HaveAxesOf version held) }
-        ensures only { IfOk result (λ held. (other : List Signature) → IsCatalogue other
-            → bytes.now ≡ catalogue_bytes other → other ≡ held) }
-        ensures damaged { IsErrOf result ReadError.Damaged → (other : List Signature) → IsCatalogue other
-            → HaveAxesOf version other → bytes.now ≡ catalogue_bytes other → ⊥ }
+        ensures only { IfOk result (λ held. AreOfNoOther bytes.now held) }
+        ensures damaged { IsErrOf result ReadError.Damaged → AreOfNoCatalogue version bytes.now }
     {
         let mut rest = Reader::new(bytes);
         let catalogue = read_catalogue(alloc, &mut rest)?;

@@ -3,12 +3,12 @@ use Rattle.std.proofs.Common.{◌≡◌, ℕ, zero, suc, ◌+◌, ◌-◌, ◌�
 use Rattle.std.specs.Prelude.{◌⊎◌, sum_by}
 use Rattle.std.proofs.lemmas.List.Sums.{sum_by-take-le}
 use Rattle.job_desk.specs.Desks.{DeskView}
-use Rattle.job_desk.specs.Steps.{Ends, FetchesWithin, IsChanged, StepFetches}
+use Rattle.job_desk.specs.Steps.{Ends, IsChanged, StepFetches}
 use Rattle.job_desk.specs.declared.error.StepError.{StepError}
 use Rattle.job_desk.specs.declared.error.StepError.TheVariants as stepping
 use Rattle.plan_ir.specs.Units.{boxes, bound}
 use Rattle.tile_exec.specs.declared.exec.Exec.{Exec}
-use Rattle.tile_exec.specs.Standing.{boxes_left, left_of, plan_of}
+use Rattle.tile_exec.specs.Standing.{boxes_left, left_of, most_fetched, plan_of}
 use Rattle.wcps_mean.specs.declared.cells.CellError.{CellError}
 use Rattle.wcps_mean.specs.declared.cells.CellError.TheVariants as cell
 use Rattle.http_front.specs.declared.reply.Reply.{Reply}
@@ -20,6 +20,7 @@ use Rattle.coverage_server.specs.Holding.{ReleasesFor}
 use Rattle.coverage_server.specs.Leaving.{refusal_number, reply_of}
 use Rattle.coverage_server.specs.Stages.{cell_refusal, step_refusal}
 use Rattle.coverage_server.specs.Templates.{expansion}
+use Rattle.coverage_server.specs.Tiles.{asked_state}
 use Rattle.coverage_server.specs.Views.{ServerView, session}
 
 -- ---- answers
@@ -50,7 +51,7 @@ cells_fail cell.Damaged = inr (inr refl)
 
 -- the units of an executor from its first on
 pub plan_bounded : (was is : Exec) (before after : ℕ) → boxes_left was ≡ boxes (plan_of was)
-    → FetchesWithin was is before after → after ≤ before + most_of_plan (plan_of was)
+    → after ≤ before + most_fetched was is → after ≤ before + most_of_plan (plan_of was)
 plan_bounded was is before after begun x =
     let plan = plan_of was in
     let done : after ≤ before + sum_by (bound plan) (take (left_of was - left_of is) (boxes_left was)) = x in
@@ -70,18 +71,18 @@ after_end : (n left : ℕ) (m w : ServerView) → Ends (Ok left) (w ≡ m) (Rele
 after_end n zero m w gone = ap (λ (u : ServerView). u.fetched) gone.others
 after_end n (suc left) m w same = ap (λ (u : ServerView). u.fetched) same
 
-module _ (n : ℕ) (old new : DeskView) (u v m w : ServerView) (same : u ≡ v) where
+module _ (n : ℕ) (old new : DeskView) (u v m w : ServerView) (job then : ℕ) (places others : List ℕ) (same : u ≡ v) where
   pub units_fetched : (left : ℕ) → Ends (Ok left) (w ≡ m) (ReleasesFor n m w)
-      → StepFetches (Ok left) n old new u.fetched m.fetched → FetchesUnits n (session v old) (session w new)
+      → StepFetches (Ok left) n old new (asked_state job places u) (asked_state then others m) → FetchesUnits n (session v old) (session w new)
   units_fetched left ends x =
-      let before = subst (λ (k : ℕ). IsChanged (λ was is. FetchesWithin was.exec is.exec k m.fetched) n old new)
+      let before = subst (λ (k : ℕ). IsChanged (λ was is. m.fetched ≤ k + most_fetched was.exec is.exec) n old new)
       (ap (λ (y : ServerView). y.fetched) same) x in
-      subst (λ (k : ℕ). IsChanged (λ was is. FetchesWithin was.exec is.exec v.fetched k) n old new)
+      subst (λ (k : ℕ). IsChanged (λ was is. k ≤ v.fetched + most_fetched was.exec is.exec) n old new)
       (sym (after_end n left m w ends)) before
 
   -- where a unit failed it is not said
   pub refused_units : (e : StepError) (r : Refusal) → w ≡ m → r ≡ step_refusal e
-      → StepFetches (Err e) n old new u.fetched m.fetched
+      → StepFetches (Err e) n old new (asked_state job places u) (asked_state then others m)
       → IsFailure (refusal_number r) ⊎ (FetchesNone v w ⊎ FetchesUnits n (session v old) (session w new))
   refused_units stepping.NoSuchJob r as_was told x =
       inr (inl (ap (λ (y : ServerView). y.fetched) as_was ∙ x ∙ ap (λ (y : ServerView). y.fetched) same))

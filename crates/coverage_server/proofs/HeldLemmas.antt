@@ -11,7 +11,7 @@ use Rattle.raster_store.specs.Calls.{signature_of, AreSameSignatures}
 use Rattle.raster_store.specs.Snapshots.{held_for, without_job, ArePicked, AreIntactSnapshots, AreSameSnapshots}
 use Rattle.raster_store.proofs.Totals.{listed_all-nil, listed_all-cons}
 use Rattle.coverage_server.specs.Holding.{AreHeldOnce}
-use Rattle.coverage_server.specs.Tiles.{IsHeld}
+use Rattle.coverage_server.specs.Views.{IsHeld}
 
 -- ---- how often it lists a block
 

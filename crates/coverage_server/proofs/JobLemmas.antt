@@ -35,9 +35,9 @@ use Rattle.coverage_server.specs.Asking.{QueryAnswer, cells_of, items_answer, ev
 use Rattle.coverage_server.specs.Machine.{Job, State, job_of, with_left, without, with_jobs, number_after, Refuses, Unless, Adds, Tells, Submits, Fetches, Cancels}
 use Rattle.coverage_server.specs.Holding.{AreHeldOnce, HoldsFor, ReleasesFor, IsHolding}
 use Rattle.coverage_server.specs.Represents.{IsReading, StandsAs, AreJobs, Represents}
-use Rattle.coverage_server.specs.Stages.{GivesText, IsTypedText, IsPlanOf, submit_refusal, fetch_refusal}
-use Rattle.coverage_server.specs.Tiles.{IsHeld}
-use Rattle.coverage_server.specs.Views.{ServerView, SessionView, session}
+use Rattle.coverage_server.specs.Stages.{GivesText, IsTypedText, submit_refusal, fetch_refusal}
+use Rattle.coverage_server.specs.Fetching.{IsPlanOf}
+use Rattle.coverage_server.specs.Views.{IsHeld, ServerView, SessionView, session}
 use Rattle.coverage_server.proofs.HeldLemmas.{Finds, finds_push, finds_left, found_last}
 use Rattle.coverage_server.proofs.HoldingLemmas.{Rise, rise_tail, later_others, holding_more}
 use Rattle.coverage_server.proofs.StandingLemmas.{AreFound, cells_kept, held_kept}

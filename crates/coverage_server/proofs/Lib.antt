@@ -33,3 +33,4 @@ pub mod FetchingLemmas
 pub mod ValueLemmas
 pub mod NamedLemmas
 pub mod ReplyLemmas
+pub mod ClosedLemmas

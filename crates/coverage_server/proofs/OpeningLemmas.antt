@@ -28,13 +28,13 @@ use Rattle.tile_index.specs.declared.index.TileIndex.{TileIndex}
 use Rattle.tile_store.specs.Listing.{listed}
 use Rattle.raster_store.specs.Views.{Index, RasterView, listed_fields, listed_all, metadata_size, reserve, coverage_in, coverages_in, AreBelow}
 use Rattle.raster_store.proofs.Totals.{listed_all-nil, listed_all-push}
-use Rattle.coverage_server.specs.Disk.{AreTiles, IsTileBlock, IsLaidOut, HoldsStore, IsWant, IsNoStore}
+use Rattle.coverage_server.specs.Disk.{AreTiles, DiskView, IsTileBlock, IsLaidOut, HoldsStore, IsWant, IsNoStore, Lists}
 use Rattle.tile_store.specs.declared.fault.Fault.{Fault}
 use Rattle.tile_store.specs.declared.fault.Fault.TheVariants as device
-use Rattle.coverage_server.specs.Opening.{items_of, IsListed, ClaimsListed, CannotClaim, ClaimsLayout, IsNotLaidOut, Lists, Departs, TellsAttach, chain_fault}
+use Rattle.coverage_server.specs.Opening.{items_of, IsListed, ClaimsListed, CannotClaim, ClaimsLayout, IsNotLaidOut, Departs, TellsAttach, chain_fault}
 use Rattle.coverage_server.specs.declared.opening.OpenFault.{OpenFault}
 use Rattle.coverage_server.specs.declared.opening.OpenFault.TheVariants as opening
-use Rattle.coverage_server.specs.Sessions.{DiskView, IsNotOpened}
+use Rattle.coverage_server.specs.Sessions.{IsNotOpened}
 use Rattle.coverage_server.specs.Views.{signatures_of, uses_in, free_in}
 use Rattle.coverage_server.proofs.LayoutLemmas.{claimed_blocks, laid_claims, one_layout}
 use Rattle.coverage_server.proofs.MetadataLemmas.{laid_short}

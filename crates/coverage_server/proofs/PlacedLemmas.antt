@@ -20,7 +20,7 @@ use Rattle.raster_store.specs.Views.{SnapshotView, listed_all, listed_snapshots}
 use Rattle.wcps_types.specs.Typed.{TypedTree}
 use Rattle.coverage_server.specs.declared.arguments.Refusal.{Refusal}
 use Rattle.coverage_server.specs.declared.arguments.Refusal.TheVariants.{Numbered, NoMemory, DiskFault, NoRoom, Damaged}
-use Rattle.coverage_server.specs.Answered.{AnsweredIn, IsAnswer, Steps}
+use Rattle.coverage_server.specs.Answered.{AnsweredIn, IsAnswer}
 use Rattle.coverage_server.specs.Asking.{TextTyped}
 use Rattle.coverage_server.specs.Damage.{AreHeldWhole, AreIntactHeld, IsIntactNamed, KeepsSpelled, Spoils}
 use Rattle.coverage_server.specs.Holding.{IsHolding, HoldsFor, ReleasesFor, reading}
@@ -28,7 +28,7 @@ use Rattle.coverage_server.specs.Layouts.{Layout, Lays, LaysBox, LaysBy, LaysHel
 use Rattle.coverage_server.specs.Leaving.{Leaves, LeavesJobs, refusal_number, reply_of}
 use Rattle.kvp_front.specs.declared.request.Interval.{Interval}
 use Rattle.coverage_server.specs.Machine.{Job, State, Serves, axes_of}
-use Rattle.coverage_server.specs.Represents.{AreJobs, Represents, Places}
+use Rattle.coverage_server.specs.Represents.{AreJobs, Represents, Places, Steps}
 use Rattle.coverage_server.specs.Room.{LacksRoom}
 use Rattle.coverage_server.specs.Runs.{Placed, reading as numbers_of, intact_after, intact_with, HoldsNames, HoldsNamesBy, without_number}
 use Rattle.coverage_server.specs.Views.{ServerView, SessionView, IsUnchanged, still_of, signatures_of}

@@ -8,7 +8,7 @@ use Rattle.http_front.specs.declared.reply.Reply.TheVariants.{Refused}
 use Rattle.kvp_front.specs.Requests.{Asks, number_of}
 use Rattle.kvp_front.specs.declared.request.RequestError.{RequestError}
 use Rattle.kvp_front.specs.declared.request.RequestError.TheVariants.{NoMemory}
-use Rattle.coverage_server.specs.Answered.{Steps}
+use Rattle.coverage_server.specs.Represents.{Steps}
 use Rattle.coverage_server.specs.Layouts.{Layout}
 use Rattle.coverage_server.specs.Represents.{Places}
 use Rattle.coverage_server.specs.Runs.{Placed, Step, SpelledStep}

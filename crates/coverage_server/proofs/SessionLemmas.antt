@@ -1,22 +1,23 @@
 -- One connection more, and sessions one after the other.
-use Rattle.std.proofs.Common.{◌≡◌, ℕ, zero, suc, ◌+◌, ◌/◌, ◌<◌, ◌≤◌, Bool, List, [], ◌∷◌, ◌++◌, length, take, drop, slice_set, get_or, Option, Some, refl, sym, ap, ◌∙◌, subst, arith, inl, inr}
+use Rattle.std.proofs.Common.{◌≡◌, ℕ, zero, suc, ◌+◌, ◌/◌, ◌<◌, ◌≤◌, List, [], ◌∷◌, ◌++◌, length, take, drop, slice_set, get_or, Some, refl, sym, ap, ◌∙◌, subst, arith, inl, inr}
 use Rattle.std.specs.Prelude.{All, IsTrue}
 use Rattle.std.proofs.lemmas.List.Elements.{All-weaker}
 use Rattle.std.proofs.lemmas.List.{take_more, take_more_set, get_or-drop, drop-set-lt, drop-drop}
 use Rattle.arr_core.specs.Stores.{Store}
-use Rattle.block_file.specs.Format.{IsHeader, KeepsHeader}
 use Rattle.block_file.specs.declared.header.State.TheVariants.{Open}
 use Rattle.disk_face.specs.Disk.{Rose}
+use Rattle.stream_face.specs.Views.{SourceView, SinkView}
 use Rattle.coverage_server.specs.declared.server.ConnEnd.{ConnEnd}
 use Rattle.coverage_server.specs.declared.closing.CloseFault.{CloseFault}
 use Rattle.coverage_server.specs.declared.closing.CloseFault.TheVariants as closing
 use Rattle.coverage_server.specs.Damage.{IsIntactIn, IsIntactNamed}
-use Rattle.coverage_server.specs.Disk.{ListsStore}
+use Rattle.coverage_server.specs.Disk.{DiskView, ListsStore}
+use Rattle.coverage_server.specs.Leaving.{Continues}
 use Rattle.coverage_server.specs.Runs.{Placed, begun_with, jobless}
 use Rattle.raster_store.specs.Views.{Index, AreIntact, listed_snapshots}
 use Rattle.coverage_server.specs.Represents.{Places}
 use Rattle.coverage_server.specs.Serves.{Ends, ServesConnection, TellsEnd, ends_of}
-use Rattle.coverage_server.specs.Sessions.{DiskView, IsNotClosed, IsLeft, ServesAll, ServesUnclosed, Sessions, ServesSessions, ends_all}
+use Rattle.coverage_server.specs.Sessions.{AreServed, IsNotClosed, IsLeft, IsOpenedFrom, ServesAll, ServesUnclosed, Sessions, ServesSessions, ends_all}
 use Rattle.coverage_server.specs.Views.{ServerView, SessionView, IsSound, without_held, without_jobs}
 use Rattle.coverage_server.proofs.ServingLemmas.{Allows, connection-later, rose-by}
 use Rattle.coverage_server.proofs.HeldLemmas.{lists_none}
@@ -121,39 +122,29 @@ sound_from content v store indexes same alike sound intact =
 
 -- a session whose server was not closed
 pub unclosed : (fault : CloseFault) (ends : List Ends) (disk : DiskView) (opened served left : SessionView)
-    → (IsTrue disk.honest → (store : Store) (indexes : List (List Index)) → ListsStore disk.content store indexes → (opened.coverages.store ≡ store) × (opened.coverages.indexes ≡ indexes))
-    → (IsTrue disk.honest → AreIntact disk.content opened.coverages.store opened.coverages.indexes → IsSound opened.coverages)
-    → (IsTrue disk.honest → (name : List ℕ) → IsIntactIn disk.content opened.coverages.store opened.coverages.indexes
-    name
-    → IsIntactNamed opened.coverages name)
+    → (IsTrue disk.honest → IsOpenedFrom disk.content opened.coverages)
     → opened.desk ≡ record { jobs = []; next = Some 1 } → opened.coverages.held ≡ []
-    → (IsTrue disk.honest → IsHeader opened.coverages.content Open (length opened.coverages.content / 4096) 0 0) → opened.coverages.honest ≡ disk.honest
-    → opened.coverages.failures ≡ disk.failures
-    → (IsTrue opened.coverages.honest → (s : Placed) → Places opened s
-    → (t : Placed) × Places served t
-    × ServesAll (Rose opened.coverages.failures served.coverages.failures)
-    ends s t)
-    → (IsSound opened.coverages → IsSound served.coverages)
-    → KeepsHeader opened.coverages.content served.coverages.content → served.coverages.honest ≡ opened.coverages.honest
-    → opened.coverages.failures ≤ served.coverages.failures
+    → opened.coverages.honest ≡ disk.honest → opened.coverages.failures ≡ disk.failures
+    → AreServed ends opened served → Continues opened.coverages served.coverages
     → IsNotClosed fault served.coverages left.coverages → left.desk ≡ served.desk → ServesUnclosed fault ends disk left
-unclosed fault ends disk opened served left opens sounds spells desk unheld header honest count serves stays_sound keeps
-    still more refused same_desk =
+unclosed fault ends disk opened served left opens desk unheld honest count serves keeps refused same_desk =
     let rises : disk.failures ≤ opened.coverages.failures = omega (arith, count) in
+    let more : opened.coverages.failures ≤ served.coverages.failures = keeps.no_fewer in
     record {
       served = λ truly store indexes lists intact whole.
-          let found = opens truly store indexes lists in
+          let from = opens truly in
+          let found = from.lists.only store indexes lists in
           let sure : IsTrue opened.coverages.honest = subst IsTrue (sym honest) truly in
-          let kept : IsTrue served.coverages.honest = subst IsTrue (sym still) sure in
-          let sound = sound_from disk.content opened.coverages store indexes found.0 found.1 (sounds truly) in
-          let began = begins opened desk unheld store indexes found.0 found.1 disk.content (spells truly) intact
+          let kept : IsTrue served.coverages.honest = subst IsTrue (sym keeps.honest) sure in
+          let sound = sound_from disk.content opened.coverages store indexes found.0 found.1 from.sound in
+          let began = begins opened desk unheld store indexes found.0 found.1 disk.content from.spelled intact
           whole in
           let run = serves sure (begun_with store indexes intact) began in
           let allows : Allows (Rose opened.coverages.failures served.coverages.failures)
           (Rose disk.failures left.coverages.failures) =
           rose-within disk.failures opened.coverages.failures served.coverages.failures left.coverages.failures rises
           refused.no_fewer in (
-            λ spelled. refused.sound (stays_sound (sound spelled)),
+            λ spelled. refused.sound (keeps.sound (sound spelled)),
             run.0,
             inl (places-same served left kept refused.unchanged (refused.spelled kept) same_desk run.0 run.1),
             all-later allows ends (begun_with store indexes intact) run.0 run.2,
@@ -163,8 +154,8 @@ unclosed fault ends disk opened served left opens sounds spells desk unheld head
           omega (arith, rose, count, more);
       no_memory = λ e truly.
           let blocks = length opened.coverages.content / 4096 in
-          (blocks, (refused.no_memory e).0 Open blocks 0 0 (keeps Open blocks 0 0 (header truly)));
-      honest = refused.honest ∙ still ∙ honest;
+          (blocks, (refused.no_memory e).0 Open blocks 0 0 (keeps.header Open blocks 0 0 (opens truly).header.0));
+      honest = refused.honest ∙ keeps.honest ∙ honest;
       no_fewer =
           let fewer : served.coverages.failures ≤ left.coverages.failures = refused.no_fewer in
           omega (arith, count, more, fewer);
@@ -222,25 +213,25 @@ module _ {R W : Type 0} where
       subst (λ k. get_or xs k d ≡ get_or ys k d) here
       (sym (get_or-drop i xs 0 d) ∙ ap (λ (l : List (R × W)). get_or l 0 d) (sym e) ∙ get_or-drop i ys 0 d)
 
-  module _ (remaining : R → Option (List ℕ)) (read_failed : R → Option Bool) (contents : W → Option (List ℕ)) (write_failed : W → Option Bool) where
+  module _ (source : R → SourceView) (sink : W → SinkView) where
     ends-push : (xs ys : List (R × W)) (x y : R × W) → length xs ≡ length ys
-        → ends_all remaining read_failed contents write_failed (xs ++ x ∷ []) (ys ++ y ∷ [])
-        ≡ ends_all remaining read_failed contents write_failed xs ys ++ ends_of remaining read_failed contents write_failed x.0 y.0 x.1 y.1 ∷ []
+        → ends_all source sink (xs ++ x ∷ []) (ys ++ y ∷ [])
+        ≡ ends_all source sink xs ys ++ ends_of source sink x.0 y.0 x.1 y.1 ∷ []
     ends-push [] [] x y e = refl
     ends-push [] (b ∷ bs) x y e = absurd (omega (arith, e))
     ends-push (a ∷ rest) [] x y e = absurd (omega (arith, e))
     ends-push (a ∷ rest) (b ∷ bs) x y e =
-        ap (λ (l : List Ends). ends_of remaining read_failed contents write_failed a.0 b.0 a.1 b.1 ∷ l) (ends-push rest bs x y (omega (arith, e)))
+        ap (λ (l : List Ends). ends_of source sink a.0 b.0 a.1 b.1 ∷ l) (ends-push rest bs x y (omega (arith, e)))
 
     -- the ends of one connection more
     ends-more : (xs ys : List (R × W)) (i : ℕ) (d y : R × W) → length ys ≡ length xs → i < length xs → drop i ys ≡ drop i xs
-        → ends_all remaining read_failed contents write_failed (take (i + 1) xs) (take (i + 1) (slice_set ys i y))
-        ≡ ends_all remaining read_failed contents write_failed (take i xs) (take i ys)
-        ++ ends_of remaining read_failed contents write_failed (get_or ys i d).0 y.0 (get_or ys i d).1 y.1 ∷ []
+        → ends_all source sink (take (i + 1) xs) (take (i + 1) (slice_set ys i y))
+        ≡ ends_all source sink (take i xs) (take i ys)
+        ++ ends_of source sink (get_or ys i d).0 y.0 (get_or ys i d).1 y.1 ∷ []
     ends-more xs ys i d y long inside e =
         let within : i < length ys = omega (arith, long, inside) in
-        ap (λ (l : List (R × W)). ends_all remaining read_failed contents write_failed l (take (i + 1) (slice_set ys i y))) (take_more xs i d inside ∙ ap (λ (z : R × W). take i xs ++ z ∷ []) (same_at xs ys i d e))
-        ∙ ap (λ (l : List (R × W)). ends_all remaining read_failed contents write_failed (take i xs ++ get_or ys i d ∷ []) l) (take_more_set ys i y within)
+        ap (λ (l : List (R × W)). ends_all source sink l (take (i + 1) (slice_set ys i y))) (take_more xs i d inside ∙ ap (λ (z : R × W). take i xs ++ z ∷ []) (same_at xs ys i d e))
+        ∙ ap (λ (l : List (R × W)). ends_all source sink (take i xs ++ get_or ys i d ∷ []) l) (take_more_set ys i y within)
         ∙ ends-push (take i xs) (take i ys) (get_or ys i d) y (take_long i xs ys long)
       where
         take_long : (i : ℕ) (first second : List (R × W)) → length second ≡ length first → length (take i first) ≡ length (take i second)
@@ -254,12 +245,12 @@ module _ {R W : Type 0} where
     pub served-more : (xs ys : List (R × W)) (i : ℕ) (d y : R × W) (begin now end : ℕ)
         (old mid new : Placed) (conn : ConnEnd)
         → length ys ≡ length xs → i < length xs → drop i ys ≡ drop i xs → begin ≤ now → now ≤ end
-        → ServesAll (Rose begin now) (ends_all remaining read_failed contents write_failed (take i xs) (take i ys)) old
+        → ServesAll (Rose begin now) (ends_all source sink (take i xs) (take i ys)) old
         mid
-        → TellsEnd (ends_of remaining read_failed contents write_failed (get_or ys i d).0 y.0 (get_or ys i d).1 y.1) conn
+        → TellsEnd (ends_of source sink (get_or ys i d).0 y.0 (get_or ys i d).1 y.1) conn
         → ServesConnection (Rose now end)
-        (ends_of remaining read_failed contents write_failed (get_or ys i d).0 y.0 (get_or ys i d).1 y.1) mid new conn
-        → ServesAll (Rose begin end) (ends_all remaining read_failed contents write_failed (take (i + 1) xs)
+        (ends_of source sink (get_or ys i d).0 y.0 (get_or ys i d).1 y.1) mid new conn
+        → ServesAll (Rose begin end) (ends_all source sink (take (i + 1) xs)
         (take (i + 1) (slice_set ys i y))) old new
     served-more xs ys i d y begin now end old mid new conn long inside e up rest x told c =
         let first : Allows (Rose begin now) (Rose begin end) =
@@ -268,13 +259,13 @@ module _ {R W : Type 0} where
         rose-within begin now end end up (omega arith) in
         subst (λ (ends : List Ends). ServesAll (Rose begin end) ends old new)
         (sym (ends-more xs ys i d y long inside e))
-        (all-append (Rose begin end) (ends_all remaining read_failed contents write_failed (take i xs) (take i ys))
-        (ends_of remaining read_failed contents write_failed (get_or ys i d).0 y.0 (get_or ys i d).1 y.1 ∷ []) old mid new
-        (all-later first (ends_all remaining read_failed contents write_failed (take i xs) (take i ys)) old mid x) (
+        (all-append (Rose begin end) (ends_all source sink (take i xs) (take i ys))
+        (ends_of source sink (get_or ys i d).0 y.0 (get_or ys i d).1 y.1 ∷ []) old mid new
+        (all-later first (ends_all source sink (take i xs) (take i ys)) old mid x) (
           new,
           conn,
           told,
           connection-later then_on
-              (ends_of remaining read_failed contents write_failed (get_or ys i d).0 y.0 (get_or ys i d).1 y.1) mid new conn c,
+              (ends_of source sink (get_or ys i d).0 y.0 (get_or ys i d).1 y.1) mid new conn c,
           refl,
         ))

@@ -15,8 +15,7 @@ use Rattle.coverage_server.specs.declared.arguments.Refusal.TheVariants.{Numbere
 use Rattle.coverage_server.specs.Answered.{Answered, AnsweredIn, Moves, Stays}
 use Rattle.coverage_server.specs.Machine.{State, OnStore}
 use Rattle.coverage_server.specs.Represents.{Represents}
-use Rattle.coverage_server.specs.Tiles.{IsHeld}
-use Rattle.coverage_server.specs.Views.{ServerView, SessionView, IsUnchanged, session}
+use Rattle.coverage_server.specs.Views.{IsHeld, ServerView, SessionView, IsUnchanged, session}
 
 -- ---- coverages that stay as they are
 

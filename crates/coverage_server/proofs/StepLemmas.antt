@@ -1,5 +1,5 @@
 -- Jobs that are stepped: what stands for the machine's jobs then, and what is held.
-use Rattle.std.proofs.Common.{◌≡◌, ℕ, zero, suc, ◌<◌, ◌≤◌, ◌-◌, ◌⊎◌, Bool, true, false, nat_eq, cond, ℤ, List, [], ◌∷◌, ◌++◌, Option, None, Some, Result, Ok, Err, inl, inr, refl, sym, ap, ◌∙◌, subst, arith}
+use Rattle.std.proofs.Common.{◌≡◌, ℕ, zero, suc, ◌<◌, ◌≤◌, ◌-◌, ◌⊎◌, Bool, true, false, nat_eq, cond, List, [], ◌∷◌, ◌++◌, Option, None, Some, Result, Ok, Err, inl, inr, refl, sym, ap, ◌∙◌, subst, arith}
 use Rattle.std.specs.Prelude.{All, IsTrue, IsSomeAnd, String, string_bytes, codes, decimal, option_map}
 use Rattle.std.specs.declared.alloc.Global.{Global}
 use Rattle.arr_core.specs.declared.signature.Signature.{Signature}
@@ -17,7 +17,8 @@ use Rattle.job_desk.specs.declared.error.StepError.TheVariants as stepping
 use Rattle.plan_ir.specs.Plans.{PlanTree}
 use Rattle.plan_ir.specs.Planned.{planned}
 use Rattle.plan_ir.specs.Units.{units}
-use Rattle.tile_exec.specs.Standing.{StandsFor, plan_of}
+use Rattle.tile_columns.specs.Sources.{SourceState}
+use Rattle.tile_exec.specs.Standing.{StandsFor, StandsOn, plan_of}
 use Rattle.wcps_mean.specs.declared.cells.CellError.{CellError}
 use Rattle.wcps_mean.specs.declared.cells.CellError.TheVariants as cell
 use Rattle.wcps_mean.specs.Reports.{Tells as TellsError}
@@ -30,9 +31,9 @@ use Rattle.coverage_server.specs.Holding.{AreHeldOnce, ReleasesFor, HoldsPlan, I
 use Rattle.coverage_server.specs.Leaving.{IsStill, LeavesJob}
 use Rattle.coverage_server.specs.Represents.{IsReading, StandsAs, AreJobs, Represents}
 use Rattle.coverage_server.specs.Stages.{cell_refusal, step_refusal}
-use Rattle.coverage_server.specs.Tiles.{AreRead, HaveDomains, IsHeld, ReadsHonest, ReadsSpelled, cells_at, held_or, signatures_at, store_for}
+use Rattle.coverage_server.specs.Tiles.{AreRead, AskedKept, HaveDomains, ReadsHonest, ReadsSpelled, asked_state, cells_at, held_or, signatures_at, store_for}
 use Rattle.coverage_server.specs.Damage.{SpoilsHeld, SpoilsJob}
-use Rattle.coverage_server.specs.Views.{ServerView, IsSound, session, still_of, without_held}
+use Rattle.coverage_server.specs.Views.{IsHeld, ServerView, IsSound, session, still_of, without_held}
 use Rattle.coverage_server.proofs.HeldLemmas.{Finds, finds_same, finds_left}
 use Rattle.coverage_server.proofs.HoldingLemmas.{holding_kept, holding_ended}
 use Rattle.coverage_server.proofs.StandingLemmas.{represents-same}
@@ -151,22 +152,22 @@ asked_spoils v w n job places same is some sure bad =
     held_spoils v n places some (λ spelled. there (record { honest = sure; spelled = spelled }))
 
 module _ (v m : ServerView) (still : still_of m ≡ still_of v) (old new : DeskView) (asked : List Signature) (store : Store) (n units : ℕ)
-    (Sound : Type 0) (cells : ℕ → ℕ → List ℤ → ℤ) (reads : IsTrue v.honest → Sound) (are : cells ≡ cells_of store asked) where
+    {K : Type 0} (source : SourceState K) (reads : IsTrue v.honest → source.intact) (are : source.cells ≡ cells_of store asked) where
   -- what is asked are the coverages of the job's plan, as they are held for it
   abbrev IsAsked : Held → Type 0
   IsAsked was = (asked ≡ (plan_of was.exec).coverages) × IsSomeAnd (held_for was.number v.held) (λ x. x.coverages ≡ store)
 
   -- the job reads these cells
-  job_cells : (was : Held) (j : Job) → IsAsked was → (x : StandsAs v.held was j) → 0 < was.left → x.cells ≡ cells
+  job_cells : (was : Held) (j : Job) → IsAsked was → (x : StandsAs v.held was j) → 0 < was.left → x.cells ≡ source.cells
   job_cells was j is x some = by_held (held_for was.number v.held) (x.reading some) is.1
     where
-      by_held : (o : Option SnapshotView) → IsSomeAnd o (λ y. IsReading y x.cells was) → IsSomeAnd o (λ y. y.coverages ≡ store) → x.cells ≡ cells
+      by_held : (o : Option SnapshotView) → IsSomeAnd o (λ y. IsReading y x.cells was) → IsSomeAnd o (λ y. y.coverages ≡ store) → x.cells ≡ source.cells
       by_held None h k = absurd h
       by_held (Some y) h k = h ∙ ap (λ (c : Store). cells_of c (plan_of was.exec).coverages) k ∙ ap (cells_of store) (sym is.0) ∙ sym are
 
   -- a job whose executor did units
-  went_on : (ys : List SnapshotView) → Sound → (was is : Held) (j : Job) (shown : ℕ) → IsAsked was → is.number ≡ was.number → is.names ≡ was.names → plan_of is.exec ≡ plan_of was.exec
-      → (Sound → StandsFor cells was.exec → StandsFor cells is.exec) → is.left ≡ shown → 0 < was.left → (0 < shown → ys ≡ v.held) → StandsAs v.held was j
+  went_on : (ys : List SnapshotView) → source.intact → (was is : Held) (j : Job) (shown : ℕ) → IsAsked was → is.number ≡ was.number → is.names ≡ was.names → plan_of is.exec ≡ plan_of was.exec
+      → StandsOn source was.exec is.exec → is.left ≡ shown → 0 < was.left → (0 < shown → ys ≡ v.held) → StandsAs v.held was j
       → StandsAs ys is (record { number = j.number; names = j.names; left = shown; answer = j.answer })
   went_on ys sound was is j shown same number names plan run left some kept x =
       let alike = job_cells was j same x some in
@@ -196,7 +197,7 @@ module _ (v m : ServerView) (still : still_of m ≡ still_of v) (old new : DeskV
           rest (sym later ∙ e)
 
   -- units were done: what is held stays while there are more, and else is let go
-  module _ (desk : IsDesk old) (w : ServerView) (left : ℕ) (x : IsChanged (IsLowered Sound cells units left) n old new) (same : IsAsked x.was) (some : 0 < x.was.left)
+  module _ (desk : IsDesk old) (w : ServerView) (left : ℕ) (x : IsChanged (IsLowered source units left) n old new) (same : IsAsked x.was) (some : 0 < x.was.left)
       (ends : Ends (Ok left) (w ≡ m) (ReleasesFor n m w)) where
     -- what is held then
     held_then : ((0 < left) × (w.held ≡ v.held)) ⊎ ((left ≡ 0) × (w.held ≡ without_job n v.held))
@@ -238,7 +239,7 @@ module _ (v m : ServerView) (still : still_of m ≡ still_of v) (old new : DeskV
     pub stepped : (reply : String Global) → string_bytes reply ≡ codes "left " ++ decimal (x.was.left - units) ++ codes "\n"
         → Moves (StepsJob n units) (session v old) (Text reply) (session w new)
     stepped reply is = λ honest s r.
-        let sure : Sound = reads honest in
+        let sure : source.intact = reads honest in
         let at = at_job v.held n x.was old.jobs s.jobs r.jobs x.held in
         let shown : at.job.left - units ≡ left = ap (λ l. l - units) at.stands.left ∙ sym x.change.shown.1 in
         let text : string_bytes reply ≡ codes "left " ++ decimal (at.job.left - units) ++ codes "\n" = is ∙ ap (λ l. codes "left " ++ decimal (l - units) ++ codes "\n") (sym at.stands.left) in
@@ -258,7 +259,7 @@ module _ (v m : ServerView) (still : still_of m ≡ still_of v) (old new : DeskV
         )
 
   -- a unit failed
-  module _ (desk : IsDesk old) (x : IsChanged (IsHeldUp Sound cells units) n old new) (same : IsAsked x.was) where
+  module _ (desk : IsDesk old) (x : IsChanged (IsHeldUp source units) n old new) (same : IsAsked x.was) where
     units_left : 0 < x.was.left
     units_left =
         let ahead = (job_there old.jobs x.was x.held desk.each).ahead in
@@ -313,12 +314,21 @@ step_done v old n units h held none reply is = λ sure s r.
     let same : s ≡ with_jobs s (with_left n (at.job.left - units) s.jobs) = sym (ap (with_jobs s) (left_same n (at.job.left - units) s.jobs at.job at.held (sym shown))) in
     (s, r, at_this (job_of n s.jobs) at.job _ _ at.held (text, same))
 
+-- what a refused step tells of the disk
+abbrev pub StepTold : StepError → Type 0 → ℕ → ℕ → Type 0
+StepTold stepping.NoSuchJob Spelled before after = after ≡ before
+StepTold (stepping.Cells e) Spelled before after = TellsError e Spelled before after
+
+step_told : {K : Type 0} (e : StepError) (spelled : K → Type 0) (before after : SourceState K) → StepReports (Err e) spelled before after → StepTold e (spelled before.kept) before.failures after.failures
+step_told stepping.NoSuchJob spelled before after x = x
+step_told (stepping.Cells e) spelled before after x = x
+
 -- why no units were done, and what is held then
 module _ (v m : ServerView) (still : still_of m ≡ still_of v) (old new : DeskView) (asked : List Signature) (store : Store) (n units : ℕ)
-    (Sound : Type 0) (cells : ℕ → ℕ → List ℤ → ℤ) (reads : IsTrue v.honest → Sound) (are : cells ≡ cells_of store asked) (desk : IsDesk old)
-    (same : (was : Held) → desks.job_of n old.jobs ≡ Some was → IsAsked v m still old new asked store n units Sound cells reads are was) where
+    {K : Type 0} (source : SourceState K) (reads : IsTrue v.honest → source.intact) (are : source.cells ≡ cells_of store asked) (desk : IsDesk old)
+    (same : (was : Held) → desks.job_of n old.jobs ≡ Some was → IsAsked v m still old new asked store n units source reads are was) where
   pub step_refused : (Spelled : Type 0) (e : StepError) → ((was : Held) → desks.job_of n old.jobs ≡ Some was → IsTrue v.honest → (Spelled → ⊥) → SpoilsHeld n v)
-      → IsRefusedStep Sound cells n units old new e → StepReports (Err e) Spelled v.failures m.failures
+      → IsRefusedStep source n units old new e → StepTold e Spelled v.failures m.failures
       → AnsweredIn (StepsJob n units) ⊥ (SpoilsJob n v) (session v old) (session m new) (Err (step_refusal e))
   step_refused Spelled stepping.NoSuchJob spoils x told = λ sure s r. (
     s,
@@ -326,11 +336,11 @@ module _ (v m : ServerView) (still : still_of m ≡ still_of v) (old new : DeskV
     at_nothing (job_of n s.jobs) _ _ (no_job v.held n old.jobs s.jobs r.jobs x.0) (refl, refl),
   )
   step_refused Spelled (stepping.Cells e) spoils x told =
-      step_failed v m still old new asked store n units Sound cells reads are desk x (same x.was x.held) Spelled e (spoils x.was x.held) told
+      step_failed v m still old new asked store n units source reads are desk x (same x.was x.held) Spelled e (spoils x.was x.held) told
 
-  pub step_holds : (e : StepError) → IsRefusedStep Sound cells n units old new e → IsHolding old v.held → IsHolding new m.held
+  pub step_holds : (e : StepError) → IsRefusedStep source n units old new e → IsHolding old v.held → IsHolding new m.held
   step_holds stepping.NoSuchJob x was = rw (x.1, ap (λ (u : ServerView). u.held) still) was
-  step_holds (stepping.Cells e) x was = holding_up v m still old new asked store n units Sound cells reads are desk x (same x.was x.held) was
+  step_holds (stepping.Cells e) x was = holding_up v m still old new asked store n units source reads are desk x (same x.was x.held) was
 
 -- ---- what a step answers, and what it leaves
 
@@ -355,40 +365,37 @@ ends_others n (suc left) m w same = (ap without_held same, λ sound. subst IsSou
 module _ (v w' : ServerView) (old new : DeskView) (n units left : ℕ) (asked : List Signature) (places : List ℕ) (job : ℕ) (same : w' ≡ v) (is : job ≡ n)
     (read : AreRead (store_for n v) asked places) (desk : IsDesk old) (holding : IsHolding old v.held) (told : Some left ≡ option_map (λ (j : Held). j.left) (desks.job_of n old.jobs))
     (plan : Some asked ≡ option_map (λ (j : Held). (plan_of j.exec).coverages) (desks.job_of n old.jobs)) (none : left ≡ 0 → ⊥) (m : ServerView) (kept : still_of m ≡ still_of w') where
-  abbrev pub AskedSound : Type 0
-  AskedSound = ReadsHonest w' (signatures_at (store_for job w') places)
-
-  abbrev pub asked_now : ℕ → ℕ → List ℤ → ℤ
-  asked_now = cells_at (store_for job w') places
+  abbrev pub source : SourceState AskedKept
+  source = asked_state job places w'
 
   still : still_of m ≡ still_of v
   still = kept ∙ ap still_of same
 
-  reads : IsTrue v.honest → AskedSound
+  reads : IsTrue v.honest → source.intact
   reads sure = asked_honest v w' n job asked places same is read sure
 
-  are : asked_now ≡ cells_of (store_for n v) asked
+  are : source.cells ≡ cells_of (store_for n v) asked
   are = asked_cells v w' n job asked places same is read
 
   asks : (was : Held) → desks.job_of n old.jobs ≡ Some was → Asked v n asked was
   asks was at = is_asked v old n left asked holding told plan none was at
 
-  pub step_ok : (w : ServerView) (after : ℕ) (x : IsChanged (IsLowered AskedSound asked_now units after) n old new) → Ends (Ok after) (w ≡ m) (ReleasesFor n m w) → m.failures ≡ w'.failures
+  pub step_ok : (w : ServerView) (after : ℕ) (x : IsChanged (IsLowered source units after) n old new) → Ends (Ok after) (w ≡ m) (ReleasesFor n m w) → m.failures ≡ w'.failures
       → StepDone v w old new n units left
   step_ok w after x ends quiet =
       let a = asks x.was x.held in
       let others = ends_others n after m w ends in
       record {
         moves = λ reply text.
-            stepped v m still old new asked (store_for n v) n units AskedSound asked_now reads are desk w after x (a.coverages, a.is) a.some ends reply
+            stepped v m still old new asked (store_for n v) n units source reads are desk w after x (a.coverages, a.is) a.some ends reply
             (text ∙ ap (λ l. codes "left " ++ decimal (l - units) ++ codes "\n") (job_shown n left old.jobs x.was x.held told));
-        holding = holding_after v m still old new asked (store_for n v) n units AskedSound asked_now reads are desk w after x (a.coverages, a.is) a.some ends holding;
+        holding = holding_after v m still old new asked (store_for n v) n units source reads are desk w after x (a.coverages, a.is) a.some ends holding;
         others = ap still_of others.0 ∙ ap without_held still;
         sound = λ sound. others.1 (still_sound v m still sound);
         no_fewer = (let f = ap (λ (u : ServerView). u.failures) others.0 in let g = ap (λ (u : ServerView). u.failures) same in omega (arith, f, g, quiet));
       }
 
-  asks_as : (was : Held) → desks.job_of n old.jobs ≡ Some was → IsAsked v m still old new asked (store_for n v) n units AskedSound asked_now reads are was
+  asks_as : (was : Held) → desks.job_of n old.jobs ≡ Some was → IsAsked v m still old new asked (store_for n v) n units source reads are was
   asks_as was at = let a = asks was at in (a.coverages, a.is)
 
   spoils : (was : Held) → desks.job_of n old.jobs ≡ Some was → IsTrue v.honest → (ReadsSpelled (still_of w') job places → ⊥) → SpoilsHeld n v
@@ -396,22 +403,23 @@ module _ (v w' : ServerView) (old new : DeskView) (n units left : ℕ) (asked : 
       let there = subst (λ (k : ℕ). IsSomeAnd (held_for k v.held) (λ x. x.coverages ≡ store_for n v)) (number_of_job n old.jobs was at) (asks was at).is in
       asked_spoils v w' n job places same is there sure bad
 
-  pub step_err : (w : ServerView) (e : StepError) (r : Refusal) → w ≡ m → r ≡ step_refusal e → IsRefusedStep AskedSound asked_now n units old new e
-      → StepReports (Err e) (ReadsSpelled (still_of w') job places) w'.failures m.failures
+  pub step_err : (w : ServerView) (e : StepError) (r : Refusal) → w ≡ m → r ≡ step_refusal e → IsRefusedStep source n units old new e
+      → (after : SourceState AskedKept) → after.failures ≡ m.failures → StepReports (Err e) (λ (k : AskedKept). ReadsSpelled k.0 k.1 k.2) source after
       → AnsweredIn (StepsJob n units) ⊥ (SpoilsJob n v) (session v old) (session w new) (Err r) × IsHolding new w.held
-  step_err w e r as_was told_as x reports =
-      let answered = step_refused v m still old new asked (store_for n v) n units AskedSound asked_now reads are desk asks_as (ReadsSpelled (still_of w') job places) e spoils x
-      (subst (λ (k : ℕ). StepReports (Err e) (ReadsSpelled (still_of w') job places) k m.failures) (ap (λ (u : ServerView). u.failures) same) reports) in
-      let holds = step_holds v m still old new asked (store_for n v) n units AskedSound asked_now reads are desk asks_as e x holding in (
+  step_err w e r as_was told_as x after is_after reports =
+      let answered = step_refused v m still old new asked (store_for n v) n units source reads are desk asks_as (ReadsSpelled (still_of w') job places) e spoils x
+      (subst (λ (k : ℕ). StepTold e (ReadsSpelled (still_of w') job places) k m.failures) (ap (λ (u : ServerView). u.failures) same)
+      (subst (StepTold e (ReadsSpelled (still_of w') job places) w'.failures) is_after (step_told e (λ (k : AskedKept). ReadsSpelled k.0 k.1 k.2) source after reports))) in
+      let holds = step_holds v m still old new asked (store_for n v) n units source reads are desk asks_as e x holding in (
         subst (λ (u : ServerView). AnsweredIn (StepsJob n units) ⊥ (SpoilsJob n v) (session v old) (session u new) (Err r)) (sym as_was)
             (subst (λ (q : Refusal). AnsweredIn (StepsJob n units) ⊥ (SpoilsJob n v) (session v old) (session m new) (Err q)) (sym told_as) answered),
         subst (λ (u : ServerView). IsHolding new u.held) (sym as_was) holds,
       )
 
 -- what a refused step leaves of the jobs, on any disk
-pub step_leaves : (Sound : Type 0) (cells : ℕ → ℕ → List ℤ → ℤ) (n units : ℕ) (old new : DeskView) (e : StepError) → IsRefusedStep Sound cells n units old new e → LeavesJob n old new
-step_leaves Sound cells n units old new stepping.NoSuchJob x = inl x.1
-step_leaves Sound cells n units old new (stepping.Cells e) x =
+pub step_leaves : {K : Type 0} (s : SourceState K) (n units : ℕ) (old new : DeskView) (e : StepError) → IsRefusedStep s n units old new e → LeavesJob n old new
+step_leaves s n units old new stepping.NoSuchJob x = inl x.1
+step_leaves s n units old new (stepping.Cells e) x =
     let c = x.change in
     let same : IsStill x.was x.is = record { number = c.same.number; names = c.same.names; left = c.shown; plan = c.same.run.plan; fewer = c.same.run.fewer } in
     inr (record { was = x.was; is = x.is; held = x.held; change = same; desk = x.desk })

@@ -1,5 +1,5 @@
 -- The numbers of a tile are the cells that are read there, and the coverages that are read are those at their places.
-use Rattle.std.proofs.Common.{◌≡◌, ℕ, zero, suc, ◌<◌, nat_eq, cond, ◌++◌, Bool, true, false, ◌&&◌, nat_lt, ℤ, ◌≤ℤ◌, T, List, [], ◌∷◌, length, map, get_or, Option, None, Some, Err, refl, sym, ap, ◌∙◌, subst, arith}
+use Rattle.std.proofs.Common.{◌≡◌, ℕ, zero, suc, ◌<◌, ◌≤◌, nat_eq, cond, ◌++◌, Bool, true, false, ◌&&◌, nat_lt, ℤ, ◌≤ℤ◌, T, List, [], ◌∷◌, length, map, get_or, Option, None, Some, Err, refl, sym, ap, ◌∙◌, subst, arith}
 use Rattle.std.specs.Prelude.{All, IfSome, IfNone, IsErrOf, IsSomeAnd, IsTrue, int_le, slice_get, slice_index_or, option_and_then}
 use Rattle.std.proofs.lemmas.Bool.{lt-ltb, eqb-true}
 use Rattle.std.proofs.lemmas.List.{map-append}
@@ -13,7 +13,7 @@ use Rattle.arr_core.specs.Stores.{Coverage, Store, found, value_at}
 use Rattle.arr_core.specs.Tiles.{tile_boxes}
 use Rattle.arr_core.proofs.Points.{at_place, length-points, point-inside}
 use Rattle.block_file.specs.View.{BlockFileView, state_of}
-use Rattle.tile_columns.specs.Sources.{HasTile as AskedTile, box_of}
+use Rattle.tile_columns.specs.Sources.{HasTile as AskedTile, box_of, OnlyReads}
 use Rattle.tile_store.specs.Stored.{tile_box, IsTileSpelled, IsSpelled}
 use Rattle.raster_store.proofs.Readings.{box_inside, tile_is_box}
 use Rattle.raster_store.specs.declared.reading.TileAt.{TileAt}
@@ -28,9 +28,9 @@ use Rattle.tile_store.specs.Faults.{Refuses}
 use Rattle.disk_face.specs.Disk.{Tells}
 use Rattle.wcps_mean.specs.Reports.{Tells as Reports}
 use Rattle.wcps_mean.specs.declared.cells.CellError.{CellError}
-use Rattle.coverage_server.specs.Tiles.{ArePlaces, AreRead, ArePlacesSpelled, HaveDomains, IsHeld, IsSpelledFor, ReadsSpelled, TellsCells, cells_at, held_or, indexes_or, signature_or_none, signatures_at, store_for, indexes_for}
+use Rattle.coverage_server.specs.Tiles.{ArePlaces, AreRead, ArePlacesSpelled, asked_state, HaveDomains, IsSpelledFor, ReadsSpelled, TellsCells, cells_at, held_or, indexes_or, signature_or_none, signatures_at, store_for, indexes_for}
 use Rattle.coverage_server.specs.Damage.{AreSpelled, IsSpelledNamed, IsSpelledPlace, SpoilsHeld}
-use Rattle.coverage_server.specs.Views.{ServerView, IsSound, still_of}
+use Rattle.coverage_server.specs.Views.{IsHeld, ServerView, IsSound, still_of}
 use Rattle.coverage_server.proofs.FaultLemmas.{never_fewer}
 use Rattle.coverage_server.proofs.FreeLemmas.{shown}
 use Rattle.coverage_server.proofs.StandingLemmas.{all_at}
@@ -160,6 +160,19 @@ tile_places store places n field tile place numbers f x =
     let counted : length numbers ≡ length (points (tile_box c.domain tile)) =
     subst (λ (o : Option Coverage). IsSomeAnd o (λ d. length numbers ≡ length (points (tile_box d.domain tile)))) f.is x in
     rw f.told (counted ∙ length-points (tile_box c.domain tile))
+
+-- where nothing but counts has changed, tiles were only read
+pub asked_reads : (job : ℕ) (places : List ℕ) (v w : ServerView) → still_of w ≡ still_of v → v.fetched ≤ w.fetched → OnlyReads (asked_state job places v) (asked_state job places w)
+asked_reads job places v w still rises = record {
+  coverages = ap (λ (u : ServerView). signatures_at (store_for job u) places) still;
+  cells = ap (λ (u : ServerView). cells_at (store_for job u) places) still;
+  kept = ap (λ (u : ServerView). (u, job, places)) still;
+  rises = rises;
+  intact = λ h. record {
+    honest = subst (λ (u : ServerView). IsTrue u.honest) (sym still) h.honest;
+    domains = subst (λ (u : ServerView). HaveDomains (signatures_at (store_for job u) places)) (sym still) h.domains;
+  };
+}
 
 -- ---- coverages that were looked up
 

@@ -25,7 +25,7 @@ use Rattle.wcps_types.specs.Work.{query_work, max_work}
 use Rattle.wcps_types.specs.Queries.{typ_query, typ_each, within_limits}
 use Rattle.wcps_types.proofs.Gives.{Gives, gives-then, gives-cond}
 use Rattle.wcps_types.proofs.Counted.{some-combinations}
-use Rattle.coverage_server.specs.Tiles.{IsHeld}
+use Rattle.coverage_server.specs.Views.{IsHeld}
 
 -- the signature that a name is looked up as
 abbrev looked : List ℕ → List Signature → Answer Signature

@@ -16,7 +16,8 @@ use Rattle.wcps_mean.specs.Faults.{number_of as fault_number}
 use Rattle.wcps_mean.specs.Reports.{Tells}
 use Rattle.wcps_types.specs.Typed.{TypedTree}
 use Rattle.coverage_server.specs.Asking.{QueryAnswer, cells_of, items_answer, evaluated}
-use Rattle.coverage_server.specs.Stages.{GivesValues, FailsReading, IsPlanOf, cell_refusal}
+use Rattle.coverage_server.specs.Stages.{GivesValues, FailsReading, cell_refusal}
+use Rattle.coverage_server.specs.Fetching.{IsPlanOf}
 use Rattle.coverage_server.specs.Tiles.{AreRead, ReadsSpelled, store_for}
 use Rattle.coverage_server.specs.Views.{ServerView, still_of}
 use Rattle.raster_store.specs.Snapshots.{held_for}

@@ -1,13 +1,21 @@
 -- What the parts of the server answer.
-use Rattle.std.specs.Prelude.{◌⊎◌, IsTrue, Result, Ok, Err, ⊤}
+use Rattle.std.specs.Prelude.{ℕ, List, Option, IsTrue, Result, Ok, Err, OnOk, ⊤}
 use Rattle.disk_face.specs.Disk.{Rose}
 use Rattle.arr_core.specs.Stores.{Store}
-use Rattle.kvp_front.specs.Requests.{Asks}
-use Rattle.coverage_server.specs.Machine.{State, Fails, Refuses}
-use Rattle.coverage_server.specs.Runs.{Placed, ServesPlaced, LacksRoomAt}
-use Rattle.coverage_server.specs.Damage.{Spoils}
+use Rattle.job_desk.specs.Desks.{DeskView}
+use Rattle.wcps_types.specs.Typed.{TypedTree}
+use Rattle.kvp_front.specs.Contents.{content_view}
+use Rattle.kvp_front.specs.Requests.{Asks, submit_query}
+use Rattle.kvp_front.specs.Templates.{Template}
+use Rattle.kvp_front.specs.declared.request.Insertion.{Insertion}
+use Rattle.kvp_front.specs.declared.request.Update.{Update}
+use Rattle.coverage_server.specs.Layouts.{Lays, LaysQuery, asked_signature, layout_of}
+use Rattle.coverage_server.specs.Machine.{State, Serves, Inserts, Updates, Answers, AnswersTemplate}
+use Rattle.coverage_server.specs.Room.{LacksRoom, LacksRoomToInsert, LacksRoomToUpdate}
+use Rattle.coverage_server.specs.Damage.{KeepsSpelled, Spoils, SpoilsUpdate, SpoilsText, SpoilsTemplate}
 use Rattle.coverage_server.specs.Represents.{Represents}
-use Rattle.coverage_server.specs.Views.{ServerView, SessionView}
+use Rattle.coverage_server.specs.Stages.{IsTypedText}
+use Rattle.coverage_server.specs.Views.{ServerView, SessionView, session}
 use Rattle.http_front.specs.declared.reply.Reply.{Reply}
 use Rattle.http_front.specs.declared.reply.Reply.TheVariants.{Text, Csv, Refused}
 use Rattle.coverage_server.specs.declared.arguments.Refusal.{Refusal}
@@ -22,6 +30,24 @@ Answered step lacks spoils old new (Err NoMemory) = ⊤
 Answered step lacks spoils old new (Err DiskFault) = Rose old.failures new.failures
 Answered step lacks spoils old new (Err NoRoom) = IsTrue old.honest → lacks
 Answered step lacks spoils old new (Err Damaged) = IsTrue old.honest → spoils
+
+-- the answers to requests on the coverages: an insertion, an update, the text of a query, a template
+abbrev pub AnswersInsertion : Insertion → ServerView → ServerView → Result Reply Refusal → Type 0
+AnswersInsertion r old new =
+    Answered (Inserts r.coverage r.intervals.items r.fields.items)
+    (LacksRoomToInsert (asked_signature r) old.store (layout_of old)) ⊥ old new
+
+abbrev pub AnswersUpdate : Update → ServerView → ServerView → Result Reply Refusal → Type 0
+AnswersUpdate r old new =
+    Answered (Updates r.coverage r.field r.intervals.items (content_view r.content))
+    (LacksRoomToUpdate r.coverage r.field r.intervals.items (content_view r.content) old.store (layout_of old))
+    (SpoilsUpdate r.coverage r.field r.intervals.items old) old new
+
+abbrev pub AnswersQuery : List ℕ → ServerView → ServerView → Result Reply Refusal → Type 0
+AnswersQuery text old new = Answered (Answers text) ⊥ (SpoilsText text old) old new
+
+abbrev pub AnswersAsked : Template → ServerView → ServerView → Result Reply Refusal → Type 0
+AnswersAsked template old new = Answered (AnswersTemplate template) ⊥ (SpoilsTemplate template old) old new
 
 -- a reply that is no refusal
 abbrev pub IsAnswer : Reply → Type 0
@@ -55,11 +81,28 @@ AnsweredIn step lacks spoils old new (Err Damaged) = Hinders spoils old × Stays
 abbrev pub Never : State → Type 0
 Never s = ⊥
 
--- A reply of the machine, or a failure: want of memory (90) at any time, a disk fault (91) where the disk's count of failures rose
--- or stands at its last value, want of room (92) where the request asks for more blocks than are free, and damage (93) where a
--- tile that is in the way of the request is not spelled.
-abbrev pub Steps : Asks → SessionView → SessionView → Placed → Reply → Placed → Type 0
-Steps asks old new p reply q =
-    ServesPlaced asks p reply q
-    ⊎ Fails (Rose old.coverages.failures new.coverages.failures) (LacksRoomAt asks p) p reply q
-    ⊎ (Spoils asks old.coverages p.state × Refuses 93 p reply q)
+-- the answer to a request, as the machine's step allows it
+abbrev pub AnsweredAs : Asks → SessionView → SessionView → Result Reply Refusal → Type 0
+AnsweredAs asks old new =
+    AnsweredIn (Serves asks) (LacksRoom asks old.coverages.store (layout_of old.coverages)) (Spoils asks old.coverages)
+    old new
+
+-- the answer to a request on jobs, by the coverages and the desk before and after it
+abbrev pub AnswersJob : Asks → ServerView → DeskView → ServerView → DeskView → Result Reply Refusal → Type 0
+AnswersJob asks old desk new later = AnsweredAs asks (session old desk) (session new later)
+
+-- the answer to the submission of each text that is this typed query
+abbrev pub AnswersTree : TypedTree → ServerView → DeskView → ServerView → DeskView → Result Reply Refusal → Type 0
+AnswersTree q old desk new later result =
+    (text : List ℕ) → IsTypedText old.store text q → AnswersJob (submit_query text) old desk new later result
+
+-- what is held then, where it is answered
+abbrev pub LaysTree : TypedTree → ServerView → Option ℕ → ServerView → Type 0
+LaysTree q old next new = (text : List ℕ) → IsTypedText old.store text q → LaysQuery text old next new
+
+-- On an honest disk the tiles lie as a request that is answered makes them lie, and each that was spelled is so.
+abbrev pub LeavesTiles : Asks → Result Reply Refusal → SessionView → SessionView → Type 0
+LeavesTiles asks result old new =
+    IsTrue old.coverages.honest
+    → OnOk result (Lays asks old.coverages.store old.desk.next new.coverages.store (layout_of old.coverages)
+    (layout_of new.coverages)) × KeepsSpelled old.coverages new.coverages

@@ -1,5 +1,5 @@
 -- What a closing writes: the metadata, as it is put together coverage by coverage, each found by its name.
-use Rattle.std.specs.Prelude.{◌≡◌, ℕ, ◌<◌, List, [], ◌∷◌, ◌++◌, length, take, Option, Some, None, if◌then◌else◌}
+use Rattle.std.specs.Prelude.{◌≡◌, ℕ, ◌<◌, List, [], ◌∷◌, ◌++◌, length, take, Option, Some, None, IsTrue, if◌then◌else◌}
 use Rattle.std.specs.List.{flat_map}
 use Rattle.std.specs.Str.{bytes_eq}
 use Rattle.arr_core.specs.declared.signature.Signature.{Signature}
@@ -9,12 +9,13 @@ use Rattle.file_bytes.specs.declared.form.Version.TheVariants.{Two}
 use Rattle.block_file.specs.Format.{IsClosed, Closes, TellsVersion, link, first_of, chain_blocks}
 use Rattle.catalogue.specs.Bytes.{catalogue_bytes}
 use Rattle.metadata.specs.Metadata.{part_bytes, indexes_bytes, metadata_bytes}
-use Rattle.raster_store.specs.Views.{Index, listed_all}
+use Rattle.raster_store.specs.Views.{Index, AreIntact, listed_all}
 use Rattle.tile_store.specs.declared.fault.Fault.{Fault}
 use Rattle.tile_store.specs.declared.fault.Fault.TheVariants as device
+use Rattle.coverage_server.specs.Disk.{HoldsStore, ListsStore}
 use Rattle.coverage_server.specs.declared.closing.CloseFault.{CloseFault}
 use Rattle.coverage_server.specs.declared.closing.CloseFault.TheVariants as closing
-use Rattle.coverage_server.specs.Views.{ServerView, signatures_of}
+use Rattle.coverage_server.specs.Views.{ServerView, IsSound, signatures_of}
 
 -- the indexes of the fields of the coverage with a name
 abbrev pub indexes_named : List ℕ → Store → List (List Index) → List Index
@@ -48,6 +49,21 @@ pub record IsWritten (content metadata : List ℕ) (indexes : List (List Index))
   pub closed : IsClosed content metadata
   pub version : TellsVersion Two content
   pub apart : (i : ℕ) → i < chain_blocks (length metadata) → listed_all indexes (link (block_at content) (first_of content) i) ≡ 0
+
+-- the bytes of the indexes of the coverage with a name, as a server has them
+abbrev pub indexes_held : List ℕ → ServerView → List ℕ
+indexes_held name v = bytes_named name v.store v.indexes
+
+-- on an honest disk the file is closed with what the server held
+abbrev pub WritesHeld : ServerView → ServerView → Type 0
+WritesHeld old new = IsTrue old.honest → IsWritten new.content (metadata_held old) new.indexes
+
+-- What bytes are below a server: once a closing has been written they list its coverages, and below a sound one hold its
+-- store.
+pub record HoldsClosed (v : ServerView) (content : List ℕ) : Type 0 where
+  pub lists : IsWritten content (metadata_held v) v.indexes → IsTrue v.honest → ListsStore content v.store v.indexes
+  pub held : IsWritten content (metadata_held v) v.indexes → IsSound v → HoldsStore content v.store
+  pub intact : IsSound v → AreIntact content v.store v.indexes
 
 -- how it is told why a server is not closed; room is never wanting then, and no tile is read
 abbrev pub TellsClose : Fault → CloseFault → Type 0

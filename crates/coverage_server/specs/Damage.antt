@@ -11,7 +11,7 @@ use Rattle.tile_store.specs.Stored.{tile_box}
 use Rattle.raster_store.specs.declared.reading.TileAt.{TileAt}
 use Rattle.raster_store.specs.Fetches.{HasTile, IsSpelledAt, IsSpelledOf}
 use Rattle.raster_store.specs.Snapshots.{held_for}
-use Rattle.raster_store.specs.Views.{Index, SnapshotView, listed_snapshots}
+use Rattle.raster_store.specs.Views.{Index, SnapshotView, listed_all, listed_snapshots}
 use Rattle.wcps_types.specs.Typed.{TypedTree}
 use Rattle.kvp_front.specs.declared.request.Interval.{Interval}
 use Rattle.kvp_front.specs.Requests.{Asks, insert_coverage, update_coverage, delete_coverage, list_coverages, describe_coverage, process_coverages, submit_query, step_job, fetch_job, cancel_job, expand_template, process_template}
@@ -55,6 +55,10 @@ AreIntactHeld content (x ∷ held) (m ∷ names) =
     (m.0 ≡ x.job) × IsIntactHeld content m.1 x × AreIntactHeld content held names
 AreIntactHeld content [] (m ∷ names) = ⊥
 AreIntactHeld content (x ∷ held) [] = ⊥
+
+-- the blocks that indexes list are whole
+abbrev pub AreListedWhole : List ℕ → List (List Index) → Type 0
+AreListedWhole content indexes = (k : ℕ) → 0 < listed_all indexes k → length (block_at content k) ≡ 4096
 
 -- the blocks of what is held are whole
 abbrev pub AreHeldWhole : List ℕ → List SnapshotView → Type 0

@@ -2,18 +2,9 @@
 use Rattle.std.specs.Prelude.{ℕ, List, ◌++◌, codes}
 use Rattle.std.specs.Fmt.{signed_decimal}
 use Rattle.std.specs.List.{flat_map}
-use Rattle.arr_core.specs.declared.cell.FieldType.{FieldType}
-use Rattle.arr_core.specs.declared.cell.FieldType.TheVariants.{Bool, U8, I16, I32, I64}
+use Rattle.arr_core.specs.Cells.{type_name}
 use Rattle.arr_core.specs.declared.domain.Axis.{Axis}
 use Rattle.arr_core.specs.declared.field.Field.{Field}
-
--- the type of a field, as a request spells it
-abbrev pub kind_text : FieldType → List ℕ
-kind_text Bool = codes "bool"
-kind_text U8 = codes "u8"
-kind_text I16 = codes "i16"
-kind_text I32 = codes "i32"
-kind_text I64 = codes "i64"
 
 -- `axis x 0 99`, on a line
 abbrev pub axis_line : Axis → List ℕ
@@ -21,7 +12,7 @@ axis_line a = codes "axis " ++ a.name ++ codes " " ++ signed_decimal a.lo ++ cod
 
 -- `field v i16`, on a line
 abbrev pub field_line : Field → List ℕ
-field_line f = codes "field " ++ f.name ++ codes " " ++ kind_text f.kind ++ codes "\n"
+field_line f = codes "field " ++ f.name ++ codes " " ++ type_name f.kind ++ codes "\n"
 
 -- the lines of the axes in their order, and then those of the fields
 abbrev pub description : List Axis → List Field → List ℕ

@@ -1,16 +1,27 @@
 -- What it is that a disk holds a store.
-use Rattle.std.specs.Prelude.{◌≡◌, ◌≢◌, ℕ, ◌/◌, ◌<◌, ◌⊎◌, List, [], ◌∷◌, length, ⊤}
+use Rattle.std.specs.Prelude.{◌≡◌, ◌≢◌, ℕ, ◌/◌, ◌<◌, ◌⊎◌, Bool, List, [], ◌∷◌, length, ⊤}
 use Rattle.arr_core.specs.declared.signature.Signature.{Signature}
 use Rattle.arr_core.specs.Stores.{Store}
 use Rattle.block_file.specs.State.{block_at}
+use Rattle.block_file.specs.declared.header.State.TheVariants.{Open}
 use Rattle.file_bytes.specs.declared.form.Version.{Version}
-use Rattle.block_file.specs.Format.{IsStoreFile, TellsVersion, IsClosed, number_at, link, first_of, chain_blocks}
+use Rattle.file_bytes.specs.declared.form.Version.TheVariants.{Two}
+use Rattle.block_file.specs.Format.{IsHeader, IsStoreFile, TellsVersion, IsClosed, number_at, link, first_of, chain_blocks}
 use Rattle.metadata.specs.Metadata.{IsMetadata, IsOfVersion}
 use Rattle.coverage_server.specs.declared.opening.OpenFault.{OpenFault}
 use Rattle.coverage_server.specs.declared.opening.OpenFault.TheVariants as opening
 use Rattle.coverage_server.specs.declared.closing.CloseFault.{CloseFault}
 use Rattle.coverage_server.specs.declared.closing.CloseFault.TheVariants as closing
 use Rattle.raster_store.specs.Views.{Index, AreBelow, AreIntact, coverages_in, listed_all}
+
+-- what a disk tells: the bytes that it holds, whether it is honest, and how many of its calls have failed
+pub record DiskView : Type 0 where
+  pub content : List ℕ
+  pub honest : Bool
+  pub failures : ℕ
+
+abbrev pub disk_view : {D : Type 0} → (D → List ℕ) → (D → Bool) → (D → ℕ) → D → DiskView
+disk_view content honest failures disk = record { content = content disk; honest = honest disk; failures = failures disk }
 
 -- each index lists only tiles of its coverage's domain
 abbrev pub AreTiles : List Signature → List (List Index) → Type 0
@@ -45,11 +56,24 @@ pub record ListsCoverages (content : List ℕ) (store : Store) (indexes : List (
 abbrev pub ListsStore : List ℕ → Store → List (List Index) → Type 0
 ListsStore content store indexes = ((content ≡ []) × (store ≡ []) × (indexes ≡ [])) ⊎ ListsCoverages content store indexes
 
+-- the disk lists these coverages, and no others
+pub record Lists (content : List ℕ) (store : Store) (indexes : List (List Index)) : Type 0 where
+  pub lists : ListsStore content store indexes
+  pub only : (s : Store) (i : List (List Index)) → ListsStore content s i → (store ≡ s) × (indexes ≡ i)
+
+-- it lists none, not even the empty store
+abbrev pub ListsNone : List ℕ → Type 0
+ListsNone content = (store : Store) (indexes : List (List Index)) → ¬ (ListsStore content store indexes)
+
 -- The disk holds the store: it lists its coverages, and each of their tiles spells its cells.
 pub record HoldsStore (content : List ℕ) (store : Store) : Type 0 where
   pub indexes : List (List Index)
   pub lists : ListsStore content store indexes
   pub intact : AreIntact content store indexes
+
+-- the header is that of an open file of version 2 with as many blocks as there are
+abbrev pub IsOpenFile : List ℕ → Type 0
+IsOpenFile content = IsHeader content Open (length content / 4096) 0 0 × TellsVersion Two content
 
 -- the numbers of the refusals of an opening and of a closing
 abbrev pub open_number : OpenFault → ℕ
@@ -78,4 +102,4 @@ IsNoStore content opening.DiskFault = ⊤
 IsNoStore content opening.NotAStore = (0 < length content) × (¬ (IsStoreFile content))
 IsNoStore content opening.NotClosed = IsStoreFile content × (number_at 12 4 content ≡ 1)
 IsNoStore content opening.Damaged =
-    IsStoreFile content × (number_at 12 4 content ≢ 1) × ((store : Store) (indexes : List (List Index)) → ¬ (ListsStore content store indexes))
+    IsStoreFile content × (number_at 12 4 content ≢ 1) × ListsNone content

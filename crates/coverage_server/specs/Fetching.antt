@@ -1,8 +1,14 @@
 -- How many tiles a request fetches.
-use Rattle.std.specs.Prelude.{◌≡◌, ◌⊎◌, ℕ, ◌+◌, ◌≤◌, List, Result, Ok, Err, sum_by}
-use Rattle.job_desk.specs.Steps.{FetchesWithin, IsChanged}
+use Rattle.std.specs.Prelude.{◌≡◌, ◌⊎◌, ℕ, ◌+◌, ◌*◌, ◌≤◌, ℤ, List, length, Result, Ok, Err, sum_by}
+use Rattle.job_desk.specs.Desks.{DeskView}
+use Rattle.job_desk.specs.Steps.{IsChanged}
+use Rattle.plan_ir.specs.Placed.{IsPlan}
+use Rattle.plan_ir.specs.Planned.{planned}
 use Rattle.plan_ir.specs.Plans.{PlanTree}
-use Rattle.plan_ir.specs.Units.{boxes, bound}
+use Rattle.plan_ir.specs.Units.{boxes, bound, units}
+use Rattle.tile_exec.specs.Standing.{most_fetched}
+use Rattle.wcps_mean.specs.Answer.{answer}
+use Rattle.wcps_types.specs.Work.{query_work}
 use Rattle.wcps_types.specs.Typed.{TypedTree}
 use Rattle.http_front.specs.declared.reply.Reply.{Reply}
 use Rattle.http_front.specs.declared.reply.Reply.TheVariants.{Text, Csv, Refused}
@@ -11,9 +17,16 @@ use Rattle.kvp_front.specs.Templates.{Template}
 use Rattle.coverage_server.specs.declared.arguments.Refusal.{Refusal}
 use Rattle.coverage_server.specs.Asking.{TextTyped}
 use Rattle.coverage_server.specs.Leaving.{refusal_number}
-use Rattle.coverage_server.specs.Stages.{IsPlanOf}
 use Rattle.coverage_server.specs.Templates.{expansion}
-use Rattle.coverage_server.specs.Views.{ServerView, SessionView}
+use Rattle.coverage_server.specs.Views.{ServerView, SessionView, session}
+
+-- the plan of a typed query reads the query's coverages, gives its answer over any cells, and has few units
+pub record IsPlanOf (q : TypedTree) (plan : PlanTree) : Type 0 where
+  pub placed : IsPlan plan
+  pub coverages : plan.coverages ≡ q.coverages
+  pub planned : (s : ℕ → ℕ → List ℤ → ℤ) → planned s plan ≡ answer s q
+  pub units : units plan ≤ length q.combinations * (2 + query_work q.combinations)
+  pub some : 1 ≤ length q.combinations
 
 -- no tile was fetched
 abbrev pub FetchesNone : ServerView → ServerView → Type 0
@@ -23,9 +36,13 @@ FetchesNone old new = new.fetched ≡ old.fetched
 abbrev pub most_of_plan : PlanTree → ℕ
 most_of_plan plan = sum_by (bound plan) (boxes plan)
 
+-- no more tiles were fetched than that
+abbrev pub FetchesBoxes : PlanTree → ServerView → ServerView → Type 0
+FetchesBoxes plan old new = new.fetched ≤ old.fetched + most_of_plan plan
+
 -- no more tiles were fetched than the boxes of a plan of the query bound together
 abbrev pub FetchesPlan : TypedTree → ServerView → ServerView → Type 0
-FetchesPlan q old new = (plan : PlanTree) × IsPlanOf q plan × (new.fetched ≤ old.fetched + most_of_plan plan)
+FetchesPlan q old new = (plan : PlanTree) × IsPlanOf q plan × FetchesBoxes plan old new
 
 -- so it is with the query that a text is over the store
 abbrev pub FetchesText : List ℕ → ServerView → ServerView → Type 0
@@ -38,7 +55,7 @@ FetchesTemplate template old new = (text : List ℕ) × (expansion template old.
 -- no more tiles were fetched than the boxes of those units bound together that the job with a number has done meanwhile
 abbrev pub FetchesUnits : ℕ → SessionView → SessionView → Type 0
 FetchesUnits number old new =
-    IsChanged (λ was is. FetchesWithin was.exec is.exec old.coverages.fetched new.coverages.fetched) number
+    IsChanged (λ was is. new.coverages.fetched ≤ old.coverages.fetched + most_fetched was.exec is.exec) number
     old.desk new.desk
 
 -- want of memory, a disk fault or damage, by its number
@@ -55,6 +72,17 @@ UnlessFailed (Refused code) P = IsFailure code ⊎ P
 abbrev pub UnlessFails : {A : Type 0} → Result A Refusal → Type 0 → Type 0
 UnlessFails (Ok a) P = P
 UnlessFails (Err e) P = IsFailure (refusal_number e) ⊎ P
+
+-- what the answers to the text of a query and to a template fetch, and a step of a job
+abbrev pub FetchesForText : {A : Type 0} → List ℕ → ServerView → ServerView → Result A Refusal → Type 0
+FetchesForText text old new result = UnlessFails result (FetchesNone old new ⊎ FetchesText text old new)
+
+abbrev pub FetchesForTemplate : {A : Type 0} → Template → ServerView → ServerView → Result A Refusal → Type 0
+FetchesForTemplate template old new result = UnlessFails result (FetchesNone old new ⊎ FetchesTemplate template old new)
+
+abbrev pub FetchesForJob : {A : Type 0} → ℕ → ServerView → DeskView → ServerView → DeskView → Result A Refusal → Type 0
+FetchesForJob number old desk new later result =
+    UnlessFails result (FetchesNone old new ⊎ FetchesUnits number (session old desk) (session new later))
 
 -- Nine requests fetch no tile. A query and the units of a job that are done fetch no more than their boxes bound
 -- together; a query whose text is refused, a number of no job, and a job without units left fetch none.

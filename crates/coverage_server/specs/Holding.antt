@@ -8,8 +8,7 @@ use Rattle.arr_core.specs.Stores.{Coverage}
 use Rattle.raster_store.specs.Snapshots.{held_for, without_job, distinct, AreNames, IsSnapshot}
 use Rattle.raster_store.specs.Views.{SnapshotView}
 use Rattle.tile_exec.specs.Standing.{plan_of}
-use Rattle.coverage_server.specs.Tiles.{IsHeld}
-use Rattle.coverage_server.specs.Views.{ServerView, IsSound, without_held}
+use Rattle.coverage_server.specs.Views.{IsHeld, ServerView, IsSound, without_held}
 
 -- nothing is held for the number yet, and the store has coverages with the names
 abbrev pub MayHold : ℕ → List (List ℕ) → ServerView → Type 0

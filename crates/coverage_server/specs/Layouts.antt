@@ -7,7 +7,9 @@ use Rattle.arr_core.specs.Fields.{place_of as field_place}
 use Rattle.arr_core.specs.Stores.{Store, found}
 use Rattle.http_front.specs.declared.reply.Reply.{Reply}
 use Rattle.http_front.specs.declared.reply.Reply.TheVariants.{Text, Csv, Refused}
+use Rattle.kvp_front.specs.declared.request.Insertion.{Insertion}
 use Rattle.kvp_front.specs.declared.request.Interval.{Interval}
+use Rattle.kvp_front.specs.declared.request.Update.{Update}
 use Rattle.kvp_front.specs.Requests.{Asks, insert_coverage, update_coverage, delete_coverage, list_coverages, describe_coverage, process_coverages, submit_query, step_job, fetch_job, cancel_job, expand_template, process_template}
 use Rattle.raster_store.specs.Calls.{indexes_with, indexes_without}
 use Rattle.raster_store.specs.Snapshots.{IsSnapshot, without_job}
@@ -51,6 +53,18 @@ LaysUpdate name field intervals store store' old new =
 abbrev pub LaysNone : Signature → Layout → Layout → Type 0
 LaysNone s old new = new ≡ record { indexes = indexes_with s old.indexes; held = old.held }
 
+-- the signature of the coverage that an insertion asks for
+abbrev pub asked_signature : Insertion → Signature
+asked_signature r = record { name = r.coverage; domain = axes_of r.intervals.items; fields = r.fields.items }
+
+-- how the tiles of a server lie after an insertion and after an update that were answered
+abbrev pub LaysInsertion : Insertion → ServerView → ServerView → Type 0
+LaysInsertion r old new = LaysNone (asked_signature r) (layout_of old) (layout_of new)
+
+abbrev pub LaysChange : Update → ServerView → ServerView → Type 0
+LaysChange r old new =
+    LaysUpdate r.coverage r.field r.intervals.items old.store new.store (layout_of old) (layout_of new)
+
 -- a coverage that was taken out has its tiles no more
 abbrev pub LaysRest : List ℕ → Store → Layout → Layout → Type 0
 LaysRest name store old new = new ≡ record { indexes = indexes_without name store old.indexes; held = old.held }
@@ -63,6 +77,10 @@ pub record LaysHeld (query : List ℕ) (store : Store) (next : Option ℕ) (old 
   pub number : next ≡ Some snapshot.job
   pub is : IsSnapshot (map (λ (s : Signature). s.name) tree.coverages) store old.indexes snapshot
   pub held : new ≡ record { indexes = old.indexes; held = old.held ++ snapshot ∷ [] }
+
+-- so it is with a server, where `next` was the next number
+abbrev pub LaysQuery : List ℕ → ServerView → Option ℕ → ServerView → Type 0
+LaysQuery query old next new = LaysHeld query old.store next (layout_of old) (layout_of new)
 
 -- what is held for a job is let go, or still held
 abbrev pub LetsGo : ℕ → Layout → Layout → Type 0

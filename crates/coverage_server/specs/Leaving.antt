@@ -1,5 +1,6 @@
--- What a refused request leaves, on any disk.
+-- What calls leave of the coverages, and what a refused request leaves, on any disk.
 use Rattle.std.specs.Prelude.{◌≡◌, ◌⊎◌, ℕ, ◌≤◌, Result, Ok, Err, ⊤}
+use Rattle.block_file.specs.Format.{KeepsHeader}
 use Rattle.job_desk.specs.declared.answer.Answer.TheVariants as given
 use Rattle.job_desk.specs.declared.job.Job.{Job as Held}
 use Rattle.job_desk.specs.Desks.{DeskView, IsFetched}
@@ -12,7 +13,37 @@ use Rattle.http_front.specs.declared.reply.Reply.TheVariants.{Text, Csv, Refused
 use Rattle.kvp_front.specs.Requests.{Asks, insert_coverage, update_coverage, delete_coverage, list_coverages, describe_coverage, process_coverages, submit_query, step_job, fetch_job, cancel_job, expand_template, process_template}
 use Rattle.coverage_server.specs.declared.arguments.Refusal.{Refusal}
 use Rattle.coverage_server.specs.declared.arguments.Refusal.TheVariants.{Numbered, NoMemory, DiskFault, NoRoom, Damaged}
-use Rattle.coverage_server.specs.Views.{SessionView, IsUnchanged}
+use Rattle.coverage_server.specs.Views.{ServerView, SessionView, IsSound, IsUnchanged, still_of, without_held}
+
+-- What every call leaves: what was sound is so, the header tells what it told, the disk is as honest as it was, and its
+-- count of failures has not fallen.
+pub record Continues (old new : ServerView) : Type 0 where
+  pub sound : IsSound old → IsSound new
+  pub header : KeepsHeader old.content new.content
+  pub honest : new.honest ≡ old.honest
+  pub no_fewer : old.failures ≤ new.failures
+
+-- What a call leaves that changes the coverages in memory alone: what was sound is so, the disk, what is held for jobs and
+-- the count of tiles that were fetched are as they were.
+pub record KeepsDisk (old new : ServerView) : Type 0 where
+  pub sound : IsSound old → IsSound new
+  pub content : new.content ≡ old.content
+  pub honest : new.honest ≡ old.honest
+  pub failures : new.failures ≡ old.failures
+  pub held : new.held ≡ old.held
+  pub fetched : new.fetched ≡ old.fetched
+
+-- nothing has changed but what is held for jobs, and what was sound is so
+pub record ChangesHeld (old new : ServerView) : Type 0 where
+  pub others : without_held new ≡ without_held old
+  pub sound : IsSound old → IsSound new
+
+-- nothing has changed but what is held for jobs and the counts, of which that of failures has not fallen, and what was
+-- sound is so
+pub record ReadsHeld (old new : ServerView) : Type 0 where
+  pub others : still_of (without_held new) ≡ still_of (without_held old)
+  pub sound : IsSound old → IsSound new
+  pub no_fewer : old.failures ≤ new.failures
 
 -- A job is as it was, but that its executor may have done some of the units that it shows as left.
 pub record IsStill (was is : Held) : Type 0 where

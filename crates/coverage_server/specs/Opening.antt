@@ -1,35 +1,29 @@
 -- What the parts of an opening make of a file.
-use Rattle.std.specs.Prelude.{◌≡◌, ℕ, ◌+◌, ◌/◌, ◌<◌, ◌≤◌, IsTrue, List, [], length, map, Vec, ⊤}
+use Rattle.std.specs.Prelude.{◌≡◌, ℕ, ◌+◌, ◌<◌, ◌≤◌, IsTrue, List, [], ◌∷◌, ◌++◌, length, map, Vec, ⊤}
 use Rattle.std.specs.declared.alloc.Global.{Global}
 use Rattle.arr_core.specs.declared.signature.Signature.{Signature}
-use Rattle.arr_core.specs.Stores.{Store}
-use Rattle.block_file.specs.State.{times}
-use Rattle.block_file.specs.Format.{IsHeader, TellsVersion}
+use Rattle.block_file.specs.State.{BlocksState, times}
 use Rattle.block_file.specs.Uses.{CanClaim, Claims, uses_of}
 use Rattle.block_file.specs.View.{BlockFileView}
-use Rattle.block_file.specs.declared.header.State.TheVariants.{Open}
 use Rattle.block_file.specs.declared.fault.OpenFault.{OpenFault as ChainFault}
 use Rattle.block_file.specs.declared.fault.OpenFault.TheVariants as chain
 use Rattle.catalogue.specs.Bytes.{catalogue_bytes}
 use Rattle.file_bytes.specs.declared.form.Version.{Version}
-use Rattle.file_bytes.specs.declared.form.Version.TheVariants.{Two}
 use Rattle.metadata.specs.Metadata.{IsMetadata, IsOfVersion}
+use Rattle.metadata.specs.declared.reading.Metadata.{Metadata}
 use Rattle.tile_index.specs.declared.index.TileIndex.{TileIndex}
 use Rattle.tile_store.specs.declared.fault.Fault.{Fault}
 use Rattle.tile_store.specs.declared.fault.Fault.TheVariants as device
-use Rattle.raster_store.specs.Views.{Index, listed_all, reserve}
+use Rattle.raster_store.specs.Calls.{MayAttach}
+use Rattle.raster_store.specs.Views.{Index, RasterView, coverages_in, listed_all, reserve}
 use Rattle.coverage_server.specs.declared.opening.OpenFault.{OpenFault}
 use Rattle.coverage_server.specs.declared.opening.OpenFault.TheVariants as opening
-use Rattle.coverage_server.specs.Disk.{IsLaidOut, ListsStore}
-use Rattle.coverage_server.specs.Views.{free_in}
+use Rattle.coverage_server.specs.Disk.{AreTiles, DiskView, IsLaidOut, Lists}
+use Rattle.coverage_server.specs.Views.{ServerView, free_in}
 
 -- the indexes of coverages, as lists
 abbrev pub items_of : List (Vec TileIndex Global) → List (List Index)
 items_of indexes = map (λ (v : Vec TileIndex Global). v.items) indexes
-
--- the header is that of an open file of version 2 with as many blocks as there are
-abbrev pub IsOpenFile : List ℕ → Type 0
-IsOpenFile content = IsHeader content Open (length content / 4096) 0 0 × TellsVersion Two content
 
 -- what metadata of a file of a version lists, and nothing else: without a byte no coverage
 pub record IsListed (version : Version) (metadata : List ℕ) (signatures : List Signature) (indexes : List (List Index)) : Type 0 where
@@ -52,11 +46,28 @@ pub record CannotClaim (indexes : List (List Index)) (marks : List ℕ) : Type 0
   pub each : (k : ℕ) → times blocks k ≡ listed_all indexes k
   pub refused : CanClaim blocks marks → ⊥
 
+-- each coverage may be attached after those before it
+abbrev pub MayAttachAll : BlocksState → List (List Index) → Type 0
+MayAttachAll s indexes =
+    (before : List (List Index)) (new : List Index) (after : List (List Index)) → indexes ≡ before ++ new ∷ after
+    → MayAttach s before new
+
+-- The coverages of a catalogue are attached: those that these indexes list, which list tiles of their domains.
+pub record Attaches {B : Type 0} (s : BlocksState) (signatures : List Signature) (listed : List (List Index))
+    (cells : RasterView B) : Type 0 where
+  pub coverages : cells.coverages ≡ coverages_in s.content signatures listed
+  pub indexes : cells.indexes ≡ listed
+  pub tiles : AreTiles signatures listed
+
 -- What metadata lists was claimed, and as many blocks are free as the metadata takes.
 pub record ClaimsLayout (version : Version) (metadata : List ℕ) (signatures : List Signature) (indexes : List (List Index)) (old new : List ℕ) : Type 0 where
   pub listed : IsListed version metadata signatures indexes
   pub claims : ClaimsListed indexes old new
   pub room : reserve (length (catalogue_bytes signatures)) indexes ≤ free_in indexes []
+
+-- so it is with what was read of metadata
+abbrev pub ClaimsRead : Version → List ℕ → List ℕ → List ℕ → Metadata → Type 0
+ClaimsRead version metadata old new m = ClaimsLayout version metadata m.catalogue (items_of m.indexes.items) old new
 
 -- no metadata of any signatures and indexes is laid out
 abbrev pub IsNotLaidOut : List ℕ → Type 0
@@ -67,10 +78,22 @@ abbrev pub IsUnread : Version → List ℕ → Type 0
 IsUnread version metadata = (0 < length metadata) × ((signatures : List Signature) (indexes : List (List Index))
     → IsMetadata metadata signatures indexes → IsOfVersion version signatures indexes → ⊥)
 
--- the disk lists these coverages, and no others
-pub record Lists (content : List ℕ) (store : Store) (indexes : List (List Index)) : Type 0 where
-  pub lists : ListsStore content store indexes
-  pub only : (s : Store) (i : List (List Index)) → ListsStore content s i → (store ≡ s) × (indexes ≡ i)
+-- an honest disk lists the coverages that come of its file, and no others
+abbrev pub ListsFile : BlockFileView → ServerView → Type 0
+ListsFile file v = IsTrue file.honest → Lists file.content v.store v.indexes
+
+-- the disk of a file, with nothing held for jobs
+pub record ShowsFile (file : BlockFileView) (v : ServerView) : Type 0 where
+  pub content : v.content ≡ file.content
+  pub honest : v.honest ≡ file.honest
+  pub unheld : v.held ≡ []
+  pub failures : v.failures ≡ file.failures
+
+-- the disk that a file is on, as it was
+pub record GivesBack (file : BlockFileView) (disk : DiskView) : Type 0 where
+  pub content : disk.content ≡ file.content
+  pub honest : disk.honest ≡ file.honest
+  pub failures : disk.failures ≡ file.failures
 
 -- after the header is read: want of memory, or a departure from the format
 abbrev pub Departs : Type 0 → OpenFault → Type 0

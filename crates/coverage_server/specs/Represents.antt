@@ -1,16 +1,19 @@
--- Which state of the machine a server represents. The answer of a job is not stored while it runs: it is the one that the plan of its
+-- Which state of the machine a server represents, and that an answer is a step of the machine. The answer of a job is not stored while it runs: it is the one that the plan of its
 -- executor has over the cells for which the executor stands.
-use Rattle.std.specs.Prelude.{◌≡◌, ℕ, ◌<◌, ℤ, List, [], ◌∷◌, All, IsSomeAnd, IsTrue}
+use Rattle.std.specs.Prelude.{◌≡◌, ◌⊎◌, ℕ, ◌<◌, ℤ, List, [], ◌∷◌, All, IsSomeAnd, IsTrue}
+use Rattle.disk_face.specs.Disk.{Rose}
+use Rattle.http_front.specs.declared.reply.Reply.{Reply}
 use Rattle.job_desk.specs.declared.job.Job.{Job as Held}
+use Rattle.kvp_front.specs.Requests.{Asks}
 use Rattle.plan_ir.specs.Planned.{planned}
 use Rattle.raster_store.specs.Views.{SnapshotView}
 use Rattle.raster_store.specs.Snapshots.{held_for}
 use Rattle.tile_exec.specs.Standing.{StandsFor, plan_of}
 use Rattle.coverage_server.specs.Asking.{cells_of, items_answer}
-use Rattle.coverage_server.specs.Damage.{IsIntactNamed, AreIntactHeld, AreHeldWhole}
+use Rattle.coverage_server.specs.Damage.{IsIntactNamed, AreIntactHeld, AreHeldWhole, Spoils}
 use Rattle.coverage_server.specs.Layouts.{layout_of}
-use Rattle.coverage_server.specs.Machine.{Job, State}
-use Rattle.coverage_server.specs.Runs.{Placed}
+use Rattle.coverage_server.specs.Machine.{Job, State, Fails, Refuses}
+use Rattle.coverage_server.specs.Runs.{Placed, ServesPlaced, LacksRoomAt}
 use Rattle.coverage_server.specs.Views.{SessionView}
 
 -- these are the cells, of what is held for a job, that the job reads
@@ -49,3 +52,18 @@ pub record Places (v : SessionView) (p : Placed) : Type 0 where
   pub intact : IsTrue v.coverages.honest → All (IsIntactNamed v.coverages) p.intact
   pub held : IsTrue v.coverages.honest → AreIntactHeld v.coverages.content v.coverages.held p.held
   pub blocks : IsTrue v.coverages.honest → AreHeldWhole v.coverages.content v.coverages.held
+
+-- Refinement: on an honest disk each state of the machine that the server represents, with its tiles where they lie, leads
+-- by a step to one that it then represents.
+abbrev pub Refines : (Placed → Placed → Type 0) → SessionView → SessionView → Type 0
+Refines step old new =
+    IsTrue old.coverages.honest → (p : Placed) → Places old p → (q : Placed) × Places new q × step p q
+
+-- A reply of the machine, or a failure: want of memory (90) at any time, a disk fault (91) where the disk's count of failures rose
+-- or stands at its last value, want of room (92) where the request asks for more blocks than are free, and damage (93) where a
+-- tile that is in the way of the request is not spelled.
+abbrev pub Steps : Asks → SessionView → SessionView → Placed → Reply → Placed → Type 0
+Steps asks old new p reply q =
+    ServesPlaced asks p reply q
+    ⊎ Fails (Rose old.coverages.failures new.coverages.failures) (LacksRoomAt asks p) p reply q
+    ⊎ (Spoils asks old.coverages p.state × Refuses 93 p reply q)

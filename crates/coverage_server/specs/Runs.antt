@@ -164,10 +164,12 @@ abbrev pub MessageStep : Type 0 → Placed → Result (List ℕ) ℕ → Reply �
 MessageStep failed old (Ok pairs) reply new = SpelledStep failed (spelled pairs) old reply new
 MessageStep failed old (Err code) reply new = Refuses code old reply new ⊎ Refuses 90 old reply new
 
--- The messages lead from one state to the other, and these bytes are their replies. Disk faults are among them only
--- where the disk may have failed, damage only where it may be in the way, and want of room only where it is wanting.
-abbrev pub Run : Type 0 → Placed → List Item → List ℕ → Placed → Type 0
-Run failed old [] bytes new = (bytes ≡ []) × (new ≡ old)
-Run failed old (item ∷ items) bytes new =
-    (mid : Placed) × (reply : Reply) × (later : List ℕ) × MessageStep failed old item.asked reply mid
-    × (bytes ≡ reply_bytes item.last item.bare reply ++ later) × Run failed mid items later new
+-- The messages lead from one state to the other, and these are the bytes of the reply to each. Disk faults are among them
+-- only where the disk may have failed, damage only where it may be in the way, and want of room only where it is wanting.
+abbrev pub Run : Type 0 → Placed → List Item → List (List ℕ) → Placed → Type 0
+Run failed old [] [] new = new ≡ old
+Run failed old (item ∷ items) (bytes ∷ replies) new =
+    (mid : Placed) × (reply : Reply) × MessageStep failed old item.asked reply mid
+    × (bytes ≡ reply_bytes item.last item.bare reply) × Run failed mid items replies new
+Run failed old [] (bytes ∷ replies) new = ⊥
+Run failed old (item ∷ items) [] new = ⊥

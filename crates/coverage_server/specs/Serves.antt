@@ -1,62 +1,73 @@
 -- What serving a connection does.
-use Rattle.std.specs.Prelude.{◌≡◌, ℕ, Bool, List, [], ◌∷◌, ◌++◌, Option, IfSome}
+use Rattle.std.specs.Prelude.{◌≡◌, ℕ, List, [], ◌∷◌, ◌++◌, Option, Result, IfSome}
+use Rattle.std.specs.List.{concat}
 use Rattle.std.specs.Io.KnownBytes.{Appends, Consumes}
+use Rattle.disk_face.specs.Disk.{Rose}
 use Rattle.stream_face.specs.Faults.{AppendsPrefix, fault_told}
-use Rattle.http_front.specs.Stream.{Item, at_end, at_fault, Messages, Begins}
-use Rattle.http_front.specs.Replies.{reply_bytes}
+use Rattle.stream_face.specs.Views.{SourceView, SinkView}
+use Rattle.http_front.specs.Stream.{Item, at_end, at_fault, Messages, Begins, Shows}
+use Rattle.http_front.specs.declared.conn.Next.{Next}
 use Rattle.http_front.specs.declared.reply.Reply.{Reply}
+use Rattle.coverage_server.specs.Represents.{Refines}
 use Rattle.coverage_server.specs.Runs.{Placed, MessageStep, Run}
+use Rattle.coverage_server.specs.Views.{SessionView}
 use Rattle.coverage_server.specs.declared.server.ConnEnd.{ConnEnd}
 use Rattle.coverage_server.specs.declared.server.ConnEnd.TheVariants.{Finished, ReadFault, WriteFault}
 
 -- What a reader and a writer tell before a connection and after it: the bytes that are still to come, those that went out,
 -- and whether a call on them has failed.
 pub record Ends : Type 0 where
-  pub before : Option (List ℕ)
-  pub after : Option (List ℕ)
-  pub read_failed : Option Bool
-  pub read_fails : Option Bool
-  pub held : Option (List ℕ)
-  pub holds : Option (List ℕ)
-  pub write_failed : Option Bool
-  pub write_fails : Option Bool
+  pub source : SourceView
+  pub source_after : SourceView
+  pub sink : SinkView
+  pub sink_after : SinkView
 
 -- what a reader and a writer tell before and after, by what their types tell
-abbrev pub ends_of : {R W : Type 0} → (R → Option (List ℕ)) → (R → Option Bool) → (W → Option (List ℕ)) → (W → Option Bool) → R → R → W → W → Ends
-ends_of remaining read_failed contents write_failed reader reader' writer writer' = record {
-  before = remaining reader;
-  after = remaining reader';
-  read_failed = read_failed reader;
-  read_fails = read_failed reader';
-  held = contents writer;
-  holds = contents writer';
-  write_failed = write_failed writer;
-  write_fails = write_failed writer';
-}
+abbrev pub ends_of : {R W : Type 0} → (R → SourceView) → (W → SinkView) → R → R → W → W → Ends
+ends_of source sink reader reader' writer writer' =
+    record { source = source reader; source_after = source reader'; sink = sink writer; sink_after = sink writer' }
 
 -- A connection ended by a fault of the reader or of the writer exactly where one came in it, and only that one did.
 abbrev pub TellsEnd : Ends → ConnEnd → Type 0
-TellsEnd e Finished = (e.read_fails ≡ e.read_failed) × (e.write_fails ≡ e.write_failed)
-TellsEnd e ReadFault = (e.read_fails ≡ fault_told e.read_failed) × (e.write_fails ≡ e.write_failed)
-TellsEnd e WriteFault = (e.read_fails ≡ e.read_failed) × (e.write_fails ≡ fault_told e.write_failed)
+TellsEnd e Finished = (e.source_after.failed ≡ e.source.failed) × (e.sink_after.failed ≡ e.sink.failed)
+TellsEnd e ReadFault = (e.source_after.failed ≡ fault_told e.source.failed) × (e.sink_after.failed ≡ e.sink.failed)
+TellsEnd e WriteFault = (e.source_after.failed ≡ e.source.failed) × (e.sink_after.failed ≡ fault_told e.sink.failed)
 
--- The replies of one run of the machine over the messages of a stream: of all of it, or of what had come before a read failed.
--- Where a write failed, the replies to the first messages went out, and a first part of the reply to the next one, which was
--- taken too. The reader has told all its bytes where `before` is known. Disk faults are told only where the disk may
--- have failed, damage only where it may be in the way.
-abbrev pub ServesConnection : Type 0 → Ends → Placed → Placed → ConnEnd → Type 0
-ServesConnection failed e old new Finished =
-    (bytes : List ℕ) × IfSome e.before (λ all. bytes ≡ all)
-    × (items : List Item) × Messages at_end 0 bytes items
-    × (replies : List ℕ) × Run failed old items replies new × Appends e.held e.holds replies
-ServesConnection failed e old new ReadFault =
-    (bytes : List ℕ) × Consumes e.before e.after bytes
-    × (items : List Item) × Messages at_fault 0 bytes items
-    × (replies : List ℕ) × Run failed old items replies new × Appends e.held e.holds replies
-ServesConnection failed e old new WriteFault =
-    (bytes : List ℕ) × IfSome e.before (λ all. bytes ≡ all)
-    × (items : List Item) × (item : Item) × Begins 0 bytes (items ++ item ∷ [])
-    × (replies : List ℕ) × (mid : Placed) × Run failed old items replies mid
-    × (sent : Option (List ℕ)) × Appends e.held sent replies
-    × (reply : Reply) × MessageStep failed mid item.asked reply new
-    × AppendsPrefix sent e.holds (reply_bytes item.last item.bare reply)
+-- Which messages of the reader's bytes were asked: all of the stream; those that had come whole before a read failed; the
+-- first ones, up to the one whose reply was not written. The reader has told all its bytes where these are known.
+abbrev pub AreAsked : Ends → ConnEnd → List ℕ → List Item → Type 0
+AreAsked e Finished bytes items = IfSome e.source.remaining (λ all. bytes ≡ all) × Messages at_end 0 bytes items
+AreAsked e ReadFault bytes items =
+    Consumes e.source.remaining e.source_after.remaining bytes × Messages at_fault 0 bytes items
+AreAsked e WriteFault bytes items = IfSome e.source.remaining (λ all. bytes ≡ all) × Begins 0 bytes items
+
+-- Which replies went out: all of them; where a write failed all but the last, and a first part of that one.
+abbrev pub AreSent : Ends → ConnEnd → List (List ℕ) → Type 0
+AreSent e Finished replies = Appends e.sink.contents e.sink_after.contents (concat replies)
+AreSent e ReadFault replies = Appends e.sink.contents e.sink_after.contents (concat replies)
+AreSent e WriteFault replies =
+    (whole : List (List ℕ)) × (last : List ℕ) × (replies ≡ whole ++ last ∷ [])
+    × (sent : Option (List ℕ)) × Appends e.sink.contents sent (concat whole)
+    × AppendsPrefix sent e.sink_after.contents last
+
+-- A connection that ended so: the bytes that were read, the messages in them, and the bytes of the reply to each. The
+-- replies are those of one run of the machine over the messages that were asked, and they went out. Disk faults are told
+-- only where the disk may have failed, damage only where it may be in the way.
+pub record ServesConnection (failed : Type 0) (e : Ends) (old new : Placed) (end : ConnEnd) : Type 0 where
+  pub bytes : List ℕ
+  pub items : List Item
+  pub replies : List (List ℕ)
+  pub asked : AreAsked e end bytes items
+  pub run : Run failed old items replies new
+  pub sent : AreSent e end replies
+
+-- serving a connection, which ended so, refines the machine's
+abbrev pub IsServed : Ends → ConnEnd → SessionView → SessionView → Type 0
+IsServed e end old new =
+    Refines (λ p q. ServesConnection (Rose old.coverages.failures new.coverages.failures) e p q end) old new
+
+-- the reply to what a connection shows refines the machine's step of the message that is asked
+abbrev pub IsReply : Next → SessionView → Reply → SessionView → Type 0
+IsReply next old reply new =
+    (asked : Result (List ℕ) ℕ) → Shows asked next
+    → Refines (λ p q. MessageStep (Rose old.coverages.failures new.coverages.failures) p asked reply q) old new

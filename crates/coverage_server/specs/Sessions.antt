@@ -1,5 +1,5 @@
 -- Sessions: a disk is opened, connections are served one after the other, and the disk is closed.
-use Rattle.std.specs.Prelude.{◌≡◌, ◌≢◌, ◌⊎◌, ℕ, ◌≤◌, Bool, IsTrue, List, [], ◌∷◌, All, Option}
+use Rattle.std.specs.Prelude.{◌≡◌, ◌≢◌, ◌⊎◌, ℕ, ◌≤◌, Bool, IsTrue, List, [], ◌∷◌, All, Result, Ok, Err, ⊤}
 use Rattle.arr_core.specs.Stores.{Store}
 use Rattle.block_file.specs.Format.{IsHeader, HeaderTorn, KeepsHeader}
 use Rattle.block_file.specs.declared.header.State.TheVariants.{Open}
@@ -9,22 +9,24 @@ use Rattle.coverage_server.specs.declared.opening.OpenFault.TheVariants as openi
 use Rattle.coverage_server.specs.declared.closing.CloseFault.{CloseFault}
 use Rattle.coverage_server.specs.declared.closing.CloseFault.TheVariants as closing
 use Rattle.coverage_server.specs.declared.server.ConnEnd.{ConnEnd}
+use Rattle.coverage_server.specs.declared.session.SessionFault.{SessionFault}
+use Rattle.coverage_server.specs.declared.session.SessionFault.TheVariants.{NotOpened, NotClosed}
+use Rattle.stream_face.specs.Views.{SourceView, SinkView}
 use Rattle.raster_store.specs.Views.{Index, AreIntact}
-use Rattle.coverage_server.specs.Damage.{IsIntactIn, KeepsSpelled}
-use Rattle.coverage_server.specs.Disk.{ListsStore, HoldsStore, IsWant, IsNoStore}
+use Rattle.coverage_server.specs.Damage.{IsIntactIn, IsIntactNamed, KeepsSpelled}
+use Rattle.coverage_server.specs.Disk.{DiskView, IsOpenFile, Lists, ListsStore, HoldsStore, IsWant, IsNoStore, disk_view}
 use Rattle.coverage_server.specs.Runs.{Placed, begun_with, jobless}
-use Rattle.coverage_server.specs.Represents.{Places}
+use Rattle.coverage_server.specs.Represents.{Places, Refines}
 use Rattle.coverage_server.specs.Serves.{Ends, ServesConnection, TellsEnd, ends_of}
 use Rattle.coverage_server.specs.Views.{ServerView, SessionView, IsSound, IsUnchanged, without_held, without_jobs}
 
--- what a disk tells: the bytes that it holds, whether it is honest, and how many of its calls have failed
-pub record DiskView : Type 0 where
-  pub content : List ℕ
-  pub honest : Bool
-  pub failures : ℕ
-
-abbrev pub disk_view : {D : Type 0} → (D → List ℕ) → (D → Bool) → (D → ℕ) → D → DiskView
-disk_view content honest failures disk = record { content = content disk; honest = honest disk; failures = failures disk }
+-- A server that was opened from an honest disk: it has the coverages that the disk lists, intact where they are, and its
+-- header tells an open file.
+pub record IsOpenedFrom (content : List ℕ) (v : ServerView) : Type 0 where
+  pub lists : Lists content v.store v.indexes
+  pub sound : AreIntact content v.store v.indexes → IsSound v
+  pub spelled : (name : List ℕ) → IsIntactIn content v.store v.indexes name → IsIntactNamed v name
+  pub header : IsOpenFile v.content
 
 -- What is left of a disk that was not opened, and why it was not. It is refused by the rules of opening, or for want of memory,
 -- or because a call failed. Where none did it is as it was; else the header block alone may have changed.
@@ -35,6 +37,22 @@ pub record IsNotOpened (fault : OpenFault) (old left : DiskView) : Type 0 where
   pub others : fault ≢ opening.DiskFault → (left.content ≡ old.content) × (left.failures ≡ old.failures)
   pub torn : IsTrue old.honest → HeaderTorn old.content left.content
   pub honest : left.honest ≡ old.honest
+
+-- so it is with a disk, by what its type tells
+abbrev pub LeavesUnopened : {D : Type 0} → (D → List ℕ) → (D → Bool) → (D → ℕ) → D → OpenFault → D → Type 0
+LeavesUnopened content honest failures disk fault left =
+    IsNotOpened fault (disk_view content honest failures disk) (disk_view content honest failures left)
+
+-- A disk to which a server was closed: it lists the server's coverages, intact where they were, and holds the store of a
+-- sound server.
+pub record IsClosedTo (server : ServerView) (disk : DiskView) : Type 0 where
+  pub lists : IsTrue server.honest → ListsStore disk.content server.store server.indexes
+  pub intact : IsSound server → AreIntact disk.content server.store server.indexes
+  pub spelled : IsTrue server.honest → (name : List ℕ) → IsIntactNamed server name
+      → IsIntactIn disk.content server.store server.indexes name
+  pub held : IsSound server → HoldsStore disk.content server.store
+  pub honest : disk.honest ≡ server.honest
+  pub no_fewer : server.failures ≤ disk.failures
 
 -- What is left of a server that was not closed, and why it was not: for want of memory, where the header still is the one that
 -- it was, or because a call of the disk failed. It has its store, and may be closed again.
@@ -63,12 +81,11 @@ IsLeft fault old left =
     ⊎ IsRefusedTwice fault old left
 
 -- what the reader and the writer of each connection told before the connections and after them
-abbrev pub ends_all : {R W : Type 0} → (R → Option (List ℕ)) → (R → Option Bool) → (W → Option (List ℕ)) → (W → Option Bool)
-    → List (R × W) → List (R × W) → List Ends
-ends_all remaining read_failed contents write_failed [] news = []
-ends_all remaining read_failed contents write_failed (old ∷ olds) [] = []
-ends_all remaining read_failed contents write_failed (old ∷ olds) (new ∷ news) =
-    ends_of remaining read_failed contents write_failed old.0 new.0 old.1 new.1 ∷ ends_all remaining read_failed contents write_failed olds news
+abbrev pub ends_all : {R W : Type 0} → (R → SourceView) → (W → SinkView) → List (R × W) → List (R × W) → List Ends
+ends_all source sink [] news = []
+ends_all source sink (old ∷ olds) [] = []
+ends_all source sink (old ∷ olds) (new ∷ news) =
+    ends_of source sink old.0 new.0 old.1 new.1 ∷ ends_all source sink olds news
 
 -- Connections one after the other: each is served from the state that the one before left, so that the replies of all are those of
 -- one run of the machine. Each has its end, by a fault exactly where one came.
@@ -77,6 +94,11 @@ ServesAll failed [] old new = new ≡ old
 ServesAll failed (e ∷ ends) old new =
     (mid : Placed) × (end : ConnEnd) × TellsEnd e end × ServesConnection failed e old mid end
     × ServesAll failed ends mid new
+
+-- serving connections one after the other refines the machine's
+abbrev pub AreServed : List Ends → SessionView → SessionView → Type 0
+AreServed ends old new =
+    Refines (λ p q. ServesAll (Rose old.coverages.failures new.coverages.failures) ends p q) old new
 
 -- A session that ended by a close: it began with the store that the disk listed, and with any coverages of it that were
 -- intact, and the disk lists the store that it left, whose coverages are intact that are told to be. Where each listed
@@ -102,6 +124,23 @@ pub record ServesUnclosed (fault : CloseFault) (ends : List Ends) (old : DiskVie
   pub no_memory : fault ≡ closing.NoMemory → IsTrue old.honest → (blocks : ℕ) × IsHeader server.coverages.content Open blocks 0 0
   pub honest : server.coverages.honest ≡ old.honest
   pub no_fewer : old.failures ≤ server.coverages.failures
+
+-- How a session on a disk ended: by a close; with the disk, where it was not opened; with the server, where it was not
+-- closed.
+abbrev pub IsSession : {D : Type 0} → (D → List ℕ) → (D → Bool) → (D → ℕ) → D → List Ends → Result D (SessionFault D)
+    → Type 0
+IsSession content honest failures disk ends (Ok after) =
+    ServesSession ends (disk_view content honest failures disk) (disk_view content honest failures after)
+IsSession content honest failures disk ends (Err (NotOpened left fault)) =
+    LeavesUnopened content honest failures disk fault left
+IsSession content honest failures disk ends (Err (NotClosed server fault)) =
+    ServesUnclosed fault ends (disk_view content honest failures disk) server
+
+-- the disk was not opened
+abbrev pub IsUnopened : {D : Type 0} → Result D (SessionFault D) → Type 0
+IsUnopened (Ok after) = ⊥
+IsUnopened (Err (NotOpened left fault)) = ⊤
+IsUnopened (Err (NotClosed server fault)) = ⊥
 
 -- sessions that were closed, one after the other on one disk: each is opened as the one before left it
 abbrev pub Sessions : List (List Ends) → DiskView → DiskView → Type 0

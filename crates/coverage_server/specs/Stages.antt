@@ -1,5 +1,5 @@
 -- What the steps from the text of a query to its answer give. Want of memory and faults of the disk say nothing of it.
-use Rattle.std.specs.Prelude.{◌≡◌, ℕ, ◌+◌, ◌*◌, ◌≤◌, ℤ, List, map, length, All, Result, Ok, Err, Vec, String, string_bytes, ⊤, IsTrue}
+use Rattle.std.specs.Prelude.{◌≡◌, ℕ, ◌≤◌, List, map, length, All, Result, Ok, Err, Vec, String, string_bytes, ⊤, IsTrue}
 use Rattle.std.specs.declared.alloc.Global.{Global}
 use Rattle.arr_core.specs.Stores.{Store}
 use Rattle.wcps_text.specs.declared.token.Token.{Token}
@@ -16,28 +16,21 @@ use Rattle.wcps_types.specs.declared.typed_query.TypedQuery.{TypedQuery}
 use Rattle.wcps_types.specs.Refusals.{number_of as type_number}
 use Rattle.wcps_types.specs.Typed.{TypedTree}
 use Rattle.wcps_types.specs.TypedQueries.{query_view as typed_view}
-use Rattle.wcps_types.specs.Work.{query_work}
 use Rattle.wcps_mean.specs.declared.cells.CellError.{CellError}
 use Rattle.wcps_mean.specs.declared.cells.CellError.TheVariants as cell
-use Rattle.wcps_mean.specs.Answer.{answer}
 use Rattle.job_desk.specs.declared.error.FetchError.{FetchError}
 use Rattle.job_desk.specs.declared.error.FetchError.TheVariants as fetching
 use Rattle.job_desk.specs.declared.error.StepError.{StepError}
 use Rattle.job_desk.specs.declared.error.StepError.TheVariants as stepping
 use Rattle.job_desk.specs.declared.error.SubmitError.{SubmitError}
 use Rattle.job_desk.specs.declared.error.SubmitError.TheVariants as submitting
-use Rattle.plan_ir.specs.Plans.{PlanTree}
-use Rattle.plan_ir.specs.Placed.{IsPlan}
-use Rattle.plan_ir.specs.Planned.{planned}
-use Rattle.plan_ir.specs.Units.{units}
-use Rattle.coverage_server.specs.Asking.{QueryAnswer, token_number, TokensTyped, TextTyped}
-use Rattle.coverage_server.specs.Tiles.{IsHeld}
+use Rattle.coverage_server.specs.Asking.{QueryAnswer, token_number, TokensTyped, TextTyped, evaluated}
 use Rattle.coverage_server.specs.declared.arguments.Refusal.{Refusal}
 use Rattle.coverage_server.specs.declared.arguments.Refusal.TheVariants.{Numbered, NoMemory, DiskFault, NoRoom, Damaged}
 use Rattle.disk_face.specs.Disk.{Rose}
 use Rattle.arr_core.specs.declared.signature.Signature.{Signature}
 use Rattle.coverage_server.specs.Damage.{AreSpelled}
-use Rattle.coverage_server.specs.Views.{ServerView}
+use Rattle.coverage_server.specs.Views.{IsHeld, ServerView}
 
 -- the tokens of a text, or what is wrong with it
 abbrev pub GivesTokens : List ℕ → Result (Vec Token Global) Refusal → Type 0
@@ -90,13 +83,9 @@ GivesValues answered (Err DiskFault) = ⊤
 GivesValues answered (Err NoRoom) = ⊤
 GivesValues answered (Err Damaged) = ⊤
 
--- the plan of a typed query reads the query's coverages, gives its answer over any cells, and has few units
-pub record IsPlanOf (q : TypedTree) (plan : PlanTree) : Type 0 where
-  pub placed : IsPlan plan
-  pub coverages : plan.coverages ≡ q.coverages
-  pub planned : (s : ℕ → ℕ → List ℤ → ℤ) → planned s plan ≡ answer s q
-  pub units : units plan ≤ length q.combinations * (2 + query_work q.combinations)
-  pub some : 1 ≤ length q.combinations
+-- what comes of a typed query where the disk is honest
+abbrev pub GivesAnswer : TypedTree → ServerView → Result (String Global) Refusal → Type 0
+GivesAnswer q v result = IsTrue v.honest → GivesValues (evaluated v.store (Ok q)) result
 
 -- A failure while a query is answered: a disk fault is told only where the disk's count of failures rose, damage only where a
 -- tile of a coverage that it reads is not spelled, and want of room never.

@@ -9,17 +9,14 @@ use Rattle.raster_store.specs.Fetches.{IsSpelledAt}
 use Rattle.raster_store.specs.Snapshots.{held_for}
 use Rattle.raster_store.specs.Views.{Index, SnapshotView}
 use Rattle.raster_store.specs.declared.reading.TileAt.{TileAt}
+use Rattle.tile_columns.specs.Sources.{SourceState}
 use Rattle.tile_store.specs.declared.fault.Fault.{Fault}
 use Rattle.tile_store.specs.declared.fault.Fault.TheVariants as device
 use Rattle.wcps_mean.specs.declared.cells.CellError.{CellError}
 use Rattle.wcps_mean.specs.declared.cells.CellError.TheVariants.{NoMemory, DiskFault, Damaged}
 use Rattle.coverage_server.specs.Asking.{cells_of, number_in}
 use Rattle.coverage_server.specs.Damage.{IsSpelledPlace}
-use Rattle.coverage_server.specs.Views.{ServerView}
-
--- the store has a coverage of this signature
-abbrev pub IsHeld : Store → Signature → Type 0
-IsHeld store s = IsSomeAnd (found s.name store) (λ c. signature_of c ≡ s)
+use Rattle.coverage_server.specs.Views.{ServerView, still_of}
 
 -- the coverages that are held, and where nothing is held others
 abbrev pub held_or : Option SnapshotView → Store → Store
@@ -84,6 +81,21 @@ pub record ReadsHonest (v : ServerView) (asked : List Signature) : Type 0 where
 pub record ReadsSpelled (v : ServerView) (job : ℕ) (places : List ℕ) : Type 0 where
   pub honest : IsTrue v.honest
   pub spelled : ArePlacesSpelled job places v
+
+-- what reading leaves as it is: of the coverages all but counts and caches, the number that reads, and the places
+abbrev pub AskedKept : Type 0
+AskedKept = ServerView × ℕ × List ℕ
+
+-- the coverages at places of what a number reads, as a source of tiles
+abbrev pub asked_state : ℕ → List ℕ → ServerView → SourceState AskedKept
+asked_state job places v = record {
+  coverages = signatures_at (store_for job v) places;
+  cells = cells_at (store_for job v) places;
+  fetched = v.fetched;
+  failures = v.failures;
+  intact = ReadsHonest v (signatures_at (store_for job v) places);
+  kept = (still_of v, job, places);
+}
 
 -- how a fault is told to a query; room is never wanting there
 abbrev pub TellsCells : Fault → CellError → Type 0

@@ -1,7 +1,7 @@
 -- A server as callers see it: its store, the disk below, and its jobs.
-use Rattle.std.specs.Prelude.{◌≡◌, ℕ, ◌+◌, ◌≤◌, Bool, IsTrue, List, [], map, length}
+use Rattle.std.specs.Prelude.{◌≡◌, ℕ, ◌+◌, ◌≤◌, Bool, IsTrue, IsSomeAnd, List, [], map, length}
 use Rattle.arr_core.specs.declared.signature.Signature.{Signature}
-use Rattle.arr_core.specs.Stores.{Store}
+use Rattle.arr_core.specs.Stores.{Store, found}
 use Rattle.block_file.specs.State.{BlocksState, free_up_to}
 use Rattle.catalogue.specs.Bytes.{catalogue_bytes}
 use Rattle.job_desk.specs.Desks.{DeskView}
@@ -31,6 +31,10 @@ session coverages desk = record { coverages = coverages; desk = desk }
 -- the signatures of a store
 abbrev pub signatures_of : Store → List Signature
 signatures_of store = map signature_of store
+
+-- the store has a coverage of this signature
+abbrev pub IsHeld : Store → Signature → Type 0
+IsHeld store s = IsSomeAnd (found s.name store) (λ c. signature_of c ≡ s)
 
 -- the disk is honest, and every listed tile spells its cells, of the store and of what is held
 pub record IsSound (v : ServerView) : Type 0 where

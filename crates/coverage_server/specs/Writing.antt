@@ -1,6 +1,7 @@
 -- When coverages are inserted and boxes written, and why not.
-use Rattle.std.specs.Prelude.{◌≡◌, ℕ, ◌⊎◌, IsTrue, List, length, All, Option, Some, None, slice_get, IsSomeAnd, ⊤}
+use Rattle.std.specs.Prelude.{◌≡◌, ℕ, ◌⊎◌, IsTrue, List, length, All, Option, Some, None, SomeIff, option_map, slice_get, IsSomeAnd, Vec, ⊤}
 use Rattle.std.specs.Borrow.{Bor}
+use Rattle.std.specs.declared.alloc.Global.{Global}
 use Rattle.arr_core.specs.declared.cell.FieldType.{FieldType}
 use Rattle.arr_core.specs.declared.domain.Axis.{Axis}
 use Rattle.arr_core.specs.declared.field.Field.{Field}
@@ -17,12 +18,22 @@ use Rattle.raster_store.specs.declared.fault.WriteFault.{WriteFault}
 use Rattle.raster_store.specs.declared.fault.WriteFault.TheVariants as writing
 use Rattle.raster_store.specs.Calls.{signature_of}
 use Rattle.kvp_front.specs.Contents.{Cells, fill, values}
+use Rattle.kvp_front.specs.declared.request.Interval.{Interval}
 use Rattle.coverage_server.specs.Damage.{SpoilsWrite}
+use Rattle.coverage_server.specs.Machine.{FitBounds, axes_of}
 use Rattle.coverage_server.specs.Layouts.{LaysBox, LaysNone, layout_of}
 use Rattle.coverage_server.specs.Room.{LacksRoomToInsert, LacksRoomToWrite, numbers_of}
 use Rattle.coverage_server.specs.Views.{ServerView, signatures_of}
 use Rattle.coverage_server.specs.declared.arguments.Refusal.{Refusal}
 use Rattle.coverage_server.specs.declared.arguments.Refusal.TheVariants.{Numbered, NoMemory, DiskFault, NoRoom, Damaged}
+
+-- the axes that intervals spell, or nothing where a bound does not fit 32 bits
+abbrev pub GivesAxes : List Interval → Option (Vec Axis Global) → Type 0
+GivesAxes intervals given = SomeIff (option_map (λ (v : Vec Axis Global). v.items) given) (All FitBounds intervals) (axes_of intervals)
+
+-- a refusal by this number, for this cause, or for memory
+abbrev pub IsRefusedFor : ℕ → Type 0 → Refusal → Type 0
+IsRefusedFor number cause e = ((e ≡ Numbered number) × cause) ⊎ (e ≡ NoMemory)
 
 -- how the refusals below are told
 abbrev pub device_refusal : Fault → Refusal

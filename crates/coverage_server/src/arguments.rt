@@ -1,8 +1,9 @@
 //! What the parts of a request stand for: domains and fields, or the refusal that they get.
-ghost use Rattle.std.specs.Prelude.{◌≡◌, ◌⊎◌, All, IfOk, IfErr, MatchOption, FitsSigned};
+ghost use Rattle.std.specs.Prelude.{◌≡◌, IfOk, IfErr, FitsSigned};
 ghost use Rattle.std.specs.Int.{w32};
 ghost use Rattle.std.specs.Option.{SomeIff};
 ghost use Rattle.coverage_server.specs.Machine.{FitBounds, SpellDomain, axis_of, axes_of};
+ghost use Rattle.coverage_server.specs.Writing.{GivesAxes, IsRefusedFor};
 
 use arr_core::{Axis, Domain, Field, Fields};
 use kvp_front::Interval;
@@ -57,7 +58,7 @@ fn bound(number: i64) -> Option<i32>
 
 /// The axis that an interval spells, or nothing where a bound does not fit 32 bits.
 fn axis_of(alloc: Global, interval: &Interval) -> Result<Option<Axis>, AllocError>
-    ensures { IfOk result (λ o. MatchOption o (¬ (FitBounds interval.now)) (λ a. FitBounds interval.now × (a ≡ axis_of interval.now))) }
+    ensures { IfOk result (λ o. SomeIff o (FitBounds interval.now) (axis_of interval.now)) }
 {
     match bound(interval.lo) {
         None => Ok(None),
@@ -73,7 +74,7 @@ fn axis_of(alloc: Global, interval: &Interval) -> Result<Option<Axis>, AllocErro
 
 /// The axes that intervals spell, or nothing where a bound does not fit 32 bits.
 fn axes_of(alloc: Global, intervals: &[Interval]) -> Result<Option<Vec<Axis>>, AllocError>
-    ensures { IfOk result (λ o. MatchOption o (¬ (All FitBounds intervals.now)) (λ v. All FitBounds intervals.now × (v.items ≡ axes_of intervals.now))) }
+    ensures { IfOk result (GivesAxes intervals.now) }
 {
     let mut axes = Vec::new(alloc);
     for interval in intervals {
@@ -88,7 +89,7 @@ fn axes_of(alloc: Global, intervals: &[Interval]) -> Result<Option<Vec<Axis>>, A
 /// The domain that intervals spell, or the refusal of intervals that spell none.
 pub fn domain_of(alloc: Global, intervals: &[Interval], refusal: u16) -> Result<Domain, Refusal>
     ensures ok { IfOk result (λ d. SpellDomain intervals.now × (d ≡ axes_of intervals.now)) }
-    ensures err { IfErr result (λ e. ((e ≡ Refusal.Numbered refusal) × (¬ (SpellDomain intervals.now))) ⊎ (e ≡ Refusal.NoMemory)) }
+    ensures err { IfErr result (IsRefusedFor refusal (¬ (SpellDomain intervals.now))) }
 {
     match axes_of(alloc, intervals)? {
         None => Err(Refusal::Numbered(refusal)),

@@ -1,7 +1,8 @@
 //! The coverages of a disk, and those of them that a query or a job reads. Their cells come a tile at a time.
 ghost use Rattle.std.specs.Prelude.{◌≡◌, All, IfOk, OnOk, OnErr};
 ghost use Rattle.tile_store.specs.declared.fault.Fault.TheVariants.{NoRoom};
-ghost use Rattle.coverage_server.specs.Tiles.{AreRead, IsHeld, TellsCells, store_for};
+ghost use Rattle.coverage_server.specs.Views.{IsHeld};
+ghost use Rattle.coverage_server.specs.Tiles.{AreRead, TellsCells, store_for};
 
 use crate::coverages::Coverages;
 use arr_core::{Name, Signature};
@@ -85,23 +86,11 @@ fn cell_error(fault: Fault) -> CellError
 }
 
 impl<D: Disk> Tiles for AskedCells<D> {
-    ghost use Rattle.std.specs.Prelude.{ℕ, List};
-    ghost use Rattle.coverage_server.specs.Tiles.{ReadsHonest, ReadsSpelled, cells_at, signatures_at, store_for};
-    ghost use Rattle.coverage_server.specs.Views.{ServerView, still_of};
+    ghost use Rattle.coverage_server.specs.Tiles.{AskedKept, ReadsSpelled, asked_state};
 
-    ghost coverages = { λ s. signatures_at (store_for s.job s.coverages) s.places.items };
+    ghost Kept = { AskedKept };
 
-    ghost cells = { λ s. cells_at (store_for s.job s.coverages) s.places.items };
-
-    ghost fetched = { λ s. s.coverages.fetched };
-
-    ghost failures = { λ s. s.coverages.failures };
-
-    ghost intact = { λ s. ReadsHonest s.coverages (signatures_at (store_for s.job s.coverages) s.places.items) };
-
-    ghost Kept = { ServerView × ℕ × List ℕ };
-
-    ghost kept = { λ s. (still_of s.coverages, s.job, s.places.items) };
+    ghost state = { λ s. asked_state s.job s.places.items s.coverages };
 
     ghost spelled = { λ k. ReadsSpelled k.0 k.1 k.2 };
 

@@ -1,12 +1,11 @@
 //! A server is closed: the metadata is written, then the header, and the disk comes out.
-ghost use Rattle.std.specs.Prelude.{◌≡◌, ◌++◌, ◌≤◌, ℕ, List, IsErrOf, IfOk, IfErr, IsTrue, OnOk};
+ghost use Rattle.std.specs.Prelude.{◌≡◌, ◌++◌, IsErrOf, IfOk, IfErr, IsTrue, OnOk};
 ghost use Rattle.block_file.specs.Format.{KeepsHeader};
 ghost use Rattle.disk_face.specs.Disk.{Tells};
-ghost use Rattle.raster_store.specs.Views.{AreIntact};
-ghost use Rattle.coverage_server.specs.Closing.{bytes_named, bytes_written, metadata_held, IsWritten};
-ghost use Rattle.coverage_server.specs.Damage.{IsIntactIn, IsIntactNamed, KeepsSpelled};
-ghost use Rattle.coverage_server.specs.Disk.{HoldsStore, ListsStore};
-ghost use Rattle.coverage_server.specs.Sessions.{IsNotClosed, IsLeft};
+ghost use Rattle.coverage_server.specs.Closing.{bytes_written, indexes_held, WritesHeld};
+ghost use Rattle.coverage_server.specs.Damage.{KeepsSpelled};
+ghost use Rattle.coverage_server.specs.Disk.{disk_view};
+ghost use Rattle.coverage_server.specs.Sessions.{IsClosedTo, IsNotClosed, IsLeft};
 ghost use Rattle.coverage_server.specs.Views.{IsSound, IsUnchanged, without_jobs};
 
 use crate::cells::AskedCells;
@@ -65,8 +64,7 @@ fn push_indexes<D: Disk>(
     name: &Name,
     bytes: &mut Vec<u8>,
 ) -> Result<(), AllocError>
-    ensures { OnOk result
-        (bytes.new.items ≡ bytes.old.items ++ bytes_named name.now coverages.now.store coverages.now.indexes) }
+    ensures { OnOk result (bytes.new.items ≡ bytes.old.items ++ indexes_held name.now coverages.now) }
 {
     let Some(signature) = coverages.signature(name) else {
         return Ok(());
@@ -93,8 +91,7 @@ fn metadata_of<D: Disk>(alloc: Global, coverages: &Coverages<D>) -> Result<Vec<u
 
 /// Writes the metadata, and then the header of a closed file.
 fn write_closed<D: Disk>(alloc: Global, coverages: &mut Coverages<D>) -> Result<(), CloseFault>
-    ensures written { OnOk result (IsTrue coverages.old.honest
-        → IsWritten coverages.new.content (metadata_held coverages.old) coverages.new.indexes) }
+    ensures written { OnOk result (WritesHeld coverages.old coverages.new) }
     ensures unchanged { IsUnchanged coverages.old coverages.new }
     ensures sound { IsSound coverages.old → IsSound coverages.new }
     ensures spelled { IsTrue coverages.old.honest → KeepsSpelled coverages.old coverages.new }
@@ -110,16 +107,7 @@ impl<D: Disk> Server<D> {
     /// Writes the metadata into free blocks, and then the header of a closed file, so that the disk holds the store,
     /// and gives the disk. Refused for memory, or where the disk has counted a failure, with the server.
     pub fn close(self) -> Result<D, NotClosed<D>>
-        ensures lists { IfOk result (λ disk. IsTrue self.coverages.honest
-            → ListsStore (D.content disk) self.coverages.store self.coverages.indexes) }
-        ensures intact { IfOk result (λ disk. IsSound self.coverages
-            → AreIntact (D.content disk) self.coverages.store self.coverages.indexes) }
-        ensures spelled { IfOk result (λ disk. IsTrue self.coverages.honest → (name : List ℕ)
-            → IsIntactNamed self.coverages name
-            → IsIntactIn (D.content disk) self.coverages.store self.coverages.indexes name) }
-        ensures held { IfOk result (λ disk. IsSound self.coverages → HoldsStore (D.content disk) self.coverages.store) }
-        ensures honest { IfOk result (λ disk. D.honest disk ≡ self.coverages.honest) }
-        ensures closed_no_fewer { IfOk result (λ disk. self.coverages.failures ≤ D.failures disk) }
+        ensures closed { IfOk result (λ disk. IsClosedTo self.coverages (disk_view D.content D.honest D.failures disk)) }
         ensures refused { IfErr result (λ refused. IsNotClosed refused.fault self.coverages refused.server.coverages) }
         ensures desk { IfErr result (λ refused. refused.server.desk ≡ self.desk) }
     {
@@ -154,16 +142,7 @@ impl<D: Disk> Server<D> {
     /// Closes as `close` does. Where memory was wanting it lets go what `let_go` does, and closes once more; where that
     /// is refused too, its fault is the one that is told.
     pub fn close_with_retry(self) -> Result<D, NotClosed<D>>
-        ensures lists { IfOk result (λ disk. IsTrue self.coverages.honest
-            → ListsStore (D.content disk) self.coverages.store self.coverages.indexes) }
-        ensures intact { IfOk result (λ disk. IsSound self.coverages
-            → AreIntact (D.content disk) self.coverages.store self.coverages.indexes) }
-        ensures spelled { IfOk result (λ disk. IsTrue self.coverages.honest → (name : List ℕ)
-            → IsIntactNamed self.coverages name
-            → IsIntactIn (D.content disk) self.coverages.store self.coverages.indexes name) }
-        ensures held { IfOk result (λ disk. IsSound self.coverages → HoldsStore (D.content disk) self.coverages.store) }
-        ensures honest { IfOk result (λ disk. D.honest disk ≡ self.coverages.honest) }
-        ensures closed_no_fewer { IfOk result (λ disk. self.coverages.failures ≤ D.failures disk) }
+        ensures closed { IfOk result (λ disk. IsClosedTo self.coverages (disk_view D.content D.honest D.failures disk)) }
         ensures left { IfErr result (λ refused. IsLeft refused.fault self refused.server) }
     {
         match self.close() {

@@ -1,27 +1,26 @@
 //! The coverages of a disk: their catalogue, and their cells in tiles.
-ghost use Rattle.std.specs.Prelude.{◌≡◌, ◌<◌, ◌≤◌, ℕ, None, length, IfOk, IfErr, IfSome, IfNone, OnOk, OnErr};
+ghost use Rattle.std.specs.Prelude.{◌≡◌, ◌≤◌, None, length, IfOk, IfErr, IfSome, IfNone, OnOk, OnErr};
 ghost use Rattle.std.specs.Prelude.{IsErr, IsErrOf, IsTrue, option_map, slice_get};
 ghost use Rattle.arr_core.specs.Stores.{deleted, found};
-ghost use Rattle.block_file.specs.State.{block_at};
 ghost use Rattle.block_file.specs.Format.{HeaderTorn, KeepsHeader};
 ghost use Rattle.catalogue.specs.Bytes.{catalogue_bytes};
 ghost use Rattle.metadata.specs.Metadata.{part_bytes};
 ghost use Rattle.catalogue.specs.Signatures.{IsCatalogue};
 ghost use Rattle.tile_store.specs.Faults.{Refuses};
 ghost use Rattle.raster_store.specs.Calls.{AreWhole, HasField, IsIndexOf, indexes_without};
-ghost use Rattle.raster_store.specs.Views.{AreIntact, Fetched, SnapshotView, listed_all};
+ghost use Rattle.raster_store.specs.Views.{Fetched, SnapshotView};
 ghost use Rattle.raster_store.specs.Fetches.{IsPlaceOf, HasTile, HasTileCount, AreTileCells};
 ghost use Rattle.raster_store.specs.Snapshots.{held_for};
-ghost use Rattle.coverage_server.specs.Damage.{KeepsSpelled};
+ghost use Rattle.coverage_server.specs.Damage.{AreListedWhole, KeepsSpelled};
 ghost use Rattle.coverage_server.specs.Holding.{MayHold, HoldsFor, ReleasesFor};
+ghost use Rattle.coverage_server.specs.Leaving.{Continues, KeepsDisk};
 ghost use Rattle.coverage_server.specs.Tiles.{IsSpelledFor, store_for};
 ghost use Rattle.disk_face.specs.Disk.{Tells};
 ghost use Rattle.kvp_front.specs.Contents.{content_view};
-ghost use Rattle.coverage_server.specs.Closing.{bytes_written, metadata_held, ClosesFile, IsWritten, TellsClose};
+ghost use Rattle.coverage_server.specs.Closing.{bytes_written, ClosesFile, HoldsClosed, TellsClose, WritesHeld};
 ghost use Rattle.tile_store.specs.declared.fault.Fault.TheVariants as device;
 ghost use Rattle.kvp_front.specs.Contents as contents;
-ghost use Rattle.coverage_server.specs.Disk.{HoldsStore, ListsStore};
-ghost use Rattle.coverage_server.specs.Opening.{IsOpenFile};
+ghost use Rattle.coverage_server.specs.Disk.{IsOpenFile};
 ghost use Rattle.coverage_server.specs.Views.{IsSound, IsUnchanged, KeepsHeld, signatures_of, still_of, without_held};
 ghost use Rattle.coverage_server.specs.Writing.{device_refusal, write_refusal, insert_refusal, FindsCoverage};
 ghost use Rattle.coverage_server.specs.Writing.{InsertsCoverage, InsertRefused, WritesCells, WriteRefused};
@@ -148,8 +147,7 @@ impl<D: Disk> Coverages<D> {
         ensures len { result ≡ length self.now.store }
         ensures catalogue { IsCatalogue (signatures_of self.now.store) }
         ensures whole { AreWhole self.now.store self.now.indexes }
-        ensures in_use { IsTrue self.now.honest → (k : ℕ) → 0 < listed_all self.now.indexes k
-            → length (block_at self.now.content k) ≡ 4096 }
+        ensures in_use { IsTrue self.now.honest → AreListedWhole self.now.content self.now.indexes }
     {
         let _listed = self.cells.len();
         self.catalogue.len()
@@ -176,18 +174,13 @@ impl<D: Disk> Coverages<D> {
         ensures inserted { OnOk result (InsertsCoverage signature self.old self.new) }
         ensures refused { IfErr result (λ e. InsertRefused self.old signature e) }
         ensures unchanged { OnErr result (IsUnchanged self.old self.new) }
-        ensures sound { IsSound self.old → IsSound self.new }
-        ensures content { self.new.content ≡ self.old.content }
-        ensures honest { self.new.honest ≡ self.old.honest }
-        ensures failures { self.new.failures ≡ self.old.failures }
-        ensures held { self.new.held ≡ self.old.held }
-        ensures fetched { self.new.fetched ≡ self.old.fetched }
+        ensures keeps { KeepsDisk self.old self.new }
     {
         if let Err(error) = self.catalogue.check(&signature) {
             return Err(insert_refusal(error));
         }
         let bytes = self.catalogue.bytes_len_with(&signature);
-        let listed = copy(alloc, &signature)?;
+        let listed = signature.copy(alloc)?;
         if let Err(error) = self.catalogue.insert(listed) {
             return Err(insert_refusal(error));
         }
@@ -204,12 +197,7 @@ impl<D: Disk> Coverages<D> {
     pub fn remove(&mut self, name: &Name)
         ensures removed { self.new.store ≡ deleted name.now self.old.store }
         ensures indexes { self.new.indexes ≡ indexes_without name.now self.old.store self.old.indexes }
-        ensures sound { IsSound self.old → IsSound self.new }
-        ensures content { self.new.content ≡ self.old.content }
-        ensures honest { self.new.honest ≡ self.old.honest }
-        ensures failures { self.new.failures ≡ self.old.failures }
-        ensures held { self.new.held ≡ self.old.held }
-        ensures fetched { self.new.fetched ≡ self.old.fetched }
+        ensures keeps { KeepsDisk self.old self.new }
     {
         let _removed = self.catalogue.remove(name);
         self.cells.remove(name);
@@ -230,10 +218,8 @@ impl<D: Disk> Coverages<D> {
         ensures refused { IfErr result (WriteRefused name.now field area.now (content_view content.now) self.old) }
         ensures told { Tells (IsErrOf result Refusal.DiskFault) self.old.failures self.new.failures }
         ensures unchanged { OnErr result (IsUnchanged self.old self.new) }
-        ensures sound { IsSound self.old → IsSound self.new }
+        ensures continues { Continues self.old self.new }
         ensures spelled { IsTrue self.old.honest → KeepsSpelled self.old self.new }
-        ensures header { KeepsHeader self.old.content self.new.content }
-        ensures honest { self.new.honest ≡ self.old.honest }
         ensures held { KeepsHeld self.old self.new }
         ensures fetched { self.new.fetched ≡ self.old.fetched }
     {
@@ -250,10 +236,8 @@ impl<D: Disk> Coverages<D> {
         ensures refused { IfErr result (WriteRefused name.now field area.now (contents.fill cell) self.old) }
         ensures told { Tells (IsErrOf result Refusal.DiskFault) self.old.failures self.new.failures }
         ensures unchanged { OnErr result (IsUnchanged self.old self.new) }
-        ensures sound { IsSound self.old → IsSound self.new }
+        ensures continues { Continues self.old self.new }
         ensures spelled { IsTrue self.old.honest → KeepsSpelled self.old self.new }
-        ensures header { KeepsHeader self.old.content self.new.content }
-        ensures honest { self.new.honest ≡ self.old.honest }
         ensures held { KeepsHeld self.old self.new }
         ensures fetched { self.new.fetched ≡ self.old.fetched }
     {
@@ -278,10 +262,8 @@ impl<D: Disk> Coverages<D> {
         ensures refused { IfErr result (WriteRefused name.now field area.now (contents.values cells.now) self.old) }
         ensures told { Tells (IsErrOf result Refusal.DiskFault) self.old.failures self.new.failures }
         ensures unchanged { OnErr result (IsUnchanged self.old self.new) }
-        ensures sound { IsSound self.old → IsSound self.new }
+        ensures continues { Continues self.old self.new }
         ensures spelled { IsTrue self.old.honest → KeepsSpelled self.old self.new }
-        ensures header { KeepsHeader self.old.content self.new.content }
-        ensures honest { self.new.honest ≡ self.old.honest }
         ensures held { KeepsHeld self.old self.new }
         ensures fetched { self.new.fetched ≡ self.old.fetched }
     {
@@ -379,8 +361,7 @@ impl<D: Disk> Coverages<D> {
     /// where the disk has counted a failure.
     pub fn write_metadata(&mut self, metadata: &[u8]) -> Result<(), CloseFault>
         requires { metadata.now ≡ bytes_written self.old.store self.old.indexes }
-        ensures written { OnOk result (IsTrue self.old.honest
-            → IsWritten self.new.content (metadata_held self.old) self.new.indexes) }
+        ensures written { OnOk result (WritesHeld self.old self.new) }
         ensures unchanged { IsUnchanged self.old self.new }
         ensures sound { IsSound self.old → IsSound self.new }
         ensures spelled { IsTrue self.old.honest → KeepsSpelled self.old self.new }
@@ -432,11 +413,7 @@ impl<D: Disk> Coverages<D> {
 
     /// The disk below. Once a closing has been written it holds the store.
     pub fn into_disk(self) -> D
-        ensures lists { IsWritten (D.content result) (metadata_held self) self.indexes → IsTrue self.honest
-            → ListsStore (D.content result) self.store self.indexes }
-        ensures held { IsWritten (D.content result) (metadata_held self) self.indexes → IsSound self
-            → HoldsStore (D.content result) self.store }
-        ensures intact { IsSound self → AreIntact (D.content result) self.store self.indexes }
+        ensures closed { HoldsClosed self (D.content result) }
         ensures content { D.content result ≡ self.content }
         ensures honest { D.honest result ≡ self.honest }
         ensures failures { D.failures result ≡ self.failures }
@@ -445,18 +422,4 @@ impl<D: Disk> Coverages<D> {
         let _catalogue = catalogue.len();
         cells.into_blocks().into_file().into_disk()
     }
-}
-
-/// The same signature again.
-pub fn copy(alloc: Global, signature: &Signature) -> Result<Signature, AllocError>
-    ensures { IfOk result (λ s. s ≡ signature.now) }
-{
-    let name = signature.name.copy(alloc)?;
-    let domain = signature.domain.copy(alloc)?;
-    let fields = signature.fields.copy(alloc)?;
-    Ok(Signature {
-        name,
-        domain,
-        fields,
-    })
 }

@@ -1,24 +1,11 @@
 //! What is told of a coverage.
 ghost use Rattle.std.specs.Prelude.{◌≡◌, ◌++◌, string_bytes, IfOk, OnOk};
 ghost use Rattle.std.specs.List.{flat_map};
-ghost use Rattle.coverage_server.specs.Describing.{kind_text, axis_line, field_line, description};
+ghost use Rattle.coverage_server.specs.Describing.{axis_line, field_line, description};
 
-use arr_core::{Axis, Field, FieldType, Signature};
+use arr_core::{Axis, Field, Signature};
 use std::alloc::{AllocError, Global};
 use std::fmt::Write;
-
-/// The type of a field, as a request spells it.
-fn kind_text(kind: FieldType) -> &'static str
-    ensures { result.now ≡ kind_text kind }
-{
-    match kind {
-        FieldType::Bool => "bool",
-        FieldType::U8 => "u8",
-        FieldType::I16 => "i16",
-        FieldType::I32 => "i32",
-        FieldType::I64 => "i64",
-    }
-}
 
 /// Adds the line of an axis, as `axis x 0 99`.
 fn push_axis(text: &mut String, axis: &Axis) -> Result<(), AllocError>
@@ -33,7 +20,7 @@ fn push_field(text: &mut String, field: &Field) -> Result<(), AllocError>
     ensures { OnOk result (string_bytes text.new ≡ string_bytes text.old ++ field_line field.now) }
 {
     let name = field.name.as_str();
-    let kind = kind_text(field.kind);
+    let kind = field.kind.name();
     writeln!(text, "field {name} {kind}")
 }
 

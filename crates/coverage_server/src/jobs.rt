@@ -1,18 +1,16 @@
 //! Jobs: queries that are submitted, done a few units at a time, and fetched.
-ghost use Rattle.std.specs.Prelude.{◌≡◌, ◌⊎◌, ◌+◌, ◌≤◌, ℕ, All, List, [], ◌++◌, codes, decimal, length};
+ghost use Rattle.std.specs.Prelude.{◌≡◌, ◌+◌, ◌≤◌, All, List, [], ◌++◌, codes, decimal, length};
 ghost use Rattle.std.specs.Prelude.{string_bytes, string_len, string_capacity, IfOk, IfErr, OnOk, OnErr};
 ghost use Rattle.raster_store.specs.Views.{SnapshotView};
-ghost use Rattle.coverage_server.specs.Answered.{AnsweredIn, IsAnswer, Never};
-ghost use Rattle.coverage_server.specs.Damage.{SpoilsJob};
-ghost use Rattle.coverage_server.specs.Layouts.{LaysHeld, LetsGo, layout_of};
-ghost use Rattle.coverage_server.specs.Machine.{Submits, StepsJob, Fetches, Cancels};
-ghost use Rattle.coverage_server.specs.Stages.{IsTypedText, submit_refusal, step_refusal, fetch_refusal};
-ghost use Rattle.coverage_server.specs.Fetching.{FetchesNone, FetchesUnits, UnlessFails};
+ghost use Rattle.coverage_server.specs.Answered.{AnswersJob, AnswersTree, LaysTree, IsAnswer};
+ghost use Rattle.coverage_server.specs.Layouts.{LaysQuery, LetsGo, layout_of};
+ghost use Rattle.coverage_server.specs.Stages.{submit_refusal, step_refusal, fetch_refusal};
+ghost use Rattle.coverage_server.specs.Fetching.{FetchesForJob};
 ghost use Rattle.coverage_server.specs.Holding.{IsHolding};
-ghost use Rattle.coverage_server.specs.Leaving.{LeavesJob, LeavesFetched, refusal_number};
-ghost use Rattle.coverage_server.specs.Tiles.{IsHeld};
-ghost use Rattle.coverage_server.specs.Views.{ServerView, IsSound, session, still_of, without_held};
-ghost use Rattle.wcps_types.specs.TypedQueries.{query_view as typed_view};
+ghost use Rattle.coverage_server.specs.Leaving.{ChangesHeld, LeavesJob, LeavesFetched, ReadsHeld, refusal_number};
+ghost use Rattle.coverage_server.specs.Views.{IsHeld, ServerView, still_of};
+ghost use Rattle.kvp_front.specs.Requests.{submit_query, step_job, fetch_job, cancel_job};
+ghost use Rattle.wcps_types.specs.TypedQueries.{query_view as tree_of};
 
 use crate::arguments::Refusal;
 use crate::cells::AskedCells;
@@ -90,20 +88,15 @@ fn submit_typed<D: Disk>(
     desk: &mut JobDesk,
     typed: &TypedQuery,
 ) -> Result<Reply, Refusal>
-    requires some { 1 ≤ length (typed_view typed.now).combinations }
-    requires held { All (IsHeld cells.old.coverages.store) (typed_view typed.now).coverages }
+    requires some { 1 ≤ length (tree_of typed.now).combinations }
+    requires held { All (IsHeld cells.old.coverages.store) (tree_of typed.now).coverages }
     requires holding { IsHolding desk.old cells.old.coverages.held }
-    ensures answered { (text : List ℕ) → IsTypedText cells.old.coverages.store text (typed_view typed.now)
-        → AnsweredIn (Submits text) ⊥ Never
-        (session cells.old.coverages desk.old) (session cells.new.coverages desk.new) result }
-    ensures lays { OnOk result ((text : List ℕ)
-        → IsTypedText cells.old.coverages.store text (typed_view typed.now)
-        → LaysHeld text cells.old.coverages.store desk.old.next (layout_of cells.old.coverages)
-        (layout_of cells.new.coverages)) }
+    ensures answered { AnswersTree (tree_of typed.now)
+        cells.old.coverages desk.old cells.new.coverages desk.new result }
+    ensures lays { OnOk result (LaysTree (tree_of typed.now) cells.old.coverages desk.old.next cells.new.coverages) }
     ensures answer { IfOk result IsAnswer }
     ensures holding { IsHolding desk.new cells.new.coverages.held }
-    ensures others { without_held cells.new.coverages ≡ without_held cells.old.coverages }
-    ensures sound { IsSound cells.old.coverages → IsSound cells.new.coverages }
+    ensures changes { ChangesHeld cells.old.coverages cells.new.coverages }
     ensures refused { OnErr result (cells.new.coverages ≡ cells.old.coverages) }
     ensures desk { OnErr result (desk.new ≡ desk.old) }
 {
@@ -129,14 +122,12 @@ pub fn submit_query<D: Disk>(
     text: &str,
 ) -> Result<Reply, Refusal>
     requires holding { IsHolding desk.old cells.old.coverages.held }
-    ensures answered { AnsweredIn (Submits text.now) ⊥ Never
-        (session cells.old.coverages desk.old) (session cells.new.coverages desk.new) result }
-    ensures lays { OnOk result (LaysHeld text.now cells.old.coverages.store desk.old.next
-        (layout_of cells.old.coverages) (layout_of cells.new.coverages)) }
+    ensures answered { AnswersJob (submit_query text.now)
+        cells.old.coverages desk.old cells.new.coverages desk.new result }
+    ensures lays { OnOk result (LaysQuery text.now cells.old.coverages desk.old.next cells.new.coverages) }
     ensures answer { IfOk result IsAnswer }
     ensures holding { IsHolding desk.new cells.new.coverages.held }
-    ensures others { without_held cells.new.coverages ≡ without_held cells.old.coverages }
-    ensures sound { IsSound cells.old.coverages → IsSound cells.new.coverages }
+    ensures changes { ChangesHeld cells.old.coverages cells.new.coverages }
     ensures refused { OnErr result (cells.new.coverages ≡ cells.old.coverages) }
     ensures desk { OnErr result (desk.new ≡ desk.old) }
 {
@@ -153,18 +144,15 @@ pub fn step_job<D: Disk>(
     units: u64,
 ) -> Result<Reply, Refusal>
     requires holding { IsHolding desk.old cells.old.coverages.held }
-    ensures answered { AnsweredIn (StepsJob number units) ⊥ (SpoilsJob number cells.old.coverages)
-        (session cells.old.coverages desk.old) (session cells.new.coverages desk.new) result }
+    ensures answered { AnswersJob (step_job number units)
+        cells.old.coverages desk.old cells.new.coverages desk.new result }
     ensures lays { OnOk result (LetsGo number (layout_of cells.old.coverages) (layout_of cells.new.coverages)) }
     ensures answer { IfOk result IsAnswer }
     ensures holding { IsHolding desk.new cells.new.coverages.held }
-    ensures others { still_of (without_held cells.new.coverages) ≡ still_of (without_held cells.old.coverages) }
-    ensures sound { IsSound cells.old.coverages → IsSound cells.new.coverages }
+    ensures reads { ReadsHeld cells.old.coverages cells.new.coverages }
     ensures refused { OnErr result (still_of cells.new.coverages ≡ still_of cells.old.coverages) }
-    ensures no_fewer { cells.old.coverages.failures ≤ cells.new.coverages.failures }
-    ensures jobs { OnErr result (LeavesJob number desk.old desk.new)
-        × UnlessFails result (FetchesNone cells.old.coverages cells.new.coverages
-        ⊎ FetchesUnits number (session cells.old.coverages desk.old) (session cells.new.coverages desk.new)) }
+    ensures jobs { OnErr result (LeavesJob number desk.old desk.new) }
+    ensures fetches { FetchesForJob number cells.old.coverages desk.old cells.new.coverages desk.new result }
 {
     let Some(left) = desk.left(number) else {
         return Err(Refusal::Numbered(refusals::NO_SUCH_JOB));
@@ -185,8 +173,7 @@ pub fn step_job<D: Disk>(
 
 /// The answer of a job that has no units left, which is dropped.
 pub fn fetch_job(desk: &mut JobDesk, number: u64) -> Result<Reply, Refusal>
-    ensures answered { (v : ServerView)
-        → AnsweredIn (Fetches number) ⊥ Never (session v desk.old) (session v desk.new) result }
+    ensures answered { (v : ServerView) → AnswersJob (fetch_job number) v desk.old v desk.new result }
     ensures answer { IfOk result IsAnswer }
     ensures holding { (held : List SnapshotView) → IsHolding desk.old held → IsHolding desk.new held }
     ensures jobs { IfErr result (λ e. LeavesFetched number (refusal_number e) desk.old desk.new) }
@@ -208,13 +195,12 @@ pub fn cancel_job<D: Disk>(
     number: u64,
 ) -> Result<Reply, Refusal>
     requires holding { IsHolding desk.old cells.old.coverages.held }
-    ensures answered { AnsweredIn (Cancels number) ⊥ Never
-        (session cells.old.coverages desk.old) (session cells.new.coverages desk.new) result }
+    ensures answered { AnswersJob (cancel_job number)
+        cells.old.coverages desk.old cells.new.coverages desk.new result }
     ensures lays { OnOk result (LetsGo number (layout_of cells.old.coverages) (layout_of cells.new.coverages)) }
     ensures answer { IfOk result IsAnswer }
     ensures holding { IsHolding desk.new cells.new.coverages.held }
-    ensures others { without_held cells.new.coverages ≡ without_held cells.old.coverages }
-    ensures sound { IsSound cells.old.coverages → IsSound cells.new.coverages }
+    ensures changes { ChangesHeld cells.old.coverages cells.new.coverages }
     ensures refused { OnErr result (cells.new.coverages ≡ cells.old.coverages) }
     ensures desk { OnErr result (desk.new ≡ desk.old) }
 {

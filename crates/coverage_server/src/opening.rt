@@ -1,20 +1,17 @@
 //! A disk is opened: its metadata is read, its blocks are claimed, its coverages attached, and then its header tells
 //! that it is open.
-ghost use Rattle.std.specs.Prelude.{◌≡◌, ◌+◌, ◌++◌, ◌∷◌, [], ℕ, List, IsTrue, IfOk, IfErr, OnOk};
-ghost use Rattle.arr_core.specs.Stores.{Store};
+ghost use Rattle.std.specs.Prelude.{◌≡◌, ◌+◌, [], ℕ, IsTrue, IfOk, IfErr, OnOk};
 ghost use Rattle.block_file.specs.State.{times};
 ghost use Rattle.block_file.specs.Uses.{IsFresh};
 ghost use Rattle.block_file.specs.View.{IsOpened, IsOfVersion};
 ghost use Rattle.metadata.specs.Metadata.{AreCounted};
-ghost use Rattle.raster_store.specs.Calls.{MayAttach};
-ghost use Rattle.raster_store.specs.Views.{Index, AreIntact, coverages_in, listed_all, listed_fields};
-ghost use Rattle.coverage_server.specs.Damage.{IsIntactIn, IsIntactNamed};
-ghost use Rattle.coverage_server.specs.Disk.{AreTiles, ListsStore};
-ghost use Rattle.coverage_server.specs.Opening.{items_of, IsListed, IsUnread, ClaimsListed, CannotClaim, ClaimsLayout};
-ghost use Rattle.coverage_server.specs.Opening.{Lists, Departs, IsNoLayout, IsOpenFile, TellsAttach, chain_fault};
+ghost use Rattle.raster_store.specs.Views.{listed_all, listed_fields};
+ghost use Rattle.coverage_server.specs.Disk.{AreTiles, disk_view};
+ghost use Rattle.coverage_server.specs.Opening.{items_of, IsListed, IsUnread, ClaimsListed, CannotClaim, ClaimsRead};
+ghost use Rattle.coverage_server.specs.Opening.{Attaches, MayAttachAll, ListsFile, ShowsFile, GivesBack};
+ghost use Rattle.coverage_server.specs.Opening.{Departs, IsNoLayout, TellsAttach, chain_fault};
 ghost use Rattle.tile_store.specs.declared.fault.Fault.TheVariants as device;
-ghost use Rattle.coverage_server.specs.Sessions.{IsNotOpened, disk_view};
-ghost use Rattle.coverage_server.specs.Views.{IsSound};
+ghost use Rattle.coverage_server.specs.Sessions.{IsOpenedFrom, LeavesUnopened};
 
 use crate::cells::AskedCells;
 use crate::coverages::Coverages;
@@ -154,8 +151,7 @@ fn claim_layout<D: Disk>(
     requires opened { IsTrue file.old.honest → IsOpened file.old.content metadata.now file.old.marks }
     requires version { IsTrue file.old.honest → IsOfVersion version file.old.content }
     requires fresh { IsFresh file.old.marks }
-    ensures claims { IfOk result (λ m.
-        ClaimsLayout version metadata.now m.catalogue (items_of m.indexes.items) file.old.marks file.new.marks) }
+    ensures claims { IfOk result (ClaimsRead version metadata.now file.old.marks file.new.marks) }
     ensures refused { IfErr result (IsNoLayout file.old) }
     ensures content { file.new.content ≡ file.old.content }
     ensures failures { file.new.failures ≡ file.old.failures }
@@ -196,12 +192,9 @@ fn attach_all<B: Blocks>(
     requires indexes { cells.old.indexes ≡ [] }
     requires unheld { cells.old.snapshots ≡ [] }
     requires counted { AreCounted catalogue.now (items_of indexes.items) }
-    requires blocks { (before : List (List Index)) (new : List Index) (after : List (List Index))
-        → items_of indexes.items ≡ before ++ new ∷ after → MayAttach (B.state cells.old.blocks) before new }
-    ensures coverages { OnOk result
-        (cells.new.coverages ≡ coverages_in (B.state cells.old.blocks).content catalogue.now (items_of indexes.items)) }
-    ensures indexes { OnOk result (cells.new.indexes ≡ items_of indexes.items) }
-    ensures tiles { OnOk result (AreTiles catalogue.now (items_of indexes.items)) }
+    requires blocks { MayAttachAll (B.state cells.old.blocks) (items_of indexes.items) }
+    ensures attached { OnOk result
+        (Attaches (B.state cells.old.blocks) catalogue.now (items_of indexes.items) cells.new) }
     ensures unheld { cells.new.snapshots ≡ [] }
     ensures refused { IfErr result (Departs (AreTiles catalogue.now (items_of indexes.items) → ⊥)) }
     ensures blocks { cells.new.blocks ≡ cells.old.blocks }
@@ -236,16 +229,11 @@ fn coverages_of<D: Disk>(alloc: Global, opened: Opened<D>) -> Result<Coverages<D
     requires opened { IsTrue opened.file.honest → IsOpened opened.file.content opened.metadata.items opened.file.marks }
     requires version { IsTrue opened.file.honest → IsOfVersion opened.version opened.file.content }
     requires fresh { IsFresh opened.file.marks }
-    ensures lists { IfOk result (λ coverages. IsTrue opened.file.honest
-        → Lists opened.file.content coverages.store coverages.indexes) }
-    ensures content { IfOk result (λ coverages. coverages.content ≡ opened.file.content) }
-    ensures honest { IfOk result (λ coverages. coverages.honest ≡ opened.file.honest) }
-    ensures unheld { IfOk result (λ coverages. coverages.held ≡ []) }
-    ensures failures { IfOk result (λ coverages. coverages.failures ≡ opened.file.failures) }
+    ensures lists { IfOk result (ListsFile opened.file) }
+    ensures shows { IfOk result (ShowsFile opened.file) }
     ensures refused { IfErr result (λ refused. IsNoLayout opened.file refused.fault) }
-    ensures same { IfErr result (λ refused. D.content refused.disk ≡ opened.file.content) }
-    ensures honest_disk { IfErr result (λ refused. D.honest refused.disk ≡ opened.file.honest) }
-    ensures failures_disk { IfErr result (λ refused. D.failures refused.disk ≡ opened.file.failures) }
+    ensures disk { IfErr result (λ refused.
+        GivesBack opened.file (disk_view D.content D.honest D.failures refused.disk)) }
 {
     let Opened {
         mut file,
@@ -281,23 +269,14 @@ impl<D: Disk> Server<D> {
     /// twice, is the header or one of the metadata's, or lies past the end. Want of memory and a fault of the disk may
     /// come at any time. Nothing is written before the metadata is accepted, and then the header alone.
     pub fn open(alloc: Global, disk: D) -> Result<Server<D>, NotOpened<D>>
-        ensures listed { IfOk result (λ server. IsTrue (D.honest disk)
-            → ListsStore (D.content disk) server.coverages.store server.coverages.indexes) }
-        ensures store { IfOk result (λ server. IsTrue (D.honest disk)
-            → (store : Store) (indexes : List (List Index)) → ListsStore (D.content disk) store indexes
-            → (server.coverages.store ≡ store) × (server.coverages.indexes ≡ indexes)) }
-        ensures sound { IfOk result (λ server. IsTrue (D.honest disk)
-            → AreIntact (D.content disk) server.coverages.store server.coverages.indexes → IsSound server.coverages) }
-        ensures spelled { IfOk result (λ server. IsTrue (D.honest disk) → (name : List ℕ)
-            → IsIntactIn (D.content disk) server.coverages.store server.coverages.indexes name
-            → IsIntactNamed server.coverages name) }
+        ensures opened { IfOk result (λ server. IsTrue (D.honest disk)
+            → IsOpenedFrom (D.content disk) server.coverages) }
         ensures desk { IfOk result (λ server. server.desk ≡ record { jobs = []; next = Some 1 }) }
         ensures unheld { IfOk result (λ server. server.coverages.held ≡ []) }
-        ensures header { IfOk result (λ server. IsTrue (D.honest disk) → IsOpenFile server.coverages.content) }
         ensures honest { IfOk result (λ server. server.coverages.honest ≡ D.honest disk) }
         ensures failures { IfOk result (λ server. server.coverages.failures ≡ D.failures disk) }
-        ensures refused { IfErr result (λ refused. IsNotOpened refused.fault
-            (disk_view D.content D.honest D.failures disk) (disk_view D.content D.honest D.failures refused.disk)) }
+        ensures refused { IfErr result (λ left.
+            LeavesUnopened D.content D.honest D.failures disk left.fault left.disk) }
     {
         let opened = match BlockFile::open(alloc, disk) {
             Ok(opened) => opened,

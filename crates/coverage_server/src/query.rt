@@ -1,5 +1,5 @@
 //! The answers of queries over the coverages.
-ghost use Rattle.std.specs.Prelude.{◌≡◌, ◌⊎◌, ◌+◌, ◌≤◌, All, None, Ok, IfOk, IfErr, IsTrue, length, map};
+ghost use Rattle.std.specs.Prelude.{◌≡◌, ◌≤◌, All, None, IfOk, IfErr, length, map};
 ghost use Rattle.arr_core.specs.declared.signature.Signature.{Signature};
 ghost use Rattle.wcps_text.specs.Token.{tok};
 ghost use Rattle.wcps_text.specs.Tree.{query_view};
@@ -8,14 +8,10 @@ ghost use Rattle.wcps_types.specs.TypedQueries.{query_view as typed_view};
 ghost use Rattle.plan_ir.specs.Plans.{plan_view};
 ghost use Rattle.tile_exec.specs.Standing.{IsBegun, plan_of as plan_in};
 ghost use Rattle.raster_store.specs.Snapshots.{held_for};
-ghost use Rattle.coverage_server.specs.Asking.{evaluated};
-ghost use Rattle.coverage_server.specs.Stages.{GivesTokens, GivesQuery, GivesTyped, GivesText, GivesValues, FailsReading, IsPlanOf};
-ghost use Rattle.coverage_server.specs.Tiles.{IsHeld};
-ghost use Rattle.coverage_server.specs.Machine.{Answers};
-ghost use Rattle.coverage_server.specs.Answered.{Answered, IsAnswer};
-ghost use Rattle.coverage_server.specs.Damage.{SpoilsText};
-ghost use Rattle.coverage_server.specs.Fetching.{FetchesNone, FetchesPlan, FetchesText, UnlessFails, most_of_plan};
-ghost use Rattle.coverage_server.specs.Views.{still_of};
+ghost use Rattle.coverage_server.specs.Stages.{GivesTokens, GivesQuery, GivesTyped, GivesText, GivesAnswer, FailsReading};
+ghost use Rattle.coverage_server.specs.Answered.{AnswersQuery, IsAnswer};
+ghost use Rattle.coverage_server.specs.Fetching.{FetchesBoxes, FetchesForText, FetchesPlan, IsPlanOf, UnlessFails};
+ghost use Rattle.coverage_server.specs.Views.{IsHeld, still_of};
 
 use crate::arguments::Refusal;
 use crate::cells::AskedCells;
@@ -137,12 +133,12 @@ fn values_by<D: Disk>(
     requires held { All (IsHeld cells.old.coverages.store) typed.now.coverages.items }
     requires plan { IsPlanOf (typed_view typed.now) (plan_in exec.old) }
     requires begun { IsBegun (plan_in exec.old) exec.old }
-    ensures values { IsTrue cells.old.coverages.honest → GivesValues (evaluated cells.old.coverages.store (Ok (typed_view typed.now))) result }
+    ensures values { GivesAnswer (typed_view typed.now) cells.old.coverages result }
     ensures faults { IfErr result (FailsReading typed.now.coverages.items cells.old.coverages cells.new.coverages) }
     ensures still { still_of cells.new.coverages ≡ still_of cells.old.coverages }
     ensures no_fewer { cells.old.coverages.failures ≤ cells.new.coverages.failures }
     ensures fetched { UnlessFails result
-        (cells.new.coverages.fetched ≤ cells.old.coverages.fetched + most_of_plan (plan_in exec.old)) }
+        (FetchesBoxes (plan_in exec.old) cells.old.coverages cells.new.coverages) }
 {
     cells.ask(0, exec.coverages())?;
     run_down(exec, cells, 0)?;
@@ -157,7 +153,7 @@ fn values_of<D: Disk>(cells: &mut AskedCells<D>, typed: &TypedQuery) -> Result<S
     requires unheld { held_for 0 cells.old.coverages.held ≡ None }
     requires held { All (IsHeld cells.old.coverages.store) typed.now.coverages.items }
     requires some { 1 ≤ length (typed_view typed.now).combinations }
-    ensures values { IsTrue cells.old.coverages.honest → GivesValues (evaluated cells.old.coverages.store (Ok (typed_view typed.now))) result }
+    ensures values { GivesAnswer (typed_view typed.now) cells.old.coverages result }
     ensures faults { IfErr result (FailsReading typed.now.coverages.items cells.old.coverages cells.new.coverages) }
     ensures still { still_of cells.new.coverages ≡ still_of cells.old.coverages }
     ensures no_fewer { cells.old.coverages.failures ≤ cells.new.coverages.failures }
@@ -172,13 +168,11 @@ fn values_of<D: Disk>(cells: &mut AskedCells<D>, typed: &TypedQuery) -> Result<S
 /// number 0, and nothing is held for it.
 pub fn process<D: Disk>(cells: &mut AskedCells<D>, text: &str) -> Result<Reply, Refusal>
     requires unheld { held_for 0 cells.old.coverages.held ≡ None }
-    ensures answered { Answered (Answers text.now) ⊥ (SpoilsText text.now cells.old.coverages)
-        cells.old.coverages cells.new.coverages result }
+    ensures answered { AnswersQuery text.now cells.old.coverages cells.new.coverages result }
     ensures answer { IfOk result IsAnswer }
     ensures still { still_of cells.new.coverages ≡ still_of cells.old.coverages }
     ensures no_fewer { cells.old.coverages.failures ≤ cells.new.coverages.failures }
-    ensures fetched { UnlessFails result (FetchesNone cells.old.coverages cells.new.coverages
-        ⊎ FetchesText text.now cells.old.coverages cells.new.coverages) }
+    ensures fetched { FetchesForText text.now cells.old.coverages cells.new.coverages result }
 {
     let typed = typed_text(cells.alloc, &cells.coverages, text)?;
     let values = values_of(cells, &typed)?;

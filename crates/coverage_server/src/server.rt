@@ -1,23 +1,18 @@
 //! The server: requests act on the coverages, and each gets a reply.
-ghost use Rattle.std.specs.Prelude.{◌≡◌, ◌≤◌, ℕ, List, Result, IfOk, IfErr, OnOk, OnErr, IsTrue};
-ghost use Rattle.block_file.specs.Format.{KeepsHeader};
-ghost use Rattle.disk_face.specs.Disk.{Rose};
-ghost use Rattle.kvp_front.specs.Contents.{content_view};
+ghost use Rattle.std.specs.Prelude.{◌≡◌, IfOk, IfErr, OnOk, OnErr, IsTrue};
 ghost use Rattle.kvp_front.specs.Requests.{asks};
-ghost use Rattle.http_front.specs.Stream.{Shows};
-ghost use Rattle.coverage_server.specs.Layouts.{Lays, LaysNone, LaysRest, LaysUpdate, layout_of};
-ghost use Rattle.coverage_server.specs.Machine.{Inserts, Updates, Deletes, Lists, Describes, Serves, axes_of};
-ghost use Rattle.coverage_server.specs.Runs.{MessageStep, Placed};
-ghost use Rattle.coverage_server.specs.Answered.{Answered, AnsweredIn, IsAnswer, Steps};
-ghost use Rattle.coverage_server.specs.Damage.{KeepsSpelled, Spoils, SpoilsUpdate};
+ghost use Rattle.coverage_server.specs.Layouts.{LaysChange, LaysInsertion, LaysRest, layout_of};
+ghost use Rattle.coverage_server.specs.Machine.{Deletes, Lists, Describes};
+ghost use Rattle.coverage_server.specs.Answered.{Answered, AnsweredAs, AnswersInsertion, AnswersUpdate, IsAnswer};
+ghost use Rattle.coverage_server.specs.Answered.{LeavesTiles};
+ghost use Rattle.coverage_server.specs.Damage.{KeepsSpelled};
 ghost use Rattle.coverage_server.specs.Fetching.{FetchesBounded};
 ghost use Rattle.coverage_server.specs.Holding.{IsHolding};
-ghost use Rattle.coverage_server.specs.Leaving.{Leaves, IfRefused, refusal_number, reply_of};
-ghost use Rattle.coverage_server.specs.Represents.{Places};
-ghost use Rattle.coverage_server.specs.Room.{LacksRoom, LacksRoomToInsert, LacksRoomToUpdate};
-ghost use Rattle.coverage_server.specs.Serves.{ServesConnection, TellsEnd, ends_of};
+ghost use Rattle.coverage_server.specs.Leaving.{Continues, KeepsDisk, Leaves, IfRefused, refusal_number, reply_of};
+ghost use Rattle.coverage_server.specs.Represents.{Refines, Steps};
+ghost use Rattle.coverage_server.specs.Serves.{IsReply, IsServed, TellsEnd, ends_of};
 ghost use Rattle.catalogue.specs.Signatures.{IsCatalogue};
-ghost use Rattle.coverage_server.specs.Views.{IsSound, IsUnchanged, KeepsHeld, signatures_of};
+ghost use Rattle.coverage_server.specs.Views.{IsUnchanged, KeepsHeld, signatures_of};
 
 use crate::arguments::{Refusal, copied_fields, domain_of};
 use crate::cells::AskedCells;
@@ -71,27 +66,11 @@ fn insert<D: Disk>(
     coverages: &mut Coverages<D>,
     insertion: &Insertion,
 ) -> Result<Reply, Refusal>
-    ensures answered { Answered
-        (Inserts insertion.now.coverage insertion.now.intervals.items insertion.now.fields.items)
-        (LacksRoomToInsert (record {
-          name = insertion.now.coverage;
-          domain = axes_of insertion.now.intervals.items;
-          fields = insertion.now.fields.items;
-        }) coverages.old.store (layout_of coverages.old))
-        ⊥ coverages.old coverages.new result }
-    ensures lays { OnOk result (LaysNone (record {
-      name = insertion.now.coverage;
-      domain = axes_of insertion.now.intervals.items;
-      fields = insertion.now.fields.items;
-    }) (layout_of coverages.old) (layout_of coverages.new)) }
+    ensures answered { AnswersInsertion insertion.now coverages.old coverages.new result }
+    ensures lays { OnOk result (LaysInsertion insertion.now coverages.old coverages.new) }
     ensures answer { IfOk result IsAnswer }
     ensures unchanged { OnErr result (IsUnchanged coverages.old coverages.new) }
-    ensures sound { IsSound coverages.old → IsSound coverages.new }
-    ensures content { coverages.new.content ≡ coverages.old.content }
-    ensures honest { coverages.new.honest ≡ coverages.old.honest }
-    ensures failures { coverages.new.failures ≡ coverages.old.failures }
-    ensures held { coverages.new.held ≡ coverages.old.held }
-    ensures fetched { coverages.new.fetched ≡ coverages.old.fetched }
+    ensures keeps { KeepsDisk coverages.old coverages.new }
 {
     if coverages.signature(&insertion.coverage).is_some() {
         return Err(Refusal::Numbered(refusals::COVERAGE_EXISTS));
@@ -115,22 +94,12 @@ fn update<D: Disk>(
     coverages: &mut Coverages<D>,
     update: &Update,
 ) -> Result<Reply, Refusal>
-    ensures answered { Answered
-        (Updates update.now.coverage update.now.field update.now.intervals.items (content_view update.now.content))
-        (LacksRoomToUpdate update.now.coverage update.now.field update.now.intervals.items
-        (content_view update.now.content) coverages.old.store (layout_of coverages.old))
-        (SpoilsUpdate update.now.coverage update.now.field update.now.intervals.items coverages.old)
-        coverages.old coverages.new result }
-    ensures lays { OnOk result (IsTrue coverages.old.honest
-        → LaysUpdate update.now.coverage update.now.field update.now.intervals.items
-        coverages.old.store coverages.new.store (layout_of coverages.old) (layout_of coverages.new)) }
+    ensures answered { AnswersUpdate update.now coverages.old coverages.new result }
+    ensures lays { OnOk result (IsTrue coverages.old.honest → LaysChange update.now coverages.old coverages.new) }
     ensures answer { IfOk result IsAnswer }
     ensures unchanged { OnErr result (IsUnchanged coverages.old coverages.new) }
-    ensures sound { IsSound coverages.old → IsSound coverages.new }
+    ensures continues { Continues coverages.old coverages.new }
     ensures spelled { IsTrue coverages.old.honest → KeepsSpelled coverages.old coverages.new }
-    ensures header { KeepsHeader coverages.old.content coverages.new.content }
-    ensures honest { coverages.new.honest ≡ coverages.old.honest }
-    ensures no_fewer { coverages.old.failures ≤ coverages.new.failures }
     ensures held { KeepsHeld coverages.old coverages.new }
     ensures fetched { coverages.new.fetched ≡ coverages.old.fetched }
 {
@@ -157,12 +126,7 @@ fn delete<D: Disk>(
         (LaysRest name.now coverages.old.store (layout_of coverages.old) (layout_of coverages.new)) }
     ensures answer { IfOk result IsAnswer }
     ensures unchanged { OnErr result (IsUnchanged coverages.old coverages.new) }
-    ensures sound { IsSound coverages.old → IsSound coverages.new }
-    ensures content { coverages.new.content ≡ coverages.old.content }
-    ensures honest { coverages.new.honest ≡ coverages.old.honest }
-    ensures failures { coverages.new.failures ≡ coverages.old.failures }
-    ensures held { coverages.new.held ≡ coverages.old.held }
-    ensures fetched { coverages.new.fetched ≡ coverages.old.fetched }
+    ensures keeps { KeepsDisk coverages.old coverages.new }
 {
     let Some(_) = coverages.signature(name) else {
         return Err(Refusal::Numbered(refusals::NO_SUCH_COVERAGE));
@@ -202,19 +166,11 @@ fn list<D: Disk>(alloc: Global, coverages: &Coverages<D>) -> Result<Reply, Refus
 impl<D: Disk> Server<D> {
     /// What a request is answered, or why it is refused.
     fn answered(&mut self, request: &Request) -> Result<Reply, Refusal>
-        ensures answered { AnsweredIn (Serves (asks request.now))
-            (LacksRoom (asks request.now) self.old.coverages.store (layout_of self.old.coverages))
-            (Spoils (asks request.now) self.old.coverages) self.old self.new result }
-        ensures lays { IsTrue self.old.coverages.honest → OnOk result (Lays (asks request.now)
-            self.old.coverages.store self.old.desk.next self.new.coverages.store
-            (layout_of self.old.coverages) (layout_of self.new.coverages))
-            × KeepsSpelled self.old.coverages self.new.coverages }
+        ensures answered { AnsweredAs (asks request.now) self.old self.new result }
+        ensures tiles { LeavesTiles (asks request.now) result self.old self.new }
         ensures answer { IfOk result IsAnswer }
         ensures leaves { IfErr result (λ e. Leaves (asks request.now) (refusal_number e) self.old self.new) }
-        ensures sound { IsSound self.old.coverages → IsSound self.new.coverages }
-        ensures header { KeepsHeader self.old.coverages.content self.new.coverages.content }
-        ensures honest { self.new.coverages.honest ≡ self.old.coverages.honest }
-        ensures no_fewer { self.old.coverages.failures ≤ self.new.coverages.failures }
+        ensures continues { Continues self.old.coverages self.new.coverages }
         ensures holding { IsHolding self.new.desk self.new.coverages.held }
         ensures fetches { FetchesBounded (asks request.now) (reply_of result) self.old self.new }
     {
@@ -253,14 +209,10 @@ impl<D: Disk> Server<D> {
     /// fetched for ProcessCoverages, ProcessTemplate and StepJob alone: no more than the boxes of the query's plan,
     /// or of the units that were done, bound together, unless it fails.
     pub fn answer(&mut self, request: &Request) -> Reply
-        ensures step { IsTrue self.old.coverages.honest → (p : Placed) → Places self.old p
-            → (q : Placed) × Places self.new q × Steps (asks request.now) self.old self.new p result q }
+        ensures step { Refines (λ p q. Steps (asks request.now) self.old self.new p result q) self.old self.new }
         ensures catalogue { IsCatalogue (signatures_of self.old.coverages.store) }
         ensures leaves { IfRefused result (λ code. Leaves (asks request.now) code self.old self.new) }
-        ensures sound { IsSound self.old.coverages → IsSound self.new.coverages }
-        ensures header { KeepsHeader self.old.coverages.content self.new.coverages.content }
-        ensures honest { self.new.coverages.honest ≡ self.old.coverages.honest }
-        ensures no_fewer { self.old.coverages.failures ≤ self.new.coverages.failures }
+        ensures continues { Continues self.old.coverages self.new.coverages }
         ensures holding { IsHolding self.new.desk self.new.coverages.held }
         ensures fetches { FetchesBounded (asks request.now) result self.old self.new }
     {
@@ -279,13 +231,8 @@ impl<D: Disk> Server<D> {
 
     /// The reply to what a connection asks.
     fn reply_to(&mut self, next: Next) -> Reply
-        ensures step { IsTrue self.old.coverages.honest → (p : Placed) → Places self.old p
-            → (asked : Result (List ℕ) ℕ) → Shows asked next → (q : Placed) × Places self.new q
-            × MessageStep (Rose self.old.coverages.failures self.new.coverages.failures) p asked result q }
-        ensures sound { IsSound self.old.coverages → IsSound self.new.coverages }
-        ensures header { KeepsHeader self.old.coverages.content self.new.coverages.content }
-        ensures honest { self.new.coverages.honest ≡ self.old.coverages.honest }
-        ensures no_fewer { self.old.coverages.failures ≤ self.new.coverages.failures }
+        ensures step { IsReply next self.old result self.new }
+        ensures continues { Continues self.old.coverages self.new.coverages }
     {
         let alloc = self.cells.alloc;
         match next {
@@ -312,15 +259,9 @@ impl<D: Disk> Server<D> {
         reader: &mut R,
         writer: &mut W,
     ) -> ConnEnd
-        ensures served { IsTrue self.old.coverages.honest → (p : Placed) → Places self.old p
-            → (q : Placed) × Places self.new q
-            × ServesConnection (Rose self.old.coverages.failures self.new.coverages.failures)
-            (ends_of R.remaining R.failed W.contents W.failed reader.old reader.new writer.old writer.new) p q result }
-        ensures told { TellsEnd (ends_of R.remaining R.failed W.contents W.failed reader.old reader.new writer.old writer.new) result }
-        ensures sound { IsSound self.old.coverages → IsSound self.new.coverages }
-        ensures header { KeepsHeader self.old.coverages.content self.new.coverages.content }
-        ensures honest { self.new.coverages.honest ≡ self.old.coverages.honest }
-        ensures no_fewer { self.old.coverages.failures ≤ self.new.coverages.failures }
+        ensures served { IsServed (ends_of R.view W.view reader.old reader.new writer.old writer.new) result self.old self.new }
+        ensures told { TellsEnd (ends_of R.view W.view reader.old reader.new writer.old writer.new) result }
+        ensures continues { Continues self.old.coverages self.new.coverages }
     {
         let alloc = self.cells.alloc;
         let mut conn = Conn::new();

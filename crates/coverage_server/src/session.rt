@@ -1,14 +1,8 @@
 //! A session: a disk is opened, connections are served one after the other, and the disk is closed.
-ghost use Rattle.std.specs.Prelude.{◌≡◌, ◌≤◌, List, length, Ok, Err, IfOk, IsTrue};
-ghost use Rattle.arr_core.specs.Stores.{Store};
-ghost use Rattle.block_file.specs.Format.{KeepsHeader};
-ghost use Rattle.disk_face.specs.Disk.{Rose};
-ghost use Rattle.raster_store.specs.Views.{Index};
-ghost use Rattle.coverage_server.specs.Disk.{ListsStore};
-ghost use Rattle.coverage_server.specs.Runs.{Placed};
-ghost use Rattle.coverage_server.specs.Represents.{Places};
-ghost use Rattle.coverage_server.specs.Sessions.{IsNotOpened, ServesAll, ServesSession, ServesUnclosed, Composes, disk_view, ends_all};
-ghost use Rattle.coverage_server.specs.Views.{IsSound};
+ghost use Rattle.std.specs.Prelude.{◌≡◌, ◌≤◌, length, IfOk, IsTrue};
+ghost use Rattle.coverage_server.specs.Disk.{ListsNone};
+ghost use Rattle.coverage_server.specs.Leaving.{Continues};
+ghost use Rattle.coverage_server.specs.Sessions.{AreServed, Composes, IsSession, IsUnopened, ends_all};
 
 use crate::closing::{CloseFault, NotClosed};
 use crate::opening::{NotOpened, OpenFault};
@@ -27,14 +21,8 @@ pub enum SessionFault<D: Disk> {
 
 /// Serves each connection to its end, one after the other.
 fn serve_all<D: Disk, R: Source, W: Sink>(server: &mut Server<D>, connections: &mut [(R, W)])
-    ensures served { IsTrue server.old.coverages.honest → (p : Placed) → Places server.old p
-        → (q : Placed) × Places server.new q
-        × ServesAll (Rose server.old.coverages.failures server.new.coverages.failures)
-        (ends_all R.remaining R.failed W.contents W.failed connections.old connections.new) p q }
-    ensures sound { IsSound server.old.coverages → IsSound server.new.coverages }
-    ensures header { KeepsHeader server.old.coverages.content server.new.coverages.content }
-    ensures honest { server.new.coverages.honest ≡ server.old.coverages.honest }
-    ensures no_fewer { server.old.coverages.failures ≤ server.new.coverages.failures }
+    ensures served { AreServed (ends_all R.view W.view connections.old connections.new) server.old server.new }
+    ensures continues { Continues server.old.coverages server.new.coverages }
     ensures count { length connections.new ≡ length connections.old }
 {
     for connection in connections.iter_mut() {
@@ -42,28 +30,25 @@ fn serve_all<D: Disk, R: Source, W: Sink>(server: &mut Server<D>, connections: &
     }
 }
 
-/// Opens the store of a disk, serves each connection to its end, one after the other, and closes the store. Gives the disk,
-/// which holds the store that the connections left; or the disk that was not opened; or the server that was not closed.
+/// Opens the store of a disk, serves each connection, its reader and its writer, to its end, one after the other, and closes
+/// the store. Gives the disk, which holds the store that the connections left; or the disk that was not opened; or the
+/// server that was not closed.
 pub fn serve_session<D: Disk + Drop, R: Source, W: Sink>(
     alloc: Global,
     disk: D,
-    connections: &mut [(R, W)],
+    streams: &mut [(R, W)],
 ) -> Result<D, SessionFault<D>>
-    ensures closed { IfOk result (λ after. ServesSession (ends_all R.remaining R.failed W.contents W.failed connections.old connections.new) (disk_view D.content D.honest D.failures disk) (disk_view D.content D.honest D.failures after)) }
+    ensures ends { IsSession D.content D.honest D.failures disk (ends_all R.view W.view streams.old streams.new) result }
     ensures still { IfOk result (λ after. (D.honest after ≡ D.honest disk) × (D.failures disk ≤ D.failures after)) }
-    ensures not_opened { (left : _) (fault : OpenFault) → result ≡ Err (SessionFault.NotOpened left fault)
-        → IsNotOpened fault (disk_view D.content D.honest D.failures disk) (disk_view D.content D.honest D.failures left) × (connections.new ≡ connections.old) }
-    ensures not_closed { (server : _) (fault : CloseFault) → result ≡ Err (SessionFault.NotClosed server fault)
-        → ServesUnclosed fault (ends_all R.remaining R.failed W.contents W.failed connections.old connections.new) (disk_view D.content D.honest D.failures disk) server }
-    ensures no_store { IsTrue (D.honest disk) → ((store : Store) (indexes : List (List Index)) → ListsStore (D.content disk) store indexes → ⊥)
-        → (left : _) × (fault : OpenFault) × (result ≡ Err (SessionFault.NotOpened left fault)) }
-    ensures count { length connections.new ≡ length connections.old }
+    ensures untouched { IsUnopened result → streams.new ≡ streams.old }
+    ensures no_store { IsTrue (D.honest disk) → ListsNone (D.content disk) → IsUnopened result }
+    ensures count { length streams.new ≡ length streams.old }
 {
     let mut server = match Server::open(alloc, disk) {
         Ok(server) => server,
         Err(NotOpened { disk, fault }) => return Err(SessionFault::NotOpened(disk, fault)),
     };
-    serve_all(&mut server, connections);
+    serve_all(&mut server, streams);
     match server.close_with_retry() {
         Ok(disk) => Ok(disk),
         Err(NotClosed { server, fault }) => Err(SessionFault::NotClosed(server, fault)),

@@ -1,11 +1,10 @@
 //! Templates of map algebra over the coverages: the text of a template's query, and the answer to it.
-ghost use Rattle.std.specs.Prelude.{◌≡◌, ◌⊎◌, ◌≤◌, None, IfOk};
+ghost use Rattle.std.specs.Prelude.{◌≡◌, ◌≤◌, None, IfOk};
 ghost use Rattle.kvp_front.specs.Templates.{template_view};
 ghost use Rattle.raster_store.specs.Snapshots.{held_for};
-ghost use Rattle.coverage_server.specs.Answered.{Answered, IsAnswer};
-ghost use Rattle.coverage_server.specs.Damage.{SpoilsTemplate};
-ghost use Rattle.coverage_server.specs.Fetching.{FetchesNone, FetchesTemplate, UnlessFails};
-ghost use Rattle.coverage_server.specs.Machine.{AnswersTemplate, Expands};
+ghost use Rattle.coverage_server.specs.Answered.{Answered, AnswersAsked, IsAnswer};
+ghost use Rattle.coverage_server.specs.Fetching.{FetchesForTemplate};
+ghost use Rattle.coverage_server.specs.Machine.{Expands};
 ghost use Rattle.coverage_server.specs.Templates.{GivesExpansion, expansion, layer_of, params_of};
 ghost use Rattle.coverage_server.specs.Tomlin.{TemplatesAreTomlins};
 ghost use Rattle.coverage_server.specs.Views.{still_of};
@@ -101,14 +100,11 @@ pub fn process_template<D: Disk>(
     request: &TemplateRequest,
 ) -> Result<Reply, Refusal>
     requires unheld { held_for 0 cells.old.coverages.held ≡ None }
-    ensures answered { Answered (AnswersTemplate (template_view request.now)) ⊥
-        (SpoilsTemplate (template_view request.now) cells.old.coverages)
-        cells.old.coverages cells.new.coverages result }
+    ensures answered { AnswersAsked (template_view request.now) cells.old.coverages cells.new.coverages result }
     ensures answer { IfOk result IsAnswer }
     ensures still { still_of cells.new.coverages ≡ still_of cells.old.coverages }
     ensures no_fewer { cells.old.coverages.failures ≤ cells.new.coverages.failures }
-    ensures fetched { UnlessFails result (FetchesNone cells.old.coverages cells.new.coverages
-        ⊎ FetchesTemplate (template_view request.now) cells.old.coverages cells.new.coverages) }
+    ensures fetched { FetchesForTemplate (template_view request.now) cells.old.coverages cells.new.coverages result }
 {
     let text = expansion(cells.alloc, &cells.coverages, request)?;
     process(cells, text.as_str())

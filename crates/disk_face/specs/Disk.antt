@@ -1,5 +1,5 @@
 -- What the calls of a disk do to the bytes that it holds.
-use Rattle.std.specs.Prelude.{◌≡◌, ℕ, ◌+◌, ◌-◌, ◌^◌, ◌<◌, ◌≤◌, min, max, Bool, true, false, IsTrue, take, List, length, slice_index}
+use Rattle.std.specs.Prelude.{◌≡◌, ℕ, ◌+◌, ◌-◌, ◌/◌, ◌^◌, ◌<◌, ◌≤◌, min, max, Bool, true, false, IsTrue, take, List, length, slice_index}
 
 -- A disk in memory as callers see it: its bytes, and how many of its calls have failed.
 pub record Memory : Type 0 where
@@ -58,6 +58,10 @@ pub record HoldsInverted (content : List ℕ) (at : ℕ) (bytes : List ℕ) : Ty
 abbrev pub IsInside : ℕ → List ℕ → List ℕ → Type 0
 IsInside at bytes content = at + length bytes ≤ length content
 
+-- of an honest disk that has so many bytes from this place on
+abbrev pub IfInside : Bool → ℕ → List ℕ → List ℕ → Type 0 → Type 0
+IfInside honest at bytes content fact = IsTrue honest → IsInside at bytes content → fact
+
 -- what a disk knows of its file's length: it, or once it is broken no more than it
 abbrev pub KnowsLength : Bool → ℕ → List ℕ → Type 0
 KnowsLength is_broken known content = (is_broken ≡ false → known ≡ length content) × (known ≤ length content)
@@ -77,6 +81,18 @@ pub record Written (at : ℕ) (bytes old new : List ℕ) : Type 0 where
   pub gap : (i : ℕ) → length old ≤ i → i < at → slice_index new i ≡ 0
   pub others : Torn at (length bytes) old new
 
+-- of an honest disk: what it has at this place was read
+abbrev pub Reads : Bool → ℕ → List ℕ → List ℕ → Type 0
+Reads honest at bytes content = IfInside honest at bytes content (Holds content at bytes)
+
+-- of a write inside of the content that failed: the first half of the bytes was written
+abbrev pub WritesHalf : ℕ → List ℕ → List ℕ → List ℕ → Type 0
+WritesHalf at bytes old new = IsInside at bytes old → Written at (take (length bytes / 2) bytes) old new
+
+-- one byte at least came, where there is one and room for one
+abbrev pub ReadsSome : List ℕ → ℕ → List ℕ → ℕ → Type 0
+ReadsSome content at buf n = at < length content → 0 < length buf → 0 < n
+
 -- the first n bytes, of which there is one at least, stand there
 abbrev pub HoldsPart : List ℕ → ℕ → ℕ → List ℕ → Type 0
 HoldsPart content at n bytes = 0 < n → Holds content at (take n bytes)
@@ -84,6 +100,10 @@ HoldsPart content at n bytes = 0 < n → Holds content at (take n bytes)
 -- the first n bytes, of which there is one at least, were written
 abbrev pub WrittenPart : ℕ → ℕ → List ℕ → List ℕ → List ℕ → Type 0
 WrittenPart at n bytes old new = 0 < n → Written at (take n bytes) old new
+
+-- of an honest file: the first n bytes were written
+abbrev pub WritesPart : Bool → ℕ → ℕ → List ℕ → List ℕ → List ℕ → Type 0
+WritesPart honest at n bytes old new = IsTrue honest → WrittenPart at n bytes old new
 
 -- of an honest disk: the bytes were written
 abbrev pub Writes : Bool → ℕ → List ℕ → List ℕ → List ℕ → Type 0

@@ -1,7 +1,7 @@
 //! A disk in memory of which one call fails, to try what stands on a disk.
-ghost use Rattle.std.specs.Prelude.{◌≡◌, ◌≢◌, ◌-◌, ◌/◌, length, take, true, IsOk, IsErr, OnOk, OnErr};
+ghost use Rattle.std.specs.Prelude.{◌≡◌, ◌≢◌, ◌-◌, length, true, IsOk, IsErr, OnOk, OnErr};
 ghost use Rattle.std.specs.Bool.{OnTrue, OnFalse};
-ghost use Rattle.disk_face.specs.Disk.{IsInside, Holds, Torn, Written, Tells};
+ghost use Rattle.disk_face.specs.Disk.{IsInside, Holds, Torn, Written, WritesHalf, Tells};
 
 use crate::{Disk, DiskFault, MemDisk};
 use std::marker::Model;
@@ -87,8 +87,7 @@ impl Disk for FailDisk {
         ensures written { OnOk result (Written at bytes.now self.old.content self.new.content) }
         ensures due { self.old.left ≡ 1 → IsErr result }
         ensures inside { self.old.left ≢ 1 → IsInside at bytes.now self.old.content → IsOk result }
-        ensures half { self.old.left ≡ 1 → IsInside at bytes.now self.old.content
-            → Written at (take (length bytes.now / 2) bytes.now) self.old.content self.new.content }
+        ensures half { self.old.left ≡ 1 → WritesHalf at bytes.now self.old.content self.new.content }
         ensures refused { self.old.left ≢ 1 → OnErr result (self.new.content ≡ self.old.content) }
         ensures torn { Torn at (length bytes.now) self.old.content self.new.content }
         ensures left { self.new.left ≡ self.old.left - 1 }

@@ -1,6 +1,6 @@
 //! A disk over a file: each call reads or writes all of its bytes, and the length is right after each.
 ghost use Rattle.std.specs.Prelude.{◌≡◌, ◌≤◌, ◌<◌, ◌+◌, ◌-◌, ◌^◌, min, length, true, false, IfOk, IsOk, IsOkAnd, IsErr, OnOk, OnErr, IsTrue};
-ghost use Rattle.disk_face.specs.Disk.{IsInside, Holds, Torn, Writes, Unwritten, Tells, Works, StillWorks};
+ghost use Rattle.disk_face.specs.Disk.{IfInside, Holds, Torn, Reads, Writes, Unwritten, Tells, Works, StillWorks};
 
 use crate::{Disk, DiskFault, RawFault, RawFile, StdFile};
 use std::fs::{File, OpenOptions};
@@ -114,10 +114,9 @@ impl<F: RawFile> FileDisk<F> {
 /// Reads in as many calls as it takes until the buffer is full. Refused where the file refuses or ends before.
 fn read_all<F: RawFile>(file: &mut F, at: u64, buf: &mut [u8]) -> Result<(), RawFault>
     requires { at + length buf.old < 2 ^ 64 }
-    ensures read { OnOk result (IsTrue (F.honest file.old) → IsInside at buf.new (F.content file.old)
-        → Holds (F.content file.old) at buf.new) }
-    ensures works { StillWorks (F.works file.old) (F.works file.new)
-        (IsTrue (F.honest file.old) → IsInside at buf.old (F.content file.old) → IsOk result) }
+    ensures read { OnOk result (Reads (F.honest file.old) at buf.new (F.content file.old)) }
+    ensures works { IsTrue (F.works file.old) → IsTrue (F.works file.new) }
+    ensures done { IsTrue (F.works file.old) → IfInside (F.honest file.old) at buf.old (F.content file.old) (IsOk result) }
     ensures same { Unwritten F.content F.synced F.honest file.old file.new }
 {
     let mut filled = 0;
@@ -166,7 +165,7 @@ impl<F: RawFile> Disk for FileDisk<F> {
     /// Fails only past the length, or where the disk is broken or the system refused a call or gave nothing.
     fn read_at(&mut self, at: u64, buf: &mut [u8]) -> Result<(), DiskFault>
         ensures read { OnOk result (IsTrue self.old.honest → Holds self.old.content at buf.new) }
-        ensures done { Works self.old → IsTrue self.old.honest → IsInside at buf.old self.old.content → IsOk result }
+        ensures done { Works self.old → IfInside self.old.honest at buf.old self.old.content (IsOk result) }
         ensures works { Works self.old → Works self.new }
         ensures content { self.new.content ≡ self.old.content }
         ensures synced { self.new.synced ≡ self.old.synced }
@@ -188,7 +187,7 @@ impl<F: RawFile> Disk for FileDisk<F> {
     fn write_at(&mut self, at: u64, bytes: &[u8]) -> Result<(), DiskFault>
         ensures written { OnOk result (Writes self.old.honest at bytes.now self.old.content self.new.content) }
         ensures done { Works self.old → 0 < length bytes.now → at + length bytes.now < 2 ^ 64 → IsOk result }
-        ensures inside { Works self.old → IsTrue self.old.honest → IsInside at bytes.now self.old.content → IsOk result }
+        ensures inside { Works self.old → IfInside self.old.honest at bytes.now self.old.content (IsOk result) }
         ensures works { Works self.old → Works self.new }
         ensures torn { Torn at (length bytes.now) self.old.content self.new.content }
         ensures torn_synced { Torn at (length bytes.now) self.old.synced self.new.synced }

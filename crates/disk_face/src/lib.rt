@@ -4,7 +4,7 @@
 #![tactic(auto)]
 
 ghost use Rattle.std.specs.Prelude.{◌≡◌, ℕ, Bool, List, length, IsTrue, IsErr, OnOk, OnErr};
-ghost use Rattle.disk_face.specs.Disk.{IsInside, Holds, Torn, Writes, Tells, Unwritten};
+ghost use Rattle.disk_face.specs.Disk.{IfInside, Holds, Torn, Writes, Tells, Unwritten};
 
 mod fail;
 mod file;
@@ -50,8 +50,7 @@ pub trait Disk {
     fn read_at(&mut self, at: u64, buf: &mut [u8]) -> Result<(), DiskFault>
         ensures read { OnOk result (IsTrue (honest self.old) → Holds (content self.old) at buf.new) }
         ensures same { Unwritten content synced honest self.old self.new }
-        ensures overreads { IsTrue (honest self.old) → IsInside at buf.old (content self.old)
-            → overreads self.new ≡ overreads self.old }
+        ensures overreads { IfInside (honest self.old) at buf.old (content self.old) (overreads self.new ≡ overreads self.old) }
         ensures told { Tells (IsErr result) (failures self.old) (failures self.new) };
 
     /// Writes the bytes from `at` on. A write past the end fills the gap with zeros. One that fails leaves any

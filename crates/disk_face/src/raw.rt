@@ -1,7 +1,7 @@
 //! A file by the calls of the system: one call each, which may do less than it was asked.
 ghost use Rattle.std.specs.Prelude.{◌≡◌, ◌<◌, ℕ, Bool, List, [], length, false, IsTrue, IsOk, IsOkAnd, IfOk, OnOk, OnErr};
 ghost use Rattle.std.specs.Io.{ReadsAtMost, WritesAtMost};
-ghost use Rattle.disk_face.specs.Disk.{HoldsPart, Torn, WrittenPart, Unwritten, StillWorks};
+ghost use Rattle.disk_face.specs.Disk.{HoldsPart, Torn, ReadsSome, WritesPart, Unwritten, StillWorks};
 
 use std::fs::File;
 use std::os::fd::AsRawFd;
@@ -35,8 +35,7 @@ pub trait RawFile {
     fn read_some(&mut self, at: u64, buf: &mut [u8]) -> Result<usize, RawFault>
         ensures bound { ReadsAtMost result buf.new }
         ensures read { IsTrue (honest self.old) → IfOk result (λ n. HoldsPart (content self.old) at n buf.new) }
-        ensures end { IsTrue (honest self.old)
-            → IfOk result (λ n. at < length (content self.old) → 0 < length buf.old → 0 < n) }
+        ensures end { IsTrue (honest self.old) → IfOk result (λ n. ReadsSome (content self.old) at buf.old n) }
         ensures works { StillWorks (works self.old) (works self.new) (IsOk result) }
         ensures same { Unwritten content synced honest self.old self.new };
 
@@ -44,8 +43,7 @@ pub trait RawFile {
     /// in their range.
     fn write_some(&mut self, at: u64, bytes: &[u8]) -> Result<usize, RawFault>
         ensures bound { WritesAtMost result bytes.now }
-        ensures written { IsTrue (honest self.old)
-            → IfOk result (λ n. WrittenPart at n bytes.now (content self.old) (content self.new)) }
+        ensures written { IfOk result (λ n. WritesPart (honest self.old) at n bytes.now (content self.old) (content self.new)) }
         ensures torn { Torn at (length bytes.now) (content self.old) (content self.new) }
         ensures torn_synced { Torn at (length bytes.now) (synced self.old) (synced self.new) }
         ensures works { StillWorks (works self.old) (works self.new)

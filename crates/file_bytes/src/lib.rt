@@ -2,10 +2,9 @@
 //! at the end.
 #![tactic(auto)]
 
-ghost use Rattle.std.specs.Prelude.{◌≡◌, ◌<◌, ◌≤◌, ◌^◌, ℕ, List, [], ◌∷◌, ◌++◌, length, MatchOption, IfSome, OnOk, FitsSigned};
-ghost use Rattle.std.specs.Int.{w32};
+ghost use Rattle.std.specs.Prelude.{◌≡◌, ◌<◌, ◌≤◌, ◌^◌, ℕ, List, [], ◌∷◌, ◌++◌, length, MatchOption, IfSome, OnOk};
 ghost use Rattle.byteorder.specs.Endian.{little_bytes};
-ghost use Rattle.file_bytes.specs.Codes.{signed_bytes, IsRead};
+ghost use Rattle.file_bytes.specs.Codes.{signed_bytes, Splits, IsRead, ReadsSigned};
 
 mod form;
 
@@ -43,8 +42,7 @@ impl<'a> Reader<'a> {
 
     /// The next `count` bytes, or none where fewer are left.
     pub fn take(&mut self, count: usize) -> Option<&'a [u8]>
-        ensures taken { MatchOption result (length self.old < count)
-            (λ bytes. (length bytes.now ≡ count) × (self.old ≡ bytes.now ++ self.new)) }
+        ensures taken { MatchOption result (length self.old < count) (λ bytes. Splits count self.old bytes.now self.new) }
         ensures left { MatchOption result (self.new ≡ self.old) (λ _. Unit {0}) }
     {
         if self.rest.len() < count {
@@ -77,8 +75,7 @@ impl<'a> Reader<'a> {
 
     /// The signed number in the next 4 bytes, in two's complement, or none where fewer are left.
     pub fn read_i32(&mut self) -> Option<i32>
-        ensures read { MatchOption result (length self.old < 4)
-            (λ number. IsRead (FitsSigned w32) signed_bytes self.old number self.new) }
+        ensures read { MatchOption result (length self.old < 4) (λ number. ReadsSigned self.old number self.new) }
         ensures left { MatchOption result (self.new ≡ self.old) (λ _. Unit {0}) }
     {
         let bytes = self.take(4)?;

@@ -10,6 +10,7 @@ use Rattle.http1.specs.declared.fields.ContentLength.{ContentLength}
 use Rattle.http1.specs.declared.fields.ContentLength.TheVariants as Length
 use Rattle.http1.specs.declared.fields.TransferEncoding.{TransferEncoding}
 use Rattle.http1.specs.declared.fields.TransferEncoding.TheVariants as Coding
+use Rattle.stream_face.specs.Views.{SourceView}
 use Rattle.http_front.specs.declared.head.WholeHead.{WholeHead}
 use Rattle.http_front.specs.declared.conn.Next.{Next}
 use Rattle.http_front.specs.declared.conn.Next.TheVariants.{Message, Refused, Ended, ReadFault}
@@ -121,8 +122,9 @@ found_as n known left future item Ended last bare x s l b = absurd s
 found_as n known left future item ReadFault last bare x s l b = absurd s
 
 -- and of a message or a refusal no fault is told
-pub told_as : (failed fails : Option Bool) (asked : Result (List ℕ) ℕ) (next : Next) → Shows asked next → fails ≡ failed → TellsNext failed fails next
-told_as failed fails asked (Message pairs) s e = e
-told_as failed fails asked (Refused code) s e = e
-told_as failed fails asked Ended s e = absurd s
-told_as failed fails asked ReadFault s e = absurd s
+pub told_as : (old new : SourceView) (asked : Result (List ℕ) ℕ) (next : Next) → Shows asked next → new.failed ≡ old.failed
+    → TellsNext old new next
+told_as old new asked (Message pairs) s e = e
+told_as old new asked (Refused code) s e = e
+told_as old new asked Ended s e = absurd s
+told_as old new asked ReadFault s e = absurd s

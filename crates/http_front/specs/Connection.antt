@@ -3,11 +3,13 @@ use Rattle.std.specs.Prelude.{◌≡◌, ◌≢◌, ℕ, ◌+◌, ◌≤◌, Boo
 use Rattle.std.specs.Io.KnownBytes.{Consumes, IsAtEnd}
 use Rattle.httparse.specs.Grammar.{HasNoRequest}
 use Rattle.stream_face.specs.Faults.{fault_told}
+use Rattle.stream_face.specs.Views.{SourceView}
 use Rattle.http_front.specs.Head.{IsHeadAt}
 use Rattle.http_front.specs.Stream.{NeverHasHead, Finds}
 use Rattle.http_front.specs.declared.ahead.Ahead.{Ahead}
 use Rattle.http_front.specs.declared.ahead.Ahead.TheVariants.{Whole, Bad, Nothing, Cut, Fault}
 use Rattle.http_front.specs.declared.conn.Next.{Next}
+use Rattle.http_front.specs.declared.message.Taken.{Taken}
 
 -- The bytes that came and are not used; whether nothing comes after the last reply; whether the next reply has no body;
 -- and how many messages have come.
@@ -26,25 +28,28 @@ IsAhead known future Cut = (known ≢ []) × IsAtEnd future × HasNoRequest know
 IsAhead known future Fault = HasNoRequest known
 
 -- the bytes that were held and those that came, no more than a head may have, and what stands at their front
-abbrev pub LooksAhead : Option (List ℕ) → Option (List ℕ) → List ℕ → List ℕ → Ahead → Type 0
+abbrev pub LooksAhead : SourceView → SourceView → List ℕ → List ℕ → Ahead → Type 0
 LooksAhead before after held now ahead =
-    (came : List ℕ) × Consumes before after came × (now ≡ held ++ came) × (length now ≤ 16384) × IsAhead now after ahead
+    (came : List ℕ) × Consumes before.remaining after.remaining came × (now ≡ held ++ came) × (length now ≤ 16384)
+    × IsAhead now after.remaining ahead
 
 -- a read failed in a look ahead exactly where it says so
-abbrev pub TellsAhead : Option Bool → Option Bool → Ahead → Type 0
-TellsAhead failed fails (Whole head) = fails ≡ failed
-TellsAhead failed fails Bad = fails ≡ failed
-TellsAhead failed fails Nothing = fails ≡ failed
-TellsAhead failed fails Cut = fails ≡ failed
-TellsAhead failed fails Fault = fails ≡ fault_told failed
+abbrev pub TellsAhead : SourceView → SourceView → Ahead → Type 0
+TellsAhead old new (Whole head) = new.failed ≡ old.failed
+TellsAhead old new Bad = new.failed ≡ old.failed
+TellsAhead old new Nothing = new.failed ≡ old.failed
+TellsAhead old new Cut = new.failed ≡ old.failed
+TellsAhead old new Fault = new.failed ≡ fault_told old.failed
 
 -- What was found of the message with this number in the bytes that were held and those that came, and what is noted of it
 -- for its reply. These bytes are no more than a head and a body may have, 16,384 bytes and 1,048,576.
-abbrev pub Takes : Option (List ℕ) → Option (List ℕ) → ℕ → List ℕ → List ℕ → Next → Bool → Bool → Type 0
-Takes before after n held now next over bare =
-    (came : List ℕ) × Consumes before after came × Finds n (held ++ came) now after next over bare
+abbrev pub Takes : SourceView → SourceView → ℕ → List ℕ → List ℕ → Taken → Bool → Type 0
+Takes before after n held now taken bare =
+    (came : List ℕ) × Consumes before.remaining after.remaining came
+    × Finds n (held ++ came) now after.remaining taken.next taken.over bare
     × (length (held ++ came) ≤ 16384 + 1048576)
 
 -- what a look for the next message does to a connection
-abbrev pub TakesNext : Option (List ℕ) → Option (List ℕ) → ConnView → ConnView → Next → Type 0
-TakesNext before after old new next = Takes before after old.count old.buffer new.buffer next new.over new.bare
+abbrev pub TakesNext : SourceView → SourceView → ConnView → ConnView → Next → Type 0
+TakesNext before after old new next =
+    Takes before after old.count old.buffer new.buffer (record { next = next; over = new.over }) new.bare

@@ -83,6 +83,10 @@ asked_at bytes (Query span) body = Ok (span_bytes bytes span)
 asked_at bytes Body body = Ok body
 asked_at bytes (Refuses code) body = Err code
 
+-- what is asked stands for this, by the body
+abbrev pub IsAsked : List ℕ → Asked → (List ℕ → Result (List ℕ) ℕ) → Type 0
+IsAsked bytes asked meant = (body : List ℕ) → asked_at bytes asked body ≡ meant body
+
 -- the place of the pairs lies in the bytes
 abbrev pub IsPlaced : List ℕ → Asked → Type 0
 IsPlaced bytes (Query span) = (span.start ≤ span.end) × (span.end ≤ length bytes)
@@ -97,7 +101,7 @@ pub record IsHeadAt (bytes : List ℕ) (front : WholeHead) : Type 0 where
   pub few : length h.fields ≤ 64
   pub within : front.len ≤ length bytes
   pub placed : IsPlaced bytes front.asked
-  pub asked : (body : List ℕ) → asked_at bytes front.asked body ≡ asked_by h body
+  pub asked : IsAsked bytes front.asked (asked_by h)
   pub framed : front.framing ≡ framing h
   pub last : front.last ≡ is_last h
   pub bare : front.bare ≡ is_bare h

@@ -1,15 +1,28 @@
 -- A reply on its way out, of which a last part may still be held back.
-use Rattle.std.specs.Prelude.{◌≡◌, ℕ, Bool, true, false, List, ◌++◌, Option, Result, Ok, Err}
+use Rattle.std.specs.Prelude.{◌≡◌, ℕ, Bool, true, false, List, ◌++◌, Result, Ok, Err}
 use Rattle.std.specs.Io.KnownBytes.{Appends}
 use Rattle.stream_face.specs.Faults.{AppendsPrefix, Sent, fault_told}
+use Rattle.stream_face.specs.Views.{SinkView}
 
 -- All of the text but what is pending went out, without a fault; or a first part of the text did, and there was a fault.
-abbrev pub IsUnderWay : Option (List ℕ) → Option (List ℕ) → Option Bool → Option Bool → Bool → List ℕ → List ℕ → Type 0
-IsUnderWay held holds failed fails true text pending =
-    (sent : List ℕ) × Appends held holds sent × (text ≡ sent ++ pending) × (fails ≡ failed)
-IsUnderWay held holds failed fails false text pending = AppendsPrefix held holds text × (fails ≡ fault_told failed)
+abbrev pub IsUnderWay : SinkView → SinkView → Bool → List ℕ → List ℕ → Type 0
+IsUnderWay old new true text pending =
+    (sent : List ℕ) × Appends old.contents new.contents sent × (text ≡ sent ++ pending) × (new.failed ≡ old.failed)
+IsUnderWay old new false text pending =
+    AppendsPrefix old.contents new.contents text × (new.failed ≡ fault_told old.failed)
+
+-- a text that was under way since any moment still is, with more bytes, and with what is pending then
+abbrev pub SendsMore : SinkView → SinkView → Bool → Bool → List ℕ → List ℕ → List ℕ → Type 0
+SendsMore old new before now bytes pending later =
+    (first : SinkView) (text : List ℕ) → IsUnderWay first old before text pending
+    → IsUnderWay first new now (text ++ bytes) later
+
+-- a text that was under way since any moment has gone out, with what was pending
+abbrev pub Finishes : SinkView → SinkView → Bool → Bool → List ℕ → Type 0
+Finishes old new before now pending =
+    (first : SinkView) (text : List ℕ) → IsUnderWay first old before text pending → Sent first new now text
 
 -- Ok where all of the text went out, without a fault; else a first part did, and there was a fault.
-abbrev pub Sends : {E T : Type 0} → Option (List ℕ) → Option (List ℕ) → Option Bool → Option Bool → Result T E → List ℕ → Type 0
-Sends held holds failed fails (Ok done) text = Sent held holds failed fails true text
-Sends held holds failed fails (Err error) text = Sent held holds failed fails false text
+abbrev pub Sends : {E T : Type 0} → SinkView → SinkView → Result T E → List ℕ → Type 0
+Sends old new (Ok done) text = Sent old new true text
+Sends old new (Err error) text = Sent old new false text

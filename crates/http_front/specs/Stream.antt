@@ -3,6 +3,7 @@ use Rattle.std.specs.Prelude.{◌≡◌, ◌≢◌, ℕ, ◌+◌, ◌≤◌, ◌
 use Rattle.std.specs.Io.KnownBytes.{IsAtEnd}
 use Rattle.httparse.specs.Grammar.{RequestHead, print_request, ReadsRequest}
 use Rattle.stream_face.specs.Faults.{fault_told}
+use Rattle.stream_face.specs.Views.{SourceView}
 use Rattle.http_front.specs.Head.{asked_by, framing, is_last, is_bare}
 use Rattle.http_front.specs.declared.conn.Next.{Next}
 use Rattle.http_front.specs.declared.conn.Next.TheVariants.{Message, Refused, Ended, ReadFault}
@@ -118,8 +119,8 @@ Finds n known left future (Message pairs) last bare = FindsItem n known left fut
 Finds n known left future (Refused code) last bare = FindsItem n known left future (Refused code) last bare
 
 -- a read failed in a look for the next message exactly where it says so
-abbrev pub TellsNext : Option Bool → Option Bool → Next → Type 0
-TellsNext failed fails ReadFault = fails ≡ fault_told failed
-TellsNext failed fails Ended = fails ≡ failed
-TellsNext failed fails (Message pairs) = fails ≡ failed
-TellsNext failed fails (Refused code) = fails ≡ failed
+abbrev pub TellsNext : SourceView → SourceView → Next → Type 0
+TellsNext old new ReadFault = new.failed ≡ fault_told old.failed
+TellsNext old new Ended = new.failed ≡ old.failed
+TellsNext old new (Message pairs) = new.failed ≡ old.failed
+TellsNext old new (Refused code) = new.failed ≡ old.failed

@@ -19,8 +19,8 @@ pub enum Ahead {
 /// Reads until a head stands at the front, or none can come. A head is parsed where a line has ended since it was parsed
 /// last: of a stream that comes byte by byte once a line, and so at most some 64 times over.
 pub fn look_ahead<S: Source>(buffer: &mut Buffer, source: &mut S) -> Ahead
-    ensures bytes { LooksAhead (S.remaining source.old) (S.remaining source.new) buffer.old buffer.new result }
-    ensures told { TellsAhead (S.failed source.old) (S.failed source.new) result }
+    ensures bytes { LooksAhead (S.view source.old) (S.view source.new) buffer.old buffer.new result }
+    ensures told { TellsAhead (S.view source.old) (S.view source.new) result }
 {
     let mut seen = 0;
     'reading: loop {

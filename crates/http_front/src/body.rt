@@ -1,5 +1,5 @@
 //! The body of a message.
-ghost use Rattle.std.specs.Prelude.{◌≡◌, ◌<◌};
+ghost use Rattle.std.specs.Prelude.{◌<◌};
 ghost use Rattle.http_front.specs.Bytes.{Refills, TellsFilled, Extends, TakesBody, TellsBody};
 
 use crate::buffer::{Buffer, Filled};
@@ -18,8 +18,8 @@ pub enum Body {
 /// Reads once if nothing is held, at most so many bytes.
 fn refill<S: Source>(buffer: &mut Buffer, source: &mut S, most: usize) -> Filled
     requires { 0 < most }
-    ensures bytes { Refills (S.remaining source.old) (S.remaining source.new) buffer.old buffer.new most result }
-    ensures told { TellsFilled (S.failed source.old) (S.failed source.new) result }
+    ensures bytes { Refills (S.view source.old) (S.view source.new) buffer.old buffer.new most result }
+    ensures told { TellsFilled (S.view source.old) (S.view source.new) result }
 {
     if buffer.len() > 0 {
         Filled::More
@@ -50,8 +50,8 @@ pub fn take_body<S: Source>(
     len: usize,
     keep: bool,
 ) -> Body
-    ensures bytes { TakesBody (S.remaining source.old) (S.remaining source.new) buffer.old buffer.new len result }
-    ensures told { TellsBody (S.failed source.old) (S.failed source.new) result }
+    ensures bytes { TakesBody (S.view source.old) (S.view source.new) buffer.old buffer.new len result }
+    ensures told { TellsBody (S.view source.old) (S.view source.new) result }
 {
     let mut kept = if keep { Some(Vec::new(alloc)) } else { None };
     let mut left = len;

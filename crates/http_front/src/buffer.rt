@@ -63,8 +63,8 @@ impl Buffer {
     pub fn fill<S: Source>(&mut self, source: &mut S, most: usize) -> Filled
         requires room { length self.old < 16384 }
         requires some { 0 < most }
-        ensures bytes { Fills (S.remaining source.old) (S.remaining source.new) self.old self.new most result }
-        ensures told { TellsFilled (S.failed source.old) (S.failed source.new) result }
+        ensures bytes { Fills (S.view source.old) (S.view source.new) self.old self.new most result }
+        ensures told { TellsFilled (S.view source.old) (S.view source.new) result }
     {
         self.bytes.copy_within(self.start..self.end, 0);
         self.end -= self.start;

@@ -75,10 +75,10 @@ impl Conn {
     /// body that is too long, 3 for another path than `/ows`, 4 for a message that is not served, and 90 where no memory
     /// was found for the pairs. `ReadFault` is answered only where a read failed in this call.
     pub fn next<S: Source>(&mut self, alloc: Global, source: &mut S) -> Next
-        ensures found { self.old.over ≡ false → TakesNext (S.remaining source.old) (S.remaining source.new) self.old self.new result }
+        ensures found { self.old.over ≡ false → TakesNext (S.view source.old) (S.view source.new) self.old self.new result }
         ensures ended { self.old.over ≡ true → (result ≡ Next.Ended) × (source.new ≡ source.old) × (self.new ≡ self.old) }
         ensures count { self.new.over ≡ false → self.new.count ≡ self.old.count + 1 }
-        ensures told { TellsNext (S.failed source.old) (S.failed source.new) result }
+        ensures told { TellsNext (S.view source.old) (S.view source.new) result }
     {
         if self.over {
             return Next::Ended;
@@ -115,8 +115,8 @@ impl Conn {
     /// Writes the reply to the message that came last, without its body where that was a HEAD, and flushes it. A small reply
     /// goes out in one write.
     pub fn send<K: Sink>(&self, sink: &mut K, reply: &Reply) -> Result<(), WriteFault>
-        ensures sent { Sends (K.contents sink.old) (K.contents sink.new) (K.failed sink.old) (K.failed sink.new) result (reply_bytes self.now.over self.now.bare reply.now) }
-        ensures flushed { IfOk result (λ _. IsFlushed (K.waiting sink.new)) }
+        ensures sent { Sends (K.view sink.old) (K.view sink.new) result (reply_bytes self.now.over self.now.bare reply.now) }
+        ensures flushed { IfOk result (λ _. IsFlushed (K.view sink.new).waiting) }
     {
         send(sink, reply, self.over, self.bare)
     }

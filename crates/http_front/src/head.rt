@@ -1,10 +1,10 @@
 //! What stands at the front of some bytes: a whole head, a part of one, or no head.
-ghost use Rattle.std.specs.Prelude.{◌≡◌, ◌≤◌, ◌<◌, ◌||◌, ℕ, List, length, map, take, All};
+ghost use Rattle.std.specs.Prelude.{◌≡◌, ◌≤◌, ◌<◌, ◌||◌, length, map, take, All};
 ghost use Rattle.httparse.specs.Grammar.{HasNoRequest};
 ghost use Rattle.httparse.specs.Spans.{span_bytes, header_bytes, IsHeaderWithin};
 ghost use Rattle.http1.specs.Fields.{known_fields};
 ghost use Rattle.http_front.specs.Bytes.{has_line_end};
-ghost use Rattle.http_front.specs.Head.{FrontOf, query_of, query_at, IsQueryPlaced, asked_at, asked_parts, IsPlaced, framing_of, is_served};
+ghost use Rattle.http_front.specs.Head.{FrontOf, query_of, query_at, IsQueryPlaced, IsAsked, asked_parts, IsPlaced, framing_of, is_served};
 
 use crate::refusals::{BAD_HEAD, BODY_TOO_LONG, NO_SUCH_PATH, NOT_SERVED};
 use http1::fields::{ContentLength, KnownFields, TransferEncoding};
@@ -74,7 +74,7 @@ fn query_at(bytes: &[u8], target: Span) -> Result<Span, u16>
 fn asked_of(bytes: &[u8], method: &[u8], target: Span) -> Asked
     requires ordered { target.start ≤ target.end }
     requires in_range { target.end ≤ length bytes.now }
-    ensures asked { (body : List ℕ) → asked_at bytes.now result body ≡ asked_parts method.now (span_bytes bytes.now target) body }
+    ensures asked { IsAsked bytes.now result (asked_parts method.now (span_bytes bytes.now target)) }
     ensures placed { IsPlaced bytes.now result }
 {
     if method == b"GET".as_slice() {

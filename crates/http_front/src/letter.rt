@@ -1,7 +1,6 @@
 //! A reply on its way out.
-ghost use Rattle.std.specs.Prelude.{◌≡◌, ◌+◌, ◌≤◌, ℕ, Bool, List, Option, [], ◌++◌, length};
-ghost use Rattle.stream_face.specs.Faults.{Sent};
-ghost use Rattle.http_front.specs.Sending.{IsUnderWay};
+ghost use Rattle.std.specs.Prelude.{◌≡◌, ◌+◌, ◌≤◌, [], ◌++◌, length};
+ghost use Rattle.http_front.specs.Sending.{SendsMore, Finishes};
 
 use std::marker::Model;
 use stream_face::{Sink, send_all};
@@ -70,9 +69,7 @@ impl Letter {
 
     /// Adds bytes to the reply, unless a write failed before. It says whether none has failed.
     pub fn add<K: Sink>(&mut self, sink: &mut K, ok: bool, bytes: &[u8]) -> bool
-        ensures { (held : Option (List ℕ)) (failed : Option Bool) (text : List ℕ)
-            → IsUnderWay held (K.contents sink.old) failed (K.failed sink.old) ok text self.old
-            → IsUnderWay held (K.contents sink.new) failed (K.failed sink.new) result (text ++ bytes.now) self.new }
+        ensures { SendsMore (K.view sink.old) (K.view sink.new) ok result bytes.now self.old self.new }
     {
         if !ok {
             return false;
@@ -90,9 +87,7 @@ impl Letter {
 
     /// Writes what is held back, at the end of the reply. It says whether nothing has failed.
     pub fn finish<K: Sink>(&self, sink: &mut K, ok: bool) -> bool
-        ensures { (held : Option (List ℕ)) (failed : Option Bool) (text : List ℕ)
-            → IsUnderWay held (K.contents sink.old) failed (K.failed sink.old) ok text self.now
-            → Sent held (K.contents sink.new) failed (K.failed sink.new) result text }
+        ensures { Finishes (K.view sink.old) (K.view sink.new) ok result self.now }
     {
         if !ok {
             return false;

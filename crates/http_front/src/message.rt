@@ -31,9 +31,9 @@ pub fn take_message<S: Source>(
     number: usize,
 ) -> Taken
     requires { IsHeadAt buffer.old head }
-    ensures found { Takes (S.remaining source.old) (S.remaining source.new) number buffer.old buffer.new result.next result.over head.bare }
+    ensures found { Takes (S.view source.old) (S.view source.new) number buffer.old buffer.new result head.bare }
     ensures goes_on { result.over ≡ false → number ≢ 999 }
-    ensures told { TellsNext (S.failed source.old) (S.failed source.new) result.next }
+    ensures told { TellsNext (S.view source.old) (S.view source.new) result.next }
 {
     let prepared = prepare(alloc, buffer.held(), head.asked);
     let len = match head.framing {
@@ -95,11 +95,11 @@ fn is_body(asked: Asked) -> bool
     }
 }
 
-/// The body, where it was asked for.
-fn chosen(keep: bool, body: Vec<u8>, prepared: Next) -> Next
-    ensures { (asked : Result (List ℕ) ℕ) → (keep ≡ true → asked ≡ Ok body.items) → Shows asked prepared → Shows asked result }
+/// The body where it was asked for, else the other.
+fn chosen(keep: bool, body: Vec<u8>, other: Next) -> Next
+    ensures { (asked : Result (List ℕ) ℕ) → (keep ≡ true → asked ≡ Ok body.items) → Shows asked other → Shows asked result }
 {
-    if keep { Next::Message(body) } else { prepared }
+    if keep { Next::Message(body) } else { other }
 }
 
 fn either(a: bool, b: bool) -> bool

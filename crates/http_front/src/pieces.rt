@@ -209,7 +209,7 @@ impl Write for PieceWriter {
         ensures wants { (FailsToWrite self.old → ⊥) → IfErr result (λ e. error_kind e ≡ ErrorKind.OutOfMemory) }
         ensures due { self.new.due ≡ self.old.due - 1 }
         ensures refused { OnErr result (self.new.room ≡ self.old.room) }
-        ensures same { (self.new.flushed ≡ self.old.flushed) × (self.new.step ≡ self.old.step) × (self.new.kind ≡ self.old.kind) }
+        ensures same { self.new ≡ record self.old { text = self.new.text; room = self.new.room; due = self.new.due } }
     {
         let kind = self.kind;
         if self.is_due() {

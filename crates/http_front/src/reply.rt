@@ -1,9 +1,10 @@
 //! The bytes of a reply.
-ghost use Rattle.std.specs.Prelude.{◌≡◌, [], ◌++◌, length, IfOk};
+ghost use Rattle.std.specs.Prelude.{◌≡◌, [], IfOk};
 ghost use Rattle.http.specs.StatusCode.{IsStatusCode};
 ghost use Rattle.stream_face.specs.Waiting.{IsFlushed};
 ghost use Rattle.http_front.specs.Sending.{IsUnderWay, Sends};
-ghost use Rattle.http_front.specs.Replies.{phrase_of, opening, reply_bytes, body_shown};
+ghost use Rattle.http_front.specs.declared.reply.Reply.TheVariants.{Refused};
+ghost use Rattle.http_front.specs.Replies.{phrase_of, opening, framed, reply_bytes};
 
 use crate::letter::Letter;
 use crate::refusals::status_of;
@@ -49,7 +50,7 @@ fn add_opening<K: Sink>(
 ) -> bool
     requires status { IsStatusCode status }
     requires begins { letter.old ≡ [] }
-    ensures { IsUnderWay (K.contents sink.old) (K.contents sink.new) (K.failed sink.old) (K.failed sink.new) result (opening status kind.now length last) letter.new }
+    ensures { IsUnderWay (K.view sink.old) (K.view sink.new) result (opening status kind.now length last) letter.new }
 {
     let mut status_digits = Buffer::new();
     let mut length_digits = Buffer::new();
@@ -80,8 +81,7 @@ fn add_text<K: Sink>(
     bare: bool,
 ) -> bool
     requires { letter.old ≡ [] }
-    ensures { IsUnderWay (K.contents sink.old) (K.contents sink.new) (K.failed sink.old) (K.failed sink.new) result
-        (opening 200 kind.now (length text.now) last ++ body_shown bare text.now) letter.new }
+    ensures { IsUnderWay (K.view sink.old) (K.view sink.new) result (framed 200 kind.now text.now last bare) letter.new }
 {
     let ok = add_opening(letter, sink, 200, kind, text.len(), last);
     if bare {
@@ -99,8 +99,7 @@ fn add_refusal<K: Sink>(
     bare: bool,
 ) -> bool
     requires { letter.old ≡ [] }
-    ensures { IsUnderWay (K.contents sink.old) (K.contents sink.new) (K.failed sink.old) (K.failed sink.new) result
-        (reply_bytes last bare (Reply.Refused code)) letter.new }
+    ensures { IsUnderWay (K.view sink.old) (K.view sink.new) result (reply_bytes last bare (Refused code)) letter.new }
 {
     let mut digits = Buffer::new();
     let number = digits.format(code);
@@ -126,8 +125,7 @@ fn add_reply<K: Sink>(
     bare: bool,
 ) -> bool
     requires { letter.old ≡ [] }
-    ensures { IsUnderWay (K.contents sink.old) (K.contents sink.new) (K.failed sink.old) (K.failed sink.new) result
-        (reply_bytes last bare reply.now) letter.new }
+    ensures { IsUnderWay (K.view sink.old) (K.view sink.new) result (reply_bytes last bare reply.now) letter.new }
 {
     match reply {
         Reply::Text(text) => add_text(letter, sink, "text/plain", text.as_str(), last, bare),
@@ -138,8 +136,8 @@ fn add_reply<K: Sink>(
 
 /// Writes a reply, without its body where it is bare, and flushes it.
 pub fn send<K: Sink>(sink: &mut K, reply: &Reply, last: bool, bare: bool) -> Result<(), WriteFault>
-    ensures sent { Sends (K.contents sink.old) (K.contents sink.new) (K.failed sink.old) (K.failed sink.new) result (reply_bytes last bare reply.now) }
-    ensures flushed { IfOk result (λ _. IsFlushed (K.waiting sink.new)) }
+    ensures sent { Sends (K.view sink.old) (K.view sink.new) result (reply_bytes last bare reply.now) }
+    ensures flushed { IfOk result (λ _. IsFlushed (K.view sink.new).waiting) }
 {
     let mut letter = Letter::new();
     let ok = add_reply(&mut letter, sink, reply, last, bare);

@@ -5,8 +5,7 @@ use Rattle.std.proofs.lemmas.List.Sums.{sum_by-cons}
 use Rattle.plan_ir.specs.Plans.{PlanTree}
 use Rattle.plan_ir.specs.Units.{Stage, bound}
 use Rattle.tile_exec.specs.declared.exec.Exec.{Exec}
-use Rattle.tile_exec.specs.Standing.{MovesOver, MovesOn, plan_of, left_of, boxes_left}
-use Rattle.job_desk.specs.Steps.{FetchesWithin}
+use Rattle.tile_exec.specs.Standing.{MovesOver, MovesOn, plan_of, left_of, boxes_left, most_fetched}
 
 drop_none : (k : ℕ) → drop {A = Stage} k [] ≡ []
 drop_none zero = refl
@@ -50,7 +49,7 @@ boxes_more was is new n plan boxes fewer some one m =
     let e : left_of was - left_of is + 1 ≡ left_of was - left_of new = omega arith in
     boxes_after (plan_of was) (left_of was - left_of is) (boxes_left was) (boxes_left new) n (moved was is new n plan boxes m) ∙ ap (λ k. drop k (boxes_left was)) e
 
-pub fetched_more : (was is new : Exec) (n before here after : ℕ) → plan_of is ≡ plan_of was → boxes_left is ≡ drop (left_of was - left_of is) (boxes_left was) → left_of is ≤ left_of was → 0 < left_of is → left_of new ≡ left_of is - 1 → MovesOn is new n → after ≡ min (2 ^ 64 - 1) (here + n) → FetchesWithin was is before here → FetchesWithin was new before after
+pub fetched_more : (was is new : Exec) (n before here after : ℕ) → plan_of is ≡ plan_of was → boxes_left is ≡ drop (left_of was - left_of is) (boxes_left was) → left_of is ≤ left_of was → 0 < left_of is → left_of new ≡ left_of is - 1 → MovesOn is new n → after ≡ min (2 ^ 64 - 1) (here + n) → here ≤ before + most_fetched was is → after ≤ before + most_fetched was new
 fetched_more was is new n before here after plan boxes fewer some one m count within =
     let e : left_of was - left_of is + 1 ≡ left_of was - left_of new = omega arith in
     let f = λ (k : ℕ). sum_by (bound (plan_of was)) (take k (boxes_left was)) in

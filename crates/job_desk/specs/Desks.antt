@@ -1,11 +1,13 @@
 -- The desk: the jobs that are held, in the order of their numbers, and the number that the next one gets.
-use Rattle.std.specs.Prelude.{◌≡◌, ℕ, ◌+◌, ◌-◌, ◌^◌, ◌<◌, ◌≤◌, nat_lt, nat_eq, cond, ◌⊎◌, ℤ, List, [], ◌∷◌, ◌++◌, length, Option, Some, None, Result, Ok, Err, string_bytes}
+use Rattle.std.specs.Prelude.{◌≡◌, ℕ, ◌+◌, ◌-◌, ◌^◌, ◌<◌, ◌≤◌, nat_lt, nat_eq, cond, ◌⊎◌, List, [], ◌∷◌, ◌++◌, length, Option, Some, None, Result, Ok, Err, string_bytes}
 use Rattle.std.specs.List.{find, All, AllPairs}
 use Rattle.wcps_mean.specs.declared.cell.PointFault.{PointFault}
 use Rattle.wcps_mean.specs.declared.item.Item.{Item}
 use Rattle.csv_out.specs.Csv.{csv}
 use Rattle.plan_ir.specs.Plans.{PlanTree}
 use Rattle.plan_ir.specs.Planned.{planned}
+use Rattle.tile_exec.specs.declared.exec.Exec.{Exec}
+use Rattle.tile_exec.specs.Tasks.{Cells}
 use Rattle.tile_exec.specs.Standing.{StandsFor, IsBegun, plan_of, left_of}
 use Rattle.job_desk.specs.declared.job.Job.{Job}
 use Rattle.job_desk.specs.declared.answer.Answer.{Answer}
@@ -71,10 +73,14 @@ IsAnswer (Err fault) (Refused refused) = refused ≡ fault
 IsAnswer (Ok items) (Refused refused) = ⊥
 IsAnswer (Err fault) (Text text) = ⊥
 
+-- what an executor's plan gives over each store that it stands for is answered so
+abbrev pub AnswersFor : Exec → Answer → Type 0
+AnswersFor e given = (s : Cells) → StandsFor s e → IsAnswer (planned s (plan_of e)) given
+
 -- a job without units left was taken out, and its answer is what its plan gives over what its executor stands for
 pub record IsFetched (n : ℕ) (given : Answer) (old new : DeskView) : Type 0 where
   pub job : Job
   pub held : job_of n old.jobs ≡ Some job
   pub done : job.left ≡ 0
-  pub answer : (s : ℕ → ℕ → List ℤ → ℤ) → StandsFor s job.exec → IsAnswer (planned s (plan_of job.exec)) given
+  pub answer : AnswersFor job.exec given
   pub desk : new ≡ taken_out n old

@@ -1,9 +1,8 @@
 //! What a finished job answers.
 
-ghost use Rattle.std.specs.Prelude.{◌≡◌, ℕ, ℤ, List, IfOk};
-ghost use Rattle.plan_ir.specs.Planned.{planned};
-ghost use Rattle.tile_exec.specs.Standing.{StandsFor, plan_of, left_of};
-ghost use Rattle.job_desk.specs.Desks.{IsAnswer};
+ghost use Rattle.std.specs.Prelude.{◌≡◌, IfOk};
+ghost use Rattle.tile_exec.specs.Standing.{left_of};
+ghost use Rattle.job_desk.specs.Desks.{AnswersFor};
 
 use csv_out::csv_text;
 use std::alloc::{AllocError, Global};
@@ -20,7 +19,7 @@ pub enum Answer {
 /// The answer of an executor that has no unit left.
 pub fn answer_of(alloc: Global, exec: &Exec) -> Result<Answer, AllocError>
     requires { left_of exec.now ≡ 0 }
-    ensures { IfOk result (λ a. (s : ℕ → ℕ → List ℤ → ℤ) → StandsFor s exec.now → IsAnswer (planned s (plan_of exec.now)) a) }
+    ensures { IfOk result (λ a. AnswersFor exec.now a) }
 {
     match exec.result() {
         Some(Ok(items)) => Ok(Answer::Text(csv_text(alloc, items)?)),

@@ -5,10 +5,8 @@ ghost use Rattle.std.specs.Int.NonZero.{non_zero_u64_get};
 ghost use Rattle.std.specs.List.{remove};
 ghost use Rattle.plan_ir.specs.Plans.{plan_view};
 ghost use Rattle.plan_ir.specs.Placed.{IsPlan};
-ghost use Rattle.tile_exec.specs.Standing.{plan_of};
-ghost use Rattle.job_desk.specs.declared.job.Job.{Job};
 ghost use Rattle.job_desk.specs.Desks.{job_of, taken_out, number_after, IsSubmitted, IsFetched, IsDesk};
-ghost use Rattle.job_desk.specs.Steps.{HasCoverages, IsLowered, IsChanged, IsRefusedStep, StepReports, StepFetches, IsRead, Ends, IsRefusedFetch, IsRefusedSubmit};
+ghost use Rattle.job_desk.specs.Steps.{coverages_of, HasCoverages, IsLowered, IsChanged, IsRefusedStep, StepsSource, IsRefusedFetch, IsRefusedSubmit};
 
 use crate::answer::{Answer, answer_of};
 use crate::error::{FetchError, NoSuchJob, StepError, SubmitError};
@@ -106,7 +104,7 @@ impl JobDesk {
     /// The coverages of a job's plan, in the plan's order; `None` where there is no such job. The desk's numbers rise, and
     /// there are at most 64 jobs.
     pub fn coverages(&self, job: u64) -> Option<&[Signature]>
-        ensures coverages { option_copied result ≡ option_map (λ (j : Job). (plan_of j.exec).coverages) (job_of job self.now.jobs) }
+        ensures coverages { option_copied result ≡ option_map coverages_of (job_of job self.now.jobs) }
         ensures desk { IsDesk self.now }
     {
         let place = place_of(&self.jobs, job)?;
@@ -129,10 +127,10 @@ impl JobDesk {
         units: u64,
         source: &mut S,
     ) -> Result<u64, StepError>
-        requires { HasCoverages job self.old.jobs (S.coverages source.old) }
-        ensures stepped { IfOk result (λ left. IsChanged (IsLowered (S.intact source.old) (S.cells source.old) units left) job self.old self.new) }
-        ensures refused { IfErr result (λ e. IsRefusedStep (S.intact source.old) (S.cells source.old) job units self.old self.new e) }
-        ensures source { (m : S) × IsRead S.cells S.coverages S.kept S.intact source.old m × StepReports result (S.spelled (S.kept source.old)) (S.failures source.old) (S.failures m) × Ends result (source.new ≡ m) (S.releases m job source.new) × StepFetches result job self.old self.new (S.fetched source.old) (S.fetched m) }
+        requires { HasCoverages job self.old.jobs (S.state source.old).coverages }
+        ensures stepped { IfOk result (λ left. IsChanged (IsLowered (S.state source.old) units left) job self.old self.new) }
+        ensures refused { IfErr result (λ e. IsRefusedStep (S.state source.old) job units self.old self.new e) }
+        ensures source { StepsSource S.state S.spelled S.releases result job self.old self.new source.old source.new }
     {
         let Some(place) = place_of(&self.jobs, job) else {
             return Err(StepError::NoSuchJob);

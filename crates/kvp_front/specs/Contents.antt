@@ -1,7 +1,7 @@
 -- The cells that an update writes.
-use Rattle.std.specs.Prelude.{ℕ, List, [], ◌∷◌, Result, Ok, Err}
+use Rattle.std.specs.Prelude.{ℕ, List, [], ◌∷◌, Result, Ok, Err, codes}
 use Rattle.arr_core.specs.declared.cell.Cell.{Cell}
-use Rattle.kvp_front.specs.Values.{and_then}
+use Rattle.kvp_front.specs.Values.{and_then, values_of}
 use Rattle.kvp_front.specs.Spelling.{cell_in, list_in}
 use Rattle.kvp_front.specs.declared.request.RequestError.{RequestError}
 use Rattle.kvp_front.specs.declared.request.RequestError.TheVariants.{MissingKey, RepeatedKey, BadValue}
@@ -27,3 +27,7 @@ content_of (text ∷ []) [] = and_then (λ cell. Ok (fill cell)) (cell_in text)
 content_of (text ∷ []) (other ∷ []) = Err BadValue
 content_of (text ∷ []) (other ∷ second ∷ more) = Err RepeatedKey
 content_of (text ∷ second ∷ more) others = Err RepeatedKey
+
+-- the content that pairs spell under both keys
+abbrev pub content_under : List (List ℕ × List ℕ) → Result Cells RequestError
+content_under pairs = content_of (values_of (codes "fill") pairs) (values_of (codes "values") pairs)

@@ -3,7 +3,7 @@ use Rattle.std.specs.Prelude.{ℕ, List, [], ◌∷◌, Result, Ok, Err, if◌th
 use Rattle.arr_core.specs.declared.field.Field.{Field}
 use Rattle.kvp_front.specs.Values.{pairs_of, values_of, and_then, read_under}
 use Rattle.kvp_front.specs.Spelling.{name_in, interval_in, field_in, list_in, query_in}
-use Rattle.kvp_front.specs.Contents.{Cells, content_view, content_of}
+use Rattle.kvp_front.specs.Contents.{Cells, content_view, content_under}
 use Rattle.kvp_front.specs.Jobs.{job_in, units_in}
 use Rattle.kvp_front.specs.Templates.{Template, template_view, template_of}
 use Rattle.kvp_front.specs.declared.request.Interval.{Interval}
@@ -71,7 +71,7 @@ insertion_of pairs =
 
 abbrev pub update_of : List (List ℕ × List ℕ) → Result Asks RequestError
 update_of pairs =
-    and_then (λ coverage. and_then (λ field. and_then (λ intervals. and_then (λ cells. Ok (update_coverage coverage field intervals cells)) (content_of (values_of (codes "fill") pairs) (values_of (codes "values") pairs))) (read_under (list_in interval_in) (codes "box") pairs)) (read_under name_in (codes "field") pairs))
+    and_then (λ coverage. and_then (λ field. and_then (λ intervals. and_then (λ cells. Ok (update_coverage coverage field intervals cells)) (content_under pairs)) (read_under (list_in interval_in) (codes "box") pairs)) (read_under name_in (codes "field") pairs))
     (read_under name_in (codes "coverage") pairs)
 
 abbrev pub deletion_of : List (List ℕ × List ℕ) → Result Asks RequestError

@@ -1,15 +1,15 @@
 -- How names, numbers, intervals, fields and cells are spelled in the values of a request.
-use Rattle.std.specs.Prelude.{◌≡◌, ℕ, ◌+◌, ◌^◌, ◌==◌, ◌&&◌, Bool, true, false, nat_lt, nat_le, ℤ, pos, neg_ℤ, List, [], ◌∷◌, length, Result, Ok, Err, Vec, if◌then◌else◌, bytes_eq, codes}
+use Rattle.std.specs.Prelude.{◌≡◌, ℕ, ◌+◌, ◌^◌, ◌==◌, ◌&&◌, Bool, true, false, nat_lt, nat_le, ℤ, pos, neg_ℤ, List, [], ◌∷◌, length, Result, Ok, Err, ok_or, Vec, if◌then◌else◌, bytes_eq, codes}
 use Rattle.std.specs.declared.alloc.Global.{Global}
 use Rattle.std.specs.Borrow.{Bor}
 use Rattle.std.specs.List.{position_or_len, before_first, after_first, slice_split}
 use Rattle.std.specs.Str.{all_ascii_digits}
 use Rattle.std.specs.Str.Parse.{digits_value}
+use Rattle.arr_core.specs.Cells.{type_named}
 use Rattle.arr_core.specs.Names.{is_name}
 use Rattle.arr_core.specs.declared.cell.Cell.{Cell}
 use Rattle.arr_core.specs.declared.cell.Cell.TheVariants.{Int, Bool as Truth}
 use Rattle.arr_core.specs.declared.cell.FieldType.{FieldType}
-use Rattle.arr_core.specs.declared.cell.FieldType.TheVariants as Kind
 use Rattle.arr_core.specs.declared.field.Field.{Field}
 use Rattle.kvp_front.specs.Values.{and_then}
 use Rattle.kvp_front.specs.declared.request.Interval.{Interval}
@@ -48,11 +48,7 @@ cell_in text =
 
 -- the type of a field
 abbrev pub kind_in : List ℕ → Result FieldType RequestError
-kind_in text =
-    if bytes_eq text (codes "bool") then Ok Kind.Bool
-    else (if bytes_eq text (codes "u8") then Ok Kind.U8
-    else (if bytes_eq text (codes "i16") then Ok Kind.I16
-    else (if bytes_eq text (codes "i32") then Ok Kind.I32 else (if bytes_eq text (codes "i64") then Ok Kind.I64 else Err BadValue))))
+kind_in text = ok_or (type_named text) BadValue
 
 -- the byte is this one
 abbrev pub is_byte : ℕ → ℕ → Bool

@@ -1,7 +1,7 @@
 //! The cells that an update writes: one cell everywhere, or a cell for each point.
-ghost use Rattle.std.specs.Prelude.{codes, map};
-ghost use Rattle.kvp_front.specs.Values.{Gives, values_of, pair_view};
-ghost use Rattle.kvp_front.specs.Contents.{content_view, content_of};
+ghost use Rattle.std.specs.Prelude.{map};
+ghost use Rattle.kvp_front.specs.Values.{Gives, pair_view};
+ghost use Rattle.kvp_front.specs.Contents.{content_view, content_under};
 
 use crate::lists::read_list;
 use crate::pairs::{Found, Pair, find};
@@ -19,7 +19,7 @@ pub enum Content {
 
 /// The content under the keys `fill` and `values`, of which exactly one is given, and once.
 pub fn content_under(alloc: Global, pairs: &[Pair<'_>]) -> Result<Content, RequestError>
-    ensures { Gives content_view (content_of (values_of (codes "fill") (map pair_view pairs.now)) (values_of (codes "values") (map pair_view pairs.now))) result }
+    ensures { Gives content_view (content_under (map pair_view pairs.now)) result }
 {
     let fill = find(alloc, pairs, "fill")?;
     let values = find(alloc, pairs, "values")?;

@@ -1,6 +1,6 @@
 //! Lists in the values of a request: items joined by commas.
 ghost use Rattle.std.specs.Prelude.{map};
-ghost use Rattle.kvp_front.specs.Values.{Gives, and_then, only_value, values_of, pair_view};
+ghost use Rattle.kvp_front.specs.Values.{Gives, pair_view, read_under};
 ghost use Rattle.kvp_front.specs.Spelling.{interval_in, field_in, cell_in, list_in, items_of};
 
 use crate::pairs::{Pair, value_under};
@@ -75,7 +75,7 @@ pub fn list_under<T: Item>(
     pairs: &[Pair<'_>],
     key: &str,
 ) -> Result<Vec<T>, RequestError>
-    ensures { Gives items_of (and_then (list_in T.item_in) (only_value (values_of key.now (map pair_view pairs.now)))) result }
+    ensures { Gives items_of (read_under (list_in T.item_in) key.now (map pair_view pairs.now)) result }
 {
     let text = value_under(alloc, pairs, key)?;
     read_list(alloc, text.as_str())

@@ -1,6 +1,6 @@
 //! How names, numbers, intervals, fields and cells are spelled in the values of a request.
 ghost use Rattle.std.specs.Prelude.{◌≡◌, ◌<◌, codes, map, string_bytes};
-ghost use Rattle.kvp_front.specs.Values.{Gives, and_then, only_value, values_of, pair_view};
+ghost use Rattle.kvp_front.specs.Values.{Gives, pair_view, read_under};
 ghost use Rattle.kvp_front.specs.Spelling.{signed_in, name_in, kind_in, field_in, interval_in, cell_in, query_in, same, CutsAt};
 
 use crate::pairs::{Pair, value_under};
@@ -50,13 +50,9 @@ pub fn read_cell(text: &str) -> Result<Cell, RequestError>
 fn read_kind(text: &str) -> Result<FieldType, RequestError>
     ensures { Gives same (kind_in text.now) result }
 {
-    match text {
-        "bool" => Ok(FieldType::Bool),
-        "u8" => Ok(FieldType::U8),
-        "i16" => Ok(FieldType::I16),
-        "i32" => Ok(FieldType::I32),
-        "i64" => Ok(FieldType::I64),
-        _ => Err(RequestError::BadValue),
+    match FieldType::from_name(text) {
+        Some(kind) => Ok(kind),
+        None => Err(RequestError::BadValue),
     }
 }
 
@@ -99,7 +95,7 @@ pub fn read_field(alloc: Global, text: &str) -> Result<Field, RequestError>
 
 /// The name under a key.
 pub fn name_under(alloc: Global, pairs: &[Pair<'_>], key: &str) -> Result<Name, RequestError>
-    ensures { Gives same (and_then name_in (only_value (values_of key.now (map pair_view pairs.now)))) result }
+    ensures { Gives same (read_under name_in key.now (map pair_view pairs.now)) result }
 {
     let text = value_under(alloc, pairs, key)?;
     read_name(alloc, text.as_str())
@@ -107,7 +103,7 @@ pub fn name_under(alloc: Global, pairs: &[Pair<'_>], key: &str) -> Result<Name, 
 
 /// The text of a query.
 pub fn query_under(alloc: Global, pairs: &[Pair<'_>]) -> Result<String, RequestError>
-    ensures { Gives string_bytes (and_then query_in (only_value (values_of (codes "query") (map pair_view pairs.now)))) result }
+    ensures { Gives string_bytes (read_under query_in (codes "query") (map pair_view pairs.now)) result }
 {
     let text = value_under(alloc, pairs, "query")?;
     if text.len() > QUERY_LIMIT {

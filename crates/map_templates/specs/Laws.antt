@@ -1,5 +1,5 @@
 -- That the query of a template means Tomlin's operation.
-use Rattle.std.specs.Prelude.{◌≡◌, ℕ, ◌≤◌, ℤ, negsuc, pos, ◌≤ℤ◌, List}
+use Rattle.std.specs.Prelude.{◌≡◌, ℕ, ◌≤◌, ℤ, negsuc, pos, ◌≤ℤ◌, List, Result, IfOk, Ok}
 use Rattle.arr_core.specs.declared.domain.Axis.{Axis}
 use Rattle.arr_core.specs.declared.signature.Signature.{Signature}
 use Rattle.arr_core.specs.Domains.{AreOrdered}
@@ -8,6 +8,7 @@ use Rattle.wcps_mean.specs.declared.cell.Outcome.TheVariants.{Value}
 use Rattle.wcps_mean.specs.Meaning.{val}
 use Rattle.wcps_mean.specs.Answer.{answer}
 use Rattle.map_templates.specs.Tomlin.{Raster}
+use Rattle.map_templates.specs.Refusals.{Answer}
 use Rattle.map_templates.specs.Expansion.{Operation, local_on, focal_on, zonal_on}
 use Rattle.map_templates.specs.Meaning.{Cells, AreIntegers, array_of}
 use Rattle.map_templates.specs.TypedTrees.{single, tree_of, domain_of}
@@ -42,3 +43,7 @@ abbrev pub IsTomlins : Operation → Type 0
 IsTomlins o =
     (s : Source) (cells : Cells) (coverages : List Signature) (a b : Typed) → AreIntegers cells → ReadsLayers s cells o a b → IsBounded o → AreOrdered (domain_of o)
     → answer s (single coverages (domain_of o) (tree_of o a b)) ≡ array_of cells o
+
+-- where a call gave something, the operation that is asked for is Tomlin's
+abbrev pub AsksTomlins : {A E : Type 0} → Answer Operation → Result A E → Type 0
+AsksTomlins a result = IfOk result (λ text. (o : Operation) → a ≡ Ok o → IsTomlins o)

@@ -1,5 +1,5 @@
 -- That the text of a template is a query of the language, and what its answer is.
-use Rattle.std.specs.Prelude.{◌≡◌, ℕ, ◌≤◌, List, length, All}
+use Rattle.std.specs.Prelude.{◌≡◌, ℕ, ◌≤◌, List, length, All, Result, IfOk, Ok, String, string_bytes}
 use Rattle.arr_core.specs.declared.domain.Axis.{Axis}
 use Rattle.arr_core.specs.declared.field.Field.{Field}
 use Rattle.arr_core.specs.declared.signature.Signature.{Signature}
@@ -10,10 +10,10 @@ use Rattle.wcps_text.specs.Tree.{QueryTree}
 use Rattle.wcps_text.specs.Limits.{query_height}
 use Rattle.wcps_text.specs.Grammar.{IsSpelled}
 use Rattle.wcps_parse.specs.Outcome.{IsWithinLimits}
-use Rattle.std.specs.Prelude.{Ok}
 use Rattle.wcps_types.specs.Typed.{TypedTree}
 use Rattle.wcps_types.specs.Queries.{typ_query}
 use Rattle.wcps_mean.specs.Answer.{answer}
+use Rattle.map_templates.specs.Refusals.{Answer}
 use Rattle.map_templates.specs.Expansion.{Operation}
 use Rattle.map_templates.specs.Meaning.{Cells, AreIntegers, listed, array_of}
 use Rattle.map_templates.specs.Laws.{IsSmall}
@@ -52,3 +52,7 @@ pub record IsQueryOf (signatures : List Signature) (o : Operation) (text : List 
   pub query : QueryTree
   pub reads : IsText text query
   pub answered : IsAnswered signatures o query
+
+-- a text that a call wrote is a query of the operation that is asked for, where the coverages are as a store has them
+abbrev pub AsksQuery : {A E : Type 0} → List Signature → Answer Operation → Result (String A) E → Type 0
+AsksQuery signatures a result = All IsCoverage signatures → IfOk result (λ text. (o : Operation) → a ≡ Ok o → IsQueryOf signatures o (string_bytes text))

@@ -108,11 +108,14 @@ zonal_box operator others = codes " values condense " ++ operator ++ codes " ove
 abbrev pub zonal_test : List ℕ → List ℕ → List ℕ
 zonal_test other own = codes " where " ++ other ++ codes " = " ++ own
 
+-- the other location is in the zone of the own one
+abbrev pub same_zone_text : Layer → List Axis → List ℕ
+same_zone_text zones axes = zonal_test (located_text (layer_text (codes "z") zones) (codes "$u") axes) (located_text (layer_text (codes "z") zones) (codes "$p") axes)
+
 abbrev pub zonal_value : List ℕ → List ℕ
 zonal_value value = codes " using " ++ value ++ codes ", csv)"
 
 abbrev pub zonal_text : Summary → Layer → Layer → List Axis → List ℕ
 zonal_text op layer zones axes =
     four_texts (zonal_head layer.coverage zones.coverage (iterators_text (codes "$p") 1 axes)) (zonal_box (summary_text op) (iterators_text (codes "$u") 1 axes))
-    (zonal_test (located_text (layer_text (codes "z") zones) (codes "$u") axes) (located_text (layer_text (codes "z") zones) (codes "$p") axes))
-    (zonal_value (located_text (layer_text (codes "a") layer) (codes "$u") axes))
+    (same_zone_text zones axes) (zonal_value (located_text (layer_text (codes "a") layer) (codes "$u") axes))

@@ -1,12 +1,12 @@
 //! Expanding a template.
 
-ghost use Rattle.std.specs.Prelude.{◌≡◌, string_bytes, All, IfOk, Ok};
-ghost use Rattle.map_templates.specs.Laws.{IsTomlins};
-ghost use Rattle.map_templates.specs.Queries.{IsCoverage, IsQueryOf};
+ghost use Rattle.std.specs.Prelude.{◌≡◌, string_bytes};
+ghost use Rattle.map_templates.specs.Laws.{AsksTomlins};
+ghost use Rattle.map_templates.specs.Queries.{AsksQuery};
 ghost use Rattle.arr_core.specs.declared.signature.Signature.{Signature};
 ghost use Rattle.std.specs.Borrow.{Bor};
 ghost use Rattle.map_templates.specs.Refusals.{Says};
-ghost use Rattle.map_templates.specs.Expansion.{Operation, asked, as_text, operation_of, local_operation, focal_operation, zonal_operation, coverage_of, field_of, radius_of};
+ghost use Rattle.map_templates.specs.Expansion.{asked, as_text, operation_of, local_operation, focal_operation, zonal_operation, coverage_of, field_of, radius_of};
 ghost use Rattle.wcps_types.specs.Names.{coverage_place};
 ghost use Rattle.wcps_types.specs.Operators.{are_same};
 
@@ -33,8 +33,8 @@ pub fn expand(
     signatures: &[Signature],
 ) -> Result<String, ExpandError>
     ensures text { Says string_bytes result (as_text (asked template.now params.now signatures.now)) }
-    ensures queries { All IsCoverage signatures.now → IfOk result (λ text. (o : Operation) → asked template.now params.now signatures.now ≡ Ok o → IsQueryOf signatures.now o (string_bytes text)) }
-    ensures means { IfOk result (λ text. (o : Operation) → asked template.now params.now signatures.now ≡ Ok o → IsTomlins o) }
+    ensures queries { AsksQuery signatures.now (asked template.now params.now signatures.now) result }
+    ensures means { AsksTomlins (asked template.now params.now signatures.now) result }
 {
     expand_template(alloc, template_named(template), params, signatures)
 }

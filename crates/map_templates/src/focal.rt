@@ -1,6 +1,7 @@
 //! Focal operations.
 
-ghost use Rattle.std.specs.Prelude.{◌≡◌, codes, string_bytes, IfOk};
+ghost use Rattle.std.specs.Prelude.{codes};
+ghost use Rattle.map_templates.specs.Pieces.{Writes};
 ghost use Rattle.map_templates.specs.Templates.{summary_text};
 ghost use Rattle.map_templates.specs.Texts.{axis_text, edge_text, focal_edges, focal_head, focal_text, focal_value, focal_window, layer_text, window_text};
 
@@ -21,7 +22,7 @@ pub fn focal_text(
     y: &Axis,
     radius: u64,
 ) -> Result<String, AllocError>
-    ensures { IfOk result (λ text. string_bytes text ≡ focal_text summary layer.now x.now y.now radius) }
+    ensures { Writes result (focal_text summary layer.now x.now y.now radius) }
 {
     let head = places_text(alloc, layer, x, y)?;
     let window = windows_text(alloc, summary, x, y, radius)?;
@@ -40,7 +41,7 @@ pub fn focal_text(
 
 /// The coverage, and the iterators over its locations.
 fn places_text(alloc: Global, layer: &Layer, x: &Axis, y: &Axis) -> Result<String, AllocError>
-    ensures { IfOk result (λ text. string_bytes text ≡ focal_head layer.now.coverage (axis_text x.now) (axis_text y.now)) }
+    ensures { Writes result (focal_head layer.now.coverage (axis_text x.now) (axis_text y.now)) }
 {
     let first = axis_text(alloc, x)?;
     let second = axis_text(alloc, y)?;
@@ -53,7 +54,7 @@ fn places_text(alloc: Global, layer: &Layer, x: &Axis, y: &Axis) -> Result<Strin
 }
 
 fn head_text(alloc: Global, coverage: &str, x: &str, y: &str) -> Result<String, AllocError>
-    ensures { IfOk result (λ text. string_bytes text ≡ focal_head coverage.now x.now y.now) }
+    ensures { Writes result (focal_head coverage.now x.now y.now) }
 {
     joined(
         alloc,
@@ -76,7 +77,7 @@ fn windows_text(
     y: &Axis,
     radius: u64,
 ) -> Result<String, AllocError>
-    ensures { IfOk result (λ text. string_bytes text ≡ focal_window (summary_text summary) (window_text x.now radius) (window_text y.now radius)) }
+    ensures { Writes result (focal_window (summary_text summary) (window_text x.now radius) (window_text y.now radius)) }
 {
     let first = window_text(alloc, x, radius)?;
     let second = window_text(alloc, y, radius)?;
@@ -84,7 +85,7 @@ fn windows_text(
 }
 
 fn condenser_text(alloc: Global, operator: &str, x: &str, y: &str) -> Result<String, AllocError>
-    ensures { IfOk result (λ text. string_bytes text ≡ focal_window operator.now x.now y.now) }
+    ensures { Writes result (focal_window operator.now x.now y.now) }
 {
     joined(
         alloc,
@@ -94,7 +95,7 @@ fn condenser_text(alloc: Global, operator: &str, x: &str, y: &str) -> Result<Str
 
 /// The condition that a location of the window is one of the coverage.
 fn edges_text(alloc: Global, x: &Axis, y: &Axis) -> Result<String, AllocError>
-    ensures { IfOk result (λ text. string_bytes text ≡ focal_edges (edge_text (codes "$p + $u") x.now) (edge_text (codes "$q + $v") y.now)) }
+    ensures { Writes result (focal_edges (edge_text (codes "$p + $u") x.now) (edge_text (codes "$q + $v") y.now)) }
 {
     let first = edge_text(alloc, "$p + $u", x)?;
     let second = edge_text(alloc, "$q + $v", y)?;
@@ -102,21 +103,21 @@ fn edges_text(alloc: Global, x: &Axis, y: &Axis) -> Result<String, AllocError>
 }
 
 fn condition_text(alloc: Global, x: &str, y: &str) -> Result<String, AllocError>
-    ensures { IfOk result (λ text. string_bytes text ≡ focal_edges x.now y.now) }
+    ensures { Writes result (focal_edges x.now y.now) }
 {
     joined(alloc, &[" where ", x, " and ", y])
 }
 
 /// The value at a location of the window.
 fn moved_text(alloc: Global, layer: &Layer, x: &Axis, y: &Axis) -> Result<String, AllocError>
-    ensures { IfOk result (λ text. string_bytes text ≡ focal_value (layer_text (codes "a") layer.now) x.now.name y.now.name) }
+    ensures { Writes result (focal_value (layer_text (codes "a") layer.now) x.now.name y.now.name) }
 {
     let value = layer_text(alloc, "a", layer)?;
     located_text(alloc, value.as_str(), x.name.as_str(), y.name.as_str())
 }
 
 fn located_text(alloc: Global, value: &str, x: &str, y: &str) -> Result<String, AllocError>
-    ensures { IfOk result (λ text. string_bytes text ≡ focal_value value.now x.now y.now) }
+    ensures { Writes result (focal_value value.now x.now y.now) }
 {
     joined(
         alloc,
@@ -134,7 +135,7 @@ fn located_text(alloc: Global, value: &str, x: &str, y: &str) -> Result<String, 
 
 /// An axis with offsets up to the radius, to both sides.
 fn window_text(alloc: Global, axis: &Axis, radius: u64) -> Result<String, AllocError>
-    ensures { IfOk result (λ text. string_bytes text ≡ window_text axis.now radius) }
+    ensures { Writes result (window_text axis.now radius) }
 {
     let mut buffer = Buffer::new();
     let offset = buffer.format(radius);
@@ -143,7 +144,7 @@ fn window_text(alloc: Global, axis: &Axis, radius: u64) -> Result<String, AllocE
 
 /// The condition that a coordinate and its offset together stay on the axis.
 fn edge_text(alloc: Global, moved: &str, axis: &Axis) -> Result<String, AllocError>
-    ensures { IfOk result (λ text. string_bytes text ≡ edge_text moved.now axis.now) }
+    ensures { Writes result (edge_text moved.now axis.now) }
 {
     let mut lo = Buffer::new();
     let mut hi = Buffer::new();

@@ -1,7 +1,7 @@
 //! Local operations.
 
-ghost use Rattle.std.specs.Prelude.{◌≡◌, ◌++◌, codes, string_bytes, IfOk};
 ghost use Rattle.map_templates.specs.declared.template.LocalOperation.TheVariants as locals;
+ghost use Rattle.map_templates.specs.Pieces.{Writes};
 ghost use Rattle.map_templates.specs.Texts.{chosen_text, local_text, local_value, pair_text, sum_text};
 
 use crate::params::Layer;
@@ -17,7 +17,7 @@ pub fn local_text(
     first: &Layer,
     second: &Layer,
 ) -> Result<String, AllocError>
-    ensures { IfOk result (λ text. string_bytes text ≡ local_text operation first.now second.now) }
+    ensures { Writes result (local_text operation first.now second.now) }
 {
     let a = layer_text(alloc, "a", first)?;
     let b = layer_text(alloc, "b", second)?;
@@ -32,7 +32,7 @@ pub fn local_text(
 
 /// A query of two coverages, which are bound to `a` and `b`.
 fn pair_text(alloc: Global, first: &str, second: &str, value: &str) -> Result<String, AllocError>
-    ensures { IfOk result (λ text. string_bytes text ≡ pair_text first.now second.now value.now) }
+    ensures { Writes result (pair_text first.now second.now value.now) }
 {
     joined(
         alloc,
@@ -55,7 +55,7 @@ fn value_text(
     a: &str,
     b: &str,
 ) -> Result<String, AllocError>
-    ensures { IfOk result (λ text. string_bytes text ≡ local_value operation a.now b.now) }
+    ensures { Writes result (local_value operation a.now b.now) }
 {
     match operation {
         LocalOperation::Sum => sum_text(alloc, a, b),
@@ -68,7 +68,7 @@ fn value_text(
 
 /// The greater value; each counts where it is the greater one, and the first one where they are equal.
 fn maximum_text(alloc: Global, a: &str, b: &str) -> Result<String, AllocError>
-    ensures { IfOk result (λ text. string_bytes text ≡ local_value locals.Maximum a.now b.now) }
+    ensures { Writes result (local_value locals.Maximum a.now b.now) }
 {
     let first = chosen_text(alloc, a, a, " >= ", b)?;
     let second = chosen_text(alloc, b, a, " < ", b)?;
@@ -77,7 +77,7 @@ fn maximum_text(alloc: Global, a: &str, b: &str) -> Result<String, AllocError>
 
 /// The smaller value, likewise.
 fn minimum_text(alloc: Global, a: &str, b: &str) -> Result<String, AllocError>
-    ensures { IfOk result (λ text. string_bytes text ≡ local_value locals.Minimum a.now b.now) }
+    ensures { Writes result (local_value locals.Minimum a.now b.now) }
 {
     let first = chosen_text(alloc, a, a, " <= ", b)?;
     let second = chosen_text(alloc, b, a, " > ", b)?;
@@ -92,13 +92,13 @@ fn chosen_text(
     test: &str,
     b: &str,
 ) -> Result<String, AllocError>
-    ensures { IfOk result (λ text. string_bytes text ≡ chosen_text value.now a.now test.now b.now) }
+    ensures { Writes result (chosen_text value.now a.now test.now b.now) }
 {
     joined(alloc, &[value, " * (", a, test, b, ")"])
 }
 
 fn sum_text(alloc: Global, a: &str, b: &str) -> Result<String, AllocError>
-    ensures { IfOk result (λ text. string_bytes text ≡ sum_text a.now b.now) }
+    ensures { Writes result (sum_text a.now b.now) }
 {
     joined(alloc, &[a, " + ", b])
 }

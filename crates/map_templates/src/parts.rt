@@ -1,6 +1,6 @@
 //! The parts that templates share.
 
-ghost use Rattle.std.specs.Prelude.{◌≡◌, codes, string_bytes, IfOk};
+ghost use Rattle.map_templates.specs.Pieces.{Writes};
 ghost use Rattle.map_templates.specs.Texts.{field_text, layer_text, axis_text};
 
 use crate::params::Layer;
@@ -11,7 +11,7 @@ use std::alloc::{AllocError, Global};
 
 /// The value of a layer whose coverage is bound to a variable.
 pub fn layer_text(alloc: Global, variable: &str, layer: &Layer) -> Result<String, AllocError>
-    ensures { IfOk result (λ text. string_bytes text ≡ layer_text variable.now layer.now) }
+    ensures { Writes result (layer_text variable.now layer.now) }
 {
     let field = field_text(alloc, &layer.field)?;
     joined(alloc, &[variable, field.as_str()])
@@ -19,7 +19,7 @@ pub fn layer_text(alloc: Global, variable: &str, layer: &Layer) -> Result<String
 
 /// A dot and the field, if there is one.
 fn field_text(alloc: Global, field: &Option<Name>) -> Result<String, AllocError>
-    ensures { IfOk result (λ text. string_bytes text ≡ field_text field.now) }
+    ensures { Writes result (field_text field.now) }
 {
     match field {
         Some(name) => joined(alloc, &[".", name.as_str()]),
@@ -29,7 +29,7 @@ fn field_text(alloc: Global, field: &Option<Name>) -> Result<String, AllocError>
 
 /// An axis with its bounds.
 pub fn axis_text(alloc: Global, axis: &Axis) -> Result<String, AllocError>
-    ensures { IfOk result (λ text. string_bytes text ≡ axis_text axis.now) }
+    ensures { Writes result (axis_text axis.now) }
 {
     let mut lo = Buffer::new();
     let mut hi = Buffer::new();

@@ -1,13 +1,13 @@
 //! Text that is put together of pieces.
 
-ghost use Rattle.std.specs.Prelude.{◌≡◌, ◌++◌, string_bytes, IfOk, OnOk};
-ghost use Rattle.map_templates.specs.Pieces.{text_of};
+ghost use Rattle.std.specs.Prelude.{◌≡◌, ◌++◌, string_bytes, OnOk};
+ghost use Rattle.map_templates.specs.Pieces.{text_of, Writes};
 
 use std::alloc::{AllocError, Global};
 
 /// The pieces as one text.
 pub fn joined(alloc: Global, pieces: &[&str]) -> Result<String, AllocError>
-    ensures { IfOk result (λ text. string_bytes text ≡ text_of pieces.now) }
+    ensures { Writes result (text_of pieces.now) }
 {
     let mut text = String::new(alloc);
     push_all(&mut text, pieces)?;

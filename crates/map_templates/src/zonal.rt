@@ -1,8 +1,9 @@
 //! Zonal operations.
 
-ghost use Rattle.std.specs.Prelude.{◌≡◌, ◌+◌, ◌<◌, ◌^◌, codes, length, string_bytes, IfOk};
+ghost use Rattle.std.specs.Prelude.{◌+◌, ◌<◌, ◌^◌, codes, length};
 ghost use Rattle.map_templates.specs.Templates.{summary_text};
-ghost use Rattle.map_templates.specs.Texts.{iterator_text, iterators_text, layer_text, listed_text, located_text, position_text, positions_text, zonal_box, zonal_head, zonal_test, zonal_text, zonal_value};
+ghost use Rattle.map_templates.specs.Pieces.{Writes};
+ghost use Rattle.map_templates.specs.Texts.{iterator_text, iterators_text, layer_text, listed_text, located_text, position_text, positions_text, same_zone_text, zonal_box, zonal_head, zonal_test, zonal_text, zonal_value};
 
 use crate::params::Layer;
 use crate::parts::{axis_text, layer_text};
@@ -21,7 +22,7 @@ pub fn zonal_text(
     axes: &[Axis],
 ) -> Result<String, AllocError>
     requires { length axes.now < 2 ^ 16 }
-    ensures { IfOk result (λ text. string_bytes text ≡ zonal_text summary layer.now zones.now axes.now) }
+    ensures { Writes result (zonal_text summary layer.now zones.now axes.now) }
 {
     let head = places_text(alloc, layer, zones, axes)?;
     let others = others_text(alloc, summary, axes)?;
@@ -46,7 +47,7 @@ fn places_text(
     axes: &[Axis],
 ) -> Result<String, AllocError>
     requires { length axes.now < 2 ^ 16 }
-    ensures { IfOk result (λ text. string_bytes text ≡ zonal_head layer.now.coverage zones.now.coverage (iterators_text (codes "$p") 1 axes.now)) }
+    ensures { Writes result (zonal_head layer.now.coverage zones.now.coverage (iterators_text (codes "$p") 1 axes.now)) }
 {
     let places = iterators_text(alloc, "$p", 1, axes)?;
     head_text(
@@ -58,7 +59,7 @@ fn places_text(
 }
 
 fn head_text(alloc: Global, coverage: &str, zones: &str, places: &str) -> Result<String, AllocError>
-    ensures { IfOk result (λ text. string_bytes text ≡ zonal_head coverage.now zones.now places.now) }
+    ensures { Writes result (zonal_head coverage.now zones.now places.now) }
 {
     joined(
         alloc,
@@ -76,14 +77,14 @@ fn head_text(alloc: Global, coverage: &str, zones: &str, places: &str) -> Result
 /// The condenser, and the iterators over the locations again.
 fn others_text(alloc: Global, summary: Summary, axes: &[Axis]) -> Result<String, AllocError>
     requires { length axes.now < 2 ^ 16 }
-    ensures { IfOk result (λ text. string_bytes text ≡ zonal_box (summary_text summary) (iterators_text (codes "$u") 1 axes.now)) }
+    ensures { Writes result (zonal_box (summary_text summary) (iterators_text (codes "$u") 1 axes.now)) }
 {
     let others = iterators_text(alloc, "$u", 1, axes)?;
     condenser_text(alloc, summary.text(), others.as_str())
 }
 
 fn condenser_text(alloc: Global, operator: &str, others: &str) -> Result<String, AllocError>
-    ensures { IfOk result (λ text. string_bytes text ≡ zonal_box operator.now others.now) }
+    ensures { Writes result (zonal_box operator.now others.now) }
 {
     joined(alloc, &[" values condense ", operator, " over ", others])
 }
@@ -91,7 +92,7 @@ fn condenser_text(alloc: Global, operator: &str, others: &str) -> Result<String,
 /// The condition that the other location is in the zone of the location.
 fn same_zone_text(alloc: Global, zones: &Layer, axes: &[Axis]) -> Result<String, AllocError>
     requires { length axes.now < 2 ^ 16 }
-    ensures { IfOk result (λ text. string_bytes text ≡ zonal_test (located_text (layer_text (codes "z") zones.now) (codes "$u") axes.now) (located_text (layer_text (codes "z") zones.now) (codes "$p") axes.now)) }
+    ensures { Writes result (same_zone_text zones.now axes.now) }
 {
     let zone = layer_text(alloc, "z", zones)?;
     let other = located_text(alloc, zone.as_str(), "$u", axes)?;
@@ -100,7 +101,7 @@ fn same_zone_text(alloc: Global, zones: &Layer, axes: &[Axis]) -> Result<String,
 }
 
 fn condition_text(alloc: Global, other: &str, own: &str) -> Result<String, AllocError>
-    ensures { IfOk result (λ text. string_bytes text ≡ zonal_test other.now own.now) }
+    ensures { Writes result (zonal_test other.now own.now) }
 {
     joined(alloc, &[" where ", other, " = ", own])
 }
@@ -108,7 +109,7 @@ fn condition_text(alloc: Global, other: &str, own: &str) -> Result<String, Alloc
 /// The value at the other location.
 fn other_text(alloc: Global, layer: &Layer, axes: &[Axis]) -> Result<String, AllocError>
     requires { length axes.now < 2 ^ 16 }
-    ensures { IfOk result (λ text. string_bytes text ≡ zonal_value (located_text (layer_text (codes "a") layer.now) (codes "$u") axes.now)) }
+    ensures { Writes result (zonal_value (located_text (layer_text (codes "a") layer.now) (codes "$u") axes.now)) }
 {
     let value = layer_text(alloc, "a", layer)?;
     let other = located_text(alloc, value.as_str(), "$u", axes)?;
@@ -117,7 +118,7 @@ fn other_text(alloc: Global, layer: &Layer, axes: &[Axis]) -> Result<String, All
 
 /// An item of a list, and what follows it.
 fn listed_text(alloc: Global, first: &str, rest: &str) -> Result<String, AllocError>
-    ensures { IfOk result (λ text. string_bytes text ≡ listed_text first.now rest.now) }
+    ensures { Writes result (listed_text first.now rest.now) }
 {
     joined(alloc, &[first, ", ", rest])
 }
@@ -130,7 +131,7 @@ fn iterators_text(
     axes: &[Axis],
 ) -> Result<String, AllocError>
     requires { number + length axes.now < 2 ^ 32 }
-    ensures { IfOk result (λ text. string_bytes text ≡ iterators_text stem.now number axes.now) }
+    ensures { Writes result (iterators_text stem.now number axes.now) }
 {
     match axes {
         [] => joined(alloc, &[]),
@@ -145,7 +146,7 @@ fn iterators_text(
 
 /// An iterator over an axis.
 fn iterator_text(alloc: Global, stem: &str, number: u64, axis: &Axis) -> Result<String, AllocError>
-    ensures { IfOk result (λ text. string_bytes text ≡ iterator_text stem.now number axis.now) }
+    ensures { Writes result (iterator_text stem.now number axis.now) }
 {
     let mut buffer = Buffer::new();
     let range = axis_text(alloc, axis)?;
@@ -155,7 +156,7 @@ fn iterator_text(alloc: Global, stem: &str, number: u64, axis: &Axis) -> Result<
 /// A layer at the iterators with that stem.
 fn located_text(alloc: Global, layer: &str, stem: &str, axes: &[Axis]) -> Result<String, AllocError>
     requires { length axes.now < 2 ^ 16 }
-    ensures { IfOk result (λ text. string_bytes text ≡ located_text layer.now stem.now axes.now) }
+    ensures { Writes result (located_text layer.now stem.now axes.now) }
 {
     let positions = positions_text(alloc, stem, 1, axes)?;
     joined(alloc, &[layer, "[", positions.as_str(), "]"])
@@ -169,7 +170,7 @@ fn positions_text(
     axes: &[Axis],
 ) -> Result<String, AllocError>
     requires { number + length axes.now < 2 ^ 32 }
-    ensures { IfOk result (λ text. string_bytes text ≡ positions_text stem.now number axes.now) }
+    ensures { Writes result (positions_text stem.now number axes.now) }
 {
     match axes {
         [] => joined(alloc, &[]),
@@ -184,7 +185,7 @@ fn positions_text(
 
 /// An axis at its iterator.
 fn position_text(alloc: Global, stem: &str, number: u64, axis: &Axis) -> Result<String, AllocError>
-    ensures { IfOk result (λ text. string_bytes text ≡ position_text stem.now number axis.now) }
+    ensures { Writes result (position_text stem.now number axis.now) }
 {
     let mut buffer = Buffer::new();
     let iterator = buffer.format(number);

@@ -48,3 +48,16 @@ pub record IsOfVersion (version : Version) (signatures : List Signature) (indexe
     : Type 0 where
   pub axes : HaveAxesOf version signatures
   pub forms : All (λ (fields : List (List (ℕ × Entry))). All (AreOf version) fields) indexes
+
+-- the bytes are the metadata of nothing that a file of this version has
+abbrev pub AreOfNoMetadata : Version → List ℕ → Type 0
+AreOfNoMetadata version bytes =
+    (signatures : List Signature) (indexes : List (List (List (ℕ × Entry))))
+    → IsMetadata bytes signatures indexes → IsOfVersion version signatures indexes → ⊥
+
+-- the bytes are the metadata of nothing else that a file of this version has
+abbrev pub AreOfNoOther : Version → List ℕ → List Signature → List (List (List (ℕ × Entry))) → Type 0
+AreOfNoOther version bytes catalogue held =
+    (signatures : List Signature) (indexes : List (List (List (ℕ × Entry))))
+    → IsMetadata bytes signatures indexes → IsOfVersion version signatures indexes
+    → (signatures ≡ catalogue) × (indexes ≡ held)

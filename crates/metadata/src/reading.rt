@@ -1,14 +1,12 @@
 //! Metadata read from its bytes.
 
-ghost use Rattle.std.specs.Prelude.{◌≡◌, ℕ, List, length, flat_map, IfOk, IsErrOf, MatchOption};
-ghost use Rattle.arr_core.specs.declared.signature.Signature.{Signature};
+ghost use Rattle.std.specs.Prelude.{◌≡◌, length, IfOk, IsErrOf, MatchOption};
 ghost use Rattle.byteorder.specs.Endian.{little_bytes};
 ghost use Rattle.file_bytes.specs.Codes.{IsRead, NoneIsRead};
-ghost use Rattle.tile_index.specs.declared.entry.Entry.{Entry};
-ghost use Rattle.catalogue.specs.Reading.{AreMany};
 ghost use Rattle.metadata.specs.declared.reading.ReadError.TheVariants.{NoMemory};
-ghost use Rattle.metadata.specs.Metadata.{part_bytes, indexes_bytes, indexes_of, IsMetadata, IsOfVersion};
-ghost use Rattle.metadata.specs.Parts.{IsAny, catalogue_part_bytes, index_part_bytes, IsCatalogueIn, IsIndexIn, AreCountedIn};
+ghost use Rattle.metadata.specs.Metadata.{indexes_of, IsMetadata, IsOfVersion, AreOfNoMetadata, AreOfNoOther};
+ghost use Rattle.metadata.specs.Parts.{catalogue_part_bytes, index_part_bytes, IsCatalogueIn, IsIndexIn, IsPartRead, NoPartIsRead};
+ghost use Rattle.metadata.specs.Parts.{AreFieldsRead, NoFieldsAreRead, AreIndexesRead, NoIndexesAreRead};
 
 use arr_core::Signature;
 use byteorder::{ByteOrder, LittleEndian};
@@ -63,8 +61,7 @@ fn length_of(bytes: &[u8]) -> u64
 /// The bytes of the next part, which stand behind their length in 64 bits: none where that length
 /// is cut short or points past the end.
 fn read_part<'a>(bytes: &mut Reader<'a>) -> Option<&'a [u8]>
-    ensures { MatchOption result (NoneIsRead IsAny part_bytes bytes.old)
-        (λ part. IsRead IsAny part_bytes bytes.old part.now bytes.new) }
+    ensures { MatchOption result (NoPartIsRead bytes.old) (λ part. IsPartRead bytes.old part.now bytes.new) }
 {
     let length = length_of(bytes.take(8)?);
     if length > bytes.len() as u64 {
@@ -118,10 +115,8 @@ fn read_fields(
     bytes: &mut Reader,
     count: usize,
 ) -> Result<Vec<TileIndex>, ReadError>
-    ensures read { IfOk result
-        (λ indexes. IsRead (AreMany (IsIndexIn version) count) indexes_bytes bytes.old indexes.items bytes.new) }
-    ensures damaged { IsErrOf result ReadError.Damaged
-        → NoneIsRead (AreMany (IsIndexIn version) count) indexes_bytes bytes.old }
+    ensures read { IfOk result (λ indexes. AreFieldsRead version count bytes.old indexes.items bytes.new) }
+    ensures damaged { IsErrOf result ReadError.Damaged → NoFieldsAreRead version count bytes.old }
 {
     let mut indexes = Vec::new(alloc);
     for _ in 0..count {
@@ -138,10 +133,8 @@ fn read_indexes(
     bytes: &mut Reader,
     signatures: &[Signature],
 ) -> Result<Vec<Vec<TileIndex>>, ReadError>
-    ensures read { IfOk result (λ indexes. IsRead (AreCountedIn version signatures.now) (flat_map indexes_bytes)
-        bytes.old (indexes_of indexes.items) bytes.new) }
-    ensures damaged { IsErrOf result ReadError.Damaged
-        → NoneIsRead (AreCountedIn version signatures.now) (flat_map indexes_bytes) bytes.old }
+    ensures read { IfOk result (λ m. AreIndexesRead version signatures.now bytes.old (indexes_of m.items) bytes.new) }
+    ensures damaged { IsErrOf result ReadError.Damaged → NoIndexesAreRead version signatures.now bytes.old }
 {
     let mut indexes = Vec::new(alloc);
     for signature in signatures {
@@ -156,12 +149,8 @@ fn read_indexes(
 pub fn read_metadata(alloc: Global, version: Version, bytes: &[u8]) -> Result<Metadata, ReadError>
     ensures read { IfOk result (λ m. IsMetadata bytes.now m.catalogue (indexes_of m.indexes.items)) }
     ensures version { IfOk result (λ m. IsOfVersion version m.catalogue (indexes_of m.indexes.items)) }
-    ensures only { IfOk result (λ m. (signatures : List Signature) (indexes : List (List (List (ℕ × Entry))))
-        → IsMetadata bytes.now signatures indexes → IsOfVersion version signatures indexes
-        → (signatures ≡ m.catalogue) × (indexes ≡ indexes_of m.indexes.items)) }
-    ensures damaged { IsErrOf result ReadError.Damaged
-        → (signatures : List Signature) (indexes : List (List (List (ℕ × Entry))))
-        → IsMetadata bytes.now signatures indexes → IsOfVersion version signatures indexes → ⊥ }
+    ensures only { IfOk result (λ m. AreOfNoOther version bytes.now m.catalogue (indexes_of m.indexes.items)) }
+    ensures damaged { IsErrOf result ReadError.Damaged → AreOfNoMetadata version bytes.now }
 {
     let mut rest = Reader::new(bytes);
     let catalogue = read_catalogue(alloc, version, &mut rest)?;

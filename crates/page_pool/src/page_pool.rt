@@ -110,6 +110,10 @@ impl<D: Disk> Blocks for PagePool<D> {
         self.file.free()
     }
 
+    fn uses(&self, k: u32) -> u32 {
+        self.file.uses(k)
+    }
+
     fn write_header(&mut self, session: State, first: u32, length: u64) -> Result<(), DiskFault> {
         self.pages.forget(0);
         self.file.write_header(session, first, length)

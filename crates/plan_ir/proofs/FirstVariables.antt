@@ -1,10 +1,9 @@
 -- A body that uses none of its first variables means the same without them, and whatever they are; one that uses these
 -- alone means the same without the others.
-use Rattle.std.proofs.Common.{◌≡◌, ℕ, zero, suc, ◌+◌, ◌-◌, ◌<◌, ◌≤◌, List, [], ◌∷◌, ◌++◌, length, map, get_or, refl, sym, ap, ◌∙◌, subst, arith, ℤ, pos, append_assoc, T, Bool, true, false, cond}
+use Rattle.std.proofs.Common.{◌≡◌, ℕ, zero, suc, ◌+◌, ◌-◌, ◌<◌, List, [], ◌∷◌, ◌++◌, length, map, get_or, refl, sym, ap, ◌∙◌, subst, arith, ℤ, pos, append_assoc, T, Bool, true, false, cond}
 use Rattle.std.specs.Prelude.{Option, Some, None, slice_get, IsSomeAnd, int_le, nat_le, nat_lt, ◌&&◌}
 use Rattle.std.specs.List.{list_all, flat_map}
 use Rattle.std.proofs.Math.Facts.{leb_yes, ltb_yes}
-use Rattle.arr_core.specs.declared.domain.Axis.{Axis}
 use Rattle.arr_core.specs.declared.signature.Signature.{Signature}
 use Rattle.arr_core.specs.Domains.{points, rank_of}
 use Rattle.wcps_mean.specs.declared.cell.PointFault.TheVariants.{OutOfDomain}
@@ -17,7 +16,7 @@ use Rattle.plan_ir.specs.declared.body.Index.TheVariants.{Const, Var}
 use Rattle.plan_ir.specs.declared.body.Interval.{Interval}
 use Rattle.plan_ir.specs.Bodies.{Tree, lit, var, reg, op1, op2, read, table, bind, fold}
 use Rattle.plan_ir.specs.Run.{numbers_at, run}
-use Rattle.plan_ir.specs.Placed.{spans, LiesWithin, LiesIn, Indexes, HasCells, IsPlaced}
+use Rattle.plan_ir.specs.Placed.{spans, LiesWithin, Indexes, HasCells, IsPlaced}
 use Rattle.plan_ir.specs.Units.{index_below}
 use Rattle.plan_ir.specs.Variables.{index_from, is_from, is_below, index_without, without}
 

@@ -5,3 +5,4 @@ pub mod Planned
 pub mod Placed
 pub mod Units
 pub mod Variables
+pub mod Frames

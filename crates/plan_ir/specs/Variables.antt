@@ -1,5 +1,5 @@
 -- Which variables a body uses.
-use Rattle.std.specs.Prelude.{ℕ, ◌-◌, nat_le, nat_lt, ◌&&◌, Bool, true, false, List, map}
+use Rattle.std.specs.Prelude.{ℕ, ◌-◌, nat_le, nat_lt, ◌&&◌, Bool, true, false, map}
 use Rattle.std.specs.List.{list_all}
 use Rattle.plan_ir.specs.declared.body.Index.{Index}
 use Rattle.plan_ir.specs.declared.body.Index.TheVariants.{Const, Var}

@@ -2,17 +2,18 @@
 
 ghost use Rattle.std.specs.Prelude.{◌≡◌, ℕ, ◌+◌, ◌<◌, ◌≤◌, ◌^◌, ℤ, pos, List, [], ◌∷◌, ◌++◌, slice_index_or, IfOk, OnOk};
 ghost use Rattle.wcps_mean.specs.declared.cell.Outcome.{Outcome};
-ghost use Rattle.wcps_mean.specs.Condensers.{demanded};
-ghost use Rattle.wcps_mean.specs.Feeding.{Fed};
+ghost use Rattle.wcps_mean.specs.Reading.{Leaves, Returns};
 ghost use Rattle.wcps_mean.specs.Reports.{Reports};
-ghost use Rattle.plan_ir.specs.Bodies.{body_view, condition_view, fold_view};
-ghost use Rattle.plan_ir.specs.Run.{number_at, numbers_at, run};
-ghost use Rattle.plan_ir.specs.Planned.{coordinate, cells_of};
+ghost use Rattle.plan_ir.specs.Bodies.{body_view, fold_view};
+ghost use Rattle.plan_ir.specs.Run.{number_at, numbers_at};
+ghost use Rattle.plan_ir.specs.Planned.{coordinate};
+ghost use Rattle.plan_ir.specs.Frames.{TakesIn, demanded_in, run_in};
 
 use crate::body::{Body, Fold, Index, Interval};
+use arr_core::rank_of;
 use std::alloc::{AllocError, Global};
 use wcps_mean::{
-    CellError, Cells, Outcome, PointFault, Running, operate, operate_both, place_of, push_point,
+    CellError, Cells, Outcome, PointFault, Running, operate, operate_both, push_point,
 };
 
 /// What bodies of one combination stand over: its coverages, by their places in the plan, and the outcomes of its passes.
@@ -32,11 +33,9 @@ pub(crate) fn eval<C: Cells>(
     e: &Body,
     vars: &mut Vec<i32>,
 ) -> Result<Outcome, CellError>
-    ensures value { IfOk result (λ o. C.intact cells.old → o ≡ run (cells_of (C.cells cells.old) frame.now.coverages.items) frame.now.registers.items (body_view e.now) vars.old.items) }
+    ensures value { Returns C.Cells cells.old result (run_in frame.now (body_view e.now) vars.old.items) }
     ensures scope { OnOk result (vars.new.items ≡ vars.old.items) }
-    ensures same { C.cells cells.new ≡ C.cells cells.old }
-    ensures kept { C.kept cells.new ≡ C.kept cells.old }
-    ensures intact { C.intact cells.old → C.intact cells.new }
+    ensures leaves { Leaves C.Cells cells.old cells.new }
     ensures reports { Reports result (C.intact cells.old) (C.failures cells.old) (C.failures cells.new) }
 {
     match e {
@@ -68,7 +67,7 @@ pub(crate) fn eval<C: Cells>(
             indexes,
         } => {
             let point = numbers(alloc, vars, indexes)?;
-            let place = place_of(domain.axes(), &point);
+            let place = rank_of(domain.axes(), &point);
             Ok(Outcome::Value(item_at(items, place)))
         }
         Body::Bind {
@@ -102,11 +101,9 @@ fn at_coordinate<C: Cells>(
     vars: &mut Vec<i32>,
     z: i32,
 ) -> Result<Outcome, CellError>
-    ensures value { IfOk result (λ o. C.intact cells.old → o ≡ run (cells_of (C.cells cells.old) frame.now.coverages.items) frame.now.registers.items (body_view e.now) (vars.old.items ++ z ∷ [])) }
+    ensures value { Returns C.Cells cells.old result (run_in frame.now (body_view e.now) (vars.old.items ++ z ∷ [])) }
     ensures scope { OnOk result (vars.new.items ≡ vars.old.items) }
-    ensures same { C.cells cells.new ≡ C.cells cells.old }
-    ensures kept { C.kept cells.new ≡ C.kept cells.old }
-    ensures intact { C.intact cells.old → C.intact cells.new }
+    ensures leaves { Leaves C.Cells cells.old cells.new }
     ensures reports { Reports result (C.intact cells.old) (C.failures cells.old) (C.failures cells.new) }
 {
     let depth = vars.len();
@@ -125,11 +122,9 @@ pub(crate) fn fold<C: Cells>(
     f: &Fold,
     vars: &mut Vec<i32>,
 ) -> Result<Outcome, CellError>
-    ensures value { IfOk result (λ o. C.intact cells.old → o ≡ run (cells_of (C.cells cells.old) frame.now.coverages.items) frame.now.registers.items (fold_view f.now) vars.old.items) }
+    ensures value { Returns C.Cells cells.old result (run_in frame.now (fold_view f.now) vars.old.items) }
     ensures scope { OnOk result (vars.new.items ≡ vars.old.items) }
-    ensures same { C.cells cells.new ≡ C.cells cells.old }
-    ensures kept { C.kept cells.new ≡ C.kept cells.old }
-    ensures intact { C.intact cells.old → C.intact cells.new }
+    ensures leaves { Leaves C.Cells cells.old cells.new }
     ensures reports { Reports result (C.intact cells.old) (C.failures cells.old) (C.failures cells.new) }
 {
     let mut running = Running::new(f.op);
@@ -153,15 +148,11 @@ fn feed<C: Cells>(
     running: &mut Running,
 ) -> Result<(), CellError>
     requires { running.old.count < 2 ^ 24 }
-    ensures value { OnOk result (C.intact cells.old → (outs : List Outcome) → Fed running.old outs → Fed running.new (outs ++ demanded
-        (run (cells_of (C.cells cells.old) frame.now.coverages.items) frame.now.registers.items (condition_view f.now.condition) vars.old.items)
-        (run (cells_of (C.cells cells.old) frame.now.coverages.items) frame.now.registers.items (body_view f.now.body) vars.old.items))) }
+    ensures fed { TakesIn C.Cells cells.old result (demanded_in frame.now f.now vars.old.items) running.old running.new }
     ensures count { OnOk result (running.new.count ≤ running.old.count + 1) }
     ensures op { OnOk result (running.new.op ≡ running.old.op) }
     ensures scope { OnOk result (vars.new.items ≡ vars.old.items) }
-    ensures same { C.cells cells.new ≡ C.cells cells.old }
-    ensures kept { C.kept cells.new ≡ C.kept cells.old }
-    ensures intact { C.intact cells.old → C.intact cells.new }
+    ensures leaves { Leaves C.Cells cells.old cells.new }
     ensures reports { Reports result (C.intact cells.old) (C.failures cells.old) (C.failures cells.new) }
 {
     match &f.condition {

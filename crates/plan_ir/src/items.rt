@@ -1,14 +1,16 @@
 //! The items of a plan, point by point.
 
-ghost use Rattle.std.specs.Prelude.{◌≡◌, ◌≤◌, ◌*◌, ℕ, ℤ, List, [], ◌∷◌, ◌++◌, Ok, Err, Result, IfOk, IfErr, OnOk, length, map, option_map, option_copied, slice_get};
-ghost use Rattle.wcps_mean.specs.Errors.{TellsFault, PushesCells, PassesOn};
+ghost use Rattle.std.specs.Prelude.{◌≡◌, ◌≤◌, ◌*◌, ℕ, ℤ, List, [], ◌∷◌, ◌++◌, Ok, Err, Result, IfOk, OnOk, length, map, option_map, option_copied, slice_get};
+ghost use Rattle.wcps_mean.specs.Errors.{Answers, Lists, PassesOn, Pushes};
 ghost use Rattle.wcps_mean.specs.Answer.{joined, given, cell_of, line_of, field_count};
+ghost use Rattle.wcps_mean.specs.Reading.{Leaves};
 ghost use Rattle.wcps_mean.specs.Reports.{Reports};
 ghost use Rattle.wcps_mean.specs.declared.cell.Outcome.{Outcome};
 ghost use Rattle.plan_ir.specs.Bodies.{body_view, fold_view};
 ghost use Rattle.plan_ir.specs.Run.{run};
 ghost use Rattle.plan_ir.specs.Plans.{pass_view, bind_view, field_view, item_view, steps_view, choice_view, plan_view};
 ghost use Rattle.plan_ir.specs.Planned.{pass_outcome, registers, registers_after, bound, field_cell, cells_at, item_cells, item_planned, chosen, given_out, steps_planned, cells_of, choice_planned, planned};
+ghost use Rattle.plan_ir.specs.Frames.{Binds, HasRun, bound_in, cells_in, chosen_in, fields_in, item_in, items_of, items_over};
 
 use crate::body::{Body, Fold};
 use crate::eval::{Frame, coordinate, eval, fold, push};
@@ -23,11 +25,8 @@ use wcps_mean::{
 /// points in row-major order and fields in order; or the first fault among these. A pass's fault counts only where its
 /// register is demanded. What `cells` reports passes through.
 pub fn run<C: Cells>(alloc: Global, cells: &mut C, plan: &Plan) -> Result<Vec<Item>, EvalError>
-    ensures items { IfOk result (λ items. C.intact cells.old → planned (C.cells cells.old) (plan_view plan.now) ≡ Ok items.items) }
-    ensures fault { IfErr result (λ e. C.intact cells.old → TellsFault e (planned (C.cells cells.old) (plan_view plan.now))) }
-    ensures same { C.cells cells.new ≡ C.cells cells.old }
-    ensures kept { C.kept cells.new ≡ C.kept cells.old }
-    ensures intact { C.intact cells.old → C.intact cells.new }
+    ensures answer { Lists C.Cells cells.old result (λ s. planned s (plan_view plan.now)) }
+    ensures leaves { Leaves C.Cells cells.old cells.new }
     ensures reports { PassesOn result (C.intact cells.old) (C.failures cells.old) (C.failures cells.new) }
 {
     let mut items = Vec::new(alloc);
@@ -45,11 +44,8 @@ fn push_combination<C: Cells>(
     combination: &Combination,
     items: &mut Vec<Item>,
 ) -> Result<(), EvalError>
-    ensures value { OnOk result (C.intact cells.old → PushesCells (choice_planned (C.cells cells.old) combination.now.coverages.items (option_map steps_view (slice_get steps.now combination.now.steps))) items.old.items items.new.items) }
-    ensures fault { IfErr result (λ e. C.intact cells.old → TellsFault e (choice_planned (C.cells cells.old) combination.now.coverages.items (option_map steps_view (slice_get steps.now combination.now.steps)))) }
-    ensures same { C.cells cells.new ≡ C.cells cells.old }
-    ensures kept { C.kept cells.new ≡ C.kept cells.old }
-    ensures intact { C.intact cells.old → C.intact cells.new }
+    ensures pushed { Pushes C.Cells cells.old result (items_of steps.now combination.now) items.old items.new }
+    ensures leaves { Leaves C.Cells cells.old cells.new }
     ensures reports { PassesOn result (C.intact cells.old) (C.failures cells.old) (C.failures cells.new) }
 {
     match steps_at(steps, combination.steps) {
@@ -85,11 +81,8 @@ fn push_steps<C: Cells>(
     steps: &Steps,
     items: &mut Vec<Item>,
 ) -> Result<(), EvalError>
-    ensures value { OnOk result (C.intact cells.old → PushesCells (steps_planned (cells_of (C.cells cells.old) coverages.items) (steps_view steps.now)) items.old.items items.new.items) }
-    ensures fault { IfErr result (λ e. C.intact cells.old → TellsFault e (steps_planned (cells_of (C.cells cells.old) coverages.items) (steps_view steps.now))) }
-    ensures same { C.cells cells.new ≡ C.cells cells.old }
-    ensures kept { C.kept cells.new ≡ C.kept cells.old }
-    ensures intact { C.intact cells.old → C.intact cells.new }
+    ensures pushed { Pushes C.Cells cells.old result (items_over coverages.items steps.now) items.old items.new }
+    ensures leaves { Leaves C.Cells cells.old cells.new }
     ensures reports { PassesOn result (C.intact cells.old) (C.failures cells.old) (C.failures cells.new) }
 {
     let frame = run_passes(alloc, cells, coverages, &steps.passes)?;
@@ -109,11 +102,9 @@ fn run_passes<C: Cells>(
     coverages: Vec<usize>,
     passes: &[Fold],
 ) -> Result<Frame, CellError>
-    ensures registers { IfOk result (λ frame. C.intact cells.old → frame.registers.items ≡ registers (cells_of (C.cells cells.old) coverages.items) (map pass_view passes.now)) }
+    ensures registers { IfOk result (λ frame. C.intact cells.old → HasRun (C.cells cells.old) passes.now frame) }
     ensures coverages { IfOk result (λ frame. frame.coverages ≡ coverages) }
-    ensures same { C.cells cells.new ≡ C.cells cells.old }
-    ensures kept { C.kept cells.new ≡ C.kept cells.old }
-    ensures intact { C.intact cells.old → C.intact cells.new }
+    ensures leaves { Leaves C.Cells cells.old cells.new }
     ensures reports { Reports result (C.intact cells.old) (C.failures cells.old) (C.failures cells.new) }
 {
     let mut frame = Frame {
@@ -143,11 +134,8 @@ fn is_chosen<C: Cells>(
     frame: &Frame,
     condition: &Option<Body>,
 ) -> Result<bool, EvalError>
-    ensures value { IfOk result (λ b. C.intact cells.old → chosen (cells_of (C.cells cells.old) frame.now.coverages.items) frame.now.registers.items (option_map body_view condition.now) ≡ Ok b) }
-    ensures fault { IfErr result (λ e. C.intact cells.old → TellsFault e (chosen (cells_of (C.cells cells.old) frame.now.coverages.items) frame.now.registers.items (option_map body_view condition.now))) }
-    ensures same { C.cells cells.new ≡ C.cells cells.old }
-    ensures kept { C.kept cells.new ≡ C.kept cells.old }
-    ensures intact { C.intact cells.old → C.intact cells.new }
+    ensures answer { Answers C.Cells cells.old result (chosen_in frame.now condition.now) }
+    ensures leaves { Leaves C.Cells cells.old cells.new }
     ensures reports { PassesOn result (C.intact cells.old) (C.failures cells.old) (C.failures cells.new) }
 {
     match condition {
@@ -170,11 +158,8 @@ fn item_of<C: Cells>(
     frame: &Frame,
     item: &PlannedItem,
 ) -> Result<Item, EvalError>
-    ensures value { IfOk result (λ i. C.intact cells.old → item_planned (cells_of (C.cells cells.old) frame.now.coverages.items) frame.now.registers.items (item_view item.now) ≡ Ok i) }
-    ensures fault { IfErr result (λ e. C.intact cells.old → TellsFault e (item_planned (cells_of (C.cells cells.old) frame.now.coverages.items) frame.now.registers.items (item_view item.now))) }
-    ensures same { C.cells cells.new ≡ C.cells cells.old }
-    ensures kept { C.kept cells.new ≡ C.kept cells.old }
-    ensures intact { C.intact cells.old → C.intact cells.new }
+    ensures answer { Answers C.Cells cells.old result (item_in frame.now item.now) }
+    ensures leaves { Leaves C.Cells cells.old cells.new }
     ensures reports { PassesOn result (C.intact cells.old) (C.failures cells.old) (C.failures cells.new) }
 {
     let mut list = Vec::new(alloc);
@@ -207,11 +192,8 @@ fn push_cells<C: Cells>(
     vars: &mut Vec<i32>,
     list: &mut Vec<Cell>,
 ) -> Result<(), EvalError>
-    ensures value { OnOk result (C.intact cells.old → PushesCells (cells_at (cells_of (C.cells cells.old) frame.now.coverages.items) frame.now.registers.items (item_view item.now) vars.old.items) list.old.items list.new.items) }
-    ensures fault { IfErr result (λ e. C.intact cells.old → TellsFault e (cells_at (cells_of (C.cells cells.old) frame.now.coverages.items) frame.now.registers.items (item_view item.now) vars.old.items)) }
-    ensures same { C.cells cells.new ≡ C.cells cells.old }
-    ensures kept { C.kept cells.new ≡ C.kept cells.old }
-    ensures intact { C.intact cells.old → C.intact cells.new }
+    ensures pushed { Pushes C.Cells cells.old result (cells_in frame.now item.now vars.old.items) list.old list.new }
+    ensures leaves { Leaves C.Cells cells.old cells.new }
     ensures reports { PassesOn result (C.intact cells.old) (C.failures cells.old) (C.failures cells.new) }
 {
     push_bound(alloc, cells, frame, &item.binds, vars)?;
@@ -227,11 +209,8 @@ fn push_bound<C: Cells>(
     binds: &[Bind],
     vars: &mut Vec<i32>,
 ) -> Result<(), EvalError>
-    ensures value { OnOk result (C.intact cells.old → bound (cells_of (C.cells cells.old) frame.now.coverages.items) frame.now.registers.items (map bind_view binds.now) vars.old.items ≡ Ok vars.new.items) }
-    ensures fault { IfErr result (λ e. C.intact cells.old → TellsFault e (bound (cells_of (C.cells cells.old) frame.now.coverages.items) frame.now.registers.items (map bind_view binds.now) vars.old.items)) }
-    ensures same { C.cells cells.new ≡ C.cells cells.old }
-    ensures kept { C.kept cells.new ≡ C.kept cells.old }
-    ensures intact { C.intact cells.old → C.intact cells.new }
+    ensures bound { Binds C.Cells cells.old result (bound_in frame.now binds.now vars.old.items) vars.new.items }
+    ensures leaves { Leaves C.Cells cells.old cells.new }
     ensures reports { PassesOn result (C.intact cells.old) (C.failures cells.old) (C.failures cells.new) }
 {
     match binds {
@@ -258,11 +237,8 @@ fn push_fields<C: Cells>(
     vars: &mut Vec<i32>,
     list: &mut Vec<Cell>,
 ) -> Result<(), EvalError>
-    ensures value { OnOk result (C.intact cells.old → PushesCells (joined (map (field_cell (cells_of (C.cells cells.old) frame.now.coverages.items) frame.now.registers.items vars.old.items) (map field_view fields.now))) list.old.items list.new.items) }
-    ensures fault { IfErr result (λ e. C.intact cells.old → TellsFault e (joined (map (field_cell (cells_of (C.cells cells.old) frame.now.coverages.items) frame.now.registers.items vars.old.items) (map field_view fields.now)))) }
-    ensures same { C.cells cells.new ≡ C.cells cells.old }
-    ensures kept { C.kept cells.new ≡ C.kept cells.old }
-    ensures intact { C.intact cells.old → C.intact cells.new }
+    ensures pushed { Pushes C.Cells cells.old result (fields_in frame.now fields.now vars.old.items) list.old list.new }
+    ensures leaves { Leaves C.Cells cells.old cells.new }
     ensures reports { PassesOn result (C.intact cells.old) (C.failures cells.old) (C.failures cells.new) }
 {
     for field in fields {

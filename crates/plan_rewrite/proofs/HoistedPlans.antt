@@ -1,5 +1,5 @@
 -- A hoisted plan gives what the plan gives, is well-formed, and has no closed fold in a body.
-use Rattle.std.proofs.Common.{◌≡◌, ℕ, zero, suc, ◌+◌, ◌-◌, ◌<◌, ◌≤◌, List, [], ◌∷◌, ◌++◌, length, map, get_or, refl, sym, ap, ◌∙◌, subst, arith, ℤ, pos, T, Bool, true, false, cond}
+use Rattle.std.proofs.Common.{◌≡◌, ℕ, suc, ◌+◌, ◌-◌, ◌<◌, List, [], ◌∷◌, ◌++◌, length, map, get_or, refl, sym, ap, ◌∙◌, subst, arith, ℤ, pos, T, Bool, true, false, cond}
 use Rattle.std.specs.Prelude.{Option, Some, None, slice_get, option_map, IsSomeAnd, nat_le, ◌&&◌}
 use Rattle.std.specs.List.{list_all}
 use Rattle.std.proofs.Math.Facts.{leb_yes}
@@ -15,9 +15,10 @@ use Rattle.plan_ir.specs.Placed.{AreSteps, IsChoice, IsPlan}
 use Rattle.plan_ir.proofs.Parts.{slice_get-map}
 use Rattle.plan_ir.specs.Variables.{index_from, is_from, index_without, without}
 use Rattle.plan_rewrite.specs.Hoisting.{Hoisted, hoisted}
-use Rattle.plan_rewrite.specs.HoistedPlans.{Places, with_pass, with_passes, hoisted_condition, hoisted_fields, hoisted_item, hoisted_steps, hoisted_plan, HasOpenFolds, PassesAreOpen, ConditionIsOpen, FieldsAreOpen, ItemIsOpen, StepsAreOpen}
+use Rattle.plan_rewrite.specs.HoistedPlans.{Places, with_pass, with_passes, hoisted_condition, hoisted_fields, hoisted_item, hoisted_steps, hoisted_plan}
 use Rattle.plan_ir.proofs.FirstVariables.{both-true}
-use Rattle.plan_rewrite.proofs.HoistedSteps.{StepsHoist, steps-hoist}
+use Rattle.plan_rewrite.proofs.HoistedSteps.{steps-hoist}
+use Rattle.plan_rewrite.proofs.OpenFolds.{HasOpenFolds, PassesAreOpen, ConditionIsOpen, FieldsAreOpen, ItemIsOpen, StepsAreOpen}
 
 choice-same : (s : ℕ → ℕ → List ℤ → ℤ) (ks : List ℕ) (o : Option StepsTree) (cs : ℕ → Option Signature) → IsSomeAnd o (AreSteps cs) → choice_planned s ks (option_map hoisted_steps o) ≡ choice_planned s ks o
 choice-same s ks None cs h = refl

@@ -1,9 +1,7 @@
 -- Hoisted steps give what the steps give, and are well-formed.
-use Rattle.std.proofs.Common.{◌≡◌, ℕ, zero, suc, ◌+◌, ◌<◌, ◌≤◌, List, [], ◌∷◌, ◌++◌, length, map, get_or, refl, sym, ap, ◌∙◌, subst, arith, ℤ, pos, append_assoc, append-nil, length-append, Bool, cond, Result, Ok, Err}
-use Rattle.std.specs.Prelude.{Option, Some, None, slice_get, option_map, IsSomeAnd}
-use Rattle.std.specs.List.{flat_map}
-use Rattle.std.proofs.lemmas.List.{get_or_append_left, length-map}
-use Rattle.std.proofs.Math.Seq.{get_or-append_seam}
+use Rattle.std.proofs.Common.{◌≡◌, ℕ, zero, suc, ◌+◌, ◌<◌, List, [], ◌∷◌, ◌++◌, length, map, get_or, refl, sym, ap, ◌∙◌, subst, arith, ℤ, pos, append_assoc, append-nil, length-append, Bool, cond, Result, Ok, Err}
+use Rattle.std.specs.Prelude.{Option, Some, None}
+use Rattle.std.proofs.lemmas.List.{length-map}
 use Rattle.arr_core.specs.declared.cell.Cell.{Cell}
 use Rattle.arr_core.specs.declared.signature.Signature.{Signature}
 use Rattle.arr_core.specs.Domains.{points}
@@ -15,16 +13,16 @@ use Rattle.wcps_mean.specs.Cells.{is_true}
 use Rattle.wcps_mean.specs.Condensers.{condensed, demanded}
 use Rattle.wcps_mean.specs.Answer.{then_of, given, joined, cell_of, line_of, field_count}
 use Rattle.plan_ir.specs.declared.body.Interval.{Interval}
-use Rattle.plan_ir.specs.Bodies.{Tree, fold}
+use Rattle.plan_ir.specs.Bodies.{Tree}
 use Rattle.plan_ir.specs.Run.{run}
-use Rattle.plan_ir.specs.Plans.{PassTree, BindTree, FieldBody, ItemTree, StepsTree}
-use Rattle.plan_ir.specs.Planned.{pass_outcome, registers_after, registers, coordinate, bound, field_cell, cells_at, item_cells, item_planned, chosen, given_out, steps_planned}
+use Rattle.plan_ir.specs.Plans.{PassTree, BindTree, FieldBody, StepsTree}
+use Rattle.plan_ir.specs.Planned.{pass_outcome, registers_after, registers, coordinate, bound, field_cell, cells_at, item_cells, item_planned, chosen, steps_planned}
 use Rattle.plan_ir.specs.Placed.{span, spans, IsPlaced, PassesArePlaced, ConditionIsPlaced, FieldsArePlaced, ItemIsPlaced, AreSteps}
-use Rattle.plan_rewrite.specs.Hoisting.{Hoisted, hoisted}
+use Rattle.plan_rewrite.specs.Hoisting.{hoisted}
 use Rattle.plan_rewrite.specs.HoistedPlans.{Places, with_pass, with_passes, HoistedCondition, hoisted_condition, HoistedFields, hoisted_fields, HoistedItem, hoisted_item, hoisted_steps}
 use Rattle.plan_rewrite.proofs.Scopes.{Lie, lie-length, points-lie, flat-same}
 use Rattle.plan_rewrite.proofs.SettledPlans.{map-same}
-use Rattle.plan_rewrite.proofs.Hoists.{Kept, kept-more, later, last-register, registers-count, passes-last, run-later, placed-later, Hoists, hoists, TwoHoist, two}
+use Rattle.plan_rewrite.proofs.Hoists.{Kept, kept-more, later, last-register, registers-count, passes-last, run-later, placed-later, Hoists, hoists, two}
 
 -- the fields behind all passes
 pub record FieldsHoist (s : ℕ → ℕ → List ℤ → ℤ) (cs : ℕ → Option Signature) (old : List Outcome) (passes : List PassTree) (scope : List Interval) (fields : List FieldBody) (h : HoistedFields) : Type 0 where

@@ -1,7 +1,6 @@
 -- A hoisted body gives what the body gives, is well-formed, and has no closed fold left.
-use Rattle.std.proofs.Common.{◌≡◌, ℕ, zero, suc, ◌+◌, ◌<◌, ◌≤◌, List, [], ◌∷◌, ◌++◌, length, map, get_or, refl, sym, ap, ◌∙◌, subst, arith, ℤ, pos, ◌≤ℤ◌, append_assoc, append-nil, length-append, T, Bool, true, false, cond}
-use Rattle.std.specs.Prelude.{Option, slice_get, ◌&&◌}
-use Rattle.std.specs.List.{flat_map}
+use Rattle.std.proofs.Common.{◌≡◌, ℕ, ◌+◌, ◌<◌, List, [], ◌∷◌, ◌++◌, length, get_or, refl, sym, ap, ◌∙◌, subst, arith, ℤ, pos, append_assoc, append-nil, length-append, T, Bool, true, false, cond}
+use Rattle.std.specs.Prelude.{Option, ◌&&◌}
 use Rattle.std.proofs.lemmas.List.{get_or_append_left}
 use Rattle.std.proofs.Math.Seq.{get_or-append_seam}
 use Rattle.arr_core.specs.declared.signature.Signature.{Signature}
@@ -19,7 +18,7 @@ use Rattle.std.proofs.lemmas.List.{length-map}
 use Rattle.plan_ir.specs.Placed.{span, spans, IsPlaced, PassesArePlaced}
 use Rattle.plan_ir.proofs.Registers.{registers_more}
 use Rattle.plan_ir.specs.Variables.{is_from, without}
-use Rattle.plan_rewrite.specs.Hoisting.{Hoisted, in_body, passed, hoisted}
+use Rattle.plan_rewrite.specs.Hoisting.{Hoisted, hoisted}
 use Rattle.plan_rewrite.proofs.Scopes.{Lie, lie-length, points-lie, flat-same}
 use Rattle.plan_rewrite.proofs.Settles.{position-same}
 use Rattle.plan_ir.proofs.FirstVariables.{both-true, without-means}

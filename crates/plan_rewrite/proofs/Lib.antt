@@ -12,5 +12,6 @@ pub mod LoweredWork
 pub mod LoweredQueries
 pub mod Lifts
 pub mod Hoists
+pub mod OpenFolds
 pub mod HoistedSteps
 pub mod HoistedPlans

@@ -1,10 +1,10 @@
 -- A body that uses none of its first variables has its place without them; more registers change nothing.
-use Rattle.std.proofs.Common.{◌≡◌, ℕ, zero, suc, ◌+◌, ◌-◌, ◌<◌, ◌≤◌, List, [], ◌∷◌, ◌++◌, length, map, get_or, refl, sym, ap, ◌∙◌, subst, arith, ℤ, pos, append_assoc, length-append, T, Bool, true, false}
-use Rattle.std.specs.Prelude.{Option, Some, None, slice_get, IsSomeAnd, nat_le, ◌&&◌}
+use Rattle.std.proofs.Common.{◌≡◌, ℕ, zero, suc, ◌+◌, ◌-◌, ◌<◌, ◌≤◌, List, [], ◌∷◌, ◌++◌, length, map, get_or, refl, ap, ◌∙◌, subst, arith, ℤ, pos, append_assoc, length-append, T}
+use Rattle.std.specs.Prelude.{Option, Some, None, slice_get, IsSomeAnd, nat_le}
 use Rattle.std.specs.List.{list_all}
 use Rattle.std.proofs.lemmas.List.{get_or_append_left}
 use Rattle.arr_core.specs.declared.signature.Signature.{Signature}
-use Rattle.arr_core.specs.Domains.{points, rank_of}
+use Rattle.arr_core.specs.Domains.{points}
 use Rattle.wcps_mean.specs.declared.cell.Outcome.{Outcome}
 use Rattle.wcps_mean.specs.declared.cell.Outcome.TheVariants.{Value}
 use Rattle.wcps_mean.specs.Cells.{operate1, operate2, at_position}
@@ -13,7 +13,7 @@ use Rattle.plan_ir.specs.declared.body.Index.{Index}
 use Rattle.plan_ir.specs.declared.body.Index.TheVariants.{Const, Var}
 use Rattle.plan_ir.specs.declared.body.Interval.{Interval}
 use Rattle.plan_ir.specs.Bodies.{Tree, lit, var, reg, op1, op2, read, table, bind, fold}
-use Rattle.plan_ir.specs.Run.{numbers_at, run}
+use Rattle.plan_ir.specs.Run.{run}
 use Rattle.plan_ir.proofs.FirstVariables.{both-true, behind-first}
 use Rattle.plan_ir.specs.Placed.{spans, LiesWithin, Indexes, HasCells, IsPlaced}
 use Rattle.plan_ir.specs.Variables.{index_from, is_from, index_without, without}

@@ -12,7 +12,8 @@ use Rattle.plan_ir.specs.Placed.{spans, Indexes, IsPlaced, ConditionIsPlaced, Pa
 use Rattle.plan_ir.proofs.Parts.{slice_get-map}
 use Rattle.plan_rewrite.specs.Settling.{levels, settled}
 use Rattle.plan_rewrite.specs.Settled.{Ground, way, after_bind, ground, kept, kept_binds, settled_pass, settled_field, settled_item, settled_steps, settled_plan}
-use Rattle.plan_rewrite.specs.Rewritten.{PassesAreReduced, ConditionIsReduced, FieldsAreReduced, ItemIsReduced, StepsAreReduced}
+use Rattle.plan_rewrite.specs.Everywhere.{InPasses, InCondition, InFields, InItem, InSteps}
+use Rattle.plan_rewrite.specs.Rewritten.{NoBindGivesWay}
 use Rattle.plan_rewrite.proofs.Scopes.{indexes-append, levels-lie, indexes-under}
 use Rattle.plan_rewrite.proofs.Settles.{gives-way, settled-placed, settled-reduced}
 
@@ -67,28 +68,28 @@ choice-placed p c h =
 pub plan-placed : (p : PlanTree) → IsPlan p → IsPlan (settled_plan p)
 plan-placed p h = λ k d lt. choice-placed p (get_or p.combinations k d) (h k d lt)
 
-passes-reduced : (ps : List PassTree) → PassesAreReduced (map settled_pass ps)
+passes-reduced : (ps : List PassTree) → InPasses NoBindGivesWay (map settled_pass ps)
 passes-reduced [] = tt
 passes-reduced (p ∷ ps) = (settled-reduced p.condition (spans p.domain) (levels 0 (spans p.domain)), settled-reduced p.body (spans p.domain) (levels 0 (spans p.domain)), passes-reduced ps)
 
-condition-reduced : (c : Option Tree) → ConditionIsReduced (option_map (settled [] []) c)
+condition-reduced : (c : Option Tree) → InCondition NoBindGivesWay (option_map (settled [] []) c)
 condition-reduced None = tt
 condition-reduced (Some c) = settled-reduced c [] []
 
-fields-reduced : (fields : List FieldBody) (g : Ground) → FieldsAreReduced g.scope (map (settled_field g) fields)
+fields-reduced : (fields : List FieldBody) (g : Ground) → InFields NoBindGivesWay g.scope (map (settled_field g) fields)
 fields-reduced [] g = tt
 fields-reduced (f ∷ fields) g = (settled-reduced f.body g.scope g.env, fields-reduced fields g)
 
-bind-left : (b : BindTree) (binds : List BindTree) (fields : List FieldBody) (scope : List Interval) (env : List Index) (o : Option Index) → way env scope b ≡ o → ((scope' : List Interval) (env' : List Index) → ItemIsReduced scope' (kept_binds env' scope' binds) (map (settled_field (ground env' scope' binds)) fields)) → ItemIsReduced scope (kept o (settled env scope b.position) b (after_bind env scope b o (λ env' scope'. kept_binds env' scope' binds))) (map (settled_field (after_bind env scope b o (λ env' scope'. ground env' scope' binds))) fields)
+bind-left : (b : BindTree) (binds : List BindTree) (fields : List FieldBody) (scope : List Interval) (env : List Index) (o : Option Index) → way env scope b ≡ o → ((scope' : List Interval) (env' : List Index) → InItem NoBindGivesWay scope' (kept_binds env' scope' binds) (map (settled_field (ground env' scope' binds)) fields)) → InItem NoBindGivesWay scope (kept o (settled env scope b.position) b (after_bind env scope b o (λ env' scope'. kept_binds env' scope' binds))) (map (settled_field (after_bind env scope b o (λ env' scope'. ground env' scope' binds))) fields)
 bind-left b binds fields scope env (Some i) is go = go scope (env ++ i ∷ [])
 bind-left b binds fields scope env None is go = (is, settled-reduced b.position scope env, go (scope ++ record { lo = b.lo; hi = b.hi } ∷ []) (env ++ Var (length scope) ∷ []))
 
-item-reduced : (binds : List BindTree) (fields : List FieldBody) (scope : List Interval) (env : List Index) → ItemIsReduced scope (kept_binds env scope binds) (map (settled_field (ground env scope binds)) fields)
+item-reduced : (binds : List BindTree) (fields : List FieldBody) (scope : List Interval) (env : List Index) → InItem NoBindGivesWay scope (kept_binds env scope binds) (map (settled_field (ground env scope binds)) fields)
 item-reduced [] fields scope env = fields-reduced fields (record { env = env; scope = scope })
 item-reduced (b ∷ binds) fields scope env = bind-left b binds fields scope env (way env scope b) refl (λ scope' env'. item-reduced binds fields scope' env')
 
 -- no bind of a settled plan would give way
-pub steps-reduced : (all : List StepsTree) → StepsAreReduced (map settled_steps all)
+pub steps-reduced : (all : List StepsTree) → InSteps NoBindGivesWay (map settled_steps all)
 steps-reduced [] = tt
 steps-reduced (t ∷ all) =
     (passes-reduced t.passes, condition-reduced t.condition, item-reduced t.item.binds t.item.fields (spans t.item.domain) (levels 0 (spans t.item.domain)), steps-reduced all)

@@ -18,7 +18,8 @@ use Rattle.plan_ir.specs.Bodies.{Tree, lit, var, reg, op1, op2, read, table, bin
 use Rattle.plan_ir.specs.Run.{number_at, numbers_at, run}
 use Rattle.plan_ir.specs.Placed.{spans, LiesWithin, LiesIn, Indexes, HasCells, IsPlaced}
 use Rattle.plan_rewrite.specs.Settling.{variable, moved, levels, told, literal, constant_in, variable_in, stand_in, bind_or_go, settled}
-use Rattle.plan_rewrite.specs.Rewritten.{IsReduced}
+use Rattle.plan_rewrite.specs.Everywhere.{InBody}
+use Rattle.plan_rewrite.specs.Rewritten.{NoBindGivesWay}
 use Rattle.plan_rewrite.proofs.Scopes.{Lie, lie-append, lie-one, points-lie, flat-same, at-map, some-within, lies-wider, indexes-append, numbers-under, indexes-under}
 
 -- a test that gave something passed
@@ -257,15 +258,15 @@ settled-placed (fold op box c e) cs count old scope env t h =
       settled-placed e cs count (old ++ spans box) (scope ++ spans box) inner t.1 is,
     )
 
-bind-reduced : (scope : List Interval) (env : List Index) (q e : Tree) (lo hi : ℤ) (o : Option Index) → stand_in scope lo hi q ≡ o → IsReduced scope q → ((scope' : List Interval) (env' : List Index) → IsReduced scope' (settled env' scope' e)) → IsReduced scope (bind_or_go env scope lo hi q o (λ env' scope'. settled env' scope' e))
+bind-reduced : (scope : List Interval) (env : List Index) (q e : Tree) (lo hi : ℤ) (o : Option Index) → stand_in scope lo hi q ≡ o → InBody NoBindGivesWay scope q → ((scope' : List Interval) (env' : List Index) → InBody NoBindGivesWay scope' (settled env' scope' e)) → InBody NoBindGivesWay scope (bind_or_go env scope lo hi q o (λ env' scope'. settled env' scope' e))
 bind-reduced scope env q e lo hi (Some i) is p go = go scope (env ++ i ∷ [])
 bind-reduced scope env q e lo hi None is p go = (is, p, go (scope ++ record { lo = lo; hi = hi } ∷ []) (env ++ Var (length scope) ∷ []))
 
-variable-reduced : (scope : List Interval) (i : Index) → IsReduced scope (variable i)
+variable-reduced : (scope : List Interval) (i : Index) → InBody NoBindGivesWay scope (variable i)
 variable-reduced scope (Const z) = tt
 variable-reduced scope (Var k) = tt
 
-pub settled-reduced : (t : Tree) (scope : List Interval) (env : List Index) → IsReduced scope (settled env scope t)
+pub settled-reduced : (t : Tree) (scope : List Interval) (env : List Index) → InBody NoBindGivesWay scope (settled env scope t)
 settled-reduced (lit z) scope env = tt
 settled-reduced (var k) scope env = variable-reduced scope (get_or env k (Const (pos 0)))
 settled-reduced (reg k) scope env = tt
@@ -276,4 +277,4 @@ settled-reduced (table box items is) scope env = tt
 settled-reduced (bind p lo hi e) scope env =
     bind-reduced scope env (settled env scope p) e lo hi (stand_in scope lo hi (settled env scope p)) refl (settled-reduced p scope env) (λ scope' env'. settled-reduced e scope' env')
 settled-reduced (fold op box c e) scope env =
-    (settled-reduced c (scope ++ spans box) (env ++ levels (length scope) (spans box)), settled-reduced e (scope ++ spans box) (env ++ levels (length scope) (spans box)))
+    (tt, settled-reduced c (scope ++ spans box) (env ++ levels (length scope) (spans box)), settled-reduced e (scope ++ spans box) (env ++ levels (length scope) (spans box)))

@@ -3,6 +3,7 @@ use Rattle.std.specs.Prelude.{ℕ, ◌+◌, List, [], ◌∷◌, Option, Some, N
 use Rattle.arr_core.specs.Domains.{count}
 use Rattle.plan_ir.specs.Bodies.{Tree, lit, var, reg, op1, op2, read, table, bind, fold}
 use Rattle.plan_ir.specs.Plans.{PassTree, BindTree, FieldBody, StepsTree, Choice, PlanTree}
+use Rattle.plan_ir.specs.Units.{units}
 
 -- of a body, each fold once
 abbrev pub body_folds : Tree → ℕ
@@ -41,3 +42,7 @@ steps_folds (Some s) = passes_folds s.passes + (condition_folds s.condition + (b
 -- of a plan, the steps of each combination
 abbrev pub fold_points : PlanTree → ℕ
 fold_points plan = sum_by (λ (c : Choice). steps_folds (slice_get plan.steps c.steps)) plan.combinations
+
+-- the units that a plan has at most once all its folds are passes
+abbrev pub unit_bound : PlanTree → ℕ
+unit_bound plan = units plan + fold_points plan

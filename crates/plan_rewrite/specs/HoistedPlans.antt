@@ -1,9 +1,10 @@
 -- Hoisted plans: the passes of steps, each behind those that its own closed folds have become, then the condition, the binds
 -- and the fields.
-use Rattle.std.specs.Prelude.{◌≡◌, ℕ, ◌+◌, ◌&&◌, false, List, [], ◌∷◌, ◌++◌, map, length, Option, Some, None}
-use Rattle.plan_ir.specs.Bodies.{Tree, lit, var, reg, op1, op2, read, table, bind, fold}
+use Rattle.std.specs.Prelude.{ℕ, ◌+◌, List, [], ◌∷◌, ◌++◌, map, length, Option, Some, None}
+use Rattle.arr_core.specs.declared.domain.Axis.{Axis}
+use Rattle.plan_ir.specs.Bodies.{Tree}
 use Rattle.plan_ir.specs.Plans.{PassTree, BindTree, FieldBody, ItemTree, StepsTree, PlanTree}
-use Rattle.plan_ir.specs.Variables.{is_from}
+use Rattle.plan_rewrite.specs.Views.{pass_of}
 use Rattle.plan_rewrite.specs.Hoisting.{Hoisted, hoisted}
 
 -- the place of each old pass among all passes so far
@@ -13,10 +14,7 @@ pub record Places : Type 0 where
 
 -- a pass whose body has been hoisted goes to the end
 abbrev pub with_body : List ℕ → PassTree → Tree → Hoisted → Places
-with_body regs p c h = record {
-  regs = regs ++ length h.passes ∷ [];
-  passes = h.passes ++ record { op = p.op; domain = p.domain; condition = c; body = h.body } ∷ [];
-}
+with_body regs p c h = record { regs = regs ++ length h.passes ∷ []; passes = h.passes ++ pass_of p.op p.domain c h.body ∷ [] }
 
 abbrev pub with_condition : List ℕ → PassTree → Hoisted → Places
 with_condition regs p h = with_body regs p h.body (hoisted regs (length p.domain) h.passes p.body)
@@ -70,8 +68,12 @@ hoisted_item regs n passes [] fields = without_binds (hoisted_fields regs n pass
 hoisted_item regs n passes (b ∷ binds) fields =
     before_item b (hoisted regs n passes b.position) (hoisted_item regs (n + 1) (hoisted regs n passes b.position).passes binds fields)
 
+-- an item on that domain
+abbrev pub item_on : List Axis → HoistedItem → ItemTree
+item_on domain h = record { domain = domain; binds = h.binds; fields = h.fields }
+
 abbrev pub with_item : ItemTree → HoistedCondition → HoistedItem → StepsTree
-with_item i c h = record { passes = h.passes; condition = c.condition; item = record { domain = i.domain; binds = h.binds; fields = h.fields } }
+with_item i c h = record { passes = h.passes; condition = c.condition; item = item_on i.domain h }
 
 abbrev pub behind_condition : List ℕ → ItemTree → HoistedCondition → StepsTree
 behind_condition regs i c = with_item i c (hoisted_item regs (length i.domain) c.passes i.binds i.fields)
@@ -84,36 +86,3 @@ hoisted_steps t = behind_passes t (with_passes (record { regs = []; passes = [] 
 
 abbrev pub hoisted_plan : PlanTree → PlanTree
 hoisted_plan p = record { coverages = p.coverages; steps = map hoisted_steps p.steps; combinations = p.combinations }
-
--- no fold under n variables but uses one of them
-abbrev pub HasOpenFolds : ℕ → Tree → Type 0
-HasOpenFolds n (lit z) = Unit {0}
-HasOpenFolds n (var k) = Unit {0}
-HasOpenFolds n (reg k) = Unit {0}
-HasOpenFolds n (op1 op e) = HasOpenFolds n e
-HasOpenFolds n (op2 op l r) = HasOpenFolds n l × HasOpenFolds n r
-HasOpenFolds n (read c f is) = Unit {0}
-HasOpenFolds n (table box items is) = Unit {0}
-HasOpenFolds n (bind i lo hi e) = HasOpenFolds n i × HasOpenFolds (n + 1) e
-HasOpenFolds n (fold op box c e) = ((is_from n c && is_from n e) ≡ false) × HasOpenFolds (n + length box) c × HasOpenFolds (n + length box) e
-
-abbrev pub PassesAreOpen : List PassTree → Type 0
-PassesAreOpen [] = Unit {0}
-PassesAreOpen (p ∷ passes) = HasOpenFolds (length p.domain) p.condition × HasOpenFolds (length p.domain) p.body × PassesAreOpen passes
-
-abbrev pub ConditionIsOpen : Option Tree → Type 0
-ConditionIsOpen None = Unit {0}
-ConditionIsOpen (Some c) = HasOpenFolds 0 c
-
-abbrev pub FieldsAreOpen : ℕ → List FieldBody → Type 0
-FieldsAreOpen n [] = Unit {0}
-FieldsAreOpen n (f ∷ fields) = HasOpenFolds n f.body × FieldsAreOpen n fields
-
-abbrev pub ItemIsOpen : ℕ → List BindTree → List FieldBody → Type 0
-ItemIsOpen n [] fields = FieldsAreOpen n fields
-ItemIsOpen n (b ∷ binds) fields = HasOpenFolds n b.position × ItemIsOpen (n + 1) binds fields
-
--- each fold in a body uses a variable from outside it
-abbrev pub StepsAreOpen : List StepsTree → Type 0
-StepsAreOpen [] = Unit {0}
-StepsAreOpen (s ∷ more) = PassesAreOpen s.passes × ConditionIsOpen s.condition × ItemIsOpen (length s.item.domain) s.item.binds s.item.fields × StepsAreOpen more

@@ -3,6 +3,7 @@ use Rattle.std.specs.Prelude.{ℕ, ◌+◌, ◌&&◌, cond, List, [], ◌∷◌,
 use Rattle.plan_ir.specs.Bodies.{Tree, lit, var, reg, op1, op2, read, table, bind, fold}
 use Rattle.plan_ir.specs.Plans.{PassTree}
 use Rattle.plan_ir.specs.Variables.{is_from, without}
+use Rattle.plan_rewrite.specs.Views.{pass_of}
 
 -- a body, and all passes so far
 pub record Hoisted : Type 0 where
@@ -13,7 +14,7 @@ abbrev pub in_body : (Tree → Tree) → Hoisted → Hoisted
 in_body f h = record { passes = h.passes; body = f h.body }
 
 abbrev pub pass_without : ℕ → PassTree → PassTree
-pass_without n f = record { op = f.op; domain = f.domain; condition = without n f.condition; body = without n f.body }
+pass_without n f = pass_of f.op f.domain (without n f.condition) (without n f.body)
 
 -- a fold under n variables: a pass where it uses none of them
 abbrev pub passed : ℕ → List PassTree → PassTree → Hoisted
@@ -35,22 +36,5 @@ hoisted regs n passes (table box items is) = record { passes = passes; body = ta
 hoisted regs n passes (bind i lo hi e) =
     in_body (bind (hoisted regs n passes i).body lo hi) (hoisted regs (n + 1) (hoisted regs n passes i).passes e)
 hoisted regs n passes (fold op box c e) =
-    passed n (hoisted regs (n + length box) (hoisted regs (n + length box) passes c).passes e).passes (record {
-      op = op;
-      domain = box;
-      condition = (hoisted regs (n + length box) passes c).body;
-      body = (hoisted regs (n + length box) (hoisted regs (n + length box) passes c).passes e).body;
-    })
-
--- a fold whose condition and body have been hoisted, under n variables with its own
-abbrev pub inner_pass : List ℕ → ℕ → List PassTree → PassTree → PassTree
-inner_pass regs n passes f = record {
-  op = f.op;
-  domain = f.domain;
-  condition = (hoisted regs n passes f.condition).body;
-  body = (hoisted regs n (hoisted regs n passes f.condition).passes f.body).body;
-}
-
--- all passes then
-abbrev pub inner_passes : List ℕ → ℕ → List PassTree → PassTree → List PassTree
-inner_passes regs n passes f = (hoisted regs n (hoisted regs n passes f.condition).passes f.body).passes
+    passed n (hoisted regs (n + length box) (hoisted regs (n + length box) passes c).passes e).passes
+    (pass_of op box (hoisted regs (n + length box) passes c).body (hoisted regs (n + length box) (hoisted regs (n + length box) passes c).passes e).body)

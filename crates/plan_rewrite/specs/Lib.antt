@@ -1,9 +1,13 @@
+pub mod Views
 pub mod Settling
 pub mod Settled
+pub mod Everywhere
 pub mod Rewritten
 pub mod Lowering
 pub mod LoweredItems
 pub mod Hoisting
 pub mod HoistedPlans
+pub mod HoistedParts
 pub mod LoweredPlans
 pub mod FoldPoints
+pub mod Lowered

@@ -8,7 +8,8 @@ use Rattle.wcps_types.specs.declared.typed.TypedItem.{TypedItem}
 use Rattle.wcps_types.specs.Typed.{Typed, bracket, slice, FieldTree, CombinationTree, field_tree, only_tree, boxed_tree, fields_view, item_view}
 use Rattle.plan_ir.specs.Bodies.{Tree}
 use Rattle.plan_ir.specs.Plans.{BindTree, FieldBody, ItemTree, StepsTree}
-use Rattle.plan_rewrite.specs.Lowering.{Setting, outermost, at_scalar, at_slice, lowered}
+use Rattle.plan_rewrite.specs.declared.lowering.context.Context.{Context}
+use Rattle.plan_rewrite.specs.Lowering.{Setting, setting_of, outermost, at_scalar, at_slice, lowered}
 
 -- a node seen through the brackets and slices at its top, which all its fields have
 pub data Chain : Type 0 where
@@ -52,11 +53,22 @@ chain_binds c (sliced axis lo hi i h) = slice_bind c lo hi i ∷ chain_binds (at
 abbrev pub lowered_field : Setting → FieldTree → FieldBody
 lowered_field c f = record { boolean = f.boolean; body = lowered c f.tree }
 
+-- each field of a node
+abbrev pub lowered_fields : Setting → Node → List Bool → List FieldBody
+lowered_fields c e booleans = map (lowered_field c) (fields_view e 0 booleans)
+
 -- the fields under the binds
 abbrev pub chain_fields : Setting → Chain → List Bool → List FieldBody
-chain_fields c (end e) booleans = map (lowered_field c) (fields_view e 0 booleans)
+chain_fields c (end e) booleans = lowered_fields c e booleans
 chain_fields c (bracketed h) booleans = chain_fields c h booleans
 chain_fields c (sliced axis lo hi i h) booleans = chain_fields (at_slice c axis lo hi) h booleans
+
+-- the same of a node where the code lowers it
+abbrev pub shared_binds : Context → Node → List BindTree
+shared_binds c e = chain_binds (setting_of c) (chain_of e)
+
+abbrev pub shared_fields : Context → Node → List Bool → List FieldBody
+shared_fields c e booleans = chain_fields (setting_of c) (chain_of e) booleans
 
 -- an item without fields demands nothing, and has no binds
 abbrev pub item_binds : List Bool → List BindTree → List BindTree

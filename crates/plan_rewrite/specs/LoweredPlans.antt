@@ -40,10 +40,14 @@ AreLowered (c ∷ trees) (t ∷ steps) = StandsFor c t × AreLowered trees steps
 AreLowered [] (t ∷ steps) = ⊥
 AreLowered (c ∷ trees) [] = ⊥
 
+-- the steps at the place of its tree, over its coverages
+abbrev pub choice_of : Combination → Choice
+choice_of c = record { steps = c.tree; coverages = c.coverages.items }
+
 -- a combination has the steps at the place of its tree; without a tree, which is so in no query, it returns nothing
 abbrev pub lowered_choice : {X : Type 0} → Option X → Combination → List Choice
 lowered_choice None c = []
-lowered_choice (Some t) c = record { steps = c.tree; coverages = c.coverages.items } ∷ []
+lowered_choice (Some t) c = choice_of c ∷ []
 
 abbrev pub lowered_choices : {X : Type 0} → List X → List Combination → List Choice
 lowered_choices steps [] = []

@@ -2,7 +2,8 @@
 -- their iterators away, and each cell is read at the indexes of the point.
 use Rattle.std.specs.Prelude.{ℕ, ℤ, pos, List, [], ◌∷◌, ◌++◌, length, slice_index_or, insert}
 use Rattle.arr_core.specs.declared.domain.Axis.{Axis}
-use Rattle.wcps_types.specs.Typed.{Typed, number, iterator, cell, unary, binary, scalar, select, bracket, slice, array, listed, condense, condense_where, reduce}
+use Rattle.wcps_types.specs.declared.typed.Node.{Node}
+use Rattle.wcps_types.specs.Typed.{Typed, field_tree, number, iterator, cell, unary, binary, scalar, select, bracket, slice, array, listed, condense, condense_where, reduce}
 use Rattle.plan_ir.specs.declared.body.Index.{Index}
 use Rattle.plan_ir.specs.declared.body.Index.TheVariants.{Const, Var}
 use Rattle.plan_ir.specs.declared.body.Interval.{Interval}
@@ -76,3 +77,11 @@ lowered c (listed box items) = table box items c.point
 lowered c (condense op box e) = fold op box always (lowered (at_box c box) e)
 lowered c (condense_where op box b e) = fold op box (lowered (at_box c box) b) (lowered (at_box c box) e)
 lowered c (reduce op box e) = fold op box always (lowered (at_points c box) e)
+
+-- a field of a node where the code lowers it
+abbrev pub field_at : Context → Node → ℕ → Tree
+field_at c e field = lowered (setting_of c) (field_tree e field)
+
+-- a field of a scalar there
+abbrev pub scalar_at : Context → Node → ℕ → Tree
+scalar_at c e field = lowered (at_scalar (setting_of c)) (field_tree e field)

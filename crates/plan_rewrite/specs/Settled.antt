@@ -1,11 +1,13 @@
 -- Settled plans: each body of a plan without the binds that give way.
-use Rattle.std.specs.Prelude.{List, [], ◌∷◌, ◌++◌, map, length, Option, Some, None, option_map}
+use Rattle.std.specs.Prelude.{List, [], ◌∷◌, ◌++◌, map, length, Option, Some, None, option_map, Vec}
+use Rattle.std.specs.Global.{Global}
 use Rattle.plan_ir.specs.declared.body.Index.{Index}
 use Rattle.plan_ir.specs.declared.body.Index.TheVariants.{Var}
 use Rattle.plan_ir.specs.declared.body.Interval.{Interval}
+use Rattle.plan_ir.specs.declared.plan.Bind.{Bind}
 use Rattle.plan_ir.specs.Bodies.{Tree}
 use Rattle.plan_ir.specs.Placed.{spans}
-use Rattle.plan_ir.specs.Plans.{PassTree, BindTree, FieldBody, ItemTree, StepsTree, PlanTree}
+use Rattle.plan_ir.specs.Plans.{PassTree, BindTree, FieldBody, ItemTree, StepsTree, PlanTree, bind_view}
 use Rattle.plan_rewrite.specs.Settling.{levels, stand_in, settled, settled_under}
 
 -- the variables after some binds: the index of each old one, and the interval of each new one
@@ -36,11 +38,18 @@ kept_binds env scope [] = []
 kept_binds env scope (b ∷ binds) =
     kept (way env scope b) (settled env scope b.position) b (after_bind env scope b (way env scope b) (λ env' scope'. kept_binds env' scope' binds))
 
+-- the same of binds as the code has them
+abbrev pub binds_kept : Vec Index Global → Vec Interval Global → List Bind → List BindTree
+binds_kept env scope binds = kept_binds env.items scope.items (map bind_view binds)
+
 abbrev pub settled_pass : PassTree → PassTree
 settled_pass p = settled_under [] [] p
 
 abbrev pub settled_field : Ground → FieldBody → FieldBody
 settled_field g f = record { boolean = f.boolean; body = settled g.env g.scope f.body }
+
+abbrev pub settled_fields : List Index → List Interval → List FieldBody → List FieldBody
+settled_fields env scope fields = map (settled_field (record { env = env; scope = scope })) fields
 
 abbrev pub settled_item : ItemTree → ItemTree
 settled_item i = record {

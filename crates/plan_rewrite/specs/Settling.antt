@@ -10,6 +10,7 @@ use Rattle.plan_ir.specs.declared.body.Interval.{Interval}
 use Rattle.plan_ir.specs.Bodies.{Tree, lit, var, reg, op1, op2, read, table, bind, fold}
 use Rattle.plan_ir.specs.Placed.{spans}
 use Rattle.plan_ir.specs.Plans.{PassTree}
+use Rattle.plan_rewrite.specs.Views.{pass_of}
 
 -- what has the number of an index at each point
 abbrev pub variable : Index → Tree
@@ -88,9 +89,11 @@ settled env scope (fold op box c e) =
 
 -- the same of a fold, as its parts
 abbrev pub settled_under : List Index → List Interval → PassTree → PassTree
-settled_under env scope p = record {
-  op = p.op;
-  domain = p.domain;
-  condition = settled (env ++ levels (length scope) (spans p.domain)) (scope ++ spans p.domain) p.condition;
-  body = settled (env ++ levels (length scope) (spans p.domain)) (scope ++ spans p.domain) p.body;
-}
+settled_under env scope p =
+    pass_of p.op p.domain
+    (settled (env ++ levels (length scope) (spans p.domain)) (scope ++ spans p.domain) p.condition)
+    (settled (env ++ levels (length scope) (spans p.domain)) (scope ++ spans p.domain) p.body)
+
+-- a body under a settled position, or where that gives way without it
+abbrev pub settled_bind : List Index → List Interval → Interval → Tree → Tree → Tree
+settled_bind env scope i p e = bind_or_go env scope i.lo i.hi p (stand_in scope i.lo i.hi p) (λ env' scope'. settled env' scope' e)

@@ -1,8 +1,8 @@
 //! Making bodies of bodies. Each is handed on in its box, and is let go there where a later part fails.
 
-ghost use Rattle.std.specs.Prelude.{◌≡◌, ◌++◌, [], ◌∷◌, IfOk, OnOk, map};
-ghost use Rattle.plan_ir.specs.Bodies.{body_view, fold_view, op1, op2, read, table, bind, fold, always};
-ghost use Rattle.plan_ir.specs.Plans.{pass_view, bind_view};
+ghost use Rattle.std.specs.Prelude.{◌≡◌, [], ◌∷◌, IfOk, OnOk};
+ghost use Rattle.plan_ir.specs.Bodies.{fold_view, op1, op2, read, table, fold, always};
+ghost use Rattle.plan_rewrite.specs.Views.{tree_in, pass_in, pass_of, bind_of, bind_over, GainsBinds};
 
 use arr_core::Domain;
 use plan_ir::{Bind, Body, Fold, Index, Interval};
@@ -19,7 +19,7 @@ pub fn boxed(alloc: Global, body: Body) -> Result<Box<Body>, AllocError>
 
 /// An operation on one operand.
 pub fn op1_body(alloc: Global, op: UnaryOperator, e: Box<Body>) -> Result<Box<Body>, AllocError>
-    ensures { IfOk result (λ b. body_view b.value ≡ op1 op (body_view e.value)) }
+    ensures { IfOk result (λ b. tree_in b ≡ op1 op (tree_in e)) }
 {
     boxed(alloc, Body::Op1(op, e))
 }
@@ -31,7 +31,7 @@ pub fn op2_body(
     l: Box<Body>,
     r: Box<Body>,
 ) -> Result<Box<Body>, AllocError>
-    ensures { IfOk result (λ b. body_view b.value ≡ op2 op (body_view l.value) (body_view r.value)) }
+    ensures { IfOk result (λ b. tree_in b ≡ op2 op (tree_in l) (tree_in r)) }
 {
     boxed(alloc, Body::Op2(op, l, r))
 }
@@ -43,7 +43,7 @@ pub fn bind_body(
     interval: Interval,
     body: Box<Body>,
 ) -> Result<Box<Body>, AllocError>
-    ensures { IfOk result (λ b. body_view b.value ≡ bind (body_view position.value) interval.lo interval.hi (body_view body.value)) }
+    ensures { IfOk result (λ b. tree_in b ≡ bind_over (tree_in position) interval (tree_in body)) }
 {
     boxed(
         alloc,
@@ -62,7 +62,7 @@ pub fn read_at(
     field: usize,
     point: &[Index],
 ) -> Result<Box<Body>, AllocError>
-    ensures { IfOk result (λ b. body_view b.value ≡ read coverage field point.now) }
+    ensures { IfOk result (λ b. tree_in b ≡ read coverage field point.now) }
 {
     let indexes = point.to_vec(alloc)?;
     read_body(alloc, coverage, field, indexes)
@@ -75,7 +75,7 @@ pub fn read_body(
     field: usize,
     indexes: Vec<Index>,
 ) -> Result<Box<Body>, AllocError>
-    ensures { IfOk result (λ b. body_view b.value ≡ read coverage field indexes.items) }
+    ensures { IfOk result (λ b. tree_in b ≡ read coverage field indexes.items) }
 {
     boxed(
         alloc,
@@ -94,7 +94,7 @@ pub fn table_at(
     items: &[i64],
     point: &[Index],
 ) -> Result<Box<Body>, AllocError>
-    ensures { IfOk result (λ b. body_view b.value ≡ table domain.now items.now point.now) }
+    ensures { IfOk result (λ b. tree_in b ≡ table domain.now items.now point.now) }
 {
     let indexes = point.to_vec(alloc)?;
     table_body(alloc, domain, items, indexes)
@@ -107,7 +107,7 @@ pub fn table_body(
     items: &[i64],
     indexes: Vec<Index>,
 ) -> Result<Box<Body>, AllocError>
-    ensures { IfOk result (λ b. body_view b.value ≡ table domain.now items.now indexes.items) }
+    ensures { IfOk result (λ b. tree_in b ≡ table domain.now items.now indexes.items) }
 {
     let domain = domain.copy(alloc)?;
     let items = items.to_vec(alloc)?;
@@ -123,7 +123,7 @@ pub fn table_body(
 
 /// A fold as a body.
 pub fn fold_body(alloc: Global, fold: Box<Fold>) -> Result<Box<Body>, AllocError>
-    ensures { IfOk result (λ b. body_view b.value ≡ fold_view fold.value) }
+    ensures { IfOk result (λ b. tree_in b ≡ fold_view fold.value) }
 {
     boxed(alloc, Body::Fold(fold))
 }
@@ -135,7 +135,7 @@ pub fn plain_fold(
     domain: &Domain,
     body: Box<Body>,
 ) -> Result<Box<Fold>, AllocError>
-    ensures { IfOk result (λ f. pass_view f.value ≡ record { op = op; domain = domain.now; condition = always; body = body_view body.value }) }
+    ensures { IfOk result (λ f. pass_in f ≡ pass_of op domain.now always (tree_in body)) }
 {
     let domain = domain.copy(alloc)?;
     let f = Box::new(
@@ -158,7 +158,7 @@ pub fn conditional_fold(
     condition: Box<Body>,
     body: Box<Body>,
 ) -> Result<Box<Fold>, AllocError>
-    ensures { IfOk result (λ f. pass_view f.value ≡ record { op = op; domain = domain.now; condition = body_view condition.value; body = body_view body.value }) }
+    ensures { IfOk result (λ f. pass_in f ≡ pass_of op domain.now (tree_in condition) (tree_in body)) }
 {
     let domain = domain.copy(alloc)?;
     let f = Box::new(
@@ -179,7 +179,7 @@ pub fn push_bind(
     position: Box<Body>,
     interval: Interval,
 ) -> Result<(), AllocError>
-    ensures { OnOk result (map bind_view list.new.items ≡ map bind_view list.old.items ++ record { position = body_view position.value; lo = interval.lo; hi = interval.hi } ∷ []) }
+    ensures { OnOk result (GainsBinds list.old list.new (bind_of (tree_in position) interval ∷ [])) }
 {
     list.push(Bind {
         position: Box::into_inner(position),

@@ -1,14 +1,13 @@
 //! Rewriting of plans.
 
-ghost use Rattle.std.specs.Prelude.{◌≡◌, ◌+◌, ◌≤◌, ℕ, ℤ, List, IfOk, map};
-ghost use Rattle.plan_ir.specs.Plans.{steps_view, plan_view};
-ghost use Rattle.plan_ir.specs.Planned.{planned};
+ghost use Rattle.std.specs.Prelude.{◌≡◌, ◌≤◌, IfOk};
+ghost use Rattle.plan_ir.specs.Plans.{plan_view};
 ghost use Rattle.plan_ir.specs.Placed.{IsPlan};
-ghost use Rattle.plan_ir.specs.Units.{units};
 ghost use Rattle.plan_rewrite.specs.Settled.{settled_plan};
-ghost use Rattle.plan_rewrite.specs.Rewritten.{StepsAreReduced};
-ghost use Rattle.plan_rewrite.specs.HoistedPlans.{hoisted_plan, StepsAreOpen};
-ghost use Rattle.plan_rewrite.specs.FoldPoints.{fold_points};
+ghost use Rattle.plan_rewrite.specs.Everywhere.{Everywhere};
+ghost use Rattle.plan_rewrite.specs.Rewritten.{MeansSame, NoBindGivesWay, NoFoldIsClosed};
+ghost use Rattle.plan_rewrite.specs.HoistedPlans.{hoisted_plan};
+ghost use Rattle.plan_rewrite.specs.FoldPoints.{unit_bound};
 
 use crate::hoisting::hoist_all;
 use crate::inlining::settle_all;
@@ -20,11 +19,11 @@ use std::alloc::{AllocError, Global};
 /// stands in its place. A well-formed plan gives what it gave, faults included, and stays well-formed. The units grow by no
 /// more than the points of the folds.
 pub fn rewrite(alloc: Global, plan: Plan) -> Result<Plan, AllocError>
-    ensures planned { IfOk result (λ r. IsPlan (plan_view plan) → (s : ℕ → ℕ → List ℤ → ℤ) → planned s (plan_view r) ≡ planned s (plan_view plan)) }
+    ensures planned { IfOk result (λ r. IsPlan (plan_view plan) → MeansSame (plan_view plan) (plan_view r)) }
     ensures placed { IfOk result (λ r. IsPlan (plan_view plan) → IsPlan (plan_view r)) }
-    ensures reduced { IfOk result (λ r. StepsAreReduced (map steps_view r.steps.items)) }
-    ensures open { IfOk result (λ r. StepsAreOpen (map steps_view r.steps.items)) }
-    ensures units { IfOk result (λ r. units (plan_view r) + fold_points (plan_view r) ≤ units (plan_view plan) + fold_points (plan_view plan)) }
+    ensures reduced { IfOk result (λ r. Everywhere NoBindGivesWay (plan_view r)) }
+    ensures open { IfOk result (λ r. Everywhere NoFoldIsClosed (plan_view r)) }
+    ensures units { IfOk result (λ r. unit_bound (plan_view r) ≤ unit_bound (plan_view plan)) }
     ensures coverages { IfOk result (λ r. r.coverages.items ≡ plan.coverages.items) }
 {
     let r = rewritten(alloc, plan)?;

@@ -8,7 +8,7 @@ use arr_core::Name;
 use map_templates::{Layer, Params, expand};
 use std::alloc::Global;
 use test_rows::{Answer, cut, cut_at, index, integer, point};
-use wcps_mean::{Part, eval_plain, value_at};
+use wcps_mean::{Part, QueryPart, eval_plain, value_at};
 use wcps_types::TypedQuery;
 
 /// The name of a field; none for no word.
@@ -144,16 +144,12 @@ impl Coverages {
         place: &Place,
     ) -> Result<()> {
         self.list(query)?;
-        match value_at(
-            alloc,
-            self,
-            query,
-            place.combination,
-            place.part,
-            &place.point,
-        ) {
-            Ok(Some(outcome)) => say_outcome(answer, outcome),
-            Ok(None) => answer.say("none"),
+        let Some(part) = QueryPart::find(alloc, query, place.combination, place.part)? else {
+            answer.say("none");
+            return Ok(());
+        };
+        match value_at(alloc, self, &part, &place.point) {
+            Ok(outcome) => say_outcome(answer, outcome),
             Err(error) => answer.refusal(cell_number(error)),
         }
         Ok(())

@@ -1,5 +1,5 @@
 -- What the calls of a store ask, and what names, places and indexes are.
-use Rattle.std.specs.Prelude.{◌≡◌, ℕ, ◌+◌, ◌<◌, ℤ, IsTrue, if◌then◌else◌, Option, None, IsSomeAnd}
+use Rattle.std.specs.Prelude.{◌≡◌, ℕ, ◌+◌, ◌<◌, ℤ, IsTrue, if◌then◌else◌, Option, None, IsSomeAnd, option_map}
 use Rattle.std.specs.Prelude.{List, [], ◌∷◌, ◌++◌, map, length, All, replicate, slice_get}
 use Rattle.std.specs.Str.{bytes_eq}
 use Rattle.arr_core.specs.declared.cell.Cell.{Cell}
@@ -21,6 +21,10 @@ use Rattle.raster_store.specs.Views.{Index, coverages_in, listed_fields, listed_
 -- what is told of a coverage without its values
 abbrev pub signature_of : Coverage → Signature
 signature_of c = record { name = c.name; domain = c.domain; fields = c.fields }
+
+-- the signature of the coverage with a name
+abbrev pub signature_in : List ℕ → Store → Option Signature
+signature_in name coverages = option_map signature_of (found name coverages)
 
 -- the coverages have the names, domains and fields that they had
 abbrev pub AreSameSignatures : Store → Store → Type 0

@@ -22,7 +22,8 @@ use Rattle.tile_store.specs.Faults.{Refuses}
 use Rattle.block_file.specs.State.{BlocksState}
 use Rattle.raster_store.specs.Views.{RasterView, metadata_size}
 use Rattle.raster_store.specs.Fetches.{IsDamagedUnder}
-use Rattle.raster_store.specs.Words.{LacksRoomToWrite, Writes}
+use Rattle.raster_store.specs.Words.{LacksRoomToWrite, Writes, WritesBox, RefusesBox}
+use Rattle.raster_store.specs.declared.fault.WriteFault.{WriteFault}
 use Rattle.raster_store.specs.Holding.{index_at, indexes_of, IsNamedAt}
 
 -- the field at a place has this type
@@ -44,6 +45,17 @@ IsNamed name held h = (place : ℕ) × IsNamedAt name held place × (h ≡ slice
 abbrev pub cells_in : List Axis → Cells → List Cell
 cells_in area (written.Each cells) = cells.now
 cells_in area (written.Same cell) = filled area cell
+
+-- such cells were written into a box of a field, and why they are not
+abbrev pub PutsCells : {B : Type 0} → (B → BlocksState) → List ℕ → ℕ → List Axis → Cells → ℕ
+    → RasterView B → RasterView B → Type 0
+PutsCells state name field area cells catalogue old new =
+    WritesBox state name field area (cells_in area cells) catalogue old new
+
+abbrev pub RefusesPutCells : {B : Type 0} → (B → BlocksState) → List ℕ → ℕ → List Axis → Cells → ℕ
+    → RasterView B → WriteFault → Type 0
+RefusesPutCells state name field area cells catalogue v fault =
+    RefusesBox state name field area (cells_in area cells) catalogue v fault
 
 -- the field at a place may have cells in a box, and these numbers are what they are stored as
 abbrev pub AreStored : Signature → ℕ → List Axis → List Cell → Numbers → Type 0

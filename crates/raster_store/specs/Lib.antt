@@ -8,3 +8,4 @@ pub mod Fetches
 pub mod Decoded
 pub mod Snapshots
 pub mod Picking
+pub mod Fetching

@@ -1,6 +1,6 @@
 -- What is held for jobs: coverages as they were.
 use Rattle.std.specs.Prelude.{◌≡◌, ℕ, nat_eq, not, cond, IsTrue, List, [], ◌∷◌, ◌++◌, map, All}
-use Rattle.std.specs.Prelude.{Option, Some, None, option_map, slice_get}
+use Rattle.std.specs.Prelude.{Option, Some, None, option_map, slice_get, IsSomeAnd}
 use Rattle.std.specs.List.{AllByRecursion as Each, filter, find}
 use Rattle.std.specs.Option.{option_or}
 use Rattle.std.specs.Str.{bytes_eq}
@@ -29,6 +29,13 @@ job_view job v = option_map (as_held v) (held_for job v.snapshots)
 -- what a number reads: what is held for it, and for number 0 the store as it is where nothing is
 abbrev pub held_view : {B : Type 0} → ℕ → RasterView B → Option (RasterView B)
 held_view job v = option_or (job_view job v) (cond (nat_eq job 0) (Some v) None)
+
+-- something is held at a place, or there is what a number reads, and a fact is true of it
+abbrev pub OnHeldAt : {B : Type 0} → ℕ → RasterView B → (RasterView B → Type 0) → Type 0
+OnHeldAt place v fact = IsSomeAnd (slice_get v.snapshots place) (λ x. fact (as_held v x))
+
+abbrev pub OnHeldFor : {B : Type 0} → ℕ → RasterView B → (RasterView B → Type 0) → Type 0
+OnHeldFor job v fact = IsSomeAnd (held_view job v) fact
 
 -- each is the name of a coverage
 abbrev pub AreNames : List (List ℕ) → Store → Type 0

@@ -67,6 +67,7 @@ pub record Attaches {B : Type 0} (state : B → BlocksState) (s : Signature) (fi
   pub coverages : new.coverages ≡ old.coverages ++ coverage_in (state old.blocks).content s fields ∷ []
   pub indexes : new.indexes ≡ old.indexes ++ fields ∷ []
   pub below : AreBelow s.domain fields
+  pub fetched : new.fetched ≡ old.fetched
 
 -- a coverage came that is 0 or false everywhere, and so many blocks are free that the metadata has room
 pub record Creates {B : Type 0} (state : B → BlocksState) (s : Signature) (catalogue : ℕ)

@@ -5,8 +5,8 @@ ghost use Rattle.block_file.specs.State.{none};
 ghost use Rattle.block_file.specs.Words.{OnlyReads};
 ghost use Rattle.disk_face.specs.Disk.{Tells};
 ghost use Rattle.tile_store.specs.Faults.{Refuses};
-ghost use Rattle.raster_store.specs.Fetches.{HasTile};
-ghost use Rattle.raster_store.specs.Holding.{coverages_of, IsHeld, tile_in, IsTileOf, IsDamagedIn, AreOf, AddsOf};
+ghost use Rattle.raster_store.specs.Fetching.{HasTileOf, IsFetchedOf, IsDamagedOf};
+ghost use Rattle.raster_store.specs.Holding.{IsHeld, AreOf, AddsOf};
 
 use crate::decoded::DecodedTiles;
 use crate::held::Held;
@@ -32,12 +32,9 @@ fn read_of<B: Blocks>(
     cells: &mut Vec<i64>,
 ) -> Result<(), Fault>
     requires held { IsHeld (B.state blocks.old) (of.coverage.now ∷ []) }
-    requires tile { HasTile (tile_in of.field of.tile)
-        (coverages_of (B.state blocks.old).content (of.coverage.now ∷ [])) }
-    ensures read { OnOk result
-        (IsTileOf (B.state blocks.old) of.entry.coverage.now of.entry.field of.entry.tile cells.new.items) }
-    ensures why { Refuses result
-        (IsDamagedIn (B.state blocks.old) of.entry.coverage.now of.entry.field of.entry.tile) ⊥ }
+    requires tile { HasTileOf (B.state blocks.old) of }
+    ensures read { OnOk result (IsFetchedOf (B.state blocks.old) of.entry cells.new.items) }
+    ensures why { Refuses result (IsDamagedOf (B.state blocks.old) of.entry) ⊥ }
     ensures frame { OnlyReads none (B.state blocks.old) (B.state blocks.new) }
     ensures told { Tells (IsErrOf result Fault.DiskFault) (B.state blocks.old).failures (B.state blocks.new).failures }
 {
@@ -57,13 +54,10 @@ pub(crate) fn fetch_of<B: Blocks>(
     cells: &mut Vec<i64>,
 ) -> Result<(), Fault>
     requires held { IsHeld (B.state blocks.old) (of.coverage.now ∷ []) }
-    requires tile { HasTile (tile_in of.field of.tile)
-        (coverages_of (B.state blocks.old).content (of.coverage.now ∷ [])) }
+    requires tile { HasTileOf (B.state blocks.old) of }
     requires kept { AreOf (B.state blocks.old) of.coverage.now decoded.old }
-    ensures read { OnOk result
-        (IsTileOf (B.state blocks.old) of.entry.coverage.now of.entry.field of.entry.tile cells.new.items) }
-    ensures why { Refuses result
-        (IsDamagedIn (B.state blocks.old) of.entry.coverage.now of.entry.field of.entry.tile) ⊥ }
+    ensures read { OnOk result (IsFetchedOf (B.state blocks.old) of.entry cells.new.items) }
+    ensures why { Refuses result (IsDamagedOf (B.state blocks.old) of.entry) ⊥ }
     ensures frame { OnlyReads none (B.state blocks.old) (B.state blocks.new) }
     ensures kept { AddsOf (B.state blocks.old) of.entry.coverage.now decoded.old decoded.new }
     ensures told { Tells (IsErrOf result Fault.DiskFault) (B.state blocks.old).failures (B.state blocks.new).failures }

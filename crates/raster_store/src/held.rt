@@ -82,20 +82,6 @@ pub(crate) fn named<'a>(held: &'a [Held], name: &Name) -> &'a Held
     &held[place_held(held, name)]
 }
 
-/// The same signature again.
-fn copy_of(alloc: Global, signature: &Signature) -> Result<Signature, AllocError>
-    ensures { IfOk result (λ s. s ≡ signature.now) }
-{
-    let name = signature.name.copy(alloc)?;
-    let domain = signature.domain.copy(alloc)?;
-    let fields = signature.fields.copy(alloc)?;
-    Ok(Signature {
-        name,
-        domain,
-        fields,
-    })
-}
-
 /// Whether an index lists only tiles below a number.
 fn is_below(index: &TileIndex, tiles: u64) -> bool
     ensures { IsTrue result ↔ IsBelow tiles index.now }
@@ -166,7 +152,7 @@ impl Held {
         ensures signature { IfOk result (λ h. h.signature ≡ self.now.signature) }
         ensures fields { IfOk result (λ h. h.fields.items ≡ self.now.fields.items) }
     {
-        let signature = copy_of(alloc, &self.signature)?;
+        let signature = self.signature.copy(alloc)?;
         let fields = indexes_again(alloc, &self.fields)?;
         Ok(Held {
             version: self.version,
@@ -190,7 +176,7 @@ impl Held {
         ensures why { Refuses result (AreBelow signature.now.domain indexes.items → ⊥) ⊥ }
         ensures no_disk { IsErrOf result Fault.DiskFault → ⊥ }
     {
-        let signature = copy_of(alloc, signature)?;
+        let signature = signature.copy(alloc)?;
         let fields = sized(alloc, indexes)?;
         if !are_below(&fields, &signature.domain, signature.domain.tiles()) {
             return Err(Fault::Damaged);
@@ -213,7 +199,7 @@ impl Held {
         ensures fields { IfOk result (λ h. h.fields.items ≡ replicate (length signature.now.fields) []) }
         ensures whole { IfOk result (λ h. IsWhole h) }
     {
-        let signature = copy_of(alloc, signature)?;
+        let signature = signature.copy(alloc)?;
         let fields = empty_fields(alloc, signature.fields.len())?;
         Ok(Held {
             version,

@@ -10,13 +10,13 @@ ghost use Rattle.block_file.specs.Words.{OnlyHeader, WritesHeader, HoldsChain};
 ghost use Rattle.block_file.specs.Format.{chain_blocks};
 ghost use Rattle.tile_store.specs.Faults.{Refuses};
 ghost use Rattle.raster_store.specs.Views.{AreBelow, Fetched, SnapshotView};
-ghost use Rattle.raster_store.specs.Calls.{signature_of, AreWhole, AreListed, HasField, MayAttach, IsIndexOf};
+ghost use Rattle.raster_store.specs.Calls.{signature_in, AreWhole, AreListed, HasField, MayAttach, IsIndexOf};
 ghost use Rattle.raster_store.specs.Fetches.{IsPlaceOf, HasTile, HasTileNumber, IsFetched, IsDamagedAt, AreCellsOf};
 ghost use Rattle.raster_store.specs.Fetches.{IsDamagedTile, IsDamagedCell, IsDamagedBox};
-ghost use Rattle.raster_store.specs.Fields.{HasPatch, Puts, RefusesPut, cells_in};
+ghost use Rattle.raster_store.specs.Fields.{HasPatch, Puts, RefusesPut, PutsCells, RefusesPutCells};
 ghost use Rattle.raster_store.specs.Words.{OnBlocks, TellsFault, OnlyFetches, SameCoverages, Stays};
 ghost use Rattle.raster_store.specs.Words.{Keeps, Attaches, Creates, LacksRoomToCreate, IsCell, AreBoxCells};
-ghost use Rattle.raster_store.specs.Snapshots.{AreNames, held_for, as_held, held_view, Holds, HoldsNone, KeepsSnapshots, Releases};
+ghost use Rattle.raster_store.specs.Snapshots.{AreNames, held_for, OnHeldFor, OnHeldAt, Holds, HoldsNone, KeepsSnapshots, Releases};
 ghost use Rattle.raster_store.specs.Words.{FetchesBox, WritesBox, FillsBox, RefusesBox, RefusesFill, Removes};
 
 use crate::decoded::DecodedTiles;
@@ -102,7 +102,6 @@ impl<B: Blocks> RasterStore<B> {
         ensures same { OnErr result (self.new ≡ self.old) }
         ensures why { Refuses result (AreBelow signature.now.domain indexes.items → ⊥) ⊥ }
         ensures no_disk { IsErrOf result Fault.DiskFault → ⊥ }
-        ensures fetched { self.new.fetched ≡ self.old.fetched }
         ensures snapshots { self.new.snapshots ≡ self.old.snapshots }
         ensures blocks { self.new.blocks ≡ self.old.blocks }
     {
@@ -302,11 +301,9 @@ impl<B: Blocks> RasterStore<B> {
         catalogue: u64,
     ) -> Result<(), WriteFault>
         requires field { HasField name.now field self.old.coverages }
-        ensures done { OnOk result
-            (WritesBox B.state name.now field area.now (cells_in area.now cells.entry) catalogue self.old self.new) }
+        ensures done { OnOk result (PutsCells B.state name.now field area.now cells.entry catalogue self.old self.new) }
         ensures same { OnErr result (Stays B.state self.old self.new) }
-        ensures why { IfErr result
-            (RefusesBox B.state name.now field area.now (cells_in area.now cells.entry) catalogue self.old) }
+        ensures why { IfErr result (RefusesPutCells B.state name.now field area.now cells.entry catalogue self.old) }
         ensures intact { Keeps B.state self.old self.new }
         ensures snapshots { KeepsSnapshots B.state self.old self.new }
         ensures fetched { self.new.fetched ≡ self.old.fetched }
@@ -430,11 +427,9 @@ impl<B: Blocks> RasterStore<B> {
 
     /// Reads a tile as `fetch_tile_into` does, of the coverages that are held at a place.
     fn fetch_held(&mut self, place: usize, at: TileAt, cells: &mut Vec<i64>) -> Result<(), Fault>
-        requires tile { IsSomeAnd (slice_get self.old.snapshots place) (λ x. HasTile at x.coverages) }
-        ensures read { OnOk result (IsSomeAnd (slice_get self.old.snapshots place)
-            (λ x. IsFetched B.state at (as_held self.old x) cells.new.items)) }
-        ensures why { Refuses result (IsSomeAnd (slice_get self.old.snapshots place)
-            (λ x. IsDamagedAt B.state at (as_held self.old x))) ⊥ }
+        requires tile { OnHeldAt place self.old (λ v. HasTile at v.coverages) }
+        ensures read { OnOk result (OnHeldAt place self.old (λ v. IsFetched B.state at v cells.new.items)) }
+        ensures why { Refuses result (OnHeldAt place self.old (λ v. IsDamagedAt B.state at v)) ⊥ }
         ensures frame { OnlyFetches B.state self.old self.new }
         ensures fetched { OnOk result (Fetched 1 self.old.fetched self.new.fetched) }
         ensures unfetched { OnErr result (self.new.fetched ≡ self.old.fetched) }
@@ -461,10 +456,9 @@ impl<B: Blocks> RasterStore<B> {
     /// Reads a tile as `fetch_tile_into` does, of the coverages that are held for a job, by their places there. For
     /// number 0, where nothing is held for it, of those of the store as it is.
     pub fn fetch_at(&mut self, job: u64, at: TileAt, cells: &mut Vec<i64>) -> Result<(), Fault>
-        requires tile { IsSomeAnd (held_view job self.old) (λ v. HasTile at v.coverages) }
-        ensures read { OnOk result
-            (IsSomeAnd (held_view job self.old) (λ v. IsFetched B.state at v cells.new.items)) }
-        ensures why { Refuses result (IsSomeAnd (held_view job self.old) (λ v. IsDamagedAt B.state at v)) ⊥ }
+        requires tile { OnHeldFor job self.old (λ v. HasTile at v.coverages) }
+        ensures read { OnOk result (OnHeldFor job self.old (λ v. IsFetched B.state at v cells.new.items)) }
+        ensures why { Refuses result (OnHeldFor job self.old (λ v. IsDamagedAt B.state at v)) ⊥ }
         ensures frame { OnlyFetches B.state self.old self.new }
         ensures fetched { OnOk result (Fetched 1 self.old.fetched self.new.fetched) }
         ensures unfetched { OnErr result (self.new.fetched ≡ self.old.fetched) }
@@ -491,9 +485,8 @@ impl<B: Blocks> RasterStore<B> {
     /// the job, or, for number 0 where nothing is held for it, those of the store. Takes no memory.
     pub fn place_at(&self, job: u64, name: &Name) -> Option<usize>
         requires { held_for job self.now.snapshots ≡ None → job ≡ 0 }
-        ensures some { IfSome result
-            (λ place. IsSomeAnd (held_view job self.now) (λ v. IsPlaceOf name.now v.coverages place)) }
-        ensures none { IfNone result (IsSomeAnd (held_view job self.now) (λ v. found name.now v.coverages ≡ None)) }
+        ensures some { IfSome result (λ place. OnHeldFor job self.now (λ v. IsPlaceOf name.now v.coverages place)) }
+        ensures none { IfNone result (OnHeldFor job self.now (λ v. found name.now v.coverages ≡ None)) }
     {
         match place_for(&self.snapshots, job) {
             Some(held) => match place_of(&self.snapshots[held].coverages, name) {
@@ -508,8 +501,7 @@ impl<B: Blocks> RasterStore<B> {
     /// Takes no memory.
     pub fn signature_at(&self, job: u64, name: &Name) -> Option<&Signature>
         requires { held_for job self.now.snapshots ≡ None → job ≡ 0 }
-        ensures { IsSomeAnd (held_view job self.now)
-            (λ v. option_copied result ≡ option_map signature_of (found name.now v.coverages)) }
+        ensures { OnHeldFor job self.now (λ v. option_copied result ≡ signature_in name.now v.coverages) }
     {
         match place_for(&self.snapshots, job) {
             Some(held) => match place_of(&self.snapshots[held].coverages, name) {
@@ -530,12 +522,11 @@ impl<B: Blocks> RasterStore<B> {
         tile: u64,
         cells: &mut Vec<i64>,
     ) -> Result<(), Fault>
-        requires field { IsSomeAnd (held_view job self.old) (λ v. HasField name.now field v.coverages) }
-        requires tile { IsSomeAnd (held_view job self.old) (λ v. HasTileNumber name.now tile v.coverages) }
+        requires field { OnHeldFor job self.old (λ v. HasField name.now field v.coverages) }
+        requires tile { OnHeldFor job self.old (λ v. HasTileNumber name.now tile v.coverages) }
         ensures read { OnOk result
-            (IsSomeAnd (held_view job self.old) (λ v. AreCellsOf B.state name.now field tile v cells.new.items)) }
-        ensures why { Refuses result
-            (IsSomeAnd (held_view job self.old) (λ v. IsDamagedTile B.state name.now field tile v)) ⊥ }
+            (OnHeldFor job self.old (λ v. AreCellsOf B.state name.now field tile v cells.new.items)) }
+        ensures why { Refuses result (OnHeldFor job self.old (λ v. IsDamagedTile B.state name.now field tile v)) ⊥ }
         ensures frame { OnlyFetches B.state self.old self.new }
         ensures fetched { OnOk result (Fetched 1 self.old.fetched self.new.fetched) }
         ensures unfetched { OnErr result (self.new.fetched ≡ self.old.fetched) }
@@ -609,7 +600,7 @@ impl<B: Blocks> RasterStore<B> {
     /// The name, domain and fields of the coverage with a name. Takes no memory.
     #[tactic(auto, using(crate::proofs::Contents::found_none))]
     pub fn signature(&self, name: &Name) -> Option<&Signature>
-        ensures { option_copied result ≡ option_map signature_of (found name.now self.now.coverages) }
+        ensures { option_copied result ≡ signature_in name.now self.now.coverages }
     {
         match place_of(&self.coverages, name) {
             Some(place) => Some(&self.coverages[place].signature),

@@ -1,12 +1,18 @@
 -- What the program says of errors.
-use Rattle.std.specs.Prelude.{ℕ, Bool, List, ◌++◌, Option, codes, decimal}
+use Rattle.std.specs.Prelude.{ℕ, Bool, List, ◌++◌, codes, decimal}
 use Rattle.arr_core.specs.Refusals.{refusal_name}
 use Rattle.stream_face.specs.Faults.{Sent}
+use Rattle.stream_face.specs.Views.{SinkView}
 
 -- why a store was not opened or not closed: the number of the fault and its name, as `not opened: 94 NotAStore`
 abbrev pub fault_line : List ℕ → ℕ → List ℕ
 fault_line what number = what ++ codes ": " ++ decimal number ++ codes " " ++ refusal_name number ++ codes "\n"
 
 -- the line went out, or a first part of it up to a fault
-abbrev pub Says : Option (List ℕ) → Option (List ℕ) → Option Bool → Option Bool → List ℕ → Type 0
-Says held holds failed fails line = (whole : Bool) × Sent held holds failed fails whole line
+abbrev pub Says : SinkView → SinkView → List ℕ → Type 0
+Says old new line = (whole : Bool) × Sent old new whole line
+
+-- behind what went out since any moment went a text, or a first part of both up to a fault
+abbrev pub SaysMore : SinkView → SinkView → Bool → Bool → List ℕ → Type 0
+SaysMore old new before now text =
+    (first : SinkView) (said : List ℕ) → Sent first old before said → Sent first new now (said ++ text)

@@ -1,18 +1,42 @@
 -- How the program's session ends.
-use Rattle.std.specs.Prelude.{◌≡◌, ℕ, ◌≤◌, List}
+use Rattle.std.specs.Prelude.{◌≡◌, ◌≤◌, ℕ, List, Option, Some, None, Result, Ok, Err, codes, ⊤}
+use Rattle.disk_face.specs.declared.Disk.{Ghosts}
+use Rattle.stream_face.specs.Views.{SinkView}
 use Rattle.coverage_server.specs.Disk.{open_number, close_number}
-use Rattle.coverage_server.specs.declared.opening.OpenFault.{OpenFault}
-use Rattle.coverage_server.specs.declared.closing.CloseFault.{CloseFault}
 use Rattle.coverage_server.specs.Serves.{Ends}
-use Rattle.coverage_server.specs.Sessions.{DiskView, IsNotOpened, ServesSession, ServesUnclosed}
-use Rattle.coverage_server.specs.Views.{SessionView}
+use Rattle.coverage_server.specs.Sessions.{IsSession}
+use Rattle.coverage_server.specs.declared.session.SessionFault.{SessionFault}
+use Rattle.coverage_server.specs.declared.session.SessionFault.TheVariants.{NotOpened, NotClosed}
+use Rattle.rasterd.specs.Lines.{Says, fault_line}
 
--- what a line on standard error says, by the two words that it begins with and the number of a fault
-module _ (says : List ℕ → ℕ → Type 0) where
-  -- not opened: the disk as it is left, the fault, and its line
-  abbrev pub EndsUnopened : List ℕ → DiskView → DiskView → Type 0
-  EndsUnopened what old left = (fault : OpenFault) × IsNotOpened fault old left × says what (open_number fault)
+-- the status of a session: 0 where its store was closed, 3 where it was not opened, and 4 where it was not closed
+abbrev pub status_of : {D : Type 0} → Result D (SessionFault D) → ℕ
+status_of (Ok after) = 0
+status_of (Err (NotOpened left fault)) = 3
+status_of (Err (NotClosed server fault)) = 4
 
-  -- not closed: there is a server with the connections' store, the fault, and its line
-  abbrev pub EndsUnclosed : List ℕ → List Ends → DiskView → Type 0
-  EndsUnclosed what ends old = (fault : CloseFault) × (server : SessionView) × ServesUnclosed fault ends old server × says what (close_number fault)
+-- where the store was not opened or not closed a line on standard error says why
+abbrev pub SaysWhy : {D : Type 0} → SinkView → SinkView → Result D (SessionFault D) → Type 0
+SaysWhy old new (Ok after) = ⊤
+SaysWhy old new (Err (NotOpened left fault)) = Says old new (fault_line (codes "not opened") (open_number fault))
+SaysWhy old new (Err (NotClosed server fault)) = Says old new (fault_line (codes "not closed") (close_number fault))
+
+-- the disk that came back from a session: none where the store was not closed, since the server has it
+abbrev pub disk_back : {D : Type 0} → Result D (SessionFault D) → Option D
+disk_back (Ok after) = Some after
+disk_back (Err (NotOpened left fault)) = Some left
+disk_back (Err (NotClosed server fault)) = None
+
+-- A session on a disk ended: with this status, with the disk where it came back, and with a line on standard error that
+-- says why where the store was not opened or not closed.
+pub record EndsAs {D E : Type 0} (g : Ghosts D) (disk : D) (ends : List Ends) (view : E → SinkView) (errors errors' : E)
+    (outcome : ℕ × Option D) : Type 0 where
+  pub end : Result D (SessionFault D)
+  pub session : IsSession g.content g.honest g.failures disk ends end
+  pub status : outcome.0 ≡ status_of end
+  pub back : outcome.1 ≡ disk_back end
+  pub line : SaysWhy (view errors) (view errors') end
+
+-- a disk is as honest as it was, and has no fewer failures
+abbrev pub IsStill : {D : Type 0} → Ghosts D → D → D → Type 0
+IsStill g disk after = (g.honest after ≡ g.honest disk) × (g.failures disk ≤ g.failures after)

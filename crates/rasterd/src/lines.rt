@@ -1,7 +1,5 @@
 //! What the program says of errors, a line each.
-ghost use Rattle.std.specs.Prelude.{ℕ, Bool, List, Option, ◌++◌};
-ghost use Rattle.stream_face.specs.Faults.{Sent};
-ghost use Rattle.rasterd.specs.Lines.{Says, fault_line};
+ghost use Rattle.rasterd.specs.Lines.{Says, SaysMore, fault_line};
 
 use arr_core::refusal_name;
 use itoa::Buffer;
@@ -9,8 +7,7 @@ use stream_face::{Sink, flush_if, send_all};
 
 /// Writes a text too, unless an earlier write failed. It says whether nothing has failed.
 fn put<E: Sink>(errors: &mut E, ok: bool, text: &str) -> bool
-    ensures { (held : Option (List ℕ)) (failed : Option Bool) (before : List ℕ) → Sent held (E.contents errors.old) failed (E.failed errors.old) ok before
-        → Sent held (E.contents errors.new) failed (E.failed errors.new) result (before ++ text.now) }
+    ensures { SaysMore (E.view errors.old) (E.view errors.new) ok result text.now }
 {
     if !ok {
         return false;
@@ -20,7 +17,7 @@ fn put<E: Sink>(errors: &mut E, ok: bool, text: &str) -> bool
 
 /// Writes a line; what cannot be written is left out.
 pub fn say<E: Sink>(errors: &mut E, line: &str)
-    ensures { Says (E.contents errors.old) (E.contents errors.new) (E.failed errors.old) (E.failed errors.new) line.now }
+    ensures { Says (E.view errors.old) (E.view errors.new) line.now }
 {
     let ok = send_all(errors, line.as_bytes());
     let _flushed = flush_if(errors, ok);
@@ -28,7 +25,7 @@ pub fn say<E: Sink>(errors: &mut E, line: &str)
 
 /// Says on a line why a store was not opened or not closed, as `not opened: 94 NotAStore`.
 pub fn tell<E: Sink>(errors: &mut E, what: &str, number: u16)
-    ensures { Says (E.contents errors.old) (E.contents errors.new) (E.failed errors.old) (E.failed errors.new) (fault_line what.now number) }
+    ensures { Says (E.view errors.old) (E.view errors.new) (fault_line what.now number) }
 {
     let mut digits = Buffer::new();
     let number_text = digits.format(number);

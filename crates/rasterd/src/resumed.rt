@@ -50,8 +50,8 @@ fn is_interrupted(error: &Error) -> bool
 /// One read, made again as long as it is interrupted, at most `MOST_TRIES` times in all.
 fn read_again<R: Source>(reader: &mut R, buf: &mut [u8]) -> io::Result<usize>
     ensures bound { ReadsAtMost result buf.new }
-    ensures bytes { ReadConsumes (R.remaining reader.old) (R.remaining reader.new) result buf.new }
-    ensures fault { OnErr result (R.failed reader.new ≡ fault_told (R.failed reader.old)) }
+    ensures bytes { ReadConsumes (R.view reader.old).remaining (R.view reader.new).remaining result buf.new }
+    ensures fault { OnErr result ((R.view reader.new).failed ≡ fault_told (R.view reader.old).failed) }
     ensures resumed { IfErr result (λ e. error_kind e ≢ ErrorKind.Interrupted) }
 {
     let mut left = MOST_TRIES;
@@ -72,9 +72,9 @@ fn read_again<R: Source>(reader: &mut R, buf: &mut [u8]) -> io::Result<usize>
 /// One write, made again as long as it is interrupted, at most `MOST_TRIES` times in all.
 fn write_again<W: Sink>(writer: &mut W, bytes: &[u8]) -> io::Result<usize>
     ensures bound { WritesAtMost result bytes.now }
-    ensures bytes { WriteAppends (W.contents writer.old) (W.contents writer.new) result bytes.now }
-    ensures waits { WaitsAfterWrite (W.waiting writer.old) (W.waiting writer.new) result }
-    ensures fault { OnErr result (W.failed writer.new ≡ fault_told (W.failed writer.old)) }
+    ensures bytes { WriteAppends (W.view writer.old).contents (W.view writer.new).contents result bytes.now }
+    ensures waits { WaitsAfterWrite (W.view writer.old).waiting (W.view writer.new).waiting result }
+    ensures fault { OnErr result ((W.view writer.new).failed ≡ fault_told (W.view writer.old).failed) }
     ensures resumed { IfErr result (λ e. error_kind e ≢ ErrorKind.Interrupted) }
 {
     let mut left = MOST_TRIES;
@@ -94,9 +94,9 @@ fn write_again<W: Sink>(writer: &mut W, bytes: &[u8]) -> io::Result<usize>
 
 /// Hands on what was written, again as long as it is interrupted, at most `MOST_TRIES` times in all.
 fn hand_on_again<W: Sink>(writer: &mut W) -> io::Result<()>
-    ensures bytes { Keeps (W.contents writer.old) (W.contents writer.new) }
-    ensures waits { WaitsAfterFlush (W.waiting writer.old) (W.waiting writer.new) result }
-    ensures fault { OnErr result (W.failed writer.new ≡ fault_told (W.failed writer.old)) }
+    ensures bytes { Keeps (W.view writer.old).contents (W.view writer.new).contents }
+    ensures waits { WaitsAfterFlush (W.view writer.old).waiting (W.view writer.new).waiting result }
+    ensures fault { OnErr result ((W.view writer.new).failed ≡ fault_told (W.view writer.old).failed) }
     ensures resumed { IfErr result (λ e. error_kind e ≢ ErrorKind.Interrupted) }
 {
     let mut left = MOST_TRIES;
@@ -115,16 +115,14 @@ fn hand_on_again<W: Sink>(writer: &mut W) -> io::Result<()>
 }
 
 impl<R: Source> Source for Resumed<R> {
-    ghost remaining = { λ s. R.remaining s.inner };
-
-    ghost failed = { λ s. Some s.failed };
+    ghost view = { λ s. record { remaining = (R.view s.inner).remaining; failed = Some s.failed } };
 
     /// Fails only where a read of the reader has failed.
     fn read_some(&mut self, buf: &mut [u8]) -> io::Result<usize>
         ensures bound { ReadsAtMost result buf.new }
-        ensures bytes { ReadConsumes (R.remaining self.old.inner) (R.remaining self.new.inner) result buf.new }
+        ensures bytes { ReadConsumes (R.view self.old.inner).remaining (R.view self.new.inner).remaining result buf.new }
         ensures told { TellsRead (Some self.old.failed) (Some self.new.failed) result }
-        ensures fault { OnErr result (R.failed self.new.inner ≡ fault_told (R.failed self.old.inner)) }
+        ensures fault { OnErr result ((R.view self.new.inner).failed ≡ fault_told (R.view self.old.inner).failed) }
         ensures resumed { IfErr result (λ e. error_kind e ≢ ErrorKind.Interrupted) }
     {
         match read_again(&mut self.inner, buf) {
@@ -138,19 +136,15 @@ impl<R: Source> Source for Resumed<R> {
 }
 
 impl<W: Sink> Sink for Resumed<W> {
-    ghost contents = { λ s. W.contents s.inner };
-
-    ghost failed = { λ s. Some s.failed };
-
-    ghost waiting = { λ s. W.waiting s.inner };
+    ghost view = { λ s. record (W.view s.inner) { failed = Some s.failed } };
 
     /// Fails only where a write of the writer has failed.
     fn write_some(&mut self, bytes: &[u8]) -> io::Result<usize>
         ensures bound { WritesAtMost result bytes.now }
-        ensures bytes { WriteAppends (W.contents self.old.inner) (W.contents self.new.inner) result bytes.now }
+        ensures bytes { WriteAppends (W.view self.old.inner).contents (W.view self.new.inner).contents result bytes.now }
         ensures told { TellsWrite (Some self.old.failed) (Some self.new.failed) result bytes.now }
-        ensures waits { WaitsAfterWrite (W.waiting self.old.inner) (W.waiting self.new.inner) result }
-        ensures fault { OnErr result (W.failed self.new.inner ≡ fault_told (W.failed self.old.inner)) }
+        ensures waits { WaitsAfterWrite (W.view self.old.inner).waiting (W.view self.new.inner).waiting result }
+        ensures fault { OnErr result ((W.view self.new.inner).failed ≡ fault_told (W.view self.old.inner).failed) }
         ensures resumed { IfErr result (λ e. error_kind e ≢ ErrorKind.Interrupted) }
     {
         match write_again(&mut self.inner, bytes) {
@@ -170,10 +164,10 @@ impl<W: Sink> Sink for Resumed<W> {
 
     /// Fails only where the writer has failed to hand on.
     fn hand_on(&mut self) -> io::Result<()>
-        ensures bytes { Keeps (W.contents self.old.inner) (W.contents self.new.inner) }
+        ensures bytes { Keeps (W.view self.old.inner).contents (W.view self.new.inner).contents }
         ensures told { TellsRead (Some self.old.failed) (Some self.new.failed) result }
-        ensures waits { WaitsAfterFlush (W.waiting self.old.inner) (W.waiting self.new.inner) result }
-        ensures fault { OnErr result (W.failed self.new.inner ≡ fault_told (W.failed self.old.inner)) }
+        ensures waits { WaitsAfterFlush (W.view self.old.inner).waiting (W.view self.new.inner).waiting result }
+        ensures fault { OnErr result ((W.view self.new.inner).failed ≡ fault_told (W.view self.old.inner).failed) }
         ensures resumed { IfErr result (λ e. error_kind e ≢ ErrorKind.Interrupted) }
     {
         match hand_on_again(&mut self.inner) {

@@ -1,5 +1,6 @@
 -- Tiles written as their cells one after the other, the two forms of a tile, and in which of them cells are written.
-use Rattle.std.specs.Prelude.{◌≡◌, ℕ, ◌*◌, ◌/◌, ◌<◌, ◌≤◌, ℤ, List, length, drop, map, All, min, nat_lt, if◌then◌else◌, get_or, pos}
+use Rattle.std.specs.Prelude.{◌≡◌, ℕ, ◌*◌, ◌/◌, ◌<◌, ◌≤◌, ℤ, List, length, drop, map, All, min, nat_lt, if◌then◌else◌, get_or, pos, Option, Vec, MatchOption}
+use Rattle.std.specs.declared.alloc.Global.{Global}
 use Rattle.std.specs.List.{range_with_len}
 use Rattle.byteorder.specs.Endian.{little_number}
 use Rattle.arr_core.specs.declared.cell.FieldType.{FieldType}
@@ -71,6 +72,11 @@ pub record AreShortRuns (kind : FieldType) (cells : List ℤ) (most : ℕ) (byte
   pub spelled : IsSpelling kind bytes cells
   pub size : length bytes ≡ runs_size kind cells
   pub short : length bytes ≤ most
+
+-- such bytes, or none where they are more than so many
+abbrev pub AreRunsUpTo : FieldType → List ℤ → ℕ → Option (Vec ℕ Global) → Type 0
+AreRunsUpTo kind cells most it =
+    MatchOption it (most < runs_size kind cells) (λ bytes. AreShortRuns kind cells most bytes.items)
 
 -- the bytes of a tile as its cells are written
 pub record IsTile (kind : FieldType) (cells : List ℤ) (form : Form) (bytes : List ℕ) : Type 0 where

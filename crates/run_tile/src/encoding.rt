@@ -1,10 +1,10 @@
 //! Cells to bytes.
 
-ghost use Rattle.std.specs.Prelude.{◌≡◌, ◌≢◌, ◌+◌, ◌*◌, ◌<◌, ◌≤◌, ℕ, ℤ, List, length, ◌++◌, All, IfOk, OnOk, IsTrue, MatchOption, get_or, slice_index_or, pos};
+ghost use Rattle.std.specs.Prelude.{◌≡◌, ◌≢◌, ◌+◌, ◌*◌, ◌<◌, ◌≤◌, ℕ, ℤ, List, length, ◌++◌, All, IfOk, OnOk, IsTrue, get_or, slice_index_or, pos};
 ghost use Rattle.arr_core.specs.Cells.{Fits};
 ghost use Rattle.run_tile.specs.Runs.{IsSpelling, IsRun, runs_in, run_size};
 ghost use Rattle.run_tile.specs.Bytes.{run_bytes};
-ghost use Rattle.run_tile.specs.Raw.{Spells, IsTile, AreShortRuns, form_of, raw_size, runs_size, tile_size};
+ghost use Rattle.run_tile.specs.Raw.{Spells, IsTile, AreRunsUpTo, form_of, raw_size, runs_size, tile_size};
 
 use crate::raw::{encode_raw, is_shorter};
 use crate::run::{Run, width};
@@ -54,8 +54,7 @@ fn encode_runs(
     requires few { length cells.now ≤ 4096 }
     requires short { most ≤ 32768 }
     requires of_type { All (Fits kind) cells.now }
-    ensures runs { IfOk result (λ it.
-        MatchOption it (most < runs_size kind cells.now) (λ bytes. AreShortRuns kind cells.now most bytes.items)) }
+    ensures runs { IfOk result (AreRunsUpTo kind cells.now most) }
 {
     let mut bytes = Vec::with_capacity(alloc, most + 2 + width(kind))?;
     let mut at = 0;

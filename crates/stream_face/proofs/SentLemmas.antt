@@ -4,6 +4,7 @@ use Rattle.std.proofs.lemmas.List.{length-append, take_rest}
 use Rattle.std.proofs.KnownBytes.{Appends-trans}
 use Rattle.std.proofs.Math.Seq.{take-append-add}
 use Rattle.std.specs.Io.KnownBytes.{Appends}
+use Rattle.stream_face.specs.Views.{SinkView}
 use Rattle.stream_face.specs.Faults.{fault_told, told_of_count, AppendsPrefix, Sent}
 use lib.Seq.{take-add}
 
@@ -25,10 +26,11 @@ prefix_after a b c text next x (n, few, y) = (
 )
 
 -- a text, and then the next or a first part of it
-pub Sent-after : (a b c : Option (List ℕ)) (f g h : Option Bool) (ok : Bool) (text next : List ℕ) → Sent a b f g true text
-    → Sent b c g h ok next → Sent a c f h ok (text ++ next)
-Sent-after a b c f g h true text next (x, e) (y, d) = (Appends-trans a b c text next x y, d ∙ e)
-Sent-after a b c f g h false text next (x, e) (y, d) = (prefix_after a b c text next x y, d ∙ ap fault_told e)
+pub Sent-after : (a b c : SinkView) (ok : Bool) (text next : List ℕ) → Sent a b true text → Sent b c ok next
+    → Sent a c ok (text ++ next)
+Sent-after a b c true text next (x, e) (y, d) = (Appends-trans a.contents b.contents c.contents text next x y, d ∙ e)
+Sent-after a b c false text next (x, e) (y, d) =
+    (prefix_after a.contents b.contents c.contents text next x y, d ∙ ap fault_told e)
 
 -- to take some is no fault
 pub some_is_no_fault : (n : ℕ) (bytes : List ℕ) (old : Option Bool) → (n ≡ 0 → ⊥) → told_of_count n bytes old ≡ old

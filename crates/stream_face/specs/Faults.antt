@@ -1,6 +1,7 @@
 -- What a reader or a writer tells of its faults: whether one has come so far, or nothing.
 use Rattle.std.specs.Prelude.{◌≡◌, ℕ, zero, suc, ◌≤◌, List, [], ◌∷◌, length, take, Bool, true, false, Option, None, Some, Result, Ok, Err}
 use Rattle.std.specs.Io.KnownBytes.{Appends}
+use Rattle.stream_face.specs.Views.{SinkView}
 
 -- what is told once there was a fault
 abbrev pub fault_told : Option Bool → Option Bool
@@ -28,6 +29,10 @@ abbrev pub AppendsPrefix : Option (List ℕ) → Option (List ℕ) → List ℕ 
 AppendsPrefix old new bytes = (n : ℕ) × (n ≤ length bytes) × Appends old new (take n bytes)
 
 -- All of the bytes went out, without a fault; or a first part of them did, and there was one.
-abbrev pub Sent : Option (List ℕ) → Option (List ℕ) → Option Bool → Option Bool → Bool → List ℕ → Type 0
-Sent held holds failed fails true bytes = Appends held holds bytes × (fails ≡ failed)
-Sent held holds failed fails false bytes = AppendsPrefix held holds bytes × (fails ≡ fault_told failed)
+abbrev pub Sent : SinkView → SinkView → Bool → List ℕ → Type 0
+Sent old new true bytes = Appends old.contents new.contents bytes × (new.failed ≡ old.failed)
+Sent old new false bytes = AppendsPrefix old.contents new.contents bytes × (new.failed ≡ fault_told old.failed)
+
+-- what had gone out since any moment still has, or a first part of it where there was a fault
+abbrev pub KeepsSent : SinkView → SinkView → Bool → Bool → Type 0
+KeepsSent old new before now = (first : SinkView) (text : List ℕ) → Sent first old before text → Sent first new now text

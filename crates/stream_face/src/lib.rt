@@ -3,11 +3,12 @@
 //! one, or that it flushes what it wrote; over `Source` and `Sink` it can be proved.
 #![tactic(auto)]
 
-ghost use Rattle.std.specs.Prelude.{◌≡◌, ℕ, List, Option, Bool, None, Some, true, false, ◌++◌};
+ghost use Rattle.std.specs.Prelude.{None};
 ghost use Rattle.std.specs.Io.{ReadsAtMost, WritesAtMost};
 ghost use Rattle.std.specs.Io.KnownBytes.{ReadConsumes, WriteAppends, Keeps};
 ghost use Rattle.stream_face.specs.Faults.{TellsRead, TellsWrite};
 ghost use Rattle.stream_face.specs.Waiting.{WaitsAfterWrite, WaitsAfterFlush};
+ghost use Rattle.stream_face.specs.Views.{SourceView, SinkView};
 
 mod sending;
 mod watched;
@@ -19,49 +20,39 @@ pub use watched::Watched;
 
 /// Where bytes come from: in pieces, until an end or a fault.
 pub trait Source {
-    /// The bytes that are still to come, where the source tells them.
-    ghost remaining: { Self → Option (List ℕ) };
-
-    /// Whether a read has failed so far, where the source tells it.
-    ghost failed: { Self → Option Bool };
+    /// The bytes that are still to come, and whether a read has failed so far, where the source tells them.
+    ghost view: { Self → SourceView };
 
     /// One read: how many bytes of the buffer were filled, where none of some means the end.
     fn read_some(&mut self, buf: &mut [u8]) -> io::Result<usize>
         ensures bound { ReadsAtMost result buf.new }
-        ensures bytes { ReadConsumes (remaining self.old) (remaining self.new) result buf.new }
-        ensures told { TellsRead (failed self.old) (failed self.new) result };
+        ensures bytes { ReadConsumes (view self.old).remaining (view self.new).remaining result buf.new }
+        ensures told { TellsRead (view self.old).failed (view self.new).failed result };
 }
 
 /// Where bytes go: in pieces, until a fault.
 pub trait Sink {
-    /// The bytes that have come so far, where the sink tells them.
-    ghost contents: { Self → Option (List ℕ) };
-
-    /// Whether a write has failed or took none of some bytes, or a flush has failed so far, where the sink tells it.
-    ghost failed: { Self → Option Bool };
-
-    /// Whether bytes that were taken wait for a flush, where the sink tells it.
-    ghost waiting: { Self → Option Bool };
+    /// The bytes that have come so far, whether a call has failed or a write took none of some bytes, and whether bytes
+    /// that were taken wait for a flush, where the sink tells them.
+    ghost view: { Self → SinkView };
 
     /// One write: how many of the bytes were taken.
     fn write_some(&mut self, bytes: &[u8]) -> io::Result<usize>
         ensures bound { WritesAtMost result bytes.now }
-        ensures bytes { WriteAppends (contents self.old) (contents self.new) result bytes.now }
-        ensures told { TellsWrite (failed self.old) (failed self.new) result bytes.now }
-        ensures waits { WaitsAfterWrite (waiting self.old) (waiting self.new) result };
+        ensures bytes { WriteAppends (view self.old).contents (view self.new).contents result bytes.now }
+        ensures told { TellsWrite (view self.old).failed (view self.new).failed result bytes.now }
+        ensures waits { WaitsAfterWrite (view self.old).waiting (view self.new).waiting result };
 
     /// Flushes what was written.
     fn hand_on(&mut self) -> io::Result<()>
-        ensures bytes { Keeps (contents self.old) (contents self.new) }
-        ensures told { TellsRead (failed self.old) (failed self.new) result }
-        ensures waits { WaitsAfterFlush (waiting self.old) (waiting self.new) result };
+        ensures bytes { Keeps (view self.old).contents (view self.new).contents }
+        ensures told { TellsRead (view self.old).failed (view self.new).failed result }
+        ensures waits { WaitsAfterFlush (view self.old).waiting (view self.new).waiting result };
 }
 
 /// A reader of std tells no faults.
 impl<R: Read> Source for R {
-    ghost remaining = { R.remaining };
-
-    ghost failed = { λ _. None };
+    ghost view = { λ r. record { remaining = R.remaining r; failed = None } };
 
     fn read_some(&mut self, buf: &mut [u8]) -> io::Result<usize> {
         self.read(buf)
@@ -70,11 +61,7 @@ impl<R: Read> Source for R {
 
 /// A writer of std tells neither faults nor what waits.
 impl<W: Write> Sink for W {
-    ghost contents = { W.contents };
-
-    ghost failed = { λ _. None };
-
-    ghost waiting = { λ _. None };
+    ghost view = { λ w. record { contents = W.contents w; failed = None; waiting = None } };
 
     fn write_some(&mut self, bytes: &[u8]) -> io::Result<usize> {
         self.write(bytes)

@@ -1,13 +1,13 @@
 //! Bytes that go out whole, or up to a fault.
-ghost use Rattle.std.specs.Prelude.{◌≡◌, true, ℕ, List, Option, Bool};
-ghost use Rattle.stream_face.specs.Faults.{Sent};
+ghost use Rattle.std.specs.Prelude.{◌≡◌, true};
+ghost use Rattle.stream_face.specs.Faults.{Sent, KeepsSent};
 ghost use Rattle.stream_face.specs.Waiting.{IsFlushed};
 
 use crate::Sink;
 
 /// Writes all of the bytes, in as many writes as it takes. It says whether all went out; else a first part did.
 pub fn send_all<K: Sink>(sink: &mut K, bytes: &[u8]) -> bool
-    ensures { Sent (K.contents sink.old) (K.contents sink.new) (K.failed sink.old) (K.failed sink.new) result bytes.now }
+    ensures { Sent (K.view sink.old) (K.view sink.new) result bytes.now }
 {
     let mut sent = 0;
     'sending: while sent < bytes.len() {
@@ -22,9 +22,8 @@ pub fn send_all<K: Sink>(sink: &mut K, bytes: &[u8]) -> bool
 
 /// Flushes what was written, where nothing failed before. It says whether nothing has failed; then no byte waits.
 pub fn flush_if<K: Sink>(sink: &mut K, ok: bool) -> bool
-    ensures flushed { result ≡ true → IsFlushed (K.waiting sink.new) }
-    ensures sent { (held : Option (List ℕ)) (failed : Option Bool) (text : List ℕ) → Sent held (K.contents sink.old) failed (K.failed sink.old) ok text
-        → Sent held (K.contents sink.new) failed (K.failed sink.new) result text }
+    ensures flushed { result ≡ true → IsFlushed (K.view sink.new).waiting }
+    ensures sent { KeepsSent (K.view sink.old) (K.view sink.new) ok result }
 {
     if !ok {
         return false;

@@ -28,9 +28,7 @@ impl<T> Watched<T> {
 }
 
 impl<R: Read> Source for Watched<R> {
-    ghost remaining = { λ w. R.remaining w.inner };
-
-    ghost failed = { λ w. Some w.failed };
+    ghost view = { λ w. record { remaining = R.remaining w.inner; failed = Some w.failed } };
 
     fn read_some(&mut self, buf: &mut [u8]) -> io::Result<usize> {
         match self.inner.read(buf) {
@@ -44,11 +42,7 @@ impl<R: Read> Source for Watched<R> {
 }
 
 impl<W: Write> Sink for Watched<W> {
-    ghost contents = { λ w. W.contents w.inner };
-
-    ghost failed = { λ w. Some w.failed };
-
-    ghost waiting = { λ w. Some w.waiting };
+    ghost view = { λ w. record { contents = W.contents w.inner; failed = Some w.failed; waiting = Some w.waiting } };
 
     fn write_some(&mut self, bytes: &[u8]) -> io::Result<usize> {
         match self.inner.write(bytes) {

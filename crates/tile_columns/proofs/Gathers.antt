@@ -1,5 +1,5 @@
 -- Cells that are gathered tile by tile.
-use Rattle.std.proofs.Common.{◌≡◌, ℕ, zero, suc, ◌+◌, ◌<◌, ◌≤◌, inl, inr, List, [], ◌∷◌, ◌++◌, length, length-append, get_or, take, map, refl, sym, ap, ◌∙◌, subst, arith, ℤ, pos, cond, Bool, true, false}
+use Rattle.std.proofs.Common.{◌≡◌, ◌≢◌, ℕ, zero, suc, ◌+◌, ◌<◌, ◌≤◌, inl, inr, List, [], ◌∷◌, ◌++◌, length, length-append, get_or, take, map, refl, sym, ap, ◌∙◌, subst, arith, ℤ, pos, cond, Bool, true, false}
 use Rattle.std.specs.Prelude.{nat_eq, ◌||◌, slice_get, Some}
 use Rattle.std.specs.List.{list_any}
 use Rattle.std.proofs.lemmas.Bool.{false≢true}
@@ -14,8 +14,20 @@ use Rattle.wcps_mean.specs.declared.cell.Outcome.TheVariants.{Value}
 use Rattle.plan_ir.specs.declared.body.Index.{Index}
 use Rattle.plan_ir.specs.Run.{numbers_at}
 use Rattle.plan_ir.specs.Units.{added, distinct_after, distinct}
-use Rattle.tile_columns.specs.Gathering.{IsSeen, Gathered, IsCopied, LeavesOthers}
+use Rattle.tile_columns.specs.Gathering.{IsSeen}
 use Rattle.tile_columns.proofs.Ranges.{at_same, map_map}
+
+-- the wanted cells stand at the places whose tile has been seen
+abbrev pub Gathered : List ℕ → List ℕ → (ℕ → ℤ) → List ℤ → Type 0
+Gathered seen numbers want cells = (j : ℕ) → j < length numbers → IsSeen seen (get_or numbers j 0) → get_or cells j (pos 0) ≡ want j
+
+-- the wanted cells stand at those of the first n places whose tile is this one
+abbrev pub IsCopied : ℕ → ℕ → List ℕ → (ℕ → ℤ) → List ℤ → Type 0
+IsCopied tile n numbers want cells = (j : ℕ) → j < n → get_or numbers j 0 ≡ tile → get_or cells j (pos 0) ≡ want j
+
+-- at those whose tile is another one the cells are as before
+abbrev pub LeavesOthers : ℕ → ℕ → List ℕ → List ℤ → List ℤ → Type 0
+LeavesOthers tile n numbers before cells = (j : ℕ) → j < n → get_or numbers j 0 ≢ tile → get_or cells j (pos 0) ≡ get_or before j (pos 0)
 
 equal_self : (n : ℕ) → nat_eq n n ≡ true
 equal_self n = elim (eqb_tells n n) [ inl h ↦ h.0 | inr h ↦ absurd (h.1 refl) ]

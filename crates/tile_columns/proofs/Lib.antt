@@ -1,3 +1,4 @@
+pub mod Calls
 pub mod Ranges
 pub mod Turns
 pub mod Turning
@@ -14,3 +15,4 @@ pub mod TileFolds
 pub mod Fetching
 pub mod Behind
 pub mod ZoneFolds
+pub mod FoldPlaces

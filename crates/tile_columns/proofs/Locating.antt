@@ -19,8 +19,12 @@ use Rattle.plan_ir.specs.declared.body.Index.{Index}
 use Rattle.plan_ir.specs.Run.{number_at, numbers_at}
 use Rattle.plan_ir.specs.Units.{tile_number}
 use Rattle.tile_columns.specs.Sources.{IsRead, HasTile, box_of}
-use Rattle.tile_columns.specs.Gathering.{point_of, rank_in_tile, tile_on, rank_on, tile_from, rank_from}
+use Rattle.tile_columns.specs.Locating.{rank_in_tile, tile_on, rank_on, tile_from, rank_from}
 use Rattle.tile_columns.proofs.Ranges.{by_places}
+
+-- the point that the indexes give at a place
+abbrev pub point_of : List Index → List (List ℤ) → ℕ → List ℤ
+point_of is envs k = numbers_at (get_or envs k []) is
 
 fold_step : (t s q c r : ℕ) → (t * s + q) * c + r ≡ t * (s * c) + (q * c + r)
 fold_step t s q c r = omega (arith, add-mul (t * s) q c, mul_assoc t s c)
@@ -185,10 +189,10 @@ axis_inside edge axes rest a is further i envs xs lo last h x l m k lt =
     let w = h.inside k (omega (arith, lt, n)) in
     rw (at, l, m) (w.0, gap_below a.lo a.hi (number_at (get_or envs k []) i) w.0 w.1)
 
-pub axis_small : (edge : ℕ) (axes rest : List Axis) (a : Axis) (is further : List Index) (i : Index) (envs : List (List ℤ)) (xs : List ℤ) (lo : ℤ) (last : ℕ) (tiles ranks : List ℕ) → Head edge axes rest a is further i envs → xs ≡ map (λ e. number_at e i) envs → lo ≡ a.lo → last ≡ gap a.lo a.hi
+axis_small_at : (edge : ℕ) (axes rest : List Axis) (a : Axis) (is further : List Index) (i : Index) (envs : List (List ℤ)) (xs : List ℤ) (lo : ℤ) (last : ℕ) (tiles ranks : List ℕ) → Head edge axes rest a is further i envs → xs ≡ map (λ e. number_at e i) envs → lo ≡ a.lo → last ≡ gap a.lo a.hi
     → ((k : ℕ) → k < length envs → (tile_from edge axes (get_or tiles k 0) (point_of is envs k) < 2 ^ 24) × (rank_from edge axes (get_or ranks k 0) (point_of is envs k) < 2 ^ 24))
     → (k : ℕ) → k < length xs → (tile_on edge last (get_or tiles k 0) (gap lo (get_or xs k (pos 0))) < 2 ^ 24) × (rank_on edge last (get_or ranks k 0) (gap lo (get_or xs k (pos 0))) < 2 ^ 24)
-axis_small edge axes rest a is further i envs xs lo last tiles ranks h x l m small k lt =
+axis_small_at edge axes rest a is further i envs xs lo last tiles ranks h x l m small k lt =
     let n : length xs ≡ length envs = ap length x ∙ length-map envs (λ e. number_at e i) in
     let le : k < length envs = omega (arith, lt, n) in
     let at : get_or xs k (pos 0) ≡ number_at (get_or envs k []) i = ap (λ zs. get_or zs k (pos 0)) x ∙ get_or-map (λ e. number_at e i) envs k [] (pos 0) le in
@@ -196,6 +200,13 @@ axis_small edge axes rest a is further i envs xs lo last tiles ranks h x l m sma
     let r = rank_least edge rest (rank_on edge (gap a.lo a.hi) (get_or ranks k 0) (gap a.lo (number_at (get_or envs k []) i))) (point_of further envs k) (h.further_inside k [] le) in
     let s = small k le in
     rw (at, l, m) (below_of _ _ _ t (h.tile k (get_or tiles k 0)) s.0, below_of _ _ _ r (h.rank k (get_or ranks k 0)) s.1)
+
+pub axis_small : (edge : ℕ) (axes rest : List Axis) (a : Axis) (is further : List Index) (i : Index) (envs : List (List ℤ)) (xs : List ℤ) (lo : ℤ) (last : ℕ) (tiles ranks : List ℕ) → Head edge axes rest a is further i envs → xs ≡ map (λ e. number_at e i) envs → lo ≡ a.lo → last ≡ gap a.lo a.hi
+    → ((k : ℕ) → k < length envs → tile_from edge axes (get_or tiles k 0) (point_of is envs k) < 2 ^ 24) × ((k : ℕ) → k < length envs → rank_from edge axes (get_or ranks k 0) (point_of is envs k) < 2 ^ 24)
+    → ((k : ℕ) → k < length xs → tile_on edge last (get_or tiles k 0) (gap lo (get_or xs k (pos 0))) < 2 ^ 24) × ((k : ℕ) → k < length xs → rank_on edge last (get_or ranks k 0) (gap lo (get_or xs k (pos 0))) < 2 ^ 24)
+axis_small edge axes rest a is further i envs xs lo last tiles ranks h x l m few =
+    let at = axis_small_at edge axes rest a is further i envs xs lo last tiles ranks h x l m (λ k lt. (few.0 k lt, few.1 k lt)) in
+    (λ k lt. (at k lt).0, λ k lt. (at k lt).1)
 
 -- what has been counted along the first axis is counted on along the others
 pub counted_tile : (edge : ℕ) (axes rest : List Axis) (a : Axis) (is further : List Index) (i : Index) (envs : List (List ℤ)) (xs : List ℤ) (lo : ℤ) (last : ℕ) (tiles new : List ℕ) → Head edge axes rest a is further i envs → xs ≡ map (λ e. number_at e i) envs → lo ≡ a.lo → last ≡ gap a.lo a.hi

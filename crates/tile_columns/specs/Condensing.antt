@@ -1,5 +1,6 @@
 -- What a fold lists at a place.
-use Rattle.std.specs.Prelude.{◌≡◌, ◌≢◌, ℕ, suc, ◌+◌, ℤ, List, [], ◌∷◌, ◌++◌, slice_index_or, Bool, true}
+use Rattle.std.specs.Prelude.{◌≡◌, ◌≢◌, ℕ, suc, ◌+◌, ◌^◌, ◌<◌, ◌≤◌, ℤ, List, [], ◌∷◌, ◌++◌, map, length, slice_index_or, Bool, true}
+use Rattle.std.specs.List.{range_with_len}
 use Rattle.arr_core.specs.declared.domain.Axis.{Axis}
 use Rattle.arr_core.specs.Domains.{rank_of}
 use Rattle.wcps_text.specs.declared.operator.Aggregate.{Aggregate}
@@ -7,8 +8,9 @@ use Rattle.wcps_mean.specs.declared.cell.Outcome.{Outcome}
 use Rattle.wcps_mean.specs.declared.cell.Outcome.TheVariants.{Value, Fault}
 use Rattle.wcps_mean.specs.Cells.{is_true}
 use Rattle.tile_kernel.specs.declared.accumulator.Accumulator.{Accumulator}
-use Rattle.tile_kernel.specs.Told.{Told, demanded_of}
-use Rattle.tile_kernel.specs.Standing.{Stands, TakesIn, AreOf}
+use Rattle.wcps_mean.specs.Condensers.{condensed}
+use Rattle.tile_kernel.specs.Told.{Told, demanded_of, outcomes, AreRising}
+use Rattle.tile_kernel.specs.Standing.{Stands, TakesIn, AreOf, EachStands}
 
 -- what points of a fold's box add, the first of them the n-th of the box; c is the condition and e the body
 abbrev pub told_of : (List ℤ → Outcome) → (List ℤ → Outcome) → ℕ → List (List ℤ) → List Told
@@ -34,3 +36,13 @@ pub record MergesAt (place : ℕ) (found : Accumulator) (before after : List Acc
   pub count : (d : Accumulator) → (slice_index_or after place d).running.count ≡ (slice_index_or before place d).running.count + found.running.count
   pub kinds : (op : Aggregate) → AreOf op before → AreOf op after
   pub others : (k : ℕ) (d : Accumulator) → k ≢ place → slice_index_or after k d ≡ slice_index_or before k d
+
+-- the accumulator at a place may be told of so many points more
+abbrev pub HasRoomAt : ℕ → ℕ → List Accumulator → Type 0
+HasRoomAt place n folds = (d : Accumulator) → (slice_index_or folds place d).running.count + n ≤ 2 ^ 24
+
+-- outcomes are what a condenser makes of the points that each accumulator stands for, in the order of their places
+abbrev pub AreOutcomesOf : List Accumulator → List Outcome → Type 0
+AreOutcomesOf folds list =
+    (op : Aggregate) (told : ℕ → List Told) → AreOf op folds → EachStands folds told → ((k : ℕ) → k < length folds → AreRising (told k))
+    → list ≡ map (λ k. condensed op (outcomes (told k))) (range_with_len 0 (length folds))

@@ -1,52 +1,52 @@
 -- Cells that are gathered tile by tile.
-use Rattle.std.specs.Prelude.{◌≡◌, ◌≢◌, ℕ, ◌+◌, ◌-◌, ◌*◌, ◌/◌, ◌<◌, min, nat_eq, ℤ, pos, List, [], ◌∷◌, length, true, slice_index_or}
+use Rattle.std.specs.Prelude.{◌≡◌, ◌≢◌, ℕ, ◌+◌, ◌<◌, ◌≤◌, nat_eq, ℤ, pos, List, [], length, true, slice_index_or}
 use Rattle.std.specs.List.{list_any}
-use Rattle.arr_core.specs.declared.domain.Axis.{Axis}
-use Rattle.arr_core.specs.Domains.{gap, rank_of}
-use Rattle.arr_core.specs.Tiles.{edge_of, box_at}
-use Rattle.arr_core.specs.Meeting.{tile_at}
-use Rattle.plan_ir.specs.declared.body.Index.{Index}
-use Rattle.plan_ir.specs.Run.{numbers_at}
+use Rattle.plan_ir.specs.Units.{added}
+use Rattle.tile_columns.specs.declared.gather.Reading.{Reading}
+use Rattle.tile_columns.specs.declared.scratch.Scratch.{Scratch}
+use Rattle.tile_columns.specs.Sources.{SourceState}
+use Rattle.tile_columns.specs.Readings.{tiles_of, ranks_of, cell_read}
 
 -- a number is in the list
 abbrev pub IsSeen : List ℕ → ℕ → Type 0
 IsSeen seen n = list_any (λ m. nat_eq m n) seen ≡ true
 
--- the wanted cells stand at the places whose tile has been seen
-abbrev pub Gathered : List ℕ → List ℕ → (ℕ → ℤ) → List ℤ → Type 0
-Gathered seen numbers want cells = (j : ℕ) → j < length numbers → IsSeen seen (slice_index_or numbers j 0) → slice_index_or cells j (pos 0) ≡ want j
+-- the ranks at the places whose tile is this one are within its cells
+abbrev pub HasRanks : ℕ → List ℕ → List ℕ → List ℤ → Type 0
+HasRanks number numbers ranks tile = (j : ℕ) → j < length numbers → slice_index_or numbers j 0 ≡ number → slice_index_or ranks j 0 < length tile
 
--- the wanted cells stand at those of the first n places whose tile is this one
-abbrev pub IsCopied : ℕ → ℕ → List ℕ → (ℕ → ℤ) → List ℤ → Type 0
-IsCopied tile n numbers want cells = (j : ℕ) → j < n → slice_index_or numbers j 0 ≡ tile → slice_index_or cells j (pos 0) ≡ want j
+-- the cells of a tile were written at the places whose tile it is, and there alone
+pub record CopiesTile (number : ℕ) (numbers ranks : List ℕ) (tile before cells : List ℤ) : Type 0 where
+  pub places : length cells ≡ length before
+  pub copied : (j : ℕ) → j < length numbers → slice_index_or numbers j 0 ≡ number → slice_index_or cells j (pos 0) ≡ slice_index_or tile (slice_index_or ranks j 0) (pos 0)
+  pub kept : (j : ℕ) → j < length numbers → slice_index_or numbers j 0 ≢ number → slice_index_or cells j (pos 0) ≡ slice_index_or before j (pos 0)
 
--- at those whose tile is another one the cells are as before
-abbrev pub LeavesOthers : ℕ → ℕ → List ℕ → List ℤ → List ℤ → Type 0
-LeavesOthers tile n numbers before cells = (j : ℕ) → j < n → slice_index_or numbers j 0 ≢ tile → slice_index_or cells j (pos 0) ≡ slice_index_or before j (pos 0)
+-- the scratch has the tiles of the places, the ranks in these, and as many cells
+pub record IsLocated (r : Reading) (envs : List (List ℤ)) (s : Scratch) : Type 0 where
+  pub tiles : s.numbers.items ≡ tiles_of r envs
+  pub ranks : s.ranks.items ≡ ranks_of r envs
+  pub cells : length s.cells.items ≡ length envs
 
--- the point that the indexes give at a place
-abbrev pub point_of : List Index → List (List ℤ) → ℕ → List ℤ
-point_of is envs k = numbers_at (slice_index_or envs k []) is
+-- the scratch has the cells of the tiles that have been seen
+abbrev pub HasGathered : {K : Type 0} → SourceState K → Reading → List (List ℤ) → Scratch → Type 0
+HasGathered s r envs scratch =
+    (j : ℕ) → j < length scratch.numbers.items → IsSeen scratch.seen.items (slice_index_or scratch.numbers.items j 0) → slice_index_or scratch.cells.items j (pos 0) ≡ cell_read s r (slice_index_or envs j [])
 
--- the rank of a point in the box of its tile
-abbrev pub rank_in_tile : List Axis → List ℤ → ℕ
-rank_in_tile axes p = rank_of (box_at (edge_of (length axes)) axes (tile_at (edge_of (length axes)) axes p)) p
+-- if it has them before a call, it has them after it, those of a further tile too
+abbrev pub KeepsGathered : {K : Type 0} → SourceState K → Reading → List (List ℤ) → Scratch → Scratch → Type 0
+KeepsGathered s r envs old new = s.intact → HasGathered s r envs old → HasGathered s r envs new
 
--- The number of a tile and the rank in it, with one more axis, whose last coordinate is so far above its first one; the
--- point's coordinate is `above` it.
-abbrev pub tile_on : ℕ → ℕ → ℕ → ℕ → ℕ
-tile_on edge last t above = t * (last / edge + 1) + above / edge
+-- the tile of a place has been seen as well
+abbrev pub SeesTile : ℕ → Scratch → Scratch → Type 0
+SeesTile place old new = new.seen.items ≡ added old.seen.items (slice_index_or old.numbers.items place 0)
 
-abbrev pub rank_on : ℕ → ℕ → ℕ → ℕ → ℕ
-rank_on edge last r above = r * ((min last (above / edge * edge + (edge - 1)) - above / edge * edge) + 1) + (above - above / edge * edge)
+-- a call fetches no more tiles than it adds to those that have been seen
+abbrev pub FetchesUnseen : {K : Type 0} → Scratch → Scratch → SourceState K → SourceState K → Type 0
+FetchesUnseen before after old new = new.fetched + length before.seen.items ≤ old.fetched + length after.seen.items
 
--- with the axes one after the other
-abbrev pub tile_from : ℕ → List Axis → ℕ → List ℤ → ℕ
-tile_from edge [] t p = t
-tile_from edge (a ∷ axes) t [] = t
-tile_from edge (a ∷ axes) t (x ∷ p) = tile_from edge axes (tile_on edge (gap a.lo a.hi) t (gap a.lo x)) p
-
-abbrev pub rank_from : ℕ → List Axis → ℕ → List ℤ → ℕ
-rank_from edge [] r p = r
-rank_from edge (a ∷ axes) r [] = r
-rank_from edge (a ∷ axes) r (x ∷ p) = rank_from edge axes (rank_on edge (gap a.lo a.hi) r (gap a.lo x)) p
+-- the cells of the tile that was fetched were written at the places whose tile it is, and nothing else has changed
+pub record WritesTile (number : ℕ) (old new : Scratch) : Type 0 where
+  pub cells : CopiesTile number old.numbers.items old.ranks.items old.tile.items old.cells.items new.cells.items
+  pub tiles : new.numbers.items ≡ old.numbers.items
+  pub ranks : new.ranks.items ≡ old.ranks.items
+  pub seen : new.seen.items ≡ old.seen.items

@@ -1,9 +1,16 @@
 pub mod Frames
 pub mod Sources
+pub mod Locating
+pub mod Readings
 pub mod Gathering
+pub mod Tables
 pub mod Evaluating
+pub mod Meaning
+pub mod BodyReads
 pub mod Binding
 pub mod Condensing
 pub mod TileOrder
 pub mod Fields
 pub mod Zones
+pub mod Folds
+pub mod Binds

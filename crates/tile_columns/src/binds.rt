@@ -1,10 +1,10 @@
 //! The positions of a bind at all places of a column.
 
-ghost use Rattle.std.specs.Prelude.{◌≡◌, ℕ, ◌<◌, ◌≤◌, int_le, ◌&&◌, length, map, IsTrue, OnOk, IfOk};
-ghost use Rattle.wcps_mean.specs.declared.cell.Outcome.{Outcome};
+ghost use Rattle.std.specs.Prelude.{◌≡◌, ◌≤◌, int_le, ◌&&◌, length, map, IsTrue, OnOk, IfOk};
+ghost use Rattle.std.specs.List.{All};
 ghost use Rattle.wcps_mean.specs.Cells.{at_position};
-ghost use Rattle.tile_kernel.specs.Columns.{outcome_at};
-ghost use Rattle.tile_columns.specs.Binding.{coordinate_or_lo, at_positions};
+ghost use Rattle.tile_columns.specs.Binding.{coordinate_or_lo, IsSettled};
+ghost use Rattle.tile_columns.specs.Fields.{settled_by};
 
 use plan_ir::Interval;
 use std::alloc::{AllocError, Global};
@@ -77,7 +77,7 @@ fn settled(position: Outcome, interval: Interval, o: Outcome) -> Outcome
 
 /// Whether a position is a number that lies in the interval.
 fn is_settled(position: Outcome, interval: Interval) -> bool
-    ensures { IsTrue result → (o : Outcome) → at_position position interval.lo interval.hi (λ _. o) ≡ o }
+    ensures { IsTrue result → IsSettled interval.lo interval.hi position }
 {
     match position {
         Outcome::Fault(_) => false,
@@ -87,7 +87,7 @@ fn is_settled(position: Outcome, interval: Interval) -> bool
 
 /// Whether all positions are numbers that lie in the interval.
 fn all_lie_in(positions: &Column, interval: Interval) -> bool
-    ensures { IsTrue result → (k : ℕ) → k < length positions.now → (o : Outcome) → at_position (outcome_at positions.now k) interval.lo interval.hi (λ _. o) ≡ o }
+    ensures { IsTrue result → All (IsSettled interval.lo interval.hi) positions.now }
 {
     for place in 0..positions.len() {
         if !is_settled(positions.at(place), interval) {
@@ -105,7 +105,7 @@ pub(crate) fn settle(
     out: &mut Column,
 ) -> Result<(), AllocError>
     requires { length out.old ≡ length positions.now }
-    ensures { OnOk result (out.new ≡ at_positions positions.now interval.lo interval.hi (λ k z. outcome_at out.old k)) }
+    ensures { OnOk result (out.new ≡ settled_by positions.now interval.lo interval.hi out.old) }
 {
     if all_lie_in(positions, interval) {
         return Ok(());
@@ -123,7 +123,7 @@ fn settle_each(
     outcomes: &mut Vec<Outcome>,
 ) -> Result<(), AllocError>
     requires { length column.now ≡ length positions.now }
-    ensures value { OnOk result (outcomes.new.items ≡ at_positions positions.now interval.lo interval.hi (λ k z. outcome_at column.now k)) }
+    ensures value { OnOk result (outcomes.new.items ≡ settled_by positions.now interval.lo interval.hi column.now) }
     ensures few { OnOk result (length outcomes.new.items ≤ 4096) }
 {
     outcomes.clear();

@@ -1,31 +1,22 @@
 //! Bodies at all places of a frame.
 
-ghost use Rattle.std.specs.Prelude.{◌≡◌, ℕ, ◌+◌, ◌-◌, ◌*◌, ◌<◌, ◌≤◌, ◌^◌, ◌≤ℤ◌, ℤ, List, [], ◌∷◌, ◌++◌, map, length, slice_index_or, OnOk, IfOk};
-ghost use Rattle.std.specs.List.{All, flat_map};
-ghost use Rattle.arr_core.specs.Domains.{points, count};
-ghost use Rattle.wcps_text.specs.declared.operator.Aggregate.{Aggregate};
-ghost use Rattle.wcps_mean.specs.Reports.{Reports};
-ghost use Rattle.plan_ir.specs.Bodies.{body_view, condition_view, fold_view};
-ghost use Rattle.plan_ir.specs.Run.{run};
-ghost use Rattle.plan_ir.specs.Plans.{signature_of};
-ghost use Rattle.plan_ir.specs.Planned.{cells_of};
-ghost use Rattle.plan_ir.specs.Units.{bound_times};
-ghost use Rattle.tile_kernel.specs.Told.{demanded_of, demanded_at};
-ghost use Rattle.tile_kernel.specs.Standing.{Stands, AreOf, HaveAtMost, EachTakesIn};
-ghost use Rattle.tile_columns.specs.Sources.{Leaves};
-ghost use Rattle.tile_columns.specs.Frames.{extended};
-ghost use Rattle.tile_columns.specs.Evaluating.{HasPlace, HasPlaceUnder, fetches};
-ghost use Rattle.tile_columns.specs.Binding.{coordinate_or_lo, at_positions, with_coordinate};
-ghost use Rattle.tile_columns.specs.Condensing.{told_of, under_vars, told_ranked};
+ghost use Rattle.std.specs.Prelude.{◌≡◌, ◌+◌, ◌-◌, ◌<◌, ◌≤◌, ◌^◌, ◌≤ℤ◌, length, OnOk, IfOk};
+ghost use Rattle.arr_core.specs.Domains.{points};
+ghost use Rattle.plan_ir.specs.Bodies.{body_view, fold_view};
+ghost use Rattle.tile_kernel.specs.Standing.{AreOf};
+ghost use Rattle.tile_columns.specs.Sources.{OnlyReads, Tells};
+ghost use Rattle.tile_columns.specs.Meaning.{HasPlaceOver, IsColumnOf, Fetches};
+ghost use Rattle.tile_columns.specs.Binds.{HasPlaceBehind, IsColumnBehind, IsColumnUnder, FetchesBehind};
 ghost use Rattle.tile_columns.specs.TileOrder.{IsPart};
-ghost use Rattle.tile_columns.specs.Zones.{operand, own_side, key_side, IsZonal};
+ghost use Rattle.tile_columns.specs.Zones.{branch, side, body_of, AreZonesOf};
+ghost use Rattle.tile_columns.specs.Folds.{FoldHasPlace, BodiesHavePlace, AreOfFold, GrowBy, StandsFor, TakeInFold, TakeInBox, TakeInPoint, TakeInLast, TakeInZones, TakeInZone, FetchesFold, FetchesPart, FetchesPoint, FetchesZones, FetchesZonePart};
 
 use crate::binds::{coordinates, settle};
 use crate::folds::{
     empty_folds, finish_folds, goes_by_tiles, is_never, merge_at, part_frame, push_place,
 };
 use crate::frame::Frame;
-use crate::ground::{Ground, read_cells, register};
+use crate::ground::{BodyRead, Ground, read_cells, register};
 use crate::lookup::{fill_variable, look_up};
 use crate::part::{Part, part_at};
 use crate::scratch::Scratch;
@@ -49,16 +40,14 @@ pub fn evaluate<S: Tiles>(
     scratch: &mut Scratch,
     out: &mut Column,
 ) -> Result<(), CellError>
-    requires signatures { ground.now.signatures.now ≡ S.coverages source.old }
-    requires place { HasPlace (signature_of (S.coverages source.old) ground.now.coverages.now) (length ground.now.registers.now) (body_view body.now) frame.old }
-    ensures value { OnOk result (S.intact source.old → out.new ≡ map (run (cells_of (S.cells source.old) ground.now.coverages.now) ground.now.registers.now (body_view body.now)) frame.old) }
+    requires signatures { ground.now.signatures.now ≡ (S.state source.old).coverages }
+    requires place { HasPlaceOver (S.state source.old) ground.now (body_view body.now) frame.old }
+    ensures value { OnOk result (IsColumnOf (S.state source.old) ground.now (body_view body.now) frame.old out.new) }
     ensures places { OnOk result (length out.new ≡ length frame.old) }
     ensures frame { OnOk result (frame.new ≡ frame.old) }
-    ensures rises { S.fetched source.old ≤ S.fetched source.new }
-    ensures same { Leaves (S.cells source.old) (S.cells source.new) (S.coverages source.old) (S.coverages source.new) (S.kept source.old) (S.kept source.new) }
-    ensures intact { S.intact source.old → S.intact source.new }
-    ensures reports { Reports result (S.spelled (S.kept source.old)) (S.failures source.old) (S.failures source.new) }
-    ensures fetched { OnOk result ((n : ℕ) → All (λ (e : List ℤ). n ≤ length e) frame.old → S.fetched source.new ≤ S.fetched source.old + fetches (signature_of (S.coverages source.old) ground.now.coverages.now) n frame.old (body_view body.now)) }
+    ensures reads { OnlyReads (S.state source.old) (S.state source.new) }
+    ensures reports { Tells S.spelled result (S.state source.old) (S.state source.new) }
+    ensures fetched { Fetches result ground.now (body_view body.now) frame.old (S.state source.old) (S.state source.new) }
 {
     let places = frame.places();
     match body {
@@ -92,9 +81,14 @@ pub fn evaluate<S: Tiles>(
             coverage,
             field,
             indexes,
-        } => read_cells(
-            source, ground, *coverage, *field, indexes, frame, scratch, out,
-        ),
+        } => {
+            let what = BodyRead {
+                coverage: *coverage,
+                field: *field,
+                indexes,
+            };
+            read_cells(source, ground, &what, frame, scratch, out)
+        }
         Body::Table {
             domain,
             items,
@@ -109,9 +103,12 @@ pub fn evaluate<S: Tiles>(
             body: inner,
         } => {
             let positions = column_of(source, ground, position, frame, scratch)?;
-            bind(
-                source, ground, &positions, *interval, inner, frame, scratch, out,
-            )?;
+            let bound = Bound {
+                ground: &*ground,
+                positions: &positions,
+                interval: *interval,
+            };
+            bind(source, &bound, inner, frame, scratch, out)?;
             scratch.give_back(positions);
             Ok(())
         }
@@ -128,20 +125,26 @@ fn column_of<S: Tiles>(
     frame: &mut Frame,
     scratch: &mut Scratch,
 ) -> Result<Column, CellError>
-    requires signatures { ground.now.signatures.now ≡ S.coverages source.old }
-    requires place { HasPlace (signature_of (S.coverages source.old) ground.now.coverages.now) (length ground.now.registers.now) (body_view body.now) frame.old }
-    ensures value { IfOk result (λ c. S.intact source.old → c ≡ map (run (cells_of (S.cells source.old) ground.now.coverages.now) ground.now.registers.now (body_view body.now)) frame.old) }
+    requires signatures { ground.now.signatures.now ≡ (S.state source.old).coverages }
+    requires place { HasPlaceOver (S.state source.old) ground.now (body_view body.now) frame.old }
+    ensures value { IfOk result (IsColumnOf (S.state source.old) ground.now (body_view body.now) frame.old) }
     ensures places { IfOk result (λ c. length c ≡ length frame.old) }
     ensures frame { OnOk result (frame.new ≡ frame.old) }
-    ensures rises { S.fetched source.old ≤ S.fetched source.new }
-    ensures same { Leaves (S.cells source.old) (S.cells source.new) (S.coverages source.old) (S.coverages source.new) (S.kept source.old) (S.kept source.new) }
-    ensures intact { S.intact source.old → S.intact source.new }
-    ensures reports { Reports result (S.spelled (S.kept source.old)) (S.failures source.old) (S.failures source.new) }
-    ensures fetched { OnOk result ((n : ℕ) → All (λ (e : List ℤ). n ≤ length e) frame.old → S.fetched source.new ≤ S.fetched source.old + fetches (signature_of (S.coverages source.old) ground.now.coverages.now) n frame.old (body_view body.now)) }
+    ensures reads { OnlyReads (S.state source.old) (S.state source.new) }
+    ensures reports { Tells S.spelled result (S.state source.old) (S.state source.new) }
+    ensures fetched { Fetches result ground.now (body_view body.now) frame.old (S.state source.old) (S.state source.new) }
 {
     let mut out = scratch.take_column()?;
     evaluate(source, ground, body, frame, scratch, &mut out)?;
     Ok(out)
+}
+
+/// What the body of a bind stands over, with the outcomes of the position at the places of a frame, and the interval.
+#[derive(Clone, Copy)]
+pub(crate) struct Bound<'a> {
+    pub ground: &'a Ground<'a>,
+    pub positions: &'a Column,
+    pub interval: Interval,
 }
 
 /// Makes `out` the outcomes of a body under one more variable, the value of the position at each place; where that does
@@ -149,35 +152,30 @@ fn column_of<S: Tiles>(
 #[cycle(evaluate)]
 fn bind<S: Tiles>(
     source: &mut S,
-    ground: &Ground<'_>,
-    positions: &Column,
-    interval: Interval,
+    bound: &Bound<'_>,
     body: &Body,
     frame: &mut Frame,
     scratch: &mut Scratch,
     out: &mut Column,
 ) -> Result<(), CellError>
-    requires signatures { ground.now.signatures.now ≡ S.coverages source.old }
-    requires positions { length positions.now ≡ length frame.old }
-    requires place { HasPlaceUnder (signature_of (S.coverages source.old) ground.now.coverages.now) (length ground.now.registers.now) (interval ∷ []) (body_view body.now) frame.old }
-    ensures value { OnOk result (S.intact source.old → out.new ≡ at_positions positions.now interval.lo interval.hi (with_coordinate (run (cells_of (S.cells source.old) ground.now.coverages.now) ground.now.registers.now (body_view body.now)) frame.old)) }
+    requires signatures { bound.now.ground.now.signatures.now ≡ (S.state source.old).coverages }
+    requires positions { length bound.now.positions.now ≡ length frame.old }
+    requires place { HasPlaceBehind (S.state source.old) bound.now body.now frame.old }
+    ensures value { OnOk result (IsColumnBehind (S.state source.old) bound.now body.now frame.old out.new) }
     ensures places { OnOk result (length out.new ≡ length frame.old) }
     ensures frame { OnOk result (frame.new ≡ frame.old) }
-    ensures rises { S.fetched source.old ≤ S.fetched source.new }
-    ensures same { Leaves (S.cells source.old) (S.cells source.new) (S.coverages source.old) (S.coverages source.new) (S.kept source.old) (S.kept source.new) }
-    ensures intact { S.intact source.old → S.intact source.new }
-    ensures reports { Reports result (S.spelled (S.kept source.old)) (S.failures source.old) (S.failures source.new) }
-    ensures fetched { OnOk result ((n : ℕ) → All (λ (e : List ℤ). n ≤ length e) frame.old → S.fetched source.new ≤ S.fetched source.old + fetches (signature_of (S.coverages source.old) ground.now.coverages.now) n frame.old (body_view body.now)) }
+    ensures reads { OnlyReads (S.state source.old) (S.state source.new) }
+    ensures reports { Tells S.spelled result (S.state source.old) (S.state source.new) }
+    ensures fetched { FetchesBehind result bound.now body.now frame.old (S.state source.old) (S.state source.new) }
 {
+    let interval = bound.interval;
     if interval.hi < interval.lo {
         out.fill(frame.places(), Outcome::Value(0));
-        settle(positions, interval, &mut scratch.outcomes, out)?;
+        settle(bound.positions, interval, &mut scratch.outcomes, out)?;
         return Ok(());
     }
-    at_coordinates(
-        source, ground, positions, interval, body, frame, scratch, out,
-    )?;
-    settle(positions, interval, &mut scratch.outcomes, out)?;
+    at_coordinates(source, bound, body, frame, scratch, out)?;
+    settle(bound.positions, interval, &mut scratch.outcomes, out)?;
     Ok(())
 }
 
@@ -186,31 +184,27 @@ fn bind<S: Tiles>(
 #[cycle(evaluate)]
 fn at_coordinates<S: Tiles>(
     source: &mut S,
-    ground: &Ground<'_>,
-    positions: &Column,
-    interval: Interval,
+    bound: &Bound<'_>,
     body: &Body,
     frame: &mut Frame,
     scratch: &mut Scratch,
     out: &mut Column,
 ) -> Result<(), CellError>
-    requires signatures { ground.now.signatures.now ≡ S.coverages source.old }
-    requires positions { length positions.now ≡ length frame.old }
-    requires ordered { interval.lo ≤ℤ interval.hi }
-    requires place { HasPlaceUnder (signature_of (S.coverages source.old) ground.now.coverages.now) (length ground.now.registers.now) (interval ∷ []) (body_view body.now) frame.old }
-    ensures value { OnOk result (S.intact source.old → out.new ≡ map (run (cells_of (S.cells source.old) ground.now.coverages.now) ground.now.registers.now (body_view body.now)) (extended frame.old (map (coordinate_or_lo interval.lo interval.hi) positions.now))) }
+    requires signatures { bound.now.ground.now.signatures.now ≡ (S.state source.old).coverages }
+    requires positions { length bound.now.positions.now ≡ length frame.old }
+    requires ordered { bound.now.interval.lo ≤ℤ bound.now.interval.hi }
+    requires place { HasPlaceBehind (S.state source.old) bound.now body.now frame.old }
+    ensures value { OnOk result (IsColumnUnder (S.state source.old) bound.now body.now frame.old out.new) }
     ensures places { OnOk result (length out.new ≡ length frame.old) }
     ensures frame { OnOk result (frame.new ≡ frame.old) }
-    ensures rises { S.fetched source.old ≤ S.fetched source.new }
-    ensures same { Leaves (S.cells source.old) (S.cells source.new) (S.coverages source.old) (S.coverages source.new) (S.kept source.old) (S.kept source.new) }
-    ensures intact { S.intact source.old → S.intact source.new }
-    ensures reports { Reports result (S.spelled (S.kept source.old)) (S.failures source.old) (S.failures source.new) }
-    ensures fetched { OnOk result ((n : ℕ) → All (λ (e : List ℤ). n ≤ length e) frame.old → S.fetched source.new ≤ S.fetched source.old + fetches (signature_of (S.coverages source.old) ground.now.coverages.now) n frame.old (body_view body.now)) }
+    ensures reads { OnlyReads (S.state source.old) (S.state source.new) }
+    ensures reports { Tells S.spelled result (S.state source.old) (S.state source.new) }
+    ensures fetched { FetchesBehind result bound.now body.now frame.old (S.state source.old) (S.state source.new) }
 {
     let depth = frame.depth();
-    let numbers = coordinates(scratch.alloc(), positions, interval)?;
+    let numbers = coordinates(scratch.alloc(), bound.positions, bound.interval)?;
     frame.push_column(numbers)?;
-    evaluate(source, ground, body, frame, scratch, out)?;
+    evaluate(source, bound.ground, body, frame, scratch, out)?;
     frame.truncate(depth);
     Ok(())
 }
@@ -225,16 +219,14 @@ fn condense<S: Tiles>(
     scratch: &mut Scratch,
     out: &mut Column,
 ) -> Result<(), CellError>
-    requires signatures { ground.now.signatures.now ≡ S.coverages source.old }
-    requires place { HasPlace (signature_of (S.coverages source.old) ground.now.coverages.now) (length ground.now.registers.now) (fold_view fold.now) frame.old }
-    ensures value { OnOk result (S.intact source.old → out.new ≡ map (run (cells_of (S.cells source.old) ground.now.coverages.now) ground.now.registers.now (fold_view fold.now)) frame.old) }
+    requires signatures { ground.now.signatures.now ≡ (S.state source.old).coverages }
+    requires place { HasPlaceOver (S.state source.old) ground.now (fold_view fold.now) frame.old }
+    ensures value { OnOk result (IsColumnOf (S.state source.old) ground.now (fold_view fold.now) frame.old out.new) }
     ensures places { OnOk result (length out.new ≡ length frame.old) }
     ensures frame { OnOk result (frame.new ≡ frame.old) }
-    ensures rises { S.fetched source.old ≤ S.fetched source.new }
-    ensures same { Leaves (S.cells source.old) (S.cells source.new) (S.coverages source.old) (S.coverages source.new) (S.kept source.old) (S.kept source.new) }
-    ensures intact { S.intact source.old → S.intact source.new }
-    ensures reports { Reports result (S.spelled (S.kept source.old)) (S.failures source.old) (S.failures source.new) }
-    ensures fetched { OnOk result ((n : ℕ) → All (λ (e : List ℤ). n ≤ length e) frame.old → S.fetched source.new ≤ S.fetched source.old + fetches (signature_of (S.coverages source.old) ground.now.coverages.now) n frame.old (fold_view fold.now)) }
+    ensures reads { OnlyReads (S.state source.old) (S.state source.new) }
+    ensures reports { Tells S.spelled result (S.state source.old) (S.state source.new) }
+    ensures fetched { Fetches result ground.now (fold_view fold.now) frame.old (S.state source.old) (S.state source.new) }
 {
     let mut folds = empty_folds(scratch.alloc(), fold.op, frame.places())?;
     tell_all(source, ground, fold, frame, scratch, &mut folds)?;
@@ -254,22 +246,23 @@ fn tell_all<S: Tiles>(
     scratch: &mut Scratch,
     folds: &mut [Accumulator],
 ) -> Result<(), CellError>
-    requires signatures { ground.now.signatures.now ≡ S.coverages source.old }
-    requires place { HasPlace (signature_of (S.coverages source.old) ground.now.coverages.now) (length ground.now.registers.now) (fold_view fold.now) frame.old }
-    requires folds { length folds.old ≡ length frame.old }
-    requires room { HaveAtMost 0 folds.old }
-    requires op { AreOf fold.now.op folds.old }
-    ensures told { OnOk result (S.intact source.old → EachTakesIn folds.old folds.new (λ k. told_of (under_vars (run (cells_of (S.cells source.old) ground.now.coverages.now) ground.now.registers.now (condition_view fold.now.condition)) (slice_index_or frame.old k [])) (under_vars (run (cells_of (S.cells source.old) ground.now.coverages.now) ground.now.registers.now (body_view fold.now.body)) (slice_index_or frame.old k [])) 0 (points fold.now.domain))) }
+    requires place { FoldHasPlace (S.state source.old) ground.now fold.now frame.old }
+    requires folds { AreOfFold fold.now frame.old 0 folds.old }
+    ensures told { OnOk result (TakeInFold (S.state source.old) ground.now fold.now frame.old folds.old folds.new) }
     ensures op { OnOk result (AreOf fold.now.op folds.new) }
     ensures frame { OnOk result (frame.new ≡ frame.old) }
-    ensures rises { S.fetched source.old ≤ S.fetched source.new }
-    ensures same { Leaves (S.cells source.old) (S.cells source.new) (S.coverages source.old) (S.coverages source.new) (S.kept source.old) (S.kept source.new) }
-    ensures intact { S.intact source.old → S.intact source.new }
-    ensures reports { Reports result (S.spelled (S.kept source.old)) (S.failures source.old) (S.failures source.new) }
-    ensures fetched { OnOk result (S.fetched source.new ≤ S.fetched source.old + (bound_times (length frame.old * count fold.now.domain) (condition_view fold.now.condition) + bound_times (length frame.old * count fold.now.domain) (body_view fold.now.body))) }
+    ensures reads { OnlyReads (S.state source.old) (S.state source.new) }
+    ensures reports { Tells S.spelled result (S.state source.old) (S.state source.new) }
+    ensures fetched { OnOk result (FetchesFold fold.now frame.old (S.state source.old) (S.state source.new)) }
 {
     match zones_of(fold, frame) {
-        Some(zones) => return tell_zones(source, ground, fold, &zones, frame, scratch, folds),
+        Some(zones) => {
+            let zoning = Zoning {
+                ground: &*ground,
+                zones,
+            };
+            return tell_zones(source, &zoning, fold, frame, scratch, folds);
+        }
         None => (),
     }
     if goes_by_tiles(frame.places(), &fold.domain) {
@@ -278,38 +271,52 @@ fn tell_all<S: Tiles>(
     tell_points(source, ground, fold, frame, scratch, folds)
 }
 
+/// What the bodies of a fold of zones stand over, and what is found of its condition.
+#[derive(Clone, Copy)]
+pub(crate) struct Zoning<'a> {
+    pub ground: &'a Ground<'a>,
+    pub zones: Zones,
+}
+
 /// Tells accumulators, one for each place of a frame, of all points of the box of a fold of zones, in one pass over it. The
 /// keys of the places are evaluated once.
 #[cycle(evaluate)]
 fn tell_zones<S: Tiles>(
     source: &mut S,
-    ground: &Ground<'_>,
+    on: &Zoning<'_>,
     fold: &Fold,
-    zones: &Zones,
     frame: &mut Frame,
     scratch: &mut Scratch,
     folds: &mut [Accumulator],
 ) -> Result<(), CellError>
-    requires signatures { ground.now.signatures.now ≡ S.coverages source.old }
-    requires place { HasPlace (signature_of (S.coverages source.old) ground.now.coverages.now) (length ground.now.registers.now) (fold_view fold.now) frame.old }
-    requires zones { IsZonal (condition_view fold.now.condition) (body_view fold.now.body) (own_side zones.now.key_first (condition_view fold.now.condition)) (key_side zones.now.key_first (condition_view fold.now.condition)) zones.now.key_first frame.old }
-    requires folds { length folds.old ≡ length frame.old }
-    requires room { HaveAtMost 0 folds.old }
-    requires op { AreOf fold.now.op folds.old }
-    ensures told { OnOk result (S.intact source.old → EachTakesIn folds.old folds.new (λ k. told_of (under_vars (run (cells_of (S.cells source.old) ground.now.coverages.now) ground.now.registers.now (condition_view fold.now.condition)) (slice_index_or frame.old k [])) (under_vars (run (cells_of (S.cells source.old) ground.now.coverages.now) ground.now.registers.now (body_view fold.now.body)) (slice_index_or frame.old k [])) 0 (points fold.now.domain))) }
+    requires place { FoldHasPlace (S.state source.old) on.now.ground.now fold.now frame.old }
+    requires zones { AreZonesOf fold.now frame.old on.now.zones }
+    requires folds { AreOfFold fold.now frame.old 0 folds.old }
+    ensures told { OnOk result (TakeInFold (S.state source.old) on.now.ground.now fold.now frame.old folds.old folds.new) }
     ensures op { OnOk result (AreOf fold.now.op folds.new) }
     ensures frame { OnOk result (frame.new ≡ frame.old) }
-    ensures rises { S.fetched source.old ≤ S.fetched source.new }
-    ensures same { Leaves (S.cells source.old) (S.cells source.new) (S.coverages source.old) (S.coverages source.new) (S.kept source.old) (S.kept source.new) }
-    ensures intact { S.intact source.old → S.intact source.new }
-    ensures reports { Reports result (S.spelled (S.kept source.old)) (S.failures source.old) (S.failures source.new) }
-    ensures fetched { OnOk result (S.fetched source.new ≤ S.fetched source.old + (bound_times (length frame.old * count fold.now.domain) (condition_view fold.now.condition) + bound_times (length frame.old * count fold.now.domain) (body_view fold.now.body))) }
+    ensures reads { OnlyReads (S.state source.old) (S.state source.new) }
+    ensures reports { Tells S.spelled result (S.state source.old) (S.state source.new) }
+    ensures fetched { OnOk result (FetchesFold fold.now frame.old (S.state source.old) (S.state source.new)) }
 {
-    let column = side_of(source, ground, fold, zones.key_first, frame, scratch)?;
+    let column = side_of(source, on.ground, fold, on.zones.key_first, frame, scratch)?;
     let keys = keys_of(scratch.alloc(), column)?;
-    tell_zone_tiles(source, ground, fold, zones, &keys, frame, scratch, folds)?;
+    let zoned = Zoned {
+        zoning: *on,
+        frame: &*frame,
+        keys: &keys,
+    };
+    tell_zone_tiles(source, &zoned, fold, scratch, folds)?;
     scratch.give_back(keys.column);
     Ok(())
+}
+
+/// A fold of zones with the places of a frame and their keys.
+#[derive(Clone, Copy)]
+pub(crate) struct Zoned<'a> {
+    pub zoning: Zoning<'a>,
+    pub frame: &'a Frame,
+    pub keys: &'a Keys,
 }
 
 /// Tells accumulators, one for each place of a frame with its key, of all points of the box of a fold of zones, a tile box
@@ -317,35 +324,26 @@ fn tell_zones<S: Tiles>(
 #[cycle(evaluate)]
 fn tell_zone_tiles<S: Tiles>(
     source: &mut S,
-    ground: &Ground<'_>,
+    zoned: &Zoned<'_>,
     fold: &Fold,
-    zones: &Zones,
-    keys: &Keys,
-    frame: &Frame,
     scratch: &mut Scratch,
     folds: &mut [Accumulator],
 ) -> Result<(), CellError>
-    requires signatures { ground.now.signatures.now ≡ S.coverages source.old }
-    requires place { HasPlace (signature_of (S.coverages source.old) ground.now.coverages.now) (length ground.now.registers.now) (fold_view fold.now) frame.now }
-    requires zones { IsZonal (condition_view fold.now.condition) (body_view fold.now.body) (own_side zones.now.key_first (condition_view fold.now.condition)) (key_side zones.now.key_first (condition_view fold.now.condition)) zones.now.key_first frame.now }
-    requires places { length keys.now.column ≡ length frame.now }
-    requires folds { length folds.old ≡ length frame.now }
-    requires room { HaveAtMost 0 folds.old }
-    requires op { AreOf fold.now.op folds.old }
-    ensures told { OnOk result (S.intact source.old → keys.now.column ≡ map (run (cells_of (S.cells source.old) ground.now.coverages.now) ground.now.registers.now (key_side zones.now.key_first (condition_view fold.now.condition))) frame.now → EachTakesIn folds.old folds.new (λ k. told_of (under_vars (run (cells_of (S.cells source.old) ground.now.coverages.now) ground.now.registers.now (condition_view fold.now.condition)) (slice_index_or frame.now k [])) (under_vars (run (cells_of (S.cells source.old) ground.now.coverages.now) ground.now.registers.now (body_view fold.now.body)) (slice_index_or frame.now k [])) 0 (points fold.now.domain))) }
+    requires place { FoldHasPlace (S.state source.old) zoned.now.zoning.ground.now fold.now zoned.now.frame.now }
+    requires zones { AreZonesOf fold.now zoned.now.frame.now zoned.now.zoning.zones }
+    requires keys { length zoned.now.keys.now.column ≡ length zoned.now.frame.now }
+    requires folds { AreOfFold fold.now zoned.now.frame.now 0 folds.old }
+    ensures told { OnOk result (TakeInZones (S.state source.old) zoned.now fold.now folds.old folds.new) }
     ensures op { OnOk result (AreOf fold.now.op folds.new) }
-    ensures rises { S.fetched source.old ≤ S.fetched source.new }
-    ensures same { Leaves (S.cells source.old) (S.cells source.new) (S.coverages source.old) (S.coverages source.new) (S.kept source.old) (S.kept source.new) }
-    ensures intact { S.intact source.old → S.intact source.new }
-    ensures reports { Reports result (S.spelled (S.kept source.old)) (S.failures source.old) (S.failures source.new) }
-    ensures fetched { OnOk result (S.fetched source.new ≤ S.fetched source.old + (bound_times (count fold.now.domain) (own_side zones.now.key_first (condition_view fold.now.condition)) + bound_times (count fold.now.domain) (body_view fold.now.body))) }
+    ensures reads { OnlyReads (S.state source.old) (S.state source.new) }
+    ensures reports { Tells S.spelled result (S.state source.old) (S.state source.new) }
+    ensures fetched { OnOk result (FetchesZones zoned.now fold.now (S.state source.old) (S.state source.new)) }
 {
-    let _axes = fold.domain.axes();
-    for number in 0..fold.domain.tiles() {
-        let part = part_at(scratch.alloc(), &fold.domain, number)?;
-        tell_zone_part(
-            source, ground, fold, zones, keys, &part, frame, scratch, folds,
-        )?;
+    let area = &fold.domain;
+    let _axes = area.axes();
+    for number in 0..area.tiles() {
+        let part = part_at(scratch.alloc(), area, number)?;
+        tell_zone_part(source, zoned, fold, &part, scratch, folds)?;
     }
     Ok(())
 }
@@ -355,42 +353,35 @@ fn tell_zone_tiles<S: Tiles>(
 #[cycle(evaluate)]
 fn tell_zone_part<S: Tiles>(
     source: &mut S,
-    ground: &Ground<'_>,
+    zoned: &Zoned<'_>,
     fold: &Fold,
-    zones: &Zones,
-    keys: &Keys,
     part: &Part,
-    frame: &Frame,
     scratch: &mut Scratch,
     folds: &mut [Accumulator],
 ) -> Result<(), CellError>
-    requires signatures { ground.now.signatures.now ≡ S.coverages source.old }
-    requires place { HasPlace (signature_of (S.coverages source.old) ground.now.coverages.now) (length ground.now.registers.now) (fold_view fold.now) frame.now }
-    requires zones { IsZonal (condition_view fold.now.condition) (body_view fold.now.body) (own_side zones.now.key_first (condition_view fold.now.condition)) (key_side zones.now.key_first (condition_view fold.now.condition)) zones.now.key_first frame.now }
-    requires places { length keys.now.column ≡ length frame.now }
+    requires place { FoldHasPlace (S.state source.old) zoned.now.zoning.ground.now fold.now zoned.now.frame.now }
+    requires zones { AreZonesOf fold.now zoned.now.frame.now zoned.now.zoning.zones }
+    requires keys { length zoned.now.keys.now.column ≡ length zoned.now.frame.now }
     requires part { IsPart fold.now.domain part.now }
-    requires folds { length folds.old ≡ length frame.now }
-    requires room { HaveAtMost (2 ^ 24 - length (points part.now.area)) folds.old }
-    requires op { AreOf fold.now.op folds.old }
-    ensures told { OnOk result (S.intact source.old → keys.now.column ≡ map (run (cells_of (S.cells source.old) ground.now.coverages.now) ground.now.registers.now (key_side zones.now.key_first (condition_view fold.now.condition))) frame.now → EachTakesIn folds.old folds.new (λ k. flat_map (told_ranked fold.now.domain (run (cells_of (S.cells source.old) ground.now.coverages.now) ground.now.registers.now (condition_view fold.now.condition)) (run (cells_of (S.cells source.old) ground.now.coverages.now) ground.now.registers.now (body_view fold.now.body)) (slice_index_or frame.now k [])) (points part.now.area))) }
-    ensures room { OnOk result ((n : ℕ) → HaveAtMost n folds.old → HaveAtMost (n + length (points part.now.area)) folds.new) }
-    ensures op { OnOk result (AreOf fold.now.op folds.new) }
-    ensures rises { S.fetched source.old ≤ S.fetched source.new }
-    ensures same { Leaves (S.cells source.old) (S.cells source.new) (S.coverages source.old) (S.coverages source.new) (S.kept source.old) (S.kept source.new) }
-    ensures intact { S.intact source.old → S.intact source.new }
-    ensures reports { Reports result (S.spelled (S.kept source.old)) (S.failures source.old) (S.failures source.new) }
-    ensures fetched { OnOk result (S.fetched source.new ≤ S.fetched source.old + (bound_times (count part.now.area) (own_side zones.now.key_first (condition_view fold.now.condition)) + bound_times (count part.now.area) (body_view fold.now.body))) }
+    requires folds { AreOfFold fold.now zoned.now.frame.now (2 ^ 24 - length (points part.now.area)) folds.old }
+    ensures told { OnOk result (TakeInZone (S.state source.old) zoned.now fold.now part.now folds.old folds.new) }
+    ensures folds { OnOk result (GrowBy fold.now part.now zoned.now.frame.now folds.old folds.new) }
+    ensures reads { OnlyReads (S.state source.old) (S.state source.new) }
+    ensures reports { Tells S.spelled result (S.state source.old) (S.state source.new) }
+    ensures fetched { OnOk result (FetchesZonePart zoned.now fold.now part.now (S.state source.old) (S.state source.new)) }
 {
-    let mut inner = part_frame(scratch.alloc(), frame, 0, &part.area)?;
-    let own = side_of(source, ground, fold, !zones.key_first, &mut inner, scratch)?;
+    let ground = zoned.zoning.ground;
+    let key_first = zoned.zoning.zones.key_first;
+    let mut inner = part_frame(scratch.alloc(), zoned.frame, 0, &part.area)?;
+    let own = side_of(source, ground, fold, !key_first, &mut inner, scratch)?;
     let column = body_of(source, ground, fold, &mut inner, scratch)?;
     let seen = Seen {
         own: &own,
         column: &column,
         ranks: &part.ranks,
-        key_first: zones.key_first,
+        key_first,
     };
-    tell_seen(fold.op, folds, keys, &seen, scratch)?;
+    tell_seen(fold.op, folds, zoned.keys, &seen, scratch)?;
     scratch.give_back(own);
     scratch.give_back(column);
     Ok(())
@@ -405,16 +396,14 @@ fn body_of<S: Tiles>(
     frame: &mut Frame,
     scratch: &mut Scratch,
 ) -> Result<Column, CellError>
-    requires signatures { ground.now.signatures.now ≡ S.coverages source.old }
-    requires place { HasPlace (signature_of (S.coverages source.old) ground.now.coverages.now) (length ground.now.registers.now) (body_view fold.now.body) frame.old }
-    ensures value { IfOk result (λ c. S.intact source.old → c ≡ map (run (cells_of (S.cells source.old) ground.now.coverages.now) ground.now.registers.now (body_view fold.now.body)) frame.old) }
+    requires signatures { ground.now.signatures.now ≡ (S.state source.old).coverages }
+    requires place { HasPlaceOver (S.state source.old) ground.now (body_of fold.now) frame.old }
+    ensures value { IfOk result (IsColumnOf (S.state source.old) ground.now (body_of fold.now) frame.old) }
     ensures places { IfOk result (λ c. length c ≡ length frame.old) }
     ensures frame { OnOk result (frame.new ≡ frame.old) }
-    ensures rises { S.fetched source.old ≤ S.fetched source.new }
-    ensures same { Leaves (S.cells source.old) (S.cells source.new) (S.coverages source.old) (S.coverages source.new) (S.kept source.old) (S.kept source.new) }
-    ensures intact { S.intact source.old → S.intact source.new }
-    ensures reports { Reports result (S.spelled (S.kept source.old)) (S.failures source.old) (S.failures source.new) }
-    ensures fetched { OnOk result ((n : ℕ) → All (λ (e : List ℤ). n ≤ length e) frame.old → S.fetched source.new ≤ S.fetched source.old + fetches (signature_of (S.coverages source.old) ground.now.coverages.now) n frame.old (body_view fold.now.body)) }
+    ensures reads { OnlyReads (S.state source.old) (S.state source.new) }
+    ensures reports { Tells S.spelled result (S.state source.old) (S.state source.new) }
+    ensures fetched { Fetches result ground.now (body_of fold.now) frame.old (S.state source.old) (S.state source.new) }
 {
     column_of(source, ground, &fold.body, frame, scratch)
 }
@@ -430,16 +419,14 @@ fn side_of<S: Tiles>(
     frame: &mut Frame,
     scratch: &mut Scratch,
 ) -> Result<Column, CellError>
-    requires signatures { ground.now.signatures.now ≡ S.coverages source.old }
-    requires place { HasPlace (signature_of (S.coverages source.old) ground.now.coverages.now) (length ground.now.registers.now) (operand left (condition_view fold.now.condition)) frame.old }
-    ensures value { IfOk result (λ c. S.intact source.old → c ≡ map (run (cells_of (S.cells source.old) ground.now.coverages.now) ground.now.registers.now (operand left (condition_view fold.now.condition))) frame.old) }
+    requires signatures { ground.now.signatures.now ≡ (S.state source.old).coverages }
+    requires place { HasPlaceOver (S.state source.old) ground.now (side left fold.now) frame.old }
+    ensures value { IfOk result (IsColumnOf (S.state source.old) ground.now (side left fold.now) frame.old) }
     ensures places { IfOk result (λ c. length c ≡ length frame.old) }
     ensures frame { OnOk result (frame.new ≡ frame.old) }
-    ensures rises { S.fetched source.old ≤ S.fetched source.new }
-    ensures same { Leaves (S.cells source.old) (S.cells source.new) (S.coverages source.old) (S.coverages source.new) (S.kept source.old) (S.kept source.new) }
-    ensures intact { S.intact source.old → S.intact source.new }
-    ensures reports { Reports result (S.spelled (S.kept source.old)) (S.failures source.old) (S.failures source.new) }
-    ensures fetched { OnOk result ((n : ℕ) → All (λ (e : List ℤ). n ≤ length e) frame.old → S.fetched source.new ≤ S.fetched source.old + fetches (signature_of (S.coverages source.old) ground.now.coverages.now) n frame.old (operand left (condition_view fold.now.condition))) }
+    ensures reads { OnlyReads (S.state source.old) (S.state source.new) }
+    ensures reports { Tells S.spelled result (S.state source.old) (S.state source.new) }
+    ensures fetched { Fetches result ground.now (side left fold.now) frame.old (S.state source.old) (S.state source.new) }
 {
     match &fold.condition {
         None => Err(CellError::NoMemory),
@@ -457,16 +444,14 @@ fn operand_of<S: Tiles>(
     frame: &mut Frame,
     scratch: &mut Scratch,
 ) -> Result<Column, CellError>
-    requires signatures { ground.now.signatures.now ≡ S.coverages source.old }
-    requires place { HasPlace (signature_of (S.coverages source.old) ground.now.coverages.now) (length ground.now.registers.now) (operand left (body_view body.now)) frame.old }
-    ensures value { IfOk result (λ c. S.intact source.old → c ≡ map (run (cells_of (S.cells source.old) ground.now.coverages.now) ground.now.registers.now (operand left (body_view body.now))) frame.old) }
+    requires signatures { ground.now.signatures.now ≡ (S.state source.old).coverages }
+    requires place { HasPlaceOver (S.state source.old) ground.now (branch left body.now) frame.old }
+    ensures value { IfOk result (IsColumnOf (S.state source.old) ground.now (branch left body.now) frame.old) }
     ensures places { IfOk result (λ c. length c ≡ length frame.old) }
     ensures frame { OnOk result (frame.new ≡ frame.old) }
-    ensures rises { S.fetched source.old ≤ S.fetched source.new }
-    ensures same { Leaves (S.cells source.old) (S.cells source.new) (S.coverages source.old) (S.coverages source.new) (S.kept source.old) (S.kept source.new) }
-    ensures intact { S.intact source.old → S.intact source.new }
-    ensures reports { Reports result (S.spelled (S.kept source.old)) (S.failures source.old) (S.failures source.new) }
-    ensures fetched { OnOk result ((n : ℕ) → All (λ (e : List ℤ). n ≤ length e) frame.old → S.fetched source.new ≤ S.fetched source.old + fetches (signature_of (S.coverages source.old) ground.now.coverages.now) n frame.old (operand left (body_view body.now))) }
+    ensures reads { OnlyReads (S.state source.old) (S.state source.new) }
+    ensures reports { Tells S.spelled result (S.state source.old) (S.state source.new) }
+    ensures fetched { Fetches result ground.now (branch left body.now) frame.old (S.state source.old) (S.state source.new) }
 {
     match body {
         Body::Op2(_, l, r) => {
@@ -490,55 +475,57 @@ fn tell_points<S: Tiles>(
     scratch: &mut Scratch,
     folds: &mut [Accumulator],
 ) -> Result<(), CellError>
-    requires signatures { ground.now.signatures.now ≡ S.coverages source.old }
-    requires place { HasPlace (signature_of (S.coverages source.old) ground.now.coverages.now) (length ground.now.registers.now) (fold_view fold.now) frame.old }
-    requires folds { length folds.old ≡ length frame.old }
-    requires room { HaveAtMost 0 folds.old }
-    ensures told { OnOk result (S.intact source.old → EachTakesIn folds.old folds.new (λ k. told_of (under_vars (run (cells_of (S.cells source.old) ground.now.coverages.now) ground.now.registers.now (condition_view fold.now.condition)) (slice_index_or frame.old k [])) (under_vars (run (cells_of (S.cells source.old) ground.now.coverages.now) ground.now.registers.now (body_view fold.now.body)) (slice_index_or frame.old k [])) 0 (points fold.now.domain))) }
-    ensures op { OnOk result ((op : Aggregate) → AreOf op folds.old → AreOf op folds.new) }
+    requires place { FoldHasPlace (S.state source.old) ground.now fold.now frame.old }
+    requires folds { AreOfFold fold.now frame.old 0 folds.old }
+    ensures told { OnOk result (TakeInFold (S.state source.old) ground.now fold.now frame.old folds.old folds.new) }
+    ensures op { OnOk result (AreOf fold.now.op folds.new) }
     ensures frame { OnOk result (frame.new ≡ frame.old) }
-    ensures rises { S.fetched source.old ≤ S.fetched source.new }
-    ensures same { Leaves (S.cells source.old) (S.cells source.new) (S.coverages source.old) (S.coverages source.new) (S.kept source.old) (S.kept source.new) }
-    ensures intact { S.intact source.old → S.intact source.new }
-    ensures reports { Reports result (S.spelled (S.kept source.old)) (S.failures source.old) (S.failures source.new) }
-    ensures fetched { OnOk result (S.fetched source.new ≤ S.fetched source.old + (bound_times (length frame.old * count fold.now.domain) (condition_view fold.now.condition) + bound_times (length frame.old * count fold.now.domain) (body_view fold.now.body))) }
+    ensures reads { OnlyReads (S.state source.old) (S.state source.new) }
+    ensures reports { Tells S.spelled result (S.state source.old) (S.state source.new) }
+    ensures fetched { OnOk result (FetchesFold fold.now frame.old (S.state source.old) (S.state source.new)) }
 {
     for place in 0..fold.domain.points() {
-        tell_point(source, ground, fold, place, frame, scratch, folds)?;
+        let point = Point {
+            ground: &*ground,
+            place,
+        };
+        tell_point(source, &point, fold, frame, scratch, folds)?;
     }
     Ok(())
+}
+
+/// A point of a fold's box, by its place there, and what the fold's bodies stand over.
+#[derive(Clone, Copy)]
+pub(crate) struct Point<'a> {
+    pub ground: &'a Ground<'a>,
+    pub place: u64,
 }
 
 /// Tells accumulators of a point of a fold's box.
 #[cycle(evaluate)]
 fn tell_point<S: Tiles>(
     source: &mut S,
-    ground: &Ground<'_>,
+    point: &Point<'_>,
     fold: &Fold,
-    place: u64,
     frame: &mut Frame,
     scratch: &mut Scratch,
     folds: &mut [Accumulator],
 ) -> Result<(), CellError>
-    requires signatures { ground.now.signatures.now ≡ S.coverages source.old }
-    requires place { HasPlace (signature_of (S.coverages source.old) ground.now.coverages.now) (length ground.now.registers.now) (fold_view fold.now) frame.old }
-    requires point { place < length (points fold.now.domain) }
-    requires folds { length folds.old ≡ length frame.old }
-    requires room { HaveAtMost place folds.old }
-    ensures told { OnOk result (S.intact source.old → EachTakesIn folds.old folds.new (λ k. demanded_of place (under_vars (run (cells_of (S.cells source.old) ground.now.coverages.now) ground.now.registers.now (condition_view fold.now.condition)) (slice_index_or frame.old k []) (slice_index_or (points fold.now.domain) place [])) (under_vars (run (cells_of (S.cells source.old) ground.now.coverages.now) ground.now.registers.now (body_view fold.now.body)) (slice_index_or frame.old k []) (slice_index_or (points fold.now.domain) place [])))) }
-    ensures room { OnOk result (HaveAtMost (place + 1) folds.new) }
-    ensures op { OnOk result ((op : Aggregate) → AreOf op folds.old → AreOf op folds.new) }
+    requires place { FoldHasPlace (S.state source.old) point.now.ground.now fold.now frame.old }
+    requires point { point.now.place < length (points fold.now.domain) }
+    requires folds { AreOfFold fold.now frame.old point.now.place folds.old }
+    ensures told { OnOk result (TakeInPoint (S.state source.old) point.now fold.now frame.old folds.old folds.new) }
+    ensures folds { OnOk result (AreOfFold fold.now frame.old (point.now.place + 1) folds.new) }
     ensures frame { OnOk result (frame.new ≡ frame.old) }
-    ensures rises { S.fetched source.old ≤ S.fetched source.new }
-    ensures same { Leaves (S.cells source.old) (S.cells source.new) (S.coverages source.old) (S.coverages source.new) (S.kept source.old) (S.kept source.new) }
-    ensures intact { S.intact source.old → S.intact source.new }
-    ensures reports { Reports result (S.spelled (S.kept source.old)) (S.failures source.old) (S.failures source.new) }
-    ensures fetched { OnOk result (S.fetched source.new ≤ S.fetched source.old + (bound_times (length frame.old) (condition_view fold.now.condition) + bound_times (length frame.old) (body_view fold.now.body))) }
+    ensures reads { OnlyReads (S.state source.old) (S.state source.new) }
+    ensures reports { Tells S.spelled result (S.state source.old) (S.state source.new) }
+    ensures fetched { OnOk result (FetchesPoint fold.now frame.old (S.state source.old) (S.state source.new)) }
 {
-    let _few = fold.domain.points();
+    let area = &fold.domain;
+    let _few = area.points();
     let depth = frame.depth();
-    push_place(&fold.domain, place, &mut scratch.point, frame)?;
-    tell(source, ground, fold, place, frame, scratch, folds)?;
+    push_place(area, point.place, &mut scratch.point, frame)?;
+    tell(source, point, fold, frame, scratch, folds)?;
     frame.truncate(depth);
     Ok(())
 }
@@ -547,40 +534,33 @@ fn tell_point<S: Tiles>(
 #[cycle(evaluate)]
 fn tell<S: Tiles>(
     source: &mut S,
-    ground: &Ground<'_>,
+    point: &Point<'_>,
     fold: &Fold,
-    place: u64,
     frame: &mut Frame,
     scratch: &mut Scratch,
     folds: &mut [Accumulator],
 ) -> Result<(), CellError>
-    requires signatures { ground.now.signatures.now ≡ S.coverages source.old }
-    requires condition { HasPlace (signature_of (S.coverages source.old) ground.now.coverages.now) (length ground.now.registers.now) (condition_view fold.now.condition) frame.old }
-    requires body { HasPlace (signature_of (S.coverages source.old) ground.now.coverages.now) (length ground.now.registers.now) (body_view fold.now.body) frame.old }
-    requires point { place < 2 ^ 24 }
-    requires folds { length folds.old ≡ length frame.old }
-    requires room { HaveAtMost place folds.old }
-    ensures told { OnOk result (S.intact source.old → EachTakesIn folds.old folds.new (λ k. demanded_of place (run (cells_of (S.cells source.old) ground.now.coverages.now) ground.now.registers.now (condition_view fold.now.condition) (slice_index_or frame.old k [])) (run (cells_of (S.cells source.old) ground.now.coverages.now) ground.now.registers.now (body_view fold.now.body) (slice_index_or frame.old k [])))) }
-    ensures room { OnOk result (HaveAtMost (place + 1) folds.new) }
-    ensures op { OnOk result ((op : Aggregate) → AreOf op folds.old → AreOf op folds.new) }
+    requires place { BodiesHavePlace (S.state source.old) point.now.ground.now fold.now frame.old }
+    requires point { point.now.place < 2 ^ 24 }
+    requires folds { AreOfFold fold.now frame.old point.now.place folds.old }
+    ensures told { OnOk result (TakeInLast (S.state source.old) point.now fold.now frame.old folds.old folds.new) }
+    ensures folds { OnOk result (AreOfFold fold.now frame.old (point.now.place + 1) folds.new) }
     ensures frame { OnOk result (frame.new ≡ frame.old) }
-    ensures rises { S.fetched source.old ≤ S.fetched source.new }
-    ensures same { Leaves (S.cells source.old) (S.cells source.new) (S.coverages source.old) (S.coverages source.new) (S.kept source.old) (S.kept source.new) }
-    ensures intact { S.intact source.old → S.intact source.new }
-    ensures reports { Reports result (S.spelled (S.kept source.old)) (S.failures source.old) (S.failures source.new) }
-    ensures fetched { OnOk result (S.fetched source.new ≤ S.fetched source.old + (bound_times (length frame.old) (condition_view fold.now.condition) + bound_times (length frame.old) (body_view fold.now.body))) }
+    ensures reads { OnlyReads (S.state source.old) (S.state source.new) }
+    ensures reports { Tells S.spelled result (S.state source.old) (S.state source.new) }
+    ensures fetched { OnOk result (FetchesPoint fold.now frame.old (S.state source.old) (S.state source.new)) }
 {
     match &fold.condition {
         None => {
-            let column = column_of(source, ground, &fold.body, frame, scratch)?;
-            add_column(folds, place, &column);
+            let column = column_of(source, point.ground, &fold.body, frame, scratch)?;
+            add_column(folds, point.place, &column);
             scratch.give_back(column);
             Ok(())
         }
         Some(condition) => {
-            let chosen = column_of(source, ground, condition, frame, scratch)?;
-            let column = column_of(source, ground, &fold.body, frame, scratch)?;
-            add_column_where(folds, place, &chosen, &column);
+            let chosen = column_of(source, point.ground, condition, frame, scratch)?;
+            let column = column_of(source, point.ground, &fold.body, frame, scratch)?;
+            add_column_where(folds, point.place, &chosen, &column);
             scratch.give_back(chosen);
             scratch.give_back(column);
             Ok(())
@@ -598,56 +578,56 @@ fn tell_tiles<S: Tiles>(
     scratch: &mut Scratch,
     folds: &mut [Accumulator],
 ) -> Result<(), CellError>
-    requires signatures { ground.now.signatures.now ≡ S.coverages source.old }
-    requires place { HasPlace (signature_of (S.coverages source.old) ground.now.coverages.now) (length ground.now.registers.now) (fold_view fold.now) frame.now }
-    requires folds { length folds.old ≡ length frame.now }
-    requires room { HaveAtMost 0 folds.old }
-    requires op { AreOf fold.now.op folds.old }
-    ensures told { OnOk result (S.intact source.old → EachTakesIn folds.old folds.new (λ k. told_of (under_vars (run (cells_of (S.cells source.old) ground.now.coverages.now) ground.now.registers.now (condition_view fold.now.condition)) (slice_index_or frame.now k [])) (under_vars (run (cells_of (S.cells source.old) ground.now.coverages.now) ground.now.registers.now (body_view fold.now.body)) (slice_index_or frame.now k [])) 0 (points fold.now.domain))) }
+    requires place { FoldHasPlace (S.state source.old) ground.now fold.now frame.now }
+    requires folds { AreOfFold fold.now frame.now 0 folds.old }
+    ensures told { OnOk result (TakeInFold (S.state source.old) ground.now fold.now frame.now folds.old folds.new) }
     ensures op { OnOk result (AreOf fold.now.op folds.new) }
-    ensures rises { S.fetched source.old ≤ S.fetched source.new }
-    ensures same { Leaves (S.cells source.old) (S.cells source.new) (S.coverages source.old) (S.coverages source.new) (S.kept source.old) (S.kept source.new) }
-    ensures intact { S.intact source.old → S.intact source.new }
-    ensures reports { Reports result (S.spelled (S.kept source.old)) (S.failures source.old) (S.failures source.new) }
-    ensures fetched { OnOk result (S.fetched source.new ≤ S.fetched source.old + (bound_times (length frame.now * count fold.now.domain) (condition_view fold.now.condition) + bound_times (length frame.now * count fold.now.domain) (body_view fold.now.body))) }
+    ensures reads { OnlyReads (S.state source.old) (S.state source.new) }
+    ensures reports { Tells S.spelled result (S.state source.old) (S.state source.new) }
+    ensures fetched { OnOk result (FetchesFold fold.now frame.now (S.state source.old) (S.state source.new)) }
 {
-    let _axes = fold.domain.axes();
-    for tile in 0..fold.domain.tiles() {
-        let part = part_at(scratch.alloc(), &fold.domain, tile)?;
-        tell_part(source, ground, fold, &part, frame, scratch, folds)?;
+    let area = &fold.domain;
+    let _axes = area.axes();
+    for tile in 0..area.tiles() {
+        let part = part_at(scratch.alloc(), area, tile)?;
+        let around = Around {
+            ground: &*ground,
+            frame: &*frame,
+        };
+        tell_part(source, &around, fold, &part, scratch, folds)?;
     }
     Ok(())
+}
+
+/// The places of a frame, and what a fold's bodies stand over.
+#[derive(Clone, Copy)]
+pub(crate) struct Around<'a> {
+    pub ground: &'a Ground<'a>,
+    pub frame: &'a Frame,
 }
 
 /// Tells accumulators, one for each place of a frame, of the points of a part of a fold's box.
 #[cycle(evaluate)]
 fn tell_part<S: Tiles>(
     source: &mut S,
-    ground: &Ground<'_>,
+    around: &Around<'_>,
     fold: &Fold,
     part: &Part,
-    frame: &Frame,
     scratch: &mut Scratch,
     folds: &mut [Accumulator],
 ) -> Result<(), CellError>
-    requires signatures { ground.now.signatures.now ≡ S.coverages source.old }
-    requires place { HasPlace (signature_of (S.coverages source.old) ground.now.coverages.now) (length ground.now.registers.now) (fold_view fold.now) frame.now }
+    requires place { FoldHasPlace (S.state source.old) around.now.ground.now fold.now around.now.frame.now }
     requires part { IsPart fold.now.domain part.now }
-    requires folds { length folds.old ≡ length frame.now }
-    requires room { HaveAtMost (2 ^ 24 - length (points part.now.area)) folds.old }
-    requires op { AreOf fold.now.op folds.old }
-    ensures told { OnOk result (S.intact source.old → EachTakesIn folds.old folds.new (λ k. flat_map (told_ranked fold.now.domain (run (cells_of (S.cells source.old) ground.now.coverages.now) ground.now.registers.now (condition_view fold.now.condition)) (run (cells_of (S.cells source.old) ground.now.coverages.now) ground.now.registers.now (body_view fold.now.body)) (slice_index_or frame.now k [])) (points part.now.area))) }
-    ensures room { OnOk result ((n : ℕ) → HaveAtMost n folds.old → HaveAtMost (n + length (points part.now.area)) folds.new) }
-    ensures op { OnOk result (AreOf fold.now.op folds.new) }
-    ensures rises { S.fetched source.old ≤ S.fetched source.new }
-    ensures same { Leaves (S.cells source.old) (S.cells source.new) (S.coverages source.old) (S.coverages source.new) (S.kept source.old) (S.kept source.new) }
-    ensures intact { S.intact source.old → S.intact source.new }
-    ensures reports { Reports result (S.spelled (S.kept source.old)) (S.failures source.old) (S.failures source.new) }
-    ensures fetched { OnOk result (S.fetched source.new ≤ S.fetched source.old + (bound_times (length frame.now * count part.now.area) (condition_view fold.now.condition) + bound_times (length frame.now * count part.now.area) (body_view fold.now.body))) }
+    requires folds { AreOfFold fold.now around.now.frame.now (2 ^ 24 - length (points part.now.area)) folds.old }
+    ensures told { OnOk result (TakeInBox (S.state source.old) around.now fold.now part.now folds.old folds.new) }
+    ensures folds { OnOk result (GrowBy fold.now part.now around.now.frame.now folds.old folds.new) }
+    ensures reads { OnlyReads (S.state source.old) (S.state source.new) }
+    ensures reports { Tells S.spelled result (S.state source.old) (S.state source.new) }
+    ensures fetched { OnOk result (FetchesPart fold.now part.now around.now (S.state source.old) (S.state source.new)) }
 {
-    for place in 0..frame.places() {
-        let mut own = part_frame(scratch.alloc(), frame, place, &part.area)?;
-        let found = fold_frame(source, ground, fold, &part.ranks, &mut own, scratch)?;
+    for place in 0..around.frame.places() {
+        let mut own = part_frame(scratch.alloc(), around.frame, place, &part.area)?;
+        let found = fold_frame(source, around.ground, fold, &part.ranks, &mut own, scratch)?;
         merge_at(folds, place, &found);
     }
     Ok(())
@@ -664,18 +644,14 @@ fn fold_frame<S: Tiles>(
     frame: &mut Frame,
     scratch: &mut Scratch,
 ) -> Result<Accumulator, CellError>
-    requires signatures { ground.now.signatures.now ≡ S.coverages source.old }
-    requires condition { HasPlace (signature_of (S.coverages source.old) ground.now.coverages.now) (length ground.now.registers.now) (condition_view fold.now.condition) frame.old }
-    requires body { HasPlace (signature_of (S.coverages source.old) ground.now.coverages.now) (length ground.now.registers.now) (body_view fold.now.body) frame.old }
+    requires place { BodiesHavePlace (S.state source.old) ground.now fold.now frame.old }
     requires ranks { length ranks.now ≡ length frame.old }
-    ensures stands { IfOk result (λ a. S.intact source.old → Stands a (demanded_at ranks.now (map (run (cells_of (S.cells source.old) ground.now.coverages.now) ground.now.registers.now (condition_view fold.now.condition)) frame.old) (map (run (cells_of (S.cells source.old) ground.now.coverages.now) ground.now.registers.now (body_view fold.now.body)) frame.old))) }
+    ensures stands { IfOk result (StandsFor (S.state source.old) ground.now fold.now ranks.now frame.old) }
     ensures op { IfOk result (λ a. a.running.op ≡ fold.now.op) }
     ensures count { IfOk result (λ a. a.running.count ≤ length frame.old) }
-    ensures rises { S.fetched source.old ≤ S.fetched source.new }
-    ensures same { Leaves (S.cells source.old) (S.cells source.new) (S.coverages source.old) (S.coverages source.new) (S.kept source.old) (S.kept source.new) }
-    ensures intact { S.intact source.old → S.intact source.new }
-    ensures reports { Reports result (S.spelled (S.kept source.old)) (S.failures source.old) (S.failures source.new) }
-    ensures fetched { OnOk result (S.fetched source.new ≤ S.fetched source.old + (bound_times (length frame.old) (condition_view fold.now.condition) + bound_times (length frame.old) (body_view fold.now.body))) }
+    ensures reads { OnlyReads (S.state source.old) (S.state source.new) }
+    ensures reports { Tells S.spelled result (S.state source.old) (S.state source.new) }
+    ensures fetched { OnOk result (FetchesPoint fold.now frame.old (S.state source.old) (S.state source.new)) }
 {
     match &fold.condition {
         None => {

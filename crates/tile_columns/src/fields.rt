@@ -1,14 +1,8 @@
 //! Fields behind binds, at all places of a frame.
 
-ghost use Rattle.std.specs.Prelude.{◌≡◌, ℕ, ◌+◌, ◌≤◌, ℤ, pos, List, [], ◌∷◌, ◌++◌, length, map, replicate, sum_by, OnOk, IfOk};
-ghost use Rattle.wcps_mean.specs.declared.cell.Outcome.TheVariants.{Value};
-ghost use Rattle.std.specs.List.{All};
-ghost use Rattle.wcps_mean.specs.Reports.{Reports};
-ghost use Rattle.plan_ir.specs.Plans.{signature_of, bind_view, field_view};
-ghost use Rattle.plan_ir.specs.Planned.{cells_of};
-ghost use Rattle.tile_columns.specs.Sources.{Leaves};
-ghost use Rattle.tile_columns.specs.Evaluating.{fetches};
-ghost use Rattle.tile_columns.specs.Fields.{FieldsHavePlace, HavePlaces, columns_behind, bodies_behind, settled_by};
+ghost use Rattle.std.specs.Prelude.{◌≡◌, List, [], ◌∷◌, ◌++◌, length, map, replicate, OnOk, IfOk};
+ghost use Rattle.tile_columns.specs.Sources.{OnlyReads, Tells};
+ghost use Rattle.tile_columns.specs.Fields.{HavePlaces, HavePlaceOver, AreColumnsOf, FetchAll, settled_by, blank_by};
 
 use crate::binds::{coordinates, settle};
 use crate::bodies::evaluate;
@@ -33,17 +27,15 @@ pub fn evaluate_fields<S: Tiles>(
     frame: &mut Frame,
     scratch: &mut Scratch,
 ) -> Result<Vec<Column>, CellError>
-    requires signatures { ground.now.signatures.now ≡ S.coverages source.old }
-    requires place { FieldsHavePlace (signature_of (S.coverages source.old) ground.now.coverages.now) (length ground.now.registers.now) (map bind_view binds.now) (map field_view fields.now) frame.old }
-    ensures value { IfOk result (λ v. S.intact source.old → v.items ≡ columns_behind (cells_of (S.cells source.old) ground.now.coverages.now) ground.now.registers.now (map bind_view binds.now) (map field_view fields.now) frame.old) }
+    requires signatures { ground.now.signatures.now ≡ (S.state source.old).coverages }
+    requires place { HavePlaceOver (S.state source.old) ground.now binds.now fields.now frame.old }
+    ensures value { IfOk result (λ v. AreColumnsOf (S.state source.old) ground.now binds.now fields.now frame.old v.items) }
     ensures fields { IfOk result (λ v. length v.items ≡ length fields.now) }
     ensures places { IfOk result (λ v. HavePlaces (length frame.old) v.items) }
     ensures frame { OnOk result (frame.new ≡ frame.old) }
-    ensures rises { S.fetched source.old ≤ S.fetched source.new }
-    ensures same { Leaves (S.cells source.old) (S.cells source.new) (S.coverages source.old) (S.coverages source.new) (S.kept source.old) (S.kept source.new) }
-    ensures intact { S.intact source.old → S.intact source.new }
-    ensures reports { Reports result (S.spelled (S.kept source.old)) (S.failures source.old) (S.failures source.new) }
-    ensures fetched { OnOk result ((n : ℕ) → All (λ (e : List ℤ). n ≤ length e) frame.old → S.fetched source.new ≤ S.fetched source.old + sum_by (fetches (signature_of (S.coverages source.old) ground.now.coverages.now) n frame.old) (bodies_behind (map bind_view binds.now) (map field_view fields.now))) }
+    ensures reads { OnlyReads (S.state source.old) (S.state source.new) }
+    ensures reports { Tells S.spelled result (S.state source.old) (S.state source.new) }
+    ensures fetched { FetchAll result ground.now binds.now fields.now frame.old (S.state source.old) (S.state source.new) }
 {
     match binds {
         [] => field_columns(source, ground, fields, frame, scratch),
@@ -82,17 +74,15 @@ fn field_columns<S: Tiles>(
     frame: &mut Frame,
     scratch: &mut Scratch,
 ) -> Result<Vec<Column>, CellError>
-    requires signatures { ground.now.signatures.now ≡ S.coverages source.old }
-    requires place { FieldsHavePlace (signature_of (S.coverages source.old) ground.now.coverages.now) (length ground.now.registers.now) [] (map field_view fields.now) frame.old }
-    ensures value { IfOk result (λ v. S.intact source.old → v.items ≡ columns_behind (cells_of (S.cells source.old) ground.now.coverages.now) ground.now.registers.now [] (map field_view fields.now) frame.old) }
+    requires signatures { ground.now.signatures.now ≡ (S.state source.old).coverages }
+    requires place { HavePlaceOver (S.state source.old) ground.now [] fields.now frame.old }
+    ensures value { IfOk result (λ v. AreColumnsOf (S.state source.old) ground.now [] fields.now frame.old v.items) }
     ensures fields { IfOk result (λ v. length v.items ≡ length fields.now) }
     ensures places { IfOk result (λ v. HavePlaces (length frame.old) v.items) }
     ensures frame { OnOk result (frame.new ≡ frame.old) }
-    ensures rises { S.fetched source.old ≤ S.fetched source.new }
-    ensures same { Leaves (S.cells source.old) (S.cells source.new) (S.coverages source.old) (S.coverages source.new) (S.kept source.old) (S.kept source.new) }
-    ensures intact { S.intact source.old → S.intact source.new }
-    ensures reports { Reports result (S.spelled (S.kept source.old)) (S.failures source.old) (S.failures source.new) }
-    ensures fetched { OnOk result ((n : ℕ) → All (λ (e : List ℤ). n ≤ length e) frame.old → S.fetched source.new ≤ S.fetched source.old + sum_by (fetches (signature_of (S.coverages source.old) ground.now.coverages.now) n frame.old) (bodies_behind [] (map field_view fields.now))) }
+    ensures reads { OnlyReads (S.state source.old) (S.state source.new) }
+    ensures reports { Tells S.spelled result (S.state source.old) (S.state source.new) }
+    ensures fetched { FetchAll result ground.now [] fields.now frame.old (S.state source.old) (S.state source.new) }
 {
     let mut columns = Vec::new(scratch.alloc());
     for field in fields {
@@ -118,7 +108,7 @@ fn blank_columns(
     interval: Interval,
     scratch: &mut Scratch,
 ) -> Result<Vec<Column>, AllocError>
-    ensures { IfOk result (λ v. v.items ≡ replicate count (settled_by positions.now interval.lo interval.hi (replicate (length positions.now) (Value (pos 0))))) }
+    ensures { IfOk result (λ v. v.items ≡ replicate count (blank_by positions.now interval.lo interval.hi)) }
 {
     let mut columns = Vec::new(scratch.alloc());
     for _field in 0..count {

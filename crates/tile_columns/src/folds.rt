@@ -1,16 +1,12 @@
 //! The accumulators of a fold, one for each place of a column.
 
-ghost use Rattle.std.specs.Prelude.{◌≡◌, ℕ, ◌+◌, ◌*◌, ◌++◌, ◌<◌, ◌≤◌, ◌^◌, Bool, false, true, List, [], length, map, slice_index_or, IfOk, OnOk, IsTrue, nat_lt};
-ghost use Rattle.std.specs.List.{range_with_len};
+ghost use Rattle.std.specs.Prelude.{◌≡◌, ◌*◌, ◌++◌, ◌<◌, ◌≤◌, Bool, false, List, [], length, map, slice_index_or, IfOk, OnOk, IsTrue, nat_lt};
 ghost use Rattle.arr_core.specs.Domains.{points, count, IsInside};
 ghost use Rattle.arr_core.specs.Tiles.{tile_boxes};
-ghost use Rattle.wcps_text.specs.declared.operator.Aggregate.{Aggregate};
-ghost use Rattle.wcps_mean.specs.Condensers.{condensed};
-ghost use Rattle.tile_kernel.specs.Told.{Told, outcomes, AreRising};
 ghost use Rattle.tile_kernel.specs.Selected.{Chooses};
 ghost use Rattle.tile_kernel.specs.Standing.{EachStands, AreOf, HaveAtMost};
 ghost use Rattle.tile_columns.specs.Frames.{under};
-ghost use Rattle.tile_columns.specs.Condensing.{demands, MergesAt};
+ghost use Rattle.tile_columns.specs.Condensing.{demands, MergesAt, HasRoomAt, AreOutcomesOf};
 
 use crate::frame::Frame;
 use arr_core::Domain;
@@ -43,7 +39,7 @@ pub(crate) fn finish_folds(
     list: &mut Vec<Outcome>,
 ) -> Result<(), AllocError>
     ensures places { OnOk result (length list.new.items ≡ length folds.items) }
-    ensures value { OnOk result ((op : Aggregate) (told : ℕ → List Told) → AreOf op folds.items → EachStands folds.items told → ((k : ℕ) → k < length folds.items → AreRising (told k)) → list.new.items ≡ map (λ k. condensed op (outcomes (told k))) (range_with_len 0 (length folds.items))) }
+    ensures value { OnOk result (AreOutcomesOf folds.items list.new.items) }
 {
     list.clear();
     for accumulator in folds {
@@ -101,7 +97,7 @@ pub(crate) fn part_frame(
 pub(crate) fn merge_at(folds: &mut [Accumulator], place: usize, found: &Accumulator)
     requires place { place < length folds.old }
     requires op { AreOf found.now.running.op folds.old }
-    requires room { (d : Accumulator) → (slice_index_or folds.old place d).running.count + found.now.running.count ≤ 2 ^ 24 }
+    requires room { HasRoomAt place found.now.running.count folds.old }
     ensures { MergesAt place found.now folds.old folds.new }
 {
     folds[place].take_over(found);

@@ -1,13 +1,13 @@
 //! Frames: the numbers of a body's variables at each place of a column.
 
-ghost use Rattle.std.specs.Prelude.{◌≡◌, ℕ, ◌+◌, ◌*◌, ◌<◌, ◌≤◌, ◌^◌, ◌≤ℤ◌, ◌+ℤ◌, ℤ, pos, List, [], ◌∷◌, ◌++◌, length, take, map, slice_index_or, replicate, IsTrue, IfSome, OnOk, IfOk};
-ghost use Rattle.std.specs.List.{All, range_with_len};
+ghost use Rattle.std.specs.Prelude.{◌≡◌, ℕ, ◌+◌, ◌*◌, ◌<◌, ◌≤◌, ◌^◌, ◌≤ℤ◌, ◌+ℤ◌, ℤ, pos, List, [], ◌++◌, length, take, map, slice_index_or, replicate, IsTrue, IfSome, OnOk, IfOk};
+ghost use Rattle.std.specs.List.{All};
 ghost use Rattle.arr_core.specs.Domains.{gap, size_of, points, count, AreOrdered};
 ghost use Rattle.plan_ir.specs.Run.{number_at, numbers_at};
-ghost use Rattle.tile_columns.specs.Frames.{turn, number_of, environment, HasPlaces, under, extended, turns, TellsAt};
+ghost use Rattle.tile_columns.specs.Frames.{turn, number_of, environment, HasPlaces, under, extended, turns, TellsAt, Adds, number_there, by_place, StayWhole};
 
 use crate::numbers::fill_list;
-use arr_core::{Axis, Domain};
+use arr_core::{Axis, Domain, distance};
 use plan_ir::Index;
 use std::alloc::{AllocError, Global};
 use std::marker::Model;
@@ -41,14 +41,6 @@ impl Model for Frame {
     ghost view = { λ f. environments f.places f.variables.items };
 
     ghost invariant = { λ f. IsFrame f.places f.variables.items };
-}
-
-/// How far two coordinates are apart.
-pub(crate) fn distance(lo: i32, hi: i32) -> u64
-    ensures gap { result ≡ gap lo hi }
-    ensures small { result < 2 ^ 32 }
-{
-    (hi as i64 - lo as i64).unsigned_abs()
 }
 
 /// The coordinate of an axis at a place, where each comes so many times.
@@ -89,8 +81,8 @@ impl Variable {
 fn push_axes(variables: &mut Vec<Variable>, axes: &[Axis], total: u64) -> Result<(), AllocError>
     requires ordered { AreOrdered axes.now }
     requires counted { total ≡ count axes.now }
-    ensures numbers { OnOk result ((place : ℕ) → environment variables.new.items place ≡ environment variables.old.items place ++ turns axes.now place) }
-    ensures whole { (n : ℕ) → All (HasPlaces n) variables.old.items → All (HasPlaces n) variables.new.items }
+    ensures numbers { OnOk result (Adds (turns axes.now) variables.old.items variables.new.items) }
+    ensures whole { (n : ℕ) → StayWhole n variables.old.items variables.new.items }
 {
     match axes {
         [] => Ok(()),
@@ -105,8 +97,8 @@ fn push_axes(variables: &mut Vec<Variable>, axes: &[Axis], total: u64) -> Result
 
 /// Puts a variable at the end for each number, which it has at every place.
 fn push_numbers(variables: &mut Vec<Variable>, numbers: &[i32]) -> Result<(), AllocError>
-    ensures numbers { OnOk result ((place : ℕ) → environment variables.new.items place ≡ environment variables.old.items place ++ numbers.now) }
-    ensures whole { (n : ℕ) → All (HasPlaces n) variables.old.items → All (HasPlaces n) variables.new.items }
+    ensures numbers { OnOk result (Adds (λ _. numbers.now) variables.old.items variables.new.items) }
+    ensures whole { (n : ℕ) → StayWhole n variables.old.items variables.new.items }
 {
     for z in numbers {
         variables.push(Variable::Const(*z))?;
@@ -116,8 +108,8 @@ fn push_numbers(variables: &mut Vec<Variable>, numbers: &[i32]) -> Result<(), Al
 
 /// Puts a variable with a number for each place at the end.
 fn push_each(variables: &mut Vec<Variable>, numbers: Vec<i32>) -> Result<(), AllocError>
-    ensures numbers { OnOk result ((place : ℕ) → environment variables.new.items place ≡ environment variables.old.items place ++ slice_index_or numbers.items place (pos 0) ∷ []) }
-    ensures whole { All (HasPlaces (length numbers.items)) variables.old.items → All (HasPlaces (length numbers.items)) variables.new.items }
+    ensures numbers { OnOk result (Adds (number_there numbers.items) variables.old.items variables.new.items) }
+    ensures whole { StayWhole (length numbers.items) variables.old.items variables.new.items }
 {
     variables.push(Variable::Column(numbers))?;
     Ok(())
@@ -142,7 +134,7 @@ fn list_index(
     numbers: &mut Vec<i64>,
 ) -> Result<(), AllocError>
     requires { All (HasPlaces places) variables.now }
-    ensures { OnOk result (numbers.new.items ≡ map (λ place. number_at (environment variables.now place) index) (range_with_len 0 places)) }
+    ensures { OnOk result (numbers.new.items ≡ by_place places (λ k. number_at (environment variables.now k) index)) }
 {
     match index {
         Index::Const(z) => {
@@ -189,7 +181,7 @@ fn turns_as(variables: &[Variable], index: Index, lo: i32, hi: i32, every: u64) 
 fn turn_as(variables: &[Variable], indexes: &[Index], axes: &[Axis], total: u64) -> bool
     requires ordered { AreOrdered axes.now }
     requires counted { total ≡ count axes.now }
-    ensures { IsTrue result → (place : ℕ) → numbers_at (environment variables.now place) indexes.now ≡ turns axes.now place }
+    ensures { IsTrue result → (k : ℕ) → numbers_at (environment variables.now k) indexes.now ≡ turns axes.now k }
 {
     match axes {
         [] => indexes.is_empty(),

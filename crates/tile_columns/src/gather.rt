@@ -1,18 +1,14 @@
 //! Reads at all places of a column: each tile that holds a cell of it is fetched once.
 
-ghost use Rattle.std.specs.Prelude.{◌≡◌, ◌≢◌, ℕ, ◌+◌, ◌<◌, ◌≤◌, ℤ, pos, List, [], ◌∷◌, ◌++◌, length, map, slice_get, slice_index_or, true, IsTrue, IfSome, IfOk, OnOk, nat_eq};
-ghost use Rattle.std.specs.List.{All, list_any};
-ghost use Rattle.arr_core.specs.Domains.{points, IsInside};
-ghost use Rattle.arr_core.specs.Tiles.{tile_boxes};
+ghost use Rattle.std.specs.Prelude.{◌≡◌, ◌≢◌, ◌<◌, ◌≤◌, pos, ◌++◌, ◌∷◌, [], length, map, slice_index_or, nat_eq, IsTrue, IfSome, IfOk, OnOk};
+ghost use Rattle.std.specs.List.{list_any};
 ghost use Rattle.wcps_mean.specs.declared.cell.Outcome.TheVariants.{Value};
-ghost use Rattle.wcps_mean.specs.Reports.{Reports};
-ghost use Rattle.plan_ir.specs.Run.{numbers_at};
-ghost use Rattle.plan_ir.specs.Units.{tile_number, added, distinct};
-ghost use Rattle.tile_columns.specs.Sources.{IsRead, Leaves};
-ghost use Rattle.tile_columns.specs.Gathering.{Gathered, IsCopied, LeavesOthers, rank_in_tile};
+ghost use Rattle.tile_columns.specs.Sources.{OnlyReads, Tells, FetchesOnce};
+ghost use Rattle.tile_columns.specs.Readings.{IsThere, ReadsInside, ReadsWhole, tiles_of, AreCellsRead, IsColumnRead};
+ghost use Rattle.tile_columns.specs.Gathering.{IsSeen, HasRanks, CopiesTile, IsLocated, KeepsGathered, SeesTile, FetchesUnseen, WritesTile};
 
 use crate::frame::Frame;
-use crate::locate::locate;
+use crate::locate::{Located, locate};
 use crate::lookup::point_at;
 use crate::numbers::fill_list;
 use crate::scratch::Scratch;
@@ -44,7 +40,7 @@ fn is_seen(seen: &[u64], number: u64) -> bool
 
 /// Whether a list ends with a number.
 fn ends_with(seen: &[u64], number: u64) -> bool
-    ensures { IsTrue result → list_any (λ m. nat_eq m number) seen.now ≡ true }
+    ensures { IsTrue result → IsSeen seen.now number }
 {
     match seen {
         [] => false,
@@ -60,39 +56,32 @@ fn push_number(numbers: &mut Vec<u64>, number: u64) -> Result<(), AllocError>
     Ok(())
 }
 
-/// The places of a column: the numbers of the tiles that are read there, and the ranks in these.
-#[derive(Clone, Copy)]
-struct Places<'a> {
-    numbers: &'a [u64],
-    ranks: &'a [u64],
-}
-
 /// The cell of a place if its tile is this one, else the cell that was there.
-fn copied(places: &Places<'_>, number: u64, tile: &[i64], place: usize, before: i64) -> i64
-    requires place { place < length places.now.numbers.now }
-    requires ranks { length places.now.ranks.now ≡ length places.now.numbers.now }
-    requires inside { slice_index_or places.now.numbers.now place 0 ≡ number → slice_index_or places.now.ranks.now place 0 < length tile.now }
-    ensures copied { slice_index_or places.now.numbers.now place 0 ≡ number → result ≡ slice_index_or tile.now (slice_index_or places.now.ranks.now place 0) (pos 0) }
-    ensures kept { slice_index_or places.now.numbers.now place 0 ≢ number → result ≡ before }
+fn copied(at: Located, number: u64, tile: &[i64], before: i64) -> i64
+    requires { at.tile ≡ number → at.rank < length tile.now }
+    ensures copied { at.tile ≡ number → result ≡ slice_index_or tile.now at.rank (pos 0) }
+    ensures kept { at.tile ≢ number → result ≡ before }
 {
-    if places.numbers[place] != number {
+    if at.tile != number {
         return before;
     }
-    tile[places.ranks[place] as usize]
+    tile[at.rank as usize]
 }
 
-/// Writes the cells of all places whose tile is this one.
-fn copy_tile(places: &Places<'_>, number: u64, tile: &[i64], cells: &mut Vec<i64>)
-    requires ranks { length places.now.ranks.now ≡ length places.now.numbers.now }
-    requires cells { length cells.old.items ≡ length places.now.numbers.now }
-    requires inside { (j : ℕ) → j < length places.now.numbers.now → slice_index_or places.now.numbers.now j 0 ≡ number → slice_index_or places.now.ranks.now j 0 < length tile.now }
-    ensures places { length cells.new.items ≡ length cells.old.items }
-    ensures copied { IsCopied number (length places.now.numbers.now) places.now.numbers.now (λ j. slice_index_or tile.now (slice_index_or places.now.ranks.now j 0) (pos 0)) cells.new.items }
-    ensures kept { LeavesOthers number (length places.now.numbers.now) places.now.numbers.now cells.old.items cells.new.items }
+/// Writes the cells of all places whose tile is this one; there are the number of each place's tile and its rank in it.
+fn copy_tile(numbers: &[u64], ranks: &[u64], number: u64, tile: &[i64], cells: &mut Vec<i64>)
+    requires ranks { length ranks.now ≡ length numbers.now }
+    requires cells { length cells.old.items ≡ length numbers.now }
+    requires inside { HasRanks number numbers.now ranks.now tile.now }
+    ensures { CopiesTile number numbers.now ranks.now tile.now cells.old.items cells.new.items }
 {
     let all = cells.as_mut_slice();
-    for place in 0..places.numbers.len() {
-        all[place] = copied(places, number, tile, place, all[place]);
+    for place in 0..numbers.len() {
+        let at = Located {
+            tile: numbers[place],
+            rank: ranks[place],
+        };
+        all[place] = copied(at, number, tile, all[place]);
     }
 }
 
@@ -104,19 +93,16 @@ fn fetch_at<S: Tiles>(
     place: usize,
     scratch: &mut Scratch,
 ) -> Result<(), CellError>
-    requires there { IsRead (slice_get (S.coverages source.old) reading.now.coverage) reading.now.field reading.now.domain.now }
-    requires inside { All (λ e. IsInside reading.now.domain.now (numbers_at e reading.now.indexes.now)) frame.now }
+    requires there { IsThere (S.state source.old) reading.now }
+    requires inside { ReadsInside reading.now frame.now }
     requires place { place < length frame.now }
-    requires lists { (scratch.old.numbers.items ≡ map (λ e. tile_number reading.now.domain.now (numbers_at e reading.now.indexes.now)) frame.now) × (length scratch.old.cells.items ≡ length frame.now) }
-    requires ranks { scratch.old.ranks.items ≡ map (λ e. rank_in_tile reading.now.domain.now (numbers_at e reading.now.indexes.now)) frame.now }
-    ensures value { OnOk result (S.intact source.old → let want : ℕ → ℤ = λ j. S.cells source.old reading.now.coverage reading.now.field (numbers_at (slice_index_or frame.now j []) reading.now.indexes.now) in Gathered scratch.old.seen.items scratch.old.numbers.items want scratch.old.cells.items → Gathered scratch.new.seen.items scratch.old.numbers.items want scratch.new.cells.items) }
-    ensures lists { OnOk result ((scratch.new.numbers.items ≡ scratch.old.numbers.items) × (scratch.new.ranks.items ≡ scratch.old.ranks.items) × (length scratch.new.cells.items ≡ length scratch.old.cells.items)) }
-    ensures seen { OnOk result (scratch.new.seen.items ≡ added scratch.old.seen.items (slice_index_or scratch.old.numbers.items place 0)) }
-    ensures fetched { OnOk result (S.fetched source.new + length scratch.old.seen.items ≤ S.fetched source.old + length scratch.new.seen.items) }
-    ensures same { Leaves (S.cells source.old) (S.cells source.new) (S.coverages source.old) (S.coverages source.new) (S.kept source.old) (S.kept source.new) }
-    ensures rises { S.fetched source.old ≤ S.fetched source.new }
-    ensures intact { S.intact source.old → S.intact source.new }
-    ensures reports { Reports result (S.spelled (S.kept source.old)) (S.failures source.old) (S.failures source.new) }
+    requires located { IsLocated reading.now frame.now scratch.old }
+    ensures value { OnOk result (KeepsGathered (S.state source.old) reading.now frame.now scratch.old scratch.new) }
+    ensures located { OnOk result (IsLocated reading.now frame.now scratch.new) }
+    ensures seen { OnOk result (SeesTile place scratch.old scratch.new) }
+    ensures fetched { OnOk result (FetchesUnseen scratch.old scratch.new (S.state source.old) (S.state source.new)) }
+    ensures reads { OnlyReads (S.state source.old) (S.state source.new) }
+    ensures reports { Tells S.spelled result (S.state source.old) (S.state source.new) }
 {
     let number = scratch.numbers[place];
     if is_seen(&scratch.seen, number) {
@@ -132,17 +118,16 @@ fn fetch_at<S: Tiles>(
 fn copy_fetched(number: u64, scratch: &mut Scratch)
     requires ranks { length scratch.old.ranks.items ≡ length scratch.old.numbers.items }
     requires cells { length scratch.old.cells.items ≡ length scratch.old.numbers.items }
-    requires inside { (j : ℕ) → j < length scratch.old.numbers.items → slice_index_or scratch.old.numbers.items j 0 ≡ number → slice_index_or scratch.old.ranks.items j 0 < length scratch.old.tile.items }
-    ensures places { length scratch.new.cells.items ≡ length scratch.old.cells.items }
-    ensures copied { IsCopied number (length scratch.old.numbers.items) scratch.old.numbers.items (λ j. slice_index_or scratch.old.tile.items (slice_index_or scratch.old.ranks.items j 0) (pos 0)) scratch.new.cells.items }
-    ensures kept { LeavesOthers number (length scratch.old.numbers.items) scratch.old.numbers.items scratch.old.cells.items scratch.new.cells.items }
-    ensures lists { (scratch.new.numbers.items ≡ scratch.old.numbers.items) × (scratch.new.ranks.items ≡ scratch.old.ranks.items) × (scratch.new.seen.items ≡ scratch.old.seen.items) }
+    requires inside { HasRanks number scratch.old.numbers.items scratch.old.ranks.items scratch.old.tile.items }
+    ensures { WritesTile number scratch.old scratch.new }
 {
-    let places = Places {
-        numbers: &scratch.numbers,
-        ranks: &scratch.ranks,
-    };
-    copy_tile(&places, number, &scratch.tile, &mut scratch.cells);
+    copy_tile(
+        &scratch.numbers,
+        &scratch.ranks,
+        number,
+        &scratch.tile,
+        &mut scratch.cells,
+    );
 }
 
 /// Makes scratch cells those that are read at each place.
@@ -152,17 +137,15 @@ fn gather<S: Tiles>(
     frame: &Frame,
     scratch: &mut Scratch,
 ) -> Result<(), CellError>
-    requires there { IsRead (slice_get (S.coverages source.old) reading.now.coverage) reading.now.field reading.now.domain.now }
-    requires inside { All (λ e. IsInside reading.now.domain.now (numbers_at e reading.now.indexes.now)) frame.now }
-    ensures value { OnOk result (S.intact source.old → scratch.new.cells.items ≡ map (λ e. S.cells source.old reading.now.coverage reading.now.field (numbers_at e reading.now.indexes.now)) frame.now) }
+    requires there { IsThere (S.state source.old) reading.now }
+    requires inside { ReadsInside reading.now frame.now }
+    ensures value { OnOk result (AreCellsRead (S.state source.old) reading.now frame.now scratch.new.cells.items) }
     ensures places { OnOk result (length scratch.new.cells.items ≡ length frame.now) }
-    ensures same { Leaves (S.cells source.old) (S.cells source.new) (S.coverages source.old) (S.coverages source.new) (S.kept source.old) (S.kept source.new) }
-    ensures rises { S.fetched source.old ≤ S.fetched source.new }
-    ensures intact { S.intact source.old → S.intact source.new }
-    ensures reports { Reports result (S.spelled (S.kept source.old)) (S.failures source.old) (S.failures source.new) }
-    ensures fetched { OnOk result (S.fetched source.new ≤ S.fetched source.old + length (distinct (map (λ e. tile_number reading.now.domain.now (numbers_at e reading.now.indexes.now)) frame.now))) }
+    ensures reads { OnlyReads (S.state source.old) (S.state source.new) }
+    ensures reports { Tells S.spelled result (S.state source.old) (S.state source.new) }
+    ensures fetched { OnOk result (FetchesOnce (tiles_of reading.now frame.now) (S.state source.old) (S.state source.new)) }
 {
-    locate(reading.domain, reading.indexes, frame, scratch)?;
+    locate(reading, frame, scratch)?;
     fill_list(frame.places(), 0, &mut scratch.cells)?;
     scratch.seen.clear();
     for place in 0..frame.places() {
@@ -177,8 +160,8 @@ fn whole_tile(
     frame: &Frame,
     scratch: &mut Scratch,
 ) -> Result<Option<u64>, AllocError>
-    requires { All (λ e. IsInside reading.now.domain.now (numbers_at e reading.now.indexes.now)) frame.now }
-    ensures { IfOk result (λ o. IfSome o (λ n. (0 < length frame.now) × (n < length (tile_boxes reading.now.domain.now)) × (map (λ e. numbers_at e reading.now.indexes.now) frame.now ≡ points (slice_index_or (tile_boxes reading.now.domain.now) n [])))) }
+    requires { ReadsInside reading.now frame.now }
+    ensures { IfOk result (λ o. IfSome o (ReadsWhole reading.now frame.now)) }
 {
     if frame.places() == 0 {
         return Ok(None);
@@ -214,15 +197,13 @@ pub fn read<S: Tiles>(
     scratch: &mut Scratch,
     out: &mut Column,
 ) -> Result<(), CellError>
-    requires there { IsRead (slice_get (S.coverages source.old) reading.now.coverage) reading.now.field reading.now.domain.now }
-    requires inside { All (λ e. IsInside reading.now.domain.now (numbers_at e reading.now.indexes.now)) frame.now }
-    ensures value { OnOk result (S.intact source.old → out.new ≡ map (λ e. Value (S.cells source.old reading.now.coverage reading.now.field (numbers_at e reading.now.indexes.now))) frame.now) }
+    requires there { IsThere (S.state source.old) reading.now }
+    requires inside { ReadsInside reading.now frame.now }
+    ensures value { OnOk result (IsColumnRead (S.state source.old) reading.now frame.now out.new) }
     ensures places { OnOk result (length out.new ≡ length frame.now) }
-    ensures same { Leaves (S.cells source.old) (S.cells source.new) (S.coverages source.old) (S.coverages source.new) (S.kept source.old) (S.kept source.new) }
-    ensures rises { S.fetched source.old ≤ S.fetched source.new }
-    ensures intact { S.intact source.old → S.intact source.new }
-    ensures reports { Reports result (S.spelled (S.kept source.old)) (S.failures source.old) (S.failures source.new) }
-    ensures fetched { OnOk result (S.fetched source.new ≤ S.fetched source.old + length (distinct (map (λ e. tile_number reading.now.domain.now (numbers_at e reading.now.indexes.now)) frame.now))) }
+    ensures reads { OnlyReads (S.state source.old) (S.state source.new) }
+    ensures reports { Tells S.spelled result (S.state source.old) (S.state source.new) }
+    ensures fetched { OnOk result (FetchesOnce (tiles_of reading.now frame.now) (S.state source.old) (S.state source.new)) }
 {
     let _few = frame.places();
     let found = whole_tile(reading, frame, scratch)?;

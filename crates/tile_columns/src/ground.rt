@@ -1,15 +1,10 @@
 //! What bodies stand over.
 
-ghost use Rattle.std.specs.Prelude.{◌≡◌, ◌+◌, ◌≤◌, pos, map, length, slice_index_or, OnOk};
+ghost use Rattle.std.specs.Prelude.{◌≡◌, pos, length, slice_index_or, OnOk};
 ghost use Rattle.wcps_mean.specs.declared.cell.Outcome.TheVariants.{Value};
-ghost use Rattle.wcps_mean.specs.Reports.{Reports};
-ghost use Rattle.plan_ir.specs.Bodies.{read};
-ghost use Rattle.plan_ir.specs.Run.{numbers_at, run};
-ghost use Rattle.plan_ir.specs.Plans.{signature_of};
-ghost use Rattle.plan_ir.specs.Planned.{cells_of};
-ghost use Rattle.plan_ir.specs.Units.{tile_number, distinct, domain_of};
-ghost use Rattle.tile_columns.specs.Sources.{Leaves};
-ghost use Rattle.tile_columns.specs.Evaluating.{HasPlace};
+ghost use Rattle.tile_columns.specs.Sources.{OnlyReads, Tells};
+ghost use Rattle.tile_columns.specs.Meaning.{HasPlaceOver, IsColumnOf};
+ghost use Rattle.tile_columns.specs.BodyReads.{read_view, FetchesTilesOf};
 
 use crate::frame::Frame;
 use crate::gather::{Reading, read};
@@ -49,33 +44,37 @@ pub(crate) fn register(registers: &[Outcome], k: usize) -> Outcome
     }
 }
 
-/// Makes `out` the cells of a field at the points of the indexes; the coverage is its place among those that are chosen.
+/// A read of a body: a coverage by its place among those that are chosen, a field by its place, and an index for each axis.
+#[derive(Clone, Copy)]
+pub(crate) struct BodyRead<'a> {
+    pub coverage: usize,
+    pub field: usize,
+    pub indexes: &'a [Index],
+}
+
+/// Makes `out` the cells that a body's read gives at the places of a frame.
 pub(crate) fn read_cells<S: Tiles>(
     source: &mut S,
     ground: &Ground<'_>,
-    coverage: usize,
-    field: usize,
-    indexes: &[Index],
+    what: &BodyRead<'_>,
     frame: &Frame,
     scratch: &mut Scratch,
     out: &mut Column,
 ) -> Result<(), CellError>
-    requires signatures { ground.now.signatures.now ≡ S.coverages source.old }
-    requires place { HasPlace (signature_of (S.coverages source.old) ground.now.coverages.now) (length ground.now.registers.now) (read coverage field indexes.now) frame.now }
-    ensures value { OnOk result (S.intact source.old → out.new ≡ map (run (cells_of (S.cells source.old) ground.now.coverages.now) ground.now.registers.now (read coverage field indexes.now)) frame.now) }
+    requires signatures { ground.now.signatures.now ≡ (S.state source.old).coverages }
+    requires place { HasPlaceOver (S.state source.old) ground.now (read_view what.now) frame.now }
+    ensures value { OnOk result (IsColumnOf (S.state source.old) ground.now (read_view what.now) frame.now out.new) }
     ensures places { OnOk result (length out.new ≡ length frame.now) }
-    ensures same { Leaves (S.cells source.old) (S.cells source.new) (S.coverages source.old) (S.coverages source.new) (S.kept source.old) (S.kept source.new) }
-    ensures rises { S.fetched source.old ≤ S.fetched source.new }
-    ensures intact { S.intact source.old → S.intact source.new }
-    ensures reports { Reports result (S.spelled (S.kept source.old)) (S.failures source.old) (S.failures source.new) }
-    ensures fetched { OnOk result (S.fetched source.new ≤ S.fetched source.old + length (distinct (map (λ e. tile_number (domain_of (signature_of (S.coverages source.old) ground.now.coverages.now coverage)) (numbers_at e indexes.now)) frame.now))) }
+    ensures reads { OnlyReads (S.state source.old) (S.state source.new) }
+    ensures reports { Tells S.spelled result (S.state source.old) (S.state source.new) }
+    ensures fetched { OnOk result (FetchesTilesOf ground.now what.now frame.now (S.state source.old) (S.state source.new)) }
 {
-    let place = coverage_at(ground.coverages, coverage);
+    let place = coverage_at(ground.coverages, what.coverage);
     let reading = Reading {
         coverage: place,
-        field,
+        field: what.field,
         domain: &ground.signatures[place].domain,
-        indexes,
+        indexes: what.indexes,
     };
     read(source, &reading, frame, scratch, out)
 }

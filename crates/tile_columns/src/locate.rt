@@ -1,15 +1,14 @@
 //! Where points stand: the numbers of their tiles, and their ranks in these.
 
-ghost use Rattle.std.specs.Prelude.{◌≡◌, ℕ, ◌<◌, ◌≤◌, ◌^◌, ◌≤ℤ◌, ℤ, pos, List, length, map, replicate, slice_index_or, OnOk};
-ghost use Rattle.std.specs.List.{All};
-ghost use Rattle.arr_core.specs.Domains.{gap, IsInside};
-ghost use Rattle.plan_ir.specs.Run.{numbers_at};
-ghost use Rattle.plan_ir.specs.Units.{tile_number};
-ghost use Rattle.tile_columns.specs.Gathering.{point_of, rank_in_tile, tile_on, rank_on, tile_from, rank_from};
+ghost use Rattle.std.specs.Prelude.{◌≡◌, ◌<◌, ◌≤◌, ◌^◌, ◌≤ℤ◌, pos, length, replicate, OnOk};
+ghost use Rattle.arr_core.specs.Domains.{gap};
+ghost use Rattle.tile_columns.specs.Readings.{ReadsInside, tiles_of, ranks_of};
+ghost use Rattle.tile_columns.specs.Locating.{AreInside, tile_along, rank_along, LieAlong, CountedOn, CountsFew, HaveLength, CountedFrom, CountsFewFrom};
 
-use crate::frame::{Frame, distance};
+use crate::frame::Frame;
+use crate::gather::Reading;
 use crate::scratch::Scratch;
-use arr_core::{Axis, Domain};
+use arr_core::{Axis, distance};
 use plan_ir::Index;
 use std::alloc::AllocError;
 
@@ -23,9 +22,9 @@ struct Along {
 
 /// The number of a tile, and a rank in it.
 #[derive(Clone, Copy)]
-struct Located {
-    tile: u64,
-    rank: u64,
+pub(crate) struct Located {
+    pub tile: u64,
+    pub rank: u64,
 }
 
 /// With the coordinate of one more axis.
@@ -33,10 +32,10 @@ fn located_along(at: Located, along: Along, x: i64) -> Located
     requires edge { 0 < along.edge }
     requires last { (along.last < 2 ^ 32) × (along.edge ≤ 4096) }
     requires inside { (along.lo ≤ℤ x) × (gap along.lo x ≤ along.last) }
-    requires tile { tile_on along.edge along.last at.tile (gap along.lo x) < 2 ^ 24 }
-    requires rank { rank_on along.edge along.last at.rank (gap along.lo x) < 2 ^ 24 }
-    ensures tile { result.tile ≡ tile_on along.edge along.last at.tile (gap along.lo x) }
-    ensures rank { result.rank ≡ rank_on along.edge along.last at.rank (gap along.lo x) }
+    requires tile { tile_along along x at.tile < 2 ^ 24 }
+    requires rank { rank_along along x at.rank < 2 ^ 24 }
+    ensures tile { result.tile ≡ tile_along along x at.tile }
+    ensures rank { result.rank ≡ rank_along along x at.rank }
 {
     let above = (x - along.lo as i64) as u64;
     let step = above / along.edge;
@@ -52,12 +51,13 @@ fn located_along(at: Located, along: Along, x: i64) -> Located
 fn add_axis(along: Along, coordinates: &[i64], tiles: &mut Vec<u64>, ranks: &mut Vec<u64>)
     requires edge { 0 < along.edge }
     requires last { (along.last < 2 ^ 32) × (along.edge ≤ 4096) }
-    requires places { (length tiles.old.items ≡ length coordinates.now) × (length ranks.old.items ≡ length coordinates.now) }
-    requires inside { (k : ℕ) → k < length coordinates.now → (along.lo ≤ℤ slice_index_or coordinates.now k (pos 0)) × (gap along.lo (slice_index_or coordinates.now k (pos 0)) ≤ along.last) }
-    requires small { (k : ℕ) → k < length coordinates.now → (tile_on along.edge along.last (slice_index_or tiles.old.items k 0) (gap along.lo (slice_index_or coordinates.now k (pos 0))) < 2 ^ 24) × (rank_on along.edge along.last (slice_index_or ranks.old.items k 0) (gap along.lo (slice_index_or coordinates.now k (pos 0))) < 2 ^ 24) }
+    requires places { HaveLength (length coordinates.now) tiles.old.items ranks.old.items }
+    requires inside { LieAlong along coordinates.now }
+    requires few_tiles { CountsFew coordinates.now (pos 0) (tile_along along) tiles.old.items }
+    requires few_ranks { CountsFew coordinates.now (pos 0) (rank_along along) ranks.old.items }
     ensures places { (length tiles.new.items ≡ length tiles.old.items) × (length ranks.new.items ≡ length ranks.old.items) }
-    ensures tiles { (k : ℕ) → k < length coordinates.now → slice_index_or tiles.new.items k 0 ≡ tile_on along.edge along.last (slice_index_or tiles.old.items k 0) (gap along.lo (slice_index_or coordinates.now k (pos 0))) }
-    ensures ranks { (k : ℕ) → k < length coordinates.now → slice_index_or ranks.new.items k 0 ≡ rank_on along.edge along.last (slice_index_or ranks.old.items k 0) (gap along.lo (slice_index_or coordinates.now k (pos 0))) }
+    ensures tiles { CountedOn coordinates.now (pos 0) (tile_along along) tiles.old.items tiles.new.items }
+    ensures ranks { CountedOn coordinates.now (pos 0) (rank_along along) ranks.old.items ranks.new.items }
 {
     let numbers = tiles.as_mut_slice();
     let within = ranks.as_mut_slice();
@@ -81,12 +81,11 @@ fn add_axes(
     scratch: &mut Scratch,
 ) -> Result<(), AllocError>
     requires edge { (0 < edge) × (edge ≤ 4096) }
-    requires inside { All (λ e. IsInside axes.now (numbers_at e indexes.now)) frame.now }
-    requires places { (length scratch.old.numbers.items ≡ length frame.now) × (length scratch.old.ranks.items ≡ length frame.now) }
-    requires small { (k : ℕ) → k < length frame.now → (tile_from edge axes.now (slice_index_or scratch.old.numbers.items k 0) (point_of indexes.now frame.now k) < 2 ^ 24) × (rank_from edge axes.now (slice_index_or scratch.old.ranks.items k 0) (point_of indexes.now frame.now k) < 2 ^ 24) }
-    ensures places { OnOk result ((length scratch.new.numbers.items ≡ length frame.now) × (length scratch.new.ranks.items ≡ length frame.now)) }
-    ensures tiles { OnOk result ((k : ℕ) → k < length frame.now → slice_index_or scratch.new.numbers.items k 0 ≡ tile_from edge axes.now (slice_index_or scratch.old.numbers.items k 0) (point_of indexes.now frame.now k)) }
-    ensures ranks { OnOk result ((k : ℕ) → k < length frame.now → slice_index_or scratch.new.ranks.items k 0 ≡ rank_from edge axes.now (slice_index_or scratch.old.ranks.items k 0) (point_of indexes.now frame.now k)) }
+    requires inside { AreInside axes.now indexes.now frame.now }
+    requires places { HaveLength (length frame.now) scratch.old.numbers.items scratch.old.ranks.items }
+    requires few { CountsFewFrom edge axes.now indexes.now frame.now scratch.old }
+    ensures places { OnOk result (HaveLength (length frame.now) scratch.new.numbers.items scratch.new.ranks.items) }
+    ensures counted { OnOk result (CountedFrom edge axes.now indexes.now frame.now scratch.old scratch.new) }
 {
     match axes {
         [] => Ok(()),
@@ -131,20 +130,24 @@ fn clear_counts(len: usize, scratch: &mut Scratch) -> Result<(), AllocError>
     Ok(())
 }
 
-/// Makes `numbers` the numbers of the tiles that the indexes' points are in, place by place, and `ranks` their ranks
-/// in the boxes of these.
+/// Makes `numbers` the numbers of the tiles that are read, place by place, and `ranks` the ranks in the boxes of these.
 pub(crate) fn locate(
-    domain: &Domain,
-    indexes: &[Index],
+    reading: &Reading<'_>,
     frame: &Frame,
     scratch: &mut Scratch,
 ) -> Result<(), AllocError>
-    requires { All (λ e. IsInside domain.now (numbers_at e indexes.now)) frame.now }
-    ensures tiles { OnOk result (scratch.new.numbers.items ≡ map (λ e. tile_number domain.now (numbers_at e indexes.now)) frame.now) }
-    ensures ranks { OnOk result (scratch.new.ranks.items ≡ map (λ e. rank_in_tile domain.now (numbers_at e indexes.now)) frame.now) }
+    requires { ReadsInside reading.now frame.now }
+    ensures tiles { OnOk result (scratch.new.numbers.items ≡ tiles_of reading.now frame.now) }
+    ensures ranks { OnOk result (scratch.new.ranks.items ≡ ranks_of reading.now frame.now) }
 {
-    let axes = domain.axes();
+    let axes = reading.domain.axes();
     clear_counts(frame.places(), scratch)?;
-    add_axes(axes, domain.tile_edge(), indexes, frame, scratch)?;
+    add_axes(
+        axes,
+        reading.domain.tile_edge(),
+        reading.indexes,
+        frame,
+        scratch,
+    )?;
     Ok(())
 }

@@ -1,10 +1,11 @@
 //! Numbers of variables, points of indexes, and items of lists, at each place of a column.
 
 ghost use Rattle.std.specs.Prelude.{◌≡◌, ◌<◌, ◌≤◌, pos, List, [], length, map, slice_index_or, OnOk};
-ghost use Rattle.std.specs.List.{All};
-ghost use Rattle.arr_core.specs.Domains.{count, IsInside, rank_of};
+ghost use Rattle.arr_core.specs.Domains.{count};
 ghost use Rattle.wcps_mean.specs.declared.cell.Outcome.TheVariants.{Value};
 ghost use Rattle.plan_ir.specs.Run.{number_at, numbers_at};
+ghost use Rattle.tile_columns.specs.Locating.{AreInside};
+ghost use Rattle.tile_columns.specs.Tables.{item_at, item_of};
 
 use crate::frame::Frame;
 use crate::scratch::Scratch;
@@ -75,8 +76,8 @@ pub fn look_up(
     out: &mut Column,
 ) -> Result<(), AllocError>
     requires whole { length items.now ≡ count domain.now }
-    requires inside { All (λ e. IsInside domain.now (numbers_at e indexes.now)) frame.now }
-    ensures { OnOk result (out.new ≡ map (λ e. Value (slice_index_or items.now (rank_of domain.now (numbers_at e indexes.now)) (pos 0))) frame.now) }
+    requires inside { AreInside domain.now indexes.now frame.now }
+    ensures { OnOk result (out.new ≡ map (λ e. Value (item_at domain.now items.now indexes.now e)) frame.now) }
 {
     let _few = frame.places();
     let table = Table {
@@ -105,8 +106,8 @@ fn items_of(
     cells: &mut Vec<i64>,
 ) -> Result<(), AllocError>
     requires whole { length table.now.items.now ≡ count table.now.domain.now }
-    requires inside { All (λ e. IsInside table.now.domain.now (numbers_at e table.now.indexes.now)) frame.now }
-    ensures { OnOk result (cells.new.items ≡ map (λ e. slice_index_or table.now.items.now (rank_of table.now.domain.now (numbers_at e table.now.indexes.now)) (pos 0)) frame.now) }
+    requires inside { AreInside table.now.domain.now table.now.indexes.now frame.now }
+    ensures { OnOk result (cells.new.items ≡ map (item_of table.now) frame.now) }
 {
     cells.clear();
     for place in 0..frame.places() {

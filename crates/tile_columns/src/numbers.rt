@@ -1,17 +1,17 @@
 //! The numbers of a variable at all places.
 
-ghost use Rattle.std.specs.Prelude.{◌≡◌, ℕ, ◌+◌, ◌/◌, ◌%◌, ◌<◌, ◌≤◌, ◌^◌, ◌≤ℤ◌, ◌+ℤ◌, pos, length, map, replicate, OnOk};
-ghost use Rattle.std.specs.List.{range_with_len};
-ghost use Rattle.tile_columns.specs.Frames.{turn, number_of, HasPlaces};
+ghost use Rattle.std.specs.Prelude.{◌≡◌, ℕ, ◌+◌, ◌<◌, ◌≤◌, ◌^◌, ◌≤ℤ◌, ◌+ℤ◌, pos, length, replicate, OnOk};
+ghost use Rattle.tile_columns.specs.Frames.{turn, number_of, by_place, HasPlaces, IsTurnAt};
 
-use crate::frame::{Variable, distance};
+use crate::frame::Variable;
+use arr_core::distance;
 use std::alloc::AllocError;
 
 impl Variable {
     /// Makes a list the numbers at so many places.
     pub(crate) fn list(&self, places: usize, numbers: &mut Vec<i64>) -> Result<(), AllocError>
         requires { HasPlaces places self.now }
-        ensures { OnOk result (numbers.new.items ≡ map (λ place. number_of place self.now) (range_with_len 0 places)) }
+        ensures { OnOk result (numbers.new.items ≡ by_place places (λ k. number_of k self.now)) }
     {
         match self {
             Variable::Const(z) => {
@@ -65,7 +65,7 @@ fn turned(now: Turn, last: u64, every: u64) -> Turn
     requires times { now.times < every }
     ensures step { result.step ≤ last }
     ensures times { result.times < every }
-    ensures next { (place : ℕ) → now.step ≡ (place / every) % (last + 1) → now.times ≡ place % every → (result.step ≡ ((place + 1) / every) % (last + 1)) × (result.times ≡ (place + 1) % every) }
+    ensures next { (place : ℕ) → IsTurnAt every last place now → IsTurnAt every last (place + 1) result }
 {
     let times = now.times + 1;
     if times < every {
@@ -95,7 +95,7 @@ fn above(lo: i32, step: u64) -> i64
 fn write_turns(lo: i32, hi: i32, every: u64, numbers: &mut Vec<i64>)
     requires ordered { lo ≤ℤ hi }
     requires some { 0 < every }
-    ensures { numbers.new.items ≡ map (turn lo hi every) (range_with_len 0 (length numbers.old.items)) }
+    ensures { numbers.new.items ≡ by_place (length numbers.old.items) (turn lo hi every) }
 {
     let last = distance(lo, hi);
     let all = numbers.as_mut_slice();

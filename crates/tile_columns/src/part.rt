@@ -6,8 +6,7 @@ ghost use Rattle.arr_core.specs.Domains.{gap, size_of, points, count, AreOrdered
 ghost use Rattle.arr_core.specs.Tiles.{tile_boxes};
 ghost use Rattle.tile_columns.specs.TileOrder.{tile_of, IsPart};
 
-use crate::frame::distance;
-use arr_core::{Axis, Domain};
+use arr_core::{Axis, Domain, count_points, distance};
 use std::alloc::{AllocError, Global};
 
 /// A part of a box, and the places that its points have in the row-major list of the box's points.
@@ -24,28 +23,6 @@ fn offset(axis: &Axis, own: &Axis) -> u64
     ensures small { result < 2 ^ 32 }
 {
     distance(axis.lo, own.lo)
-}
-
-/// How many coordinates an axis has.
-fn size(axis: &Axis) -> u64
-    requires { axis.now.lo ≤ℤ axis.now.hi }
-    ensures value { result ≡ size_of axis.now }
-    ensures small { result ≤ 2 ^ 32 }
-{
-    distance(axis.lo, axis.hi) + 1
-}
-
-/// How many points the axes have.
-fn count_of(axes: &[Axis]) -> u64
-    requires ordered { AreOrdered axes.now }
-    requires few { count axes.now ≤ 2 ^ 24 }
-    ensures count { result ≡ count axes.now }
-    ensures small { result ≤ 2 ^ 24 }
-{
-    match axes {
-        [] => 1,
-        [axis, rest @ ..] => size(axis) * count_of(rest),
-    }
 }
 
 /// Puts so many places, from one on, at the end of a list.
@@ -79,11 +56,11 @@ fn push_places(
             [] => Ok(()),
             [own, part_rest @ ..] => {
                 let skipped = offset(axis, own);
-                let rows = size(own);
+                let rows = own.size();
                 if area_rest.is_empty() {
                     return push_run(list, first + skipped, rows);
                 }
-                let row = count_of(area_rest);
+                let row = count_points(area_rest);
                 for step in 0..rows {
                     push_places(list, area_rest, part_rest, first + (skipped + step) * row)?;
                 }

@@ -1,18 +1,17 @@
 //! Folds of zones, whose condition is that a body of their own points equals a key of the places around them: one pass
 //! over their box tells the accumulators of all places.
 
-ghost use Rattle.std.specs.Prelude.{◌≡◌, ℕ, ◌+◌, ◌-◌, ◌*◌, ◌<◌, ◌≤◌, ◌^◌, length, map, slice_index_or, IfSome, IfOk, OnOk, IsTrue, nat_le};
+ghost use Rattle.std.specs.Prelude.{◌≡◌, ℕ, ◌+◌, ◌-◌, ◌*◌, ◌<◌, ◌≤◌, ◌^◌, length, map, IfSome, IfOk, OnOk, IsTrue, nat_le};
 ghost use Rattle.arr_core.specs.Domains.{count};
 ghost use Rattle.wcps_text.specs.declared.operator.BinaryOperator.TheVariants.{Equal};
 ghost use Rattle.wcps_mean.specs.declared.cell.Outcome.TheVariants.{Value};
-ghost use Rattle.plan_ir.specs.Bodies.{body_view, condition_view, op2};
+ghost use Rattle.plan_ir.specs.Bodies.{body_view, op2};
 ghost use Rattle.plan_ir.specs.Variables.{is_from, is_below};
-ghost use Rattle.tile_kernel.specs.declared.accumulator.Accumulator.{Accumulator};
 ghost use Rattle.tile_kernel.specs.Columns.{outcome_at};
 ghost use Rattle.tile_kernel.specs.Keyed.{number_at};
-ghost use Rattle.tile_kernel.specs.Told.{demanded_at};
 ghost use Rattle.tile_kernel.specs.Standing.{Stands, AreOf, HaveAtMost, EachTakesIn};
-ghost use Rattle.tile_columns.specs.Zones.{compared, own_side, key_side, AreSides, IsZonal, AreShared, TakesInAt};
+ghost use Rattle.tile_columns.specs.Condensing.{HasRoomAt};
+ghost use Rattle.tile_columns.specs.Zones.{compared, HasKey, AreZonesOf, IsWhole, AreShared, TakesInKey, added_with, added_for};
 
 use crate::folds::{empty_folds, merge_at};
 use crate::frame::Frame;
@@ -47,7 +46,7 @@ fn are_many(places: usize, area: &Domain) -> bool
 /// Which side of a fold's condition is the key, where the fold is of zones, and where there are several places and many
 /// pairs of a place and a point of its box.
 pub(crate) fn zones_of(fold: &Fold, frame: &Frame) -> Option<Zones>
-    ensures { IfSome result (λ z. IsZonal (condition_view fold.now.condition) (body_view fold.now.body) (own_side z.key_first (condition_view fold.now.condition)) (key_side z.key_first (condition_view fold.now.condition)) z.key_first frame.now) }
+    ensures { IfSome result (AreZonesOf fold.now frame.now) }
 {
     let places = frame.places();
     if places < 2 {
@@ -68,7 +67,7 @@ pub(crate) fn zones_of(fold: &Fold, frame: &Frame) -> Option<Zones>
 
 /// Which side of a condition is the key, under so many variables of the places around the fold.
 fn sides(condition: &Body, depth: usize) -> Option<Zones>
-    ensures { IfSome result (λ z. AreSides depth (body_view condition.now) (own_side z.key_first (body_view condition.now)) (key_side z.key_first (body_view condition.now)) z.key_first) }
+    ensures { IfSome result (λ z. HasKey depth (body_view condition.now) z.key_first) }
 {
     match condition {
         Body::Op2(op, l, r) => match op {
@@ -81,7 +80,7 @@ fn sides(condition: &Body, depth: usize) -> Option<Zones>
 
 /// Which of the two operands of an equality is the key.
 fn either_side(l: &Body, r: &Body, depth: usize) -> Option<Zones>
-    ensures { IfSome result (λ z. AreSides depth (op2 Equal (body_view l.now) (body_view r.now)) (own_side z.key_first (op2 Equal (body_view l.now) (body_view r.now))) (key_side z.key_first (op2 Equal (body_view l.now) (body_view r.now))) z.key_first) }
+    ensures { IfSome result (λ z. HasKey depth (op2 Equal (body_view l.now) (body_view r.now)) z.key_first) }
 {
     if are_sides(l, r, depth) {
         return Some(Zones { key_first: false });
@@ -143,9 +142,8 @@ fn shared_folds(
     slots: &Slots,
     seen: &Seen<'_>,
 ) -> Result<Vec<Accumulator>, AllocError>
-    requires own { length seen.now.own.now ≡ length seen.now.column.now }
-    requires ranks { length seen.now.ranks.now ≡ length seen.now.column.now }
-    ensures { IfOk result (λ v. AreShared op slots.now seen.now.own.now seen.now.column.now seen.now.ranks.now v.items) }
+    requires { IsWhole seen.now }
+    ensures { IfOk result (λ v. AreShared op slots.now seen.now v.items) }
 {
     let _few = seen.column.len();
     let mut shared = empty_folds(alloc, op, slots.len())?;
@@ -178,9 +176,8 @@ fn compare(own: &Column, key: Outcome, key_first: bool, same: &mut Column, chose
 
 /// The accumulator of the points of a part that have a key; a fault of the comparison counts.
 fn fold_equal(op: Aggregate, key: Outcome, seen: &Seen<'_>, work: &mut Work) -> Accumulator
-    requires own { length seen.now.own.now ≡ length seen.now.column.now }
-    requires ranks { length seen.now.ranks.now ≡ length seen.now.column.now }
-    ensures stands { Stands result (demanded_at seen.now.ranks.now (map (compared seen.now.key_first key) seen.now.own.now) seen.now.column.now) }
+    requires { IsWhole seen.now }
+    ensures stands { Stands result (added_with seen.now key) }
     ensures op { result.running.op ≡ op }
     ensures count { result.running.count ≤ length seen.now.column.now }
 {
@@ -194,58 +191,51 @@ fn fold_equal(op: Aggregate, key: Outcome, seen: &Seen<'_>, work: &mut Work) -> 
     fold_column_where(op, &work.chosen, seen.column, seen.ranks)
 }
 
+/// Accumulators of the different numbers among keys, each told of the points of a part that have its number.
+#[derive(Clone, Copy)]
+pub(crate) struct Pooled<'a> {
+    pub op: Aggregate,
+    pub keys: &'a Keys,
+    pub seen: &'a Seen<'a>,
+    pub shared: &'a [Accumulator],
+}
+
 /// Tells the accumulator at a place of the points of a part that have its key: what that of its number was told, or by
 /// itself where there is none.
-fn tell_place(
-    op: Aggregate,
-    folds: &mut [Accumulator],
-    place: usize,
-    keys: &Keys,
-    shared: &[Accumulator],
-    seen: &Seen<'_>,
-    work: &mut Work,
-)
-    requires own { length seen.now.own.now ≡ length seen.now.column.now }
-    requires ranks { length seen.now.ranks.now ≡ length seen.now.column.now }
+fn tell_place(folds: &mut [Accumulator], place: usize, pool: &Pooled<'_>, work: &mut Work)
+    requires seen { IsWhole pool.now.seen.now }
     requires place { place < length folds.old }
-    requires keys { length folds.old ≡ length keys.now.column }
-    requires shared { AreShared op keys.now.slots seen.now.own.now seen.now.column.now seen.now.ranks.now shared.now }
-    requires op { AreOf op folds.old }
-    requires room { (d : Accumulator) → (slice_index_or folds.old place d).running.count + length seen.now.column.now ≤ 2 ^ 24 }
-    ensures { TakesInAt place (demanded_at seen.now.ranks.now (map (compared seen.now.key_first (outcome_at keys.now.column place)) seen.now.own.now) seen.now.column.now) (length seen.now.column.now) folds.old folds.new }
+    requires keys { length folds.old ≡ length pool.now.keys.now.column }
+    requires shared { AreShared pool.now.op pool.now.keys.now.slots pool.now.seen.now pool.now.shared.now }
+    requires op { AreOf pool.now.op folds.old }
+    requires room { HasRoomAt place (length pool.now.seen.now.column.now) folds.old }
+    ensures { TakesInKey place pool.now folds.old folds.new }
 {
-    let key = keys.column.at(place);
-    match place_of(&keys.slots, key) {
+    let shared = pool.shared;
+    let key = pool.keys.column.at(place);
+    match place_of(&pool.keys.slots, key) {
         Some(j) => merge_at(folds, place, &shared[j]),
         None => {
-            let found = fold_equal(op, key, seen, work);
+            let found = fold_equal(pool.op, key, pool.seen, work);
             merge_at(folds, place, &found);
         }
     }
 }
 
 /// Tells the accumulators of all places of the points of a part that have their keys.
-fn tell_places(
-    op: Aggregate,
-    folds: &mut [Accumulator],
-    keys: &Keys,
-    shared: &[Accumulator],
-    seen: &Seen<'_>,
-    work: &mut Work,
-)
-    requires own { length seen.now.own.now ≡ length seen.now.column.now }
-    requires ranks { length seen.now.ranks.now ≡ length seen.now.column.now }
-    requires keys { length folds.old ≡ length keys.now.column }
-    requires shared { AreShared op keys.now.slots seen.now.own.now seen.now.column.now seen.now.ranks.now shared.now }
-    requires op { AreOf op folds.old }
-    requires few { length seen.now.column.now ≤ 4096 }
-    requires room { HaveAtMost (2 ^ 24 - length seen.now.column.now) folds.old }
-    ensures told { EachTakesIn folds.old folds.new (λ k. demanded_at seen.now.ranks.now (map (compared seen.now.key_first (outcome_at keys.now.column k)) seen.now.own.now) seen.now.column.now) }
-    ensures room { (n : ℕ) → HaveAtMost n folds.old → HaveAtMost (n + length seen.now.column.now) folds.new }
-    ensures op { AreOf op folds.new }
+fn tell_places(folds: &mut [Accumulator], pool: &Pooled<'_>, work: &mut Work)
+    requires seen { IsWhole pool.now.seen.now }
+    requires keys { length folds.old ≡ length pool.now.keys.now.column }
+    requires shared { AreShared pool.now.op pool.now.keys.now.slots pool.now.seen.now pool.now.shared.now }
+    requires op { AreOf pool.now.op folds.old }
+    requires few { length pool.now.seen.now.column.now ≤ 4096 }
+    requires room { HaveAtMost (2 ^ 24 - length pool.now.seen.now.column.now) folds.old }
+    ensures told { EachTakesIn folds.old folds.new (added_for pool.now) }
+    ensures room { (n : ℕ) → HaveAtMost n folds.old → HaveAtMost (n + length pool.now.seen.now.column.now) folds.new }
+    ensures op { AreOf pool.now.op folds.new }
 {
     for place in 0..folds.len() {
-        tell_place(op, folds, place, keys, shared, seen, work);
+        tell_place(folds, place, pool, work);
     }
 }
 
@@ -257,12 +247,11 @@ pub(crate) fn tell_seen(
     seen: &Seen<'_>,
     scratch: &mut Scratch,
 ) -> Result<(), AllocError>
-    requires own { length seen.now.own.now ≡ length seen.now.column.now }
-    requires ranks { length seen.now.ranks.now ≡ length seen.now.column.now }
+    requires seen { IsWhole seen.now }
     requires keys { length folds.old ≡ length keys.now.column }
     requires op { AreOf op folds.old }
     requires room { HaveAtMost (2 ^ 24 - length seen.now.column.now) folds.old }
-    ensures told { OnOk result (EachTakesIn folds.old folds.new (λ k. demanded_at seen.now.ranks.now (map (compared seen.now.key_first (outcome_at keys.now.column k)) seen.now.own.now) seen.now.column.now)) }
+    ensures told { OnOk result (EachTakesIn folds.old folds.new (λ k. added_with seen.now (outcome_at keys.now.column k))) }
     ensures room { OnOk result ((n : ℕ) → HaveAtMost n folds.old → HaveAtMost (n + length seen.now.column.now) folds.new) }
     ensures op { OnOk result (AreOf op folds.new) }
 {
@@ -272,7 +261,13 @@ pub(crate) fn tell_seen(
         same: scratch.take_column()?,
         chosen: scratch.take_column()?,
     };
-    tell_places(op, folds, keys, &shared, seen, &mut work);
+    let pool = Pooled {
+        op,
+        keys,
+        seen,
+        shared: &shared,
+    };
+    tell_places(folds, &pool, &mut work);
     scratch.give_back(work.same);
     scratch.give_back(work.chosen);
     Ok(())

@@ -1,5 +1,5 @@
 -- The tasks of a plan before the first unit.
-use Rattle.std.proofs.Common.{◌≡◌, ℕ, zero, suc, ◌+◌, ◌<◌, ◌≤◌, max, List, [], ◌∷◌, ◌++◌, length, map, drop, refl, sym, ap, ◌∙◌, subst, arith, length-append, append_assoc, append-nil, Option, Some, None, inl, inr}
+use Rattle.std.proofs.Common.{◌≡◌, ℕ, zero, suc, ◌+◌, ◌<◌, ◌≤◌, max, List, [], ◌∷◌, ◌++◌, length, map, take, drop, refl, sym, ap, ◌∙◌, subst, arith, length-append, append_assoc, append-nil, Option, Some, None, inl, inr}
 use Rattle.std.specs.Prelude.{slice_get, IsSomeAnd, sum_by, vec_capacity, All}
 use Rattle.std.specs.List.{flat_map}
 use Rattle.std.proofs.lemmas.List.{length-map}
@@ -14,18 +14,16 @@ use Rattle.plan_ir.specs.declared.plan.Plan.{Plan}
 use Rattle.plan_ir.specs.Bodies.{Tree}
 use Rattle.plan_ir.specs.Plans.{PassTree, BindTree, FieldBody, ItemTree, StepsTree, Choice, PlanTree, signature_of, plan_view}
 use Rattle.plan_ir.specs.Placed.{PassesArePlaced, ConditionIsPlaced, AreSteps, IsChoice, IsPlan}
-use Rattle.plan_ir.specs.Planned.{planned}
 use Rattle.plan_ir.specs.Units.{item_units, steps_units, units, tile_stages, pass_stages, condition_stages, item_stages, passes_boxes, out_boxes, boxes}
 use Rattle.tile_exec.specs.declared.task.Task.{Task}
 use Rattle.tile_exec.specs.declared.begin.Listing.{Listing}
 use Rattle.tile_exec.specs.declared.state.State.{State}
 use Rattle.tile_exec.specs.Tasks.{TaskTree, pass, item, bodies_of, stages_of, pass_tasks, choice_passes, register_count, all_passes, condition_tasks, choice_outs, all_outs, tasks_of, AreReady}
-use Rattle.tile_exec.specs.Progress.{start, after_all, answer_of}
+use Rattle.tile_exec.specs.Progress.{start, after_all}
 use Rattle.tile_exec.specs.Standing.{plan_of, tasks_left, progress_of, AreTasks, IsLeft, IsBegun}
 use Rattle.tile_exec.specs.Begun.{AreFit, Lists}
 use Rattle.tile_columns.proofs.TileOrders.{tiles-few}
 use Rattle.tile_exec.proofs.Moves.{at_start, stands_start}
-use Rattle.tile_exec.proofs.Answers.{tasks_answer}
 use Rattle.tile_exec.proofs.Begun.{total}
 
 fit_front : (xs ys : List TaskTree) → AreFit (xs ++ ys) → AreFit xs
@@ -242,6 +240,10 @@ drop_zero : {X : Type 0} (xs : List X) → drop 0 xs ≡ xs
 drop_zero [] = refl
 drop_zero (x ∷ xs) = refl
 
+take_zero : {X : Type 0} (xs : List X) → take 0 xs ≡ []
+take_zero [] = refl
+take_zero (x ∷ xs) = refl
+
 left_start : (n left : ℕ) → left ≡ max n 1 → IsLeft left 0 n
 left_start zero left h = inr (refl, refl)
 left_start (suc n) left h = inl (omega (arith, h))
@@ -287,7 +289,7 @@ begun_is plan l e h list g =
       };
       plan = is;
       stands = λ s. record {
-        answer = ap (λ ts. answer_of (after_all s (progress_of e) ts)) hand ∙ ap (λ p. answer_of (after_all s p trees)) g.progress ∙ tasks_answer s tree ∙ ap (planned s) (sym is);
+        progress = g.progress ∙ sym (ap (λ k. after_all s start (take k (tasks_of (plan_of e)))) g.at ∙ ap (after_all s start) (take_zero (tasks_of (plan_of e))));
         at_hand = stands_start s e (tasks_left e) z;
       };
       boxes = ap (λ ts. drop e.tile (flat_map stages_of ts)) hand ∙ ap (λ k. drop k (flat_map stages_of trees)) z ∙ drop_zero (flat_map stages_of trees) ∙ tasks_boxes tree list.fit ∙ ap boxes (sym is);

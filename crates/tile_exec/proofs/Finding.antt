@@ -1,5 +1,5 @@
 -- The task at hand, by its place in the plan.
-use Rattle.std.proofs.Common.{◌≡◌, ℕ, zero, suc, ◌+◌, ℤ, ◌<◌, ◌≤◌, List, [], ◌∷◌, ◌++◌, length, map, get_or, take, drop, refl, sym, ap, ◌∙◌, subst, arith, Some, None}
+use Rattle.std.proofs.Common.{◌≡◌, ℕ, zero, suc, ◌+◌, ℤ, ◌<◌, ◌≤◌, List, [], ◌∷◌, ◌++◌, length, map, get_or, take, drop, refl, sym, ap, ◌∙◌, subst, arith, Option, Some, None}
 use Rattle.std.specs.Prelude.{slice_get, IsSomeAnd, IfOk, OnOk, Result, Ok, Err, sum_by}
 use Rattle.std.specs.List.{flat_map}
 use Rattle.std.proofs.lemmas.List.{length-take-le, length-drop}
@@ -9,8 +9,10 @@ use Rattle.arr_core.specs.Tiles.{tile_boxes}
 use Rattle.plan_ir.specs.declared.body.Fold.{Fold}
 use Rattle.plan_ir.specs.declared.plan.Plan.{Plan}
 use Rattle.plan_ir.specs.declared.plan.Steps.{Steps}
-use Rattle.arr_core.specs.Domains.{rank_of}
-use Rattle.plan_ir.specs.Bodies.{always}
+use Rattle.arr_core.specs.declared.signature.Signature.{Signature}
+use Rattle.arr_core.specs.Domains.{points, rank_of, IsBoxOf, AreOrdered}
+use Rattle.plan_ir.specs.Bodies.{Tree, always}
+use Rattle.plan_ir.specs.Placed.{IsPlaced, spans}
 use Rattle.plan_ir.specs.Run.{run}
 use Rattle.tile_kernel.specs.Told.{told_at, demanded_at, demanded_of}
 use Rattle.plan_ir.specs.Plans.{PlanTree, PassTree, pass_view, item_view, signature_of}
@@ -20,7 +22,9 @@ use Rattle.tile_exec.specs.declared.task.Task.{Task}
 use Rattle.tile_exec.specs.declared.task.Part.TheVariants as part
 use Rattle.tile_exec.specs.declared.state.State.{State}
 use Rattle.tile_exec.specs.Tasks.{PartTree, TaskTree, pass, condition, item, area_of, bodies_of, stages_of}
+use Rattle.tile_columns.specs.Evaluating.{HasPlace}
 use Rattle.tile_columns.specs.TileOrder.{tile_of}
+use Rattle.tile_columns.proofs.Boxes.{points_within}
 use Rattle.tile_exec.specs.Passes.{told_to_pass}
 use Rattle.tile_exec.specs.Standing.{plan_of, tasks_left, boxes_left, IsPartOf, IsTask, AreTasks, MovesOver}
 use Rattle.tile_exec.specs.Units.{first_bound, LosesFirst}
@@ -81,6 +85,10 @@ told_always s regs p (q ∷ qs) h =
 pub told_where : (s : ℕ → ℕ → List ℤ → ℤ) (regs : List Outcome) (p : PassTree) (qs : List (List ℤ)) → demanded_at (map (rank_of p.domain) qs) (map (run s regs p.condition) qs) (map (run s regs p.body) qs) ≡ flat_map (told_to_pass s regs p) qs
 told_where s regs p [] = refl
 told_where s regs p (q ∷ qs) = ap (λ l. told_to_pass s regs p q ++ l) (told_where s regs p qs)
+
+-- a body that has its place over a box has it at the points of a part
+pub placed_within : (cs : ℕ → Option Signature) (regs : ℕ) (area part : List Axis) (body : Tree) → IsPlaced cs regs (spans area) body → IsBoxOf area part → AreOrdered part → HasPlace cs regs body (points part)
+placed_within cs regs area part body h inside o = record { scope = spans area; placed = h; within = points_within area part inside o }
 
 pub ok_map : {A E : Type 0} (r : Result A E) (P Q : A → Type 0) → ((a : A) → P a → Q a) → IfOk r P → IfOk r Q
 ok_map (Ok a) P Q f h = f a h

@@ -27,7 +27,8 @@ use Rattle.tile_kernel.specs.Told.{Told, outcomes, AreRising}
 use Rattle.tile_kernel.proofs.Faults.{fault_in_order}
 use Rattle.tile_columns.specs.TileOrder.{points_to}
 use Rattle.tile_columns.specs.Fields.{behind}
-use Rattle.tile_exec.specs.Items.{row, value_of, row_cells, all_cells, told_to_item, places_of, Fills}
+use Rattle.tile_exec.specs.declared.task.First.{First}
+use Rattle.tile_exec.specs.Items.{row, value_of, row_cells, all_cells, told_to_item, places_of, cell_count, Fills}
 use Rattle.tile_columns.proofs.TileOrders.{told_all, points_by_place}
 use Rattle.tile_exec.proofs.Passes.{outcomes-append}
 use Rattle.tile_exec.proofs.Written.{all_written}
@@ -172,9 +173,9 @@ length_rows s regs i (q ∷ qs) =
     omega (arith, a, b, c, d)
 
 -- cells that are filled at all tiles are those of the item
-pub filled : (s : ℕ → ℕ → List ℤ → ℤ) (regs : List Outcome) (i : ItemTree) (cells : List Cell) (fault : Option PointFault) (place : ℕ) → IsDomain i.domain → length cells ≡ count i.domain * length i.fields
-    → Fills s regs i (length (tile_boxes i.domain)) cells fault place → cells ≡ all_cells s regs i
-filled s regs i cells fault place d long h =
+pub filled : (s : ℕ → ℕ → List ℤ → ℤ) (regs : List Outcome) (i : ItemTree) (cells : List Cell) (first : First) → IsDomain i.domain → length cells ≡ cell_count i
+    → Fills s regs i (length (tile_boxes i.domain)) cells first → cells ≡ all_cells s regs i
+filled s regs i cells first d long h =
     let n = count i.domain in
     let m = length i.fields in
     let all = all_cells s regs i in
@@ -187,13 +188,13 @@ filled s regs i cells fault place d long h =
     all_written all cells (long ∙ sym same) (λ k lt. let z : 0 + k ≡ k = omega arith in subst P (get_or-range_with_len 0 (n * m) k 0 (omega (arith, lt, same)) ∙ z) (w k 0 (omega (arith, lt, same, count))))
 
 -- the first fault of all tiles is the item's
-pub faulted : (s : ℕ → ℕ → List ℤ → ℤ) (regs : List Outcome) (i : ItemTree) (cells : List Cell) (fault : Option PointFault) (place : ℕ) → IsDomain i.domain
-    → Fills s regs i (length (tile_boxes i.domain)) cells fault place → fault ≡ first_fault (flat_map (row s regs i) (points i.domain))
-faulted s regs i cells fault place d h =
+pub faulted : (s : ℕ → ℕ → List ℤ → ℤ) (regs : List Outcome) (i : ItemTree) (cells : List Cell) (first : First) → IsDomain i.domain
+    → Fills s regs i (length (tile_boxes i.domain)) cells first → first.fault ≡ first_fault (flat_map (row s regs i) (points i.domain))
+faulted s regs i cells first d h =
     let g = told_to_item s regs i in
     let ordered = flat_map g (points i.domain) in
     let rising : AreRising ordered = subst (λ l. AreRising (flat_map g l)) (sym (points_by_place i.domain)) (item_rising s regs i 0 (count i.domain) (omega arith)).0 in
-    fault_in_order fault place (flat_map g (points_to i.domain (length (tile_boxes i.domain)))) ordered h.first (told_all g i.domain d.ordered) rising ∙ ap first_fault (item_outcomes s regs i (points i.domain))
+    fault_in_order first.fault first.place (flat_map g (points_to i.domain (length (tile_boxes i.domain)))) ordered h.first (told_all g i.domain d.ordered) rising ∙ ap first_fault (item_outcomes s regs i (points i.domain))
 
 -- the item of these cells, or the fault
 abbrev pub item_or : Option PointFault → Item → Result Item PointFault
@@ -205,11 +206,11 @@ told None i cells = refl
 told (Some f) i cells = refl
 
 -- an item that was told all tiles is the planned one
-pub item_told : (s : ℕ → ℕ → List ℤ → ℤ) (regs : List Outcome) (i : ItemTree) (cells : List Cell) (fault : Option PointFault) (place : ℕ) → IsDomain i.domain → 0 < length i.fields → length cells ≡ count i.domain * length i.fields
-    → Fills s regs i (length (tile_boxes i.domain)) cells fault place → item_planned s regs i ≡ item_or fault (record { line = line_of i.domain; fields = field_count (length i.fields); cells = cells })
-item_told s regs i cells fault place d some long h =
+pub item_told : (s : ℕ → ℕ → List ℤ → ℤ) (regs : List Outcome) (i : ItemTree) (cells : List Cell) (first : First) → IsDomain i.domain → 0 < length i.fields → length cells ≡ cell_count i
+    → Fills s regs i (length (tile_boxes i.domain)) cells first → item_planned s regs i ≡ item_or first.fault (record { line = line_of i.domain; fields = field_count (length i.fields); cells = cells })
+item_told s regs i cells first d some long h =
     let go : List Cell → Result Item PointFault = λ l. Ok (record { line = line_of i.domain; fields = field_count (length i.fields); cells = l }) in
     ap (λ r. then_of r go) (joined_points s regs i (points i.domain) some)
-    ∙ ap (λ f. then_of (unless f (all_cells s regs i)) go) (sym (faulted s regs i cells fault place d h))
-    ∙ ap (λ l. then_of (unless fault l) go) (sym (filled s regs i cells fault place d long h))
-    ∙ told fault i cells
+    ∙ ap (λ f. then_of (unless f (all_cells s regs i)) go) (sym (faulted s regs i cells first d h))
+    ∙ ap (λ l. then_of (unless first.fault l) go) (sym (filled s regs i cells first d long h))
+    ∙ told first.fault i cells

@@ -27,7 +27,7 @@ use Rattle.tile_exec.specs.Progress.{read_by, after_part, after_condition, after
 use Rattle.tile_columns.specs.TileOrder.{points_to, tile_of}
 use Rattle.tile_exec.specs.Passes.{told_to_pass}
 use Rattle.tile_exec.specs.Standing.{plan_of, tasks_left, progress_of, HasRoom, IsSound, IsUnder, IsAt, HasCells, AtItem, AtPart, AtTask, AreTasks}
-use Rattle.tile_exec.specs.Units.{Fits, FitsPart, Tells, TellsPart, IsLast, IsNotGiven, AfterSkipped, LosesFirst, Keeps}
+use Rattle.tile_exec.specs.Units.{Fits, FitsPart, TellsTask, TellsPart, IsLast, IsNotGiven, AfterSkipped, LosesFirst, Keeps}
 use Rattle.tile_columns.proofs.TileOrders.{told_more, points_more, points_few, tiles-few}
 use Rattle.tile_exec.proofs.Moves.{drop_none, stages_more, GoesOn, GoesFurther, sound_next, stands_next, boxes_next, sound_further, stands_further, boxes_further, at_hand, stands_at}
 use Rattle.tile_exec.proofs.Passes.{passed}
@@ -113,7 +113,7 @@ pass_further e a m l sound fits left op counted stands =
           let regs = read_by x.task e.registers.items in
           let told = λ (k : ℕ). flat_map (told_to_pass c regs p) (points_to p.domain k) in
           let now : AtPart c regs e (pass p) = subst (AtPart c regs e) x.is (stands_at s e x.task x.tasks x.hand st) in
-          let here : TellsPart c regs e.tile (pass p) (found.Pass a) = subst (λ q. TellsPart c regs e.tile q (found.Pass a)) x.is (subst (λ l. Tells s e l (found.Pass a)) x.hand t) in
+          let here : TellsPart c regs e.tile (pass p) (found.Pass a) = subst (λ q. TellsPart c regs e.tile q (found.Pass a)) x.is (subst (λ l. TellsTask s e l (found.Pass a)) x.hand t) in
           let all = subst (Stands m) (sym (told_more (told_to_pass c regs p) p.domain e.tile u.0)) (stands told (flat_map (told_to_pass c regs p) (points (tile_of p.domain e.tile))) refl now here) in
           stands_further s e d x.task x.tasks g (subst (AtPart c regs d) (sym x.is) (λ k. all)) st;
     }
@@ -150,7 +150,7 @@ pass_next e a m w v o l sound fits left op stands comes items room =
           let regs = read_by x.task e.registers.items in
           let told = λ (k : ℕ). flat_map (told_to_pass c regs p) (points_to p.domain k) in
           let now : AtPart c regs e (pass p) = subst (AtPart c regs e) x.is (stands_at s e x.task x.tasks x.hand st) in
-          let here : TellsPart c regs e.tile (pass p) (found.Pass a) = subst (λ q. TellsPart c regs e.tile q (found.Pass a)) x.is (subst (λ l. Tells s e l (found.Pass a)) x.hand t) in
+          let here : TellsPart c regs e.tile (pass p) (found.Pass a) = subst (λ q. TellsPart c regs e.tile q (found.Pass a)) x.is (subst (λ l. TellsTask s e l (found.Pass a)) x.hand t) in
           let all = subst (Stands m) (sym (told_more (told_to_pass c regs p) p.domain e.tile u.0)) (stands told (flat_map (told_to_pass c regs p) (points (tile_of p.domain e.tile))) refl now here) in
           let whole = subst (λ k. Stands m (told k)) x.last_tile all in
           let out : o ≡ pass_outcome c regs p = passed c regs p o (pass_domain e true a x sound) (subst (λ q. ComesTo q (told (length (tile_boxes p.domain))) o) (op ∙ x.op) (comes (told (length (tile_boxes p.domain))) whole)) in
@@ -233,7 +233,7 @@ condition_next e o st l sound x left tested =
       stands = λ s stands t.
           let c = cells_of s x.task.coverages in
           let regs = read_by x.task e.registers.items in
-          let here : o ≡ run c regs x.tree [] = subst (λ q. TellsPart c regs e.tile q (found.Condition o)) x.is (subst (λ l. Tells s e l (found.Condition o)) x.hand t) in
+          let here : o ≡ run c regs x.tree [] = subst (λ q. TellsPart c regs e.tile q (found.Condition o)) x.is (subst (λ l. TellsTask s e l (found.Condition o)) x.hand t) in
           stands_next s e d x.task x.tasks g (ap (λ x. record { registers = e.registers.items; items = e.items.items; status = x }) (tested ∙ ap (after_condition e.status) here) ∙ ap (after_part c regs (progress_of e)) (sym x.is)) stands;
     }
 
@@ -269,7 +269,7 @@ idle e l sound left none =
       plan = refl;
       left = left;
       boxes = subst (λ bs. LosesFirst bs bs) (sym empty) refl;
-      stands = λ s st t. record { answer = st.answer; at_hand = subst (AtTask s d) (sym none) tt };
+      stands = λ s st t. record { progress = st.progress; at_hand = subst (AtTask s d) (sym none) tt };
     }
 
 -- the task at hand is an item that is not given

@@ -1,5 +1,5 @@
 -- What is kept of a tile of an item.
-use Rattle.std.proofs.Common.{◌≡◌, ℕ, zero, suc, ◌+◌, ◌*◌, ◌<◌, ◌≤◌, List, [], ◌∷◌, ◌++◌, length, map, ℤ, refl, sym, ap, ◌∙◌, subst, arith, Bool, true, false, Option, Some, None, Vec, Global, ◌⊎◌, inl, inr, length-append}
+use Rattle.std.proofs.Common.{◌≡◌, ℕ, zero, suc, ◌+◌, ◌<◌, ◌≤◌, List, [], ◌∷◌, ◌++◌, length, ℤ, refl, sym, ap, ◌∙◌, subst, arith, Bool, true, false, Option, Some, None, Vec, Global, ◌⊎◌, inl, inr, length-append}
 use Rattle.std.specs.Prelude.{vec_capacity, slice_get, Ok, Err}
 use Rattle.std.specs.List.{All, flat_map}
 use Rattle.std.proofs.lemmas.List.Elements.{All-nil}
@@ -12,7 +12,7 @@ use Rattle.wcps_mean.specs.declared.item.Item.{Item}
 use Rattle.wcps_mean.specs.Answer.{field_count}
 use Rattle.plan_ir.specs.Plans.{ItemTree, signature_of}
 use Rattle.plan_ir.specs.Planned.{item_planned, cells_of}
-use Rattle.tile_kernel.specs.Told.{Told, IsFirst}
+use Rattle.tile_kernel.specs.Joins.{HoldsOfBoth}
 use Rattle.tile_exec.specs.declared.task.Status.{Status}
 use Rattle.tile_exec.specs.declared.task.Status.TheVariants.{Giving}
 use Rattle.tile_exec.specs.declared.task.First.{First}
@@ -22,9 +22,9 @@ use Rattle.tile_exec.specs.declared.state.State.{State}
 use Rattle.tile_exec.specs.Tasks.{PartTree, TaskTree, pass, condition, item, area_of, IsPartPlaced, registers_made}
 use Rattle.tile_exec.specs.Progress.{read_by, after_part, after_item}
 use Rattle.tile_columns.specs.TileOrder.{points_to, tile_of}
-use Rattle.tile_exec.specs.Items.{Fills, all_cells, told_to_item, places_of, AreWritten}
+use Rattle.tile_exec.specs.Items.{Fills, all_cells, told_to_item, places_of, AreWritten, AreWrittenTo, cell_count, IsFirstOf}
 use Rattle.tile_exec.specs.Standing.{plan_of, tasks_left, progress_of, HasRoom, IsSound, IsUnder, HasCells, AtItem, AtPart}
-use Rattle.tile_exec.specs.Units.{Fits, FitsPart, FitsItem, Tells, TellsPart, TellsItem, IsLast, GivesBy, Gives, Keeps}
+use Rattle.tile_exec.specs.Units.{Fits, FitsPart, FitsItem, BeginsTile, TellsTask, TellsPart, TellsItem, IsLast, GivesBy, Gives, Keeps}
 use Rattle.tile_columns.proofs.TileOrders.{told_more}
 use Rattle.tile_exec.proofs.Moves.{GoesOn, GoesFurther, sound_next, stands_next, boxes_next, sound_further, stands_further, boxes_further, at_hand, stands_at}
 use Rattle.tile_exec.proofs.Keeping.{placed_at}
@@ -54,10 +54,10 @@ pub item_at : (e : State) (last : Bool) (x : ItemTile) → Fits e (tasks_left e)
 item_at e last x f = item_among e last x (tasks_left e) refl f
 
 -- where the item is given, what holds of it by its status
-cells_given : (i : ItemTree) (e : State) (st : Status) → st ≡ Giving → HasCells i e st → 0 < e.tile → length e.cells.items ≡ count i.domain * length i.fields
+cells_given : (i : ItemTree) (e : State) (st : Status) → st ≡ Giving → HasCells i e st → 0 < e.tile → length e.cells.items ≡ cell_count i
 cells_given i e st g h = subst (HasCells i e) g h
 
-pub item_under : (e : State) (last : Bool) (x : ItemTile) (a : ItemAt e last x) → IsSound e → (e.tile < length (tile_boxes a.tree.domain)) × (0 < e.tile → length e.cells.items ≡ count a.tree.domain * length a.tree.fields)
+pub item_under : (e : State) (last : Bool) (x : ItemTile) (a : ItemAt e last x) → IsSound e → (e.tile < length (tile_boxes a.tree.domain)) × (0 < e.tile → length e.cells.items ≡ cell_count a.tree)
 item_under e last x a sound =
     let h = at_hand e a.task a.tasks a.hand sound in
     let u : IsUnder (item a.tree) e = subst (λ p. IsUnder p e) a.is h.1 in
@@ -74,7 +74,7 @@ some_or_zero (suc n) = inr (omega arith)
 
 -- how many cells there are before a tile
 pub cells_before : (e : State) (last : Bool) (x : ItemTile) (a : ItemAt e last x) (before : List Cell) → IsSound e
-    → (0 < e.tile → before ≡ e.cells.items) → (e.tile ≡ 0 → before ≡ x.fresh.items) → length before ≡ count a.tree.domain * length a.tree.fields
+    → (0 < e.tile → before ≡ e.cells.items) → (e.tile ≡ 0 → before ≡ x.fresh.items) → length before ≡ cell_count a.tree
 cells_before e last x a before sound kept fresh =
     elim (some_or_zero e.tile) [
       | inl z ↦ ap length (fresh z) ∙ a.fits.fresh z
@@ -86,17 +86,17 @@ pub record ItemKept (e : State) (x : ItemTile) (before cells : List Cell) (first
   pub kept : 0 < e.tile → before ≡ e.cells.items
   pub fresh : e.tile ≡ 0 → before ≡ x.fresh.items
   pub long : length cells ≡ length before
-  pub written : (all : List Cell) (places : List ℕ) → All (λ (w : ℕ × Cell). slice_get all w.0 ≡ Some w.1) x.written.items → AreWritten all before places → AreWritten all cells (places ++ map (λ (w : ℕ × Cell). w.0) x.written.items)
-  pub begun : (told : ℕ → List Told) → told 0 ≡ [] → (0 < e.tile → IsFirst e.first.fault e.first.place (told e.tile)) → IsFirst first.fault first.place (told e.tile)
-  pub joined : (told more : List Told) → IsFirst first.fault first.place told → IsFirst x.first.fault x.first.place more → IsFirst now.fault now.place (told ++ more)
+  pub written : AreWrittenTo before cells x.written.items
+  pub begun : BeginsTile e.tile (IsFirstOf e.first) (IsFirstOf first)
+  pub joined : HoldsOfBoth (IsFirstOf first) (IsFirstOf x.first) (IsFirstOf now)
 
-item_given : (s : ℕ → ℕ → List ℤ → ℤ) (regs : List Outcome) (i : ItemTree) (e : State) (st : Status) → st ≡ Giving → AtItem s regs i e st → 0 < e.tile → Fills s regs i e.tile e.cells.items e.first.fault e.first.place
+item_given : (s : ℕ → ℕ → List ℤ → ℤ) (regs : List Outcome) (i : ItemTree) (e : State) (st : Status) → st ≡ Giving → AtItem s regs i e st → 0 < e.tile → Fills s regs i e.tile e.cells.items e.first
 item_given s regs i e st g h = subst (AtItem s regs i e) g h
 
 -- the cells and the first fault after one more tile
 fills_more : (s : ℕ → ℕ → List ℤ → ℤ) (regs : List Outcome) (i : ItemTree) (e : State) (x : ItemTile) (before cells : List Cell) (first now : First) → e.tile < length (tile_boxes i.domain)
-    → (0 < e.tile → Fills s regs i e.tile e.cells.items e.first.fault e.first.place) → TellsItem s regs i e.tile x → ItemKept e x before cells first now
-    → Fills s regs i (e.tile + 1) cells now.fault now.place
+    → (0 < e.tile → Fills s regs i e.tile e.cells.items e.first) → TellsItem s regs i e.tile x → ItemKept e x before cells first now
+    → Fills s regs i (e.tile + 1) cells now
 fills_more s regs i e x before cells first now lt h t k =
     let told = λ (n : ℕ). flat_map (told_to_item s regs i) (points_to i.domain n) in
     let places = λ (n : ℕ). flat_map (places_of i) (points_to i.domain n) in
@@ -108,24 +108,24 @@ fills_more s regs i e x before cells first now lt h t k =
     let is = k.written all (places e.tile) t.cells was in
     record {
       written = subst (AreWritten all cells) (ap (λ l. places e.tile ++ l) t.places ∙ sym (told_more (places_of i) i.domain e.tile lt)) is;
-      first = subst (IsFirst now.fault now.place) (sym (told_more (told_to_item s regs i) i.domain e.tile lt))
+      first = subst (IsFirstOf now) (sym (told_more (told_to_item s regs i) i.domain e.tile lt))
           (k.joined (told e.tile) (flat_map (told_to_item s regs i) (points (tile_of i.domain e.tile))) (k.begun told refl (λ some. (h some).first)) t.first);
     }
 
 pub filled_at : (e : State) (last : Bool) (x : ItemTile) (a : ItemAt e last x) (before cells : List Cell) (first now : First) (s : ℕ → ℕ → List ℤ → ℤ) → IsSound e → ItemKept e x before cells first now
-    → AtPart (cells_of s a.task.coverages) (read_by a.task e.registers.items) e a.task.part → Tells s e (tasks_left e) (found.Item x)
-    → Fills (cells_of s a.task.coverages) (read_by a.task e.registers.items) a.tree (e.tile + 1) cells now.fault now.place
+    → AtPart (cells_of s a.task.coverages) (read_by a.task e.registers.items) e a.task.part → TellsTask s e (tasks_left e) (found.Item x)
+    → Fills (cells_of s a.task.coverages) (read_by a.task e.registers.items) a.tree (e.tile + 1) cells now
 filled_at e last x a before cells first now s sound k at t =
     let c = cells_of s a.task.coverages in
     let regs = read_by a.task e.registers.items in
     let was : AtPart c regs e (item a.tree) = subst (AtPart c regs e) a.is at in
-    let here : TellsPart c regs e.tile (item a.tree) (found.Item x) = subst (λ q. TellsPart c regs e.tile q (found.Item x)) a.is (subst (λ l. Tells s e l (found.Item x)) a.hand t) in
+    let here : TellsPart c regs e.tile (item a.tree) (found.Item x) = subst (λ q. TellsPart c regs e.tile q (found.Item x)) a.is (subst (λ l. TellsTask s e l (found.Item x)) a.hand t) in
     fills_more c regs a.tree e x before cells first now (item_under e last x a sound).0 (item_given c regs a.tree e e.status a.fits.giving was) here k
 
-by_status : (i : ItemTree) (e : State) (st : Status) → st ≡ Giving → (0 < e.tile → length e.cells.items ≡ count i.domain * length i.fields) → HasCells i e st
+by_status : (i : ItemTree) (e : State) (st : Status) → st ≡ Giving → (0 < e.tile → length e.cells.items ≡ cell_count i) → HasCells i e st
 by_status i e st g h = subst (HasCells i e) (sym g) h
 
-at_by_status : (s : ℕ → ℕ → List ℤ → ℤ) (regs : List Outcome) (i : ItemTree) (e : State) (st : Status) → st ≡ Giving → (0 < e.tile → Fills s regs i e.tile e.cells.items e.first.fault e.first.place) → AtItem s regs i e st
+at_by_status : (s : ℕ → ℕ → List ℤ → ℤ) (regs : List Outcome) (i : ItemTree) (e : State) (st : Status) → st ≡ Giving → (0 < e.tile → Fills s regs i e.tile e.cells.items e.first) → AtItem s regs i e st
 at_by_status s regs i e st g h = subst (AtItem s regs i e) (sym g) h
 
 -- the executor after one more tile of an item that has more
@@ -206,9 +206,9 @@ item_next e d x before v first now l sound fits left k gives =
           let c = cells_of s a.task.coverages in
           let regs = read_by a.task e.registers.items in
           let fills = filled_at e true x a before v.items first now s sound k (stands_at s e a.task a.tasks a.hand st) t in
-          let whole : Fills c regs i (length (tile_boxes i.domain)) v.items now.fault now.place = subst (λ n. Fills c regs i n v.items now.fault now.place) a.last_tile fills in
+          let whole : Fills c regs i (length (tile_boxes i.domain)) v.items now = subst (λ n. Fills c regs i n v.items now) a.last_tile fills in
           let planned : item_planned c regs i ≡ item_or now.fault (record { line = x.line; fields = x.fields; cells = v.items }) =
-          item_told c regs i v.items now.fault now.place placed.0 placed.1 long whole
+          item_told c regs i v.items now placed.0 placed.1 long whole
           ∙ ap (λ n. item_or now.fault (record { line = n; fields = field_count (length i.fields); cells = v.items })) (sym a.fits.line)
           ∙ ap (λ n. item_or now.fault (record { line = x.line; fields = n; cells = v.items })) (sym a.fits.fields) in
           stands_next s e d a.task a.tasks g (progress_given now.fault old d x.line x.fields gives.by gives.registers a.fits.giving ∙ ap (after_item (progress_of e) e.status) (sym planned) ∙ ap (after_part c regs (progress_of e)) (sym a.is)) st;

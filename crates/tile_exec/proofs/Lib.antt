@@ -9,3 +9,4 @@ pub mod Items
 pub mod KeepingItems
 pub mod Begun
 pub mod Beginning
+pub mod Ending

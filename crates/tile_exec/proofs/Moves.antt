@@ -1,5 +1,5 @@
 -- From one unit to the next.
-use Rattle.std.proofs.Common.{◌≡◌, ℕ, zero, suc, ◌+◌, ◌<◌, ◌≤◌, List, [], ◌∷◌, ◌++◌, length, ℤ, drop, refl, sym, ap, ◌∙◌, subst, arith, length-append, inl, inr}
+use Rattle.std.proofs.Common.{◌≡◌, ℕ, zero, suc, ◌+◌, ◌<◌, ◌≤◌, List, [], ◌∷◌, ◌++◌, length, take, drop, refl, sym, ap, ◌∙◌, subst, arith, length-append, inl, inr}
 use Rattle.std.specs.Prelude.{vec_capacity}
 use Rattle.std.specs.List.{flat_map}
 use Rattle.std.proofs.lemmas.List.{length-map}
@@ -8,17 +8,24 @@ use Rattle.arr_core.specs.Tiles.{tile_boxes}
 use Rattle.wcps_mean.specs.declared.cell.Outcome.{Outcome}
 use Rattle.plan_ir.specs.declared.plan.Plan.{Plan}
 use Rattle.plan_ir.specs.Plans.{ItemTree, plan_view}
-use Rattle.plan_ir.specs.Planned.{planned, cells_of}
+use Rattle.plan_ir.specs.Planned.{cells_of}
 use Rattle.plan_ir.specs.Units.{Stage}
 use Rattle.tile_exec.specs.declared.task.Status.{Status}
 use Rattle.tile_exec.specs.declared.task.Status.TheVariants.{Giving, Skipping, Failed}
 use Rattle.tile_exec.specs.declared.task.Task.{Task}
 use Rattle.tile_exec.specs.declared.state.State.{State}
-use Rattle.tile_exec.specs.Tasks.{PartTree, TaskTree, pass, condition, item, area_of, stages_of, registers_made, tasks_of, AreReady}
-use Rattle.tile_exec.specs.Progress.{read_by, after, after_all, answer_of}
-use Rattle.tile_exec.specs.Standing.{plan_of, tasks_left, boxes_left, progress_of, AtItem, AtPart, AtTask, StandsFor, HasCells, IsUnder, IsAt, AreTasks, IsLeft, HasRoom, IsSound}
+use Rattle.tile_exec.specs.Tasks.{Cells, PartTree, TaskTree, pass, condition, item, area_of, stages_of, registers_made, tasks_of, AreReady}
+use Rattle.tile_exec.specs.Progress.{start, read_by, after, after_all}
+use Rattle.tile_exec.specs.Standing.{plan_of, tasks_done, tasks_left, boxes_left, progress_of, AtItem, AtPart, AtTask, StandsFor, HasCells, IsUnder, IsAt, AreTasks, IsLeft, HasRoom, IsSound}
 use Rattle.tile_exec.specs.Units.{LosesFirst}
 use Rattle.tile_columns.proofs.TileOrders.{tiles-pos}
+use Rattle.tile_exec.proofs.Answers.{after_append}
+
+take_next : {X : Type 0} (n : ℕ) (xs : List X) (y : X) (ys : List X) → drop n xs ≡ y ∷ ys → take (n + 1) xs ≡ take n xs ++ y ∷ []
+take_next zero [] y ys h = cc
+take_next (suc n) [] y ys h = cc
+take_next zero (x ∷ xs) y ys h = let e : x ≡ y = cc in ap (λ z. z ∷ []) e
+take_next (suc n) (x ∷ xs) y ys h = let e : suc n + 1 ≡ suc (n + 1) = omega arith in ap (λ k. take k (x ∷ xs)) e ∙ ap (λ l. x ∷ l) (take_next n xs y ys h)
 
 drop_next : {X : Type 0} (n : ℕ) (xs : List X) (y : X) (ys : List X) → drop n xs ≡ y ∷ ys → drop (n + 1) xs ≡ ys
 drop_next zero [] y ys h = cc
@@ -70,17 +77,17 @@ pub at_start : (ts : List TaskTree) (e : State) → e.tile ≡ 0 → IsAt ts e
 at_start [] e z = z
 at_start (t ∷ ts) e z = ((let k = tiles-pos (area_of t.part) in omega (arith, k, z)), under_start t.part e z)
 
-item_start : (s : ℕ → ℕ → List ℤ → ℤ) (regs : List Outcome) (i : ItemTree) (e : State) (st : Status) → e.tile ≡ 0 → AtItem s regs i e st
+item_start : (s : Cells) (regs : List Outcome) (i : ItemTree) (e : State) (st : Status) → e.tile ≡ 0 → AtItem s regs i e st
 item_start s regs i e Giving z = λ lt. absurd (omega arith)
 item_start s regs i e Skipping z = tt
 item_start s regs i e (Failed f) z = tt
 
-part_start : (s : ℕ → ℕ → List ℤ → ℤ) (regs : List Outcome) (e : State) (p : PartTree) → e.tile ≡ 0 → AtPart s regs e p
+part_start : (s : Cells) (regs : List Outcome) (e : State) (p : PartTree) → e.tile ≡ 0 → AtPart s regs e p
 part_start s regs e (pass p) z = λ lt. absurd (omega arith)
 part_start s regs e (condition c) z = tt
 part_start s regs e (item i) z = item_start s regs i e e.status z
 
-pub stands_start : (s : ℕ → ℕ → List ℤ → ℤ) (e : State) (ts : List TaskTree) → e.tile ≡ 0 → AtTask s e ts
+pub stands_start : (s : Cells) (e : State) (ts : List TaskTree) → e.tile ≡ 0 → AtTask s e ts
 stands_start s e [] z = tt
 stands_start s e (t ∷ ts) z = part_start (cells_of s t.coverages) (read_by t e.registers.items) e t.part z
 
@@ -119,16 +126,11 @@ sound_next e d t ts g n room h =
           (elim more [ inl e1 ↦ inl (omega (arith, e1, k, l, z, last)) | inr e2 ↦ (let e3 = e2.0 in absurd (omega (arith, e3, k, some))) ]);
     }
 
-pub stands_next : (s : ℕ → ℕ → List ℤ → ℤ) (e d : State) (t : TaskTree) (ts : List TaskTree) → GoesOn e d t ts → progress_of d ≡ after s (progress_of e) t → StandsFor s e → StandsFor s d
+pub stands_next : (s : Cells) (e d : State) (t : TaskTree) (ts : List TaskTree) → GoesOn e d t ts → progress_of d ≡ after s (progress_of e) t → StandsFor s e → StandsFor s d
 stands_next s e d t ts g p st =
-    let next = left_next e d t ts g in
+    let done : tasks_done d ≡ tasks_done e ++ t ∷ [] = ap (λ p. take d.at (tasks_of (plan_view p))) g.plan ∙ ap (λ k. take k (tasks_of (plan_of e))) g.at ∙ take_next e.at (tasks_of (plan_of e)) t ts g.hand in
     record {
-      answer =
-          ap (λ l. answer_of (after_all s (progress_of d) l)) next
-          ∙ ap (λ x. answer_of (after_all s x ts)) p
-          ∙ ap (λ l. answer_of (after_all s (progress_of e) l)) (sym g.hand)
-          ∙ st.answer
-          ∙ ap (λ p. planned s (plan_view p)) (sym g.plan);
+      progress = p ∙ ap (λ x. after s x t) st.progress ∙ sym (after_append s start (tasks_done e) (t ∷ [])) ∙ ap (after_all s start) (sym done);
       at_hand = stands_start s d (tasks_left d) g.tile;
     }
 
@@ -179,19 +181,16 @@ sound_further e d t ts g under h =
           (elim h.left [ inl e1 ↦ inl (omega (arith, e1, l, z)) | inr e2 ↦ (let e3 = e2.0 in let e4 = ap (λ l. length (flat_map stages_of l)) g.hand in absurd (omega (arith, e3, e4, k, some))) ]);
     }
 
-pub stands_further : (s : ℕ → ℕ → List ℤ → ℤ) (e d : State) (t : TaskTree) (ts : List TaskTree) → GoesFurther e d t ts → AtPart (cells_of s t.coverages) (read_by t e.registers.items) d t.part → StandsFor s e → StandsFor s d
+pub stands_further : (s : Cells) (e d : State) (t : TaskTree) (ts : List TaskTree) → GoesFurther e d t ts → AtPart (cells_of s t.coverages) (read_by t e.registers.items) d t.part → StandsFor s e → StandsFor s d
 stands_further s e d t ts g part st =
     let same = left_further e d t ts g in
+    let done : tasks_done d ≡ tasks_done e = ap (λ p. take d.at (tasks_of (plan_view p))) g.plan ∙ ap (λ k. take k (tasks_of (plan_of e))) g.at in
     let progress : progress_of d ≡ progress_of e =
     ap (λ v. record { registers = v.items; items = d.items.items; status = d.status }) g.registers
     ∙ ap (λ v. record { registers = e.registers.items; items = v.items; status = d.status }) g.items
     ∙ ap (λ x. record { registers = e.registers.items; items = e.items.items; status = x }) g.status in
     record {
-      answer =
-          ap (λ l. answer_of (after_all s (progress_of d) l)) same
-          ∙ ap (λ x. answer_of (after_all s x (tasks_left e))) progress
-          ∙ st.answer
-          ∙ ap (λ p. planned s (plan_view p)) (sym g.plan);
+      progress = progress ∙ st.progress ∙ ap (after_all s start) (sym done);
       at_hand = subst (AtTask s d) (sym (same ∙ g.hand)) (subst (λ v. AtPart (cells_of s t.coverages) (read_by t v.items) d t.part) (sym g.registers) part);
     }
 
@@ -206,5 +205,5 @@ boxes_further e d t ts g =
 pub at_hand : (e : State) (t : TaskTree) (ts : List TaskTree) → tasks_left e ≡ t ∷ ts → IsSound e → (e.tile < length (tile_boxes (area_of t.part))) × IsUnder t.part e
 at_hand e t ts h sound = subst (λ l. IsAt l e) h sound.at_hand
 
-pub stands_at : (s : ℕ → ℕ → List ℤ → ℤ) (e : State) (t : TaskTree) (ts : List TaskTree) → tasks_left e ≡ t ∷ ts → StandsFor s e → AtPart (cells_of s t.coverages) (read_by t e.registers.items) e t.part
+pub stands_at : (s : Cells) (e : State) (t : TaskTree) (ts : List TaskTree) → tasks_left e ≡ t ∷ ts → StandsFor s e → AtPart (cells_of s t.coverages) (read_by t e.registers.items) e t.part
 stands_at s e t ts h st = subst (AtTask s e) h st.at_hand

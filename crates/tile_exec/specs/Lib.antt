@@ -4,5 +4,6 @@ pub mod Passes
 pub mod Items
 pub mod Standing
 pub mod Units
+pub mod Fetching
 pub mod Rows
 pub mod Begun

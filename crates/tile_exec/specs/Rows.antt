@@ -4,7 +4,8 @@ use Rattle.std.specs.List.{flat_map, enumerate_from, range_with_len}
 use Rattle.arr_core.specs.declared.cell.Cell.{Cell}
 use Rattle.wcps_mean.specs.declared.cell.Outcome.{Outcome}
 use Rattle.wcps_mean.specs.Answer.{cell_of}
-use Rattle.plan_ir.specs.Plans.{FieldBody}
+use Rattle.plan_ir.specs.declared.plan.Field.{Field}
+use Rattle.plan_ir.specs.Plans.{FieldBody, field_view}
 use Rattle.tile_kernel.specs.Columns.{outcome_at}
 use Rattle.tile_kernel.specs.Told.{Told}
 use Rattle.tile_exec.specs.Items.{value_of}
@@ -19,6 +20,10 @@ cells_from n [] os = []
 cells_from n (f ∷ fields) [] = []
 cells_from n (f ∷ fields) (o ∷ os) = (n, cell_of f.boolean (value_of o)) ∷ cells_from (n + 1) fields os
 
+-- the cells of the fields at a place of their columns
+abbrev pub cells_at : ℕ → List Field → List (List Outcome) → ℕ → List (ℕ × Cell)
+cells_at n fields columns k = cells_from n (map field_view fields) (row_at columns k)
+
 -- the place of a point's first cell, by the point's place in the columns; ranks are the places of the points
 abbrev pub first_place : List ℕ → ℕ → ℕ → ℕ
 first_place ranks width k = slice_index_or ranks k 0 * width
@@ -30,3 +35,10 @@ cells_told ranks fields columns n = flat_map (λ k. cells_from (first_place rank
 -- the outcomes of the first n points
 abbrev pub rows_told : List ℕ → ℕ → List (List Outcome) → ℕ → List Told
 rows_told ranks width columns n = flat_map (λ k. enumerate_from (first_place ranks width k) (row_at columns k)) (range_with_len 0 n)
+
+-- the cells of all points, and their outcomes
+abbrev pub all_cells_told : List ℕ → List Field → List (List Outcome) → List (ℕ × Cell)
+all_cells_told ranks fields columns = cells_told ranks (map field_view fields) columns (length ranks)
+
+abbrev pub all_rows_told : List ℕ → ℕ → List (List Outcome) → List Told
+all_rows_told ranks width columns = rows_told ranks width columns (length ranks)

@@ -1,9 +1,10 @@
 -- What an executor stands for.
-use Rattle.std.specs.Prelude.{◌≡◌, ℕ, ◌+◌, ◌-◌, ◌*◌, ◌<◌, ◌≤◌, max, ℤ, vec_capacity, ◌⊎◌, List, [], ◌∷◌, length, take, drop, sum_by, slice_get, IsSomeAnd}
+use Rattle.std.specs.Prelude.{◌≡◌, ℕ, ◌+◌, ◌-◌, ◌^◌, ◌<◌, ◌≤◌, min, max, vec_capacity, ◌⊎◌, List, [], ◌∷◌, length, take, drop, sum_by, slice_get, IsSomeAnd, Result}
 use Rattle.std.specs.List.{flat_map}
-use Rattle.arr_core.specs.Domains.{count}
 use Rattle.arr_core.specs.Tiles.{tile_boxes}
+use Rattle.wcps_mean.specs.declared.cell.PointFault.{PointFault}
 use Rattle.wcps_mean.specs.declared.cell.Outcome.{Outcome}
+use Rattle.wcps_mean.specs.declared.item.Item.{Item}
 use Rattle.plan_ir.specs.declared.plan.Plan.{Plan}
 use Rattle.plan_ir.specs.declared.plan.Steps.{Steps}
 use Rattle.plan_ir.specs.declared.plan.Combination.{Combination}
@@ -18,11 +19,12 @@ use Rattle.tile_exec.specs.declared.task.Task.{Task}
 use Rattle.tile_exec.specs.declared.task.Part.{Part}
 use Rattle.tile_exec.specs.declared.task.Part.TheVariants as part
 use Rattle.tile_exec.specs.declared.state.State.{State}
-use Rattle.tile_exec.specs.Tasks.{PartTree, TaskTree, pass, condition, item, area_of, stages_of, tasks_of, AreReady}
-use Rattle.tile_exec.specs.Progress.{Progress, read_by, after_all, answer_of}
+use Rattle.tile_exec.specs.Tasks.{Cells, PartTree, TaskTree, pass, condition, item, area_of, stages_of, tasks_of, AreReady}
+use Rattle.tile_exec.specs.Progress.{Progress, start, read_by, after_all}
+use Rattle.tile_columns.specs.Sources.{SourceState}
 use Rattle.tile_columns.specs.TileOrder.{points_to}
 use Rattle.tile_exec.specs.Passes.{told_to_pass}
-use Rattle.tile_exec.specs.Items.{Fills}
+use Rattle.tile_exec.specs.Items.{cell_count, Fills}
 
 -- the plan that is done
 abbrev pub plan_of : State → PlanTree
@@ -31,6 +33,10 @@ plan_of e = plan_view e.plan
 -- how many units are left
 abbrev pub left_of : State → ℕ
 left_of e = e.left
+
+-- the tasks that are done
+abbrev pub tasks_done : State → List TaskTree
+tasks_done e = take e.at (tasks_of (plan_of e))
 
 -- the tasks that are not done, that at hand first
 abbrev pub tasks_left : State → List TaskTree
@@ -44,30 +50,38 @@ abbrev pub boxes_left : State → List Stage
 boxes_left e = drop e.tile (flat_map stages_of (tasks_left e))
 
 -- the tiles of an item that are done: nothing is kept of one that is not given
-abbrev pub AtItem : (ℕ → ℕ → List ℤ → ℤ) → List Outcome → ItemTree → State → Status → Type 0
-AtItem s regs i e Giving = 0 < e.tile → Fills s regs i e.tile e.cells.items e.first.fault e.first.place
+abbrev pub AtItem : Cells → List Outcome → ItemTree → State → Status → Type 0
+AtItem s regs i e Giving = 0 < e.tile → Fills s regs i e.tile e.cells.items e.first
 AtItem s regs i e Skipping = Unit {0}
 AtItem s regs i e (Failed f) = Unit {0}
 
 -- what is kept of the task at hand, once a tile of it is done
-abbrev pub AtPart : (ℕ → ℕ → List ℤ → ℤ) → List Outcome → State → PartTree → Type 0
+abbrev pub AtPart : Cells → List Outcome → State → PartTree → Type 0
 AtPart s regs e (pass p) = 0 < e.tile → Stands e.accumulator (flat_map (told_to_pass s regs p) (points_to p.domain e.tile))
 AtPart s regs e (condition c) = Unit {0}
 AtPart s regs e (item i) = AtItem s regs i e e.status
 
-abbrev pub AtTask : (ℕ → ℕ → List ℤ → ℤ) → State → List TaskTree → Type 0
+abbrev pub AtTask : Cells → State → List TaskTree → Type 0
 AtTask s e [] = Unit {0}
 AtTask s e (t ∷ tasks) = AtPart (cells_of s t.coverages) (read_by t e.registers.items) e t.part
 
--- It stands for a store, where s gives the cells of the plan's coverages: with what the tasks left give besides, it has what
--- the plan gives, and what it keeps of the task at hand is that of the tiles that are done.
-pub record StandsFor (s : ℕ → ℕ → List ℤ → ℤ) (e : State) : Type 0 where
-  pub answer : answer_of (after_all s (progress_of e) (tasks_left e)) ≡ planned s (plan_of e)
+-- It stands for a store, where s gives the cells of the plan's coverages: its progress is that of the tasks that are done, and
+-- what it keeps of the task at hand is that of the tiles that are done.
+pub record StandsFor (s : Cells) (e : State) : Type 0 where
+  pub progress : progress_of e ≡ after_all s start (tasks_done e)
   pub at_hand : AtTask s e (tasks_left e)
+
+-- over a source, what it stands for it stands for afterwards
+abbrev pub StandsOn : {K : Type 0} → SourceState K → State → State → Type 0
+StandsOn source was is = source.intact → StandsFor source.cells was → StandsFor source.cells is
+
+-- what its plan gives over each store that it stands for
+abbrev pub Answers : State → Result (List Item) PointFault → Type 0
+Answers e r = (s : Cells) → StandsFor s e → planned s (plan_of e) ≡ r
 
 -- of an item: there is a cell for each point and field
 abbrev pub HasCells : ItemTree → State → Status → Type 0
-HasCells i e Giving = 0 < e.tile → length e.cells.items ≡ count i.domain * length i.fields
+HasCells i e Giving = 0 < e.tile → length e.cells.items ≡ cell_count i
 HasCells i e Skipping = Unit {0}
 HasCells i e (Failed f) = Unit {0}
 
@@ -137,11 +151,15 @@ boxes_done was is = take (left_of was - left_of is) (boxes_left was)
 abbrev pub most_fetched : State → State → ℕ
 most_fetched was is = sum_by (bound (plan_of was)) (boxes_done was is)
 
+-- so many tiles were fetched, in a count that stays at its last value
+abbrev pub HasFetched : {K : Type 0} → ℕ → SourceState K → SourceState K → Type 0
+HasFetched n old new = new.fetched ≡ min (2 ^ 64 - 1) (old.fetched + n)
+
 -- an executor before its first unit
 pub record IsBegun (tree : PlanTree) (e : State) : Type 0 where
   pub sound : IsSound e
   pub plan : plan_of e ≡ tree
-  pub stands : (s : ℕ → ℕ → List ℤ → ℤ) → StandsFor s e
+  pub stands : (s : Cells) → StandsFor s e
   pub boxes : boxes_left e ≡ boxes (plan_of e)
   pub some : 1 ≤ left_of e
   pub few : left_of e ≤ max 1 (units (plan_of e))

@@ -1,5 +1,5 @@
 -- The tasks of a plan: its passes, conditions and items in the order in which they are done, each a tile at a time.
-use Rattle.std.specs.Prelude.{ℕ, ◌+◌, ◌<◌, ◌≤◌, List, [], ◌∷◌, ◌++◌, map, length, Option, Some, None, slice_get}
+use Rattle.std.specs.Prelude.{ℕ, ◌+◌, ◌<◌, ◌≤◌, ℤ, List, [], ◌∷◌, ◌++◌, map, length, Option, Some, None, slice_get}
 use Rattle.arr_core.specs.declared.domain.Axis.{Axis}
 use Rattle.arr_core.specs.declared.signature.Signature.{Signature}
 use Rattle.arr_core.specs.Domains.{IsDomain}
@@ -7,6 +7,10 @@ use Rattle.plan_ir.specs.Bodies.{Tree}
 use Rattle.plan_ir.specs.Plans.{PassTree, BindTree, FieldBody, ItemTree, StepsTree, Choice, PlanTree, signature_of}
 use Rattle.plan_ir.specs.Placed.{IsPlaced, ItemIsPlaced, spans}
 use Rattle.plan_ir.specs.Units.{Stage, tile_stages}
+
+-- the cells of coverages: by the coverage's place, the field's place and the point
+abbrev pub Cells : Type 0
+Cells = ℕ → ℕ → List ℤ → ℤ
 
 -- what a task does
 pub data PartTree : Type 0 where
@@ -62,11 +66,15 @@ abbrev pub condition_tasks : List ℕ → ℕ → ℕ → Option Tree → List T
 condition_tasks coverages first n None = []
 condition_tasks coverages first n (Some c) = record { coverages = coverages; first = first; count = n; part = condition c } ∷ []
 
+abbrev pub choice_condition : List ℕ → ℕ → Option StepsTree → List TaskTree
+choice_condition coverages first None = []
+choice_condition coverages first (Some s) = condition_tasks coverages first (length s.passes) s.condition
+
 -- the condition, if there is one, and then the item
 abbrev pub choice_outs : List ℕ → ℕ → Option StepsTree → List TaskTree
 choice_outs coverages first None = []
 choice_outs coverages first (Some s) =
-    condition_tasks coverages first (length s.passes) s.condition
+    choice_condition coverages first (Some s)
     ++ record { coverages = coverages; first = first; count = length s.passes; part = item s.item } ∷ []
 
 abbrev pub all_outs : List StepsTree → ℕ → List Choice → List TaskTree
@@ -74,9 +82,15 @@ all_outs steps first [] = []
 all_outs steps first (c ∷ choices) =
     choice_outs c.coverages first (slice_get steps c.steps) ++ all_outs steps (first + register_count (slice_get steps c.steps)) choices
 
+abbrev pub passes_of : PlanTree → List TaskTree
+passes_of plan = all_passes plan.steps 0 plan.combinations
+
+abbrev pub outs_of : PlanTree → List TaskTree
+outs_of plan = all_outs plan.steps 0 plan.combinations
+
 -- all tasks in their order: first the passes of all combinations
 abbrev pub tasks_of : PlanTree → List TaskTree
-tasks_of plan = all_passes plan.steps 0 plan.combinations ++ all_outs plan.steps 0 plan.combinations
+tasks_of plan = passes_of plan ++ outs_of plan
 
 -- the bodies of a task have their place, with the registers that it may read
 abbrev pub IsPartPlaced : (ℕ → Option Signature) → ℕ → PartTree → Type 0

@@ -1,8 +1,8 @@
 -- What a unit finds, and what comes of it.
-use Rattle.std.specs.Prelude.{◌≡◌, ℕ, ◌+◌, ◌*◌, ◌<◌, ◌≤◌, ℤ, List, [], ◌∷◌, ◌++◌, map, length, slice_get, vec_capacity, Option, Some, None, Bool, true, false}
+use Rattle.std.specs.Prelude.{◌≡◌, ℕ, ◌+◌, ◌<◌, ◌≤◌, List, [], ◌∷◌, ◌++◌, length, vec_capacity, Option, Some, None, Bool, true, false}
 use Rattle.std.specs.List.{All, flat_map}
 use Rattle.arr_core.specs.declared.cell.Cell.{Cell}
-use Rattle.arr_core.specs.Domains.{count, points}
+use Rattle.arr_core.specs.Domains.{points}
 use Rattle.arr_core.specs.Tiles.{tile_boxes}
 use Rattle.wcps_mean.specs.declared.cell.PointFault.{PointFault}
 use Rattle.wcps_mean.specs.declared.cell.Outcome.{Outcome}
@@ -12,30 +12,37 @@ use Rattle.plan_ir.specs.Planned.{cells_of}
 use Rattle.plan_ir.specs.Run.{run}
 use Rattle.plan_ir.specs.Units.{Stage, bound}
 use Rattle.tile_kernel.specs.Standing.{Stands}
-use Rattle.tile_kernel.specs.Told.{IsFirst}
+use Rattle.tile_kernel.specs.Told.{Told}
 use Rattle.tile_exec.specs.declared.task.Status.{Status}
 use Rattle.tile_exec.specs.declared.task.Status.TheVariants.{Giving, Skipping, Failed}
+use Rattle.tile_exec.specs.declared.task.AtHand.{AtHand}
 use Rattle.tile_exec.specs.declared.found.ItemTile.{ItemTile}
 use Rattle.tile_exec.specs.declared.found.Found.{Found}
 use Rattle.tile_exec.specs.declared.found.Found.TheVariants as found
 use Rattle.tile_exec.specs.declared.state.State.{State}
-use Rattle.tile_exec.specs.Tasks.{PartTree, TaskTree, pass, condition, item, area_of}
+use Rattle.tile_exec.specs.Tasks.{Cells, PartTree, TaskTree, pass, condition, item, area_of}
 use Rattle.tile_exec.specs.Progress.{read_by}
+use Rattle.tile_columns.specs.declared.ground.Ground.{Ground}
+use Rattle.tile_columns.specs.Sources.{SourceState}
 use Rattle.tile_columns.specs.TileOrder.{tile_of}
-use Rattle.tile_exec.specs.Passes.{told_to_pass}
-use Rattle.tile_exec.specs.Items.{all_cells, told_to_item, places_of}
-use Rattle.tile_exec.specs.Standing.{StandsFor, IsSound, tasks_left, boxes_left}
+use Rattle.tile_exec.specs.Passes.{told_by_tile}
+use Rattle.tile_exec.specs.Items.{all_cells, told_to_item, places_of, places_written, ArePlaced, cell_count, IsFirstOf}
+use Rattle.tile_exec.specs.Standing.{StandsFor, IsSound, IsPartOf, plan_of, tasks_left, boxes_left}
 
 -- whether a tile is the last one
 abbrev pub IsLast : Bool → ℕ → ℕ → Type 0
 IsLast true tile n = tile + 1 ≡ n
 IsLast false tile n = tile + 1 < n
 
+-- before a tile: what held of the points of the tiles before it, or what holds of none before the first one
+abbrev pub BeginsTile : ℕ → (List Told → Type 0) → (List Told → Type 0) → Type 0
+BeginsTile tile Was Is = (told : ℕ → List Told) → told 0 ≡ [] → (0 < tile → Was (told tile)) → Is (told tile)
+
 -- the tile of an item: each place is a cell's, and a first tile brings the cells
 pub record FitsItem (i : ItemTree) (tile : ℕ) (status : Status) (x : ItemTile) : Type 0 where
   pub giving : status ≡ Giving
-  pub below : All (λ (w : ℕ × Cell). w.0 < count i.domain * length i.fields) x.written.items
-  pub fresh : tile ≡ 0 → length x.fresh.items ≡ count i.domain * length i.fields
+  pub below : All (λ (w : ℕ × Cell). w.0 < cell_count i) x.written.items
+  pub fresh : tile ≡ 0 → length x.fresh.items ≡ cell_count i
   pub line : x.line ≡ line_of i.domain
   pub fields : x.fields ≡ field_count (length i.fields)
 
@@ -59,27 +66,39 @@ FitsPart tile status (item i) (found.Item x) = FitsItem i tile status x
 FitsPart tile status (item i) found.Skipped = IsNotGiven status
 FitsPart tile status _ _ = ⊥
 
+-- the same, and whether the tile is the last one
+abbrev pub FitsUnit : ℕ → Status → PartTree → Bool → Found → Type 0
+FitsUnit tile status p last x = IsLast last tile (length (tile_boxes (area_of p))) × FitsPart tile status p x
+
 abbrev pub Fits : State → List TaskTree → Bool → Found → Type 0
 Fits e [] last found.Skipped = Unit {0}
 Fits e [] last _ = ⊥
-Fits e (t ∷ tasks) last x = IsLast last e.tile (length (tile_boxes (area_of t.part))) × FitsPart e.tile e.status t.part x
+Fits e (t ∷ tasks) last x = FitsUnit e.tile e.status t.part last x
 
 -- the cells and the first fault of a tile of an item
-pub record TellsItem (s : ℕ → ℕ → List ℤ → ℤ) (regs : List Outcome) (i : ItemTree) (t : ℕ) (x : ItemTile) : Type 0 where
-  pub places : map (λ (w : ℕ × Cell). w.0) x.written.items ≡ flat_map (places_of i) (points (tile_of i.domain t))
-  pub cells : All (λ (w : ℕ × Cell). slice_get (all_cells s regs i) w.0 ≡ Some w.1) x.written.items
-  pub first : IsFirst x.first.fault x.first.place (flat_map (told_to_item s regs i) (points (tile_of i.domain t)))
+pub record TellsItem (s : Cells) (regs : List Outcome) (i : ItemTree) (t : ℕ) (x : ItemTile) : Type 0 where
+  pub places : places_written x.written.items ≡ flat_map (places_of i) (points (tile_of i.domain t))
+  pub cells : ArePlaced (all_cells s regs i) x.written.items
+  pub first : IsFirstOf x.first (flat_map (told_to_item s regs i) (points (tile_of i.domain t)))
 
 -- what is found is that of the tile at hand
-abbrev pub TellsPart : (ℕ → ℕ → List ℤ → ℤ) → List Outcome → ℕ → PartTree → Found → Type 0
-TellsPart s regs tile (pass p) (found.Pass a) = Stands a (flat_map (told_to_pass s regs p) (points (tile_of p.domain tile)))
+abbrev pub TellsPart : Cells → List Outcome → ℕ → PartTree → Found → Type 0
+TellsPart s regs tile (pass p) (found.Pass a) = Stands a (told_by_tile s regs p tile)
 TellsPart s regs tile (condition c) (found.Condition o) = o ≡ run s regs c []
 TellsPart s regs tile (item i) (found.Item x) = TellsItem s regs i tile x
 TellsPart s regs tile _ _ = Unit {0}
 
-abbrev pub Tells : (ℕ → ℕ → List ℤ → ℤ) → State → List TaskTree → Found → Type 0
-Tells s e [] x = Unit {0}
-Tells s e (t ∷ tasks) x = TellsPart (cells_of s t.coverages) (read_by t e.registers.items) e.tile t.part x
+-- the same over a source, for a combination's coverages and registers
+abbrev pub IsFound : {K : Type 0} → SourceState K → Ground → ℕ → Found → PartTree → Type 0
+IsFound source g tile x p = source.intact → TellsPart (cells_of source.cells g.coverages.now) g.registers.now tile p x
+
+-- what is found is that of the next unit
+abbrev pub TellsTask : Cells → State → List TaskTree → Found → Type 0
+TellsTask s e [] x = Unit {0}
+TellsTask s e (t ∷ tasks) x = TellsPart (cells_of s t.coverages) (read_by t e.registers.items) e.tile t.part x
+
+abbrev pub IsNextFound : {K : Type 0} → SourceState K → State → Found → Type 0
+IsNextFound source e x = source.intact → TellsTask source.cells e (tasks_left e) x
 
 -- one box fewer is left
 abbrev pub LosesFirst : List Stage → List Stage → Type 0
@@ -92,12 +111,23 @@ pub record Keeps (old new : State) (x : Found) : Type 0 where
   pub plan : new.plan ≡ old.plan
   pub left : new.left + 1 ≡ old.left
   pub boxes : LosesFirst (boxes_left old) (boxes_left new)
-  pub stands : (s : ℕ → ℕ → List ℤ → ℤ) → StandsFor s old → Tells s old (tasks_left old) x → StandsFor s new
+  pub stands : (s : Cells) → StandsFor s old → TellsTask s old (tasks_left old) x → StandsFor s new
 
 -- how many tiles the next unit may fetch
 abbrev pub first_bound : PlanTree → List Stage → ℕ
 first_bound plan [] = 0
 first_bound plan (b ∷ boxes) = bound plan b
+
+abbrev pub unit_bound : State → ℕ
+unit_bound e = first_bound (plan_of e) (boxes_left e)
+
+-- the steps at hand have that part
+abbrev pub HasPart : AtHand → PartTree → Type 0
+HasPart hand p = IsPartOf hand.steps.now hand.task.count hand.task.part p
+
+-- so it is with that part
+abbrev pub IfPart : AtHand → (PartTree → Type 0) → Type 0
+IfPart hand Holds = (p : PartTree) → HasPart hand p → Holds p
 
 -- what becomes of an item: its fault stands, or it is put behind the others
 abbrev pub GivesBy : Option PointFault → State → State → ℕ → ℕ → Type 0

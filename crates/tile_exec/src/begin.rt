@@ -1,14 +1,11 @@
 //! A plan before its first unit: the list of its tasks, and how many boxes they have.
 
-ghost use Rattle.std.specs.Prelude.{◌≡◌, ◌<◌, List, [], ◌∷◌, length, slice_index_or, Some, option_map, IfOk, OnOk};
-ghost use Rattle.arr_core.specs.Tiles.{tile_boxes};
-ghost use Rattle.plan_ir.specs.declared.plan.Plan.{Plan};
-ghost use Rattle.plan_ir.specs.Bodies.{body_view};
-ghost use Rattle.plan_ir.specs.Plans.{Choice, plan_view, steps_view};
+ghost use Rattle.std.specs.Prelude.{◌<◌, length, slice_index_or, IfOk, OnOk};
+ghost use Rattle.plan_ir.specs.Plans.{Choice, plan_view};
 ghost use Rattle.plan_ir.specs.Placed.{IsPlan};
-ghost use Rattle.tile_exec.specs.Tasks.{TaskTree, area_of, choice_passes, condition_tasks, choice_outs, all_passes, all_outs, tasks_of};
-ghost use Rattle.tile_exec.specs.Standing.{IsTask, IsBegun};
-ghost use Rattle.tile_exec.specs.Begun.{IsFit, Lists, Adds, IsChosen};
+ghost use Rattle.tile_exec.specs.Tasks.{choice_passes, choice_condition, choice_outs, passes_of, outs_of, tasks_of};
+ghost use Rattle.tile_exec.specs.Standing.{IsBegun};
+ghost use Rattle.tile_exec.specs.Begun.{Lists, Adds, AddsTask, AddsOf, IsChosen};
 
 use crate::state::State;
 use crate::task::{First, Part, Status, Task};
@@ -28,7 +25,7 @@ pub(crate) struct Listing {
 impl Listing {
     /// Puts a task at the end.
     fn push(&mut self, task: Task, boxes: u64) -> Result<(), AllocError>
-        ensures { OnOk result ((plan : Plan) (tree : TaskTree) → IsTask plan task tree → IsFit tree.part → boxes ≡ length (tile_boxes (area_of tree.part)) → Adds plan self.old self.new (tree ∷ [])) }
+        ensures { OnOk result (AddsTask task boxes self.old self.new) }
     {
         let Some(sum) = self.boxes.checked_add(boxes) else {
             return Err(AllocError);
@@ -56,7 +53,7 @@ fn push_passes(
     combination: usize,
     first: usize,
 ) -> Result<(), AllocError>
-    ensures { OnOk result ((plan : Plan) (c : Choice) → IsChosen plan combination steps.now c → Adds plan list.old list.new (choice_passes c.coverages first (Some (steps_view steps.now)))) }
+    ensures { OnOk result (AddsOf choice_passes combination first steps.now list.old list.new) }
 {
     for k in 0..steps.passes.len() {
         let pass = &steps.passes[k];
@@ -79,7 +76,7 @@ fn push_condition(
     combination: usize,
     first: usize,
 ) -> Result<(), AllocError>
-    ensures { OnOk result ((plan : Plan) (c : Choice) → IsChosen plan combination steps.now c → Adds plan list.old list.new (condition_tasks c.coverages first (length steps.now.passes.items) (option_map body_view steps.now.condition))) }
+    ensures { OnOk result (AddsOf choice_condition combination first steps.now list.old list.new) }
 {
     match &steps.condition {
         None => Ok(()),
@@ -104,7 +101,7 @@ fn push_out(
     combination: usize,
     first: usize,
 ) -> Result<(), AllocError>
-    ensures { OnOk result ((plan : Plan) (c : Choice) → IsChosen plan combination steps.now c → Adds plan list.old list.new (choice_outs c.coverages first (Some (steps_view steps.now)))) }
+    ensures { OnOk result (AddsOf choice_outs combination first steps.now list.old list.new) }
 {
     if steps.item.fields.is_empty() {
         return Err(AllocError);
@@ -124,7 +121,7 @@ fn push_out(
 /// Puts the passes of all combinations at the end.
 fn push_all_passes(list: &mut Listing, plan: &Plan) -> Result<(), AllocError>
     requires { IsPlan (plan_view plan.now) }
-    ensures { OnOk result (Adds plan.now list.old list.new (all_passes (plan_view plan.now).steps 0 (plan_view plan.now).combinations)) }
+    ensures { OnOk result (Adds plan.now list.old list.new (passes_of (plan_view plan.now))) }
 {
     let mut first: usize = 0;
     for k in 0..plan.combinations.len() {
@@ -141,7 +138,7 @@ fn push_all_passes(list: &mut Listing, plan: &Plan) -> Result<(), AllocError>
 /// Puts the conditions and items of all combinations at the end.
 fn push_all_outs(list: &mut Listing, plan: &Plan) -> Result<(), AllocError>
     requires { IsPlan (plan_view plan.now) }
-    ensures { OnOk result (Adds plan.now list.old list.new (all_outs (plan_view plan.now).steps 0 (plan_view plan.now).combinations)) }
+    ensures { OnOk result (Adds plan.now list.old list.new (outs_of (plan_view plan.now))) }
 {
     let mut first: usize = 0;
     for k in 0..plan.combinations.len() {

@@ -1,12 +1,10 @@
 //! A plan that is partly done.
 
-ghost use Rattle.std.specs.Prelude.{◌≡◌, ℕ, ◌+◌, ◌-◌, ◌*◌, ◌<◌, ◌≤◌, ◌^◌, min, ℤ, List, IfOk, IfSome, OnOk, OnErr, MatchOption, MatchResult, Ok, Err};
-ghost use Rattle.wcps_mean.specs.Reports.{Reports};
+ghost use Rattle.std.specs.Prelude.{◌≡◌, ◌-◌, ◌<◌, IfOk, IfSome, OnOk, OnErr, MatchOption, MatchResult, Ok, Err};
 ghost use Rattle.plan_ir.specs.Plans.{plan_view};
-ghost use Rattle.plan_ir.specs.Planned.{planned};
 ghost use Rattle.plan_ir.specs.Placed.{IsPlan};
-ghost use Rattle.tile_columns.specs.Sources.{Leaves};
-ghost use Rattle.tile_exec.specs.Standing.{IsBegun, StandsFor, plan_of, left_of, MovesOn};
+ghost use Rattle.tile_columns.specs.Sources.{OnlyReads, Tells};
+ghost use Rattle.tile_exec.specs.Standing.{IsBegun, StandsOn, Answers, plan_of, left_of, MovesOn, HasFetched};
 
 use crate::begin::begun;
 use crate::state::State;
@@ -72,16 +70,15 @@ impl Exec {
 
     /// Does one unit. After a refusal it is as it was.
     pub fn step<S: Tiles>(&mut self, source: &mut S) -> Result<StepInfo, CellError>
-        requires coverages { S.coverages source.old ≡ (plan_of self.old).coverages }
+        requires coverages { (S.state source.old).coverages ≡ (plan_of self.old).coverages }
         ensures plan { plan_of self.new ≡ plan_of self.old }
         ensures left { IfOk result (λ i. (left_of self.new ≡ left_of self.old - 1) × (i.left ≡ left_of self.new)) }
-        ensures stands { OnOk result (S.intact source.old → StandsFor (S.cells source.old) self.old → StandsFor (S.cells source.old) self.new) }
+        ensures stands { OnOk result (StandsOn (S.state source.old) self.old self.new) }
         ensures failed { OnErr result (self.new ≡ self.old) }
         ensures place { IfOk result (λ i. MovesOn self.old self.new i.fetched) }
-        ensures same { Leaves (S.cells source.old) (S.cells source.new) (S.coverages source.old) (S.coverages source.new) (S.kept source.old) (S.kept source.new) }
-        ensures fetched { IfOk result (λ i. S.fetched source.new ≡ min (2 ^ 64 - 1) (S.fetched source.old + i.fetched)) }
-        ensures intact { S.intact source.old → S.intact source.new }
-        ensures reports { Reports result (S.spelled (S.kept source.old)) (S.failures source.old) (S.failures source.new) }
+        ensures reads { OnlyReads (S.state source.old) (S.state source.new) }
+        ensures fetched { IfOk result (λ i. HasFetched i.fetched (S.state source.old) (S.state source.new)) }
+        ensures reports { Tells S.spelled result (S.state source.old) (S.state source.new) }
     {
         let before = source.count();
         if self.state.left == 0 {
@@ -102,7 +99,7 @@ impl Exec {
     /// The items, or the first fault, once no unit is left.
     pub fn result(&self) -> Option<Result<&[Item], PointFault>>
         ensures ready { MatchOption result (0 < left_of self.now) (λ _. left_of self.now ≡ 0) }
-        ensures value { (s : ℕ → ℕ → List ℤ → ℤ) → StandsFor s self.now → IfSome result (λ r. MatchResult r (λ items. planned s (plan_of self.now) ≡ Ok items.now) (λ f. planned s (plan_of self.now) ≡ Err f)) }
+        ensures value { IfSome result (λ r. MatchResult r (λ x. Answers self.now (Ok x.now)) (λ f. Answers self.now (Err f))) }
     {
         if self.state.left > 0 {
             return None;

@@ -1,18 +1,15 @@
 //! A tile of an item.
 
-ghost use Rattle.std.specs.Prelude.{◌≡◌, ◌+◌, ◌*◌, ◌<◌, ◌≤◌, ◌^◌, ℤ, List, length, IfOk, OnOk, sum_by};
+ghost use Rattle.std.specs.Prelude.{◌≡◌, ◌*◌, ◌<◌, ◌^◌, length, IfOk};
 ghost use Rattle.arr_core.specs.Domains.{count};
 ghost use Rattle.arr_core.specs.Tiles.{tile_boxes};
-ghost use Rattle.wcps_mean.specs.Reports.{Reports};
 ghost use Rattle.wcps_mean.specs.Answer.{field_count};
-ghost use Rattle.plan_ir.specs.Plans.{signature_of, item_view};
-ghost use Rattle.plan_ir.specs.Planned.{cells_of};
-ghost use Rattle.plan_ir.specs.Units.{bound_of};
-ghost use Rattle.tile_columns.specs.Sources.{Leaves};
-ghost use Rattle.tile_exec.specs.Tasks.{IsPartPlaced, item, bodies_of};
-ghost use Rattle.tile_columns.specs.TileOrder.{tile_of};
-ghost use Rattle.tile_exec.specs.Units.{FitsItem, TellsItem};
+ghost use Rattle.plan_ir.specs.Plans.{item_view};
+ghost use Rattle.tile_columns.specs.Sources.{OnlyReads, Tells};
+ghost use Rattle.tile_exec.specs.declared.found.Found.{Found};
 ghost use Rattle.tile_exec.specs.declared.task.Status.TheVariants.{Giving};
+ghost use Rattle.tile_exec.specs.Units.{FitsItem, IsFound};
+ghost use Rattle.tile_exec.specs.Fetching.{as_item, IsPartOver, FetchesTile};
 
 use crate::column::columns_over;
 use crate::found::ItemTile;
@@ -33,48 +30,46 @@ pub(crate) fn item_tile<S: Tiles>(
     workspace: &mut Workspace,
     source: &mut S,
     ground: &Ground<'_>,
-    planned: &Item,
+    item: &Item,
     tile: u64,
 ) -> Result<ItemTile, CellError>
-    requires signatures { ground.now.signatures.now ≡ S.coverages source.old }
-    requires placed { IsPartPlaced (signature_of (S.coverages source.old) ground.now.coverages.now) (length ground.now.registers.now) (item (item_view planned.now)) }
-    requires tile { tile < length (tile_boxes planned.now.domain) }
-    ensures fits { IfOk result (λ x. FitsItem (item_view planned.now) tile Giving x) }
-    ensures tells { IfOk result (λ x. S.intact source.old → TellsItem (cells_of (S.cells source.old) ground.now.coverages.now) ground.now.registers.now (item_view planned.now) tile x) }
-    ensures fetched { OnOk result (S.fetched source.new ≤ S.fetched source.old + sum_by (bound_of (signature_of (S.coverages source.old) ground.now.coverages.now) (tile_of planned.now.domain tile)) (bodies_of (item (item_view planned.now)))) }
-    ensures same { Leaves (S.cells source.old) (S.cells source.new) (S.coverages source.old) (S.coverages source.new) (S.kept source.old) (S.kept source.new) }
-    ensures rises { S.fetched source.old ≤ S.fetched source.new }
-    ensures intact { S.intact source.old → S.intact source.new }
-    ensures reports { Reports result (S.spelled (S.kept source.old)) (S.failures source.old) (S.failures source.new) }
+    requires signatures { ground.now.signatures.now ≡ (S.state source.old).coverages }
+    requires placed { IsPartOver (S.state source.old) ground.now (as_item item.now) }
+    requires tile { tile < length (tile_boxes item.now.domain) }
+    ensures fits { IfOk result (λ x. FitsItem (item_view item.now) tile Giving x) }
+    ensures tells { IfOk result (λ x. IsFound (S.state source.old) ground.now tile (Found.Item x) (as_item item.now)) }
+    ensures fetched { FetchesTile result ground.now tile (S.state source.old) (S.state source.new) (as_item item.now) }
+    ensures reads { OnlyReads (S.state source.old) (S.state source.new) }
+    ensures reports { Tells S.spelled result (S.state source.old) (S.state source.new) }
 {
-    if planned.fields.len() >= FIELDS_END {
+    if item.fields.len() >= FIELDS_END {
         return Err(CellError::NoMemory);
     }
     let alloc = workspace.memory.alloc;
-    let part = planned.domain.tile_box(alloc, tile)?;
+    let part = item.domain.tile_box(alloc, tile)?;
     let _axes = part.axes();
-    ranks(&mut workspace.places, &planned.domain, &part)?;
-    let columns = columns_over(&mut workspace.memory, source, ground, planned, &part)?;
+    ranks(&mut workspace.places, &item.domain, &part)?;
+    let columns = columns_over(&mut workspace.memory, source, ground, item, &part)?;
     let mut written = mem::replace(&mut workspace.written, Vec::new(alloc));
     written.clear();
-    let first = tell_points(&workspace.places, &planned.fields, &columns, &mut written)?;
+    let first = tell_points(&workspace.places, &item.fields, &columns, &mut written)?;
     Ok(ItemTile {
         written,
         first,
-        fresh: fresh_cells(alloc, planned, tile)?,
-        line: run_length(planned.domain.axes()),
-        fields: count_of(&planned.fields),
+        fresh: fresh_cells(alloc, item, tile)?,
+        line: run_length(item.domain.axes()),
+        fields: count_of(&item.fields),
     })
 }
 
 /// Room for all cells of an item at its first tile, else none.
-fn fresh_cells(alloc: Global, planned: &Item, tile: u64) -> Result<Vec<Cell>, AllocError>
-    requires { length planned.now.fields.items < 2 ^ 32 }
-    ensures { tile ≡ 0 → IfOk result (λ v. length v.items ≡ count planned.now.domain * length planned.now.fields.items) }
+fn fresh_cells(alloc: Global, item: &Item, tile: u64) -> Result<Vec<Cell>, AllocError>
+    requires { length item.now.fields.items < 2 ^ 32 }
+    ensures { tile ≡ 0 → IfOk result (λ v. length v.items ≡ count item.now.domain * length item.now.fields.items) }
 {
     let mut fresh = Vec::new(alloc);
     if tile == 0 {
-        let cells = planned.domain.points() * planned.fields.len() as u64;
+        let cells = item.domain.points() * item.fields.len() as u64;
         fresh.resize(cells as usize, Cell::Int(0))?;
     }
     Ok(fresh)

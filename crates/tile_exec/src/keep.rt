@@ -1,18 +1,17 @@
 //! What a unit found is kept. It takes no memory.
 
-ghost use Rattle.std.specs.Prelude.{◌≡◌, ℕ, Bool, ◌+◌, ◌<◌, ◌≤◌, ◌^◌, List, [], ◌∷◌, ◌++◌, map, length, vec_capacity, All, slice_set, slice_get, Some};
+ghost use Rattle.std.specs.Prelude.{◌≡◌, ℕ, Bool, ◌+◌, ◌<◌, ◌≤◌, ◌^◌, [], ◌∷◌, ◌++◌, length, vec_capacity, All, slice_set};
 ghost use Rattle.arr_core.specs.declared.cell.Cell.{Cell};
 ghost use Rattle.wcps_text.specs.declared.operator.Aggregate.{Aggregate};
 ghost use Rattle.wcps_mean.specs.declared.cell.Outcome.{Outcome};
-ghost use Rattle.tile_kernel.specs.Told.{Told, IsFirst};
 ghost use Rattle.tile_kernel.specs.Joins.{HoldsOfBoth};
 ghost use Rattle.tile_kernel.specs.Standing.{Stands};
 ghost use Rattle.tile_exec.specs.declared.task.Status.{Status};
 ghost use Rattle.tile_exec.specs.declared.found.Found.{Found};
-ghost use Rattle.tile_exec.specs.Items.{AreWritten};
+ghost use Rattle.tile_exec.specs.Items.{AreWrittenTo, IsFirstOf};
 ghost use Rattle.tile_exec.specs.Progress.{after_condition};
 ghost use Rattle.tile_exec.specs.Standing.{IsSound, tasks_left};
-ghost use Rattle.tile_exec.specs.Units.{Fits, IsNotGiven, AfterSkipped, Gives, Keeps};
+ghost use Rattle.tile_exec.specs.Units.{Fits, IsNotGiven, AfterSkipped, BeginsTile, Gives, Keeps};
 
 use crate::found::{Found, ItemTile, Unit};
 use crate::state::State;
@@ -49,7 +48,7 @@ fn put_item(items: &mut Vec<Item>, item: Item)
 
 /// The accumulator as it is before a tile: that of the tiles before it, or of no point before the first tile.
 fn begin(accumulator: &mut Accumulator, tile: u64, op: Aggregate)
-    ensures stands { (told : ℕ → List Told) → told 0 ≡ [] → (0 < tile → Stands accumulator.old (told tile)) → Stands accumulator.new (told tile) }
+    ensures stands { BeginsTile tile (Stands accumulator.old) (Stands accumulator.new) }
     ensures op { (0 < tile → accumulator.old.running.op ≡ op) → accumulator.new.running.op ≡ op }
     ensures count { (n : ℕ) → (0 < tile → accumulator.old.running.count ≤ n) → accumulator.new.running.count ≤ n }
 {
@@ -61,7 +60,7 @@ fn begin(accumulator: &mut Accumulator, tile: u64, op: Aggregate)
 
 /// The fault at the lower place of two.
 pub(crate) fn least_first(a: First, b: First) -> First
-    ensures { HoldsOfBoth (IsFirst a.fault a.place) (IsFirst b.fault b.place) (IsFirst result.fault result.place) }
+    ensures { HoldsOfBoth (IsFirstOf a) (IsFirstOf b) (IsFirstOf result) }
 {
     match a.fault {
         None => return b,
@@ -79,7 +78,7 @@ pub(crate) fn least_first(a: First, b: First) -> First
 
 /// The first fault before a tile: that of the tiles before it, or none before the first tile.
 fn begin_first(first: First, tile: u64) -> First
-    ensures { (told : ℕ → List Told) → told 0 ≡ [] → (0 < tile → IsFirst first.fault first.place (told tile)) → IsFirst result.fault result.place (told tile) }
+    ensures { BeginsTile tile (IsFirstOf first) (IsFirstOf result) }
 {
     if tile == 0 {
         return First {
@@ -102,7 +101,7 @@ fn write_cell(cells: &mut Vec<Cell>, place: u64, cell: Cell)
 fn write_cells(cells: &mut Vec<Cell>, written: &[(u64, Cell)])
     requires below { All (λ (w : ℕ × Cell). w.0 < length cells.old.items) written.now }
     ensures length { length cells.new.items ≡ length cells.old.items }
-    ensures written { (all : List Cell) (places : List ℕ) → All (λ (w : ℕ × Cell). slice_get all w.0 ≡ Some w.1) written.now → AreWritten all cells.old.items places → AreWritten all cells.new.items (places ++ map (λ (w : ℕ × Cell). w.0) written.now) }
+    ensures written { AreWrittenTo cells.old.items cells.new.items written.now }
 {
     for (place, cell) in written {
         write_cell(cells, *place, *cell);

@@ -1,21 +1,16 @@
 //! A tile of a pass, and a condition.
 
-ghost use Rattle.std.specs.Prelude.{◌≡◌, ◌+◌, ◌<◌, ◌≤◌, ℤ, List, [], ◌∷◌, length, map, IfOk, OnOk, IsSomeAnd};
-ghost use Rattle.std.specs.List.{flat_map};
-ghost use Rattle.arr_core.specs.Domains.{points, count, rank_of, IsBoxOf};
+ghost use Rattle.std.specs.Prelude.{◌≡◌, ◌<◌, ◌≤◌, [], length, IfOk};
+ghost use Rattle.arr_core.specs.Domains.{points, IsBoxOf};
 ghost use Rattle.arr_core.specs.Tiles.{tile_boxes};
-ghost use Rattle.wcps_mean.specs.Reports.{Reports};
-ghost use Rattle.plan_ir.specs.Bodies.{body_view, condition_view};
-ghost use Rattle.plan_ir.specs.Run.{run};
-ghost use Rattle.plan_ir.specs.Plans.{signature_of, pass_view};
-ghost use Rattle.plan_ir.specs.Planned.{cells_of};
-ghost use Rattle.plan_ir.specs.Placed.{IsPlaced, spans};
-ghost use Rattle.plan_ir.specs.Units.{bound_of};
 ghost use Rattle.tile_kernel.specs.Told.{told_at, demanded_at};
 ghost use Rattle.tile_kernel.specs.Standing.{Stands};
-ghost use Rattle.tile_columns.specs.Sources.{Leaves};
+ghost use Rattle.tile_columns.specs.Sources.{OnlyReads, Tells};
 ghost use Rattle.tile_columns.specs.TileOrder.{tile_of};
-ghost use Rattle.tile_exec.specs.Passes.{told_to_pass};
+ghost use Rattle.tile_exec.specs.declared.found.Found.TheVariants.{Pass, Condition};
+ghost use Rattle.tile_exec.specs.Passes.{ranks_in};
+ghost use Rattle.tile_exec.specs.Units.{IsFound};
+ghost use Rattle.tile_exec.specs.Fetching.{as_pass, as_condition, IsPartOver, FetchesBody, FetchesTile};
 
 use crate::column::column_over;
 use crate::workspace::Workspace;
@@ -40,7 +35,7 @@ fn fold_part(
 ) -> Result<Accumulator, AllocError>
     requires part { IsBoxOf area.now part.now }
     requires column { length column.now ≡ length (points part.now) }
-    ensures stands { IfOk result (λ a. Stands a (told_at (map (rank_of area.now) (points part.now)) column.now)) }
+    ensures stands { IfOk result (λ a. Stands a (told_at (ranks_in area.now part.now) column.now)) }
     ensures op { IfOk result (λ a. a.running.op ≡ op) }
     ensures count { IfOk result (λ a. a.running.count ≡ length column.now) }
 {
@@ -65,7 +60,7 @@ fn fold_part_where(
     requires part { IsBoxOf area.now part.now }
     requires column { length column.now ≡ length (points part.now) }
     requires condition { length condition.now ≡ length column.now }
-    ensures stands { IfOk result (λ a. Stands a (demanded_at (map (rank_of area.now) (points part.now)) condition.now column.now)) }
+    ensures stands { IfOk result (λ a. Stands a (demanded_at (ranks_in area.now part.now) condition.now column.now)) }
     ensures op { IfOk result (λ a. a.running.op ≡ op) }
     ensures count { IfOk result (λ a. a.running.count ≤ length column.now) }
 {
@@ -86,28 +81,25 @@ pub(crate) fn pass_tile<S: Tiles>(
     pass: &Fold,
     tile: u64,
 ) -> Result<Accumulator, CellError>
-    requires signatures { ground.now.signatures.now ≡ S.coverages source.old }
-    requires condition { IsPlaced (signature_of (S.coverages source.old) ground.now.coverages.now) (length ground.now.registers.now) (spans pass.now.domain) (condition_view pass.now.condition) }
-    requires body { IsPlaced (signature_of (S.coverages source.old) ground.now.coverages.now) (length ground.now.registers.now) (spans pass.now.domain) (body_view pass.now.body) }
+    requires signatures { ground.now.signatures.now ≡ (S.state source.old).coverages }
+    requires placed { IsPartOver (S.state source.old) ground.now (as_pass pass.now) }
     requires tile { tile < length (tile_boxes pass.now.domain) }
     ensures op { IfOk result (λ a. a.running.op ≡ pass.now.op) }
     ensures count { IfOk result (λ a. a.running.count ≤ length (points (tile_of pass.now.domain tile))) }
-    ensures stands { IfOk result (λ a. S.intact source.old → Stands a (flat_map (told_to_pass (cells_of (S.cells source.old) ground.now.coverages.now) ground.now.registers.now (pass_view pass.now)) (points (tile_of pass.now.domain tile)))) }
-    ensures same { Leaves (S.cells source.old) (S.cells source.new) (S.coverages source.old) (S.coverages source.new) (S.kept source.old) (S.kept source.new) }
-    ensures rises { S.fetched source.old ≤ S.fetched source.new }
-    ensures intact { S.intact source.old → S.intact source.new }
-    ensures reports { Reports result (S.spelled (S.kept source.old)) (S.failures source.old) (S.failures source.new) }
-    ensures fetched { OnOk result (S.fetched source.new ≤ S.fetched source.old + (bound_of (signature_of (S.coverages source.old) ground.now.coverages.now) (tile_of pass.now.domain tile) (condition_view pass.now.condition) + bound_of (signature_of (S.coverages source.old) ground.now.coverages.now) (tile_of pass.now.domain tile) (body_view pass.now.body))) }
+    ensures stands { IfOk result (λ a. IsFound (S.state source.old) ground.now tile (Pass a) (as_pass pass.now)) }
+    ensures reads { OnlyReads (S.state source.old) (S.state source.new) }
+    ensures reports { Tells S.spelled result (S.state source.old) (S.state source.new) }
+    ensures fetched { FetchesTile result ground.now tile (S.state source.old) (S.state source.new) (as_pass pass.now) }
 {
     let area = &pass.domain;
     let part = area.tile_box(workspace.memory.alloc, tile)?;
+    let _axes = part.axes();
     match &pass.condition {
         None => {
             column_over(
                 &mut workspace.memory,
                 source,
                 ground,
-                area,
                 &part,
                 &pass.body,
                 &mut workspace.column,
@@ -126,7 +118,6 @@ pub(crate) fn pass_tile<S: Tiles>(
                 &mut workspace.memory,
                 source,
                 ground,
-                area,
                 &part,
                 condition,
                 &mut workspace.chosen,
@@ -135,7 +126,6 @@ pub(crate) fn pass_tile<S: Tiles>(
                 &mut workspace.memory,
                 source,
                 ground,
-                area,
                 &part,
                 &pass.body,
                 &mut workspace.column,
@@ -158,27 +148,25 @@ pub(crate) fn condition_of<S: Tiles>(
     workspace: &mut Workspace,
     source: &mut S,
     ground: &Ground<'_>,
-    condition: &Body,
+    test: &Body,
 ) -> Result<Outcome, CellError>
-    requires signatures { ground.now.signatures.now ≡ S.coverages source.old }
-    requires placed { IsPlaced (signature_of (S.coverages source.old) ground.now.coverages.now) (length ground.now.registers.now) [] (body_view condition.now) }
-    ensures value { IfOk result (λ o. S.intact source.old → o ≡ run (cells_of (S.cells source.old) ground.now.coverages.now) ground.now.registers.now (body_view condition.now) []) }
-    ensures same { Leaves (S.cells source.old) (S.cells source.new) (S.coverages source.old) (S.coverages source.new) (S.kept source.old) (S.kept source.new) }
-    ensures rises { S.fetched source.old ≤ S.fetched source.new }
-    ensures intact { S.intact source.old → S.intact source.new }
-    ensures reports { Reports result (S.spelled (S.kept source.old)) (S.failures source.old) (S.failures source.new) }
-    ensures fetched { OnOk result (S.fetched source.new ≤ S.fetched source.old + bound_of (signature_of (S.coverages source.old) ground.now.coverages.now) [] (body_view condition.now)) }
+    requires signatures { ground.now.signatures.now ≡ (S.state source.old).coverages }
+    requires placed { IsPartOver (S.state source.old) ground.now (as_condition test.now) }
+    ensures value { IfOk result (λ o. IsFound (S.state source.old) ground.now 0 (Condition o) (as_condition test.now)) }
+    ensures reads { OnlyReads (S.state source.old) (S.state source.new) }
+    ensures reports { Tells S.spelled result (S.state source.old) (S.state source.new) }
+    ensures fetched { FetchesBody result ground.now [] test.now (S.state source.old) (S.state source.new) }
 {
     match Domain::new(Vec::new(workspace.memory.alloc)) {
         Err(_) => Err(CellError::NoMemory),
         Ok(point) => {
+            let _axes = point.axes();
             column_over(
                 &mut workspace.memory,
                 source,
                 ground,
                 &point,
-                &point,
-                condition,
+                test,
                 &mut workspace.column,
             )?;
             Ok(workspace.column.at(0))

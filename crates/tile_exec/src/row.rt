@@ -1,15 +1,13 @@
 //! What the columns of an item's fields tell, point by point.
 
-ghost use Rattle.std.specs.Prelude.{◌≡◌, ℕ, ◌+◌, ◌<◌, ◌^◌, List, [], ◌∷◌, ◌++◌, All, length, map, OnOk, IfOk};
+ghost use Rattle.std.specs.Prelude.{◌≡◌, ℕ, ◌+◌, ◌<◌, ◌^◌, List, [], ◌∷◌, ◌++◌, All, length, OnOk, IfOk};
 ghost use Rattle.std.specs.List.{enumerate_from};
 ghost use Rattle.arr_core.specs.declared.cell.Cell.{Cell};
 ghost use Rattle.wcps_mean.specs.declared.cell.Outcome.{Outcome};
 ghost use Rattle.wcps_mean.specs.Answer.{cell_of};
-ghost use Rattle.plan_ir.specs.Plans.{field_view};
-ghost use Rattle.tile_kernel.specs.Told.{Told, IsFirst};
 ghost use Rattle.tile_columns.specs.Fields.{HavePlaces};
-ghost use Rattle.tile_exec.specs.Items.{value_of};
-ghost use Rattle.tile_exec.specs.Rows.{row_at, cells_from, cells_told, rows_told};
+ghost use Rattle.tile_exec.specs.Items.{value_of, IsFirstOf, IsFirstAfter};
+ghost use Rattle.tile_exec.specs.Rows.{row_at, cells_at, all_cells_told, all_rows_told};
 
 use crate::keep::least_first;
 use crate::task::First;
@@ -31,7 +29,7 @@ fn cell_at(boolean: bool, o: Outcome) -> Cell
 
 /// The first fault after one more outcome.
 fn first_after(first: First, place: u64, o: Outcome) -> First
-    ensures { (told : List Told) → IsFirst first.fault first.place told → IsFirst result.fault result.place (told ++ (place, o) ∷ []) }
+    ensures { IsFirstAfter first result ((place, o) ∷ []) }
 {
     match o {
         Outcome::Value(_) => first,
@@ -66,8 +64,8 @@ fn tell_point(
     requires columns { length columns.now ≡ length fields.now }
     requires there { All (λ (c : List Outcome). k < length c) columns.now }
     requires small { place + length fields.now < 2 ^ 64 }
-    ensures cells { OnOk result (written.new.items ≡ written.old.items ++ cells_from place (map field_view fields.now) (row_at columns.now k)) }
-    ensures first { OnOk result ((told : List Told) → IsFirst first.old.fault first.old.place told → IsFirst first.new.fault first.new.place (told ++ enumerate_from place (row_at columns.now k))) }
+    ensures cells { OnOk result (written.new.items ≡ written.old.items ++ cells_at place fields.now columns.now k) }
+    ensures first { OnOk result (IsFirstAfter first.old first.new (enumerate_from place (row_at columns.now k))) }
 {
     for j in 0..fields.len() {
         let o = columns[j].at(k);
@@ -91,8 +89,8 @@ pub(crate) fn tell_points(
     requires ranks { All (λ (r : ℕ). r < 2 ^ 24) ranks.now }
     requires few { length fields.now < 2 ^ 32 }
     requires empty { written.old.items ≡ [] }
-    ensures cells { OnOk result (written.new.items ≡ cells_told ranks.now (map field_view fields.now) columns.now (length ranks.now)) }
-    ensures first { IfOk result (λ x. IsFirst x.fault x.place (rows_told ranks.now (length fields.now) columns.now (length ranks.now))) }
+    ensures cells { OnOk result (written.new.items ≡ all_cells_told ranks.now fields.now columns.now) }
+    ensures first { IfOk result (λ x. IsFirstOf x (all_rows_told ranks.now (length fields.now) columns.now)) }
 {
     let mut first = First {
         fault: None,

@@ -1,5 +1,6 @@
 //! Tasks: the passes, conditions and items of a plan's combinations.
 
+use plan_ir::Steps;
 use wcps_mean::PointFault;
 
 /// What a task does.
@@ -37,4 +38,13 @@ pub(crate) enum Status {
 pub(crate) struct First {
     pub fault: Option<PointFault>,
     pub place: u64,
+}
+
+/// The task at hand and the steps that have its part, how many of its tiles are done, and how it stands.
+#[derive(Clone, Copy)]
+pub(crate) struct AtHand<'a> {
+    pub steps: &'a Steps,
+    pub task: Task,
+    pub tile: u64,
+    pub status: Status,
 }

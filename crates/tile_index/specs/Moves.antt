@@ -1,5 +1,5 @@
 -- How the pairs of two lists, one after the other, are parted at a tile.
-use Rattle.std.specs.Prelude.{◌≡◌, ◌≢◌, ℕ, suc, ◌<◌, ◌≤◌, ◌^◌, List, [], ◌∷◌, ◌++◌}
+use Rattle.std.specs.Prelude.{◌≡◌, ◌≢◌, ℕ, suc, ◌<◌, ◌≤◌, ◌^◌, List, [], ◌∷◌, ◌++◌, reverse}
 use Rattle.tile_index.specs.declared.entry.Entry.{Entry}
 use Rattle.tile_index.specs.Index.{found_at}
 
@@ -20,3 +20,7 @@ pub record ArePartedAt (tile : ℕ) (whole front back : List (ℕ × Entry)) : T
   pub before : IsBetween 0 front tile
   pub after : IsBetween (suc tile) back (2 ^ 32)
   pub same : (t : ℕ) → t ≢ tile → found_at t (front ++ back) ≡ found_at t whole
+
+-- the entries after a tile were moved from the end of a list to the end of another, and that of the tile was dropped
+abbrev pub MovesAfter : ℕ → List (ℕ × Entry) → List (ℕ × Entry) → List (ℕ × Entry) → List (ℕ × Entry) → Type 0
+MovesAfter tile old moved new moved' = ArePartedAt tile (old ++ reverse moved) new (reverse moved')

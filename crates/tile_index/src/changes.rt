@@ -2,7 +2,7 @@
 
 ghost use Rattle.std.specs.Prelude.{◌≡◌, ◌≢◌, ◌≤◌, ◌+◌, ◌↔◌, ℕ, [], ◌++◌, None, Some, IsSome, IsTrue, IfSome, IfNone, reverse, vec_len, vec_capacity};
 ghost use Rattle.tile_index.specs.Index.{found_at, changed_at, IsRising, IsIndex, AreChanges, IsPlaceOf, AreExchanges};
-ghost use Rattle.tile_index.specs.Moves.{AreApart, ArePartedAt};
+ghost use Rattle.tile_index.specs.Moves.{AreApart, MovesAfter};
 
 use crate::entry::Entry;
 
@@ -63,8 +63,7 @@ pub fn exchange_all(entries: &mut Vec<(u64, Entry)>, mut changes: Vec<(u64, Opti
 fn move_after(entries: &mut Vec<(u64, Entry)>, moved: &mut Vec<(u64, Entry)>, tile: u64)
     requires apart { AreApart tile entries.old.items (reverse moved.old.items) }
     requires room { vec_len entries.old + vec_len moved.old ≤ vec_capacity moved.old }
-    ensures parted { ArePartedAt tile (entries.old.items ++ reverse moved.old.items)
-        entries.new.items (reverse moved.new.items) }
+    ensures parted { MovesAfter tile entries.old.items moved.old.items entries.new.items moved.new.items }
     ensures fewer { vec_len entries.new + vec_len moved.new ≤ vec_len entries.old + vec_len moved.old }
     ensures room { vec_capacity moved.old ≤ vec_capacity moved.new }
 {

@@ -11,7 +11,7 @@ use Rattle.wcps_text.specs.declared.operator.BinaryOperator.TheVariants.{Add, Su
 use Rattle.wcps_mean.specs.declared.cell.Outcome.{Outcome}
 use Rattle.wcps_mean.specs.declared.cell.Outcome.TheVariants.{Value}
 use Rattle.wcps_mean.specs.Cells.{number, truth, is_true, differ, exact2}
-use Rattle.tile_kernel.specs.Columns.{AreValues}
+use Rattle.tile_kernel.specs.Columns.{exact_at, AreValues}
 use Rattle.tile_kernel.specs.Lanes.{first, second, IsPair, AreAt, AreEach, AreSure, AreTried, GoesOn}
 use Rattle.tile_kernel.proofs.Signs.{below_64, mask_below, or_left, or_right, sum_kept, difference_kept}
 use Rattle.tile_kernel.proofs.Results.{ranged_same}
@@ -225,7 +225,7 @@ tried_there exact l r place xs ys vs ms h g p q t s =
 -- a trial in two lanes goes on by two places
 pub goes_on : (exact : ℤ → ℤ → Outcome) (l r : ℕ → ℤ) (place : ℕ) (out xs ys vs before ms : List ℤ) → place + 2 ≤ length out → IsPair xs → IsPair ys → IsPair vs → IsPair before → IsPair ms → AreAt l place xs → AreAt r place ys
     → AreTried exact (map (to_z w64) (map (of_z w64) xs)) (map (to_z w64) (map (of_z w64) ys)) vs ms
-    → GoesOn (λ k. exact (l k) (r k)) place before out (place + 2) (map (to_z w64) (zip2 bit_or (map (of_z w64) before) (map (of_z w64) ms))) (put_chunk place out (map (to_z w64) (map (of_z w64) vs)))
+    → GoesOn 2 (exact_at exact l r) place before out (map (to_z w64) (zip2 bit_or (map (of_z w64) before) (map (of_z w64) ms))) (put_chunk place out (map (to_z w64) (map (of_z w64) vs)))
 goes_on exact l r place out xs ys vs before ms room h g v b m p q t kept sure =
     let there = tried_there exact l r place xs ys vs ms h g p q t (sure_right before ms b m sure) in
     subst (λ w. AreValues (place + 2) (λ k. exact (l k) (r k)) (put_chunk place out w)) (sym (again vs v))

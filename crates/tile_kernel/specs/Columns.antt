@@ -1,5 +1,5 @@
 -- Columns as lists of outcomes.
-use Rattle.std.specs.Prelude.{◌≡◌, ℕ, ◌<◌, ◌≤◌, ℤ, pos, List, [], ◌∷◌, map, length, take, replicate, slice_index_or, Option, Some, None}
+use Rattle.std.specs.Prelude.{◌≡◌, ℕ, ◌<◌, ◌≤◌, ℤ, pos, ◌≤ℤ◌, List, [], ◌∷◌, map, length, take, replicate, slice_index_or, Option, Some, None}
 use Rattle.wcps_text.specs.declared.operator.UnaryOperator.{UnaryOperator}
 use Rattle.wcps_text.specs.declared.operator.BinaryOperator.{BinaryOperator}
 use Rattle.wcps_mean.specs.declared.cell.PointFault.{PointFault}
@@ -46,9 +46,17 @@ each2 op left right k = operate2 op (outcome_at left k) (outcome_at right k)
 abbrev pub each_with : BinaryOperator → (ℕ → ℤ) → List Outcome → ℕ → Outcome
 each_with op left right k = operate2 op (Value (left k)) (outcome_at right k)
 
+-- an operation on the values at a place
+abbrev pub exact_at : (ℤ → ℤ → Outcome) → (ℕ → ℤ) → (ℕ → ℤ) → ℕ → Outcome
+exact_at exact left right k = exact (left k) (right k)
+
 -- each of the first n outcomes is the value there
 abbrev pub AreValues : ℕ → (ℕ → Outcome) → List ℤ → Type 0
 AreValues n outcomes zs = (k : ℕ) → k < n → outcomes k ≡ Value (slice_index_or zs k (pos 0))
+
+-- the same where a mark is not negative
+abbrev pub AreValuesBy : ℤ → ℕ → (ℕ → Outcome) → List ℤ → Type 0
+AreValuesBy mark n outcomes zs = pos 0 ≤ℤ mark → AreValues n outcomes zs
 
 -- each of the first n outcomes is told by the value and the fault there
 abbrev pub AreOutcomes : ℕ → (ℕ → Outcome) → List ℤ → List (Option PointFault) → Type 0

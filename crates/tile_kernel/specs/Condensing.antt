@@ -5,7 +5,9 @@ use Rattle.wcps_mean.specs.declared.cell.PointFault.{PointFault}
 use Rattle.wcps_mean.specs.declared.cell.Outcome.{Outcome}
 use Rattle.wcps_mean.specs.Condensers.{values, combined}
 use Rattle.wcps_text.specs.declared.operator.Aggregate.{Aggregate}
+use Rattle.tile_kernel.specs.declared.accumulator.Accumulator.{Accumulator}
 use Rattle.tile_kernel.specs.Told.{Told, outcomes, IsFirst, ComesTo}
+use Rattle.tile_kernel.specs.Standing.{Stands}
 
 -- what stands for points stands for them in whatever order they are told
 abbrev pub IsUnordered : {C : Type 0} → (C → List Told → Type 0) → Type 0
@@ -27,6 +29,10 @@ pub record IsKept {S : Type 0} (keeps : S → List ℤ → Type 0) (s : S) (faul
 -- the same, of points that were told in some other order
 abbrev pub IsKeptOf : {S : Type 0} → (S → List ℤ → Type 0) → S → Option PointFault → ℕ → List Told → Type 0
 IsKeptOf keeps s fault place told = (list : List Told) × IsPermutation list told × IsKept keeps s fault place list
+
+-- it stands for whatever so many points have this
+abbrev pub StandsForAll : ℕ → (List Told → Type 0) → Accumulator → Type 0
+StandsForAll n have a = (told : List Told) → length told ≡ n → have told → Stands a told
 
 -- in whatever order the points of two are told, it comes to what the condenser makes of them in row-major order
 abbrev pub ComesToBoth : {C : Type 0} → Aggregate → (C → List Told → Type 0) → C → C → Outcome → Type 0

@@ -4,6 +4,7 @@ use Rattle.wcps_text.specs.declared.operator.BinaryOperator.TheVariants.{Equal}
 use Rattle.wcps_mean.specs.declared.cell.Outcome.{Outcome}
 use Rattle.wcps_mean.specs.declared.cell.Outcome.TheVariants.{Value}
 use Rattle.wcps_mean.specs.Cells.{operate2}
+use Rattle.tile_kernel.specs.Told.{Told, demanded_of, demanded_at}
 
 -- the condition that a key is this number, at each place
 abbrev pub having : List Outcome → ℤ → List Outcome
@@ -12,6 +13,14 @@ having keys z = map (λ (o : Outcome). operate2 Equal o (Value z)) keys
 -- the number at a place of a list
 abbrev pub number_at : List ℤ → ℕ → ℤ
 number_at numbers k = slice_index_or numbers k (pos 0)
+
+-- what a cell tells the accumulator of the k-th number, by the cell's key
+abbrev pub told_by_key : List ℤ → ℕ → Outcome → Outcome → ℕ → List Told
+told_by_key numbers place key o k = demanded_of place (operate2 Equal key (Value (number_at numbers k))) o
+
+-- what the cells of a column tell it, by the key of each
+abbrev pub told_by_keys : List ℤ → List ℕ → List Outcome → List Outcome → ℕ → List Told
+told_by_keys numbers places keys column k = demanded_at places (having keys (number_at numbers k)) column
 
 -- this is the place of a number in a list in which no other place has it, or there is none
 abbrev pub IsPlaceOf : ℤ → List ℤ → Option ℕ → Type 0

@@ -117,14 +117,13 @@ impl<S: Summary> Condenser for Condensed<S> {
 }
 
 impl<S: Summary> Condensed<S> {
-    ghost use Rattle.tile_kernel.specs.Standing.{Stands};
-    ghost use Rattle.tile_kernel.specs.Condensing.{IsKeptOf};
+    ghost use Rattle.tile_kernel.specs.Condensing.{IsKeptOf, StandsForAll};
 
     /// An accumulator of the same points, as many as are named.
     pub(crate) fn accumulator(self, count: u32) -> Accumulator
         requires counted { S.counted self.summary ≤ count }
         requires few { count ≤ 2 ^ 24 }
-        ensures stands { (told : List Told) → length told ≡ count → IsKeptOf S.keeps self.summary self.first.fault self.first.place told → Stands result told }
+        ensures stands { StandsForAll count (IsKeptOf S.keeps self.summary self.first.fault self.first.place) result }
         ensures op { result.running.op ≡ S.op }
         ensures count { result.running.count ≡ count }
     {

@@ -2,12 +2,8 @@
 
 ghost use Rattle.std.specs.Prelude.{◌≡◌, ◌-◌, ◌+◌, ◌<◌, ◌≤◌, ◌^◌, ℕ, ℤ, List, [], ◌∷◌, length, slice_index_or, IfSome};
 ghost use Rattle.wcps_text.specs.declared.operator.Aggregate.{Aggregate};
-ghost use Rattle.wcps_text.specs.declared.operator.BinaryOperator.TheVariants.{Equal};
-ghost use Rattle.wcps_mean.specs.declared.cell.Outcome.TheVariants.{Value};
-ghost use Rattle.wcps_mean.specs.Cells.{operate2};
-ghost use Rattle.tile_kernel.specs.Told.{demanded_of, demanded_at};
 ghost use Rattle.tile_kernel.specs.Standing.{AreOf, HaveAtMost, EachTakesIn};
-ghost use Rattle.tile_kernel.specs.Keyed.{having, number_at, IsPlaceOf};
+ghost use Rattle.tile_kernel.specs.Keyed.{told_by_key, told_by_keys, IsPlaceOf};
 
 use crate::accumulator::Accumulator;
 use crate::column::Column;
@@ -46,7 +42,7 @@ fn tell_keyed<N: Numbers>(
 )
     requires folds { length folds.old ≡ length (N.numbers numbers.now) }
     requires room { HaveAtMost (2 ^ 24 - 1) folds.old }
-    ensures stands { EachTakesIn folds.old folds.new (λ k. demanded_of place (operate2 Equal key (Value (number_at (N.numbers numbers.now) k))) o) }
+    ensures stands { EachTakesIn folds.old folds.new (told_by_key (N.numbers numbers.now) place key o) }
     ensures room { (n : ℕ) → HaveAtMost n folds.old → HaveAtMost (n + 1) folds.new }
     ensures op { (op : Aggregate) → AreOf op folds.old → AreOf op folds.new }
     ensures length { length folds.new ≡ length folds.old }
@@ -74,7 +70,7 @@ pub fn add_keyed<N: Numbers>(
     requires places { length places.now ≡ length column.now }
     requires room { HaveAtMost (2 ^ 24 - length column.now) folds.old }
     requires few { length column.now ≤ 4096 }
-    ensures stands { EachTakesIn folds.old folds.new (λ k. demanded_at places.now (having keys.now (number_at (N.numbers numbers.now) k)) column.now) }
+    ensures stands { EachTakesIn folds.old folds.new (told_by_keys (N.numbers numbers.now) places.now keys.now column.now) }
     ensures room { (n : ℕ) → HaveAtMost n folds.old → HaveAtMost (n + length column.now) folds.new }
     ensures op { (op : Aggregate) → AreOf op folds.old → AreOf op folds.new }
     ensures length { length folds.new ≡ length folds.old }

@@ -1,7 +1,7 @@
 //! Operations tried in lanes: two places in a vector, four vectors at a time.
 
 ghost use Rattle.std.specs.Prelude.{◌≡◌, ◌+◌, ◌*◌, ◌≤◌, ◌≤ℤ◌, pos, length, IsTrue};
-ghost use Rattle.tile_kernel.specs.Columns.{AreValues};
+ghost use Rattle.tile_kernel.specs.Columns.{exact_at, AreValues, AreValuesBy};
 ghost use Rattle.tile_kernel.specs.Lanes.{IsPair, AreSure, AreTried, GoesOn};
 
 use crate::loops::{try_from, try_places};
@@ -52,7 +52,7 @@ fn try_pair<O: LaneTrial, L: Operand, R: Operand>(
     requires marks { IsPair marks }
     ensures marks { IsPair result }
     ensures length { length out.new ≡ length out.old }
-    ensures tried { GoesOn (λ k. O.exact (L.value left.now k) (R.value right.now k)) place marks out.old (place + 2) result out.new }
+    ensures tried { GoesOn 2 (exact_at O.exact (L.value left.now) (R.value right.now)) place marks out.old result out.new }
 {
     let tried = O::tried_pair(left.pair(place), right.pair(place));
     tried.values.copy_to_slice(&mut out[place..]);
@@ -73,7 +73,7 @@ fn try_block<O: LaneTrial, L: Operand, R: Operand>(
     requires marks { IsPair marks }
     ensures marks { IsPair result }
     ensures length { length out.new ≡ length out.old }
-    ensures tried { GoesOn (λ k. O.exact (L.value left.now k) (R.value right.now k)) place marks out.old (place + 8) result out.new }
+    ensures tried { GoesOn 8 (exact_at O.exact (L.value left.now) (R.value right.now)) place marks out.old result out.new }
 {
     let a = try_pair::<O, L, R>(place, left, right, out, marks);
     let b = try_pair::<O, L, R>(place + 2, left, right, out, a);
@@ -92,7 +92,7 @@ fn try_blocks<O: LaneTrial, L: Operand, R: Operand>(
     requires right { 8 * blocks ≤ R.places right.now }
     requires out { 8 * blocks ≤ length out.old }
     ensures length { length out.new ≡ length out.old }
-    ensures tried { pos 0 ≤ℤ result → AreValues (8 * blocks) (λ k. O.exact (L.value left.now k) (R.value right.now k)) out.new }
+    ensures tried { AreValuesBy result (8 * blocks) (exact_at O.exact (L.value left.now) (R.value right.now)) out.new }
 {
     let mut marks = i64x2::splat(0);
     for block in 0..blocks {
@@ -112,7 +112,7 @@ pub(crate) fn try_lanes<O: LaneTrial, L: Operand, R: Operand>(
     requires left { len ≤ L.places left.now }
     requires right { len ≤ R.places right.now }
     requires out { len ≤ length out.old }
-    ensures { IsTrue result → AreValues len (λ k. O.exact (L.value left.now k) (R.value right.now k)) out.new }
+    ensures { IsTrue result → AreValues len (exact_at O.exact (L.value left.now) (R.value right.now)) out.new }
 {
     if len < BLOCK {
         return try_places::<O, L, R>(len, left, right, out);

@@ -1,7 +1,7 @@
 //! The loop of a kernel.
 
-ghost use Rattle.std.specs.Prelude.{◌≤◌, ◌≤ℤ◌, pos, length, IsTrue};
-ghost use Rattle.tile_kernel.specs.Columns.{AreValues};
+ghost use Rattle.std.specs.Prelude.{◌≤◌, length, IsTrue};
+ghost use Rattle.tile_kernel.specs.Columns.{exact_at, AreValues, AreValuesBy};
 
 use crate::operand::Operand;
 use crate::trial::Trial;
@@ -16,7 +16,7 @@ pub(crate) fn try_places<O: Trial, L: Operand, R: Operand>(
     requires left { len ≤ L.places left.now }
     requires right { len ≤ R.places right.now }
     requires out { len ≤ length out.old }
-    ensures { IsTrue result → AreValues len (λ k. O.exact (L.value left.now k) (R.value right.now k)) out.new }
+    ensures { IsTrue result → AreValues len (exact_at O.exact (L.value left.now) (R.value right.now)) out.new }
 {
     try_from::<O, L, R>(0, len, left, right, out, 0)
 }
@@ -35,8 +35,8 @@ pub(crate) fn try_from<O: Trial, L: Operand, R: Operand>(
     requires left { len ≤ L.places left.now }
     requires right { len ≤ R.places right.now }
     requires out { len ≤ length out.old }
-    requires before { pos 0 ≤ℤ mark → AreValues from (λ k. O.exact (L.value left.now k) (R.value right.now k)) out.old }
-    ensures { IsTrue result → AreValues len (λ k. O.exact (L.value left.now k) (R.value right.now k)) out.new }
+    requires before { AreValuesBy mark from (exact_at O.exact (L.value left.now) (R.value right.now)) out.old }
+    ensures { IsTrue result → AreValues len (exact_at O.exact (L.value left.now) (R.value right.now)) out.new }
 {
     let mut marks = mark;
     for place in from..len {

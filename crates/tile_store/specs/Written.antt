@@ -28,6 +28,10 @@ pub record HoldsPart (block : List ℕ) (place : ℕ) (bytes : List ℕ) : Type 
       → slice_index_or block j 0 ≡ slice_index_or bytes (4096 * place + j) 0
   pub padded : (j : ℕ) → j < 4096 → length bytes ≤ 4096 * place + j → slice_index_or block j 0 ≡ 0
 
+-- each block is the one behind the one before it
+abbrev pub AreNeighbours : List ℕ → Type 0
+AreNeighbours ks = (i : ℕ) → i < length ks → slice_index_or ks i 0 ≡ slice_index_or ks 0 0 + i
+
 -- on an honest disk these are the bytes of a tile
 abbrev pub IsDataRead : BlocksState → Entry → List ℕ → Type 0
 IsDataRead s entry bytes = IsTrue s.honest → bytes ≡ entry_data s.content entry

@@ -1,12 +1,11 @@
 //! The bytes of a tile in its blocks.
 
-ghost use Rattle.std.specs.Prelude.{◌≡◌, ℕ, ◌+◌, ◌*◌, ◌<◌, ◌≤◌, ◌^◌, length, slice_index_or, IsErr, IsErrOf, OnOk, IsTrue};
-ghost use Rattle.std.specs.List.{flat_map};
+ghost use Rattle.std.specs.Prelude.{◌+◌, ◌*◌, ◌<◌, ◌≤◌, ◌^◌, length, IsErr, IsErrOf, OnOk, IsTrue};
 ghost use Rattle.disk_face.specs.Disk.{Tells};
-ghost use Rattle.block_file.specs.State.{block, times};
-ghost use Rattle.block_file.specs.Words.{OnlyReads, Moves, Covers};
+ghost use Rattle.block_file.specs.State.{times};
+ghost use Rattle.block_file.specs.Words.{OnlyReads, Moves, Covers, AreBytesOf};
 ghost use Rattle.tile_store.specs.Faults.{Refuses};
-ghost use Rattle.tile_store.specs.Written.{IsDataRead, HoldsPart, HoldsBytes, AreFresh};
+ghost use Rattle.tile_store.specs.Written.{AreNeighbours, IsDataRead, HoldsPart, HoldsBytes, AreFresh};
 
 use crate::fault::Fault;
 use block_file::{BLOCK_BYTES, Blocks};
@@ -20,8 +19,7 @@ const MOST_AT_ONCE: usize = 10;
 fn are_neighbours(numbers: &[u32]) -> bool
     ensures some { IsTrue result → 0 < length numbers.now }
     ensures few { IsTrue result → length numbers.now ≤ 10 }
-    ensures rising { IsTrue result
-        → (i : ℕ) → i < length numbers.now → slice_index_or numbers.now i 0 ≡ slice_index_or numbers.now 0 0 + i }
+    ensures rising { IsTrue result → AreNeighbours numbers.now }
 {
     if numbers.len() == 0 || MOST_AT_ONCE < numbers.len() {
         return false;
@@ -44,10 +42,8 @@ fn read_neighbours<B: Blocks>(
     requires used { Covers (B.state blocks.old) (times numbers.now) }
     requires some { 0 < length numbers.now }
     requires few { length numbers.now ≤ 10 }
-    requires rising { (i : ℕ)
-        → i < length numbers.now → slice_index_or numbers.now i 0 ≡ slice_index_or numbers.now 0 0 + i }
-    ensures value { OnOk result (IsTrue (B.state blocks.old).honest
-        → bytes.new.items ≡ flat_map (block (B.state blocks.old)) numbers.now) }
+    requires rising { AreNeighbours numbers.now }
+    ensures value { OnOk result (AreBytesOf numbers.now (B.state blocks.old) bytes.new.items) }
     ensures why { Refuses result ⊥ ⊥ }
     ensures frame { OnlyReads (times numbers.now) (B.state blocks.old) (B.state blocks.new) }
     ensures told { Tells (IsErrOf result Fault.DiskFault) (B.state blocks.old).failures (B.state blocks.new).failures }
@@ -61,8 +57,7 @@ fn read_neighbours<B: Blocks>(
 /// Reads blocks one by one into a buffer.
 fn read_each<B: Blocks>(blocks: &mut B, numbers: &[u32], bytes: &mut Vec<u8>) -> Result<(), Fault>
     requires { Covers (B.state blocks.old) (times numbers.now) }
-    ensures value { OnOk result (IsTrue (B.state blocks.old).honest
-        → bytes.new.items ≡ flat_map (block (B.state blocks.old)) numbers.now) }
+    ensures value { OnOk result (AreBytesOf numbers.now (B.state blocks.old) bytes.new.items) }
     ensures why { Refuses result ⊥ ⊥ }
     ensures frame { OnlyReads (times numbers.now) (B.state blocks.old) (B.state blocks.new) }
     ensures told { Tells (IsErrOf result Fault.DiskFault) (B.state blocks.old).failures (B.state blocks.new).failures }
@@ -79,8 +74,7 @@ fn read_each<B: Blocks>(blocks: &mut B, numbers: &[u32], bytes: &mut Vec<u8>) ->
 /// Reads blocks into a buffer: several neighbours at once, a single block and others one by one, by the pages.
 fn read_blocks<B: Blocks>(blocks: &mut B, numbers: &[u32], bytes: &mut Vec<u8>) -> Result<(), Fault>
     requires { Covers (B.state blocks.old) (times numbers.now) }
-    ensures value { OnOk result (IsTrue (B.state blocks.old).honest
-        → bytes.new.items ≡ flat_map (block (B.state blocks.old)) numbers.now) }
+    ensures value { OnOk result (AreBytesOf numbers.now (B.state blocks.old) bytes.new.items) }
     ensures why { Refuses result ⊥ ⊥ }
     ensures frame { OnlyReads (times numbers.now) (B.state blocks.old) (B.state blocks.new) }
     ensures told { Tells (IsErrOf result Fault.DiskFault) (B.state blocks.old).failures (B.state blocks.new).failures }

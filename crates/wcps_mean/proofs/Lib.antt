@@ -9,3 +9,5 @@ pub mod Told
 pub mod Rows
 pub mod ItemFields
 pub mod FewCells
+pub mod Scoped
+pub mod PartsOver

@@ -1,10 +1,6 @@
 -- Lists that grow at their end and are cut back.
-use Rattle.std.proofs.Common.{◌≡◌, ℕ, ◌≤◌, List, [], ◌++◌, length, take, drop, arith}
+use Rattle.std.proofs.Common.{◌≡◌, ℕ, ◌≤◌, List, ◌++◌, length, take, drop, arith}
 use Rattle.std.proofs.lemmas.Grind.{common_steps}
-
--- nothing stands above the top
-pub top-empty : {X : Type 0} (n : ℕ) (xs ys : List X) → n ≡ length xs → ys ≡ xs → drop n ys ≡ []
-top-empty n xs ys e f = grind (arith, common_steps)
 
 -- what was put on is cut off again
 pub cut-back : {X : Type 0} (n : ℕ) (xs ys now : List X) → n ≡ length xs → now ≡ xs ++ ys → take n now ≡ xs

@@ -1,10 +1,11 @@
 -- Operations on cells: exact, and then tested. A Boolean stands as 0 or 1.
-use Rattle.std.specs.Prelude.{ℕ, zero, suc, ◌/◌, ◌%◌, ◌^◌, ℤ, pos, negsuc, ◌+ℤ◌, ◌-ℤ◌, ◌*ℤ◌, neg_ℤ, nat_abs, int_div, int_le, int_lt, nat_lt, nat_eq, cond, Bool, true, false, not, ◌&&◌, ◌||◌}
+use Rattle.std.specs.Prelude.{ℕ, zero, suc, ◌/◌, ◌%◌, ◌^◌, ℤ, pos, negsuc, ◌+ℤ◌, ◌-ℤ◌, ◌*ℤ◌, neg_ℤ, nat_abs, int_div, int_le, int_lt, nat_lt, nat_eq, cond, Bool, true, false, not, ◌&&◌, ◌||◌, ◌≡◌, Result, Ok, Err}
 use Rattle.std.specs.Int.{w64, cast_unsigned}
 use Rattle.wcps_text.specs.declared.operator.UnaryOperator.{UnaryOperator}
 use Rattle.wcps_text.specs.declared.operator.UnaryOperator.TheVariants.{Negate, Plus, Not, Absolute}
 use Rattle.wcps_text.specs.declared.operator.BinaryOperator.{BinaryOperator}
 use Rattle.wcps_text.specs.declared.operator.BinaryOperator.TheVariants.{Multiply, Divide, Add, Subtract, Less, LessEqual, Greater, GreaterEqual, Equal, NotEqual, And, Or, Xor, Bit}
+use Rattle.wcps_mean.specs.declared.cell.PointFault.{PointFault}
 use Rattle.wcps_mean.specs.declared.cell.PointFault.TheVariants.{Overflow, DivideByZero, OutOfDomain, BadBit}
 use Rattle.wcps_mean.specs.declared.cell.Outcome.{Outcome}
 use Rattle.wcps_mean.specs.declared.cell.Outcome.TheVariants.{Value, Fault}
@@ -94,3 +95,8 @@ operate2 op (Value x) (Value y) = exact2 op x y
 abbrev pub at_position : Outcome → ℤ → ℤ → (ℤ → Outcome) → Outcome
 at_position (Fault f) lo hi go = Fault f
 at_position (Value z) lo hi go = cond (int_le lo z && int_le z hi) (go z) (Fault OutOfDomain)
+
+-- what a tested position makes of all that goes on: it goes on with the coordinate, or ends in the fault
+abbrev pub TestsAs : Result ℤ PointFault → ((ℤ → Outcome) → Outcome) → Type 0
+TestsAs (Ok z) at = (go : ℤ → Outcome) → at go ≡ go z
+TestsAs (Err f) at = (go : ℤ → Outcome) → at go ≡ Fault f

@@ -1,5 +1,5 @@
 -- What a running condenser has been fed.
-use Rattle.std.specs.Prelude.{◌≡◌, ℤ, List, length}
+use Rattle.std.specs.Prelude.{◌≡◌, ℤ, List, ◌++◌, length}
 use Rattle.wcps_mean.specs.declared.running.Running.{Running}
 use Rattle.wcps_text.specs.declared.operator.Aggregate.{Aggregate}
 use Rattle.wcps_text.specs.declared.operator.Aggregate.TheVariants.{Sum, Product, Greatest, Least, Every, Any, Count, Average}
@@ -24,3 +24,7 @@ pub record Fed (r : Running) (outs : List Outcome) : Type 0 where
   pub counted : r.count ≡ length outs
   pub faulted : r.fault ≡ first_fault outs
   pub kept : Keeps r.op r (values outs)
+
+-- it has taken these outcomes in, behind those before them
+abbrev pub Feeds : Running → Running → List Outcome → Type 0
+Feeds old new more = (outs : List Outcome) → Fed old outs → Fed new (outs ++ more)

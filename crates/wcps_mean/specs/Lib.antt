@@ -8,5 +8,9 @@ pub mod Feeding
 pub mod Meaning
 pub mod Answer
 pub mod Reports
+pub mod Reading
 pub mod Errors
+pub mod Scopes
 pub mod Parts
+pub mod Spots
+pub mod QueryParts

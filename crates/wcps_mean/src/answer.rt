@@ -1,19 +1,22 @@
 //! The answer of a query: its items, or the first fault.
 
-ghost use Rattle.std.specs.Prelude.{◌≡◌, ◌<◌, ◌≤◌, ◌*◌, false, get_or, List, [], ◌∷◌, ◌++◌, Ok, Err, Result, IfOk, IfErr, OnOk, MatchResult, length, map, option_map};
+ghost use Rattle.std.specs.Prelude.{◌≡◌, ◌<◌, ◌≤◌, ◌*◌, false, get_or, List, [], ◌∷◌, ◌++◌, Ok, Err, Result, OnOk, MatchResult, length, map, option_map, vec_len};
 ghost use Rattle.arr_core.specs.Domains.{count};
 ghost use Rattle.wcps_types.specs.Cells.{result_cells, max_cells};
-ghost use Rattle.wcps_types.specs.Typed.{boxed_tree, item_view, tree_view};
-ghost use Rattle.wcps_types.specs.Renamed.{renamed, renamed_item, renamed_combination, combination_view};
+ghost use Rattle.wcps_types.specs.Typed.{tree_view};
+ghost use Rattle.wcps_types.specs.Renamed.{combination_view};
 ghost use Rattle.wcps_types.specs.TypedQueries.{query_view, trees_in};
-ghost use Rattle.wcps_mean.specs.Answer.{answer, combination_answer, chosen, item_answer, cells_at, cell_of, line_of, field_count};
-ghost use Rattle.wcps_mean.specs.Errors.{TellsFault, PushesCells, PassesOn};
+ghost use Rattle.wcps_mean.specs.Answer.{answer, chosen, item_answer, cell_of, line_of, field_count};
+ghost use Rattle.wcps_mean.specs.Errors.{Answers, Lists, Pushes, PassesOn};
+ghost use Rattle.wcps_mean.specs.Reading.{Leaves};
+ghost use Rattle.wcps_mean.specs.Scopes.{IsSame, answer_of, answer_over, cells_in, item_over, tree_over};
 
 use crate::cell::{Outcome, PointFault, is_set};
 use crate::cells::{CellError, Cells};
 use crate::eval::eval;
 use crate::item::{CellList, Item};
-use crate::points::{push_point, size};
+use crate::points::push_point;
+use crate::scope::Scope;
 use arr_core::{Axis, Cell};
 use std::alloc::{AllocError, AllocFailed, Global};
 use thiserror::Error;
@@ -72,11 +75,8 @@ pub fn eval_plain<C: Cells>(
     cells: &mut C,
     query: &TypedQuery,
 ) -> Result<Vec<Item>, EvalError>
-    ensures items { IfOk result (λ items. C.intact cells.old → answer (C.cells cells.old) (query_view query.now) ≡ Ok items.items) }
-    ensures fault { IfErr result (λ e. C.intact cells.old → TellsFault e (answer (C.cells cells.old) (query_view query.now))) }
-    ensures same { C.cells cells.new ≡ C.cells cells.old }
-    ensures kept { C.kept cells.new ≡ C.kept cells.old }
-    ensures intact { C.intact cells.old → C.intact cells.new }
+    ensures answer { Lists C.Cells cells.old result (λ s. answer s (query_view query.now)) }
+    ensures leaves { Leaves C.Cells cells.old cells.new }
     ensures reports { PassesOn result (C.intact cells.old) (C.failures cells.old) (C.failures cells.new) }
 {
     let mut items = Vec::new(alloc);
@@ -95,11 +95,8 @@ fn push_combination<C: Cells>(
     items: &mut Vec<Item>,
 ) -> Result<(), EvalError>
     requires few_cells { result_cells (combination_view (trees_in query.now) combination.now ∷ []) ≤ max_cells }
-    ensures value { OnOk result (C.intact cells.old → PushesCells (combination_answer (C.cells cells.old) (combination_view (trees_in query.now) combination.now)) items.old.items items.new.items) }
-    ensures fault { IfErr result (λ e. C.intact cells.old → TellsFault e (combination_answer (C.cells cells.old) (combination_view (trees_in query.now) combination.now))) }
-    ensures same { C.cells cells.new ≡ C.cells cells.old }
-    ensures kept { C.kept cells.new ≡ C.kept cells.old }
-    ensures intact { C.intact cells.old → C.intact cells.new }
+    ensures pushed { Pushes C.Cells cells.old result (answer_of query.now combination.now) items.old items.new }
+    ensures leaves { Leaves C.Cells cells.old cells.new }
     ensures reports { PassesOn result (C.intact cells.old) (C.failures cells.old) (C.failures cells.new) }
 {
     let Some(tree) = tree_at(alloc, query, combination.tree)? else {
@@ -117,11 +114,8 @@ fn push_tree<C: Cells>(
     items: &mut Vec<Item>,
 ) -> Result<(), EvalError>
     requires few_cells { result_cells (tree_view tree.now ∷ []) ≤ max_cells }
-    ensures value { OnOk result (C.intact cells.old → PushesCells (combination_answer (C.cells cells.old) (renamed_combination coverages.now (tree_view tree.now))) items.old.items items.new.items) }
-    ensures fault { IfErr result (λ e. C.intact cells.old → TellsFault e (combination_answer (C.cells cells.old) (renamed_combination coverages.now (tree_view tree.now)))) }
-    ensures same { C.cells cells.new ≡ C.cells cells.old }
-    ensures kept { C.kept cells.new ≡ C.kept cells.old }
-    ensures intact { C.intact cells.old → C.intact cells.new }
+    ensures pushed { Pushes C.Cells cells.old result (answer_over coverages.now tree.now) items.old items.new }
+    ensures leaves { Leaves C.Cells cells.old cells.new }
     ensures reports { PassesOn result (C.intact cells.old) (C.failures cells.old) (C.failures cells.new) }
 {
     let gives_item = is_chosen(alloc, cells, coverages, tree)?;
@@ -140,19 +134,15 @@ fn is_chosen<C: Cells>(
     coverages: &[usize],
     tree: &Tree,
 ) -> Result<bool, EvalError>
-    ensures value { IfOk result (λ b. C.intact cells.old → chosen (C.cells cells.old) (option_map (renamed coverages.now) (option_map boxed_tree tree.now.condition)) ≡ Ok b) }
-    ensures fault { IfErr result (λ e. C.intact cells.old → TellsFault e (chosen (C.cells cells.old) (option_map (renamed coverages.now) (option_map boxed_tree tree.now.condition)))) }
-    ensures same { C.cells cells.new ≡ C.cells cells.old }
-    ensures kept { C.kept cells.new ≡ C.kept cells.old }
-    ensures intact { C.intact cells.old → C.intact cells.new }
+    ensures answer { Answers C.Cells cells.old result (λ s. chosen s (tree_over coverages.now tree.now).condition) }
+    ensures leaves { Leaves C.Cells cells.old cells.new }
     ensures reports { PassesOn result (C.intact cells.old) (C.failures cells.old) (C.failures cells.new) }
 {
     match &tree.condition {
         None => Ok(true),
         Some(node) => {
-            let mut env = Vec::new(alloc);
-            let mut points = Vec::new(alloc);
-            let o = eval(cells, coverages, node, 0, &mut env, &mut points, 0)?;
+            let mut scope = Scope::new(alloc, coverages);
+            let o = eval(cells, &mut scope, node, 0)?;
             match o {
                 Outcome::Fault(f) => Err(EvalError::Fault(f)),
                 Outcome::Value(x) => Ok(is_set(x)),
@@ -169,22 +159,18 @@ fn item_of<C: Cells>(
     item: &TypedItem,
 ) -> Result<Item, EvalError>
     requires few_cells { count item.now.domain * length item.now.booleans.items ≤ max_cells }
-    ensures value { IfOk result (λ i. C.intact cells.old → item_answer (C.cells cells.old) (renamed_item coverages.now (item_view item.now)) ≡ Ok i) }
-    ensures fault { IfErr result (λ e. C.intact cells.old → TellsFault e (item_answer (C.cells cells.old) (renamed_item coverages.now (item_view item.now)))) }
-    ensures same { C.cells cells.new ≡ C.cells cells.old }
-    ensures kept { C.kept cells.new ≡ C.kept cells.old }
-    ensures intact { C.intact cells.old → C.intact cells.new }
+    ensures answer { Answers C.Cells cells.old result (λ s. item_answer s (item_over coverages.now item.now)) }
+    ensures leaves { Leaves C.Cells cells.old cells.new }
     ensures reports { PassesOn result (C.intact cells.old) (C.failures cells.old) (C.failures cells.new) }
 {
     let fields = count_fields(item);
     let count = item.domain.points() * fields as u64;
     let mut list = Vec::with_capacity(alloc, count as usize)?;
-    let mut env = Vec::new(alloc);
-    let mut points = Vec::new(alloc);
+    let mut scope = Scope::new(alloc, coverages);
     for place in 0..item.domain.points() {
-        push_point(&mut points, &item.domain, place)?;
-        push_cells(cells, coverages, item, &mut env, &mut points, &mut list)?;
-        points.truncate(0);
+        push_point(&mut scope.points, &item.domain, place)?;
+        push_cells(cells, &mut scope, item, &mut list)?;
+        scope.points.truncate(0);
     }
     Ok(Item {
         line: run_length(item.domain.axes()),
@@ -193,27 +179,22 @@ fn item_of<C: Cells>(
     })
 }
 
-/// Puts the cells of the fields of an item at a point at the end of a list.
+/// Puts the cells of the fields of an item at the point in scope at the end of a list.
 fn push_cells<C: Cells>(
     cells: &mut C,
-    coverages: &[usize],
+    scope: &mut Scope<'_>,
     item: &TypedItem,
-    env: &mut Vec<i32>,
-    points: &mut Vec<i32>,
     list: &mut Vec<Cell>,
 ) -> Result<(), EvalError>
-    requires scope_empty { env.old.items ≡ [] }
-    ensures value { OnOk result (C.intact cells.old → PushesCells (cells_at (C.cells cells.old) (renamed_item coverages.now (item_view item.now)).fields points.old.items) list.old.items list.new.items) }
-    ensures fault { IfErr result (λ e. C.intact cells.old → TellsFault e (cells_at (C.cells cells.old) (renamed_item coverages.now (item_view item.now)).fields points.old.items)) }
-    ensures scope { OnOk result (env.new.items ≡ []) }
-    ensures place { OnOk result (points.new.items ≡ points.old.items) }
-    ensures same { C.cells cells.new ≡ C.cells cells.old }
-    ensures kept { C.kept cells.new ≡ C.kept cells.old }
-    ensures intact { C.intact cells.old → C.intact cells.new }
+    requires point { scope.old.base ≤ vec_len scope.old.points }
+    requires no_iterators { scope.old.iterators.items ≡ [] }
+    ensures pushed { Pushes C.Cells cells.old result (cells_in scope.old item.now) list.old list.new }
+    ensures scope { OnOk result (IsSame scope.old scope.new) }
+    ensures leaves { Leaves C.Cells cells.old cells.new }
     ensures reports { PassesOn result (C.intact cells.old) (C.failures cells.old) (C.failures cells.new) }
 {
     for field in 0..item.booleans.len() {
-        let o = eval(cells, coverages, &item.node, field, env, points, 0)?;
+        let o = eval(cells, scope, &item.node, field)?;
         match o {
             Outcome::Fault(f) => return Err(EvalError::Fault(f)),
             Outcome::Value(x) => list.push(field_cell(item, field, x))?,
@@ -256,7 +237,7 @@ pub fn run_length(axes: &[Axis]) -> u64
 {
     match axes {
         [] => 1,
-        [axis] => size(axis),
+        [axis] => axis.size(),
         [_, rest @ ..] => run_length(rest),
     }
 }

@@ -1,73 +1,65 @@
 //! Evaluation at a point.
 
-ghost use Rattle.std.specs.Prelude.{◌≡◌, ℕ, ◌+◌, ◌<◌, ◌≤◌, ℤ, pos, List, [], ◌∷◌, ◌++◌, length, slice_index_or, IfOk, OnOk, MatchResult, map, drop, insert, vec_len};
+ghost use Rattle.std.specs.Prelude.{◌≡◌, ℕ, ◌+◌, ◌<◌, ◌≤◌, ℤ, pos, List, [], ◌∷◌, ◌++◌, length, slice_index_or, OnOk, map, drop, insert, vec_len};
 ghost use Rattle.arr_core.specs.Domains.{points as box_points};
 ghost use Rattle.wcps_mean.specs.declared.cell.Outcome.{Outcome};
-ghost use Rattle.wcps_mean.specs.Cells.{at_position};
+ghost use Rattle.wcps_mean.specs.Cells.{at_position, TestsAs};
 ghost use Rattle.wcps_mean.specs.Condensers.{condensed};
 ghost use Rattle.wcps_mean.specs.Meaning.{val};
+ghost use Rattle.wcps_mean.specs.Reading.{Leaves, Returns};
 ghost use Rattle.wcps_mean.specs.Reports.{Reports};
-ghost use Rattle.wcps_types.specs.Typed.{field_tree, only_tree};
+ghost use Rattle.wcps_mean.specs.Scopes.{IsSame, outcome_in, outcome_with, point_in};
+ghost use Rattle.wcps_types.specs.Typed.{field_tree, only_tree, scalar, array, condense, reduce};
 ghost use Rattle.wcps_types.specs.Renamed.{renamed};
 
 use crate::cell::{Outcome, PointFault, operate, operate_both};
 use crate::cells::{CellError, Cells};
-use crate::points::{place_of, push_point};
+use crate::points::push_point;
 use crate::running::Running;
-use arr_core::Domain;
+use crate::scope::Scope;
+use arr_core::{Domain, rank_of};
 use std::alloc::AllocError;
 use wcps_text::Aggregate;
 use wcps_types::Node;
 
-/// The outcome of one field of a node at the point that stands in `points` from `base` on, its iterators bound to `env`; a
-/// variable stands for the coverage at its place among `coverages`. The last two lists grow and shrink as the evaluation goes
-/// down and up; after an outcome they are as before.
+/// The outcome of one field of a node in scope.
 #[cycle(eval)]
 pub(crate) fn eval<C: Cells>(
     cells: &mut C,
-    coverages: &[usize],
+    scope: &mut Scope<'_>,
     e: &Node,
     field: usize,
-    env: &mut Vec<i32>,
-    points: &mut Vec<i32>,
-    base: usize,
 ) -> Result<Outcome, CellError>
-    requires { base ≤ vec_len points.old }
-    ensures value { IfOk result (λ o. C.intact cells.old → o ≡ val (C.cells cells.old) (renamed coverages.now (field_tree e.now field)) env.old.items (drop base points.old.items)) }
-    ensures scope { OnOk result (env.new.items ≡ env.old.items) }
-    ensures place { OnOk result (points.new.items ≡ points.old.items) }
-    ensures same { C.cells cells.new ≡ C.cells cells.old }
-    ensures kept { C.kept cells.new ≡ C.kept cells.old }
-    ensures intact { C.intact cells.old → C.intact cells.new }
+    requires { scope.old.base ≤ vec_len scope.old.points }
+    ensures value { Returns C.Cells cells.old result (outcome_in scope.old (field_tree e.now field)) }
+    ensures scope { OnOk result (IsSame scope.old scope.new) }
+    ensures leaves { Leaves C.Cells cells.old cells.new }
     ensures reports { Reports result (C.intact cells.old) (C.failures cells.old) (C.failures cells.new) }
 {
     match e {
         Node::Number(z) => Ok(Outcome::Value(*z)),
-        Node::Iterator(k) => Ok(Outcome::Value(iterator(env, *k))),
+        Node::Iterator(k) => Ok(Outcome::Value(iterator(&scope.iterators, *k))),
         Node::Coverage(variable) => {
-            let place = coverage_at(coverages, *variable);
-            let z = cells.cell(place, field, &points[base..])?;
+            let place = coverage_at(scope.coverages, *variable);
+            let z = cells.cell(place, field, &scope.points[scope.base..])?;
             Ok(Outcome::Value(z))
         }
         Node::Unary(op, e) => {
-            let x = eval(cells, coverages, e, 0, env, points, base)?;
+            let x = eval(cells, scope, e, 0)?;
             Ok(operate(*op, x))
         }
         Node::Binary(op, l, r) => {
-            let x = eval(cells, coverages, l, 0, env, points, base)?;
-            let y = eval(cells, coverages, r, 0, env, points, base)?;
+            let x = eval(cells, scope, l, 0)?;
+            let y = eval(cells, scope, r, 0)?;
             Ok(operate_both(*op, x, y))
         }
-        Node::Scalar(e) => {
-            let top = points.len();
-            eval(cells, coverages, e, field, env, points, top)
-        }
+        Node::Scalar(e) => at_empty_point(cells, scope, e, field),
         Node::Record(parts) => match parts.get(field) {
             None => Ok(Outcome::Value(0)),
-            Some(part) => eval(cells, coverages, part, 0, env, points, base),
+            Some(part) => eval(cells, scope, part, 0),
         },
-        Node::Select(e, own) => eval(cells, coverages, e, *own, env, points, base),
-        Node::Bracket(e) => eval(cells, coverages, e, field, env, points, base),
+        Node::Select(e, own) => eval(cells, scope, e, *own),
+        Node::Bracket(e) => eval(cells, scope, e, field),
         Node::Slice {
             value,
             axis,
@@ -75,25 +67,22 @@ pub(crate) fn eval<C: Cells>(
             hi,
             position,
         } => {
-            let top = points.len();
-            let x = eval(cells, coverages, position, 0, env, points, top)?;
+            let x = at_empty_point(cells, scope, position, 0)?;
             match coordinate(x, *lo, *hi) {
                 Err(f) => Ok(Outcome::Fault(f)),
                 Ok(z) => {
-                    let o = at_coordinate(
-                        cells, coverages, value, field, env, points, base, *axis, z,
-                    )?;
+                    let o = at_coordinate(cells, scope, value, field, *axis, z)?;
                     Ok(o)
                 }
             }
         }
-        Node::Array(e) => at_iterators(cells, coverages, e, env, points, base),
+        Node::Array(e) => at_iterators(cells, scope, e),
         Node::List { domain, items } => {
-            let place = place_of(domain.axes(), &points[base..]);
+            let place = rank_of(domain.axes(), &scope.points[scope.base..]);
             Ok(Outcome::Value(item_at(items, place)))
         }
         Node::Condense { op, domain, body } => {
-            let o = condense(cells, coverages, body, *op, domain, env, points)?;
+            let o = condense(cells, scope, body, *op, domain)?;
             Ok(o)
         }
         Node::CondenseWhere {
@@ -103,50 +92,64 @@ pub(crate) fn eval<C: Cells>(
             body,
         } => {
             let mut running = Running::new(*op);
-            let depth = env.len();
-            let top = points.len();
+            let depth = scope.iterators.len();
             for place in 0..domain.points() {
-                push_point(env, domain, place)?;
-                let c = eval(cells, coverages, condition, 0, env, points, top)?;
+                push_point(&mut scope.iterators, domain, place)?;
+                let c = at_empty_point(cells, scope, condition, 0)?;
                 if running.demands(c) {
-                    let o = eval(cells, coverages, body, 0, env, points, top)?;
+                    let o = at_empty_point(cells, scope, body, 0)?;
                     running.add(o);
                 }
-                env.truncate(depth);
+                scope.iterators.truncate(depth);
             }
             Ok(running.finish())
         }
         Node::Reduce { op, domain, body } => {
-            let o = reduce(cells, coverages, body, *op, domain, env, points)?;
+            let o = reduce(cells, scope, body, *op, domain)?;
             Ok(o)
         }
     }
+}
+
+/// The outcome at the empty point.
+#[cycle(eval)]
+fn at_empty_point<C: Cells>(
+    cells: &mut C,
+    scope: &mut Scope<'_>,
+    e: &Node,
+    field: usize,
+) -> Result<Outcome, CellError>
+    ensures value { Returns C.Cells cells.old result (outcome_in scope.old (scalar (field_tree e.now field))) }
+    ensures scope { OnOk result (IsSame scope.old scope.new) }
+    ensures leaves { Leaves C.Cells cells.old cells.new }
+    ensures reports { Reports result (C.intact cells.old) (C.failures cells.old) (C.failures cells.new) }
+{
+    let base = scope.base;
+    scope.base = scope.points.len();
+    let o = eval(cells, scope, e, field)?;
+    scope.base = base;
+    Ok(o)
 }
 
 /// The outcome where further iterators are bound to the coordinates of the point.
 #[cycle(eval)]
 fn at_iterators<C: Cells>(
     cells: &mut C,
-    coverages: &[usize],
+    scope: &mut Scope<'_>,
     e: &Node,
-    env: &mut Vec<i32>,
-    points: &mut Vec<i32>,
-    base: usize,
 ) -> Result<Outcome, CellError>
-    requires { base ≤ vec_len points.old }
-    ensures value { IfOk result (λ o. C.intact cells.old → o ≡ val (C.cells cells.old) (renamed coverages.now (only_tree e.now)) (env.old.items ++ drop base points.old.items) []) }
-    ensures scope { OnOk result (env.new.items ≡ env.old.items) }
-    ensures place { OnOk result (points.new.items ≡ points.old.items) }
-    ensures same { C.cells cells.new ≡ C.cells cells.old }
-    ensures kept { C.kept cells.new ≡ C.kept cells.old }
-    ensures intact { C.intact cells.old → C.intact cells.new }
+    requires { scope.old.base ≤ vec_len scope.old.points }
+    ensures value { Returns C.Cells cells.old result (outcome_in scope.old (array (only_tree e.now))) }
+    ensures scope { OnOk result (IsSame scope.old scope.new) }
+    ensures leaves { Leaves C.Cells cells.old cells.new }
     ensures reports { Reports result (C.intact cells.old) (C.failures cells.old) (C.failures cells.new) }
 {
-    let depth = env.len();
-    env.extend_from_slice(&points[base..])?;
-    let top = points.len();
-    let o = eval(cells, coverages, e, 0, env, points, top)?;
-    env.truncate(depth);
+    let depth = scope.iterators.len();
+    scope
+        .iterators
+        .extend_from_slice(&scope.points[scope.base..])?;
+    let o = at_empty_point(cells, scope, e, 0)?;
+    scope.iterators.truncate(depth);
     Ok(o)
 }
 
@@ -154,28 +157,22 @@ fn at_iterators<C: Cells>(
 #[cycle(eval)]
 fn at_coordinate<C: Cells>(
     cells: &mut C,
-    coverages: &[usize],
+    scope: &mut Scope<'_>,
     e: &Node,
     field: usize,
-    env: &mut Vec<i32>,
-    points: &mut Vec<i32>,
-    base: usize,
     axis: usize,
     z: i32,
 ) -> Result<Outcome, CellError>
-    requires { base ≤ vec_len points.old }
-    ensures value { IfOk result (λ o. C.intact cells.old → o ≡ val (C.cells cells.old) (renamed coverages.now (field_tree e.now field)) env.old.items (insert (drop base points.old.items) axis z)) }
-    ensures scope { OnOk result (env.new.items ≡ env.old.items) }
-    ensures place { OnOk result (points.new.items ≡ points.old.items) }
-    ensures same { C.cells cells.new ≡ C.cells cells.old }
-    ensures kept { C.kept cells.new ≡ C.kept cells.old }
-    ensures intact { C.intact cells.old → C.intact cells.new }
+    requires { scope.old.base ≤ vec_len scope.old.points }
+    ensures value { Returns C.Cells cells.old result (outcome_with scope.old (field_tree e.now field) axis z) }
+    ensures scope { OnOk result (IsSame scope.old scope.new) }
+    ensures leaves { Leaves C.Cells cells.old cells.new }
     ensures reports { Reports result (C.intact cells.old) (C.failures cells.old) (C.failures cells.new) }
 {
-    let at = base + axis.min(points.len() - base);
-    put_in(points, at, z)?;
-    let o = eval(cells, coverages, e, field, env, points, base)?;
-    points.remove(at);
+    let at = scope.base + axis.min(scope.points.len() - scope.base);
+    put_in(&mut scope.points, at, z)?;
+    let o = eval(cells, scope, e, field)?;
+    scope.points.remove(at);
     Ok(o)
 }
 
@@ -183,28 +180,22 @@ fn at_coordinate<C: Cells>(
 #[cycle(eval)]
 fn condense<C: Cells>(
     cells: &mut C,
-    coverages: &[usize],
+    scope: &mut Scope<'_>,
     e: &Node,
     op: Aggregate,
     domain: &Domain,
-    env: &mut Vec<i32>,
-    points: &mut Vec<i32>,
 ) -> Result<Outcome, CellError>
-    ensures value { IfOk result (λ o. C.intact cells.old → o ≡ condensed op (map (λ x. val (C.cells cells.old) (renamed coverages.now (only_tree e.now)) (env.old.items ++ x) []) (box_points domain.now))) }
-    ensures scope { OnOk result (env.new.items ≡ env.old.items) }
-    ensures place { OnOk result (points.new.items ≡ points.old.items) }
-    ensures same { C.cells cells.new ≡ C.cells cells.old }
-    ensures kept { C.kept cells.new ≡ C.kept cells.old }
-    ensures intact { C.intact cells.old → C.intact cells.new }
+    ensures value { Returns C.Cells cells.old result (outcome_in scope.old (condense op domain.now (only_tree e.now))) }
+    ensures scope { OnOk result (IsSame scope.old scope.new) }
+    ensures leaves { Leaves C.Cells cells.old cells.new }
     ensures reports { Reports result (C.intact cells.old) (C.failures cells.old) (C.failures cells.new) }
 {
     let mut running = Running::new(op);
-    let depth = env.len();
-    let top = points.len();
+    let depth = scope.iterators.len();
     for place in 0..domain.points() {
-        push_point(env, domain, place)?;
-        let o = eval(cells, coverages, e, 0, env, points, top)?;
-        env.truncate(depth);
+        push_point(&mut scope.iterators, domain, place)?;
+        let o = at_empty_point(cells, scope, e, 0)?;
+        scope.iterators.truncate(depth);
         running.add(o);
     }
     Ok(running.finish())
@@ -214,29 +205,27 @@ fn condense<C: Cells>(
 #[cycle(eval)]
 fn reduce<C: Cells>(
     cells: &mut C,
-    coverages: &[usize],
+    scope: &mut Scope<'_>,
     e: &Node,
     op: Aggregate,
     domain: &Domain,
-    env: &mut Vec<i32>,
-    points: &mut Vec<i32>,
 ) -> Result<Outcome, CellError>
-    ensures value { IfOk result (λ o. C.intact cells.old → o ≡ condensed op (map (λ x. val (C.cells cells.old) (renamed coverages.now (only_tree e.now)) env.old.items x) (box_points domain.now))) }
-    ensures scope { OnOk result (env.new.items ≡ env.old.items) }
-    ensures place { OnOk result (points.new.items ≡ points.old.items) }
-    ensures same { C.cells cells.new ≡ C.cells cells.old }
-    ensures kept { C.kept cells.new ≡ C.kept cells.old }
-    ensures intact { C.intact cells.old → C.intact cells.new }
+    ensures value { Returns C.Cells cells.old result (outcome_in scope.old (reduce op domain.now (only_tree e.now))) }
+    ensures scope { OnOk result (IsSame scope.old scope.new) }
+    ensures leaves { Leaves C.Cells cells.old cells.new }
     ensures reports { Reports result (C.intact cells.old) (C.failures cells.old) (C.failures cells.new) }
 {
     let mut running = Running::new(op);
-    let top = points.len();
+    let base = scope.base;
+    let top = scope.points.len();
+    scope.base = top;
     for place in 0..domain.points() {
-        push_point(points, domain, place)?;
-        let o = eval(cells, coverages, e, 0, env, points, top)?;
-        points.truncate(top);
+        push_point(&mut scope.points, domain, place)?;
+        let o = eval(cells, scope, e, 0)?;
+        scope.points.truncate(top);
         running.add(o);
     }
+    scope.base = base;
     Ok(running.finish())
 }
 
@@ -281,9 +270,7 @@ fn item_at(items: &[i64], place: u64) -> i64
 
 /// The coordinate of a position that lies in its interval, or its fault.
 fn coordinate(x: Outcome, lo: i32, hi: i32) -> Result<i32, PointFault>
-    ensures { MatchResult result
-        (λ z. (go : ℤ → Outcome) → at_position x lo hi go ≡ go z)
-        (λ f. (go : ℤ → Outcome) → at_position x lo hi go ≡ Outcome.Fault f) }
+    ensures { TestsAs result (at_position x lo hi) }
 {
     match x {
         Outcome::Fault(f) => Err(f),

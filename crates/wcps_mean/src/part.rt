@@ -1,18 +1,11 @@
-//! The outcome of a part of a query at a point.
+//! Parts of a combination, and where they stand in its tree.
 
-ghost use Rattle.std.specs.Prelude.{◌≡◌, ℕ, ℤ, List, [], IfOk, Option, Some, None, option_map};
+ghost use Rattle.std.specs.Prelude.{◌≡◌, List, Option, Some, None, option_map};
 ghost use Rattle.wcps_types.specs.Typed.{field_tree, tree_view};
-ghost use Rattle.wcps_types.specs.Renamed.{renamed, renamed_combination, over, combination_view};
-ghost use Rattle.wcps_types.specs.TypedQueries.{query_view, trees_in};
-ghost use Rattle.wcps_mean.specs.Meaning.{val};
-ghost use Rattle.wcps_mean.specs.Reports.{Reports};
-ghost use Rattle.wcps_mean.specs.Parts.{part_value, of_combination, condition_value, body_value};
+ghost use Rattle.wcps_mean.specs.Parts.{part_of, condition_part, body_part};
+ghost use Rattle.wcps_mean.specs.Spots.{part_at};
 
-use crate::cell::Outcome;
-use crate::cells::{CellError, Cells};
-use crate::eval::eval;
-use std::alloc::Global;
-use wcps_types::{Combination, Node, Tree, TypedQuery, tree_at};
+use wcps_types::{Node, Tree};
 
 /// Which part of a combination.
 #[derive(Clone, Copy, PartialEq, Eq, Debug)]
@@ -27,193 +20,97 @@ pub enum Part {
     CondenserValue(usize),
 }
 
-/// The outcome of a part of one combination at a point; none where there is no such part.
-pub fn value_at<C: Cells>(
-    alloc: Global,
-    cells: &mut C,
-    query: &TypedQuery,
-    combination: usize,
-    part: Part,
-    point: &[i32],
-) -> Result<Option<Outcome>, CellError>
-    ensures value { IfOk result (λ o. C.intact cells.old → o ≡ part_value (C.cells cells.old) (query_view query.now) combination part point.now) }
-    ensures same { C.cells cells.new ≡ C.cells cells.old }
-    ensures kept { C.kept cells.new ≡ C.kept cells.old }
-    ensures intact { C.intact cells.old → C.intact cells.new }
-    ensures reports { Reports result (C.intact cells.old) (C.failures cells.old) (C.failures cells.new) }
-{
-    let combinations = query.combinations();
-    if combination < combinations.len() {
-        let one = &combinations[combination];
-        let o = part_of(alloc, cells, query, one, part, point)?;
-        return Ok(o);
-    }
-    Ok(None)
+/// Where a part stands: the field of a node, and whether the coordinates of the part's point are the numbers of its
+/// iterators.
+#[derive(Clone, Copy)]
+pub(crate) struct Spot<'a> {
+    pub node: &'a Node,
+    pub field: usize,
+    pub iterates: bool,
 }
 
-/// The outcome of a part of a combination.
-fn part_of<C: Cells>(
-    alloc: Global,
-    cells: &mut C,
-    query: &TypedQuery,
-    combination: &Combination,
-    part: Part,
-    point: &[i32],
-) -> Result<Option<Outcome>, CellError>
-    ensures value { IfOk result (λ o. C.intact cells.old → o ≡ of_combination (C.cells cells.old) point.now part (combination_view (trees_in query.now) combination.now)) }
-    ensures same { C.cells cells.new ≡ C.cells cells.old }
-    ensures kept { C.kept cells.new ≡ C.kept cells.old }
-    ensures intact { C.intact cells.old → C.intact cells.new }
-    ensures reports { Reports result (C.intact cells.old) (C.failures cells.old) (C.failures cells.new) }
-{
-    let Some(tree) = tree_at(alloc, query, combination.tree)? else {
-        return Ok(without_tree(part));
-    };
-    let o = part_over(alloc, cells, &combination.coverages, &tree, part, point)?;
-    Ok(o)
-}
-
-/// The outcome of a part where there is no tree, which is so in no query.
-fn without_tree(part: Part) -> Option<Outcome>
-    ensures { (s : ℕ → ℕ → List ℤ → ℤ) (p : List ℤ) (coverages : List ℕ) → result ≡ of_combination s p part (over coverages None) }
-{
-    match part {
-        Part::Condition => Some(Outcome::Value(0)),
-        _ => None,
-    }
-}
-
-/// The outcome of a part of a tree over coverages.
-fn part_over<C: Cells>(
-    alloc: Global,
-    cells: &mut C,
-    coverages: &[usize],
-    tree: &Tree,
-    part: Part,
-    point: &[i32],
-) -> Result<Option<Outcome>, CellError>
-    ensures value { IfOk result (λ o. C.intact cells.old → o ≡ of_combination (C.cells cells.old) point.now part (renamed_combination coverages.now (tree_view tree.now))) }
-    ensures same { C.cells cells.new ≡ C.cells cells.old }
-    ensures kept { C.kept cells.new ≡ C.kept cells.old }
-    ensures intact { C.intact cells.old → C.intact cells.new }
-    ensures reports { Reports result (C.intact cells.old) (C.failures cells.old) (C.failures cells.new) }
+/// Where a part of a tree stands.
+pub(crate) fn spot_of(tree: &Tree, part: Part) -> Option<Spot<'_>>
+    ensures { option_map part_at result ≡ part_of part (tree_view tree.now) }
 {
     let node: &Node = &tree.item.node;
     let fields = tree.item.booleans.len();
     match part {
         Part::Condition => match &tree.condition {
-            None => Ok(None),
-            Some(node) => {
-                let o = outcome_at(alloc, cells, coverages, node, 0, &[], point)?;
-                Ok(Some(o))
-            }
+            None => None,
+            Some(node) => Some(Spot {
+                node,
+                field: 0,
+                iterates: false,
+            }),
         },
-        Part::Field(f) => {
-            if f < fields {
-                let o = outcome_at(alloc, cells, coverages, node, f, &[], point)?;
-                return Ok(Some(o));
+        Part::Field(field) => {
+            if field >= fields {
+                return None;
             }
-            Ok(None)
+            Some(Spot {
+                node,
+                field,
+                iterates: false,
+            })
         }
-        Part::CondenserCondition(f) => {
-            if f < fields {
-                let o = condition_at(alloc, cells, coverages, node, f, point)?;
-                return Ok(o);
+        Part::CondenserCondition(field) => {
+            if field >= fields {
+                return None;
             }
-            Ok(None)
+            condition_of(node, field)
         }
-        Part::CondenserValue(f) => {
-            if f < fields {
-                let o = body_at(alloc, cells, coverages, node, f, point)?;
-                return Ok(o);
+        Part::CondenserValue(field) => {
+            if field >= fields {
+                return None;
             }
-            Ok(None)
+            body_of(node, field)
         }
     }
 }
 
-/// The outcome of the condition of the condenser that a field of a node is.
-fn condition_at<C: Cells>(
-    alloc: Global,
-    cells: &mut C,
-    coverages: &[usize],
-    node: &Node,
-    field: usize,
-    point: &[i32],
-) -> Result<Option<Outcome>, CellError>
-    ensures value { IfOk result (λ o. C.intact cells.old → o ≡ condition_value (C.cells cells.old) point.now (renamed coverages.now (field_tree node.now field))) }
-    ensures same { C.cells cells.new ≡ C.cells cells.old }
-    ensures kept { C.kept cells.new ≡ C.kept cells.old }
-    ensures intact { C.intact cells.old → C.intact cells.new }
-    ensures reports { Reports result (C.intact cells.old) (C.failures cells.old) (C.failures cells.new) }
+/// Where the condition of the condenser stands that a field of a node is.
+fn condition_of(node: &Node, field: usize) -> Option<Spot<'_>>
+    ensures { option_map part_at result ≡ condition_part (field_tree node.now field) }
 {
     match node {
-        Node::CondenseWhere { condition, .. } => {
-            let o = outcome_at(alloc, cells, coverages, condition, 0, point, &[])?;
-            Ok(Some(o))
-        }
+        Node::CondenseWhere { condition, .. } => Some(Spot {
+            node: condition,
+            field: 0,
+            iterates: true,
+        }),
         Node::Record(parts) => match parts.get(field) {
-            None => Ok(None),
-            Some(part) => condition_at(alloc, cells, coverages, part, 0, point),
+            None => None,
+            Some(part) => condition_of(part, 0),
         },
-        _ => Ok(None),
+        _ => None,
     }
 }
 
-/// The outcome of what the condenser or the reduction that a field of a node is goes over.
-fn body_at<C: Cells>(
-    alloc: Global,
-    cells: &mut C,
-    coverages: &[usize],
-    node: &Node,
-    field: usize,
-    point: &[i32],
-) -> Result<Option<Outcome>, CellError>
-    ensures value { IfOk result (λ o. C.intact cells.old → o ≡ body_value (C.cells cells.old) point.now (renamed coverages.now (field_tree node.now field))) }
-    ensures same { C.cells cells.new ≡ C.cells cells.old }
-    ensures kept { C.kept cells.new ≡ C.kept cells.old }
-    ensures intact { C.intact cells.old → C.intact cells.new }
-    ensures reports { Reports result (C.intact cells.old) (C.failures cells.old) (C.failures cells.new) }
+/// Where the body of the condenser or the reduction stands that a field of a node is.
+fn body_of(node: &Node, field: usize) -> Option<Spot<'_>>
+    ensures { option_map part_at result ≡ body_part (field_tree node.now field) }
 {
     match node {
-        Node::Condense { body, .. } => {
-            let o = outcome_at(alloc, cells, coverages, body, 0, point, &[])?;
-            Ok(Some(o))
-        }
-        Node::CondenseWhere { body, .. } => {
-            let o = outcome_at(alloc, cells, coverages, body, 0, point, &[])?;
-            Ok(Some(o))
-        }
-        Node::Reduce { body, .. } => {
-            let o = outcome_at(alloc, cells, coverages, body, 0, &[], point)?;
-            Ok(Some(o))
-        }
+        Node::Condense { body, .. } => Some(Spot {
+            node: body,
+            field: 0,
+            iterates: true,
+        }),
+        Node::CondenseWhere { body, .. } => Some(Spot {
+            node: body,
+            field: 0,
+            iterates: true,
+        }),
+        Node::Reduce { body, .. } => Some(Spot {
+            node: body,
+            field: 0,
+            iterates: false,
+        }),
         Node::Record(parts) => match parts.get(field) {
-            None => Ok(None),
-            Some(part) => body_at(alloc, cells, coverages, part, 0, point),
+            None => None,
+            Some(part) => body_of(part, 0),
         },
-        _ => Ok(None),
+        _ => None,
     }
-}
-
-/// The outcome of a field of a node at a point, its iterators bound to a list of numbers.
-fn outcome_at<C: Cells>(
-    alloc: Global,
-    cells: &mut C,
-    coverages: &[usize],
-    node: &Node,
-    field: usize,
-    iterators: &[i32],
-    point: &[i32],
-) -> Result<Outcome, CellError>
-    ensures value { IfOk result (λ o. C.intact cells.old → o ≡ val (C.cells cells.old) (renamed coverages.now (field_tree node.now field)) iterators.now point.now) }
-    ensures same { C.cells cells.new ≡ C.cells cells.old }
-    ensures kept { C.kept cells.new ≡ C.kept cells.old }
-    ensures intact { C.intact cells.old → C.intact cells.new }
-    ensures reports { Reports result (C.intact cells.old) (C.failures cells.old) (C.failures cells.new) }
-{
-    let mut env = iterators.to_vec(alloc)?;
-    let mut points = point.to_vec(alloc)?;
-    let o = eval(cells, coverages, node, field, &mut env, &mut points, 0)?;
-    Ok(o)
 }

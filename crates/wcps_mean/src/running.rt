@@ -1,6 +1,6 @@
 //! A condenser that is fed the outcomes of its points in row-major order.
 
-ghost use Rattle.std.specs.Prelude.{◌≡◌, ℕ, ◌+◌, ◌*◌, ◌<◌, ◌≤◌, ◌^◌, ℤ, pos, neg_ℤ, ◌+ℤ◌, ◌≤ℤ◌, List, [], ◌∷◌, ◌++◌, length, cond, IsTrue, IsFalse};
+ghost use Rattle.std.specs.Prelude.{◌≡◌, ℕ, ◌+◌, ◌*◌, ◌<◌, ◌≤◌, ◌^◌, ℤ, pos, neg_ℤ, ◌+ℤ◌, ◌≤ℤ◌, List, [], ◌∷◌, length, cond, IsTrue, IsFalse};
 ghost use Rattle.wcps_mean.specs.Cells.{is_true};
 ghost use Rattle.wcps_mean.specs.Condensers.{combined, total, floor_of};
 ghost use Rattle.wcps_mean.specs.Best.{greatest_of, least_of, top_of, bottom_of};
@@ -36,7 +36,7 @@ pub struct Running {
 
 impl Running {
     ghost use Rattle.wcps_mean.specs.Condensers.{condensed, demanded};
-    ghost use Rattle.wcps_mean.specs.Feeding.{Fed};
+    ghost use Rattle.wcps_mean.specs.Feeding.{Fed, Feeds};
     ghost use Rattle.wcps_mean.specs.declared.cell.Outcome.{Outcome};
 
     /// Of no outcome.
@@ -60,7 +60,7 @@ impl Running {
     /// The next outcome.
     pub fn add(&mut self, o: Outcome)
         requires { self.old.count < 2 ^ 24 }
-        ensures fed { (outs : List Outcome) → Fed self.old outs → Fed self.new (outs ++ o ∷ []) }
+        ensures fed { Feeds self.old self.new (o ∷ []) }
         ensures count { self.new.count ≡ self.old.count + 1 }
         ensures op { self.new.op ≡ self.old.op }
     {
@@ -83,7 +83,7 @@ impl Running {
         requires { self.old.count < 2 ^ 24 }
         ensures demanded { IsTrue result → (value : Outcome) → demanded condition value ≡ value ∷ [] }
         ensures unchanged { IsTrue result → self.new ≡ self.old }
-        ensures otherwise { IsFalse result → (value : Outcome) (outs : List Outcome) → Fed self.old outs → Fed self.new (outs ++ demanded condition value) }
+        ensures otherwise { IsFalse result → (value : Outcome) → Feeds self.old self.new (demanded condition value) }
         ensures count { self.new.count ≤ self.old.count + 1 }
         ensures op { self.new.op ≡ self.old.op }
     {
@@ -99,7 +99,7 @@ impl Running {
     /// The next value.
     fn add_value(&mut self, x: i64)
         requires { self.old.count < 2 ^ 24 }
-        ensures fed { (outs : List Outcome) → Fed self.old outs → Fed self.new (outs ++ Outcome.Value x ∷ []) }
+        ensures fed { Feeds self.old self.new (Outcome.Value x ∷ []) }
         ensures count { self.new.count ≡ self.old.count + 1 }
         ensures op { self.new.op ≡ self.old.op }
     {

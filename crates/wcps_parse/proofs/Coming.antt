@@ -1,6 +1,8 @@
 -- How what a function comes to follows from what its parts come to.
 use Rattle.std.proofs.Common.{◌≡◌, ℕ, zero, suc, ◌≤◌, List, Option, Some, None, option_and_then, Result, Ok, Err, refl, sym, ap, ◌∙◌, arith, max}
-use Rattle.wcps_text.specs.Token.{Tok}
+use Rattle.std.specs.Borrow.{Bor}
+use Rattle.wcps_text.specs.declared.token.Token.{Token}
+use Rattle.wcps_text.specs.Token.{toks}
 use Rattle.wcps_parse.specs.Comes.{Comes}
 use Rattle.wcps_parse.specs.declared.error.ParseError.{ParseError}
 use Rattle.wcps_parse.specs.declared.error.ParseError.TheVariants.{BadSyntax, TooDeep, NoMemory}
@@ -50,12 +52,12 @@ pub gives_then : {X Y : Type 0} {f g : ℕ → ℕ → Option Y} (view : X → Y
 gives_then view (Ok x) h k = k (Some (view x)) h
 gives_then view (Err e) h k = fails_then e h (k None)
 
-pub reads_then : {X T M : Type 0} {f g : ℕ → ℕ → Reading M} (view : T → M) (height : M → ℕ) (kept : X → Grown T) (rest : X → List Tok) (r : Result X ParseError) → Reads view height kept rest r f
-    → ((o : Reading M) → Comes f o → Comes g o) → Reads view height kept rest r g
-reads_then view height kept rest (Ok x) h k = record { whole = h.whole; fit = h.fit; comes = k (Some (h.whole, rest x)) h.comes }
-reads_then view height kept rest (Err e) h k = fails_then e h (k None)
+pub reads_then : {T M : Type 0} {f g : ℕ → ℕ → Reading M} (Fits : Grown T → M → Type 0) (r : Result (Grown T × Bor (List Token)) ParseError) → Reads Fits r f
+    → ((o : Reading M) → Comes f o → Comes g o) → Reads Fits r g
+reads_then Fits (Ok x) h k = record { whole = h.whole; fit = h.fit; comes = k (Some (h.whole, toks x.1.now)) h.comes }
+reads_then Fits (Err e) h k = fails_then e h (k None)
 
-pub reads_all_then : {T M : Type 0} {f g : ℕ → ℕ → Option M} (view : T → M) (height : M → ℕ) (r : Result (Grown T) ParseError) → ReadsAll view height r f
-    → ((o : Option M) → Comes f o → Comes g o) → ReadsAll view height r g
-reads_all_then view height (Ok x) h k = record { whole = h.whole; fit = h.fit; comes = k (Some h.whole) h.comes }
-reads_all_then view height (Err e) h k = fails_then e h (k None)
+pub reads_all_then : {T M : Type 0} {f g : ℕ → ℕ → Option M} (Fits : Grown T → M → Type 0) (r : Result (Grown T) ParseError) → ReadsAll Fits r f
+    → ((o : Option M) → Comes f o → Comes g o) → ReadsAll Fits r g
+reads_all_then Fits (Ok x) h k = record { whole = h.whole; fit = h.fit; comes = k (Some h.whole) h.comes }
+reads_all_then Fits (Err e) h k = fails_then e h (k None)

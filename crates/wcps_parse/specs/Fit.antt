@@ -1,18 +1,20 @@
 -- What code keeps of a thing that was read, and what its result says of reading.
 use Rattle.std.specs.Prelude.{◌≡◌, ℕ, ◌<◌, ◌≤◌, max, List, [], ◌∷◌, Option, Some, None, Result, Ok, Err}
-use Rattle.wcps_text.specs.Token.{Tok}
+use Rattle.std.specs.Borrow.{Bor}
+use Rattle.wcps_text.specs.declared.token.Token.{Token}
+use Rattle.wcps_text.specs.Token.{Tok, toks}
 use Rattle.wcps_text.specs.Limits.{max_height}
 use Rattle.wcps_parse.specs.declared.error.ParseError.{ParseError}
 use Rattle.wcps_parse.specs.declared.error.ParseError.TheVariants.{BadSyntax, TooDeep, NoMemory}
 use Rattle.wcps_parse.specs.declared.grown.Grown.{Grown}
-use Rattle.wcps_parse.specs.declared.grown.Grown.TheVariants.{Fits, High}
+use Rattle.wcps_parse.specs.declared.grown.Grown.TheVariants as grown
 use Rattle.wcps_parse.specs.Comes.{Comes}
 use Rattle.wcps_parse.specs.Front.{Reading}
 
 -- the thing itself and its height, if that is no more than it may be, and else only that it is more
 abbrev pub Fit : {T M : Type 0} → (T → M) → (M → ℕ) → Grown T → M → Type 0
-Fit view height (Fits x h) m = (view x ≡ m) × (h ≡ height m) × (h ≤ max_height)
-Fit view height High m = max_height < height m
+Fit view height (grown.Fits x h) m = (view x ≡ m) × (h ≡ height m) × (h ≤ max_height)
+Fit view height grown.High m = max_height < height m
 
 -- the height of the highest
 abbrev pub highest : {M : Type 0} → (M → ℕ) → List M → ℕ
@@ -30,23 +32,23 @@ abbrev pub Gives : {X Y : Type 0} → (X → Y) → Result X ParseError → (ℕ
 Gives view (Ok x) f = Comes f (Some (view x))
 Gives view (Err e) f = Fails e f
 
--- what reading comes to, of which g is kept
-pub record Kept {T M : Type 0} (view : T → M) (height : M → ℕ) (g : Grown T) (rest : List Tok) (f : ℕ → ℕ → Reading M) : Type 0 where
+-- what reading comes to, of which g is kept: `Fits` says when that is kept of a thing
+pub record Kept {T M : Type 0} (Fits : Grown T → M → Type 0) (g : Grown T) (rest : List Tok) (f : ℕ → ℕ → Reading M) : Type 0 where
   pub whole : M
-  pub fit : Fit view height g whole
+  pub fit : Fits g whole
   pub comes : Comes f (Some (whole, rest))
 
 -- the same of a result that has what is kept and the tokens behind it
-abbrev pub Reads : {X T M : Type 0} → (T → M) → (M → ℕ) → (X → Grown T) → (X → List Tok) → Result X ParseError → (ℕ → ℕ → Reading M) → Type 0
-Reads view height kept rest (Ok x) f = Kept view height (kept x) (rest x) f
-Reads view height kept rest (Err e) f = Fails e f
+abbrev pub Reads : {T M : Type 0} → (Grown T → M → Type 0) → Result (Grown T × Bor (List Token)) ParseError → (ℕ → ℕ → Reading M) → Type 0
+Reads Fits (Ok x) f = Kept Fits x.0 (toks x.1.now) f
+Reads Fits (Err e) f = Fails e f
 
 -- the same of what is read from all tokens
-pub record KeptWhole {T M : Type 0} (view : T → M) (height : M → ℕ) (g : Grown T) (f : ℕ → ℕ → Option M) : Type 0 where
+pub record KeptWhole {T M : Type 0} (Fits : Grown T → M → Type 0) (g : Grown T) (f : ℕ → ℕ → Option M) : Type 0 where
   pub whole : M
-  pub fit : Fit view height g whole
+  pub fit : Fits g whole
   pub comes : Comes f (Some whole)
 
-abbrev pub ReadsAll : {T M : Type 0} → (T → M) → (M → ℕ) → Result (Grown T) ParseError → (ℕ → ℕ → Option M) → Type 0
-ReadsAll view height (Ok g) f = KeptWhole view height g f
-ReadsAll view height (Err e) f = Fails e f
+abbrev pub ReadsAll : {T M : Type 0} → (Grown T → M → Type 0) → Result (Grown T) ParseError → (ℕ → ℕ → Option M) → Type 0
+ReadsAll Fits (Ok g) f = KeptWhole Fits g f
+ReadsAll Fits (Err e) f = Fails e f

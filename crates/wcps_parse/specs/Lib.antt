@@ -5,4 +5,5 @@ pub mod Reading
 pub mod Prefixes
 pub mod Fit
 pub mod Views
+pub mod Kinds
 pub mod Outcome

@@ -2,11 +2,9 @@
 
 ghost use Rattle.std.specs.Prelude.{◌<◌, ◌≤◌, length, IfOk};
 ghost use Rattle.wcps_text.specs.Token.{toks};
-ghost use Rattle.wcps_text.specs.Tree.{Tree, view_place, view_interval, condition_of};
-ghost use Rattle.wcps_text.specs.Limits.{height, place_height, interval_height, condition_height};
 ghost use Rattle.wcps_parse.specs.Reading.{level, operand, post, postfix, prim, in_parens, enclosed, bit, fields, parts, part_at, subs, sub_at, place, interval, domain, iters, iter_at, coverage, items, listed, condition, condense};
-ghost use Rattle.wcps_parse.specs.Fit.{Fit, highest, Gives, Reads};
-ghost use Rattle.wcps_parse.specs.Views.{boxed_view, part_view, sub_view, iter_view, parts_view, subs_view, iters_view, part_height, sub_height, iter_height};
+ghost use Rattle.wcps_parse.specs.Fit.{Gives, Reads};
+ghost use Rattle.wcps_parse.specs.Kinds.{FitTree, FitPart, FitParts, FitSub, FitSubs, FitPlace, FitInterval, FitIter, FitIters, FitCondition, Makes};
 ghost use Rattle.wcps_parse.specs.Prefixes.{IsBehind};
 
 use crate::error::ParseError;
@@ -35,7 +33,7 @@ pub fn level<'t, 'a>(
     rank: u8,
     tokens: &'t [Token<'a>],
 ) -> Result<(Grown<Box<Expr>>, &'t [Token<'a>]), ParseError>
-    ensures exact { Reads boxed_view height (λ x. x.0) (λ x. toks x.1.now) result (λ n m. level n rank (toks tokens.now)) }
+    ensures exact { Reads FitTree result (λ n m. level n rank (toks tokens.now)) }
     ensures shorter { IfOk result (λ x. length x.1.now < length tokens.now) }
 {
     let (mut left, mut rest) = operand(alloc, tokens)?;
@@ -69,7 +67,7 @@ fn operand<'t, 'a>(
     alloc: Global,
     tokens: &'t [Token<'a>],
 ) -> Result<(Grown<Box<Expr>>, &'t [Token<'a>]), ParseError>
-    ensures exact { Reads boxed_view height (λ x. x.0) (λ x. toks x.1.now) result (λ n m. operand m (level n) (toks tokens.now)) }
+    ensures exact { Reads FitTree result (λ n m. operand m (level n) (toks tokens.now)) }
     ensures shorter { IfOk result (λ x. length x.1.now < length tokens.now) }
 {
     let (ops, rest) = prefixes(alloc, tokens)?;
@@ -83,7 +81,7 @@ fn post<'t, 'a>(
     alloc: Global,
     tokens: &'t [Token<'a>],
 ) -> Result<(Grown<Box<Expr>>, &'t [Token<'a>]), ParseError>
-    ensures exact { Reads boxed_view height (λ x. x.0) (λ x. toks x.1.now) result (λ n m. post m (level n) (toks tokens.now)) }
+    ensures exact { Reads FitTree result (λ n m. post m (level n) (toks tokens.now)) }
     ensures shorter { IfOk result (λ x. length x.1.now < length tokens.now) }
 {
     let (mut whole, mut rest) = prim(alloc, tokens)?;
@@ -103,7 +101,7 @@ fn postfix<'t, 'a>(
     whole: Grown<Box<Expr>>,
     tokens: &'t [Token<'a>],
 ) -> Result<(Grown<Box<Expr>>, &'t [Token<'a>]), ParseError>
-    ensures exact { (e : Tree) → Fit boxed_view height whole e → Reads boxed_view height (λ x. x.0) (λ x. toks x.1.now) result (λ n m. postfix m (level n) kind e (toks tokens.now)) }
+    ensures exact { Makes (λ e n m. postfix m (level n) kind e (toks tokens.now)) (FitTree whole) (Reads FitTree) result }
     ensures shorter { IfOk result (λ x. length x.1.now < length tokens.now) }
 {
     match kind {
@@ -129,7 +127,7 @@ fn prim<'t, 'a>(
     alloc: Global,
     tokens: &'t [Token<'a>],
 ) -> Result<(Grown<Box<Expr>>, &'t [Token<'a>]), ParseError>
-    ensures exact { Reads boxed_view height (λ x. x.0) (λ x. toks x.1.now) result (λ n m. prim m (level n) (toks tokens.now)) }
+    ensures exact { Reads FitTree result (λ n m. prim m (level n) (toks tokens.now)) }
     ensures shorter { IfOk result (λ x. length x.1.now < length tokens.now) }
 {
     let Some((start, rest)) = start_at(tokens) else {
@@ -164,7 +162,7 @@ fn in_parens<'t, 'a>(
     alloc: Global,
     tokens: &'t [Token<'a>],
 ) -> Result<(Grown<Box<Expr>>, &'t [Token<'a>]), ParseError>
-    ensures exact { Reads boxed_view height (λ x. x.0) (λ x. toks x.1.now) result (λ n m. in_parens (level n) (toks tokens.now)) }
+    ensures exact { Reads FitTree result (λ n m. in_parens (level n) (toks tokens.now)) }
     ensures shorter { IfOk result (λ x. length x.1.now < length tokens.now) }
 {
     let Some(rest) = sign_at(Symbol::LeftParen, tokens) else {
@@ -179,7 +177,7 @@ fn enclosed<'t, 'a>(
     alloc: Global,
     tokens: &'t [Token<'a>],
 ) -> Result<(Grown<Box<Expr>>, &'t [Token<'a>]), ParseError>
-    ensures exact { Reads boxed_view height (λ x. x.0) (λ x. toks x.1.now) result (λ n m. enclosed (level n) (toks tokens.now)) }
+    ensures exact { Reads FitTree result (λ n m. enclosed (level n) (toks tokens.now)) }
     ensures shorter { IfOk result (λ x. length x.1.now < length tokens.now) }
 {
     let (value, rest) = level(alloc, MAX_RANK, tokens)?;
@@ -195,7 +193,7 @@ fn bit<'t, 'a>(
     alloc: Global,
     tokens: &'t [Token<'a>],
 ) -> Result<(Grown<Box<Expr>>, &'t [Token<'a>]), ParseError>
-    ensures exact { Reads boxed_view height (λ x. x.0) (λ x. toks x.1.now) result (λ n m. bit (level n) (toks tokens.now)) }
+    ensures exact { Reads FitTree result (λ n m. bit (level n) (toks tokens.now)) }
     ensures shorter { IfOk result (λ x. length x.1.now < length tokens.now) }
 {
     let Some(rest) = sign_at(Symbol::LeftParen, tokens) else {
@@ -216,7 +214,7 @@ fn record<'t, 'a>(
     alloc: Global,
     tokens: &'t [Token<'a>],
 ) -> Result<(Grown<Box<Expr>>, &'t [Token<'a>]), ParseError>
-    ensures exact { Reads boxed_view height (λ x. x.0) (λ x. toks x.1.now) result (λ n m. fields m (level n) (toks tokens.now)) }
+    ensures exact { Reads FitTree result (λ n m. fields m (level n) (toks tokens.now)) }
     ensures shorter { IfOk result (λ x. length x.1.now < length tokens.now) }
 {
     let (list, rest) = parts(alloc, tokens)?;
@@ -232,7 +230,7 @@ fn parts<'t, 'a>(
     alloc: Global,
     tokens: &'t [Token<'a>],
 ) -> Result<(Grown<Vec<Part>>, &'t [Token<'a>]), ParseError>
-    ensures exact { Reads parts_view (highest part_height) (λ x. x.0) (λ x. toks x.1.now) result (λ n m. parts m (level n) (toks tokens.now)) }
+    ensures exact { Reads FitParts result (λ n m. parts m (level n) (toks tokens.now)) }
     ensures shorter { IfOk result (λ x. length x.1.now < length tokens.now) }
 {
     let (first, mut rest) = part_at(alloc, tokens)?;
@@ -250,7 +248,7 @@ fn part_at<'t, 'a>(
     alloc: Global,
     tokens: &'t [Token<'a>],
 ) -> Result<(Grown<Part>, &'t [Token<'a>]), ParseError>
-    ensures exact { Reads part_view part_height (λ x. x.0) (λ x. toks x.1.now) result (λ n m. part_at (level n) (toks tokens.now)) }
+    ensures exact { Reads FitPart result (λ n m. part_at (level n) (toks tokens.now)) }
     ensures shorter { IfOk result (λ x. length x.1.now < length tokens.now) }
 {
     let Some((name, rest)) = name_at(tokens) else {
@@ -269,7 +267,7 @@ fn subs<'t, 'a>(
     alloc: Global,
     tokens: &'t [Token<'a>],
 ) -> Result<(Grown<Vec<Sub>>, &'t [Token<'a>]), ParseError>
-    ensures exact { Reads subs_view (highest sub_height) (λ x. x.0) (λ x. toks x.1.now) result (λ n m. subs m (level n) (toks tokens.now)) }
+    ensures exact { Reads FitSubs result (λ n m. subs m (level n) (toks tokens.now)) }
     ensures shorter { IfOk result (λ x. length x.1.now < length tokens.now) }
 {
     let (first, mut rest) = sub_at(alloc, tokens)?;
@@ -287,7 +285,7 @@ fn sub_at<'t, 'a>(
     alloc: Global,
     tokens: &'t [Token<'a>],
 ) -> Result<(Grown<Sub>, &'t [Token<'a>]), ParseError>
-    ensures exact { Reads sub_view sub_height (λ x. x.0) (λ x. toks x.1.now) result (λ n m. sub_at (level n) (toks tokens.now)) }
+    ensures exact { Reads FitSub result (λ n m. sub_at (level n) (toks tokens.now)) }
     ensures shorter { IfOk result (λ x. length x.1.now < length tokens.now) }
 {
     let Some((axis, rest)) = name_at(tokens) else {
@@ -309,7 +307,7 @@ fn place<'t, 'a>(
     alloc: Global,
     tokens: &'t [Token<'a>],
 ) -> Result<(Grown<Place>, &'t [Token<'a>]), ParseError>
-    ensures exact { Reads view_place place_height (λ x. x.0) (λ x. toks x.1.now) result (λ n m. place (level n) (toks tokens.now)) }
+    ensures exact { Reads FitPlace result (λ n m. place (level n) (toks tokens.now)) }
     ensures shorter { IfOk result (λ x. length x.1.now < length tokens.now) }
 {
     if let Some((bounds, rest)) = bounds_at(tokens) {
@@ -328,7 +326,7 @@ fn interval<'t, 'a>(
     alloc: Global,
     tokens: &'t [Token<'a>],
 ) -> Result<(Grown<Interval>, &'t [Token<'a>]), ParseError>
-    ensures exact { Reads view_interval interval_height (λ x. x.0) (λ x. toks x.1.now) result (λ n m. interval (level n) (toks tokens.now)) }
+    ensures exact { Reads FitInterval result (λ n m. interval (level n) (toks tokens.now)) }
     ensures shorter { IfOk result (λ x. length x.1.now < length tokens.now) }
 {
     if let Some((bounds, rest)) = bounds_at(tokens) {
@@ -346,7 +344,7 @@ fn domain<'t, 'a>(
     alloc: Global,
     tokens: &'t [Token<'a>],
 ) -> Result<(Grown<Interval>, &'t [Token<'a>]), ParseError>
-    ensures exact { Reads view_interval interval_height (λ x. x.0) (λ x. toks x.1.now) result (λ n m. domain (level n) (toks tokens.now)) }
+    ensures exact { Reads FitInterval result (λ n m. domain (level n) (toks tokens.now)) }
     ensures shorter { IfOk result (λ x. length x.1.now < length tokens.now) }
 {
     let Some(rest) = sign_at(Symbol::LeftParen, tokens) else {
@@ -371,7 +369,7 @@ fn iters<'t, 'a>(
     alloc: Global,
     tokens: &'t [Token<'a>],
 ) -> Result<(Grown<Vec<Iter>>, &'t [Token<'a>]), ParseError>
-    ensures exact { Reads iters_view (highest iter_height) (λ x. x.0) (λ x. toks x.1.now) result (λ n m. iters m (level n) (toks tokens.now)) }
+    ensures exact { Reads FitIters result (λ n m. iters m (level n) (toks tokens.now)) }
     ensures shorter { IfOk result (λ x. length x.1.now < length tokens.now) }
 {
     let (first, mut rest) = iter_at(alloc, tokens)?;
@@ -389,7 +387,7 @@ fn iter_at<'t, 'a>(
     alloc: Global,
     tokens: &'t [Token<'a>],
 ) -> Result<(Grown<Iter>, &'t [Token<'a>]), ParseError>
-    ensures exact { Reads iter_view iter_height (λ x. x.0) (λ x. toks x.1.now) result (λ n m. iter_at (level n) (toks tokens.now)) }
+    ensures exact { Reads FitIter result (λ n m. iter_at (level n) (toks tokens.now)) }
     ensures shorter { IfOk result (λ x. length x.1.now < length tokens.now) }
 {
     let Some((variable, rest)) = variable_at(tokens) else {
@@ -414,7 +412,7 @@ fn coverage<'t, 'a>(
     alloc: Global,
     tokens: &'t [Token<'a>],
 ) -> Result<(Grown<Box<Expr>>, &'t [Token<'a>]), ParseError>
-    ensures exact { Reads boxed_view height (λ x. x.0) (λ x. toks x.1.now) result (λ n m. coverage m (level n) (toks tokens.now)) }
+    ensures exact { Reads FitTree result (λ n m. coverage m (level n) (toks tokens.now)) }
     ensures shorter { IfOk result (λ x. length x.1.now < length tokens.now) }
 {
     let Some((_, rest)) = name_at(tokens) else {
@@ -485,7 +483,7 @@ pub fn condition<'t, 'a>(
     alloc: Global,
     tokens: &'t [Token<'a>],
 ) -> Result<(Grown<Option<Box<Expr>>>, &'t [Token<'a>]), ParseError>
-    ensures exact { Reads condition_of condition_height (λ x. x.0) (λ x. toks x.1.now) result (λ n m. condition (level n) (toks tokens.now)) }
+    ensures exact { Reads FitCondition result (λ n m. condition (level n) (toks tokens.now)) }
     ensures shorter { IfOk result (λ x. length x.1.now ≤ length tokens.now) }
 {
     let Some(rest) = word_at(Keyword::Where, tokens) else {
@@ -501,7 +499,7 @@ fn condense<'t, 'a>(
     alloc: Global,
     tokens: &'t [Token<'a>],
 ) -> Result<(Grown<Box<Expr>>, &'t [Token<'a>]), ParseError>
-    ensures exact { Reads boxed_view height (λ x. x.0) (λ x. toks x.1.now) result (λ n m. condense m (level n) (toks tokens.now)) }
+    ensures exact { Reads FitTree result (λ n m. condense m (level n) (toks tokens.now)) }
     ensures shorter { IfOk result (λ x. length x.1.now < length tokens.now) }
 {
     let Some((op, rest)) = condenser_at(tokens) else {

@@ -3,14 +3,13 @@
 //! A tree that would be higher is let go at once, and only that it is too high is kept: so no tree that lives is
 //! ever higher than the limit, however long the chain of operators in the text is.
 
-ghost use Rattle.std.specs.Prelude.{◌≡◌, ◌≤◌, ◌<◌, ◌+◌, ◌++◌, ◌∷◌, List, [], ℕ, max, IfOk, IfSome, Option, None, map};
+ghost use Rattle.std.specs.Prelude.{◌≡◌, ◌≤◌, ◌<◌, ◌+◌, ◌++◌, ◌∷◌, [], IfOk, IfSome, None};
 ghost use Rattle.wcps_text.specs.Tree as tree;
-ghost use Rattle.wcps_text.specs.Tree.{Tree, PlaceTree, IntervalTree, Condition, ItemTree, view, view_place, view_interval, condition_of, bindings_of, item_view, query_view};
-ghost use Rattle.wcps_text.specs.Limits.{max_height, height, place_height, interval_height, condition_height, item_height, query_height};
-ghost use Rattle.wcps_parse.specs.Reading.{NamedTree, NamedPlace, NamedInterval, parts_from, subs_from, iters_from};
-ghost use Rattle.wcps_parse.specs.Fit.{Fit, highest};
+ghost use Rattle.wcps_text.specs.Tree.{Tree, view};
+ghost use Rattle.wcps_text.specs.Limits.{max_height, height};
+ghost use Rattle.wcps_parse.specs.Reading.{parts_from, subs_from, iters_from};
+ghost use Rattle.wcps_parse.specs.Kinds.{FitTree, FitPart, FitParts, FitSub, FitSubs, FitPlace, FitInterval, FitIter, FitIters, FitCondition, FitItem, FitQuery, FitCondense, Makes, Joins, query_of};
 ghost use Rattle.wcps_parse.specs.Prefixes.{wrapped};
-ghost use Rattle.wcps_parse.specs.Views.{boxed_view, part_view, sub_view, iter_view, parts_view, subs_view, iters_view, part_height, sub_height, iter_height};
 
 use std::alloc::{AllocError, Global};
 use wcps_text::{
@@ -42,7 +41,7 @@ fn above(height: u8) -> Option<u8>
 
 /// Parts of `{..}` and one more.
 pub fn push_part(list: Grown<Vec<Part>>, one: Grown<Part>) -> Result<Grown<Vec<Part>>, AllocError>
-    ensures { IfOk result (λ g. (xs : List NamedTree) (x : NamedTree) → Fit parts_view (highest part_height) list xs → Fit part_view part_height one x → Fit parts_view (highest part_height) g (xs ++ x ∷ [])) }
+    ensures { IfOk result (Joins (λ xs x. xs ++ x ∷ []) (FitParts list) (FitPart one) FitParts) }
 {
     let (Grown::Fits(mut list, height), Grown::Fits(one, other)) = (list, one) else {
         return Ok(Grown::High);
@@ -53,7 +52,7 @@ pub fn push_part(list: Grown<Vec<Part>>, one: Grown<Part>) -> Result<Grown<Vec<P
 
 /// Parts of a bracket and one more.
 pub fn push_sub(list: Grown<Vec<Sub>>, one: Grown<Sub>) -> Result<Grown<Vec<Sub>>, AllocError>
-    ensures { IfOk result (λ g. (xs : List NamedPlace) (x : NamedPlace) → Fit subs_view (highest sub_height) list xs → Fit sub_view sub_height one x → Fit subs_view (highest sub_height) g (xs ++ x ∷ [])) }
+    ensures { IfOk result (Joins (λ xs x. xs ++ x ∷ []) (FitSubs list) (FitSub one) FitSubs) }
 {
     let (Grown::Fits(mut list, height), Grown::Fits(one, other)) = (list, one) else {
         return Ok(Grown::High);
@@ -64,7 +63,7 @@ pub fn push_sub(list: Grown<Vec<Sub>>, one: Grown<Sub>) -> Result<Grown<Vec<Sub>
 
 /// Iterators and one more.
 pub fn push_iter(list: Grown<Vec<Iter>>, one: Grown<Iter>) -> Result<Grown<Vec<Iter>>, AllocError>
-    ensures { IfOk result (λ g. (xs : List NamedInterval) (x : NamedInterval) → Fit iters_view (highest iter_height) list xs → Fit iter_view iter_height one x → Fit iters_view (highest iter_height) g (xs ++ x ∷ [])) }
+    ensures { IfOk result (Joins (λ xs x. xs ++ x ∷ []) (FitIters list) (FitIter one) FitIters) }
 {
     let (Grown::Fits(mut list, height), Grown::Fits(one, other)) = (list, one) else {
         return Ok(Grown::High);
@@ -75,7 +74,7 @@ pub fn push_iter(list: Grown<Vec<Iter>>, one: Grown<Iter>) -> Result<Grown<Vec<I
 
 /// A number, a truth value or a variable.
 pub fn leaf(alloc: Global, tree: Expr) -> Result<Grown<Box<Expr>>, AllocError>
-    ensures { IfOk result (λ g. (e : Tree) → view tree ≡ e → height e ≡ 1 → Fit boxed_view height g e) }
+    ensures { IfOk result (λ g. (e : Tree) → view tree ≡ e → height e ≡ 1 → FitTree g e) }
 {
     let tree = Box::new(alloc, tree)?;
     Ok(Grown::Fits(tree, 1))
@@ -87,7 +86,7 @@ pub fn unary(
     op: UnaryOperator,
     operand: Grown<Box<Expr>>,
 ) -> Result<Grown<Box<Expr>>, AllocError>
-    ensures { IfOk result (λ g. (e : Tree) → Fit boxed_view height operand e → Fit boxed_view height g (tree.unary op e)) }
+    ensures { IfOk result (Makes (tree.unary op) (FitTree operand) FitTree) }
 {
     let Grown::Fits(operand, height) = operand else {
         return Ok(Grown::High);
@@ -105,7 +104,7 @@ pub fn prefixed(
     mut ops: Vec<UnaryOperator>,
     operand: Grown<Box<Expr>>,
 ) -> Result<Grown<Box<Expr>>, AllocError>
-    ensures { IfOk result (λ g. (e : Tree) → Fit boxed_view height operand e → Fit boxed_view height g (wrapped ops.items e)) }
+    ensures { IfOk result (Makes (wrapped ops.items) (FitTree operand) FitTree) }
 {
     let mut whole = operand;
     while let Some(op) = ops.pop() {
@@ -121,7 +120,7 @@ pub fn binary(
     left: Grown<Box<Expr>>,
     right: Grown<Box<Expr>>,
 ) -> Result<Grown<Box<Expr>>, AllocError>
-    ensures { IfOk result (λ g. (a b : Tree) → Fit boxed_view height left a → Fit boxed_view height right b → Fit boxed_view height g (tree.binary op a b)) }
+    ensures { IfOk result (Joins (tree.binary op) (FitTree left) (FitTree right) FitTree) }
 {
     let (Grown::Fits(left, one), Grown::Fits(right, other)) = (left, right) else {
         return Ok(Grown::High);
@@ -139,7 +138,7 @@ pub fn reduce(
     op: Aggregate,
     operand: Grown<Box<Expr>>,
 ) -> Result<Grown<Box<Expr>>, AllocError>
-    ensures { IfOk result (λ g. (e : Tree) → Fit boxed_view height operand e → Fit boxed_view height g (tree.reduce op e)) }
+    ensures { IfOk result (Makes (tree.reduce op) (FitTree operand) FitTree) }
 {
     let Grown::Fits(operand, height) = operand else {
         return Ok(Grown::High);
@@ -157,7 +156,7 @@ pub fn field(
     value: Grown<Box<Expr>>,
     name: &str,
 ) -> Result<Grown<Box<Expr>>, AllocError>
-    ensures { IfOk result (λ g. (e : Tree) → Fit boxed_view height value e → Fit boxed_view height g (tree.field e name.now)) }
+    ensures { IfOk result (Makes (λ e. tree.field e name.now) (FitTree value) FitTree) }
 {
     let Grown::Fits(value, height) = value else {
         return Ok(Grown::High);
@@ -177,7 +176,7 @@ pub fn brackets(
     value: Grown<Box<Expr>>,
     subs: Grown<Vec<Sub>>,
 ) -> Result<Grown<Box<Expr>>, AllocError>
-    ensures { IfOk result (λ g. (e : Tree) (ss : List NamedPlace) → Fit boxed_view height value e → Fit subs_view (highest sub_height) subs ss → Fit boxed_view height g (tree.brackets e (subs_from ss))) }
+    ensures { IfOk result (Joins (λ e ss. tree.brackets e (subs_from ss)) (FitTree value) (FitSubs subs) FitTree) }
 {
     let (Grown::Fits(value, one), Grown::Fits(subs, other)) = (value, subs) else {
         return Ok(Grown::High);
@@ -192,7 +191,7 @@ pub fn brackets(
 /// `{..}`
 #[tactic(auto, using(crate::proofs::Trees::record_shown, crate::proofs::Trees::parts_high))]
 pub fn record(alloc: Global, parts: Grown<Vec<Part>>) -> Result<Grown<Box<Expr>>, AllocError>
-    ensures { IfOk result (λ g. (ps : List NamedTree) → Fit parts_view (highest part_height) parts ps → Fit boxed_view height g (tree.parts (parts_from ps))) }
+    ensures { IfOk result (Makes (λ ps. tree.parts (parts_from ps)) (FitParts parts) FitTree) }
 {
     let Grown::Fits(parts, height) = parts else {
         return Ok(Grown::High);
@@ -211,7 +210,7 @@ pub fn value_list(
     iterators: Grown<Vec<Iter>>,
     items: Vec<ListItem>,
 ) -> Result<Grown<Box<Expr>>, AllocError>
-    ensures { IfOk result (λ g. (is : List NamedInterval) → Fit iters_view (highest iter_height) iterators is → Fit boxed_view height g (tree.value_list (iters_from is) items.items)) }
+    ensures { IfOk result (Makes (λ is. tree.value_list (iters_from is) items.items) (FitIters iterators) FitTree) }
 {
     let Grown::Fits(iterators, height) = iterators else {
         return Ok(Grown::High);
@@ -230,7 +229,7 @@ pub fn coverage(
     iterators: Grown<Vec<Iter>>,
     body: Grown<Box<Expr>>,
 ) -> Result<Grown<Box<Expr>>, AllocError>
-    ensures { IfOk result (λ g. (is : List NamedInterval) (e : Tree) → Fit iters_view (highest iter_height) iterators is → Fit boxed_view height body e → Fit boxed_view height g (tree.coverage (iters_from is) e)) }
+    ensures { IfOk result (Joins (λ is. tree.coverage (iters_from is)) (FitIters iterators) (FitTree body) FitTree) }
 {
     let (Grown::Fits(iterators, one), Grown::Fits(body, other)) = (iterators, body) else {
         return Ok(Grown::High);
@@ -251,7 +250,7 @@ pub fn condense(
     condition: Grown<Option<Box<Expr>>>,
     body: Grown<Box<Expr>>,
 ) -> Result<Grown<Box<Expr>>, AllocError>
-    ensures { IfOk result (λ g. (is : List NamedInterval) (c : Condition) (e : Tree) → Fit iters_view (highest iter_height) iterators is → Fit condition_of condition_height condition c → Fit boxed_view height body e → Fit boxed_view height g (tree.condense op (iters_from is) c e)) }
+    ensures { IfOk result (FitCondense op iterators condition body) }
 {
     let (Grown::Fits(iterators, one), Grown::Fits(condition, other)) = (iterators, condition) else {
         return Ok(Grown::High);
@@ -274,7 +273,7 @@ pub fn condense(
 
 /// What follows `where`.
 pub fn condition(test: Grown<Box<Expr>>) -> Grown<Option<Box<Expr>>>
-    ensures { (e : Tree) → Fit boxed_view height test e → Fit condition_of condition_height result (tree.only e) }
+    ensures { Makes tree.only (FitTree test) FitCondition result }
 {
     match test {
         Grown::Fits(test, height) => Grown::Fits(Some(test), height),
@@ -284,7 +283,7 @@ pub fn condition(test: Grown<Box<Expr>>) -> Grown<Option<Box<Expr>>>
 
 /// A position on an axis.
 pub fn at(position: Grown<Box<Expr>>) -> Grown<Place>
-    ensures { (e : Tree) → Fit boxed_view height position e → Fit view_place place_height result (tree.at e) }
+    ensures { Makes tree.at (FitTree position) FitPlace result }
 {
     match position {
         Grown::Fits(position, height) => Grown::Fits(Place::At(position), height),
@@ -294,7 +293,7 @@ pub fn at(position: Grown<Box<Expr>>) -> Grown<Place>
 
 /// An interval of an axis, in a bracket.
 pub fn trim(interval: Grown<Interval>) -> Grown<Place>
-    ensures { (i : IntervalTree) → Fit view_interval interval_height interval i → Fit view_place place_height result (tree.trim i) }
+    ensures { Makes tree.trim (FitInterval interval) FitPlace result }
 {
     let Grown::Fits(interval, height) = interval else {
         return Grown::High;
@@ -308,7 +307,7 @@ pub fn domain(
     value: Grown<Box<Expr>>,
     axis: &str,
 ) -> Result<Grown<Interval>, AllocError>
-    ensures { IfOk result (λ g. (e : Tree) → Fit boxed_view height value e → Fit view_interval interval_height g (tree.domain e axis.now)) }
+    ensures { IfOk result (Makes (λ e. tree.domain e axis.now) (FitTree value) FitInterval) }
 {
     let Grown::Fits(value, height) = value else {
         return Ok(Grown::High);
@@ -319,7 +318,7 @@ pub fn domain(
 
 /// One part of `{..}`.
 pub fn part(alloc: Global, name: &str, value: Grown<Box<Expr>>) -> Result<Grown<Part>, AllocError>
-    ensures { IfOk result (λ g. (e : Tree) → Fit boxed_view height value e → Fit part_view part_height g (name.now, e)) }
+    ensures { IfOk result (Makes (λ e. (name.now, e)) (FitTree value) FitPart) }
 {
     let Grown::Fits(value, height) = value else {
         return Ok(Grown::High);
@@ -331,7 +330,7 @@ pub fn part(alloc: Global, name: &str, value: Grown<Box<Expr>>) -> Result<Grown<
 
 /// One part of a bracket.
 pub fn sub(alloc: Global, axis: &str, place: Grown<Place>) -> Result<Grown<Sub>, AllocError>
-    ensures { IfOk result (λ g. (p : PlaceTree) → Fit view_place place_height place p → Fit sub_view sub_height g (axis.now, p)) }
+    ensures { IfOk result (Makes (λ p. (axis.now, p)) (FitPlace place) FitSub) }
 {
     let Grown::Fits(place, height) = place else {
         return Ok(Grown::High);
@@ -347,7 +346,7 @@ pub fn iter(
     axis: &str,
     interval: Grown<Interval>,
 ) -> Result<Grown<Iter>, AllocError>
-    ensures { IfOk result (λ g. (i : IntervalTree) → Fit view_interval interval_height interval i → Fit iter_view iter_height g (variable.now, axis.now, i)) }
+    ensures { IfOk result (Makes (λ i. (variable.now, axis.now, i)) (FitInterval interval) FitIter) }
 {
     let Grown::Fits(interval, height) = interval else {
         return Ok(Grown::High);
@@ -364,7 +363,7 @@ pub fn iter(
 
 /// An expression that a query returns as it is.
 pub fn plain(value: Grown<Box<Expr>>) -> Grown<Item>
-    ensures { (e : Tree) → Fit boxed_view height value e → Fit item_view item_height result (tree.plain e) }
+    ensures { Makes tree.plain (FitTree value) FitItem result }
 {
     match value {
         Grown::Fits(value, height) => Grown::Fits(Item::Plain(value), height),
@@ -374,7 +373,7 @@ pub fn plain(value: Grown<Box<Expr>>) -> Grown<Item>
 
 /// An expression that a query returns encoded.
 pub fn encode(value: Grown<Box<Expr>>) -> Grown<Item>
-    ensures { (e : Tree) → Fit boxed_view height value e → Fit item_view item_height result (tree.encode e) }
+    ensures { Makes tree.encode (FitTree value) FitItem result }
 {
     match value {
         Grown::Fits(value, height) => Grown::Fits(Item::Encode(value), height),
@@ -388,7 +387,7 @@ pub fn query(
     condition: Grown<Option<Box<Expr>>>,
     item: Grown<Item>,
 ) -> Grown<Query>
-    ensures { (c : Condition) (i : ItemTree) → Fit condition_of condition_height condition c → Fit item_view item_height item i → Fit query_view query_height result (record { bindings = bindings_of bindings.items; condition = c; item = i }) }
+    ensures { Joins (query_of bindings.items) (FitCondition condition) (FitItem item) FitQuery result }
 {
     let (Grown::Fits(condition, one), Grown::Fits(item, other)) = (condition, item) else {
         return Grown::High;

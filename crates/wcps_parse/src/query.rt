@@ -4,11 +4,12 @@ ghost use Rattle.std.specs.Prelude.{◌≡◌, ℕ, ◌<◌, ◌≤◌, length, 
 ghost use Rattle.wcps_text.specs.declared.error.LexError.{LexError};
 ghost use Rattle.wcps_text.specs.Token.{Tok, toks};
 ghost use Rattle.wcps_text.specs.Lexing.{Piece, Lexed, Refused};
-ghost use Rattle.wcps_text.specs.Tree.{QueryTree, condition_of, binding_view, bindings_of, item_view, query_view};
-ghost use Rattle.wcps_text.specs.Limits.{max_height, condition_height, item_height, query_height};
+ghost use Rattle.wcps_text.specs.Tree.{QueryTree, binding_view, bindings_of, query_view};
+ghost use Rattle.wcps_text.specs.Limits.{max_height, query_height};
 ghost use Rattle.wcps_text.specs.Grammar.{IsSpelled};
 ghost use Rattle.wcps_parse.specs.Reading.{level, names, binding_at, bindings, encoded, item, query};
-ghost use Rattle.wcps_parse.specs.Fit.{Fit, Gives, Reads, ReadsAll};
+ghost use Rattle.wcps_parse.specs.Fit.{Gives, ReadsAll};
+ghost use Rattle.wcps_parse.specs.Kinds.{FitItem, FitQuery};
 ghost use Rattle.wcps_parse.specs.Outcome.{IsWithinLimits, IsTooHigh, IsTooDeep};
 ghost use Rattle.wcps_parse.specs.declared.error.ParseError.TheVariants.{BadSyntax, TooDeep};
 
@@ -44,7 +45,7 @@ pub fn parse(alloc: Global, tokens: &[Token]) -> Result<Query, ParseError>
 }
 
 fn query(alloc: Global, tokens: &[Token]) -> Result<Grown<Query>, ParseError>
-    ensures { ReadsAll query_view query_height result (λ n m. query n m (level n) (toks tokens.now)) }
+    ensures { ReadsAll FitQuery result (λ n m. query n m (level n) (toks tokens.now)) }
 {
     let Some(rest) = word_at(Keyword::For, tokens) else {
         return Err(ParseError::BadSyntax);
@@ -60,7 +61,7 @@ fn query(alloc: Global, tokens: &[Token]) -> Result<Grown<Query>, ParseError>
 
 /// What a query returns, to the end.
 fn item(alloc: Global, tokens: &[Token]) -> Result<Grown<Item>, ParseError>
-    ensures { ReadsAll item_view item_height result (λ n m. item (level n) (toks tokens.now)) }
+    ensures { ReadsAll FitItem result (λ n m. item (level n) (toks tokens.now)) }
 {
     if let Some(rest) = word_at(Keyword::Encode, tokens) {
         return encoded(alloc, rest);
@@ -74,7 +75,7 @@ fn item(alloc: Global, tokens: &[Token]) -> Result<Grown<Item>, ParseError>
 
 /// What follows the word `encode`, to the end.
 fn encoded(alloc: Global, tokens: &[Token]) -> Result<Grown<Item>, ParseError>
-    ensures { ReadsAll item_view item_height result (λ n m. encoded (level n) (toks tokens.now)) }
+    ensures { ReadsAll FitItem result (λ n m. encoded (level n) (toks tokens.now)) }
 {
     let Some(rest) = sign_at(Symbol::LeftParen, tokens) else {
         return Err(ParseError::BadSyntax);

@@ -1,5 +1,5 @@
 -- Text that is written a token at a time.
-use Rattle.std.proofs.Common.{◌≡◌, ◌==◌, ℕ, Bool, true, false, cond, ℤ, pos, negsuc, ◌<ℤ◌, ◌≤ℤ◌, unsigned_abs, List, [], ◌∷◌, ◌++◌, get_or, Result, Ok, Err, refl, ap, ◌∙◌, append_assoc, arith}
+use Rattle.std.proofs.Common.{◌≡◌, ◌==◌, ℕ, Bool, true, false, cond, ℤ, pos, negsuc, ◌<ℤ◌, ◌≤ℤ◌, unsigned_abs, List, [], ◌∷◌, ◌++◌, get_or, Result, Ok, Err, refl, ap, ◌∙◌, append_assoc, append-nil, arith}
 use Rattle.std.specs.Result.{OnOk}
 use Rattle.std.proofs.lemmas.Int.{ints}
 use Rattle.wcps_text.specs.declared.token.Symbol.TheVariants as signs
@@ -36,6 +36,11 @@ on_ok (Err e) f h = tt
 
 pub same_text : (before : List ℕ) {ts us : List Tok} → ts ≡ us → before ++ text_of ts ≡ before ++ text_of us
 same_text before e = ap (λ (ts : List Tok). before ++ text_of ts) e
+
+-- no tokens are no text
+pub nothing_behind : (bs : List ℕ) → bs ++ text_of [] ≡ bs
+unfolding text_of
+nothing_behind bs = append-nil bs
 
 -- the last of several calls, behind what the others have written
 pub last_puts : {A E : Type 0} (r : Result A E) (before mid after : List ℕ) (g k : List Tok → List Tok) → OnOk r (Puts mid g after) → ((rest : List Tok) → mid ++ text_of (g rest) ≡ before ++ text_of (k rest)) → OnOk r (Puts before k after)

@@ -1,5 +1,5 @@
 -- What a printed text is.
-use Rattle.std.proofs.Common.{◌≡◌, ◌≤◌, ◌++◌, ℕ, List, [], append-nil, sym, ◌∙◌, subst, ap, arith}
+use Rattle.std.proofs.Common.{◌≡◌, ◌≤◌, ◌++◌, ℕ, List, [], sym, ◌∙◌, subst, ap, arith}
 use Rattle.wcps_text.specs.Token.{Tok}
 use Rattle.wcps_text.specs.Tree.{QueryTree}
 use Rattle.wcps_text.specs.Limits.{max_depth, max_forms, deepest, forms}
@@ -11,10 +11,6 @@ use Rattle.wcps_print.proofs.Again.{again_query}
 use Rattle.wcps_print.proofs.Cuts.{cut}
 use Rattle.wcps_print.proofs.Forms.{same-forms}
 use Rattle.wcps_print.proofs.Depths.{query-within}
-
-nothing_behind : (bs : List ℕ) → bs ++ text_of [] ≡ bs
-unfolding text_of
-nothing_behind bs = append-nil bs
 
 -- the printed tokens are cut out of their text, and spell the query
 tokens_again : (q : QueryTree) (text : List ℕ) → IsTextOf text q → IsTextOf (text_of (query_tokens q)) q
@@ -37,12 +33,12 @@ within_again q text h =
       low = h.low;
     }
 
-pub printed : (q : QueryTree) (before after text : List ℕ) → before ≡ [] → after ++ text_of [] ≡ before ++ text_of (query_tokens q) → IsTextOf text q → IsTextOf after q
+pub printed : (q : QueryTree) (before after text : List ℕ) → before ≡ [] → after ≡ before ++ text_of (query_tokens q) → IsTextOf text q → IsTextOf after q
 printed q before after text none whole h =
-    let same : after ≡ text_of (query_tokens q) = sym (nothing_behind after) ∙ whole ∙ ap (λ (bs : List ℕ). bs ++ text_of (query_tokens q)) none in
+    let same : after ≡ text_of (query_tokens q) = whole ∙ ap (λ (bs : List ℕ). bs ++ text_of (query_tokens q)) none in
     subst (λ (bs : List ℕ). IsTextOf bs q) (sym same) (tokens_again q text h)
 
-pub printed_within : (q : QueryTree) (before after text : List ℕ) → before ≡ [] → after ++ text_of [] ≡ before ++ text_of (query_tokens q) → IsTextWithin text q → IsTextWithin after q
+pub printed_within : (q : QueryTree) (before after text : List ℕ) → before ≡ [] → after ≡ before ++ text_of (query_tokens q) → IsTextWithin text q → IsTextWithin after q
 printed_within q before after text none whole h =
-    let same : after ≡ text_of (query_tokens q) = sym (nothing_behind after) ∙ whole ∙ ap (λ (bs : List ℕ). bs ++ text_of (query_tokens q)) none in
+    let same : after ≡ text_of (query_tokens q) = whole ∙ ap (λ (bs : List ℕ). bs ++ text_of (query_tokens q)) none in
     subst (λ (bs : List ℕ). IsTextWithin bs q) (sym same) (within_again q text h)

@@ -20,3 +20,7 @@ pub record IsTextWithin (text : List ℕ) (q : QueryTree) : Type 0 where
   pub brackets : deepest 0 (tokens_of pieces) ≤ max_depth
   pub words : forms (tokens_of pieces) ≤ max_forms
   pub low : query_height q ≤ max_height
+
+-- this text is one of the query, in that sense, if any text is
+abbrev pub Inherits : (List ℕ → QueryTree → Type 0) → QueryTree → List ℕ → Type 0
+Inherits Is q printed = (text : List ℕ) → Is text q → Is printed q

@@ -1,5 +1,6 @@
 -- The tokens of a printed query, and how they are written. Each function gives the tokens of its thing, and then the rest.
-use Rattle.std.specs.Prelude.{◌≡◌, ℕ, suc, ℤ, pos, negsuc, List, [], ◌∷◌, ◌++◌, Bool, true, false, cond, ◌==◌, codes, get_or, decimal}
+use Rattle.std.specs.Prelude.{◌≡◌, ℕ, suc, ℤ, pos, negsuc, List, [], ◌∷◌, ◌++◌, Bool, true, false, cond, ◌==◌, codes, get_or, decimal, String, string_bytes}
+use Rattle.std.specs.Global.{Global}
 use Rattle.wcps_text.specs.declared.token.Symbol.{Symbol}
 use Rattle.wcps_text.specs.declared.token.Symbol.TheVariants as signs
 use Rattle.wcps_text.specs.declared.token.Keyword.TheVariants as words
@@ -34,6 +35,18 @@ text_of (t ∷ ts) = bytes_of t ++ 32 ∷ text_of ts
 -- the text after is the text before and then those tokens
 abbrev pub Puts : List ℕ → (List Tok → List Tok) → List ℕ → Type 0
 Puts before tokens after = (rest : List Tok) → after ++ text_of rest ≡ before ++ text_of (tokens rest)
+
+-- the same of strings
+abbrev pub Adds : String Global → String Global → (List Tok → List Tok) → Type 0
+Adds old new tokens = Puts (string_bytes old) tokens (string_bytes new)
+
+-- tokens in parentheses
+abbrev pub in_parens : (List Tok → List Tok) → List Tok → List Tok
+in_parens ts rest = sign signs.LeftParen ∷ ts (sign signs.RightParen ∷ rest)
+
+-- tokens in brackets
+abbrev pub in_brackets : (List Tok → List Tok) → List Tok → List Tok
+in_brackets ts rest = sign signs.LeftBracket ∷ ts (sign signs.RightBracket ∷ rest)
 
 -- a name, with `$` or without
 unfoldable pub name_token : List ℕ → Tok
@@ -146,8 +159,12 @@ unfoldable pub bindings_tokens : Bool → List BindingTree → List Tok → List
 bindings_tokens first [] rest = rest
 bindings_tokens first (b ∷ bs) rest = separator first signs.Comma (name_token b.variable ∷ word words.In ∷ sign signs.LeftParen ∷ names_tokens true b.coverages (sign signs.RightParen ∷ bindings_tokens false bs rest))
 
+-- an expression that is returned encoded
+abbrev pub encoded_tokens : Tree → List Tok → List Tok
+encoded_tokens e rest = word words.Encode ∷ sign signs.LeftParen ∷ expr_tokens e (sign signs.Comma ∷ word words.Csv ∷ sign signs.RightParen ∷ rest)
+
 unfoldable pub item_tokens : ItemTree → List Tok → List Tok
-item_tokens (encode e) rest = word words.Encode ∷ sign signs.LeftParen ∷ expr_tokens e (sign signs.Comma ∷ word words.Csv ∷ sign signs.RightParen ∷ rest)
+item_tokens (encode e) rest = encoded_tokens e rest
 item_tokens (plain e) rest = expr_tokens e rest
 
 unfoldable pub query_tokens : QueryTree → List Tok

@@ -1,11 +1,9 @@
 //! Expressions as text, every operand in parentheses.
 
-ghost use Rattle.std.specs.Prelude.{[], ◌∷◌, true, string_bytes, OnOk};
-ghost use Rattle.wcps_text.specs.Token.{sign};
+ghost use Rattle.std.specs.Prelude.{[], ◌∷◌, true, OnOk};
 ghost use Rattle.wcps_text.specs.Tree.{view, view_interval, view_place, iters_of, parts_of, subs_of, condition_of};
 ghost use Rattle.wcps_text.specs.Tree as tree;
-ghost use Rattle.wcps_text.specs.declared.token.Symbol.TheVariants as signs;
-ghost use Rattle.wcps_print.specs.Printing.{condition_tokens, expr_tokens, head_tokens, interval_tokens, items_tokens, iters_tokens, parts_tokens, place_tokens, subs_tokens, Puts};
+ghost use Rattle.wcps_print.specs.Printing.{condition_tokens, expr_tokens, head_tokens, in_brackets, in_parens, interval_tokens, items_tokens, iters_tokens, place_tokens, subs_tokens, Adds};
 
 use crate::words::{
     put_any_name, put_binary, put_condense, put_int, put_name, put_number, put_reduce,
@@ -20,7 +18,7 @@ use wcps_text::{
 /// An expression.
 #[cycle(printing)]
 pub fn put_expr(out: &mut String, expr: &Expr) -> Result<(), AllocError>
-    ensures { OnOk result (Puts (string_bytes out.old) (expr_tokens (view expr.now)) (string_bytes out.new)) }
+    ensures { OnOk result (Adds out.old out.new (expr_tokens (view expr.now))) }
 {
     match expr {
         Expr::Number(literal) => put_number(out, literal.value),
@@ -80,7 +78,7 @@ pub fn put_expr(out: &mut String, expr: &Expr) -> Result<(), AllocError>
 /// An expression in parentheses.
 #[cycle(printing)]
 pub fn put_grouped(out: &mut String, expr: &Expr) -> Result<(), AllocError>
-    ensures { OnOk result (Puts (string_bytes out.old) (λ rest. sign signs.LeftParen ∷ expr_tokens (view expr.now) (sign signs.RightParen ∷ rest)) (string_bytes out.new)) }
+    ensures { OnOk result (Adds out.old out.new (in_parens (expr_tokens (view expr.now)))) }
 {
     put_symbol(out, Symbol::LeftParen)?;
     put_expr(out, expr)?;
@@ -90,7 +88,7 @@ pub fn put_grouped(out: &mut String, expr: &Expr) -> Result<(), AllocError>
 /// `where` and a condition in parentheses, if there is one.
 #[cycle(printing)]
 pub fn put_condition(out: &mut String, condition: &Option<Box<Expr>>) -> Result<(), AllocError>
-    ensures { OnOk result (Puts (string_bytes out.old) (condition_tokens (condition_of condition.now)) (string_bytes out.new)) }
+    ensures { OnOk result (Adds out.old out.new (condition_tokens (condition_of condition.now))) }
 {
     match condition {
         Some(test) => {
@@ -103,7 +101,7 @@ pub fn put_condition(out: &mut String, condition: &Option<Box<Expr>>) -> Result<
 
 #[cycle(printing)]
 fn put_unary(out: &mut String, op: UnaryOperator, operand: &Expr) -> Result<(), AllocError>
-    ensures { OnOk result (Puts (string_bytes out.old) (expr_tokens (tree.unary op (view operand.now))) (string_bytes out.new)) }
+    ensures { OnOk result (Adds out.old out.new (expr_tokens (tree.unary op (view operand.now)))) }
 {
     put_unary_op(out, op)?;
     put_grouped(out, operand)
@@ -111,7 +109,7 @@ fn put_unary(out: &mut String, op: UnaryOperator, operand: &Expr) -> Result<(), 
 
 #[cycle(printing)]
 fn put_record(out: &mut String, parts: &[Part]) -> Result<(), AllocError>
-    ensures { OnOk result (Puts (string_bytes out.old) (expr_tokens (tree.parts (parts_of parts.now))) (string_bytes out.new)) }
+    ensures { OnOk result (Adds out.old out.new (expr_tokens (tree.parts (parts_of parts.now)))) }
 {
     put_symbol(out, Symbol::LeftBrace)?;
     let mut is_first = true;
@@ -127,7 +125,7 @@ fn put_record(out: &mut String, parts: &[Part]) -> Result<(), AllocError>
 
 #[cycle(printing)]
 fn put_subs(out: &mut String, subs: &[Sub]) -> Result<(), AllocError>
-    ensures { OnOk result (Puts (string_bytes out.old) (λ rest. sign signs.LeftBracket ∷ subs_tokens true (subs_of subs.now) (sign signs.RightBracket ∷ rest)) (string_bytes out.new)) }
+    ensures { OnOk result (Adds out.old out.new (in_brackets (subs_tokens true (subs_of subs.now)))) }
 {
     put_symbol(out, Symbol::LeftBracket)?;
     let mut is_first = true;
@@ -144,7 +142,7 @@ fn put_subs(out: &mut String, subs: &[Sub]) -> Result<(), AllocError>
 
 #[cycle(printing)]
 fn put_place(out: &mut String, place: &Place) -> Result<(), AllocError>
-    ensures { OnOk result (Puts (string_bytes out.old) (place_tokens (view_place place.now)) (string_bytes out.new)) }
+    ensures { OnOk result (Adds out.old out.new (place_tokens (view_place place.now))) }
 {
     match place {
         Place::Trim(interval) => put_interval(out, interval),
@@ -154,7 +152,7 @@ fn put_place(out: &mut String, place: &Place) -> Result<(), AllocError>
 
 #[cycle(printing)]
 fn put_interval(out: &mut String, interval: &Interval) -> Result<(), AllocError>
-    ensures { OnOk result (Puts (string_bytes out.old) (interval_tokens (view_interval interval.now)) (string_bytes out.new)) }
+    ensures { OnOk result (Adds out.old out.new (interval_tokens (view_interval interval.now))) }
 {
     match interval {
         Interval::Bounds(low, high) => {
@@ -175,7 +173,7 @@ fn put_interval(out: &mut String, interval: &Interval) -> Result<(), AllocError>
 
 #[cycle(printing)]
 fn put_iters(out: &mut String, iterators: &[Iter]) -> Result<(), AllocError>
-    ensures { OnOk result (Puts (string_bytes out.old) (iters_tokens true (iters_of iterators.now)) (string_bytes out.new)) }
+    ensures { OnOk result (Adds out.old out.new (iters_tokens true (iters_of iterators.now))) }
 {
     let mut is_first = true;
     for iterator in iterators {
@@ -193,7 +191,7 @@ fn put_iters(out: &mut String, iterators: &[Iter]) -> Result<(), AllocError>
 /// The words before what a coverage holds. Its name has no effect: any one serves.
 #[cycle(printing)]
 fn put_head(out: &mut String, iterators: &[Iter]) -> Result<(), AllocError>
-    ensures { OnOk result (Puts (string_bytes out.old) (λ rest. head_tokens (iters_tokens true (iters_of iterators.now) rest)) (string_bytes out.new)) }
+    ensures { OnOk result (Adds out.old out.new (λ rest. head_tokens (iters_tokens true (iters_of iterators.now) rest))) }
 {
     put_word(out, Keyword::Coverage)?;
     put_any_name(out)?;
@@ -207,7 +205,7 @@ fn put_value_list(
     iterators: &[Iter],
     items: &[ListItem],
 ) -> Result<(), AllocError>
-    ensures { OnOk result (Puts (string_bytes out.old) (expr_tokens (tree.value_list (iters_of iterators.now) items.now)) (string_bytes out.new)) }
+    ensures { OnOk result (Adds out.old out.new (expr_tokens (tree.value_list (iters_of iterators.now) items.now))) }
 {
     put_head(out, iterators)?;
     put_word(out, Keyword::Value)?;
@@ -218,7 +216,7 @@ fn put_value_list(
 }
 
 fn put_items(out: &mut String, items: &[ListItem]) -> Result<(), AllocError>
-    ensures { OnOk result (Puts (string_bytes out.old) (items_tokens true items.now) (string_bytes out.new)) }
+    ensures { OnOk result (Adds out.old out.new (items_tokens true items.now)) }
 {
     let mut is_first = true;
     for item in items {
@@ -230,7 +228,7 @@ fn put_items(out: &mut String, items: &[ListItem]) -> Result<(), AllocError>
 }
 
 fn put_item(out: &mut String, item: ListItem) -> Result<(), AllocError>
-    ensures { OnOk result (Puts (string_bytes out.old) (λ rest. items_tokens true (item ∷ []) rest) (string_bytes out.new)) }
+    ensures { OnOk result (Adds out.old out.new (items_tokens true (item ∷ []))) }
 {
     match item {
         ListItem::Int(int) => put_int(out, int),

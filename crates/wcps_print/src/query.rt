@@ -1,12 +1,9 @@
 //! Whole queries as text.
 
-ghost use Rattle.std.specs.Prelude.{◌≡◌, ◌++◌, [], ◌∷◌, ℕ, List, true, string_bytes, IfOk, OnOk};
-ghost use Rattle.wcps_text.specs.Token.{sign, word};
+ghost use Rattle.std.specs.Prelude.{◌≡◌, ◌++◌, true, string_bytes, IfOk, OnOk};
 ghost use Rattle.wcps_text.specs.Tree.{bindings_of, item_view, query_view, view};
-ghost use Rattle.wcps_text.specs.declared.token.Keyword.TheVariants as words;
-ghost use Rattle.wcps_text.specs.declared.token.Symbol.TheVariants as signs;
-ghost use Rattle.wcps_print.specs.Printed.{IsTextOf, IsTextWithin};
-ghost use Rattle.wcps_print.specs.Printing.{bindings_tokens, expr_tokens, item_tokens, names_tokens, query_tokens, text_of, Puts};
+ghost use Rattle.wcps_print.specs.Printed.{IsTextOf, IsTextWithin, Inherits};
+ghost use Rattle.wcps_print.specs.Printing.{bindings_tokens, encoded_tokens, item_tokens, names_tokens, query_tokens, text_of, Adds};
 
 use crate::expression::{put_condition, put_expr};
 use crate::words::{put_name, put_separator, put_symbol, put_word};
@@ -19,8 +16,8 @@ use wcps_text::{Binding, Expr, Item, Keyword, Query, QueryName, Symbol};
 /// tokens, and they spell the same query; and where that text is within the limits of a query, so is the printed one, which
 /// a parser then takes. It calls itself as deep as the query is high. The only error is want of memory.
 pub fn print(alloc: Global, query: &Query) -> Result<String, AllocError>
-    ensures spelled { IfOk result (λ printed. (text : List ℕ) → IsTextOf text (query_view query.now) → IsTextOf (string_bytes printed) (query_view query.now)) }
-    ensures within { IfOk result (λ printed. (text : List ℕ) → IsTextWithin text (query_view query.now) → IsTextWithin (string_bytes printed) (query_view query.now)) }
+    ensures spelled { IfOk result (λ printed. Inherits IsTextOf (query_view query.now) (string_bytes printed)) }
+    ensures within { IfOk result (λ printed. Inherits IsTextWithin (query_view query.now) (string_bytes printed)) }
 {
     let mut out = String::new(alloc);
     put_query(&mut out, query)?;
@@ -28,7 +25,7 @@ pub fn print(alloc: Global, query: &Query) -> Result<String, AllocError>
 }
 
 fn put_query(out: &mut String, query: &Query) -> Result<(), AllocError>
-    ensures { OnOk result (string_bytes out.new ++ text_of [] ≡ string_bytes out.old ++ text_of (query_tokens (query_view query.now))) }
+    ensures { OnOk result (string_bytes out.new ≡ string_bytes out.old ++ text_of (query_tokens (query_view query.now))) }
 {
     put_word(out, Keyword::For)?;
     put_bindings(out, &query.bindings)?;
@@ -38,7 +35,7 @@ fn put_query(out: &mut String, query: &Query) -> Result<(), AllocError>
 }
 
 fn put_item(out: &mut String, item: &Item) -> Result<(), AllocError>
-    ensures { OnOk result (Puts (string_bytes out.old) (item_tokens (item_view item.now)) (string_bytes out.new)) }
+    ensures { OnOk result (Adds out.old out.new (item_tokens (item_view item.now))) }
 {
     match item {
         Item::Plain(value) => put_expr(out, value),
@@ -47,7 +44,7 @@ fn put_item(out: &mut String, item: &Item) -> Result<(), AllocError>
 }
 
 fn put_encoded(out: &mut String, value: &Expr) -> Result<(), AllocError>
-    ensures { OnOk result (Puts (string_bytes out.old) (λ rest. word words.Encode ∷ sign signs.LeftParen ∷ expr_tokens (view value.now) (sign signs.Comma ∷ word words.Csv ∷ sign signs.RightParen ∷ rest)) (string_bytes out.new)) }
+    ensures { OnOk result (Adds out.old out.new (encoded_tokens (view value.now))) }
 {
     put_word(out, Keyword::Encode)?;
     put_symbol(out, Symbol::LeftParen)?;
@@ -58,7 +55,7 @@ fn put_encoded(out: &mut String, value: &Expr) -> Result<(), AllocError>
 }
 
 fn put_bindings(out: &mut String, bindings: &[Binding]) -> Result<(), AllocError>
-    ensures { OnOk result (Puts (string_bytes out.old) (bindings_tokens true (bindings_of bindings.now)) (string_bytes out.new)) }
+    ensures { OnOk result (Adds out.old out.new (bindings_tokens true (bindings_of bindings.now))) }
 {
     let mut is_first = true;
     for binding in bindings {
@@ -74,7 +71,7 @@ fn put_bindings(out: &mut String, bindings: &[Binding]) -> Result<(), AllocError
 }
 
 fn put_names(out: &mut String, names: &[QueryName]) -> Result<(), AllocError>
-    ensures { OnOk result (Puts (string_bytes out.old) (names_tokens true names.now) (string_bytes out.new)) }
+    ensures { OnOk result (Adds out.old out.new (names_tokens true names.now)) }
 {
     let mut is_first = true;
     for name in names {

@@ -4,7 +4,7 @@ ghost use Rattle.std.specs.Prelude.{◌≡◌, ◌++◌, ◌∷◌, ◌<◌, ◌
 ghost use Rattle.wcps_text.specs.Grammar.{binary_token, truth_word};
 ghost use Rattle.wcps_text.specs.Token as tokens;
 ghost use Rattle.wcps_text.specs.Token.{sign, word};
-ghost use Rattle.wcps_print.specs.Printing.{int_tokens, name_token, separator, unary_token, reduce_token, condense_token, Puts};
+ghost use Rattle.wcps_print.specs.Printing.{int_tokens, name_token, separator, unary_token, reduce_token, condense_token, Adds};
 
 use itoa::Buffer;
 use std::alloc::AllocError;
@@ -19,14 +19,14 @@ fn put(out: &mut String, text: &str) -> Result<(), AllocError>
 
 /// A symbol.
 pub fn put_symbol(out: &mut String, symbol: Symbol) -> Result<(), AllocError>
-    ensures { OnOk result (Puts (string_bytes out.old) (λ rest. sign symbol ∷ rest) (string_bytes out.new)) }
+    ensures { OnOk result (Adds out.old out.new (λ rest. sign symbol ∷ rest)) }
 {
     put(out, symbol.text())
 }
 
 /// A symbol before each thing of a list but the first.
 pub fn put_separator(out: &mut String, is_first: bool, symbol: Symbol) -> Result<(), AllocError>
-    ensures { OnOk result (Puts (string_bytes out.old) (separator is_first symbol) (string_bytes out.new)) }
+    ensures { OnOk result (Adds out.old out.new (separator is_first symbol)) }
 {
     if is_first {
         return Ok(());
@@ -36,28 +36,28 @@ pub fn put_separator(out: &mut String, is_first: bool, symbol: Symbol) -> Result
 
 /// A word of the language.
 pub fn put_word(out: &mut String, word: Keyword) -> Result<(), AllocError>
-    ensures { OnOk result (Puts (string_bytes out.old) (λ rest. tokens.word word ∷ rest) (string_bytes out.new)) }
+    ensures { OnOk result (Adds out.old out.new (λ rest. tokens.word word ∷ rest)) }
 {
     put(out, word.text())
 }
 
 /// A name, with its `$` where it has one.
 pub fn put_name(out: &mut String, name: &QueryName) -> Result<(), AllocError>
-    ensures { OnOk result (Puts (string_bytes out.old) (λ rest. name_token name.now ∷ rest) (string_bytes out.new)) }
+    ensures { OnOk result (Adds out.old out.new (λ rest. name_token name.now ∷ rest)) }
 {
     put(out, name.as_str())
 }
 
 /// A name of a coverage whose name has no effect: any one serves.
 pub fn put_any_name(out: &mut String) -> Result<(), AllocError>
-    ensures { OnOk result (Puts (string_bytes out.old) (λ rest. tokens.name (codes "c") ∷ rest) (string_bytes out.new)) }
+    ensures { OnOk result (Adds out.old out.new (λ rest. tokens.name (codes "c") ∷ rest)) }
 {
     put(out, "c")
 }
 
 /// A number without a sign.
 pub fn put_number(out: &mut String, number: u64) -> Result<(), AllocError>
-    ensures { OnOk result (Puts (string_bytes out.old) (λ rest. tokens.number number ∷ rest) (string_bytes out.new)) }
+    ensures { OnOk result (Adds out.old out.new (λ rest. tokens.number number ∷ rest)) }
 {
     let mut buffer = Buffer::new();
     put(out, buffer.format(number))
@@ -65,7 +65,7 @@ pub fn put_number(out: &mut String, number: u64) -> Result<(), AllocError>
 
 /// A number with a sign where it is negative.
 pub fn put_int(out: &mut String, int: i64) -> Result<(), AllocError>
-    ensures { OnOk result (Puts (string_bytes out.old) (int_tokens int) (string_bytes out.new)) }
+    ensures { OnOk result (Adds out.old out.new (int_tokens int)) }
 {
     if int < 0 {
         put_symbol(out, Symbol::Minus)?;
@@ -76,7 +76,7 @@ pub fn put_int(out: &mut String, int: i64) -> Result<(), AllocError>
 
 /// `true` or `false`.
 pub fn put_truth(out: &mut String, truth: bool) -> Result<(), AllocError>
-    ensures { OnOk result (Puts (string_bytes out.old) (λ rest. word (truth_word truth) ∷ rest) (string_bytes out.new)) }
+    ensures { OnOk result (Adds out.old out.new (λ rest. word (truth_word truth) ∷ rest)) }
 {
     if truth {
         put_word(out, Keyword::True)
@@ -87,7 +87,7 @@ pub fn put_truth(out: &mut String, truth: bool) -> Result<(), AllocError>
 
 /// An operator before its operand.
 pub fn put_unary_op(out: &mut String, op: UnaryOperator) -> Result<(), AllocError>
-    ensures { OnOk result (Puts (string_bytes out.old) (λ rest. unary_token op ∷ rest) (string_bytes out.new)) }
+    ensures { OnOk result (Adds out.old out.new (λ rest. unary_token op ∷ rest)) }
 {
     match op {
         UnaryOperator::Negate => put_symbol(out, Symbol::Minus),
@@ -99,7 +99,7 @@ pub fn put_unary_op(out: &mut String, op: UnaryOperator) -> Result<(), AllocErro
 
 /// The token of an operator on two operands.
 pub fn put_binary(out: &mut String, op: BinaryOperator) -> Result<(), AllocError>
-    ensures { OnOk result (Puts (string_bytes out.old) (λ rest. binary_token op ∷ rest) (string_bytes out.new)) }
+    ensures { OnOk result (Adds out.old out.new (λ rest. binary_token op ∷ rest)) }
 {
     match op {
         BinaryOperator::Multiply => put_symbol(out, Symbol::Star),
@@ -121,7 +121,7 @@ pub fn put_binary(out: &mut String, op: BinaryOperator) -> Result<(), AllocError
 
 /// A reduction's word. No query is spelled with a product of all values: its sign stands there.
 pub fn put_reduce(out: &mut String, op: Aggregate) -> Result<(), AllocError>
-    ensures { OnOk result (Puts (string_bytes out.old) (λ rest. reduce_token op ∷ rest) (string_bytes out.new)) }
+    ensures { OnOk result (Adds out.old out.new (λ rest. reduce_token op ∷ rest)) }
 {
     match op {
         Aggregate::Sum => put_word(out, Keyword::Add),
@@ -137,7 +137,7 @@ pub fn put_reduce(out: &mut String, op: Aggregate) -> Result<(), AllocError>
 
 /// What a condenser joins its values by. No query is spelled with a count or an average there: their words stand there.
 pub fn put_condense(out: &mut String, op: Aggregate) -> Result<(), AllocError>
-    ensures { OnOk result (Puts (string_bytes out.old) (λ rest. condense_token op ∷ rest) (string_bytes out.new)) }
+    ensures { OnOk result (Adds out.old out.new (λ rest. condense_token op ∷ rest)) }
 {
     match op {
         Aggregate::Sum => put_symbol(out, Symbol::Plus),

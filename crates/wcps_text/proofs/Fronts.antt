@@ -10,6 +10,7 @@ use Rattle.wcps_text.specs.declared.error.LexError.TheVariants as errors
 use Rattle.wcps_text.specs.Token.{Tok, number, quoted, sign}
 use Rattle.wcps_text.specs.Lexing.{is_space, begins_name, continues_name, is_quotable, Every, decimal, single, double, IsWord, is_word, IsDigits, is_digits, Reads, numeral, large_numeral, plain, reserved, long_plain, marked, long_marked, text_between, one_byte, two_bytes, IsLongest, Refused, no_form}
 use Rattle.wcps_text.specs.Runs.{Stops}
+use Rattle.wcps_text.specs.Fronts.{IsOther}
 
 pub ahead : {A : Type 0} {a b : A} {xs ys : List A} → a ∷ xs ≡ b ∷ ys → a ≡ b
 ahead e = cc
@@ -262,13 +263,6 @@ open_quote m bs run none = record {
 pub text_refused : (bytes : List ℕ) (m : ℕ) → get_or bytes 0 0 ≡ 34 → 0 < length bytes → IsRun is_quotable (drop 1 bytes) m → get_or bytes (suc m) 0 ≢ 34 → Refused bytes errors.BadToken
 text_refused [] m first some run none = absurd (omega arith)
 text_refused (b ∷ bs) m first some run none = subst (λ (a : ℕ). Refused (a ∷ bs) errors.BadToken) (sym first) (refused 34 bs refl (open_quote m bs run none))
-
--- a byte that begins a symbol or nothing
-pub record IsOther (b : ℕ) : Type 0 where
-  pub no_digit : is_ascii_digit b ≡ false
-  pub no_letter : begins_name b ≡ false
-  pub no_dollar : b ≢ 36
-  pub no_quote : b ≢ 34
 
 other_most : (b n : ℕ) (bs : List ℕ) → IsOther b → ((s : Symbol) → single b ≡ Some s → 1 ≤ n) → ((s : Symbol) (us : List ℕ) → double b ≡ Some s → bs ≡ 61 ∷ us → 2 ≤ n) → AtMost b bs n
 other_most b n bs other ones twos = record {

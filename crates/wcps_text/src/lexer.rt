@@ -1,9 +1,9 @@
 //! Tokens of a text.
 
-ghost use Rattle.std.specs.Prelude.{◌≡◌, ◌≢◌, ◌+◌, ◌-◌, ◌<◌, ◌≤◌, length, map, drop, IfOk, IfErr, Ok, MatchResult};
-ghost use Rattle.wcps_text.specs.Lexing.{piece, is_space, IsLongest, Lexed, Refused};
+ghost use Rattle.std.specs.Prelude.{◌≡◌, ◌≢◌, ◌+◌, ◌-◌, ◌<◌, ◌≤◌, length, map, drop, IfOk, IfErr, MatchResult};
+ghost use Rattle.wcps_text.specs.Fronts.{IsTokenAt};
+ghost use Rattle.wcps_text.specs.Lexing.{piece, is_space, Lexed, Refused};
 ghost use Rattle.wcps_text.specs.Runs.{Stops};
-ghost use Rattle.wcps_text.specs.Token.{tok};
 ghost use Rattle.wcps_text.specs.declared.error.LexError.TheVariants.{NoMemory};
 
 use crate::error::LexError;
@@ -36,9 +36,7 @@ pub fn lex<'a>(alloc: Global, text: &'a str) -> Result<Vec<Token<'a>>, LexError>
 fn token_at<'a>(text: &'a str, start: usize) -> Result<Token<'a>, LexError>
     requires inside { start < length text.now }
     requires begun { Stops is_space (drop start text.now) }
-    ensures exact { MatchResult result
-        (λ t. IsLongest t.text.now (Ok (tok t)) (drop (start + length t.text.now) text.now) (drop start text.now))
-        (λ e. Refused (drop start text.now) e) }
+    ensures exact { MatchResult result (IsTokenAt text.now start) (Refused (drop start text.now)) }
     ensures place { IfOk result (λ t. t.start ≡ start) }
     ensures within { IfOk result (λ t. start + length t.text.now ≤ length text.now) }
     ensures some { IfOk result (λ t. 0 < length t.text.now) }

@@ -1,8 +1,8 @@
 //! What the first bytes of a text are: how many belong to the token, and what it is.
 
-ghost use Rattle.std.specs.Prelude.{◌≡◌, ◌≢◌, ◌==◌, false, cond, None, ◌+◌, ◌-◌, ◌<◌, ◌≤◌, length, take, drop, get_or, IfOk, MatchResult, IsTrue};
+ghost use Rattle.std.specs.Prelude.{◌≡◌, ◌==◌, cond, None, ◌+◌, ◌-◌, ◌<◌, ◌≤◌, length, take, drop, get_or, IfOk, MatchResult, IsTrue};
 ghost use Rattle.std.specs.Char.{is_ascii_digit};
-ghost use Rattle.wcps_text.specs.Fronts.{IsFront};
+ghost use Rattle.wcps_text.specs.Fronts.{IsFront, IsOther};
 ghost use Rattle.wcps_text.specs.Lexing.{begins_name, double, is_space, Refused};
 ghost use Rattle.wcps_text.specs.Runs.{Stops};
 
@@ -120,10 +120,7 @@ fn string(bytes: &[u8]) -> Result<(usize, Kind), LexError>
 fn symbol(bytes: &[u8]) -> Result<(usize, Kind), LexError>
     requires some { 0 < length bytes.now }
     requires begun { Stops is_space bytes.now }
-    requires no_digit { is_ascii_digit (get_or bytes.now 0 0) ≡ false }
-    requires no_letter { begins_name (get_or bytes.now 0 0) ≡ false }
-    requires no_dollar { get_or bytes.now 0 0 ≢ 36 }
-    requires no_quote { get_or bytes.now 0 0 ≢ 34 }
+    requires other { IsOther (get_or bytes.now 0 0) }
     ensures first { IfOk result (λ x. get_or bytes.now 0 0 < 128) }
     ensures exact { MatchResult result (λ x. IsFront bytes.now x.0 x.1) (λ e. Refused bytes.now e) }
     ensures within { IfOk result (λ x. x.0 ≤ length bytes.now) }

@@ -209,7 +209,7 @@ returned-renamed : (n : List ℕ) (s : ShapeTree) → item_of (ren_shape n s) �
 returned-renamed n s = ap (λ (fields : List FieldTree). Ok (record { domain = s.domain; fields = fields })) (slots-renamed n s.fields)
 
 item-renamed : (cs : List Signature) (bound : List Bound) (sigs : List Signature) → Stand cs (coverages_in bound) sigs → (i : tree.ItemTree)
-    → typ_item cs bound i ≡ answer_map (renamed_item (coverages_in bound)) (typ_item sigs (own 0 bound) i)
+    → typ_item cs bound [] i ≡ answer_map (renamed_item (coverages_in bound)) (typ_item sigs (own 0 bound) [] i)
 item-renamed cs bound sigs h (encode e) =
     let n = coverages_in bound in
     then-renamed (ren_shape n) (renamed_item n) (typ sigs (own 0 bound) [] e) _ item_of item_of (typ-renamed cs bound sigs h [] e) (λ s. returned-renamed n s)
@@ -224,4 +224,4 @@ pub combination-renamed : (cs : List Signature) (q : QueryTree) (bound : List Bo
 combination-renamed cs q bound sigs h =
     let n = coverages_in bound in
     then-renamed (ren_condition n) (renamed_combination n) (typ_condition sigs (own 0 bound) [] q.condition) _ _ _ (where-renamed cs bound sigs h [] q.condition)
-    (λ c. then-renamed (renamed_item n) (renamed_combination n) (typ_item sigs (own 0 bound) q.item) _ (combination_of c) (combination_of (ren_condition n c)) (item-renamed cs bound sigs h q.item) (λ i. refl))
+    (λ c. then-renamed (renamed_item n) (renamed_combination n) (typ_item sigs (own 0 bound) [] q.item) _ (combination_of c) (combination_of (ren_condition n c)) (item-renamed cs bound sigs h q.item) (λ i. refl))

@@ -95,7 +95,7 @@ fields-kinds : (cs : List Signature) (slots : List SlotTree) → SlotsHaveKinds 
 fields-kinds cs [] h = tt
 fields-kinds cs (s ∷ slots) h = (h.0, fields-kinds cs slots h.1)
 
-item-kinds : (cs : List Signature) (bound : List Bound) (i : tree.ItemTree) → Gives (ItemHasKinds cs) (typ_item cs bound i)
+item-kinds : (cs : List Signature) (bound : List Bound) (i : tree.ItemTree) → Gives (ItemHasKinds cs) (typ_item cs bound [] i)
 item-kinds cs bound (encode e) =
     gives-then (ShapeHasKinds cs) (ItemHasKinds cs) (typ cs bound [] e) item_of (typ-kinds cs bound [] e) (λ s h. fields-kinds cs s.fields h)
 item-kinds cs bound (plain e) =
@@ -105,7 +105,7 @@ item-kinds cs bound (plain e) =
 combination-kinds : (cs : List Signature) (q : QueryTree) (bound : List Bound) → Gives (CombinationHasKinds cs) (typ_combination cs q bound)
 combination-kinds cs q bound =
     gives-then (ConditionIsBoolean cs) (CombinationHasKinds cs) (typ_condition cs bound [] q.condition) _ (condition-kinds cs bound [] q.condition)
-    (λ c h. gives-then (ItemHasKinds cs) (CombinationHasKinds cs) (typ_item cs bound q.item) (combination_of c) (item-kinds cs bound q.item) (λ i k. (h, k)))
+    (λ c h. gives-then (ItemHasKinds cs) (CombinationHasKinds cs) (typ_item cs bound [] q.item) (combination_of c) (item-kinds cs bound q.item) (λ i k. (h, k)))
 
 kinds-last : (cs : List Signature) (done : List CombinationTree) (c : CombinationTree) → HaveKinds cs done → CombinationHasKinds cs c → HaveKinds cs (done ++ c ∷ [])
 kinds-last cs [] c h k = (k, tt)

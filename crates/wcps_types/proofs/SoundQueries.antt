@@ -25,7 +25,7 @@ fields-typed cs dom (s ∷ slots) h = (h.0, fields-typed cs dom slots h.1)
 whole-typed : (cs : List Signature) (s : ShapeTree) → ShapeIsTyped cs [] s → Gives (ItemIsTyped cs) (item_of s)
 whole-typed cs s h = fields-typed cs s.domain s.fields h
 
-item-typed : (cs : List Signature) (bound : List Bound) (i : tree.ItemTree) → Gives (ItemIsTyped cs) (typ_item cs bound i)
+item-typed : (cs : List Signature) (bound : List Bound) (i : tree.ItemTree) → Gives (ItemIsTyped cs) (typ_item cs bound [] i)
 item-typed cs bound (encode e) =
     gives-then (ShapeIsTyped cs []) (ItemIsTyped cs) (typ cs bound [] e) item_of (typ-typed cs bound [] [] refl e) (λ s h. whole-typed cs s h)
 item-typed cs bound (plain e) =
@@ -35,7 +35,7 @@ item-typed cs bound (plain e) =
 combination-typed : (cs : List Signature) (q : QueryTree) (bound : List Bound) → Gives (CombinationIsTyped cs) (typ_combination cs q bound)
 combination-typed cs q bound =
     gives-then (ConditionIsTyped cs []) (CombinationIsTyped cs) (typ_condition cs bound [] q.condition) _ (only-where cs bound [] [] refl q.condition)
-    (λ c h. gives-then (ItemIsTyped cs) (CombinationIsTyped cs) (typ_item cs bound q.item) (combination_of c) (item-typed cs bound q.item) (λ i k. (h, k)))
+    (λ c h. gives-then (ItemIsTyped cs) (CombinationIsTyped cs) (typ_item cs bound [] q.item) (combination_of c) (item-typed cs bound q.item) (λ i k. (h, k)))
 
 typed-last : (cs : List Signature) (done : List CombinationTree) (c : CombinationTree) → AreTyped cs done → CombinationIsTyped cs c → AreTyped cs (done ++ c ∷ [])
 typed-last cs [] c h k = (k, tt)

@@ -17,11 +17,13 @@ pub mod Brackets
 pub mod Records
 pub mod Parts
 pub mod Boxes
-pub mod Kept
 pub mod Variables
 pub mod Bindings
 pub mod Typing
+pub mod Contexts
 pub mod Queries
 pub mod Sharing
+pub mod Sources
+pub mod Kept
 pub mod Resolved
 pub mod Refusals

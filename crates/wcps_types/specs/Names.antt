@@ -1,5 +1,5 @@
 -- Looking names up in lists: the place of the first one of that name.
-use Rattle.std.specs.Prelude.{ℕ, List, Option, Some, None, Bool, false, cond, position}
+use Rattle.std.specs.Prelude.{◌≡◌, ℕ, List, Option, Some, None, Bool, false, cond, position}
 use Rattle.std.specs.Str.{bytes_eq}
 use Rattle.arr_core.specs.declared.domain.Axis.{Axis}
 use Rattle.arr_core.specs.declared.signature.Signature.{Signature}
@@ -21,6 +21,10 @@ bound_place name bound = position (λ (b : Bound). bytes_eq b.variable name) bou
 abbrev pub placed_behind : Option ℕ → Bool → ℕ → Option ℕ
 placed_behind (Some k) is_last n = Some k
 placed_behind None is_last n = cond is_last (Some n) None
+
+-- places by names, and those with one name more, at place n, where it had none
+abbrev pub AddsPlace : (List ℕ → Option ℕ) → (List ℕ → Option ℕ) → List ℕ → ℕ → Type 0
+AddsPlace old new name n = (x : List ℕ) → new x ≡ placed_behind (old x) (bytes_eq name x) n
 
 -- the place of a name among others
 abbrev pub name_place : List ℕ → List (List ℕ) → Option ℕ

@@ -8,7 +8,7 @@ use Rattle.wcps_types.specs.declared.names.Bound.{Bound}
 use Rattle.wcps_types.specs.declared.labels.Label.{Label}
 use Rattle.wcps_types.specs.Typed.{Typed, FieldTree, ItemTree, CombinationTree, TypedTree}
 use Rattle.wcps_types.specs.Shapes.{SlotTree, ShapeTree, Answer, then_of, is_scalar}
-use Rattle.wcps_types.specs.Typing.{typ, typ_condition}
+use Rattle.wcps_types.specs.Typing.{Check, typ, typ_condition}
 use Rattle.wcps_types.specs.Bindings.{BindingTrees, no_bindings, bound_from, few_combinations, combinations}
 use Rattle.wcps_types.specs.Cells.{result_cells, max_cells}
 use Rattle.wcps_types.specs.Work.{query_work, max_work}
@@ -27,16 +27,16 @@ item_of s = Ok (record { domain = s.domain; fields = map field_of_slot s.fields 
 abbrev pub plain_item : ShapeTree → Answer ItemTree
 plain_item s = cond (is_scalar s.domain) (item_of s) (Err MustEncode)
 
-abbrev pub typ_item : List Signature → List Bound → tree.ItemTree → Answer ItemTree
-typ_item cs bound (encode e) = then_of (typ cs bound [] e) item_of
-typ_item cs bound (plain e) = then_of (typ cs bound [] e) plain_item
+abbrev pub typ_item : Check (tree.ItemTree → Answer ItemTree)
+typ_item cs bound scope (encode e) = then_of (typ cs bound scope e) item_of
+typ_item cs bound scope (plain e) = then_of (typ cs bound scope e) plain_item
 
 abbrev pub combination_of : Option Typed → ItemTree → Answer CombinationTree
 combination_of c i = Ok (record { condition = c; item = i })
 
 -- with one choice of coverages: the `where`, then the item
 abbrev pub typ_combination : List Signature → QueryTree → List Bound → Answer CombinationTree
-typ_combination cs q bound = then_of (typ_condition cs bound [] q.condition) (λ (c : Option Typed). then_of (typ_item cs bound q.item) (combination_of c))
+typ_combination cs q bound = then_of (typ_condition cs bound [] q.condition) (λ (c : Option Typed). then_of (typ_item cs bound [] q.item) (combination_of c))
 
 -- with one choice after the other, behind those that are done
 abbrev pub typ_each : List Signature → QueryTree → List CombinationTree → List (List Bound) → Answer (List CombinationTree)

@@ -8,7 +8,7 @@ use Rattle.wcps_types.specs.declared.typed_query.Combination.{Combination}
 use Rattle.wcps_types.specs.declared.typed_query.Maker.{Maker}
 use Rattle.wcps_types.specs.declared.query.Latest.{Latest}
 use Rattle.wcps_types.specs.Typed.{CombinationTree, tree_view}
-use Rattle.wcps_types.specs.Renamed.{nothing}
+use Rattle.wcps_types.specs.Renamed.{nothing, combination_view}
 use Rattle.wcps_types.specs.Shapes.{Answer}
 use Rattle.wcps_types.specs.Cells.{result_cells, capped_cells}
 use Rattle.wcps_types.specs.Work.{query_work, capped}
@@ -83,6 +83,10 @@ Alike cs (a ∷ places) (b ∷ others) = AlikeAt (slice_get cs a) (slice_get cs 
 Alike cs [] (b ∷ others) = ⊥
 Alike cs (a ∷ places) [] = ⊥
 
+-- a maker is of coverages like those at these places
+abbrev pub IsLike : List Signature → List ℕ → Maker → Type 0
+IsLike cs places m = Alike cs places m.coverages.items
+
 -- the query over its variables, each with the signature of the coverage at its place
 abbrev pub typed_over : List Signature → QueryTree → List Bound → List ℕ → Answer CombinationTree
 typed_over cs q variables places = typ_combination (signatures_at cs places) q variables
@@ -121,6 +125,10 @@ AreCounted [] [] = Unit {0}
 AreCounted (t ∷ trees) (m ∷ makers) = (m ≡ maker_of m.coverages t) × AreCounted trees makers
 AreCounted [] (m ∷ makers) = ⊥
 AreCounted (t ∷ trees) [] = ⊥
+
+-- what makers count of combinations: if each tells the cells and the work of its tree, it is that of the combinations with the trees
+abbrev pub IsCounted : (List CombinationTree → ℕ) → List Maker → List Combination → ℕ → Type 0
+IsCounted count makers list n = (trees : List CombinationTree) → AreCounted trees makers → n ≡ count (map (combination_view trees) list)
 
 -- each maker has a tree, and tells its cells and its work
 abbrev pub AreMade : List Signature → QueryTree → List Bound → List Maker → Type 0

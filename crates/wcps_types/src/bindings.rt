@@ -5,9 +5,8 @@ ghost use Rattle.std.specs.List.{list_any};
 ghost use Rattle.std.specs.Str.{bytes_eq};
 ghost use Rattle.wcps_text.specs.Tree.{binding_view, bindings_of};
 ghost use Rattle.wcps_types.specs.declared.bindings.Choice.{Choice};
-ghost use Rattle.wcps_types.specs.Names.{coverage_place};
 ghost use Rattle.wcps_types.specs.Shapes.{Says};
-ghost use Rattle.wcps_types.specs.Bindings.{placed_view, placed_all_view, choice_view, bindings_view, no_bindings, signature_at, known_signature, resolved, resolved_all, is_bound, with_binding, bound_from, combination_count, few_combinations, combination_at};
+ghost use Rattle.wcps_types.specs.Bindings.{placed_view, placed_all_view, choice_view, bindings_view, no_bindings, resolved, resolved_all, is_bound, with_binding, bound_from, combination_count, few_combinations, combination_at};
 
 use crate::names::{Bound, coverage_place, is_same};
 use crate::refusal::{CheckError, TypeRefusal};
@@ -35,33 +34,6 @@ pub const MAX_COMBINATIONS: u64 = 64;
 /// One more than that, at which counting stops.
 const TOO_MANY: u64 = MAX_COMBINATIONS + 1;
 
-/// A signature of one's own.
-fn copied(alloc: Global, signature: &Signature) -> Result<Signature, AllocError>
-    ensures { IfOk result (λ s. s ≡ signature.now) }
-{
-    let name = signature.name.copy(alloc)?;
-    let domain = signature.domain.copy(alloc)?;
-    let fields = signature.fields.copy(alloc)?;
-    Ok(Signature {
-        name,
-        domain,
-        fields,
-    })
-}
-
-/// A copy of the signature of a coverage.
-fn found(alloc: Global, signatures: &[Signature], name: &QueryName) -> Result<Signature, CheckError>
-    ensures { Says (λ s. s) result (known_signature (signature_at (coverage_place name.now signatures.now) signatures.now)) }
-{
-    match coverage_place(signatures, name) {
-        None => Err(CheckError::Refused(TypeRefusal::NoSuchCoverage)),
-        Some(place) => match signatures.get(place) {
-            None => Err(CheckError::Refused(TypeRefusal::NoSuchCoverage)),
-            Some(signature) => Ok(copied(alloc, signature)?),
-        },
-    }
-}
-
 /// Coverages, and the place of one of them.
 #[derive(Drop)]
 pub struct PlacedOne {
@@ -81,10 +53,15 @@ fn resolved(
     if let Some(place) = coverage_place(&coverages, name) {
         return Ok(PlacedOne { coverages, place });
     }
-    let own = found(alloc, signatures, name)?;
+    let Some(named) = coverage_place(signatures, name) else {
+        return Err(CheckError::Refused(TypeRefusal::NoSuchCoverage));
+    };
+    let Some(signature) = signatures.get(named) else {
+        return Err(CheckError::Refused(TypeRefusal::NoSuchCoverage));
+    };
     let mut coverages = coverages;
     let place = coverages.len();
-    coverages.push(own)?;
+    coverages.push(signature.copy(alloc)?)?;
     Ok(PlacedOne { coverages, place })
 }
 

@@ -2,9 +2,8 @@
 
 ghost use Rattle.std.specs.Prelude.{◌≡◌, [], ◌++◌, ◌∷◌, IfOk, ℕ, List};
 ghost use Rattle.std.specs.BTreeMap.{get_by_text};
-ghost use Rattle.std.specs.Str.{bytes_eq};
 ghost use Rattle.wcps_types.specs.Bindings.{bound_to};
-ghost use Rattle.wcps_types.specs.Names.{bound_place, placed_behind};
+ghost use Rattle.wcps_types.specs.Names.{bound_place, AddsPlace};
 
 use crate::names::Bound;
 use std::alloc::{AllocError, Global};
@@ -45,7 +44,7 @@ fn with_place(
     name: &QueryName,
     place: usize,
 ) -> Result<BTreeMap<String, usize>, AllocError>
-    ensures { IfOk result (λ new. (x : List ℕ) → get_by_text new x ≡ placed_behind (get_by_text places x) (bytes_eq name.now x) place) }
+    ensures { IfOk result (λ new. AddsPlace (get_by_text places) (get_by_text new) name.now place) }
 {
     let mut places = places;
     if places.contains_key(name.as_str()) {

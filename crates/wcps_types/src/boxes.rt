@@ -4,19 +4,18 @@ ghost use Rattle.std.specs.Prelude.{◌≡◌, ◌++◌, IfOk, Some, map};
 ghost use Rattle.std.specs.Option.{option_map};
 ghost use Rattle.std.specs.List.{list_all};
 ghost use Rattle.wcps_types.specs.Typed.{boxed_tree};
-ghost use Rattle.wcps_types.specs.Frames.{names_in};
-ghost use Rattle.wcps_types.specs.Shapes.{Says, then_of, shape_view, scalar_of_view, only_scalar};
+ghost use Rattle.wcps_types.specs.Shapes.{Says, shape_view, scalar_of_view};
 ghost use Rattle.wcps_types.specs.Brackets.{bounds_view};
+ghost use Rattle.wcps_types.specs.Contexts.{under};
 ghost use Rattle.wcps_types.specs.Typing.{array_of, condition_tree};
-ghost use Rattle.wcps_types.specs.Boxes.{iterators_view, no_iterators, is_taken, axis_of, with_iterator, box_of, condensed, integers_condensed, booleans_condensed, is_truth, item_number, first_is_truth, has_kind, other_kind, listed_on, value_list};
+ghost use Rattle.wcps_types.specs.Boxes.{iterators_view, no_iterators, is_taken, axis_of, with_iterator, box_of, condensed, is_truth, item_number, first_is_truth, has_kind, value_list};
 
-use crate::bound::Variables;
 use crate::bounds::Bounds;
+use crate::context::Context;
 use crate::extent::Extent;
 use crate::names::name_place;
-use crate::nodes::{array_node, condense_node, list_node};
+use crate::nodes::{boxed, condense_node};
 use crate::refusal::{CheckError, TypeRefusal};
-use crate::scope::Scope;
 use crate::shape::{OneScalar, Shape, only_scalar, unnamed, unnamed_scalar};
 use crate::typed::Node;
 use arr_core::{Axis, Domain, Name, NameError};
@@ -43,10 +42,12 @@ impl Iterators {
 }
 
 /// Whether a variable is bound by `for`, by an iterator in scope, or by one before it in its list.
-pub fn is_taken(bound: &Variables, scope: &Scope, before: &[QueryName], name: &QueryName) -> bool
-    ensures { result ≡ is_taken bound.now.list.items (names_in scope.now.frames) before.now name.now }
+pub fn is_taken(context: &Context, before: &[QueryName], name: &QueryName) -> bool
+    ensures { result ≡ under (λ cs. is_taken) context.now before.now name.now }
 {
-    bound.place(name).is_some() || scope.place(name).is_some() || name_place(before, name).is_some()
+    context.bound.place(name).is_some()
+        || context.scope.place(name).is_some()
+        || name_place(before, name).is_some()
 }
 
 /// An axis with those bounds. The grammar spells names alone.
@@ -67,17 +68,17 @@ fn axis_of(alloc: Global, name: &QueryName, bounds: Bounds) -> Result<Axis, Chec
 /// The iterators with one more.
 pub fn with_iterator(
     alloc: Global,
-    iterators: Iterators,
+    list: Iterators,
     variable: &QueryName,
     axis: &QueryName,
     bounds: Bounds,
 ) -> Result<Iterators, CheckError>
-    ensures { Says iterators_view result (with_iterator variable.now axis.now (bounds_view bounds) (iterators_view iterators)) }
+    ensures { Says iterators_view result (with_iterator variable.now axis.now (bounds_view bounds) (iterators_view list)) }
 {
     let Iterators {
         mut variables,
         mut axes,
-    } = iterators;
+    } = list;
     let axis = axis_of(alloc, axis, bounds)?;
     let variable = QueryName::new(alloc, variable.as_str())?;
     variables.push(variable)?;
@@ -118,7 +119,7 @@ pub fn array<'a>(alloc: Global, domain: Domain, body: Shape<'a>) -> Result<Shape
     ensures { Says shape_view result (array_of domain (shape_view body.entry)) }
 {
     let OneScalar { boolean, node } = only_scalar(body)?;
-    let node = array_node(alloc, node)?;
+    let node = boxed(alloc, Node::Array(node))?;
     Ok(unnamed(Extent::own(domain), boolean, node))
 }
 
@@ -139,57 +140,38 @@ pub fn condensed<'a>(
     op: Aggregate,
     domain: Domain,
     condition: Option<Box<Node>>,
-    body: Shape<'a>,
+    body: OneScalar,
 ) -> Result<Shape<'a>, CheckError>
-    ensures { Says shape_view result (then_of (only_scalar (shape_view body.entry)) (condensed op domain (option_map boxed_tree condition))) }
+    ensures { Says shape_view result (condensed op domain (option_map boxed_tree condition) (scalar_of_view body)) }
 {
-    let body = only_scalar(body)?;
+    let OneScalar { boolean, node } = body;
     match op {
         Aggregate::Sum
         | Aggregate::Product
         | Aggregate::Greatest
         | Aggregate::Least
-        | Aggregate::Average => integers_condensed(alloc, op, domain, condition, body),
-        Aggregate::Every | Aggregate::Any => booleans_condensed(
-            alloc, op, true, domain, condition, body,
-        ),
-        Aggregate::Count => booleans_condensed(alloc, op, false, domain, condition, body),
+        | Aggregate::Average => {
+            if boolean {
+                return Err(CheckError::Refused(TypeRefusal::NeedsInteger));
+            }
+            let node = condense_node(alloc, op, domain, condition, node)?;
+            Ok(unnamed_scalar(alloc, false, node))
+        }
+        Aggregate::Every | Aggregate::Any => {
+            if !boolean {
+                return Err(CheckError::Refused(TypeRefusal::NeedsBoolean));
+            }
+            let node = condense_node(alloc, op, domain, condition, node)?;
+            Ok(unnamed_scalar(alloc, true, node))
+        }
+        Aggregate::Count => {
+            if !boolean {
+                return Err(CheckError::Refused(TypeRefusal::NeedsBoolean));
+            }
+            let node = condense_node(alloc, op, domain, condition, node)?;
+            Ok(unnamed_scalar(alloc, false, node))
+        }
     }
-}
-
-fn integers_condensed<'a>(
-    alloc: Global,
-    op: Aggregate,
-    domain: Domain,
-    condition: Option<Box<Node>>,
-    body: OneScalar,
-) -> Result<Shape<'a>, CheckError>
-    ensures { Says shape_view result (integers_condensed op domain (option_map boxed_tree condition) (scalar_of_view body)) }
-{
-    let OneScalar { boolean, node } = body;
-    if boolean {
-        return Err(CheckError::Refused(TypeRefusal::NeedsInteger));
-    }
-    let node = condense_node(alloc, op, domain, condition, node)?;
-    Ok(unnamed_scalar(alloc, false, node))
-}
-
-fn booleans_condensed<'a>(
-    alloc: Global,
-    op: Aggregate,
-    gives_boolean: bool,
-    domain: Domain,
-    condition: Option<Box<Node>>,
-    body: OneScalar,
-) -> Result<Shape<'a>, CheckError>
-    ensures { Says shape_view result (booleans_condensed op gives_boolean domain (option_map boxed_tree condition) (scalar_of_view body)) }
-{
-    let OneScalar { boolean, node } = body;
-    if !boolean {
-        return Err(CheckError::Refused(TypeRefusal::NeedsBoolean));
-    }
-    let node = condense_node(alloc, op, domain, condition, node)?;
-    Ok(unnamed_scalar(alloc, gives_boolean, node))
 }
 
 /// Whether an item is a Boolean.
@@ -220,17 +202,6 @@ fn has_kind(boolean: bool, item: ListItem) -> bool
         is_truth(item)
     } else {
         !is_truth(item)
-    }
-}
-
-/// What refuses an item of another kind than the first.
-fn other_kind(boolean: bool) -> TypeRefusal
-    ensures { result ≡ other_kind boolean }
-{
-    if boolean {
-        TypeRefusal::NeedsBoolean
-    } else {
-        TypeRefusal::NeedsInteger
     }
 }
 
@@ -275,10 +246,13 @@ pub fn value_list<'a>(
     }
     let boolean = first_is_truth(items);
     if !are_of_kind(boolean, items) {
-        return Err(CheckError::Refused(other_kind(boolean)));
+        if boolean {
+            return Err(CheckError::Refused(TypeRefusal::NeedsBoolean));
+        }
+        return Err(CheckError::Refused(TypeRefusal::NeedsInteger));
     }
     let items = item_numbers(alloc, items)?;
-    let own = domain.copy(alloc)?;
-    let node = list_node(alloc, own, items)?;
+    let own = Box::new(alloc, domain.copy(alloc)?)?;
+    let node = boxed(alloc, Node::List { domain: own, items })?;
     Ok(unnamed(Extent::own(domain), boolean, node))
 }

@@ -1,9 +1,8 @@
 //! How many cells a result has.
 
 ghost use Rattle.std.specs.Prelude.{◌≡◌, ◌≤◌, ◌+◌, ◌*◌, ◌^◌, List, map, [], ◌∷◌};
-ghost use Rattle.wcps_types.specs.Typed.{CombinationTree, tree_view};
-ghost use Rattle.wcps_types.specs.Renamed.{combination_view};
-ghost use Rattle.wcps_types.specs.Sharing.{AreCounted};
+ghost use Rattle.wcps_types.specs.Typed.{tree_view};
+ghost use Rattle.wcps_types.specs.Sharing.{IsCounted};
 ghost use Rattle.wcps_types.specs.Cells.{result_cells, capped_cells};
 
 use crate::typed::Tree;
@@ -27,7 +26,7 @@ pub fn tree_cells(tree: &Tree) -> u64
 
 /// The cells of the item of a combination.
 fn combination_cells(makers: &[Maker], combination: &Combination) -> u64
-    ensures { (trees : List CombinationTree) → AreCounted trees makers.now → result ≡ capped_cells (result_cells (combination_view trees combination.now ∷ [])) }
+    ensures { IsCounted (λ all. capped_cells (result_cells all)) makers.now (combination.now ∷ []) result }
 {
     match makers.get(combination.tree) {
         None => 0,
@@ -37,7 +36,7 @@ fn combination_cells(makers: &[Maker], combination: &Combination) -> u64
 
 /// The cells of the items of all combinations, or one more than `MAX_CELLS` where they are more.
 pub fn combinations_cells(makers: &[Maker], combinations: &[Combination]) -> u64
-    ensures { (trees : List CombinationTree) → AreCounted trees makers.now → result ≡ capped_cells (result_cells (map (combination_view trees) combinations.now)) }
+    ensures { IsCounted (λ all. capped_cells (result_cells all)) makers.now combinations.now result }
 {
     let mut total: u64 = 0;
     for combination in combinations {

@@ -1,9 +1,8 @@
 //! Work: how many steps an evaluation takes at most, from domains alone.
 
 ghost use Rattle.std.specs.Prelude.{◌≡◌, ◌≤◌, ◌+◌, ◌*◌, ◌^◌, List, map, [], ◌∷◌};
-ghost use Rattle.wcps_types.specs.Typed.{CombinationTree, field_tree, fields_view, item_view, tree_view};
-ghost use Rattle.wcps_types.specs.Renamed.{combination_view};
-ghost use Rattle.wcps_types.specs.Sharing.{AreCounted};
+ghost use Rattle.wcps_types.specs.Typed.{field_tree, fields_view, item_view, tree_view};
+ghost use Rattle.wcps_types.specs.Sharing.{IsCounted};
 ghost use Rattle.wcps_types.specs.TypedQueries.{query_view};
 ghost use Rattle.wcps_types.specs.Work.{work_of, fields_work, item_work, condition_work, query_work, max_work, capped};
 
@@ -159,7 +158,7 @@ pub fn tree_work(tree: &Tree) -> u64
 
 /// The work of a combination.
 fn combination_work(makers: &[Maker], combination: &Combination) -> u64
-    ensures { (trees : List CombinationTree) → AreCounted trees makers.now → result ≡ capped (query_work (combination_view trees combination.now ∷ [])) }
+    ensures { IsCounted (λ all. capped (query_work all)) makers.now (combination.now ∷ []) result }
 {
     match makers.get(combination.tree) {
         None => 1,
@@ -169,7 +168,7 @@ fn combination_work(makers: &[Maker], combination: &Combination) -> u64
 
 /// The work of all combinations, or one more than `MAX_WORK` where it is more.
 pub fn combinations_work(makers: &[Maker], combinations: &[Combination]) -> u64
-    ensures { (trees : List CombinationTree) → AreCounted trees makers.now → result ≡ capped (query_work (map (combination_view trees) combinations.now)) }
+    ensures { IsCounted (λ all. capped (query_work all)) makers.now combinations.now result }
 {
     let mut total: u64 = 0;
     for combination in combinations {

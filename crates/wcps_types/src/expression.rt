@@ -1,29 +1,27 @@
-//! Expressions: parts from left to right, then the form's own checks. Each call is given the coverages of the query, the
-//! variables of its `for` list, and the variables of the iterators in scope, outermost first.
+//! Expressions in a context: parts from left to right, then the form's own checks.
 
-ghost use Rattle.std.specs.Prelude.{◌≡◌, [], ◌++◌, Ok};
+ghost use Rattle.std.specs.Prelude.{[], Ok};
 ghost use Rattle.std.specs.Option.{option_map};
 ghost use Rattle.wcps_text.specs.Tree as tree;
 ghost use Rattle.wcps_text.specs.Tree.{view, view_place, view_interval, parts_of, subs_of, iters_of, condition_of};
 ghost use Rattle.wcps_types.specs.Typed.{boxed_tree, number};
-ghost use Rattle.wcps_types.specs.Frames.{names_in};
-ghost use Rattle.wcps_types.specs.Variables.{signatures_in};
-ghost use Rattle.wcps_types.specs.Shapes.{Says, then_of, shape_view, only_scalar, unnamed};
-ghost use Rattle.wcps_types.specs.Brackets.{bounds_view, bracket_view, opened, place_to_cut};
-ghost use Rattle.wcps_types.specs.Operators as operators;
-ghost use Rattle.wcps_types.specs.Records.{no_pieces};
-ghost use Rattle.wcps_types.specs.Boxes.{iterators_view, no_iterators, condensed};
-ghost use Rattle.wcps_types.specs.Typing.{typ, typ_parts, typ_subs, typ_place, typ_interval, typ_iters, typ_condition, closed_on, array_of};
+ghost use Rattle.wcps_types.specs.Shapes.{Says, then_of, shape_view, unnamed};
+ghost use Rattle.wcps_types.specs.Brackets.{bounds_view, bracket_view, opened};
+ghost use Rattle.wcps_types.specs.Operators.{binary};
+ghost use Rattle.wcps_types.specs.Boxes.{iterators_view, no_iterators};
+ghost use Rattle.wcps_types.specs.Typing.{typ, typ_bracket, typ_subs, typ_interval, typ_iters, typ_condition};
+ghost use Rattle.wcps_types.specs.Contexts.{TypesTo, under, inside, cut_in};
 
-use crate::bound::Variables;
 use crate::bounds::Bounds;
 use crate::boxes::{
     Iterators, Opened, array, box_of, condensed, condition_of, is_taken, opened_box, value_list,
     with_iterator,
 };
 use crate::brackets::{
-    Bracket, bounds_of_axis, closed_bracket, place_to_cut, with_shape, with_trim, written_bounds,
+    Bracket, bounds_of_axis, closed_bracket, place_to_cut, position_of, with_position, with_trim,
+    written_bounds,
 };
+use crate::context::Context;
 use crate::extent::Extent;
 use crate::names::axis_place;
 use crate::nodes::boxed;
@@ -32,10 +30,9 @@ use crate::pieces::Pieces;
 use crate::records::{finished, with_name, with_part};
 use crate::refusal::{CheckError, TypeRefusal};
 use crate::scope::Scope;
-use crate::shape::{Shape, only_field, unnamed_scalar};
+use crate::shape::{Shape, only_field, only_scalar, unnamed_scalar};
 use crate::typed::Node;
 use crate::variables::variable;
-use arr_core::Signature;
 use std::alloc::Global;
 use wcps_text::{
     Aggregate, BinaryOperator, Expr, Interval, Iter, ListItem, Part, Place, QueryName, Sub,
@@ -45,38 +42,31 @@ use wcps_text::{
 /// The shape of an expression, or its first refusal. What a form does stands in a function of its own, so that a number
 /// in a chain takes no room for the locals of all forms.
 #[cycle(expression)]
-pub fn expression<'a>(
-    alloc: Global,
-    coverages: &[&'a Signature],
-    bound: &Variables,
-    scope: &Scope,
-    e: &Expr,
-) -> Result<Shape<'a>, CheckError>
-    ensures { Says shape_view result (typ (signatures_in coverages.now) bound.now.list.items (names_in scope.now.frames) (view e.now)) }
+pub fn expression<'a>(context: &Context<'_, 'a>, e: &Expr) -> Result<Shape<'a>, CheckError>
+    ensures { TypesTo context.now (view e.now) result }
 {
     match e {
-        Expr::Number(n) => constant(alloc, false, n.value as i64),
-        Expr::Truth(b) => constant(alloc, true, i64::from(*b)),
-        Expr::Variable(name) => variable(alloc, coverages, bound, scope, name),
-        Expr::Unary(op, a) => operation(alloc, coverages, bound, scope, *op, a),
+        Expr::Number(n) => constant(context.alloc, false, n.value as i64),
+        Expr::Truth(b) => constant(context.alloc, true, i64::from(*b)),
+        Expr::Variable(name) => variable(context, name),
+        Expr::Unary(op, a) => operation(context, *op, a),
         Expr::Binary(op, l, r) => {
-            let l = expression(alloc, coverages, bound, scope, l)?;
-            operation_on_two(alloc, coverages, bound, scope, *op, l, r)
+            let l = expression(context, l)?;
+            operation_on_two(context, *op, l, r)
         }
-        Expr::Reduce(op, a) => reduced(alloc, coverages, bound, scope, *op, a),
-        Expr::Record(parts) => record(alloc, coverages, bound, scope, parts),
-        Expr::ValueList { iterators, items } => {
-            listed(alloc, coverages, bound, scope, iterators, items)
-        }
-        Expr::Field(a, name) => field_of(alloc, coverages, bound, scope, a, name),
+        Expr::Reduce(op, a) => reduced(context, *op, a),
+        Expr::Record(parts) => record(context, parts),
+        Expr::ValueList { iterators, items } => { listed(context, iterators, items) }
+        Expr::Field(a, name) => field_of(context, a, name),
         Expr::Brackets(a, subs) => {
-            let a = expression(alloc, coverages, bound, scope, a)?;
-            bracketed(alloc, coverages, bound, scope, a, subs)
+            let a = expression(context, a)?;
+            bracketed(context, a, subs)
         }
         Expr::Coverage { iterators, body } => {
-            let over = iterator_list(alloc, coverages, bound, scope, iterators)?;
+            let over = iterator_list(context, iterators)?;
             let over = opened_box(over)?;
-            constructed(alloc, coverages, bound, scope, over, body)
+            let body = body_over(context, &over, body)?;
+            array(context.alloc, over.domain, body)
         }
         Expr::Condense {
             op,
@@ -84,10 +74,17 @@ pub fn expression<'a>(
             condition,
             body,
         } => {
-            let over = iterator_list(alloc, coverages, bound, scope, iterators)?;
+            let over = iterator_list(context, iterators)?;
             let over = opened_box(over)?;
-            let condition = condition_over(alloc, coverages, bound, scope, &over, condition)?;
-            condensed_over(alloc, coverages, bound, scope, *op, over, condition, body)
+            let condition = condition_over(context, &over, condition)?;
+            let body = body_over(context, &over, body)?;
+            condensed(
+                context.alloc,
+                *op,
+                over.domain,
+                condition,
+                only_scalar(body)?,
+            )
         }
     }
 }
@@ -105,183 +102,147 @@ fn constant<'a>(alloc: Global, boolean: bool, value: i64) -> Result<Shape<'a>, C
 #[cycle(expression)]
 #[inline(never)]
 fn operation<'a>(
-    alloc: Global,
-    coverages: &[&'a Signature],
-    bound: &Variables,
-    scope: &Scope,
+    context: &Context<'_, 'a>,
     op: UnaryOperator,
     a: &Expr,
 ) -> Result<Shape<'a>, CheckError>
-    ensures { Says shape_view result (typ (signatures_in coverages.now) bound.now.list.items (names_in scope.now.frames) (tree.unary op (view a.now))) }
+    ensures { TypesTo context.now (tree.unary op (view a.now)) result }
 {
-    let a = expression(alloc, coverages, bound, scope, a)?;
-    unary(alloc, op, a)
+    let a = expression(context, a)?;
+    unary(context.alloc, op, a)
 }
 
 /// An operator on two operands, of which the left one is typed.
 #[cycle(expression)]
 #[inline(never)]
 fn operation_on_two<'a>(
-    alloc: Global,
-    coverages: &[&'a Signature],
-    bound: &Variables,
-    scope: &Scope,
+    context: &Context<'_, 'a>,
     op: BinaryOperator,
     l: Shape<'a>,
     r: &Expr,
 ) -> Result<Shape<'a>, CheckError>
-    ensures { Says shape_view result (then_of (typ (signatures_in coverages.now) bound.now.list.items (names_in scope.now.frames) (view r.now)) (operators.binary op (shape_view l.entry))) }
+    ensures { Says shape_view result (then_of (under typ context.now (view r.now)) (binary op (shape_view l.entry))) }
 {
-    let r = expression(alloc, coverages, bound, scope, r)?;
-    binary(alloc, op, l, r)
+    let r = expression(context, r)?;
+    binary(context.alloc, op, l, r)
 }
 
 /// A reduction.
 #[cycle(expression)]
 #[inline(never)]
-fn reduced<'a>(
-    alloc: Global,
-    coverages: &[&'a Signature],
-    bound: &Variables,
-    scope: &Scope,
-    op: Aggregate,
-    a: &Expr,
-) -> Result<Shape<'a>, CheckError>
-    ensures { Says shape_view result (typ (signatures_in coverages.now) bound.now.list.items (names_in scope.now.frames) (tree.reduce op (view a.now))) }
+fn reduced<'a>(context: &Context<'_, 'a>, op: Aggregate, a: &Expr) -> Result<Shape<'a>, CheckError>
+    ensures { TypesTo context.now (tree.reduce op (view a.now)) result }
 {
-    let a = expression(alloc, coverages, bound, scope, a)?;
-    reduction(alloc, op, a)
+    let a = expression(context, a)?;
+    reduction(context.alloc, op, a)
 }
 
 /// One field of a value.
 #[cycle(expression)]
 #[inline(never)]
 fn field_of<'a>(
-    alloc: Global,
-    coverages: &[&'a Signature],
-    bound: &Variables,
-    scope: &Scope,
+    context: &Context<'_, 'a>,
     a: &Expr,
     name: &QueryName,
 ) -> Result<Shape<'a>, CheckError>
-    ensures { Says shape_view result (typ (signatures_in coverages.now) bound.now.list.items (names_in scope.now.frames) (tree.field (view a.now) name.now)) }
+    ensures { TypesTo context.now (tree.field (view a.now) name.now) result }
 {
-    let a = expression(alloc, coverages, bound, scope, a)?;
-    selected(alloc, a, name)
+    let a = expression(context, a)?;
+    selected(context.alloc, a, name)
 }
 
 /// A list of values on a box.
 #[cycle(expression)]
 #[inline(never)]
 fn listed<'a>(
-    alloc: Global,
-    coverages: &[&'a Signature],
-    bound: &Variables,
-    scope: &Scope,
+    context: &Context<'_, 'a>,
     iterators: &[Iter],
     items: &[ListItem],
 ) -> Result<Shape<'a>, CheckError>
-    ensures { Says shape_view result (typ (signatures_in coverages.now) bound.now.list.items (names_in scope.now.frames) (tree.value_list (iters_of iterators.now) items.now)) }
+    ensures { TypesTo context.now (tree.value_list (iters_of iterators.now) items.now) result }
 {
-    let over = iterator_list(alloc, coverages, bound, scope, iterators)?;
+    let over = iterator_list(context, iterators)?;
     let domain = box_of(over.axes)?;
-    value_list(alloc, domain, items)
+    value_list(context.alloc, domain, items)
 }
 
 /// A value with a bracket behind it.
 #[cycle(expression)]
 #[inline(never)]
 fn bracketed<'a>(
-    alloc: Global,
-    coverages: &[&'a Signature],
-    bound: &Variables,
-    scope: &Scope,
+    context: &Context<'_, 'a>,
     value: Shape<'a>,
     subs: &[Sub],
 ) -> Result<Shape<'a>, CheckError>
-    ensures { Says shape_view result (then_of (typ_subs (signatures_in coverages.now) bound.now.list.items (names_in scope.now.frames) (opened value.entry.domain) (subs_of subs.now)) (closed_on (shape_view value.entry))) }
+    ensures { Says shape_view result (under typ_bracket context.now (shape_view value.entry) (subs_of subs.now)) }
 {
     let Shape {
         domain,
         labels,
         node,
     } = value;
-    let bracket = subscripts(alloc, coverages, bound, scope, domain, subs)?;
-    Ok(closed_bracket(alloc, bracket, labels, node)?)
+    let bracket = subscripts(context, domain, subs)?;
+    let Bracket {
+        domain,
+        named: _,
+        cuts,
+    } = bracket;
+    let shape = Shape {
+        domain,
+        labels,
+        node,
+    };
+    Ok(closed_bracket(context.alloc, shape, cuts)?)
 }
 
-/// A coverage on a box, whose cells a scalar gives.
+/// A body in the scope of further iterators.
 #[cycle(expression)]
 #[inline(never)]
-fn constructed<'a>(
-    alloc: Global,
-    coverages: &[&'a Signature],
-    bound: &Variables,
-    scope: &Scope,
-    over: Opened,
+fn body_over<'a>(
+    context: &Context<'_, 'a>,
+    over: &Opened,
     body: &Expr,
 ) -> Result<Shape<'a>, CheckError>
-    ensures { Says shape_view result (then_of (typ (signatures_in coverages.now) bound.now.list.items (names_in scope.now.frames ++ over.variables.items) (view body.now)) (array_of over.domain)) }
+    ensures { Says shape_view result (inside typ context.now over.now (view body.now)) }
 {
-    let Opened { domain, variables } = over;
-    let inner = Scope::within(&*scope, &variables)?;
-    let body = expression(alloc, coverages, bound, &inner, body)?;
-    array(alloc, domain, body)
-}
-
-/// A condenser over a box.
-#[cycle(expression)]
-#[inline(never)]
-fn condensed_over<'a>(
-    alloc: Global,
-    coverages: &[&'a Signature],
-    bound: &Variables,
-    scope: &Scope,
-    op: Aggregate,
-    over: Opened,
-    condition: Option<Box<Node>>,
-    body: &Expr,
-) -> Result<Shape<'a>, CheckError>
-    ensures { Says shape_view result (then_of (typ (signatures_in coverages.now) bound.now.list.items (names_in scope.now.frames ++ over.variables.items) (view body.now)) (λ s. then_of (only_scalar s) (condensed op over.domain (option_map boxed_tree condition)))) }
-{
-    let Opened { domain, variables } = over;
-    let inner = Scope::within(&*scope, &variables)?;
-    let body = expression(alloc, coverages, bound, &inner, body)?;
-    condensed(alloc, op, domain, condition, body)
+    let scope = Scope::within(context.scope, &over.variables)?;
+    let inner = Context {
+        scope: &scope,
+        ..*context
+    };
+    expression(&inner, body)
 }
 
 /// The tree of the condition of a condenser over a box, if there is one.
 #[cycle(expression)]
 #[inline(never)]
 fn condition_over(
-    alloc: Global,
-    coverages: &[&Signature],
-    bound: &Variables,
-    scope: &Scope,
+    context: &Context,
     over: &Opened,
     condition: &Option<Box<Expr>>,
 ) -> Result<Option<Box<Node>>, CheckError>
-    ensures { Says (option_map boxed_tree) result (typ_condition (signatures_in coverages.now) bound.now.list.items (names_in scope.now.frames ++ over.now.variables.items) (condition_of condition.now)) }
+    ensures { Says (option_map boxed_tree) result (inside typ_condition context.now over.now (condition_of condition.now)) }
 {
-    let inner = Scope::within(&*scope, &over.variables)?;
-    condition_node(alloc, coverages, bound, &inner, condition)
+    let scope = Scope::within(context.scope, &over.variables)?;
+    let inner = Context {
+        scope: &scope,
+        ..*context
+    };
+    condition_node(&inner, condition)
 }
 
 /// The tree of a condition, if there is one.
 #[cycle(expression)]
 pub fn condition_node(
-    alloc: Global,
-    coverages: &[&Signature],
-    bound: &Variables,
-    scope: &Scope,
+    context: &Context,
     condition: &Option<Box<Expr>>,
 ) -> Result<Option<Box<Node>>, CheckError>
-    ensures { Says (option_map boxed_tree) result (typ_condition (signatures_in coverages.now) bound.now.list.items (names_in scope.now.frames) (condition_of condition.now)) }
+    ensures { Says (option_map boxed_tree) result (under typ_condition context.now (condition_of condition.now)) }
 {
     match condition {
         None => Ok(None),
         Some(c) => {
-            let shape = expression(alloc, coverages, bound, scope, c)?;
+            let shape = expression(context, c)?;
             Ok(Some(condition_of(shape)?))
         }
     }
@@ -289,43 +250,32 @@ pub fn condition_node(
 
 /// The parts of a record.
 #[cycle(expression)]
-fn record<'a>(
-    alloc: Global,
-    coverages: &[&'a Signature],
-    bound: &Variables,
-    scope: &Scope,
-    parts: &[Part],
-) -> Result<Shape<'a>, CheckError>
-    ensures { Says shape_view result (typ_parts (signatures_in coverages.now) bound.now.list.items (names_in scope.now.frames) no_pieces (parts_of parts.now)) }
+fn record<'a>(context: &Context<'_, 'a>, parts: &[Part]) -> Result<Shape<'a>, CheckError>
+    ensures { TypesTo context.now (tree.parts (parts_of parts.now)) result }
 {
-    let mut pieces = Pieces::new(alloc);
+    let mut pieces = Pieces::new(context.alloc);
     for part in parts {
-        let Some(next) = with_name(alloc, pieces, &part.name)? else {
+        let Some(next) = with_name(context.alloc, pieces, &part.name)? else {
             return Err(CheckError::Refused(TypeRefusal::NameTaken));
         };
-        let value = expression(alloc, coverages, bound, scope, &part.value)?;
-        pieces = with_part(alloc, next, only_field(value)?)?;
+        let value = expression(context, &part.value)?;
+        pieces = with_part(context.alloc, next, only_field(value)?)?;
     }
-    Ok(finished(alloc, pieces)?)
+    Ok(finished(context.alloc, pieces)?)
 }
 
 /// The axes of a bracket on a domain.
 #[cycle(expression)]
 fn subscripts<'a>(
-    alloc: Global,
-    coverages: &[&'a Signature],
-    bound: &Variables,
-    scope: &Scope,
+    context: &Context<'_, 'a>,
     domain: Extent<'a>,
     subs: &[Sub],
 ) -> Result<Bracket<'a>, CheckError>
-    ensures { Says bracket_view result (typ_subs (signatures_in coverages.now) bound.now.list.items (names_in scope.now.frames) (opened domain.entry) (subs_of subs.now)) }
+    ensures { Says bracket_view result (under typ_subs context.now (opened domain.entry) (subs_of subs.now)) }
 {
-    let mut bracket = Bracket::new(alloc, domain);
+    let mut bracket = Bracket::new(context.alloc, domain);
     for sub in subs {
-        bracket = subscript(
-            alloc, coverages, bound, scope, bracket, &sub.axis, &sub.place,
-        )?;
+        bracket = subscript(context, bracket, &sub.axis, &sub.place)?;
     }
     Ok(bracket)
 }
@@ -333,44 +283,35 @@ fn subscripts<'a>(
 /// A bracket with one axis more: first whether it is there and was not named before.
 #[cycle(expression)]
 fn subscript<'a>(
-    alloc: Global,
-    coverages: &[&'a Signature],
-    bound: &Variables,
-    scope: &Scope,
+    context: &Context<'_, 'a>,
     bracket: Bracket<'a>,
     axis: &QueryName,
-    subscript: &Place,
+    place: &Place,
 ) -> Result<Bracket<'a>, CheckError>
-    ensures { Says bracket_view result (then_of (place_to_cut axis.now (bracket_view bracket.entry)) (λ k. typ_place (signatures_in coverages.now) bound.now.list.items (names_in scope.now.frames) k axis.now (bracket_view bracket.entry) (view_place subscript.now))) }
+    ensures { Says bracket_view result (cut_in context.now axis.now (bracket_view bracket.entry) (view_place place.now)) }
 {
-    let place = place_to_cut(&bracket, axis)?;
-    match subscript {
+    let number = place_to_cut(&bracket, axis)?;
+    match place {
         Place::Trim(interval) => {
-            let bounds = interval_bounds(alloc, coverages, bound, scope, interval)?;
-            with_trim(alloc, bracket, place, axis, bounds)
+            let bounds = interval_bounds(context, interval)?;
+            with_trim(context.alloc, bracket, number, axis, bounds)
         }
         Place::At(position) => {
-            let shape = expression(alloc, coverages, bound, scope, position)?;
-            with_shape(alloc, bracket, axis, shape)
+            let position = position_of(expression(context, position)?)?;
+            Ok(with_position(context.alloc, bracket, axis, position)?)
         }
     }
 }
 
 /// The bounds of an interval.
 #[cycle(expression)]
-fn interval_bounds(
-    alloc: Global,
-    coverages: &[&Signature],
-    bound: &Variables,
-    scope: &Scope,
-    interval: &Interval,
-) -> Result<Bounds, CheckError>
-    ensures { Says bounds_view result (typ_interval (signatures_in coverages.now) bound.now.list.items (names_in scope.now.frames) (view_interval interval.now)) }
+fn interval_bounds(context: &Context, interval: &Interval) -> Result<Bounds, CheckError>
+    ensures { Says bounds_view result (under typ_interval context.now (view_interval interval.now)) }
 {
     match interval {
         Interval::Bounds(lo, hi) => written_bounds(*lo, *hi),
         Interval::Domain(e, axis) => {
-            let shape = expression(alloc, coverages, bound, scope, e)?;
+            let shape = expression(context, e)?;
             bounds_of_axis(shape.domain.domain(), axis)
         }
     }
@@ -378,25 +319,19 @@ fn interval_bounds(
 
 /// The iterators of a list.
 #[cycle(expression)]
-fn iterator_list(
-    alloc: Global,
-    coverages: &[&Signature],
-    bound: &Variables,
-    scope: &Scope,
-    list: &[Iter],
-) -> Result<Iterators, CheckError>
-    ensures { Says iterators_view result (typ_iters (signatures_in coverages.now) bound.now.list.items (names_in scope.now.frames) no_iterators (iters_of list.now)) }
+fn iterator_list(context: &Context, list: &[Iter]) -> Result<Iterators, CheckError>
+    ensures { Says iterators_view result (under typ_iters context.now no_iterators (iters_of list.now)) }
 {
-    let mut iterators = Iterators::new(alloc);
+    let mut iterators = Iterators::new(context.alloc);
     for iter in list {
-        if is_taken(bound, scope, &iterators.variables, &iter.variable) {
+        if is_taken(context, &iterators.variables, &iter.variable) {
             return Err(CheckError::Refused(TypeRefusal::NameTaken));
         }
         if axis_place(&iterators.axes, &iter.axis).is_some() {
             return Err(CheckError::Refused(TypeRefusal::AxisTwice));
         }
-        let bounds = interval_bounds(alloc, coverages, bound, scope, &iter.interval)?;
-        iterators = with_iterator(alloc, iterators, &iter.variable, &iter.axis, bounds)?;
+        let bounds = interval_bounds(context, &iter.interval)?;
+        iterators = with_iterator(context.alloc, iterators, &iter.variable, &iter.axis, bounds)?;
     }
     Ok(iterators)
 }

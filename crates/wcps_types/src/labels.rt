@@ -1,7 +1,7 @@
 //! The labels of the fields of a value.
 
-ghost use Rattle.std.specs.Prelude.{◌≡◌, map};
-ghost use Rattle.wcps_types.specs.Labels.{is_boolean, label_of, labels_in};
+ghost use Rattle.std.specs.Prelude.{◌≡◌};
+ghost use Rattle.wcps_types.specs.Labels.{is_boolean, labels_in};
 ghost use Rattle.wcps_types.specs.Shapes.{the_boolean};
 
 use arr_core::{Field, FieldType};
@@ -38,39 +38,19 @@ pub fn is_boolean(kind: FieldType) -> bool
     }
 }
 
-/// Whether the only field of a coverage is Boolean, where there is one alone.
-fn only_kind(fields: &[Field]) -> Option<bool>
-    ensures { result ≡ the_boolean (map label_of fields.now) }
-{
-    match fields {
-        [] => None,
-        [field, rest @ ..] => match rest {
-            [] => Some(is_boolean(field.kind)),
-            [_, ..] => None,
-        },
-    }
-}
-
-/// Whether the only label is Boolean, where there is one alone.
-fn only_label(labels: &[Label]) -> Option<bool>
-    ensures { result ≡ the_boolean labels.now }
-{
-    match labels {
-        [] => None,
-        [label, rest @ ..] => match rest {
-            [] => Some(label.boolean),
-            [_, ..] => None,
-        },
-    }
-}
-
 /// Whether the only field is Boolean, where there is one alone.
 pub fn the_boolean(labels: &Labels) -> Option<bool>
     ensures { result ≡ the_boolean (labels_in labels.now) }
 {
     match labels {
         Labels::Unnamed(boolean) => Some(*boolean),
-        Labels::Fields(fields) => only_kind(fields),
-        Labels::Listed(list) => only_label(list),
+        Labels::Fields(fields) => match fields {
+            [field] => Some(is_boolean(field.kind)),
+            [] | [_, _, ..] => None,
+        },
+        Labels::Listed(list) => match list.as_slice() {
+            [label] => Some(label.boolean),
+            [] | [_, _, ..] => None,
+        },
     }
 }

@@ -7,7 +7,6 @@ ghost use Rattle.wcps_text.specs.Lexing.{Reads};
 ghost use Rattle.wcps_text.specs.Token as token;
 ghost use Rattle.wcps_types.specs.Names.{axis_place, coverage_place, name_place, is_name_of};
 
-use crate::labels::Label;
 use arr_core::{Axis, Signature};
 use wcps_text::QueryName;
 
@@ -75,13 +74,6 @@ pub fn is_name_of(own: &Option<QueryName>, name: &QueryName) -> bool
         Some(own) => is_same(own.as_str(), name.as_str()),
         None => false,
     }
-}
-
-/// Whether a field has that name.
-pub fn is_named(label: &Label, name: &QueryName) -> bool
-    ensures { result ≡ is_name_of name.now label.now.name }
-{
-    is_name_of(&label.name, name)
 }
 
 /// What may be the name of a coverage, a field or an axis is just what a text has as one token that is a name without

@@ -1,15 +1,15 @@
 //! The checks of operators and reductions on operands whose shapes are known, and what they make of them.
 
-ghost use Rattle.std.specs.Prelude.{◌≡◌, [], IfOk, map, true, false};
+ghost use Rattle.std.specs.Prelude.{◌≡◌, IfOk, map};
 ghost use Rattle.wcps_types.specs.Typed.{only_tree};
-ghost use Rattle.wcps_types.specs.Labels.{label_of, labels_in};
-ghost use Rattle.wcps_types.specs.Shapes.{Says, then_of, shape_view, slot_of, labels_view, field_of_view};
-ghost use Rattle.wcps_types.specs.Operators.{one_selected, selected, unary, are_same, is_same_axis, operands_view, joined, binary_shape, numeric, logical, binary, integer_reduction, boolean_reduction, reduction};
+ghost use Rattle.wcps_types.specs.Labels.{label_of};
+ghost use Rattle.wcps_types.specs.Shapes.{Says, shape_view, slot_of, labels_view, field_of_view};
+ghost use Rattle.wcps_types.specs.Operators.{one_selected, selected, unary, are_same, is_same_axis, operands_view, joined, numeric, logical, binary, reduction};
 
 use crate::extent::Extent;
 use crate::labels::{Label, Labels};
-use crate::names::{is_named, is_same};
-use crate::nodes::{binary_node, reduce_node, scalar_node, select_node, unary_node};
+use crate::names::{is_name_of, is_same};
+use crate::nodes::{boxed, reduce_node};
 use crate::refusal::{CheckError, TypeRefusal};
 use crate::shape::{OneField, Shape, is_scalar, only_field, unnamed, unnamed_scalar};
 use crate::typed::Node;
@@ -36,13 +36,13 @@ fn one_selected<'a>(
 ) -> Result<Shape<'a>, AllocError>
     ensures { IfOk result (λ s. shape_view s ≡ one_selected domain.entry (slot_of node.value place label)) }
 {
-    let node = select_node(alloc, node, place)?;
+    let selected = boxed(alloc, Node::Select(node, place))?;
     let mut labels = Vec::new(alloc);
     labels.push(label)?;
     Ok(Shape {
         domain,
         labels: Labels::Listed(labels),
-        node,
+        node: selected,
     })
 }
 
@@ -58,30 +58,12 @@ fn label_selected<'a>(
 {
     let mut place = 0;
     for label in labels {
-        if is_named(&label, name) {
+        if is_name_of(&label.name, name) {
             return Ok(one_selected(alloc, domain, node, place, label)?);
         }
         place += 1;
     }
     Err(CheckError::Refused(TypeRefusal::NoSuchField))
-}
-
-/// A shape with the field of a coverage at one place of a node, selected.
-fn one_field_selected<'a>(
-    alloc: Global,
-    domain: Extent<'a>,
-    node: Box<Node>,
-    place: usize,
-    field: &'a Field,
-) -> Result<Shape<'a>, AllocError>
-    ensures { IfOk result (λ s. shape_view s ≡ one_selected domain.entry (slot_of node.value place (label_of field.now))) }
-{
-    let node = select_node(alloc, node, place)?;
-    Ok(Shape {
-        domain,
-        labels: Labels::Fields(slice::from_ref(field)),
-        node,
-    })
 }
 
 /// The field of that name among those of a coverage.
@@ -97,7 +79,11 @@ fn field_selected<'a>(
     let mut place = 0;
     for field in fields {
         if is_same(field.name.as_str(), name.as_str()) {
-            return Ok(one_field_selected(alloc, domain, node, place, field)?);
+            return Ok(Shape {
+                domain,
+                labels: Labels::Fields(slice::from_ref(field)),
+                node: boxed(alloc, Node::Select(node, place))?,
+            });
         }
         place += 1;
     }
@@ -110,7 +96,7 @@ pub fn selected<'a>(
     shape: Shape<'a>,
     name: &QueryName,
 ) -> Result<Shape<'a>, CheckError>
-    ensures { Says shape_view result (selected name.now shape.entry.domain (labels_view shape.entry.node.value 0 (labels_in shape.entry.labels))) }
+    ensures { Says shape_view result (selected name.now shape.entry.domain (shape_view shape.entry).fields) }
 {
     let Shape {
         domain,
@@ -139,14 +125,14 @@ pub fn unary<'a>(
     } = only_field(operand)?;
     match op {
         UnaryOperator::Negate | UnaryOperator::Plus | UnaryOperator::Absolute => {
-            let node = unary_node(alloc, op, node)?;
+            let node = boxed(alloc, Node::Unary(op, node))?;
             Ok(unnamed(domain, false, node))
         }
         UnaryOperator::Not => {
             if !boolean {
                 return Err(CheckError::Refused(TypeRefusal::NeedsBoolean));
             }
-            let node = unary_node(alloc, op, node)?;
+            let node = boxed(alloc, Node::Unary(op, node))?;
             Ok(unnamed(domain, true, node))
         }
     }
@@ -189,7 +175,7 @@ fn joined<'a>(alloc: Global, l: OneField<'a>, r: OneField<'a>) -> Result<Operand
     let left_is_scalar = is_scalar(first.axes());
     let right_is_scalar = is_scalar(second.axes());
     if left_is_scalar && !right_is_scalar {
-        let left = scalar_node(alloc, left)?;
+        let left = boxed(alloc, Node::Scalar(left))?;
         return Ok(Operands {
             domain: second,
             left,
@@ -197,7 +183,7 @@ fn joined<'a>(alloc: Global, l: OneField<'a>, r: OneField<'a>) -> Result<Operand
         });
     }
     if right_is_scalar && !left_is_scalar {
-        let right = scalar_node(alloc, right)?;
+        let right = boxed(alloc, Node::Scalar(right))?;
         return Ok(Operands {
             domain: first,
             left,
@@ -214,26 +200,6 @@ fn joined<'a>(alloc: Global, l: OneField<'a>, r: OneField<'a>) -> Result<Operand
     Err(CheckError::Refused(TypeRefusal::DomainMismatch))
 }
 
-/// An operation on two fields: their domains, then the node over both.
-#[inline(never)]
-fn binary_on_fields<'a>(
-    alloc: Global,
-    op: BinaryOperator,
-    gives_boolean: bool,
-    l: OneField<'a>,
-    r: OneField<'a>,
-) -> Result<Shape<'a>, CheckError>
-    ensures { Says shape_view result (then_of (joined (field_of_view l.entry) (field_of_view r.entry)) (binary_shape op gives_boolean)) }
-{
-    let Operands {
-        domain,
-        left,
-        right,
-    } = joined(alloc, l, r)?;
-    let node = binary_node(alloc, op, left, right)?;
-    Ok(unnamed(domain, gives_boolean, node))
-}
-
 /// An operation on two numbers, where a Boolean counts as 0 or 1.
 #[inline(never)]
 fn numeric<'a>(
@@ -247,7 +213,13 @@ fn numeric<'a>(
 {
     let l = only_field(l)?;
     let r = only_field(r)?;
-    binary_on_fields(alloc, op, gives_boolean, l, r)
+    let Operands {
+        domain,
+        left,
+        right,
+    } = joined(alloc, l, r)?;
+    let node = boxed(alloc, Node::Binary(op, left, right))?;
+    Ok(unnamed(domain, gives_boolean, node))
 }
 
 /// `and`, `or`, `xor`.
@@ -265,7 +237,13 @@ fn logical<'a>(
     if !l.boolean || !r.boolean {
         return Err(CheckError::Refused(TypeRefusal::NeedsBoolean));
     }
-    binary_on_fields(alloc, op, true, l, r)
+    let Operands {
+        domain,
+        left,
+        right,
+    } = joined(alloc, l, r)?;
+    let node = boxed(alloc, Node::Binary(op, left, right))?;
+    Ok(unnamed(domain, true, node))
 }
 
 /// An operator on two operands.
@@ -293,47 +271,6 @@ pub fn binary<'a>(
     }
 }
 
-/// A reduction of integers.
-fn integer_reduction<'a>(
-    alloc: Global,
-    op: Aggregate,
-    operand: Shape<'a>,
-) -> Result<Shape<'a>, CheckError>
-    ensures { Says shape_view result (integer_reduction op (shape_view operand.entry)) }
-{
-    let OneField {
-        domain,
-        boolean,
-        node,
-    } = only_field(operand)?;
-    if boolean {
-        return Err(CheckError::Refused(TypeRefusal::NeedsInteger));
-    }
-    let node = reduce_node(alloc, op, domain.into_domain(alloc)?, node)?;
-    Ok(unnamed_scalar(alloc, false, node))
-}
-
-/// A reduction of Booleans.
-fn boolean_reduction<'a>(
-    alloc: Global,
-    op: Aggregate,
-    gives_boolean: bool,
-    operand: Shape<'a>,
-) -> Result<Shape<'a>, CheckError>
-    ensures { Says shape_view result (boolean_reduction op gives_boolean (shape_view operand.entry)) }
-{
-    let OneField {
-        domain,
-        boolean,
-        node,
-    } = only_field(operand)?;
-    if !boolean {
-        return Err(CheckError::Refused(TypeRefusal::NeedsBoolean));
-    }
-    let node = reduce_node(alloc, op, domain.into_domain(alloc)?, node)?;
-    Ok(unnamed_scalar(alloc, gives_boolean, node))
-}
-
 /// A reduction.
 pub fn reduction<'a>(
     alloc: Global,
@@ -342,13 +279,36 @@ pub fn reduction<'a>(
 ) -> Result<Shape<'a>, CheckError>
     ensures { Says shape_view result (reduction op (shape_view operand.entry)) }
 {
+    let OneField {
+        domain,
+        boolean,
+        node,
+    } = only_field(operand)?;
     match op {
         Aggregate::Sum
         | Aggregate::Product
         | Aggregate::Greatest
         | Aggregate::Least
-        | Aggregate::Average => integer_reduction(alloc, op, operand),
-        Aggregate::Every | Aggregate::Any => boolean_reduction(alloc, op, true, operand),
-        Aggregate::Count => boolean_reduction(alloc, op, false, operand),
+        | Aggregate::Average => {
+            if boolean {
+                return Err(CheckError::Refused(TypeRefusal::NeedsInteger));
+            }
+            let node = reduce_node(alloc, op, domain.into_domain(alloc)?, node)?;
+            Ok(unnamed_scalar(alloc, false, node))
+        }
+        Aggregate::Every | Aggregate::Any => {
+            if !boolean {
+                return Err(CheckError::Refused(TypeRefusal::NeedsBoolean));
+            }
+            let node = reduce_node(alloc, op, domain.into_domain(alloc)?, node)?;
+            Ok(unnamed_scalar(alloc, true, node))
+        }
+        Aggregate::Count => {
+            if !boolean {
+                return Err(CheckError::Refused(TypeRefusal::NeedsBoolean));
+            }
+            let node = reduce_node(alloc, op, domain.into_domain(alloc)?, node)?;
+            Ok(unnamed_scalar(alloc, false, node))
+        }
     }
 }

@@ -1,16 +1,16 @@
 //! The check of a whole query.
 
-ghost use Rattle.std.specs.Prelude.{◌≡◌, ◌<◌, ◌++◌, ◌∷◌, [], IfOk, IfSome, OnOk, List, length, map, Some, slice_get};
+ghost use Rattle.std.specs.Prelude.{◌≡◌, ◌<◌, None, IfOk, IfSome, OnOk, length, map};
 ghost use Rattle.wcps_text.specs.Tree.{query_view};
-ghost use Rattle.wcps_types.specs.Typed.{CombinationTree, tree_view};
-ghost use Rattle.wcps_types.specs.Renamed.{over, combination_view};
+ghost use Rattle.wcps_types.specs.Typed.{tree_view};
 ghost use Rattle.wcps_types.specs.TypedQueries.{query_view as typed_query_view};
 ghost use Rattle.wcps_types.specs.Shapes.{Says};
-ghost use Rattle.wcps_types.specs.Bindings.{choice_view, combination_count, combinations};
-ghost use Rattle.wcps_types.specs.Sharing.{own, own_choices, coverages_in, AreBelow, ChoicesAreBelow, Grows, AreMade, maker_of, trees_of, IsLatest};
-ghost use Rattle.wcps_types.specs.Kept.{latest_of};
+ghost use Rattle.wcps_types.specs.Bindings.{choice_view, combination_count};
+ghost use Rattle.wcps_types.specs.Sharing.{own, own_choices, coverages_in, AreBelow, ChoicesAreBelow, Grows};
+ghost use Rattle.wcps_types.specs.Sources.{typed_with, typed_each};
+ghost use Rattle.wcps_types.specs.Kept.{latest_of, IsKept, IsMaking, trees_made, tree_at, combined_view};
 ghost use Rattle.wcps_types.specs.Resolved.{resolved_view, IsSound};
-ghost use Rattle.wcps_types.specs.Queries.{typ_combination, typ_each, typ_query};
+ghost use Rattle.wcps_types.specs.Queries.{typ_query};
 
 use crate::bindings::{Choice, combination_at, combination_count, resolve_bindings};
 use crate::bound::Variables;
@@ -43,7 +43,7 @@ struct Making {
 
 /// The place of the tree that was made last, if this one is the same.
 fn place_of_same(latest: &Option<Box<Latest>>, tree: &Tree) -> Option<usize>
-    ensures { (trees : List CombinationTree) → IsLatest trees (latest_of latest.now) → IfSome result (λ k. slice_get trees k ≡ Some (tree_view tree.now)) }
+    ensures { IfSome result (λ k. IsKept (latest_of latest.now) (tree_view tree.now) k) }
 {
     match latest {
         None => None,
@@ -57,30 +57,6 @@ fn place_of_same(latest: &Option<Box<Latest>>, tree: &Tree) -> Option<usize>
     }
 }
 
-/// Puts the maker of a tree behind the others, and keeps the tree. Returns its place.
-fn put_maker(
-    alloc: Global,
-    making: &mut Making,
-    coverages: Vec<usize>,
-    tree: Tree,
-) -> Result<usize, AllocError>
-    ensures place { IfOk result (λ k. k ≡ length making.old.makers.items) }
-    ensures put { OnOk result (making.new.makers.items ≡ making.old.makers.items ++ maker_of coverages (tree_view tree) ∷ []) }
-    ensures latest { IfOk result (λ k. latest_of making.new.latest ≡ Some (record { place = k; tree = tree })) }
-{
-    let place = making.makers.len();
-    let cells = tree_cells(&tree);
-    let work = tree_work(&tree);
-    let latest = Box::new(alloc, Latest { place, tree })?;
-    making.makers.push(Maker {
-        coverages,
-        cells,
-        work,
-    })?;
-    making.latest = Some(latest);
-    Ok(place)
-}
-
 /// The place of the tree of a query over the coverages of a combination: that of a maker whose coverages are like these,
 /// else that of the last tree, if it is the same, else that of the tree that is made of this combination.
 fn place_of_tree(
@@ -91,13 +67,11 @@ fn place_of_tree(
 ) -> Result<usize, CheckError>
     requires own { source.now.variables.now.list.items ≡ own 0 bound.now }
     requires there { AreBelow (length source.now.coverages.now) (coverages_in bound.now) }
-    requires made { AreMade source.now.coverages.now (query_view source.now.query.now) source.now.variables.now.list.items making.old.makers.items }
-    requires latest { IsLatest (trees_of source.now.coverages.now (query_view source.now.query.now) source.now.variables.now.list.items making.old.makers.items) (latest_of making.old.latest) }
-    ensures said { Says (λ k. over (coverages_in bound.now) (slice_get (trees_of source.now.coverages.now (query_view source.now.query.now) source.now.variables.now.list.items making.new.makers.items) k)) result (typ_combination source.now.coverages.now (query_view source.now.query.now) bound.now) }
+    requires making { IsMaking source.now making.old }
+    ensures said { Says (tree_at source.now making.new bound.now) result (typed_with source.now bound.now) }
     ensures inside { IfOk result (λ k. k < length making.new.makers.items) }
-    ensures made { OnOk result (AreMade source.now.coverages.now (query_view source.now.query.now) source.now.variables.now.list.items making.new.makers.items) }
-    ensures latest { OnOk result (IsLatest (trees_of source.now.coverages.now (query_view source.now.query.now) source.now.variables.now.list.items making.new.makers.items) (latest_of making.new.latest)) }
-    ensures kept { OnOk result (Grows (trees_of source.now.coverages.now (query_view source.now.query.now) source.now.variables.now.list.items making.old.makers.items) (trees_of source.now.coverages.now (query_view source.now.query.now) source.now.variables.now.list.items making.new.makers.items)) }
+    ensures making { OnOk result (IsMaking source.now making.new) }
+    ensures kept { OnOk result (Grows (trees_made source.now making.old) (trees_made source.now making.new)) }
 {
     if let Some(place) = place_of_like(source.coverages, &making.makers, bound) {
         return Ok(place);
@@ -107,11 +81,19 @@ fn place_of_tree(
     if let Some(place) = place_of_same(&making.latest, &tree) {
         return Ok(place);
     }
-    let place = put_maker(alloc, making, coverages, tree)?;
+    let place = making.makers.len();
+    let maker = Maker {
+        coverages,
+        cells: tree_cells(&tree),
+        work: tree_work(&tree),
+    };
+    let latest = Box::new(alloc, Latest { place, tree })?;
+    making.makers.push(maker)?;
+    making.latest = Some(latest);
     Ok(place)
 }
 
-/// The makers of trees, and combinations that have the trees.
+/// Combinations, and the makers of their trees.
 #[derive(Drop)]
 struct Combined {
     makers: Vec<Maker>,
@@ -128,8 +110,8 @@ fn each_combination(
     requires own { source.now.variables.now.list.items ≡ own_choices 0 (map choice_view choices.now) }
     requires counted { count ≡ combination_count (map choice_view choices.now) }
     requires there { ChoicesAreBelow (length source.now.coverages.now) (map choice_view choices.now) }
-    ensures said { Says (λ all. map (combination_view (trees_of source.now.coverages.now (query_view source.now.query.now) source.now.variables.now.list.items all.makers.items)) all.combinations.items) result (typ_each source.now.coverages.now (query_view source.now.query.now) [] (combinations (map choice_view choices.now))) }
-    ensures made { IfOk result (λ all. AreMade source.now.coverages.now (query_view source.now.query.now) source.now.variables.now.list.items all.makers.items) }
+    ensures said { Says (combined_view source.now) result (typed_each source.now (map choice_view choices.now)) }
+    ensures making { IfOk result (λ all. IsMaking source.now (record { makers = all.makers; latest = None })) }
 {
     let mut making = Making {
         makers: Vec::new(alloc),

@@ -1,12 +1,9 @@
 //! Several fields in braces.
 
-ghost use Rattle.std.specs.Prelude.{◌≡◌, IfOk, OnOk, IfSome, is_some, ℕ, List, map, cond, true, not, ◌&&◌};
-ghost use Rattle.std.specs.Str.{bytes_eq};
-ghost use Rattle.std.specs.BTreeSet.{contains_text};
-ghost use Rattle.wcps_types.specs.declared.labels.Label.{Label};
+ghost use Rattle.std.specs.Prelude.{◌≡◌, IfOk, IfSome, is_some, map, cond, not, ◌&&◌};
 ghost use Rattle.wcps_types.specs.Typed.{only_tree, scalar as scalar_tree};
-ghost use Rattle.wcps_types.specs.Parts.{piece_label, tree_in, with_trees};
-ghost use Rattle.wcps_types.specs.Shapes.{Says, shape_view, labels_view, field_of_view};
+ghost use Rattle.wcps_types.specs.Parts.{piece_label, tree_in};
+ghost use Rattle.wcps_types.specs.Shapes.{Says, shape_view, field_of_view};
 ghost use Rattle.wcps_types.specs.Records.{piece_view, pieces_view, before_next, no_pieces, is_part, with_part, finished};
 
 use crate::extent::Extent;
@@ -43,21 +40,7 @@ impl Pieces {
     }
 }
 
-/// Adds a name, and tells whether it is new.
-fn add_name(
-    alloc: Global,
-    names: &mut BTreeSet<String>,
-    name: &QueryName,
-) -> Result<bool, AllocError>
-    ensures added { IfOk result (λ new. new ≡ not (contains_text names.old name.now)) }
-    ensures names { OnOk result ((x : List ℕ) → contains_text names.new x ≡ cond (bytes_eq name.now x) true (contains_text names.old x)) }
-{
-    let is_new = names.insert(String::from_str(alloc, name.as_str())?)?;
-    Ok(is_new)
-}
-
 /// The parts with a name for the next one, unless one of them has it.
-#[tactic(auto, using(crate::proofs::Parts::has_name))]
 pub fn with_name(
     alloc: Global,
     pieces: Pieces,
@@ -71,7 +54,8 @@ pub fn with_name(
         list,
         mut names,
     } = pieces;
-    if !add_name(alloc, &mut names, name)? {
+    let is_new = names.insert(String::from_str(alloc, name.as_str())?)?;
+    if !is_new {
         return Ok(None);
     }
     let name = QueryName::new(alloc, name.as_str())?;
@@ -132,24 +116,17 @@ fn part_node(alloc: Global, on_axes: bool, scalar: bool, node: Node) -> Result<N
     }
 }
 
-/// The label of a part.
-fn piece_label(alloc: Global, piece: &Piece) -> Result<Label, AllocError>
-    ensures { IfOk result (λ l. l ≡ piece_label piece.now) }
-{
-    let name = QueryName::new(alloc, piece.name.as_str())?;
-    Ok(Label {
-        name: Some(name),
-        boolean: piece.boolean,
-    })
-}
-
 /// The labels of the parts.
 fn piece_labels(alloc: Global, list: &[Piece]) -> Result<Vec<Label>, AllocError>
     ensures { IfOk result (λ v. v.items ≡ map piece_label list.now) }
 {
     let mut labels = Vec::new(alloc);
     for piece in list {
-        labels.push(piece_label(alloc, piece)?)?;
+        let name = QueryName::new(alloc, piece.name.as_str())?;
+        labels.push(Label {
+            name: Some(name),
+            boolean: piece.boolean,
+        })?;
     }
     Ok(labels)
 }
@@ -165,16 +142,8 @@ fn piece_nodes(alloc: Global, on_axes: bool, list: Vec<Piece>) -> Result<Vec<Nod
     Ok(nodes)
 }
 
-/// The node of a record, for all fields at once.
-#[tactic(auto, using(crate::proofs::Fields::record_fields))]
-fn record_node(nodes: Vec<Node>) -> Node
-    ensures { (labels : List Label) → labels_view result 0 labels ≡ with_trees (map only_tree nodes.items) 0 labels }
-{
-    Node::Record(nodes)
-}
-
 /// The shape of all parts: one node more, however many fields.
-#[tactic(auto, using(crate::proofs::Fields::finished_fields))]
+#[tactic(auto, using(crate::proofs::Fields::record_fields, crate::proofs::Fields::finished_fields))]
 pub fn finished<'a>(alloc: Global, pieces: Pieces) -> Result<Shape<'a>, AllocError>
     ensures { IfOk result (λ s. shape_view s ≡ finished (pieces_view pieces)) }
 {
@@ -186,7 +155,7 @@ pub fn finished<'a>(alloc: Global, pieces: Pieces) -> Result<Shape<'a>, AllocErr
     let on_axes = !is_scalar(domain.axes());
     let labels = piece_labels(alloc, &list)?;
     let nodes = piece_nodes(alloc, on_axes, list)?;
-    let node = boxed(alloc, record_node(nodes))?;
+    let node = boxed(alloc, Node::Record(nodes))?;
     Ok(Shape {
         domain: Extent::own(domain),
         labels: Labels::Listed(labels),

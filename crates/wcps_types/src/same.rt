@@ -1,9 +1,9 @@
 //! Whether trees are the same.
 
 ghost use Rattle.std.specs.Prelude.{◌≡◌, ◌↔◌, ℕ, IsTrue, map, option_map};
-ghost use Rattle.wcps_types.specs.Typed.{field_tree, only_tree, boxed_tree, item_view, tree_view};
+ghost use Rattle.wcps_types.specs.Typed.{field_tree, only_tree, boxed_tree, tree_view};
 
-use crate::typed::{Node, Tree, TypedItem};
+use crate::typed::{Node, Tree};
 
 /// Whether two lists of numbers are the same.
 fn are_same_numbers(items: &[i64], others: &[i64]) -> bool
@@ -163,18 +163,12 @@ fn are_same_kinds(booleans: &[bool], others: &[bool]) -> bool
     booleans == others
 }
 
-/// Whether two items are the same.
-fn is_same_item(a: &TypedItem, b: &TypedItem) -> bool
-    ensures { IsTrue result → item_view a.now ≡ item_view b.now }
-{
-    a.domain.is_same(&b.domain)
-        && are_same_kinds(&a.booleans, &b.booleans)
-        && is_same(&a.node, &b.node)
-}
-
 /// Whether two trees are the same.
 pub fn is_same_tree(a: &Tree, b: &Tree) -> bool
     ensures { IsTrue result → tree_view a.now ≡ tree_view b.now }
 {
-    is_same_condition(&a.condition, &b.condition) && is_same_item(&a.item, &b.item)
+    is_same_condition(&a.condition, &b.condition)
+        && a.item.domain.is_same(&b.item.domain)
+        && are_same_kinds(&a.item.booleans, &b.item.booleans)
+        && is_same(&a.item.node, &b.item.node)
 }

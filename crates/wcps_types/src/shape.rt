@@ -2,8 +2,7 @@
 
 ghost use Rattle.std.specs.Prelude.{◌≡◌, []};
 ghost use Rattle.wcps_types.specs.Typed.{boxed_tree};
-ghost use Rattle.wcps_types.specs.Labels.{labels_in};
-ghost use Rattle.wcps_types.specs.Shapes.{Says, shape_view, labels_view, field_of_view, scalar_of_view, is_scalar, unnamed, only_field, only_scalar};
+ghost use Rattle.wcps_types.specs.Shapes.{Says, shape_view, field_of_view, scalar_of_view, is_scalar, unnamed, only_field, only_scalar};
 
 use crate::extent::Extent;
 use crate::labels::{Labels, the_boolean};
@@ -77,7 +76,7 @@ pub fn unnamed_scalar<'a>(alloc: Global, boolean: bool, node: Box<Node>) -> Shap
 /// The only field of a shape.
 #[tactic(auto, using(crate::proofs::Fields::one_field))]
 pub fn only_field<'a>(shape: Shape<'a>) -> Result<OneField<'a>, CheckError>
-    ensures { Says field_of_view result (only_field shape.entry.domain (labels_view shape.entry.node.value 0 (labels_in shape.entry.labels))) }
+    ensures { Says field_of_view result (only_field shape.entry.domain (shape_view shape.entry).fields) }
 {
     let Shape {
         domain,

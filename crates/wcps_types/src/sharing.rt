@@ -1,9 +1,9 @@
 //! Combinations of coverages with the same domains and fields have one tree.
 
-ghost use Rattle.std.specs.Prelude.{◌≡◌, ◌↔◌, [], ◌++◌, IfOk, IfSome, IsSomeAnd, IsTrue, map, slice_get};
+ghost use Rattle.std.specs.Prelude.{◌≡◌, ◌↔◌, IfOk, IfSome, IsSomeAnd, IsTrue, map, slice_get};
 ghost use Rattle.wcps_types.specs.Bindings.{choice_view};
 ghost use Rattle.wcps_types.specs.Variables.{signatures_in};
-ghost use Rattle.wcps_types.specs.Sharing.{own_choices, coverages_in, with_signature, signatures_at, AreLike, AlikeAt, Alike};
+ghost use Rattle.wcps_types.specs.Sharing.{own_choices, coverages_in, signatures_at, AlikeAt, Alike, IsLike};
 
 use crate::bindings::Choice;
 use crate::bound::{Variables, with_variable};
@@ -32,13 +32,6 @@ fn are_same_fields(fields: &[Field], other: &[Field]) -> bool
     }
 }
 
-/// Whether two signatures have the same domain and fields.
-fn is_like(a: &Signature, b: &Signature) -> bool
-    ensures { IsTrue result ↔ AreLike a.now b.now }
-{
-    a.domain.is_same(&b.domain) && are_same_fields(a.fields.as_slice(), b.fields.as_slice())
-}
-
 /// Whether the coverages at two places have the same domain and fields; at one place they have.
 fn are_like_at(coverages: &[Signature], a: usize, b: usize) -> bool
     ensures { IsTrue result → AlikeAt (slice_get coverages.now a) (slice_get coverages.now b) }
@@ -51,7 +44,10 @@ fn are_like_at(coverages: &[Signature], a: usize, b: usize) -> bool
             }
             match coverages.get(b) {
                 None => false,
-                Some(second) => is_like(first, second),
+                Some(second) => {
+                    first.domain.is_same(&second.domain)
+                        && are_same_fields(first.fields.as_slice(), second.fields.as_slice())
+                }
             }
         }
     }
@@ -74,7 +70,7 @@ fn are_alike(coverages: &[Signature], bound: &[Bound], places: &[usize]) -> bool
 
 /// The place of a maker whose coverages are like those of a combination.
 pub fn place_of_like(coverages: &[Signature], makers: &[Maker], bound: &[Bound]) -> Option<usize>
-    ensures { IfSome result (λ k. IsSomeAnd (slice_get makers.now k) (λ m. Alike coverages.now (coverages_in bound.now) m.coverages.items)) }
+    ensures { IfSome result (λ k. IsSomeAnd (slice_get makers.now k) (IsLike coverages.now (coverages_in bound.now))) }
 {
     for place in 0..makers.len() {
         if are_alike(coverages, bound, &makers[place].coverages) {
@@ -82,24 +78,6 @@ pub fn place_of_like(coverages: &[Signature], makers: &[Maker], bound: &[Bound])
         }
     }
     None
-}
-
-/// Signatures, and after them that of the coverage at a place, if it is there.
-fn with_signature<'a>(
-    coverages: &'a [Signature],
-    place: usize,
-    signatures: Vec<&'a Signature>,
-) -> Result<Vec<&'a Signature>, AllocError>
-    ensures { IfOk result (λ v. signatures_in v.items ≡ signatures_in signatures.entry.items ++ with_signature (slice_get coverages.now place) []) }
-{
-    match coverages.get(place) {
-        None => Ok(signatures),
-        Some(signature) => {
-            let mut signatures = signatures;
-            signatures.push(signature)?;
-            Ok(signatures)
-        }
-    }
 }
 
 /// The signatures of the coverages at those places, each for one variable.
@@ -112,7 +90,10 @@ pub fn signatures_at<'a>(
 {
     let mut signatures = Vec::new(alloc);
     for place in places {
-        signatures = with_signature(coverages, *place, signatures)?;
+        let Some(signature) = coverages.get(*place) else {
+            continue;
+        };
+        signatures.push(signature)?;
     }
     Ok(signatures)
 }

@@ -1,16 +1,18 @@
-//! What the trees of a query are typed over, and trees that are asked for.
+//! What the trees of a query are typed over, the tree of a query over one choice of coverages, and trees that are asked for.
 
 ghost use Rattle.std.specs.Prelude.{◌≡◌, IfOk, option_map, slice_get};
-ghost use Rattle.wcps_text.specs.Tree.{query_view};
 ghost use Rattle.wcps_types.specs.Typed.{tree_view};
 ghost use Rattle.wcps_types.specs.Shapes.{Says};
-ghost use Rattle.wcps_types.specs.Sharing.{typed_over};
+ghost use Rattle.wcps_types.specs.Sources.{typed_at};
 ghost use Rattle.wcps_types.specs.TypedQueries.{trees_in};
 
 use crate::bound::Variables;
+use crate::context::Context;
+use crate::expression::condition_node;
+use crate::item::typed_item;
 use crate::refusal::CheckError;
+use crate::scope::Scope;
 use crate::sharing::signatures_at;
-use crate::trees::tree_of;
 use crate::typed::Tree;
 use crate::typed_query::TypedQuery;
 use arr_core::Signature;
@@ -25,12 +27,21 @@ pub struct Source<'a> {
     pub query: &'a Query,
 }
 
-/// The query over its variables, each with the signature of the coverage at its place.
+/// The query over its variables, each with the signature of the coverage at its place: its `where`, then its item.
 pub fn typed_over(alloc: Global, source: &Source, places: &[usize]) -> Result<Tree, CheckError>
-    ensures { Says tree_view result (typed_over source.now.coverages.now (query_view source.now.query.now) source.now.variables.now.list.items places.now) }
+    ensures { Says tree_view result (typed_at source.now places.now) }
 {
     let signatures = signatures_at(alloc, source.coverages, places)?;
-    tree_of(alloc, &signatures, source.variables, source.query)
+    let scope = Scope::outermost();
+    let context = Context {
+        alloc,
+        coverages: &signatures,
+        bound: source.variables,
+        scope: &scope,
+    };
+    let condition = condition_node(&context, &source.query.condition)?;
+    let item = typed_item(&context, &source.query.item)?;
+    Ok(Tree { condition, item })
 }
 
 /// The tree at a place, as `check` typed it. It is typed anew, in as much memory as its own.

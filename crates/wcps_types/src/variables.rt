@@ -1,18 +1,18 @@
 //! Variables: iterators and coverages.
 
 ghost use Rattle.std.specs.Prelude.{◌≡◌, slice_get};
+ghost use Rattle.wcps_text.specs.Tree as tree;
 ghost use Rattle.wcps_types.specs.declared.typed.Node.TheVariants.{Coverage};
-ghost use Rattle.wcps_types.specs.Frames.{names_in};
 ghost use Rattle.wcps_types.specs.Labels.{labels_in};
 ghost use Rattle.wcps_types.specs.Shapes.{Says, shape_view, labels_view};
-ghost use Rattle.wcps_types.specs.Variables.{signatures_in, cells_from, coverage_at, bound_at, variable};
+ghost use Rattle.wcps_types.specs.Variables.{signatures_in, cells_from, coverage_at};
+ghost use Rattle.wcps_types.specs.Contexts.{TypesTo};
 
-use crate::bound::Variables;
+use crate::context::Context;
 use crate::extent::Extent;
 use crate::labels::Labels;
 use crate::nodes::boxed;
 use crate::refusal::{CheckError, TypeRefusal};
-use crate::scope::Scope;
 use crate::shape::{Shape, unnamed_scalar};
 use crate::typed::Node;
 use arr_core::{Field, Signature};
@@ -50,39 +50,21 @@ fn coverage_shape<'a>(
     }
 }
 
-/// The shape of the variable at a place of the `for` list.
-fn bound_shape<'a>(
-    alloc: Global,
-    coverages: &[&'a Signature],
-    bound: &Variables,
-    place: usize,
-) -> Result<Shape<'a>, CheckError>
-    ensures { Says shape_view result (bound_at (signatures_in coverages.now) (slice_get bound.now.list.items place)) }
-{
-    match bound.list.get(place) {
-        None => Err(CheckError::Refused(TypeRefusal::UnknownName)),
-        Some(b) => coverage_shape(alloc, coverages, b.coverage),
-    }
-}
-
 /// An iterator in scope, or a variable of the `for` list.
-pub fn variable<'a>(
-    alloc: Global,
-    coverages: &[&'a Signature],
-    bound: &Variables,
-    scope: &Scope,
-    name: &QueryName,
-) -> Result<Shape<'a>, CheckError>
-    ensures { Says shape_view result (variable (signatures_in coverages.now) bound.now.list.items (names_in scope.now.frames) name.now) }
+pub fn variable<'a>(context: &Context<'_, 'a>, name: &QueryName) -> Result<Shape<'a>, CheckError>
+    ensures { TypesTo context.now (tree.variable name.now) result }
 {
-    match scope.place(name) {
+    match context.scope.place(name) {
         Some(level) => {
-            let node = boxed(alloc, Node::Iterator(level))?;
-            Ok(unnamed_scalar(alloc, false, node))
+            let node = boxed(context.alloc, Node::Iterator(level))?;
+            Ok(unnamed_scalar(context.alloc, false, node))
         }
-        None => match bound.place(name) {
+        None => match context.bound.place(name) {
             None => Err(CheckError::Refused(TypeRefusal::UnknownName)),
-            Some(place) => bound_shape(alloc, coverages, bound, place),
+            Some(place) => match context.bound.list.get(place) {
+                None => Err(CheckError::Refused(TypeRefusal::UnknownName)),
+                Some(b) => coverage_shape(context.alloc, context.coverages, b.coverage),
+            },
         },
     }
 }

@@ -111,20 +111,27 @@ fn put<B: Blocks + Drop>(alloc: Global, grid: &mut Grid<B>, round: u64, side: u1
     Ok(())
 }
 
+/// The whole of a grid: how many rows and columns it has, their box, and cells for it.
+#[derive(Clone, Copy)]
+pub(crate) struct Whole<'a> {
+    pub(crate) side: u16,
+    pub(crate) area: &'a Domain,
+    pub(crate) cells: &'a [Cell],
+}
+
 /// Does the action once, and gives a number that depends on what was read, or 0.
 fn once<B: Blocks + Drop>(
     alloc: Global,
     grid: &mut Grid<B>,
     action: Action,
-    side: u16,
-    area: &Domain,
-    cells: &[Cell],
+    whole: Whole<'_>,
     round: u64,
 ) -> Result<i64> {
+    let side = whole.side;
     match action {
-        Action::Fill => grid.fill(area, cell(round))?,
-        Action::Values => grid.write(area, cells)?,
-        Action::Read => return Ok(grid.sum(area)?),
+        Action::Fill => grid.fill(whole.area, cell(round))?,
+        Action::Values => grid.write(whole.area, whole.cells)?,
+        Action::Read => return Ok(grid.sum(whole.area)?),
         Action::Window => return read_window(alloc, grid, round, side),
         Action::Cell => return read_number(grid, round, side),
         Action::Again => return read_window(alloc, grid, round % FEW, side),
@@ -139,14 +146,12 @@ pub(crate) fn repeat<B: Blocks + Drop>(
     alloc: Global,
     grid: &mut Grid<B>,
     action: Action,
-    side: u16,
-    area: &Domain,
-    cells: &[Cell],
+    whole: Whole<'_>,
     rounds: u64,
 ) -> Result<i64> {
     let mut sum = 0i64;
     for round in 0..rounds {
-        sum = sum.wrapping_add(once(alloc, grid, action, side, area, cells, round)?);
+        sum = sum.wrapping_add(once(alloc, grid, action, whole, round)?);
     }
     Ok(sum)
 }

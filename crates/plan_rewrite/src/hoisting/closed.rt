@@ -5,6 +5,7 @@ ghost use Rattle.plan_ir.specs.Bodies.{body_view};
 ghost use Rattle.plan_ir.specs.Plans.{pass_view};
 ghost use Rattle.plan_ir.specs.Variables.{index_without, without};
 ghost use Rattle.plan_rewrite.specs.Hoisting.{pass_without};
+ghost use Rattle.plan_rewrite.specs.Views.{tree_in, pass_in};
 
 use crate::nodes::{
     bind_body, boxed, conditional_fold, fold_body, op1_body, op2_body, plain_fold, read_body,
@@ -16,7 +17,7 @@ use std::alloc::{AllocError, Global};
 /// A body without its first `n` variables, of which it uses none.
 #[cycle(without)]
 fn without(alloc: Global, n: usize, e: &Body) -> Result<Box<Body>, AllocError>
-    ensures { IfOk result (λ b. body_view b.value ≡ without n (body_view e.now)) }
+    ensures { IfOk result (λ b. tree_in b ≡ without n (body_view e.now)) }
 {
     match e {
         Body::Lit(z) => boxed(alloc, Body::Lit(*z)),
@@ -67,7 +68,7 @@ fn without(alloc: Global, n: usize, e: &Body) -> Result<Box<Body>, AllocError>
 /// A fold without the first `n` variables.
 #[cycle(without)]
 pub fn fold_without(alloc: Global, n: usize, f: &Fold) -> Result<Box<Fold>, AllocError>
-    ensures { IfOk result (λ g. pass_view g.value ≡ pass_without n (pass_view f.now)) }
+    ensures { IfOk result (λ g. pass_in g ≡ pass_without n (pass_view f.now)) }
 {
     let body = without(alloc, n, &f.body)?;
     match &f.condition {

@@ -1,9 +1,10 @@
 //! Bodies whose closed folds have become passes.
 
-ghost use Rattle.std.specs.Prelude.{◌≡◌, ◌++◌, ◌+◌, [], ◌∷◌, IfOk, OnOk, length, map, slice_index_or};
-ghost use Rattle.plan_ir.specs.Bodies.{body_view, condition_view, bind};
+ghost use Rattle.std.specs.Prelude.{◌≡◌, ◌+◌, [], ◌∷◌, IfOk, OnOk, length, map, slice_index_or};
 ghost use Rattle.plan_ir.specs.Plans.{pass_view};
-ghost use Rattle.plan_rewrite.specs.Hoisting.{passed, hoisted, inner_pass, inner_passes};
+ghost use Rattle.plan_rewrite.specs.Hoisting.{passed};
+ghost use Rattle.plan_rewrite.specs.HoistedParts.{depth, body_hoisted, fold_hoisted, inner_pass, inner_passes};
+ghost use Rattle.plan_rewrite.specs.Views.{tree_in, pass_in, passes_in, Gains};
 
 use crate::hoisting::closed::fold_without;
 use crate::nodes::{
@@ -15,30 +16,35 @@ use arr_core::Domain;
 use plan_ir::{Body, Fold, Interval, fold_is_from};
 use std::alloc::{AllocError, Global};
 
-/// A body under the variables of `scope`. Its closed folds go to the end of the passes, the innermost first. `regs` has the
-/// place of each old register.
+/// What is around a body: the place of each old register, and the interval of each variable.
+#[derive(Clone, Copy)]
+pub struct Around<'a> {
+    pub regs: &'a [usize],
+    pub scope: &'a [Interval],
+}
+
+/// A body whose closed folds go to the end of the passes, the innermost first.
 #[cycle(hoist)]
 pub fn hoisted(
     alloc: Global,
-    regs: &[usize],
-    scope: &[Interval],
+    at: &Around,
     e: &Body,
     passes: &mut Vec<Fold>,
 ) -> Result<Box<Body>, AllocError>
-    ensures body { IfOk result (λ b. body_view b.value ≡ (hoisted regs.now (length scope.now) (map pass_view passes.old.items) (body_view e.now)).body) }
-    ensures passes { OnOk result (map pass_view passes.new.items ≡ (hoisted regs.now (length scope.now) (map pass_view passes.old.items) (body_view e.now)).passes) }
+    ensures body { IfOk result (λ b. tree_in b ≡ (body_hoisted at.now passes.old e.now).body) }
+    ensures passes { OnOk result (passes_in passes.new ≡ (body_hoisted at.now passes.old e.now).passes) }
 {
     match e {
         Body::Lit(z) => boxed(alloc, Body::Lit(*z)),
         Body::Var(k) => boxed(alloc, Body::Var(*k)),
-        Body::Reg(k) => boxed(alloc, Body::Reg(place_at(regs, *k))),
+        Body::Reg(k) => boxed(alloc, Body::Reg(place_at(at.regs, *k))),
         Body::Op1(op, e) => {
-            let x = hoisted(alloc, regs, scope, e, passes)?;
+            let x = hoisted(alloc, at, e, passes)?;
             op1_body(alloc, *op, x)
         }
         Body::Op2(op, l, r) => {
-            let x = hoisted(alloc, regs, scope, l, passes)?;
-            let y = hoisted(alloc, regs, scope, r, passes)?;
+            let x = hoisted(alloc, at, l, passes)?;
+            let y = hoisted(alloc, at, r, passes)?;
             op2_body(alloc, *op, x, y)
         }
         Body::Read {
@@ -56,72 +62,61 @@ pub fn hoisted(
             interval,
             body,
         } => {
-            let p = hoisted(alloc, regs, scope, position, passes)?;
-            hoisted_bind(alloc, regs, scope, body, p, *interval, passes)
+            let p = hoisted(alloc, at, position, passes)?;
+            let scope = one_deeper(alloc, at.scope, *interval)?;
+            let inner = Around {
+                regs: at.regs,
+                scope: &scope,
+            };
+            let b = hoisted(alloc, &inner, body, passes)?;
+            bind_body(alloc, p, *interval, b)
         }
         Body::Fold(f) => {
-            let b = hoisted_fold(alloc, regs, scope, f, passes)?;
+            let b = hoisted_fold(alloc, at, f, passes)?;
             Ok(b)
         }
     }
-}
-
-/// A body under a position, which has been hoisted.
-#[cycle(hoist)]
-fn hoisted_bind(
-    alloc: Global,
-    regs: &[usize],
-    scope: &[Interval],
-    e: &Body,
-    position: Box<Body>,
-    interval: Interval,
-    passes: &mut Vec<Fold>,
-) -> Result<Box<Body>, AllocError>
-    ensures body { IfOk result (λ b. body_view b.value ≡ bind (body_view position.value) interval.lo interval.hi (hoisted regs.now (length scope.now + 1) (map pass_view passes.old.items) (body_view e.now)).body) }
-    ensures passes { OnOk result (map pass_view passes.new.items ≡ (hoisted regs.now (length scope.now + 1) (map pass_view passes.old.items) (body_view e.now)).passes) }
-{
-    let inner = one_deeper(alloc, scope, interval)?;
-    let b = hoisted(alloc, regs, &inner, e, passes)?;
-    bind_body(alloc, position, interval, b)
 }
 
 /// What stands in the place of a fold.
 #[cycle(hoist)]
 fn hoisted_fold(
     alloc: Global,
-    regs: &[usize],
-    scope: &[Interval],
+    at: &Around,
     f: &Fold,
     passes: &mut Vec<Fold>,
 ) -> Result<Box<Body>, AllocError>
-    ensures body { IfOk result (λ b. body_view b.value ≡ (passed (length scope.now) (inner_passes regs.now (length scope.now + length f.now.domain) (map pass_view passes.old.items) (pass_view f.now)) (inner_pass regs.now (length scope.now + length f.now.domain) (map pass_view passes.old.items) (pass_view f.now))).body) }
-    ensures passes { OnOk result (map pass_view passes.new.items ≡ (passed (length scope.now) (inner_passes regs.now (length scope.now + length f.now.domain) (map pass_view passes.old.items) (pass_view f.now)) (inner_pass regs.now (length scope.now + length f.now.domain) (map pass_view passes.old.items) (pass_view f.now))).passes) }
+    ensures body { IfOk result (λ b. tree_in b ≡ (fold_hoisted at.now passes.old f.now).body) }
+    ensures passes { OnOk result (passes_in passes.new ≡ (fold_hoisted at.now passes.old f.now).passes) }
 {
-    let inner = deeper(alloc, scope, &f.domain)?;
-    let fold = inner_fold(alloc, regs, &inner, f, passes)?;
-    passed(alloc, scope.len(), fold, passes)
+    let scope = deeper(alloc, at.scope, &f.domain)?;
+    let inner = Around {
+        regs: at.regs,
+        scope: &scope,
+    };
+    let fold = inner_fold(alloc, &inner, f, passes)?;
+    passed(alloc, at.scope.len(), fold, passes)
 }
 
-/// A fold whose condition and body have been hoisted, under the variables of `inner`, the last of which are its own.
+/// A fold whose condition and body have been hoisted, under variables of which the last are its own.
 #[cycle(hoist)]
 pub fn inner_fold(
     alloc: Global,
-    regs: &[usize],
-    inner: &[Interval],
+    at: &Around,
     f: &Fold,
     passes: &mut Vec<Fold>,
 ) -> Result<Box<Fold>, AllocError>
-    ensures pass { IfOk result (λ g. pass_view g.value ≡ inner_pass regs.now (length inner.now) (map pass_view passes.old.items) (pass_view f.now)) }
-    ensures passes { OnOk result (map pass_view passes.new.items ≡ inner_passes regs.now (length inner.now) (map pass_view passes.old.items) (pass_view f.now)) }
+    ensures pass { IfOk result (λ g. pass_in g ≡ inner_pass at.now.regs.now (depth at.now) passes.old f.now) }
+    ensures passes { OnOk result (passes_in passes.new ≡ inner_passes at.now.regs.now (depth at.now) passes.old f.now) }
 {
     match &f.condition {
         None => {
-            let body = hoisted(alloc, regs, inner, &f.body, passes)?;
+            let body = hoisted(alloc, at, &f.body, passes)?;
             plain_fold(alloc, f.op, &f.domain, body)
         }
         Some(c) => {
-            let c = hoisted(alloc, regs, inner, c, passes)?;
-            let body = hoisted(alloc, regs, inner, &f.body, passes)?;
+            let c = hoisted(alloc, at, c, passes)?;
+            let body = hoisted(alloc, at, &f.body, passes)?;
             conditional_fold(alloc, f.op, &f.domain, c, body)
         }
     }
@@ -134,8 +129,8 @@ fn passed(
     f: Box<Fold>,
     passes: &mut Vec<Fold>,
 ) -> Result<Box<Body>, AllocError>
-    ensures body { IfOk result (λ b. body_view b.value ≡ (passed n (map pass_view passes.old.items) (pass_view f.value)).body) }
-    ensures passes { OnOk result (map pass_view passes.new.items ≡ (passed n (map pass_view passes.old.items) (pass_view f.value)).passes) }
+    ensures body { IfOk result (λ b. tree_in b ≡ (passed n (passes_in passes.old) (pass_in f)).body) }
+    ensures passes { OnOk result (passes_in passes.new ≡ (passed n (passes_in passes.old) (pass_in f)).passes) }
 {
     if !fold_is_from(n, &f) {
         return fold_body(alloc, f);
@@ -155,7 +150,7 @@ pub fn count(passes: &[Fold]) -> usize
 
 /// Puts a pass at the end.
 pub fn push_pass(passes: &mut Vec<Fold>, pass: Box<Fold>) -> Result<(), AllocError>
-    ensures { OnOk result (map pass_view passes.new.items ≡ map pass_view passes.old.items ++ pass_view pass.value ∷ []) }
+    ensures { OnOk result (Gains pass_view passes.old passes.new (pass_in pass ∷ [])) }
 {
     passes.push(Box::into_inner(pass))?;
     Ok(())

@@ -1,13 +1,17 @@
 //! Plans whose closed folds are passes.
 
-ghost use Rattle.std.specs.Prelude.{◌≡◌, ◌++◌, [], ◌∷◌, ℕ, ℤ, List, IfOk, OnOk, length, map, option_map};
-ghost use Rattle.plan_ir.specs.Bodies.{body_view};
-ghost use Rattle.plan_ir.specs.Plans.{pass_view, bind_view, field_view, item_view, steps_view, plan_view};
-ghost use Rattle.plan_ir.specs.Planned.{planned};
+ghost use Rattle.std.specs.Prelude.{◌≡◌, ◌++◌, [], ◌∷◌, IfOk, OnOk, map};
+ghost use Rattle.plan_ir.specs.Plans.{item_view, steps_view, plan_view};
 ghost use Rattle.plan_ir.specs.Placed.{IsPlan};
-ghost use Rattle.plan_rewrite.specs.HoistedPlans.{with_pass, with_passes, hoisted_condition, hoisted_fields, hoisted_item, hoisted_steps, hoisted_plan, StepsAreOpen};
+ghost use Rattle.plan_rewrite.specs.HoistedPlans.{item_on, hoisted_steps, hoisted_plan};
+ghost use Rattle.plan_rewrite.specs.HoistedParts.{pass_hoisted, passes_hoisted, condition_hoisted, fields_hoisted, rest_hoisted, item_hoisted};
+ghost use Rattle.plan_rewrite.specs.Everywhere.{Everywhere};
+ghost use Rattle.plan_rewrite.specs.Rewritten.{MeansSame, NoFoldIsClosed};
+ghost use Rattle.plan_rewrite.specs.Views.{tree_in, passes_in, fields_in, condition_in, GainsBinds, GainsFields};
 
-use crate::hoisting::folds::{count, hoisted, inner_fold, one_deeper, outer_scope, push_pass};
+use crate::hoisting::folds::{
+    Around, count, hoisted, inner_fold, one_deeper, outer_scope, push_pass,
+};
 use crate::nodes::push_bind;
 use plan_ir::{Bind, Body, Field, Fold, Interval, Item, Plan, Steps};
 use std::alloc::{AllocError, Global};
@@ -15,9 +19,9 @@ use std::alloc::{AllocError, Global};
 /// The plan with each fold that uses no variable from outside it as a pass, the innermost first, whose register stands in
 /// its place. A well-formed plan gives what it gave, faults included, and stays well-formed.
 pub fn hoist(alloc: Global, plan: Plan) -> Result<Plan, AllocError>
-    ensures planned { IfOk result (λ r. IsPlan (plan_view plan) → (s : ℕ → ℕ → List ℤ → ℤ) → planned s (plan_view r) ≡ planned s (plan_view plan)) }
+    ensures planned { IfOk result (λ r. IsPlan (plan_view plan) → MeansSame (plan_view plan) (plan_view r)) }
     ensures placed { IfOk result (λ r. IsPlan (plan_view plan) → IsPlan (plan_view r)) }
-    ensures open { IfOk result (λ r. StepsAreOpen (map steps_view r.steps.items)) }
+    ensures open { IfOk result (λ r. Everywhere NoFoldIsClosed (plan_view r)) }
 {
     let r = hoist_all(alloc, plan)?;
     Ok(r)
@@ -74,25 +78,17 @@ fn item_hoisted(
     item: &Item,
     passes: &mut Vec<Fold>,
 ) -> Result<Item, AllocError>
-    ensures item { IfOk result (λ i. item_view i ≡ record {
-      domain = item.now.domain;
-      binds = (hoisted_item regs.now (length item.now.domain) (map pass_view passes.old.items) (map bind_view item.now.binds.items) (map field_view item.now.fields.items)).binds;
-      fields = (hoisted_item regs.now (length item.now.domain) (map pass_view passes.old.items) (map bind_view item.now.binds.items) (map field_view item.now.fields.items)).fields;
-    }) }
-    ensures passes { OnOk result (map pass_view passes.new.items ≡ (hoisted_item regs.now (length item.now.domain) (map pass_view passes.old.items) (map bind_view item.now.binds.items) (map field_view item.now.fields.items)).passes) }
+    ensures item { IfOk result (λ i. item_view i ≡ item_on item.now.domain (item_hoisted regs.now passes.old item.now)) }
+    ensures passes { OnOk result (passes_in passes.new ≡ (item_hoisted regs.now passes.old item.now).passes) }
 {
     let domain = item.domain.copy(alloc)?;
     let scope = outer_scope(alloc, &item.domain)?;
-    let mut binds = Vec::new(alloc);
-    let fields = hoist_binds(
-        alloc,
+    let at = Around {
         regs,
-        &scope,
-        &item.binds,
-        &item.fields,
-        passes,
-        &mut binds,
-    )?;
+        scope: &scope,
+    };
+    let mut binds = Vec::new(alloc);
+    let fields = hoist_binds(alloc, &at, &item.binds, &item.fields, passes, &mut binds)?;
     Ok(Item {
         domain,
         binds,
@@ -107,8 +103,8 @@ fn hoist_passes(
     regs: &mut Vec<usize>,
     passes: &mut Vec<Fold>,
 ) -> Result<(), AllocError>
-    ensures regs { OnOk result (regs.new.items ≡ (with_passes (record { regs = regs.old.items; passes = map pass_view passes.old.items }) (map pass_view old.now)).regs) }
-    ensures passes { OnOk result (map pass_view passes.new.items ≡ (with_passes (record { regs = regs.old.items; passes = map pass_view passes.old.items }) (map pass_view old.now)).passes) }
+    ensures regs { OnOk result (regs.new.items ≡ (passes_hoisted regs.old passes.old old.now).regs) }
+    ensures passes { OnOk result (passes_in passes.new ≡ (passes_hoisted regs.old passes.old old.now).passes) }
 {
     match old {
         [] => Ok(()),
@@ -126,11 +122,15 @@ fn hoist_pass(
     regs: &mut Vec<usize>,
     passes: &mut Vec<Fold>,
 ) -> Result<(), AllocError>
-    ensures regs { OnOk result (regs.new.items ≡ (with_pass (record { regs = regs.old.items; passes = map pass_view passes.old.items }) (pass_view pass.now)).regs) }
-    ensures passes { OnOk result (map pass_view passes.new.items ≡ (with_pass (record { regs = regs.old.items; passes = map pass_view passes.old.items }) (pass_view pass.now)).passes) }
+    ensures regs { OnOk result (regs.new.items ≡ (pass_hoisted regs.old passes.old pass.now).regs) }
+    ensures passes { OnOk result (passes_in passes.new ≡ (pass_hoisted regs.old passes.old pass.now).passes) }
 {
     let scope = outer_scope(alloc, &pass.domain)?;
-    let fold = inner_fold(alloc, regs, &scope, pass, passes)?;
+    let at = Around {
+        regs,
+        scope: &scope,
+    };
+    let fold = inner_fold(alloc, &at, pass, passes)?;
     let place = count(passes);
     push_place(regs, place)?;
     push_pass(passes, fold)?;
@@ -152,13 +152,14 @@ fn condition_hoisted(
     condition: &Option<Body>,
     passes: &mut Vec<Fold>,
 ) -> Result<Option<Body>, AllocError>
-    ensures condition { IfOk result (λ c. option_map body_view c ≡ (hoisted_condition (record { regs = regs.now; passes = map pass_view passes.old.items }) (option_map body_view condition.now)).condition) }
-    ensures passes { OnOk result (map pass_view passes.new.items ≡ (hoisted_condition (record { regs = regs.now; passes = map pass_view passes.old.items }) (option_map body_view condition.now)).passes) }
+    ensures value { IfOk result (λ c. condition_in c ≡ (condition_hoisted regs.now passes.old condition.now).condition) }
+    ensures passes { OnOk result (passes_in passes.new ≡ (condition_hoisted regs.now passes.old condition.now).passes) }
 {
     match condition {
         None => Ok(None),
         Some(c) => {
-            let c = hoisted(alloc, regs, &[], c, passes)?;
+            let at = Around { regs, scope: &[] };
+            let c = hoisted(alloc, &at, c, passes)?;
             Ok(Some(Box::into_inner(c)))
         }
     }
@@ -167,28 +168,31 @@ fn condition_hoisted(
 /// The fields behind binds, which go to the end of a list.
 fn hoist_binds(
     alloc: Global,
-    regs: &[usize],
-    scope: &[Interval],
+    at: &Around,
     binds: &[Bind],
     fields: &[Field],
     passes: &mut Vec<Fold>,
     list: &mut Vec<Bind>,
 ) -> Result<Vec<Field>, AllocError>
-    ensures fields { IfOk result (λ v. map field_view v.items ≡ (hoisted_item regs.now (length scope.now) (map pass_view passes.old.items) (map bind_view binds.now) (map field_view fields.now)).fields) }
-    ensures binds { OnOk result (map bind_view list.new.items ≡ map bind_view list.old.items ++ (hoisted_item regs.now (length scope.now) (map pass_view passes.old.items) (map bind_view binds.now) (map field_view fields.now)).binds) }
-    ensures passes { OnOk result (map pass_view passes.new.items ≡ (hoisted_item regs.now (length scope.now) (map pass_view passes.old.items) (map bind_view binds.now) (map field_view fields.now)).passes) }
+    ensures fields { IfOk result (λ v. fields_in v ≡ (rest_hoisted at.now passes.old binds.now fields.now).fields) }
+    ensures binds { OnOk result (GainsBinds list.old list.new (rest_hoisted at.now passes.old binds.now fields.now).binds) }
+    ensures passes { OnOk result (passes_in passes.new ≡ (rest_hoisted at.now passes.old binds.now fields.now).passes) }
 {
     match binds {
         [] => {
             let mut kept = Vec::new(alloc);
-            hoist_fields(alloc, regs, scope, fields, passes, &mut kept)?;
+            hoist_fields(alloc, at, fields, passes, &mut kept)?;
             Ok(kept)
         }
         [bind, rest @ ..] => {
-            let position = hoisted(alloc, regs, scope, &bind.position, passes)?;
+            let position = hoisted(alloc, at, &bind.position, passes)?;
             push_bind(list, position, bind.interval)?;
-            let inner = one_deeper(alloc, scope, bind.interval)?;
-            hoist_binds(alloc, regs, &inner, rest, fields, passes, list)
+            let scope = one_deeper(alloc, at.scope, bind.interval)?;
+            let inner = Around {
+                regs: at.regs,
+                scope: &scope,
+            };
+            hoist_binds(alloc, &inner, rest, fields, passes, list)
         }
     }
 }
@@ -196,28 +200,27 @@ fn hoist_binds(
 /// Puts fields at the end of a list.
 fn hoist_fields(
     alloc: Global,
-    regs: &[usize],
-    scope: &[Interval],
+    at: &Around,
     fields: &[Field],
     passes: &mut Vec<Fold>,
     list: &mut Vec<Field>,
 ) -> Result<(), AllocError>
-    ensures fields { OnOk result (map field_view list.new.items ≡ map field_view list.old.items ++ (hoisted_fields regs.now (length scope.now) (map pass_view passes.old.items) (map field_view fields.now)).fields) }
-    ensures passes { OnOk result (map pass_view passes.new.items ≡ (hoisted_fields regs.now (length scope.now) (map pass_view passes.old.items) (map field_view fields.now)).passes) }
+    ensures fields { OnOk result (GainsFields list.old list.new (fields_hoisted at.now passes.old fields.now).fields) }
+    ensures passes { OnOk result (passes_in passes.new ≡ (fields_hoisted at.now passes.old fields.now).passes) }
 {
     match fields {
         [] => Ok(()),
         [field, rest @ ..] => {
-            let body = hoisted(alloc, regs, scope, &field.body, passes)?;
+            let body = hoisted(alloc, at, &field.body, passes)?;
             push_field(list, field.boolean, body)?;
-            hoist_fields(alloc, regs, scope, rest, passes, list)
+            hoist_fields(alloc, at, rest, passes, list)
         }
     }
 }
 
 /// Puts a field at the end of a list.
 fn push_field(list: &mut Vec<Field>, boolean: bool, body: Box<Body>) -> Result<(), AllocError>
-    ensures { OnOk result (map field_view list.new.items ≡ map field_view list.old.items ++ record { boolean = boolean; body = body_view body.value } ∷ []) }
+    ensures { OnOk result (GainsFields list.old list.new (record { boolean = boolean; body = tree_in body } ∷ [])) }
 {
     list.push(Field {
         boolean,

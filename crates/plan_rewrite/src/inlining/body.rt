@@ -1,13 +1,12 @@
 //! Binds that give way: one of a literal inside its interval to a constant, one of a variable whose own interval lies
 //! inside to that variable.
 
-ghost use Rattle.std.specs.Prelude.{◌≡◌, ◌++◌, [], ◌∷◌, pos, IfOk, length, map, slice_get, slice_index_or};
+ghost use Rattle.std.specs.Prelude.{◌≡◌, ◌++◌, [], ◌∷◌, IfOk, map};
 ghost use Rattle.std.specs.Option.{option_copied};
-ghost use Rattle.plan_ir.specs.declared.body.Index.{Index};
-ghost use Rattle.plan_ir.specs.Bodies.{body_view, condition_view, fold_view};
-ghost use Rattle.plan_ir.specs.Placed.{spans};
-ghost use Rattle.plan_rewrite.specs.Settling.{variable, moved, levels, literal, constant_in, variable_in, stand_in, bind_or_go, settled, settled_under};
+ghost use Rattle.plan_ir.specs.Bodies.{body_view};
+ghost use Rattle.plan_rewrite.specs.Settling.{moved, literal, constant_in, variable_in, stand_in, settled, settled_under, settled_bind};
 ghost use Rattle.plan_ir.specs.Plans.{pass_view};
+ghost use Rattle.plan_rewrite.specs.Views.{tree_in, pass_in};
 
 use crate::nodes::{
     bind_body, boxed, conditional_fold, fold_body, op1_body, op2_body, plain_fold, read_body,
@@ -26,7 +25,7 @@ pub fn settled(
     scope: &[Interval],
     e: &Body,
 ) -> Result<Box<Body>, AllocError>
-    ensures { IfOk result (λ b. body_view b.value ≡ settled env.now scope.now (body_view e.now)) }
+    ensures { IfOk result (λ b. tree_in b ≡ settled env.now scope.now (body_view e.now)) }
 {
     match e {
         Body::Lit(z) => boxed(alloc, Body::Lit(*z)),
@@ -83,7 +82,7 @@ fn settled_bind(
     position: Box<Body>,
     interval: Interval,
 ) -> Result<Box<Body>, AllocError>
-    ensures { IfOk result (λ b. body_view b.value ≡ bind_or_go env.now scope.now interval.lo interval.hi (body_view position.value) (stand_in scope.now interval.lo interval.hi (body_view position.value)) (λ env' scope'. settled env' scope' (body_view e.now))) }
+    ensures { IfOk result (λ b. tree_in b ≡ settled_bind env.now scope.now interval (tree_in position) (body_view e.now)) }
 {
     match stand_in(scope, interval, &position) {
         Some(i) => {
@@ -107,7 +106,7 @@ pub fn settled_fold(
     scope: &[Interval],
     f: &Fold,
 ) -> Result<Box<Fold>, AllocError>
-    ensures { IfOk result (λ r. pass_view r.value ≡ settled_under env.now scope.now (pass_view f.now)) }
+    ensures { IfOk result (λ r. pass_in r ≡ settled_under env.now scope.now (pass_view f.now)) }
 {
     let inner = with_levels(alloc, env, scope, f.domain.axes())?;
     let more = with_spans(alloc, scope, f.domain.axes())?;

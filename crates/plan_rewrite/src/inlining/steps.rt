@@ -1,12 +1,12 @@
 //! Plans whose binds give way where they can.
 
-ghost use Rattle.std.specs.Prelude.{◌≡◌, ◌++◌, [], ◌∷◌, ℕ, ℤ, List, IfOk, OnOk, map};
+ghost use Rattle.std.specs.Prelude.{◌≡◌, ◌++◌, [], ◌∷◌, IfOk, OnOk, map};
 ghost use Rattle.plan_ir.specs.Plans.{pass_view, bind_view, field_view, item_view, steps_view, plan_view};
-ghost use Rattle.plan_ir.specs.Bodies.{body_view};
-ghost use Rattle.plan_ir.specs.Planned.{planned};
 ghost use Rattle.plan_ir.specs.Placed.{IsPlan};
-ghost use Rattle.plan_rewrite.specs.Rewritten.{StepsAreReduced};
-ghost use Rattle.plan_rewrite.specs.Settled.{Ground, ground, kept_binds, settled_pass, settled_field, settled_item, settled_steps, settled_plan};
+ghost use Rattle.plan_rewrite.specs.Everywhere.{Everywhere};
+ghost use Rattle.plan_rewrite.specs.Rewritten.{MeansSame, NoBindGivesWay};
+ghost use Rattle.plan_rewrite.specs.Settled.{ground, binds_kept, settled_pass, settled_fields, settled_item, settled_steps, settled_plan};
+ghost use Rattle.plan_rewrite.specs.Views.{passes_in, fields_in, GainsBinds};
 
 use crate::inlining::body::{settled, settled_fold, stand_in};
 use crate::nodes::push_bind;
@@ -17,9 +17,9 @@ use std::alloc::{AllocError, Global};
 /// The plan without each bind whose position is a literal inside its interval, or a variable whose own interval lies
 /// inside: the constant or the variable stands in its place. It gives what the plan gives, faults included.
 pub fn settle(alloc: Global, plan: Plan) -> Result<Plan, AllocError>
-    ensures planned { IfOk result (λ r. (s : ℕ → ℕ → List ℤ → ℤ) → planned s (plan_view r) ≡ planned s (plan_view plan)) }
+    ensures planned { IfOk result (λ r. MeansSame (plan_view plan) (plan_view r)) }
     ensures placed { IfOk result (λ r. IsPlan (plan_view plan) → IsPlan (plan_view r)) }
-    ensures reduced { IfOk result (λ r. StepsAreReduced (map steps_view r.steps.items)) }
+    ensures reduced { IfOk result (λ r. Everywhere NoBindGivesWay (plan_view r)) }
 {
     let r = settle_all(alloc, plan)?;
     Ok(r)
@@ -78,7 +78,7 @@ fn steps_settled(alloc: Global, steps: &Steps) -> Result<Steps, AllocError>
 
 /// Passes, settled.
 fn passes_settled(alloc: Global, passes: &[Fold]) -> Result<Vec<Fold>, AllocError>
-    ensures { IfOk result (λ v. map pass_view v.items ≡ map settled_pass (map pass_view passes.now)) }
+    ensures { IfOk result (λ v. passes_in v ≡ map settled_pass (map pass_view passes.now)) }
 {
     let mut list = Vec::new(alloc);
     for pass in passes {
@@ -115,7 +115,7 @@ fn settle_binds(
 ) -> Result<(), AllocError>
     ensures env { OnOk result (env.new.items ≡ (ground env.old.items scope.old.items (map bind_view binds.now)).env) }
     ensures scope { OnOk result (scope.new.items ≡ (ground env.old.items scope.old.items (map bind_view binds.now)).scope) }
-    ensures kept { OnOk result (map bind_view list.new.items ≡ map bind_view list.old.items ++ kept_binds env.old.items scope.old.items (map bind_view binds.now)) }
+    ensures kept { OnOk result (GainsBinds list.old list.new (binds_kept env.old scope.old binds.now)) }
 {
     match binds {
         [] => Ok(()),
@@ -160,7 +160,7 @@ fn fields_settled(
     scope: &[Interval],
     fields: &[Field],
 ) -> Result<Vec<Field>, AllocError>
-    ensures { IfOk result (λ v. map field_view v.items ≡ map (settled_field (record { env = env.now; scope = scope.now })) (map field_view fields.now)) }
+    ensures { IfOk result (λ v. fields_in v ≡ settled_fields env.now scope.now (map field_view fields.now)) }
 {
     let mut list = Vec::new(alloc);
     for field in fields {

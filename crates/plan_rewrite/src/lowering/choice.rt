@@ -1,16 +1,10 @@
 //! Lowering of what one choice of coverages gives: a condition, if any, and an item.
 
-ghost use Rattle.std.specs.Prelude.{◌≡◌, ◌≤◌, ◌+◌, ℕ, ℤ, List, Some, IfOk, slice_get};
-ghost use Rattle.arr_core.specs.declared.signature.Signature.{Signature};
-ghost use Rattle.wcps_types.specs.WellTyped.{CombinationIsTyped};
-ghost use Rattle.wcps_types.specs.Work.{condition_work, item_work};
-ghost use Rattle.wcps_mean.specs.Answer.{combination_answer};
-ghost use Rattle.plan_ir.specs.Bodies.{body_view};
+ghost use Rattle.std.specs.Prelude.{◌≡◌, IfOk};
 ghost use Rattle.plan_ir.specs.Plans.{steps_view};
-ghost use Rattle.plan_ir.specs.Planned.{steps_planned};
-ghost use Rattle.plan_ir.specs.Placed.{AreSteps};
-ghost use Rattle.plan_ir.specs.Units.{steps_units};
 ghost use Rattle.plan_rewrite.specs.LoweredItems.{returned, lowered_scalar, lowered_steps};
+ghost use Rattle.plan_rewrite.specs.Lowered.{AreStepsFor};
+ghost use Rattle.plan_rewrite.specs.Views.{tree_in};
 
 use crate::lowering::context::Context;
 use crate::lowering::expression::lowered;
@@ -26,9 +20,7 @@ pub fn lower_steps(
     condition: &Option<Box<Node>>,
     item: &TypedItem,
 ) -> Result<Steps, AllocError>
-    ensures planned { IfOk result (λ t. (s : ℕ → ℕ → List ℤ → ℤ) → steps_planned s (steps_view t) ≡ combination_answer s (returned condition.now item.now)) }
-    ensures placed { IfOk result (λ t. (cs : List Signature) → CombinationIsTyped cs (returned condition.now item.now) → AreSteps (slice_get cs) (steps_view t)) }
-    ensures units { IfOk result (λ t. steps_units (Some (steps_view t)) ≤ 1 + (condition_work (returned condition.now item.now).condition + item_work (returned condition.now item.now).item)) }
+    ensures { IfOk result (λ t. AreStepsFor (returned condition.now item.now) (steps_view t)) }
 {
     let t = lowered_steps(alloc, condition, item)?;
     Ok(t)
@@ -62,7 +54,7 @@ pub fn lowered_steps(
 
 /// The body of a scalar under no variable.
 fn lowered_scalar(alloc: Global, e: &Node) -> Result<Box<Body>, AllocError>
-    ensures { IfOk result (λ b. body_view b.value ≡ lowered_scalar e.now) }
+    ensures { IfOk result (λ b. tree_in b ≡ lowered_scalar e.now) }
 {
     let context = Context::outermost(alloc, &[], &[])?;
     lowered(alloc, &context, e, 0)

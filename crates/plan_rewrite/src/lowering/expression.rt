@@ -1,15 +1,11 @@
 //! Lowering of one field of a typed expression to a body.
 
-ghost use Rattle.std.specs.Prelude.{◌≡◌, ◌++◌, ℕ, ℤ, List, IfOk, length, slice_get};
-ghost use Rattle.arr_core.specs.declared.signature.Signature.{Signature};
-ghost use Rattle.wcps_types.specs.Typed.{field_tree, only_tree};
-ghost use Rattle.wcps_types.specs.WellTyped.{IsTyped};
-ghost use Rattle.wcps_mean.specs.declared.cell.Outcome.{Outcome};
-ghost use Rattle.wcps_mean.specs.Meaning.{val};
-ghost use Rattle.plan_ir.specs.Bodies.{body_view, bind, fold, read, always};
-ghost use Rattle.plan_ir.specs.Run.{run};
-ghost use Rattle.plan_ir.specs.Placed.{spans, IsPlaced};
-ghost use Rattle.plan_rewrite.specs.Lowering.{setting_of, at_scalar, at_iterators, at_slice, at_box, at_points, outermost, lowered};
+ghost use Rattle.std.specs.Prelude.{◌≡◌, IfOk};
+ghost use Rattle.wcps_types.specs.Typed.{field_tree};
+ghost use Rattle.plan_ir.specs.Bodies.{body_view, fold, always};
+ghost use Rattle.plan_rewrite.specs.Lowering.{outermost, lowered, field_at, scalar_at};
+ghost use Rattle.plan_rewrite.specs.Lowered.{IsBodyFor};
+ghost use Rattle.plan_rewrite.specs.Views.{tree_in, bind_over};
 
 use crate::lowering::context::Context;
 use crate::nodes::{
@@ -33,8 +29,7 @@ pub fn lower_expression(
     e: &Node,
     field: usize,
 ) -> Result<Body, AllocError>
-    ensures value { IfOk result (λ b. (s : ℕ → ℕ → List ℤ → ℤ) (regs : List Outcome) (env p : List ℤ) → length env ≡ length iterators.now → length p ≡ length axes.now → run s regs (body_view b) (env ++ p) ≡ val s (field_tree e.now field) env p) }
-    ensures placed { IfOk result (λ b. (cs : List Signature) (regs : ℕ) → IsTyped cs (field_tree e.now field) iterators.now axes.now → IsPlaced (slice_get cs) regs (spans iterators.now ++ spans axes.now) (body_view b)) }
+    ensures { IfOk result (λ b. IsBodyFor iterators.now axes.now (field_tree e.now field) (body_view b)) }
 {
     let b = lowered_outermost(alloc, iterators, axes, e, field)?;
     Ok(b)
@@ -63,7 +58,7 @@ pub fn lowered(
     e: &Node,
     field: usize,
 ) -> Result<Box<Body>, AllocError>
-    ensures { IfOk result (λ b. body_view b.value ≡ lowered (setting_of context.now) (field_tree e.now field)) }
+    ensures { IfOk result (λ b. tree_in b ≡ field_at context.now e.now field) }
 {
     match e {
         Node::Number(z) => boxed(alloc, Body::Lit(*z)),
@@ -131,7 +126,7 @@ pub fn lowered_scalar(
     e: &Node,
     field: usize,
 ) -> Result<Box<Body>, AllocError>
-    ensures { IfOk result (λ b. body_view b.value ≡ lowered (at_scalar (setting_of context.now)) (field_tree e.now field)) }
+    ensures { IfOk result (λ b. tree_in b ≡ scalar_at context.now e.now field) }
 {
     let inner = context.scalar(alloc)?;
     lowered(alloc, &inner, e, field)
@@ -146,7 +141,7 @@ fn lowered_bind(
     interval: Interval,
     body: Box<Body>,
 ) -> Result<Box<Body>, AllocError>
-    ensures { IfOk result (λ b. body_view b.value ≡ bind (lowered (at_scalar (setting_of context.now)) (field_tree position.now 0)) interval.lo interval.hi (body_view body.value)) }
+    ensures { IfOk result (λ b. tree_in b ≡ bind_over (scalar_at context.now position.now 0) interval (tree_in body)) }
 {
     let p = lowered_scalar(alloc, context, position, 0)?;
     bind_body(alloc, p, interval, body)
@@ -161,7 +156,7 @@ fn lowered_fold(
     domain: &Domain,
     body: &Node,
 ) -> Result<Box<Body>, AllocError>
-    ensures { IfOk result (λ b. body_view b.value ≡ fold op domain.now always (lowered (setting_of inner.now) (field_tree body.now 0))) }
+    ensures { IfOk result (λ b. tree_in b ≡ fold op domain.now always (field_at inner.now body.now 0)) }
 {
     let body = lowered(alloc, inner, body, 0)?;
     let f = plain_fold(alloc, op, domain, body)?;
@@ -178,7 +173,7 @@ fn lowered_choice(
     body: &Node,
     condition: Box<Body>,
 ) -> Result<Box<Body>, AllocError>
-    ensures { IfOk result (λ b. body_view b.value ≡ fold op domain.now (body_view condition.value) (lowered (setting_of inner.now) (field_tree body.now 0))) }
+    ensures { IfOk result (λ b. tree_in b ≡ fold op domain.now (tree_in condition) (field_at inner.now body.now 0)) }
 {
     let body = lowered(alloc, inner, body, 0)?;
     let f = conditional_fold(alloc, op, domain, condition, body)?;

@@ -1,10 +1,10 @@
 //! Lowering of items.
 
-ghost use Rattle.std.specs.Prelude.{◌≡◌, ◌++◌, IfOk, OnOk, map};
-ghost use Rattle.plan_ir.specs.Plans.{bind_view, field_view, item_view};
-ghost use Rattle.wcps_types.specs.Typed.{fields_view};
+ghost use Rattle.std.specs.Prelude.{◌≡◌, IfOk, OnOk, map};
+ghost use Rattle.plan_ir.specs.Plans.{bind_view, item_view};
 ghost use Rattle.plan_rewrite.specs.Lowering.{setting_of};
-ghost use Rattle.plan_rewrite.specs.LoweredItems.{chain_of, chain_binds, chain_fields, lowered_field, item_binds, lowered_item};
+ghost use Rattle.plan_rewrite.specs.LoweredItems.{shared_binds, shared_fields, lowered_fields, item_binds, lowered_item};
+ghost use Rattle.plan_rewrite.specs.Views.{fields_in, GainsBinds};
 
 use crate::lowering::context::Context;
 use crate::lowering::expression::{lowered, lowered_scalar};
@@ -51,8 +51,8 @@ fn shared_fields(
     booleans: &[bool],
     binds: &mut Vec<Bind>,
 ) -> Result<Vec<Field>, AllocError>
-    ensures binds { OnOk result (map bind_view binds.new.items ≡ map bind_view binds.old.items ++ chain_binds (setting_of context.now) (chain_of node.now)) }
-    ensures fields { IfOk result (λ v. map field_view v.items ≡ chain_fields (setting_of context.now) (chain_of node.now) booleans.now) }
+    ensures binds { OnOk result (GainsBinds binds.old binds.new (shared_binds context.now node.now)) }
+    ensures fields { IfOk result (λ v. fields_in v ≡ shared_fields context.now node.now booleans.now) }
 {
     match node {
         Node::Bracket(e) => shared_fields(alloc, context, e, booleans, binds),
@@ -80,7 +80,7 @@ fn each_field(
     node: &Node,
     booleans: &[bool],
 ) -> Result<Vec<Field>, AllocError>
-    ensures { IfOk result (λ v. map field_view v.items ≡ map (lowered_field (setting_of context.now)) (fields_view node.now 0 booleans.now)) }
+    ensures { IfOk result (λ v. fields_in v ≡ lowered_fields (setting_of context.now) node.now booleans.now) }
 {
     let mut list = Vec::new(alloc);
     for place in 0..booleans.len() {

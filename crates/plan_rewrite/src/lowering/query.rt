@@ -1,15 +1,13 @@
 //! Lowering of queries.
 
-ghost use Rattle.std.specs.Prelude.{◌≡◌, ◌++◌, ◌∷◌, [], ◌+◌, ◌*◌, ◌≤◌, ℕ, ℤ, List, IfOk, OnOk, length, map, option_copied, option_map, slice_get};
+ghost use Rattle.std.specs.Prelude.{◌≡◌, ◌∷◌, [], ◌≤◌, IfOk, OnOk, length, map, option_copied, option_map, slice_get};
 ghost use Rattle.wcps_types.specs.TypedQueries.{query_view, trees_in};
-ghost use Rattle.wcps_types.specs.Work.{query_work};
-ghost use Rattle.wcps_mean.specs.Answer.{answer};
-ghost use Rattle.plan_ir.specs.Plans.{Choice, steps_view, choice_view, plan_view};
-ghost use Rattle.plan_ir.specs.Planned.{planned};
+ghost use Rattle.plan_ir.specs.Plans.{steps_view, choice_view, plan_view};
 ghost use Rattle.plan_ir.specs.Placed.{IsPlan};
-ghost use Rattle.plan_ir.specs.Units.{units};
-ghost use Rattle.plan_rewrite.specs.FoldPoints.{fold_points};
-ghost use Rattle.plan_rewrite.specs.LoweredPlans.{IsLowered, AreLowered, lowered_choices};
+ghost use Rattle.plan_rewrite.specs.FoldPoints.{unit_bound};
+ghost use Rattle.plan_rewrite.specs.LoweredPlans.{IsLowered, AreLowered, choice_of, lowered_choices};
+ghost use Rattle.plan_rewrite.specs.Lowered.{Answers, work_bound};
+ghost use Rattle.plan_rewrite.specs.Views.{Gains};
 
 use crate::lowering::choice::lowered_steps;
 use arr_core::Signature;
@@ -21,9 +19,9 @@ use wcps_types::{Combination, TypedQuery, tree_at};
 /// once for each tree, and combinations that share a tree share them. `rewrite` makes it a plan of at most as many units as
 /// the number of combinations times two more than the work.
 pub fn lower(alloc: Global, query: &TypedQuery) -> Result<Plan, AllocError>
-    ensures planned { IfOk result (λ p. (s : ℕ → ℕ → List ℤ → ℤ) → planned s (plan_view p) ≡ answer s (query_view query.now)) }
+    ensures planned { IfOk result (λ p. Answers (query_view query.now) (plan_view p)) }
     ensures placed { IfOk result (λ p. IsPlan (plan_view p)) }
-    ensures units { IfOk result (λ p. units (plan_view p) + fold_points (plan_view p) ≤ length (query_view query.now).combinations * (2 + query_work (query_view query.now).combinations)) }
+    ensures units { IfOk result (λ p. unit_bound (plan_view p) ≤ work_bound (query_view query.now).combinations) }
     ensures coverages { IfOk result (λ p. p.coverages.items ≡ (query_view query.now).coverages) }
     ensures shared { IfOk result (λ p. length p.steps.items ≡ length (trees_in query.now)) }
 {
@@ -43,23 +41,9 @@ fn copies(alloc: Global, all: &[Signature]) -> Result<Vec<Signature>, AllocError
 {
     let mut list = Vec::new(alloc);
     for signature in all {
-        list.push(copy(alloc, signature)?)?;
+        list.push(signature.copy(alloc)?)?;
     }
     Ok(list)
-}
-
-/// A copy of a signature.
-fn copy(alloc: Global, signature: &Signature) -> Result<Signature, AllocError>
-    ensures { IfOk result (λ s. s ≡ signature.now) }
-{
-    let name = signature.name.copy(alloc)?;
-    let domain = signature.domain.copy(alloc)?;
-    let fields = signature.fields.copy(alloc)?;
-    Ok(Signature {
-        name,
-        domain,
-        fields,
-    })
 }
 
 /// The steps of the tree at a place.
@@ -99,7 +83,7 @@ fn push_choices(
     all: &[Combination],
     list: &mut Vec<Choice>,
 ) -> Result<(), AllocError>
-    ensures { OnOk result (map choice_view list.new.items ≡ map choice_view list.old.items ++ lowered_choices steps.now all.now) }
+    ensures { OnOk result (Gains choice_view list.old list.new (lowered_choices steps.now all.now)) }
 {
     match all {
         [] => Ok(()),
@@ -125,7 +109,7 @@ fn push_choice(
     combination: &Combination,
     list: &mut Vec<Choice>,
 ) -> Result<(), AllocError>
-    ensures { OnOk result (map choice_view list.new.items ≡ map choice_view list.old.items ++ record { steps = combination.now.tree; coverages = combination.now.coverages.items } ∷ []) }
+    ensures { OnOk result (Gains choice_view list.old list.new (choice_of combination.now ∷ [])) }
 {
     let coverages = combination.coverages.to_vec(alloc)?;
     list.push(Choice {

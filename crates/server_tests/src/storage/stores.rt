@@ -28,6 +28,13 @@ struct Target {
     field: usize,
 }
 
+/// What is asked of a field: a verb, and its words.
+#[derive(Clone, Copy)]
+struct FieldCall<'a> {
+    verb: &'a str,
+    words: &'a str,
+}
+
 /// Whether a store has a field.
 fn has_field(store: &Store, target: &Target) -> bool
     ensures { IsTrue result → HasField target.now.name target.now.field store.now.coverages }
@@ -244,18 +251,18 @@ fn read_tiles(alloc: Global, answer: &mut Answer, store: &mut Store, target: &Ta
     read_into(alloc, answer, store, target, number(second), &mut cells);
 }
 
-/// A call on a field.
+/// A call on a field of a store whose catalogue has so many bytes.
 fn on_field(
     alloc: Global,
     answer: &mut Answer,
     store: &mut Store,
     bytes: u64,
     target: &Target,
-    verb: &str,
-    words: &str,
+    call: FieldCall<'_>,
 ) -> Result<()>
     requires { HasField target.now.name target.now.field store.old.coverages }
 {
+    let FieldCall { verb, words } = call;
     match verb {
         "update" => update(alloc, answer, store, bytes, target, words)?,
         "fill" => fill(alloc, answer, store, bytes, target, words)?,
@@ -286,7 +293,14 @@ fn of_field(
     if !has_field(store, &target) {
         bail!("no field");
     }
-    on_field(alloc, answer, store, bytes, &target, verb, rest)
+    on_field(
+        alloc,
+        answer,
+        store,
+        bytes,
+        &target,
+        FieldCall { verb, words: rest },
+    )
 }
 
 /// Adds a coverage.
@@ -357,19 +371,17 @@ fn release(answer: &mut Answer, store: &mut Store, job: u64) {
 }
 
 /// Whether there is a tile, by its number, of a field of the coverage with a name that a number reads.
-fn is_readable(store: &Store, job: u64, target: &Target, tile: u64) -> bool
+fn is_readable(store: &Store, job: u64, name: &Name, field: usize, tile: u64) -> bool
     ensures field { IsTrue result
-        → IsSomeAnd (held_view job store.now) (λ v. HasField target.now.name target.now.field v.coverages) }
+        → IsSomeAnd (held_view job store.now) (λ v. HasField name.now field v.coverages) }
     ensures tile { IsTrue result
-        → IsSomeAnd (held_view job store.now) (λ v. HasTileNumber target.now.name tile v.coverages) }
+        → IsSomeAnd (held_view job store.now) (λ v. HasTileNumber name.now tile v.coverages) }
 {
     if job != 0 && !store.holds(job) {
         return false;
     }
-    match store.signature_at(job, &target.name) {
-        Some(signature) => {
-            target.field < signature.fields.len() && tile < signature.domain.tiles()
-        }
+    match store.signature_at(job, name) {
+        Some(signature) => field < signature.fields.len() && tile < signature.domain.tiles(),
         None => false,
     }
 }
@@ -382,12 +394,11 @@ fn read_held(alloc: Global, answer: &mut Answer, store: &mut Store, words: &str)
     let (job, tile) = (number(job), number(tile));
     let name = Name::new(alloc, name)?;
     let field = number(field) as usize;
-    let target = Target { name, field };
-    if !is_readable(store, job, &target, tile) {
+    if !is_readable(store, job, &name, field, tile) {
         bail!("no tile");
     }
     let mut cells = Vec::new(alloc);
-    let outcome = store.fetch_tile_at(job, &target.name, target.field, tile, &mut cells);
+    let outcome = store.fetch_tile_at(job, &name, field, tile, &mut cells);
     say_cells(alloc, answer, outcome, &cells);
     Ok(())
 }

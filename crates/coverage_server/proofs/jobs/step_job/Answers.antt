@@ -4,6 +4,7 @@ use Rattle.std.specs.Prelude.{string_bytes, codes, decimal, ℕ}
 use Rattle.job_desk.specs.Desks.{job_of}
 use Rattle.job_desk.specs.Steps.{Ends}
 use Rattle.coverage_server.specs.Holding.{ReleasesFor}
+use Rattle.coverage_server.specs.Tiles.{asked_state}
 use Rattle.coverage_server.specs.Views.{ServerView, still_of}
 use Rattle.coverage_server.proofs.FaultLemmas.{any_err}
 use Rattle.coverage_server.proofs.FetchingLemmas.{refused_units, units_fetched, unless_any}
@@ -46,76 +47,88 @@ pub returns-in-Ok-clause-answered : goal.returns-in-Ok-clause-answered
 returns-in-Ok-clause-answered g c =
     let x = c.in-Ok.ensures.source in
     let w = c.step.new.source.coverages in
-    let ends : Ends (Ok c.in-Ok.field-0) (w ≡ x.0.coverages) (ReleasesFor c.args.number x.0.coverages w) = ends_as (Ok c.in-Ok.field-0) (λ e. rw e refl) (λ r. r) x.3 in
+    let ends : Ends (Ok c.in-Ok.field-0) (w ≡ x.read.coverages) (ReleasesFor c.args.number x.read.coverages w) = ends_as (Ok c.in-Ok.field-0) (λ e. rw e refl) (λ r. r) x.ends in
     let text : string_bytes c.in_ok-reply.reply ≡ codes "left " ++ decimal (c.in-Some.left - c.args.units) ++ codes "\n" = search rules in
     let done = step_ok c.args.cells.now.coverages c.ask.new.self.coverages c.args.desk.now c.step.new.self c.args.number c.args.units c.in-Some.left c.in-Some-coverages.coverages.now c.ask.new.self.places.items
     c.ask.new.self.job c.in_ok-ask.ensures.coverages c.in_ok-ask.ensures.job c.in_ok-ask.ensures.read c.in-Some-coverages.ensures.desk c.requires.holding c.in-Some.ensures c.in-Some-coverages.ensures.coverages c.if-left-eq0.false
-    x.0.coverages (ap (λ (k : ServerView × ℕ × List ℕ). k.0) x.1.same.kept) w c.in-Ok.field-0 c.in-Ok.ensures.stepped ends x.2 in
+    x.read.coverages (ap (λ (k : ServerView × ℕ × List ℕ). k.0) x.reads.kept) w c.in-Ok.field-0 c.in-Ok.ensures.stepped ends x.reports in
     done.moves c.in_ok-reply.reply text
 
 pub returns-in-Ok-clause-holding : goal.returns-in-Ok-clause-holding
 returns-in-Ok-clause-holding g c =
     let x = c.in-Ok.ensures.source in
     let w = c.step.new.source.coverages in
-    let ends : Ends (Ok c.in-Ok.field-0) (w ≡ x.0.coverages) (ReleasesFor c.args.number x.0.coverages w) = ends_as (Ok c.in-Ok.field-0) (λ e. rw e refl) (λ r. r) x.3 in
+    let ends : Ends (Ok c.in-Ok.field-0) (w ≡ x.read.coverages) (ReleasesFor c.args.number x.read.coverages w) = ends_as (Ok c.in-Ok.field-0) (λ e. rw e refl) (λ r. r) x.ends in
     (step_ok c.args.cells.now.coverages c.ask.new.self.coverages c.args.desk.now c.step.new.self c.args.number c.args.units c.in-Some.left c.in-Some-coverages.coverages.now c.ask.new.self.places.items
     c.ask.new.self.job c.in_ok-ask.ensures.coverages c.in_ok-ask.ensures.job c.in_ok-ask.ensures.read c.in-Some-coverages.ensures.desk c.requires.holding c.in-Some.ensures c.in-Some-coverages.ensures.coverages c.if-left-eq0.false
-    x.0.coverages (ap (λ (k : ServerView × ℕ × List ℕ). k.0) x.1.same.kept) w c.in-Ok.field-0 c.in-Ok.ensures.stepped ends x.2).holding
+    x.read.coverages (ap (λ (k : ServerView × ℕ × List ℕ). k.0) x.reads.kept) w c.in-Ok.field-0 c.in-Ok.ensures.stepped ends x.reports).holding
 
 pub returns-in-Err-clause-answered : goal.returns-in-Err-clause-answered
 returns-in-Err-clause-answered g c =
     let x = c.in-Err.ensures.source in
-    let w : c.step.new.source.coverages ≡ x.0.coverages = rw x.3 refl in
+    let w : c.step.new.source.coverages ≡ x.read.coverages = rw x.ends refl in
     (step_err c.args.cells.now.coverages c.ask.new.self.coverages c.args.desk.now c.step.new.self c.args.number c.args.units c.in-Some.left c.in-Some-coverages.coverages.now c.ask.new.self.places.items
     c.ask.new.self.job c.in_ok-ask.ensures.coverages c.in_ok-ask.ensures.job c.in_ok-ask.ensures.read c.in-Some-coverages.ensures.desk c.requires.holding c.in-Some.ensures c.in-Some-coverages.ensures.coverages c.if-left-eq0.false
-    x.0.coverages (ap (λ (k : ServerView × ℕ × List ℕ). k.0) x.1.same.kept) c.step.new.source.coverages c.in-Err.error c.step_refusal.result w c.step_refusal.ensures c.in-Err.ensures.refused x.2).0
+    x.read.coverages (ap (λ (k : ServerView × ℕ × List ℕ). k.0) x.reads.kept) c.step.new.source.coverages c.in-Err.error c.step_refusal.result w c.step_refusal.ensures c.in-Err.ensures.refused (asked_state x.read.job x.read.places.items x.read.coverages) refl x.reports).0
 
 pub returns-in-Err-clause-holding : goal.returns-in-Err-clause-holding
 returns-in-Err-clause-holding g c =
     let x = c.in-Err.ensures.source in
-    let w : c.step.new.source.coverages ≡ x.0.coverages = rw x.3 refl in
+    let w : c.step.new.source.coverages ≡ x.read.coverages = rw x.ends refl in
     (step_err c.args.cells.now.coverages c.ask.new.self.coverages c.args.desk.now c.step.new.self c.args.number c.args.units c.in-Some.left c.in-Some-coverages.coverages.now c.ask.new.self.places.items
     c.ask.new.self.job c.in_ok-ask.ensures.coverages c.in_ok-ask.ensures.job c.in_ok-ask.ensures.read c.in-Some-coverages.ensures.desk c.requires.holding c.in-Some.ensures c.in-Some-coverages.ensures.coverages c.if-left-eq0.false
-    x.0.coverages (ap (λ (k : ServerView × ℕ × List ℕ). k.0) x.1.same.kept) c.step.new.source.coverages c.in-Err.error c.step_refusal.result w c.step_refusal.ensures c.in-Err.ensures.refused x.2).1
+    x.read.coverages (ap (λ (k : ServerView × ℕ × List ℕ). k.0) x.reads.kept) c.step.new.source.coverages c.in-Err.error c.step_refusal.result w c.step_refusal.ensures c.in-Err.ensures.refused (asked_state x.read.job x.read.places.items x.read.coverages) refl x.reports).1
 
 pub returns-in-Err-clause-jobs : goal.returns-in-Err-clause-jobs
 returns-in-Err-clause-jobs g c =
+    step_leaves _ c.args.number c.args.units c.args.desk.now c.step.new.self c.in-Err.error c.in-Err.ensures.refused
+
+pub returns-in-Err-clause-fetches : goal.returns-in-Err-clause-fetches
+returns-in-Err-clause-fetches g c =
     let x = c.in-Err.ensures.source in
     let v = c.args.cells.now.coverages in
     let w = c.step.new.source.coverages in
-    let as_was : w ≡ x.0.coverages = rw x.3 refl in (
-      step_leaves _ _ c.args.number c.args.units c.args.desk.now c.step.new.self c.in-Err.error c.in-Err.ensures.refused,
-      refused_units c.args.number c.args.desk.now c.step.new.self c.ask.new.self.coverages v x.0.coverages w
-          c.in_ok-ask.ensures.coverages c.in-Err.error c.step_refusal.result as_was c.step_refusal.ensures x.4,
-    )
+    let as_was : w ≡ x.read.coverages = rw x.ends refl in
+    refused_units c.args.number c.args.desk.now c.step.new.self c.ask.new.self.coverages v x.read.coverages w c.ask.new.self.job x.read.job c.ask.new.self.places.items x.read.places.items
+    c.in_ok-ask.ensures.coverages c.in-Err.error c.step_refusal.result as_was c.step_refusal.ensures x.fetched
 
-pub returns-in-Ok-clause-jobs : goal.returns-in-Ok-clause-jobs
-returns-in-Ok-clause-jobs g c =
+pub returns-in-Ok-clause-fetches : goal.returns-in-Ok-clause-fetches
+returns-in-Ok-clause-fetches g c =
     let x = c.in-Ok.ensures.source in
     let v = c.args.cells.now.coverages in
     let w = c.step.new.source.coverages in
-    let ends : Ends (Ok c.in-Ok.field-0) (w ≡ x.0.coverages) (ReleasesFor c.args.number x.0.coverages w) = ends_as
-    (Ok c.in-Ok.field-0) (λ e. rw e refl) (λ r. r) x.3 in (
-      tt,
-      inr (units_fetched c.args.number c.args.desk.now c.step.new.self c.ask.new.self.coverages v x.0.coverages w
-          c.in_ok-ask.ensures.coverages c.in-Ok.field-0 ends x.4),
-    )
+    let ends : Ends (Ok c.in-Ok.field-0) (w ≡ x.read.coverages) (ReleasesFor c.args.number x.read.coverages w) = ends_as
+    (Ok c.in-Ok.field-0) (λ e. rw e refl) (λ r. r) x.ends in
+    inr (units_fetched c.args.number c.args.desk.now c.step.new.self c.ask.new.self.coverages v x.read.coverages w c.ask.new.self.job x.read.job c.ask.new.self.places.items x.read.places.items
+    c.in_ok-ask.ensures.coverages c.in-Ok.field-0 ends x.fetched)
 
-pub returns-then-left-eq0-clause-jobs : goal.returns-then-left-eq0-clause-jobs
-returns-then-left-eq0-clause-jobs g c = (tt, inl refl)
+pub returns-then-left-eq0-clause-fetches : goal.returns-then-left-eq0-clause-fetches
+returns-then-left-eq0-clause-fetches g c = inl refl
 
 pub returns-in_default-clause-jobs : goal.returns-in_default-clause-jobs
-returns-in_default-clause-jobs g c = (inl refl, inr (inl refl))
+returns-in_default-clause-jobs g c = inl refl
+
+pub returns-in_default-clause-fetches : goal.returns-in_default-clause-fetches
+returns-in_default-clause-fetches g c = inr (inl refl)
 
 pub returns-in_default-coverages-clause-jobs : goal.returns-in_default-coverages-clause-jobs
-returns-in_default-coverages-clause-jobs g c = (inl refl, inr (inl refl))
+returns-in_default-coverages-clause-jobs g c = inl refl
+
+pub returns-in_default-coverages-clause-fetches : goal.returns-in_default-coverages-clause-fetches
+returns-in_default-coverages-clause-fetches g c = inr (inl refl)
 
 pub returns-in_err-reply-clause-jobs : goal.returns-in_err-reply-clause-jobs
-returns-in_err-reply-clause-jobs g c = (any_err _ _ (inl refl), unless_any _ _ (inl refl))
+returns-in_err-reply-clause-jobs g c = any_err _ _ (inl refl)
+
+pub returns-in_err-reply-clause-fetches : goal.returns-in_err-reply-clause-fetches
+returns-in_err-reply-clause-fetches g c = unless_any _ _ (inl refl)
 
 pub returns-in_err-ask-clause-jobs : goal.returns-in_err-ask-clause-jobs
-returns-in_err-ask-clause-jobs g c =
-    (any_err _ _ (inl refl), unless_any _ _ (inl (ap (λ (v : ServerView). v.fetched) c.ask.ensures.coverages)))
+returns-in_err-ask-clause-jobs g c = any_err _ _ (inl refl)
+
+pub returns-in_err-ask-clause-fetches : goal.returns-in_err-ask-clause-fetches
+returns-in_err-ask-clause-fetches g c =
+    unless_any _ _ (inl (ap (λ (v : ServerView). v.fetched) c.ask.ensures.coverages))
 
 pub returns-then-left-eq0-clause-lays : goal.returns-then-left-eq0-clause-lays
 returns-then-left-eq0-clause-lays g c = inl refl
@@ -125,8 +138,8 @@ returns-in-Ok-clause-lays g c =
     let x = c.in-Ok.ensures.source in
     let v = c.args.cells.now.coverages in
     let w = c.step.new.source.coverages in
-    let ends : Ends (Ok c.in-Ok.field-0) (w ≡ x.0.coverages) (ReleasesFor c.args.number x.0.coverages w) = ends_as
-    (Ok c.in-Ok.field-0) (λ e. rw e refl) (λ r. r) x.3 in
-    let still : still_of x.0.coverages ≡ still_of v = ap (λ (k : ServerView × ℕ × List ℕ). k.0) x.1.same.kept ∙ ap
+    let ends : Ends (Ok c.in-Ok.field-0) (w ≡ x.read.coverages) (ReleasesFor c.args.number x.read.coverages w) = ends_as
+    (Ok c.in-Ok.field-0) (λ e. rw e refl) (λ r. r) x.ends in
+    let still : still_of x.read.coverages ≡ still_of v = ap (λ (k : ServerView × ℕ × List ℕ). k.0) x.reads.kept ∙ ap
     still_of c.in_ok-ask.ensures.coverages in
-    ends_lay c.args.number c.in-Ok.field-0 v x.0.coverages w still ends
+    ends_lay c.args.number c.in-Ok.field-0 v x.read.coverages w still ends

@@ -1,8 +1,7 @@
 -- A text that is typed becomes a job.
-use Rattle.std.proofs.Common.{ℕ, List}
-use Rattle.wcps_types.specs.TypedQueries.{query_view as typed_view}
-use Rattle.coverage_server.specs.Layouts.{LaysHeld, layout_of}
-use Rattle.coverage_server.specs.Stages.{IsTypedText}
+use Rattle.wcps_types.specs.TypedQueries.{query_view as tree_of}
+use Rattle.coverage_server.specs.Answered.{LaysTree}
+use Rattle.coverage_server.specs.Layouts.{LaysQuery}
 use Rattle.coverage_server.proofs.FaultLemmas.{on_ok}
 use Rattle.coverage_server.proofs.jobs.submit_query.Goals as goal
 
@@ -13,8 +12,6 @@ pub returns-clause-lays : goal.returns-clause-lays
 returns-clause-lays g c =
     let v = c.args.cells.now.coverages in
     let w = c.submit_typed.new.cells.coverages in
-    on_ok c.submit_typed.result
-    ((text : List ℕ) → IsTypedText v.store text (typed_view c.in_ok-typed.typed)
-    → LaysHeld text v.store c.args.desk.now.next (layout_of v) (layout_of w))
-    (LaysHeld c.args.text.now v.store c.args.desk.now.next (layout_of v) (layout_of w))
+    on_ok c.submit_typed.result (LaysTree (tree_of c.in_ok-typed.typed) v c.args.desk.now.next w)
+    (LaysQuery c.args.text.now v c.args.desk.now.next w)
     (λ lays. lays c.args.text.now c.in_ok-typed.ensures) c.submit_typed.ensures.lays

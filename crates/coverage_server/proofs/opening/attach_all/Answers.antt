@@ -57,14 +57,7 @@ returns-in-Err-clause-refused g c =
     attach_departs _ c.in-Err.fault c.attach_fault.result (λ e tiles. c.in-Err.ensures.why.for_damage (ap Err e)
     (next_tiles _ _ _ _ _ _ _ _ _ _ c.loop-fields.invariant.0 c.requires.counted split (rw c.in_ok-signatures.ensures at c.index.ensures) tiles)) c.attach_fault.ensures
 
-pub returns-clause-coverages : goal.returns-clause-coverages
-returns-clause-coverages g c =
-    (all_attached _ _ _ _ _ _ _ _ c.loop-fields.invariant.0 c.requires.counted (ap items_of c.loop-fields.invariant.2) (none_left _ (omega (arith, c.in-None.ensures.steps.0, c.loop-fields.fields-iterator.rest.ok)))).0
-
-pub returns-clause-indexes : goal.returns-clause-indexes
-returns-clause-indexes g c =
-    (all_attached _ _ _ _ _ _ _ _ c.loop-fields.invariant.0 c.requires.counted (ap items_of c.loop-fields.invariant.2) (none_left _ (omega (arith, c.in-None.ensures.steps.0, c.loop-fields.fields-iterator.rest.ok)))).1
-
-pub returns-clause-tiles : goal.returns-clause-tiles
-returns-clause-tiles g c =
-    (all_attached _ _ _ _ _ _ _ _ c.loop-fields.invariant.0 c.requires.counted (ap items_of c.loop-fields.invariant.2) (none_left _ (omega (arith, c.in-None.ensures.steps.0, c.loop-fields.fields-iterator.rest.ok)))).2
+pub returns-clause-attached : goal.returns-clause-attached
+returns-clause-attached g c =
+    let all = all_attached _ _ _ _ _ _ _ _ c.loop-fields.invariant.0 c.requires.counted (ap items_of c.loop-fields.invariant.2) (none_left _ (omega (arith, c.in-None.ensures.steps.0, c.loop-fields.fields-iterator.rest.ok))) in
+    record { coverages = all.0; indexes = all.1; tiles = all.2 }

@@ -22,7 +22,7 @@ attach_all-requires-clause-blocks g c before new after split =
 pub new-requires : goal.new-requires
 new-requires g c =
     layout_ready _ _ _ _ _ c.in-Ok.layout.catalogue (items_of c.in-Ok.layout.indexes.items) c.attach_all.new.cells c.requires.fresh c.in-Ok.ensures.claims
-    c.in-Ok-attach_all.ensures.coverages c.in-Ok-attach_all.ensures.indexes c.attach_all.ensures.unheld
+    c.in-Ok-attach_all.ensures.attached.coverages c.in-Ok-attach_all.ensures.attached.indexes c.attach_all.ensures.unheld
     (ap (λ (b : BlockFileView). b.marks) (c.attach_all.ensures.blocks ∙ c.new-cells.ensures.blocks ∙ c.new-pool.ensures))
 
 pub returns-in-Ok-attach_all-clause-lists : goal.returns-in-Ok-attach_all-clause-lists
@@ -30,9 +30,9 @@ returns-in-Ok-attach_all-clause-lists g c honest =
     let opened = c.requires.opened honest in
     let content = ap (λ (b : BlockFileView). b.content) (c.new-cells.ensures.blocks ∙ c.new-pool.ensures) ∙ c.in-Ok.ensures.content in
     lists_all _ _ _ _ _ c.in-Ok.layout.catalogue (items_of c.in-Ok.layout.indexes.items) _ _ (c.requires.version honest) opened (rw c.deref.ensures.value at c.in-Ok.ensures.claims.listed) c.in-Ok.ensures.claims.claims
-    c.in-Ok-attach_all.ensures.tiles
-    (c.new.ensures.store ∙ c.in-Ok-attach_all.ensures.coverages ∙ ap (λ (l : List ℕ). coverages_in l c.in-Ok.layout.catalogue (items_of c.in-Ok.layout.indexes.items)) content)
-    (c.new.ensures.indexes ∙ c.in-Ok-attach_all.ensures.indexes)
+    c.in-Ok-attach_all.ensures.attached.tiles
+    (c.new.ensures.store ∙ c.in-Ok-attach_all.ensures.attached.coverages ∙ ap (λ (l : List ℕ). coverages_in l c.in-Ok.layout.catalogue (items_of c.in-Ok.layout.indexes.items)) content)
+    (c.new.ensures.indexes ∙ c.in-Ok-attach_all.ensures.attached.indexes)
 
 pub returns-clause-refused : goal.returns-clause-refused
 returns-clause-refused g c =

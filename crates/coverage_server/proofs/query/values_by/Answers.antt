@@ -1,11 +1,19 @@
 -- A tile that is not read is one of the coverages that the query lists.
-use Rattle.std.proofs.Common.{ℕ, ◌+◌, ◌≤◌, ◌∙◌, ap, inl, inr, refl, subst}
+use Rattle.std.proofs.Common.{ℕ, ◌+◌, ◌≤◌, ◌∙◌, Err, ap, inl, inr, refl, sym, subst}
 use Rattle.std.proofs.lemmas.Result.{err_from_is_err_and}
-use Rattle.tile_exec.specs.Standing.{plan_of as plan_in}
+use Rattle.arr_core.specs.Stores.{Store}
+use Rattle.job_desk.specs.Desks.{IsAnswer}
+use Rattle.plan_ir.specs.Planned.{planned}
+use Rattle.tile_exec.specs.Standing.{StandsFor, plan_of as plan_in}
+use Rattle.wcps_types.specs.TypedQueries.{query_view as typed_view}
+use Rattle.coverage_server.specs.Asking.{cells_of}
 use Rattle.coverage_server.specs.Fetching.{most_of_plan}
+use Rattle.coverage_server.specs.Tiles.{cells_at, store_for}
 use Rattle.coverage_server.specs.Views.{ServerView}
 use Rattle.coverage_server.proofs.FetchingLemmas.{cells_fail, plan_bounded}
-use Rattle.coverage_server.proofs.ValueLemmas.{reading_failed}
+use Rattle.coverage_server.proofs.StepLemmas.{asked_cells, asked_honest}
+use Rattle.coverage_server.proofs.TileLemmas.{reads_store}
+use Rattle.coverage_server.proofs.ValueLemmas.{reading_failed, text_given, fault_given}
 use Rattle.coverage_server.proofs.query.values_by.Goals as goal
 
 pub returns-in_err-run_down-clause-faults : goal.returns-in_err-run_down-clause-faults
@@ -39,3 +47,33 @@ returns-in-Refused-clause-fetched g c =
     inr (subst (λ (k : ℕ). after ≤ k + most_of_plan (plan_in c.args.exec.now))
     (ap (λ (v : ServerView). v.fetched) c.in_ok-ask.ensures.coverages)
     (plan_bounded c.args.exec.now c.run_down.new.exec _ _ c.requires.begun.boxes c.in_ok-run_down.ensures.fetched))
+
+pub returns-in-Text-clause-values : goal.returns-in-Text-clause-values
+returns-in-Text-clause-values g c = λ sure.
+    let v = c.args.cells.now.coverages in
+    let s = c.ask.new.self in
+    let asked = c.coverages.result.now in
+    let is = c.in_ok-ask.ensures in
+    let run = c.in_ok-run_down.ensures.run in
+    let exec = c.run_down.new.exec in
+    let begun = c.requires.begun.stands (cells_at (store_for s.job s.coverages) s.places.items) in
+    let stands = run.stands (asked_honest v s.coverages 0 s.job asked s.places.items is.coverages is.job is.read sure) begun in
+    let cells = asked_cells v s.coverages 0 s.job asked s.places.items is.coverages is.job is.read ∙ ap (λ (store : Store). cells_of store asked) (reads_store v c.requires.unheld) in
+    let answer = c.in_ok-text.ensures (cells_of v.store asked) (subst (λ f. StandsFor f exec) cells stands) in
+    text_given v.store (typed_view c.args.typed.now) (plan_in c.args.exec.now) (plan_in exec) c.requires.plan run.plan asked c.coverages.ensures c.in-Text.text
+    (subst (IsAnswer (planned (cells_of v.store asked) (plan_in exec))) c.in-Text.is answer)
+
+pub returns-in-Refused-clause-values : goal.returns-in-Refused-clause-values
+returns-in-Refused-clause-values g c = λ sure.
+    let v = c.args.cells.now.coverages in
+    let s = c.ask.new.self in
+    let asked = c.coverages.result.now in
+    let is = c.in_ok-ask.ensures in
+    let run = c.in_ok-run_down.ensures.run in
+    let exec = c.run_down.new.exec in
+    let begun = c.requires.begun.stands (cells_at (store_for s.job s.coverages) s.places.items) in
+    let stands = run.stands (asked_honest v s.coverages 0 s.job asked s.places.items is.coverages is.job is.read sure) begun in
+    let cells = asked_cells v s.coverages 0 s.job asked s.places.items is.coverages is.job is.read ∙ ap (λ (store : Store). cells_of store asked) (reads_store v c.requires.unheld) in
+    let answer = c.in_ok-text.ensures (cells_of v.store asked) (subst (λ f. StandsFor f exec) cells stands) in
+    fault_given v.store (typed_view c.args.typed.now) (plan_in c.args.exec.now) (plan_in exec) c.requires.plan run.plan asked c.coverages.ensures c.in-Refused.fault
+    (subst (IsAnswer (planned (cells_of v.store asked) (plan_in exec))) c.in-Refused.is answer) ∙ ap Err (sym c.number.ensures)

@@ -1,4 +1,4 @@
--- A box of a field that is there is written or refused as the machine has it, and the failures do not fall.
+-- A box of a field that is there is written or refused as the machine has it.
 use Rattle.std.proofs.Common.{◌≡◌, List, refl, ap, ◌∙◌, subst}
 use Rattle.std.proofs.lemmas.Result.{err_from_is_err_and}
 use Rattle.arr_core.specs.declared.domain.Axis.{Axis}
@@ -11,7 +11,6 @@ use Rattle.coverage_server.specs.Writing.{MayWrite, WriteRefused}
 use Rattle.coverage_server.proofs.FreeLemmas.{unchanged, none_changed, same_kept}
 use Rattle.coverage_server.proofs.ListLemmas.{position_within}
 use Rattle.coverage_server.proofs.MachineLemmas.{at_field}
-use Rattle.coverage_server.proofs.FaultLemmas.{never_fewer}
 use Rattle.coverage_server.proofs.UpdateLemmas.{has_field, area_refused, lays_update, write_answered, write_done}
 use Rattle.coverage_server.proofs.server.update.Goals as goal
 
@@ -59,12 +58,6 @@ returns-clause-answered g c =
     write_done v c.write.new.self u.coverage u.field u.intervals.items (content_view u.content) x.0 x.1 k place spelled c.in_ok-reply.reply c.in_ok-reply.ensures.ok
     (subst (λ (a : List Axis). MayWrite u.coverage k a (content_view u.content) v.store) area c.in_ok-write.ensures.done.may)
     (λ honest. subst (λ (a : List Axis). c.write.new.self.store ≡ updated u.coverage k a (numbers_of a (content_view u.content)) v.store) area (c.in_ok-write.ensures.done.written honest))
-
-pub returns-clause-no_fewer : goal.returns-clause-no_fewer
-returns-clause-no_fewer g c = never_fewer _ _ _ c.write.ensures.told
-
-pub returns-in_err-write-clause-no_fewer : goal.returns-in_err-write-clause-no_fewer
-returns-in_err-write-clause-no_fewer g c = never_fewer _ _ _ c.write.ensures.told
 
 pub returns-in_default-clause-unchanged : goal.returns-in_default-clause-unchanged
 returns-in_default-clause-unchanged g c = unchanged c.args.coverages.now c.args.coverages.now refl

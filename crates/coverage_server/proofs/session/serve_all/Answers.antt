@@ -2,6 +2,7 @@
 use Rattle.std.proofs.Common.{◌<◌, ◌∙◌, length, sym, subst, arith}
 use Rattle.std.specs.Prelude.{IsTrue}
 use Rattle.std.proofs.lemmas.List.{length-set}
+use Rattle.coverage_server.proofs.ServingLemmas.{Continues-trans}
 use Rattle.coverage_server.proofs.SessionLemmas.{served-more, rest_kept}
 use Rattle.coverage_server.proofs.session.serve_all.Goals as goal
 
@@ -10,23 +11,21 @@ loop-connection-preserved g c =
     let v = c.loop-connection.invariant in
     let i = c.loop-connection.connection-index in
     let inside : i < length c.loop-connection.connections = omega arith in
-    let first : i < length c.args.connections.now = omega (arith, inside, v.2) in
-    let fewer = c.serve_connection-end.ensures.no_fewer in
-    let so_far = v.6 in (
-      λ sure s r.
-          let before = v.0 sure s r in
-          let after = c.serve_connection-end.ensures.served (subst IsTrue (sym v.5) sure) before.0 before.1 in (
+    let first : i < length c.args.connections.now = omega (arith, inside, v.count) in
+    let fewer = c.serve_connection-end.ensures.continues.no_fewer in
+    let so_far = v.continues.no_fewer in
+    record {
+      served = λ sure s r.
+          let before = v.served sure s r in
+          let after = c.serve_connection-end.ensures.served (subst IsTrue (sym v.continues.honest) sure) before.0 before.1 in (
             after.0,
             after.1,
-            served-more g.R.Source.remaining g.R.Source.failed g.W.Sink.contents g.W.Sink.failed c.args.connections.now c.loop-connection.connections i
+            served-more g.R.Source.view g.W.Sink.view c.args.connections.now c.loop-connection.connections i
                 c.connection-item.result (c.serve_connection-end.new.reader, c.serve_connection-end.new.writer) _ _ _ s
-                before.0 after.0 _ v.2 first v.1 so_far fewer before.2
+                before.0 after.0 _ v.count first v.rest so_far fewer before.2
                 c.serve_connection-end.ensures.told after.2,
-          ),
-      rest_kept c.args.connections.now c.loop-connection.connections i (c.serve_connection-end.new.reader, c.serve_connection-end.new.writer) v.1,
-      length-set c.loop-connection.connections i _ ∙ v.2,
-      λ sound. c.serve_connection-end.ensures.sound (v.3 sound),
-      λ state blocks from bytes was. c.serve_connection-end.ensures.header state blocks from bytes (v.4 state blocks from bytes was),
-      c.serve_connection-end.ensures.honest ∙ v.5,
-      omega (arith, fewer, so_far),
-    )
+          );
+      rest = rest_kept c.args.connections.now c.loop-connection.connections i (c.serve_connection-end.new.reader, c.serve_connection-end.new.writer) v.rest;
+      count = length-set c.loop-connection.connections i _ ∙ v.count;
+      continues = Continues-trans _ _ _ v.continues c.serve_connection-end.ensures.continues;
+    }

@@ -1,5 +1,5 @@
 -- A session is an opening, connections, and a close or what is left without one.
-use Rattle.std.proofs.Common.{◌≡◌, sym, subst}
+use Rattle.std.proofs.Common.{sym, subst}
 use Rattle.std.specs.Prelude.{IsTrue}
 use Rattle.std.proofs.lemmas.List.Elements.{All-weaker}
 use Rattle.arr_core.specs.Stores.{Store}
@@ -12,20 +12,21 @@ use Rattle.coverage_server.proofs.ServingLemmas.{rose-by}
 use Rattle.coverage_server.proofs.SessionLemmas.{all-later, begins, sound_from, unclosed, unclosed_left}
 use Rattle.coverage_server.proofs.session.serve_session.Goals as goal
 
-pub returns-in-Ok-close_with_retry-clause-closed : goal.returns-in-Ok-close_with_retry-clause-closed
-returns-in-Ok-close_with_retry-clause-closed g c =
+pub returns-in-Ok-close_with_retry-clause-ends : goal.returns-in-Ok-close_with_retry-clause-ends
+returns-in-Ok-close_with_retry-clause-ends g c =
     λ honest store indexes lists intact whole.
-    let found = c.in-Ok.ensures.store honest store indexes lists in
+    let from = c.in-Ok.ensures.opened honest in
+    let found = from.lists.only store indexes lists in
     let sure = subst IsTrue (sym c.in-Ok.ensures.honest) honest in
-    let after = subst IsTrue (sym c.serve_all.ensures.honest) sure in
-    let sound = sound_from _ c.in-Ok.server.coverages store indexes found.0 found.1 (c.in-Ok.ensures.sound honest) in
+    let after = subst IsTrue (sym c.serve_all.ensures.continues.honest) sure in
+    let sound = sound_from _ c.in-Ok.server.coverages store indexes found.0 found.1 from.sound in
     let began = begins c.in-Ok.server c.in-Ok.ensures.desk c.in-Ok.ensures.unheld store indexes found.0 found.1 _
-    (c.in-Ok.ensures.spelled honest) intact whole in
+    from.spelled intact whole in
     let run = c.serve_all.ensures.served sure (begun_with store indexes intact) began in
     let served = c.serve_all.new.server.coverages in
     let later = served.indexes in
     let content = g.D.Disk.content c.in-Ok-close_with_retry.disk in
-    let close = c.in-Ok-close_with_retry.ensures in
+    let close = c.in-Ok-close_with_retry.ensures.closed in
     rw (← c.in-Ok.ensures.failures) (
       run.0,
       subst (λ (l : Layout). ListsStore content run.0.state.store l.indexes) (sym run.1.layout)
@@ -37,27 +38,22 @@ returns-in-Ok-close_with_retry-clause-closed g c =
           run.0.intact (run.1.intact after),
       λ spelled. subst (λ (l : Layout). AreIntact content run.0.state.store l.indexes) (sym run.1.layout)
           (subst (λ (s : Store). AreIntact content s later) (sym run.1.state.store)
-          (close.intact (c.serve_all.ensures.sound (sound spelled)))),
-      all-later (rose-by _ _ _ close.closed_no_fewer) _ _ _ run.2,
+          (close.intact (c.serve_all.ensures.continues.sound (sound spelled)))),
+      all-later (rose-by _ _ _ close.no_fewer) _ _ _ run.2,
     )
 
-pub returns-in-Err-close_with_retry-clause-not_closed : goal.returns-in-Err-close_with_retry-clause-not_closed
-returns-in-Err-close_with_retry-clause-not_closed g c =
-    λ server fault is.
-    let same : c.in-Err-close_with_retry.field-0.server ≡ server = cc in
-    let told : c.in-Err-close_with_retry.field-0.fault ≡ fault = cc in
-    rw (← same, ← told)
-    (unclosed_left c.in-Err-close_with_retry.field-0.fault _ _ c.serve_all.new.server _
+pub returns-in-Err-close_with_retry-clause-ends : goal.returns-in-Err-close_with_retry-clause-ends
+returns-in-Err-close_with_retry-clause-ends g c =
+    unclosed_left c.in-Err-close_with_retry.field-0.fault _ _ c.serve_all.new.server _
     (λ first mid. unclosed first _ _ c.in-Ok.server c.serve_all.new.server mid
-    c.in-Ok.ensures.store c.in-Ok.ensures.sound c.in-Ok.ensures.spelled c.in-Ok.ensures.desk c.in-Ok.ensures.unheld
-    (λ truly. (c.in-Ok.ensures.header truly).0)
-    c.in-Ok.ensures.honest
-    c.in-Ok.ensures.failures c.serve_all.ensures.served c.serve_all.ensures.sound c.serve_all.ensures.header
-    c.serve_all.ensures.honest c.serve_all.ensures.no_fewer)
-    c.in-Err-close_with_retry.ensures.left)
+    c.in-Ok.ensures.opened c.in-Ok.ensures.desk c.in-Ok.ensures.unheld c.in-Ok.ensures.honest
+    c.in-Ok.ensures.failures c.serve_all.ensures.served c.serve_all.ensures.continues)
+    c.in-Err-close_with_retry.ensures.left
 
 pub returns-in-Err-close_with_retry-clause-no_store : goal.returns-in-Err-close_with_retry-clause-no_store
-returns-in-Err-close_with_retry-clause-no_store g c = λ honest none. absurd (none _ _ (c.in-Ok.ensures.listed honest))
+returns-in-Err-close_with_retry-clause-no_store g c =
+    λ honest none. absurd (none _ _ (c.in-Ok.ensures.opened honest).lists.lists)
 
 pub returns-in-Ok-close_with_retry-clause-no_store : goal.returns-in-Ok-close_with_retry-clause-no_store
-returns-in-Ok-close_with_retry-clause-no_store g c = λ honest none. absurd (none _ _ (c.in-Ok.ensures.listed honest))
+returns-in-Ok-close_with_retry-clause-no_store g c =
+    λ honest none. absurd (none _ _ (c.in-Ok.ensures.opened honest).lists.lists)

@@ -5,9 +5,9 @@ use Rattle.http_front.proofs.ahead.look_ahead.Given as goal
 
 abbrev pub invariant-reading : goal.invariant-reading
 invariant-reading g l =
-    ((came : List ℕ) × Consumes (g.S.Source.remaining l.initial.source) (g.S.Source.remaining l.source) came
+    ((came : List ℕ) × Consumes (g.S.Source.view l.initial.source).remaining (g.S.Source.view l.source).remaining came
     × (l.buffer ≡ l.initial.buffer ++ came))
-    × (g.S.Source.failed l.source ≡ g.S.Source.failed l.initial.source)
+    × ((g.S.Source.view l.source).failed ≡ (g.S.Source.view l.initial.source).failed)
     × (l.seen ≤ length l.buffer) × HasNoRequest (take l.seen l.buffer)
 
 abbrev pub decreases-reading : goal.decreases-reading

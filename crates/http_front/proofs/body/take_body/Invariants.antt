@@ -4,9 +4,9 @@ use Rattle.http_front.proofs.body.take_body.Given as goal
 
 abbrev pub invariant-pieces : goal.invariant-pieces
 invariant-pieces g l =
-    (came : List ℕ) × Consumes (g.S.Source.remaining l.initial.source) (g.S.Source.remaining l.source) came
+    (came : List ℕ) × Consumes (g.S.Source.view l.initial.source).remaining (g.S.Source.view l.source).remaining came
     × (body : List ℕ) × (l.initial.buffer ++ came ≡ body ++ l.buffer) × (length body + l.left ≡ l.len)
-    × IfSome l.kept (λ v. v.items ≡ body) × (g.S.Source.failed l.source ≡ g.S.Source.failed l.initial.source)
+    × IfSome l.kept (λ v. v.items ≡ body) × ((g.S.Source.view l.source).failed ≡ (g.S.Source.view l.initial.source).failed)
     × (length came + l.left ≤ l.len)
 
 abbrev pub decreases-pieces : goal.decreases-pieces

@@ -72,7 +72,7 @@ returns-in-Kept-clause-found g c =
     )
 
 pub returns-in-Dropped-clause-told : goal.returns-in-Dropped-clause-told
-returns-in-Dropped-clause-told g c = told_as _ _ _ c.prepare-prepared.result (c.prepare-prepared.ensures []) c.in-Dropped.ensures.told
+returns-in-Dropped-clause-told g c = told_as (g.S.Source.view c.args.source.now) (g.S.Source.view c.take_body.new.source) _ c.prepare-prepared.result (c.prepare-prepared.ensures []) c.in-Dropped.ensures.told
 
 pub returns-in-Kept-clause-told : goal.returns-in-Kept-clause-told
 returns-in-Kept-clause-told g c =
@@ -83,4 +83,4 @@ returns-in-Kept-clause-told g c =
     (c.prepare-prepared.ensures body) in
     let asks : c.is_body-keep.result ≡ true → asked_by x.h body ≡ Ok body =
     λ k. sym (x.asked body) ∙ ap (λ a. asked_at c.args.buffer.now a body) (c.is_body-keep.ensures k) in
-    told_as _ _ _ c.chosen.result (c.chosen.ensures (asked_by x.h body) asks shows) c.in-Kept.ensures.told
+    told_as (g.S.Source.view c.args.source.now) (g.S.Source.view c.take_body.new.source) _ c.chosen.result (c.chosen.ensures (asked_by x.h body) asks shows) c.in-Kept.ensures.told

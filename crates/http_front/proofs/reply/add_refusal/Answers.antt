@@ -13,7 +13,7 @@ returns-then-bare g c =
     let size = refusal_length number name c.args.code c.format-number.ensures.text c.refusal_name-name.ensures in
     let front = opening (status_of c.args.code) (codes "text/plain") (length (refusal_body c.args.code)) c.args.last in
     let Goes : List ℕ → Type 0 =
-    λ t. IsUnderWay (g.K.Sink.contents c.args.sink.now) (g.K.Sink.contents c.add_opening-ok.new.sink) (g.K.Sink.failed c.args.sink.now) (g.K.Sink.failed c.add_opening-ok.new.sink) c.add_opening-ok.result t c.add_opening-ok.new.letter in
+    λ t. IsUnderWay (g.K.Sink.view c.args.sink.now) (g.K.Sink.view c.add_opening-ok.new.sink) c.add_opening-ok.result t c.add_opening-ok.new.letter in
     let opened : Goes front =
     subst (λ n. Goes (opening (status_of c.args.code) (codes "text/plain") n c.args.last)) size
     (subst (λ s. Goes (opening s (codes "text/plain") (8 + length number + 1 + length name + 1) c.args.last)) c.status_of.ensures.status c.add_opening-ok.ensures) in
@@ -21,21 +21,20 @@ returns-then-bare g c =
 
 pub returns : goal.returns
 returns g c =
-    let start = g.K.Sink.contents c.args.sink.now in
-    let fine = g.K.Sink.failed c.args.sink.now in
+    let start = g.K.Sink.view c.args.sink.now in
     let number = c.format-number.result.now in
     let name = c.refusal_name-name.result.now in
     let size = refusal_length number name c.args.code c.format-number.ensures.text c.refusal_name-name.ensures in
     let front = opening (status_of c.args.code) (codes "text/plain") (length (refusal_body c.args.code)) c.args.last in
     let Opens : List ℕ → Type 0 =
-    λ t. IsUnderWay start (g.K.Sink.contents c.add_opening-ok.new.sink) fine (g.K.Sink.failed c.add_opening-ok.new.sink) c.add_opening-ok.result t c.add_opening-ok.new.letter in
+    λ t. IsUnderWay start (g.K.Sink.view c.add_opening-ok.new.sink) c.add_opening-ok.result t c.add_opening-ok.new.letter in
     let opened : Opens front =
     subst (λ n. Opens (opening (status_of c.args.code) (codes "text/plain") n c.args.last)) size
     (subst (λ s. Opens (opening s (codes "text/plain") (8 + length number + 1 + length name + 1) c.args.last)) c.status_of.ensures.status c.add_opening-ok.ensures) in
-    let s3 = c.add-ok-3.ensures start fine _ (c.add-ok-2.ensures start fine _ (c.add-ok.ensures start fine front opened)) in
-    let s5 = c.add.ensures start fine _ (c.add-ok-4.ensures start fine _ s3) in
+    let s3 = c.add-ok-3.ensures start _ (c.add-ok-2.ensures start _ (c.add-ok.ensures start front opened)) in
+    let s5 = c.add.ensures start _ (c.add-ok-4.ensures start _ s3) in
     let Goes : List ℕ → Type 0 =
-    λ t. IsUnderWay start (g.K.Sink.contents c.add.new.sink) fine (g.K.Sink.failed c.add.new.sink) c.add.result t c.add.new.self in
+    λ t. IsUnderWay start (g.K.Sink.view c.add.new.sink) c.add.result t c.add.new.self in
     subst (λ b. Goes (front ++ body_shown b (refusal_body c.args.code))) (sym c.if-bare.false)
     (subst Goes
     (refusal_parts front c.as_bytes.result.now c.as_bytes-2.result.now c.args.code (c.as_bytes.ensures.value ∙ c.format-number.ensures.text) (c.as_bytes-2.ensures.value ∙ c.refusal_name-name.ensures))

@@ -1,5 +1,6 @@
 -- One more unit is on the next box, and fetches no more tiles than that one bounds.
 use Rattle.std.proofs.Common.{arith, rules, ◌<◌, subst, sym, ◌∙◌}
+use Rattle.tile_columns.proofs.Calls.{reads_on}
 use Rattle.tile_exec.specs.Standing.{StandsFor, left_of}
 use Rattle.job_desk.proofs.Runs.{boxes_more, fetched_more}
 use Rattle.job_desk.proofs.run.run_down.Goals as goal
@@ -19,13 +20,12 @@ loop-exec-preserved g c =
         fewer = omega (arith, s.left.0, h.run.fewer);
         boxes = boxes_more was is new n h.run.plan h.run.boxes h.run.fewer some s.left.0 s.place;
         stands = λ i st.
-            subst (λ f. StandsFor f new) h.same.cells
-            (s.stands (h.intact i) (subst (λ f. StandsFor f is) (sym h.same.cells) (h.run.stands i st)));
+            subst (λ f. StandsFor f new) h.reads.cells
+            (s.stands (h.reads.intact i) (subst (λ f. StandsFor f is) (sym h.reads.cells) (h.run.stands i st)));
       };
       asked = omega (arith, s.left.0, h.asked);
       rest = λ few. search rules;
-      fetched = fetched_more was is new n _ _ _ h.run.plan h.run.boxes h.run.fewer some s.left.0 s.place s.fetched h.fetched;
-      same = search rules;
-      intact = search rules;
+      fetched = fetched_more was is new n (g.S.Tiles.state c.args.source.now).fetched (g.S.Tiles.state c.loop-exec.source).fetched (g.S.Tiles.state c.step.new.source).fetched h.run.plan h.run.boxes h.run.fewer some s.left.0 s.place s.fetched h.fetched;
+      reads = reads_on h.reads c.step.ensures.reads;
       failures = search rules;
     }

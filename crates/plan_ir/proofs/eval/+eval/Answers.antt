@@ -37,10 +37,10 @@ eval-returns-in_ok-point-in-Table-clause-value g t c h =
     let point = c.deref-in-Table-3.ensures.value ∙ c.in_ok-point-in-Table.ensures
     ∙ ap (λ v. numbers_at v c.deref-in-Table-2.result.now) c.deref-in-Table.ensures.value
     ∙ ap (numbers_at vars) c.deref-in-Table-2.ensures.value in
-    let place = c.place_of-place.ensures.computed ∙ ap (λ a. rank_of a c.deref-in-Table-3.result.now) c.axes.ensures.value
+    let place = c.rank_of-place.ensures.rank ∙ ap (λ a. rank_of a c.deref-in-Table-3.result.now) c.axes.ensures.value
     ∙ ap (rank_of c.in-Table.domain) point in
     ap Value (to_z-of_z w64 c.item_at.result fits ∙ c.item_at.ensures
-    ∙ ap (λ l. slice_index_or l c.place_of-place.result (pos 0)) c.deref-in-Table-4.ensures.value
+    ∙ ap (λ l. slice_index_or l c.rank_of-place.result (pos 0)) c.deref-in-Table-4.ensures.value
     ∙ ap (λ n. slice_index_or c.in-Table.items.items n (pos 0)) place)
     ∙ ap (λ b. run s c.args.frame.now.registers.items (body_view b) vars) (sym c.in-Table.is)
 

@@ -6,13 +6,12 @@ use Rattle.wcps_mean.specs.Feeding.{Fed}
 use Rattle.plan_ir.specs.Bodies.{body_view, condition_view}
 use Rattle.plan_ir.specs.Run.{run}
 use Rattle.plan_ir.specs.Planned.{cells_of}
+use Rattle.wcps_mean.specs.Reading.{Leaves}
 use Rattle.plan_ir.proofs.eval.+eval.Given as goal
 
 abbrev pub invariant-fold-loop-place : goal.invariant-fold-loop-place
 invariant-fold-loop-place g l = record {
-  same : g.C.Cells.cells l.cells ≡ g.C.Cells.cells l.fn.cells;
-  kept : g.C.Cells.kept l.cells ≡ g.C.Cells.kept l.fn.cells;
-  intact : g.C.Cells.intact l.fn.cells → g.C.Cells.intact l.cells;
+  leaves : Leaves g.C.Cells l.fn.cells l.cells;
   failures : g.C.Cells.failures l.cells ≡ g.C.Cells.failures l.fn.cells;
   scope : l.vars.items ≡ l.fn.vars.items;
   op : l.running.op ≡ l.f.op;

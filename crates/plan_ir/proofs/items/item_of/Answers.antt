@@ -2,6 +2,7 @@
 use Rattle.std.proofs.Common.{◌<◌, ◌∙◌, ap, sym, refl, arith, [], ◌++◌, length, get_or, Ok}
 use Rattle.std.proofs.lemmas.Result.{err_from_is_err_and}
 use Rattle.arr_core.specs.Domains.{points}
+use Rattle.wcps_mean.proofs.Scoped.{leaves-on}
 use Rattle.wcps_mean.proofs.Told.{passes-from}
 use Rattle.wcps_mean.proofs.Joins.{turn-more, turn-stop, pushed-ok, tells-on}
 use Rattle.plan_ir.specs.Plans.{item_view}
@@ -9,8 +10,8 @@ use Rattle.plan_ir.specs.Planned.{cells_at, cells_of}
 use Rattle.plan_ir.proofs.Parts.{item-err}
 use Rattle.plan_ir.proofs.items.item_of.Goals as goal
 
-pub returns-in_err-push_cells-clause-fault : goal.returns-in_err-push_cells-clause-fault
-returns-in_err-push_cells-clause-fault g c =
+pub returns-in_err-push_cells-clause-answer : goal.returns-in_err-push_cells-clause-answer
+returns-in_err-push_cells-clause-answer g c =
     let inv = c.loop-place.invariant in
     let cov = c.args.frame.now.coverages.items in
     let regs = c.args.frame.now.registers.items in
@@ -18,13 +19,13 @@ returns-in_err-push_cells-clause-fault g c =
     let item = item_view c.args.item.now in
     let box = points c.args.item.now.domain in
     let x = get_or box c.loop-place.place [] in
-    let here = ap (λ s. cells_at (cells_of s cov) regs item c.push_point.new.list.items) inv.same
+    let here = ap (λ s. cells_at (cells_of s cov) regs item c.push_point.new.list.items) inv.leaves.cells
     ∙ ap (cells_at s regs item) (c.in_ok-push_point.ensures ∙ ap (λ l. l ++ x) inv.scope) in
     let lt : c.loop-place.place < length box = omega (arith, c.points-place-end.ensures.value) in
     let p = err_from_is_err_and c.from_residual-in_err-push_cells.result c.from_residual-in_err-push_cells.ensures.1 in
     rw (p.1, p.2) (λ h. tells-on _ _ _
     (λ f e. item-err s regs item f (turn-stop (cells_at s regs item) box c.loop-place.place x [] c.loop-place.list.items f lt refl (inv.pushed h) (sym here ∙ e)))
-    (c.in_err-push_cells.ensures.fault (inv.intact h)))
+    (c.in_err-push_cells.ensures.pushed (inv.leaves.intact h)))
 
 pub loop-place-preserved : goal.loop-place-preserved
 loop-place-preserved g c =
@@ -35,16 +36,14 @@ loop-place-preserved g c =
     let item = item_view c.args.item.now in
     let box = points c.args.item.now.domain in
     let x = get_or box c.loop-place.place [] in
-    let here = ap (λ s. cells_at (cells_of s cov) regs item c.push_point.new.list.items) inv.same
+    let here = ap (λ s. cells_at (cells_of s cov) regs item c.push_point.new.list.items) inv.leaves.cells
     ∙ ap (cells_at s regs item) (c.in_ok-push_point.ensures ∙ ap (λ l. l ++ x) inv.scope) in
     let lt : c.loop-place.place < length box = omega (arith, c.points-place-end.ensures.value) in
     record {
-      same = c.in_ok-push_cells.ensures.same ∙ inv.same;
-      kept = c.in_ok-push_cells.ensures.kept ∙ inv.kept;
-      intact = λ h. c.in_ok-push_cells.ensures.intact (inv.intact h);
+      leaves = leaves-on _ _ _ _ inv.leaves c.in_ok-push_cells.ensures.leaves;
       failures = c.in_ok-push_cells.ensures.reports ∙ inv.failures;
       scope = c.truncate.ensures.items;
-      pushed = λ h. let w = pushed-ok _ _ _ (c.in_ok-push_cells.ensures.value (inv.intact h)) in
+      pushed = λ h. let w = pushed-ok _ _ _ (c.in_ok-push_cells.ensures.pushed (inv.leaves.intact h)) in
           turn-more (cells_at s regs item) box c.loop-place.place x [] c.loop-place.list.items w.0 lt refl (inv.pushed h) (sym here ∙ w.1) ∙ ap Ok (sym w.2);
     }
 
@@ -52,4 +51,4 @@ pub returns-in_err-push_cells-clause-reports : goal.returns-in_err-push_cells-cl
 returns-in_err-push_cells-clause-reports g c =
     let inv = c.loop-place.invariant in
     let p = err_from_is_err_and c.from_residual-in_err-push_cells.result c.from_residual-in_err-push_cells.ensures.1 in
-    rw (p.1, p.2) (passes-from _ _ _ _ inv.intact inv.failures c.in_err-push_cells.ensures.reports)
+    rw (p.1, p.2) (passes-from _ _ _ _ inv.leaves.intact inv.failures c.in_err-push_cells.ensures.reports)

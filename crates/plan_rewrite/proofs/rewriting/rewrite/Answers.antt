@@ -1,17 +1,18 @@
 -- The settled and then hoisted plan gives the same, stays well-formed, and has no more units and points of folds.
-use Rattle.std.proofs.Common.{◌≡◌, ◌+◌, ◌≤◌, ◌∙◌, ap, sym, subst, map}
-use Rattle.plan_ir.specs.Plans.{PlanTree, steps_view, plan_view}
+use Rattle.std.proofs.Common.{◌≤◌, ◌∙◌, ap, sym, subst, map}
+use Rattle.plan_ir.specs.Plans.{PlanTree, plan_view}
 use Rattle.plan_ir.specs.Planned.{planned}
 use Rattle.plan_ir.specs.Placed.{IsPlan}
-use Rattle.plan_ir.specs.Units.{units}
 use Rattle.plan_rewrite.specs.Settled.{settled_steps, settled_plan}
-use Rattle.plan_rewrite.specs.Rewritten.{StepsAreReduced}
-use Rattle.plan_rewrite.specs.HoistedPlans.{StepsAreOpen}
-use Rattle.plan_rewrite.specs.FoldPoints.{fold_points}
+use Rattle.plan_rewrite.specs.HoistedPlans.{hoisted_steps}
+use Rattle.plan_rewrite.specs.Everywhere.{Everywhere}
+use Rattle.plan_rewrite.specs.Rewritten.{NoBindGivesWay, NoFoldIsClosed}
+use Rattle.plan_rewrite.specs.FoldPoints.{unit_bound}
 use Rattle.plan_rewrite.proofs.SettledPlans.{settled-planned}
 use Rattle.plan_rewrite.proofs.SettledPlaced.{plan-placed, steps-reduced}
 use Rattle.plan_rewrite.proofs.HoistedPlans.{hoisted-planned, hoisted-placed, steps-open}
 use Rattle.plan_rewrite.proofs.HoistedReduced.{steps-stay-reduced}
+use Rattle.plan_rewrite.proofs.OpenFolds.{open-everywhere}
 use Rattle.plan_rewrite.proofs.FoldPoints.{rewritten-few}
 use Rattle.plan_rewrite.proofs.rewriting.rewrite.Goals as goal
 
@@ -27,18 +28,18 @@ returns-clause-placed c h =
 
 pub returns-clause-reduced : goal.returns-clause-reduced
 returns-clause-reduced c =
-    let all = map steps_view c.args.plan.steps.items in
-    subst StepsAreReduced (sym (ap (λ (p : PlanTree). p.steps) c.in_ok-r.ensures)) (steps-stay-reduced (map settled_steps all) (steps-reduced all))
+    let all = (plan_view c.args.plan).steps in
+    subst (Everywhere NoBindGivesWay) (sym c.in_ok-r.ensures) (steps-stay-reduced (map settled_steps all) (steps-reduced all))
 
 pub returns-clause-open : goal.returns-clause-open
 returns-clause-open c =
-    let all = map steps_view c.args.plan.steps.items in
-    subst StepsAreOpen (sym (ap (λ (p : PlanTree). p.steps) c.in_ok-r.ensures)) (steps-open (map settled_steps all))
+    let all = map settled_steps (plan_view c.args.plan).steps in
+    subst (Everywhere NoFoldIsClosed) (sym c.in_ok-r.ensures) (open-everywhere (map hoisted_steps all) (steps-open all))
 
 pub returns-clause-units : goal.returns-clause-units
 returns-clause-units c =
     let p = plan_view c.args.plan in
-    subst (λ r. units r + fold_points r ≤ units p + fold_points p) (sym c.in_ok-r.ensures) (rewritten-few p)
+    subst (λ r. unit_bound r ≤ unit_bound p) (sym c.in_ok-r.ensures) (rewritten-few p)
 
 pub returns-clause-coverages : goal.returns-clause-coverages
 returns-clause-coverages c = ap (λ (p : PlanTree). p.coverages) c.in_ok-r.ensures

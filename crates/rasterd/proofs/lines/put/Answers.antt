@@ -5,6 +5,7 @@ use Rattle.rasterd.proofs.LineLemmas.{prefix_longer}
 use Rattle.rasterd.proofs.lines.put.Goals as goal
 
 pub returns : goal.returns
-returns g c held failed before s =
+returns g c first said s =
     let ok : c.args.ok ≡ true = search rules in
-    Sent-after _ _ _ _ _ _ _ before c.args.text.now (rw ok at s) (rw c.as_bytes.ensures.value at c.send_all.ensures)
+    Sent-after first (g.E.Sink.view c.args.errors.now) (g.E.Sink.view c.send_all.new.sink) c.send_all.result said
+    c.args.text.now (rw ok at s) (rw c.as_bytes.ensures.value at c.send_all.ensures)

@@ -7,10 +7,10 @@ use Rattle.rasterd.proofs.resumed.hand_on_again.Given as goal
 abbrev pub invariant-handing : goal.invariant-handing
 invariant-handing g l =
     (l.left ≤ 1000)
-    × Keeps (g.W.Sink.contents l.initial.writer) (g.W.Sink.contents l.writer)
-    × (g.W.Sink.waiting l.writer ≡ g.W.Sink.waiting l.initial.writer)
-    × (l.left ≡ 1000 → g.W.Sink.failed l.writer ≡ g.W.Sink.failed l.initial.writer)
-    × (l.left < 1000 → g.W.Sink.failed l.writer ≡ fault_told (g.W.Sink.failed l.initial.writer))
+    × Keeps (g.W.Sink.view l.initial.writer).contents (g.W.Sink.view l.writer).contents
+    × ((g.W.Sink.view l.writer).waiting ≡ (g.W.Sink.view l.initial.writer).waiting)
+    × (l.left ≡ 1000 → (g.W.Sink.view l.writer).failed ≡ (g.W.Sink.view l.initial.writer).failed)
+    × (l.left < 1000 → (g.W.Sink.view l.writer).failed ≡ fault_told ((g.W.Sink.view l.initial.writer).failed))
 
 abbrev pub decreases-handing : goal.decreases-handing
 decreases-handing g l = l.left

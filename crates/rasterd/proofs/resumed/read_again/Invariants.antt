@@ -8,9 +8,9 @@ abbrev pub invariant-reading : goal.invariant-reading
 invariant-reading g l =
     (length l.buf ≡ length l.initial.buf)
     × (l.left ≤ 1000)
-    × Keeps (g.R.Source.remaining l.initial.reader) (g.R.Source.remaining l.reader)
-    × (l.left ≡ 1000 → g.R.Source.failed l.reader ≡ g.R.Source.failed l.initial.reader)
-    × (l.left < 1000 → g.R.Source.failed l.reader ≡ fault_told (g.R.Source.failed l.initial.reader))
+    × Keeps (g.R.Source.view l.initial.reader).remaining (g.R.Source.view l.reader).remaining
+    × (l.left ≡ 1000 → (g.R.Source.view l.reader).failed ≡ (g.R.Source.view l.initial.reader).failed)
+    × (l.left < 1000 → (g.R.Source.view l.reader).failed ≡ fault_told ((g.R.Source.view l.initial.reader).failed))
 
 abbrev pub decreases-reading : goal.decreases-reading
 decreases-reading g l = l.left

@@ -21,7 +21,7 @@ use Rattle.tile_columns.proofs.fields.+evaluate_fields.Goals as goal
 
 pub returns-then-bind-clause-value : goal.returns-then-bind-clause-value
 returns-then-bind-clause-value g t c = λ i.
-    let s = cells_of (g.S.Tiles.cells c.args.source.now) c.args.ground.now.coverages.now in
+    let s = cells_of (g.S.Tiles.state c.args.source.now).cells c.args.ground.now.coverages.now in
     let regs = c.args.ground.now.registers.now in
     let b = c.bind-item.result in
     let fields = map field_view c.args.fields.now in
@@ -47,7 +47,7 @@ returns-then-bind-clause-places g t c = λ k d lt.
 pub returns-then-bind-clause-fetched : goal.returns-then-bind-clause-fetched
 returns-then-bind-clause-fetched g t c = λ n h.
     let b = c.bind-item.result in
-    let f = fetches (signature_of (g.S.Tiles.coverages c.args.source.now) c.args.ground.now.coverages.now) n c.args.frame.now in
+    let f = fetches (signature_of (g.S.Tiles.state c.args.source.now).coverages c.args.ground.now.coverages.now) n c.args.frame.now in
     let few = c.in_ok-evaluate-in-len1-up.ensures.fetched n h in
     let first = fetched_first f c.args.binds.now b (take (length c.args.binds.now - 1) (drop 1 c.args.binds.now)) (map field_view c.args.fields.now) (cut c.args.binds.now b c.in-len1-up.len_at_least c.bind-item.is) in
     omega (arith, few, first)
@@ -65,13 +65,13 @@ evaluate_fields-requires g t c κs within =
     let lo : SFits w32 c.bind-item.result.interval.lo = search rules in
     let hi : SFits w32 c.bind-item.result.interval.hi = search rules in
     let some = not_below_of _ _ b.interval.hi b.interval.lo (to_z-of_z w32 b.interval.hi hi) (to_z-of_z w32 b.interval.lo lo) c.if-bind.false in
-    let place : FieldsHavePlace (signature_of (g.S.Tiles.coverages c.evaluate.new.source) cov) regs (map bind_view rest) fields c.push_column.new.self =
-    subst (λ all. FieldsHavePlace (signature_of all cov) regs (map bind_view rest) fields c.push_column.new.self) (sym c.evaluate.ensures.same.coverages)
-    (subst (FieldsHavePlace (signature_of (g.S.Tiles.coverages c.args.source.now) cov) regs (map bind_view rest) fields) (sym frame)
-    (behind_extended (signature_of (g.S.Tiles.coverages c.args.source.now) cov) regs b.interval (body_view b.position) (map bind_view rest) fields c.args.frame.now c.evaluate.new.out
-    (subst (λ l. FieldsHavePlace (signature_of (g.S.Tiles.coverages c.args.source.now) cov) regs (map bind_view l) fields c.args.frame.now) binds c.requires.place)
+    let place : FieldsHavePlace (signature_of (g.S.Tiles.state c.evaluate.new.source).coverages cov) regs (map bind_view rest) fields c.push_column.new.self =
+    subst (λ all. FieldsHavePlace (signature_of all cov) regs (map bind_view rest) fields c.push_column.new.self) (sym c.evaluate.ensures.reads.coverages)
+    (subst (FieldsHavePlace (signature_of (g.S.Tiles.state c.args.source.now).coverages cov) regs (map bind_view rest) fields) (sym frame)
+    (behind_extended (signature_of (g.S.Tiles.state c.args.source.now).coverages cov) regs b.interval (body_view b.position) (map bind_view rest) fields c.args.frame.now c.evaluate.new.out
+    (subst (λ l. FieldsHavePlace (signature_of (g.S.Tiles.state c.args.source.now).coverages cov) regs (map bind_view l) fields c.args.frame.now) binds c.requires.place)
     some c.in_ok-evaluate-in-len1-up.ensures.places)) in
-    let same : c.args.ground.now.signatures.now ≡ g.S.Tiles.coverages c.evaluate.new.source = c.requires.signatures ∙ sym c.evaluate.ensures.same.coverages in
+    let same : c.args.ground.now.signatures.now ≡ (g.S.Tiles.state c.evaluate.new.source).coverages = c.requires.signatures ∙ sym c.evaluate.ensures.reads.coverages in
     let less : length rest < length c.args.binds.now = (let e = ap length binds in omega (arith, e)) in
     search (rules, place, same, less)
 
@@ -84,13 +84,13 @@ settle_columns-requires g t c = λ k d lt.
 pub returns-in-empty-clause-fetched : goal.returns-in-empty-clause-fetched
 returns-in-empty-clause-fetched g t c =
     let e : c.args.binds.now ≡ [] = empty_binds c.args.binds.now c.in-empty.len_below in
-    subst (λ (l : List Bind). OnOk c.field_columns.result ((n : ℕ) → All (λ (e : List ℤ). n ≤ length e) c.args.frame.now → g.S.Tiles.fetched c.field_columns.new.source ≤ g.S.Tiles.fetched c.args.source.now + sum_by (fetches (signature_of (g.S.Tiles.coverages c.args.source.now) c.args.ground.now.coverages.now) n c.args.frame.now) (bodies_behind (map bind_view l) (map field_view c.args.fields.now))))
+    subst (λ (l : List Bind). OnOk c.field_columns.result ((n : ℕ) → All (λ (e : List ℤ). n ≤ length e) c.args.frame.now → (g.S.Tiles.state c.field_columns.new.source).fetched ≤ (g.S.Tiles.state c.args.source.now).fetched + sum_by (fetches (signature_of (g.S.Tiles.state c.args.source.now).coverages c.args.ground.now.coverages.now) n c.args.frame.now) (bodies_behind (map bind_view l) (map field_view c.args.fields.now))))
     (sym e) c.field_columns.ensures.fetched
 
 pub returns-in_ok-settle_columns-in-len1-up-clause-value : goal.returns-in_ok-settle_columns-in-len1-up-clause-value
 returns-in_ok-settle_columns-in-len1-up-clause-value g t c = λ i.
     let cov = c.args.ground.now.coverages.now in
-    let s = cells_of (g.S.Tiles.cells c.args.source.now) cov in
+    let s = cells_of (g.S.Tiles.state c.args.source.now).cells cov in
     let regs = c.args.ground.now.registers.now in
     let b = c.bind-item.result in
     let fields = map field_view c.args.fields.now in
@@ -102,8 +102,8 @@ returns-in_ok-settle_columns-in-len1-up-clause-value g t c = λ i.
     c.in_ok-push_column-in-len1-up.ensures ∙ ap (λ f. extended f c.in_ok-numbers-in-len1-up.numbers.items) at.frame ∙ ap (extended c.args.frame.now) c.in_ok-numbers-in-len1-up.ensures in
     c.in_ok-settle_columns-in-len1-up.ensures
     ∙ ap (map (settled_by positions b.interval.lo b.interval.hi))
-    (c.in_ok-columns-in-len1-up-2.ensures.value (at.intact i)
-    ∙ ap (λ f. columns_behind (cells_of f cov) regs rest fields c.push_column.new.self) at.same.cells
+    (c.in_ok-columns-in-len1-up-2.ensures.value (at.reads.intact i)
+    ∙ ap (λ f. columns_behind (cells_of f cov) regs rest fields c.push_column.new.self) at.reads.cells
     ∙ ap (columns_behind s regs rest fields) frame)
     ∙ settled_fields s regs (bind_view b) rest fields positions c.args.frame.now (at.value i)
     ∙ ap (λ l. columns_behind s regs (map bind_view l) fields c.args.frame.now) (sym binds)
@@ -128,7 +128,7 @@ returns-in_ok-settle_columns-in-len1-up-clause-fetched g t c = λ n h.
     let cov = c.args.ground.now.coverages.now in
     let fields = map field_view c.args.fields.now in
     let rest = take (length c.args.binds.now - 1) (drop 1 c.args.binds.now) in
-    let cs = signature_of (g.S.Tiles.coverages c.args.source.now) cov in
+    let cs = signature_of (g.S.Tiles.state c.args.source.now).coverages cov in
     let f = fetches cs n c.args.frame.now in
     let at = c.in_ok-evaluate-in-len1-up.ensures in
     let frame : c.push_column.new.self ≡ extended c.args.frame.now c.in_ok-numbers-in-len1-up.numbers.items =
@@ -136,8 +136,8 @@ returns-in_ok-settle_columns-in-len1-up-clause-fetched g t c = λ n h.
     let long = subst (All (λ (e : List ℤ). n ≤ length e)) (sym frame) (long_extended c.args.frame.now c.in_ok-numbers-in-len1-up.numbers.items n h) in
     let few = at.fetched n h in
     let more = c.in_ok-columns-in-len1-up-2.ensures.fetched n long in
-    let e : sum_by (fetches (signature_of (g.S.Tiles.coverages c.evaluate.new.source) cov) n c.push_column.new.self) (bodies_behind (map bind_view rest) fields) ≡ sum_by f (bodies_behind (map bind_view rest) fields) =
-    ap (λ all. sum_by (fetches (signature_of all cov) n c.push_column.new.self) (bodies_behind (map bind_view rest) fields)) at.same.coverages
+    let e : sum_by (fetches (signature_of (g.S.Tiles.state c.evaluate.new.source).coverages cov) n c.push_column.new.self) (bodies_behind (map bind_view rest) fields) ≡ sum_by f (bodies_behind (map bind_view rest) fields) =
+    ap (λ all. sum_by (fetches (signature_of all cov) n c.push_column.new.self) (bodies_behind (map bind_view rest) fields)) at.reads.coverages
     ∙ ap (λ l. sum_by (fetches cs n l) (bodies_behind (map bind_view rest) fields)) frame
     ∙ fetched_behind cs n c.args.frame.now c.in_ok-numbers-in-len1-up.numbers.items (bodies_behind (map bind_view rest) fields) h in
     let all = fetched_more f c.args.binds.now b rest fields (cut c.args.binds.now b c.in-len1-up.len_at_least c.bind-item.is) in

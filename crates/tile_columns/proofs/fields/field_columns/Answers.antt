@@ -11,6 +11,7 @@ use Rattle.plan_ir.specs.Planned.{cells_of}
 use Rattle.tile_columns.specs.Evaluating.{HasPlace, fetches}
 use Rattle.tile_columns.specs.Fields.{bodies_behind, HavePlaces}
 use Rattle.tile_columns.proofs.Behind.{field_at, column_more, bodies_more, whole_list}
+use Rattle.tile_columns.proofs.Calls.{reads_on}
 use Rattle.tile_columns.proofs.fields.field_columns.Goals as goal
 
 pub evaluate-requires-clause-place : goal.evaluate-requires-clause-place
@@ -18,15 +19,15 @@ evaluate-requires-clause-place g c =
     let inv = c.loop-field.invariant in
     let regs = length c.args.ground.now.registers.now in
     let body = body_view c.field-item.result.body in
-    subst (HasPlace (signature_of (g.S.Tiles.coverages c.loop-field.source) c.args.ground.now.coverages.now) regs body) (sym inv.frame)
-    (subst (λ all. HasPlace (signature_of all c.args.ground.now.coverages.now) regs body c.args.frame.now) (sym inv.same.coverages)
-    (field_at (signature_of (g.S.Tiles.coverages c.args.source.now) c.args.ground.now.coverages.now) regs c.args.fields.now c.args.frame.now c.loop-field.field-index c.field-item.result c.requires.place (omega (arith, c.loop-field-test.true)) c.field-item.is))
+    subst (HasPlace (signature_of (g.S.Tiles.state c.loop-field.source).coverages c.args.ground.now.coverages.now) regs body) (sym inv.frame)
+    (subst (λ all. HasPlace (signature_of all c.args.ground.now.coverages.now) regs body c.args.frame.now) (sym inv.reads.coverages)
+    (field_at (signature_of (g.S.Tiles.state c.args.source.now).coverages c.args.ground.now.coverages.now) regs c.args.fields.now c.args.frame.now c.loop-field.field-index c.field-item.result c.requires.place (omega (arith, c.loop-field-test.true)) c.field-item.is))
 
 pub returns-in_err-evaluate-clause-reports : goal.returns-in_err-evaluate-clause-reports
 returns-in_err-evaluate-clause-reports g c =
     let inv = c.loop-field.invariant in
     let e = c.in_err-evaluate.ensures.reports in
-    let i = inv.intact in
+    let i = inv.reads.intact in
     search (rules, inv.failures, e, i)
 
 pub loop-field-preserved : goal.loop-field-preserved
@@ -43,29 +44,27 @@ loop-field-preserved g c =
     let ens = c.in_ok-evaluate.ensures in
     record {
       value = λ i.
-          column_more (cells_of (g.S.Tiles.cells c.args.source.now) cov) regs c.args.fields.now c.args.frame.now k x c.evaluate.new.out c.loop-field.columns.items c.push_column.new.columns.items lt c.field-item.is
-          (ens.value (inv.intact i) ∙ ap (λ s. map (run (cells_of s cov) regs tree) c.loop-field.frame) inv.same.cells ∙ ap (map (run (cells_of (g.S.Tiles.cells c.args.source.now) cov) regs tree)) inv.frame)
+          column_more (cells_of (g.S.Tiles.state c.args.source.now).cells cov) regs c.args.fields.now c.args.frame.now k x c.evaluate.new.out c.loop-field.columns.items c.push_column.new.columns.items lt c.field-item.is
+          (ens.value (inv.reads.intact i) ∙ ap (λ s. map (run (cells_of s cov) regs tree) c.loop-field.frame) inv.reads.cells ∙ ap (map (run (cells_of (g.S.Tiles.state c.args.source.now).cells cov) regs tree)) inv.frame)
           c.in_ok-push_column.ensures (inv.value i);
       fields = omega (arith, a, b, inv.fields);
       places = subst (HavePlaces (length c.args.frame.now)) (sym c.in_ok-push_column.ensures) (All-push (λ (o : List Outcome). length o ≡ length c.args.frame.now) c.loop-field.columns.items c.evaluate.new.out inv.places (ens.places ∙ ap length inv.frame));
       frame = ens.frame ∙ inv.frame;
-      rises = omega (arith, ens.rises, inv.rises);
       fetched = λ n h.
           let step = ens.fetched n (subst (All (λ (e : List ℤ). n ≤ length e)) (sym inv.frame) h) in
-          let e : fetches (signature_of (g.S.Tiles.coverages c.loop-field.source) cov) n c.loop-field.frame tree ≡ fetches (signature_of (g.S.Tiles.coverages c.args.source.now) cov) n c.args.frame.now tree =
-          ap (λ all. fetches (signature_of all cov) n c.loop-field.frame tree) inv.same.coverages ∙ ap (λ f. fetches (signature_of (g.S.Tiles.coverages c.args.source.now) cov) n f tree) inv.frame in
-          let m = bodies_more (fetches (signature_of (g.S.Tiles.coverages c.args.source.now) cov) n c.args.frame.now) c.args.fields.now k x lt c.field-item.is in
+          let e : fetches (signature_of (g.S.Tiles.state c.loop-field.source).coverages cov) n c.loop-field.frame tree ≡ fetches (signature_of (g.S.Tiles.state c.args.source.now).coverages cov) n c.args.frame.now tree =
+          ap (λ all. fetches (signature_of all cov) n c.loop-field.frame tree) inv.reads.coverages ∙ ap (λ f. fetches (signature_of (g.S.Tiles.state c.args.source.now).coverages cov) n f tree) inv.frame in
+          let m = bodies_more (fetches (signature_of (g.S.Tiles.state c.args.source.now).coverages cov) n c.args.frame.now) c.args.fields.now k x lt c.field-item.is in
           let before = inv.fetched n h in
           omega (arith, step, e, m, before);
-      same = record { cells = ens.same.cells ∙ inv.same.cells; coverages = ens.same.coverages ∙ inv.same.coverages; kept = ens.same.kept ∙ inv.same.kept };
-      intact = λ i. ens.intact (inv.intact i);
+      reads = reads_on inv.reads ens.reads;
       failures = ens.reports ∙ inv.failures;
     }
 
 pub returns-clause-fetched : goal.returns-clause-fetched
 returns-clause-fetched g c = λ n h.
     let cov = c.args.ground.now.coverages.now in
-    let f = fetches (signature_of (g.S.Tiles.coverages c.args.source.now) cov) n c.args.frame.now in
-    subst (λ l. g.S.Tiles.fetched c.loop-field.source ≤ g.S.Tiles.fetched c.args.source.now + sum_by f (bodies_behind [] (map field_view l)))
+    let f = fetches (signature_of (g.S.Tiles.state c.args.source.now).coverages cov) n c.args.frame.now in
+    subst (λ l. (g.S.Tiles.state c.loop-field.source).fetched ≤ (g.S.Tiles.state c.args.source.now).fetched + sum_by f (bodies_behind [] (map field_view l)))
     (whole_list c.loop-field.field-index c.args.fields.now (omega (arith, c.loop-field-test.false)))
     (c.loop-field.invariant.fetched n h)

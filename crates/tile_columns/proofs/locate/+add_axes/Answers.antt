@@ -15,13 +15,21 @@ add_axis-requires-clause-inside t c =
     let m = gap_of c.distance.result _ _ c.axis-item.result.lo c.axis-item.result.hi c.distance.ensures.gap (to_z-of_z w32 c.axis-item.result.lo lo) (to_z-of_z w32 c.axis-item.result.hi hi) in
     axis_inside c.args.edge c.args.axes.now _ c.axis-item.result c.args.indexes.now _ _ c.args.frame.now c.deref.result.now _ c.distance.result (head c.args.edge c.args.axes.now _ c.axis-item.result c.args.indexes.now _ _ c.args.frame.now e (cut_first c.args.indexes.now _ c.in-len1-up-indexes.len_at_least) c.requires.inside) (c.deref.ensures.value ∙ c.in_ok-list-in-len1-up-indexes.ensures) (to_z-of_z w32 c.axis-item.result.lo lo) m
 
-pub add_axis-requires-clause-small : goal.add_axis-requires-clause-small
-add_axis-requires-clause-small t c =
+pub add_axis-requires-clause-few_tiles : goal.add_axis-requires-clause-few_tiles
+add_axis-requires-clause-few_tiles t c =
     let lo : SFits w32 c.axis-item.result.lo = search rules in
     let hi : SFits w32 c.axis-item.result.hi = search rules in
     let e = cut c.args.axes.now c.axis-item.result c.in-len1-up.len_at_least c.axis-item.is in
     let m = gap_of c.distance.result _ _ c.axis-item.result.lo c.axis-item.result.hi c.distance.ensures.gap (to_z-of_z w32 c.axis-item.result.lo lo) (to_z-of_z w32 c.axis-item.result.hi hi) in
-    axis_small c.args.edge c.args.axes.now _ c.axis-item.result c.args.indexes.now _ _ c.args.frame.now c.deref.result.now _ c.distance.result c.args.scratch.now.numbers.items c.args.scratch.now.ranks.items (head c.args.edge c.args.axes.now _ c.axis-item.result c.args.indexes.now _ _ c.args.frame.now e (cut_first c.args.indexes.now _ c.in-len1-up-indexes.len_at_least) c.requires.inside) (c.deref.ensures.value ∙ c.in_ok-list-in-len1-up-indexes.ensures) (to_z-of_z w32 c.axis-item.result.lo lo) m c.requires.small
+    (axis_small c.args.edge c.args.axes.now _ c.axis-item.result c.args.indexes.now _ _ c.args.frame.now c.deref.result.now _ c.distance.result c.args.scratch.now.numbers.items c.args.scratch.now.ranks.items (head c.args.edge c.args.axes.now _ c.axis-item.result c.args.indexes.now _ _ c.args.frame.now e (cut_first c.args.indexes.now _ c.in-len1-up-indexes.len_at_least) c.requires.inside) (c.deref.ensures.value ∙ c.in_ok-list-in-len1-up-indexes.ensures) (to_z-of_z w32 c.axis-item.result.lo lo) m c.requires.few).0
+
+pub add_axis-requires-clause-few_ranks : goal.add_axis-requires-clause-few_ranks
+add_axis-requires-clause-few_ranks t c =
+    let lo : SFits w32 c.axis-item.result.lo = search rules in
+    let hi : SFits w32 c.axis-item.result.hi = search rules in
+    let e = cut c.args.axes.now c.axis-item.result c.in-len1-up.len_at_least c.axis-item.is in
+    let m = gap_of c.distance.result _ _ c.axis-item.result.lo c.axis-item.result.hi c.distance.ensures.gap (to_z-of_z w32 c.axis-item.result.lo lo) (to_z-of_z w32 c.axis-item.result.hi hi) in
+    (axis_small c.args.edge c.args.axes.now _ c.axis-item.result c.args.indexes.now _ _ c.args.frame.now c.deref.result.now _ c.distance.result c.args.scratch.now.numbers.items c.args.scratch.now.ranks.items (head c.args.edge c.args.axes.now _ c.axis-item.result c.args.indexes.now _ _ c.args.frame.now e (cut_first c.args.indexes.now _ c.in-len1-up-indexes.len_at_least) c.requires.inside) (c.deref.ensures.value ∙ c.in_ok-list-in-len1-up-indexes.ensures) (to_z-of_z w32 c.axis-item.result.lo lo) m c.requires.few).1
 
 pub add_axes-requires : goal.add_axes-requires
 add_axes-requires t c =
@@ -36,27 +44,21 @@ add_axes-requires t c =
           (head c.args.edge c.args.axes.now _ c.axis-item.result c.args.indexes.now _ _ c.args.frame.now e (cut_first c.args.indexes.now (Const (pos 0)) c.in-len1-up-indexes.len_at_least) c.requires.inside).further_inside,
           (
             (c.add_axis.ensures.places.0 ∙ c.requires.places.0, c.add_axis.ensures.places.1 ∙ c.requires.places.1),
-            λ k lt. (
-              stays_below _ _ (counted_tile c.args.edge c.args.axes.now _ c.axis-item.result c.args.indexes.now _ _ c.args.frame.now c.deref.result.now _ c.distance.result c.args.scratch.now.numbers.items c.add_axis.new.tiles.items (head c.args.edge c.args.axes.now _ c.axis-item.result c.args.indexes.now _ _ c.args.frame.now e (cut_first c.args.indexes.now _ c.in-len1-up-indexes.len_at_least) c.requires.inside) (c.deref.ensures.value ∙ c.in_ok-list-in-len1-up-indexes.ensures) (to_z-of_z w32 c.axis-item.result.lo lo) m c.add_axis.ensures.tiles k lt) (c.requires.small k lt).0,
-              stays_below _ _ (counted_rank c.args.edge c.args.axes.now _ c.axis-item.result c.args.indexes.now _ _ c.args.frame.now c.deref.result.now _ c.distance.result c.args.scratch.now.ranks.items c.add_axis.new.ranks.items (head c.args.edge c.args.axes.now _ c.axis-item.result c.args.indexes.now _ _ c.args.frame.now e (cut_first c.args.indexes.now _ c.in-len1-up-indexes.len_at_least) c.requires.inside) (c.deref.ensures.value ∙ c.in_ok-list-in-len1-up-indexes.ensures) (to_z-of_z w32 c.axis-item.result.lo lo) m c.add_axis.ensures.ranks k lt) (c.requires.small k lt).1,
+            (
+              λ k lt. stays_below _ _ (counted_tile c.args.edge c.args.axes.now _ c.axis-item.result c.args.indexes.now _ _ c.args.frame.now c.deref.result.now _ c.distance.result c.args.scratch.now.numbers.items c.add_axis.new.tiles.items (head c.args.edge c.args.axes.now _ c.axis-item.result c.args.indexes.now _ _ c.args.frame.now e (cut_first c.args.indexes.now _ c.in-len1-up-indexes.len_at_least) c.requires.inside) (c.deref.ensures.value ∙ c.in_ok-list-in-len1-up-indexes.ensures) (to_z-of_z w32 c.axis-item.result.lo lo) m c.add_axis.ensures.tiles k lt) (c.requires.few.0 k lt),
+              λ k lt. stays_below _ _ (counted_rank c.args.edge c.args.axes.now _ c.axis-item.result c.args.indexes.now _ _ c.args.frame.now c.deref.result.now _ c.distance.result c.args.scratch.now.ranks.items c.add_axis.new.ranks.items (head c.args.edge c.args.axes.now _ c.axis-item.result c.args.indexes.now _ _ c.args.frame.now e (cut_first c.args.indexes.now _ c.in-len1-up-indexes.len_at_least) c.requires.inside) (c.deref.ensures.value ∙ c.in_ok-list-in-len1-up-indexes.ensures) (to_z-of_z w32 c.axis-item.result.lo lo) m c.add_axis.ensures.ranks k lt) (c.requires.few.1 k lt),
             ),
           ),
         ),
       ),
     )
 
-pub returns-in_ok-add_axes-in-len1-up-indexes-clause-tiles : goal.returns-in_ok-add_axes-in-len1-up-indexes-clause-tiles
-returns-in_ok-add_axes-in-len1-up-indexes-clause-tiles t c = λ k lt.
+pub returns-in_ok-add_axes-in-len1-up-indexes-clause-counted : goal.returns-in_ok-add_axes-in-len1-up-indexes-clause-counted
+returns-in_ok-add_axes-in-len1-up-indexes-clause-counted t c =
     let lo : SFits w32 c.axis-item.result.lo = search rules in
     let hi : SFits w32 c.axis-item.result.hi = search rules in
     let e = cut c.args.axes.now c.axis-item.result c.in-len1-up.len_at_least c.axis-item.is in
-    let m = gap_of c.distance.result _ _ c.axis-item.result.lo c.axis-item.result.hi c.distance.ensures.gap (to_z-of_z w32 c.axis-item.result.lo lo) (to_z-of_z w32 c.axis-item.result.hi hi) in
-    c.in_ok-add_axes-in-len1-up-indexes.ensures.tiles k lt ∙ counted_tile c.args.edge c.args.axes.now _ c.axis-item.result c.args.indexes.now _ _ c.args.frame.now c.deref.result.now _ c.distance.result c.args.scratch.now.numbers.items c.add_axis.new.tiles.items (head c.args.edge c.args.axes.now _ c.axis-item.result c.args.indexes.now _ _ c.args.frame.now e (cut_first c.args.indexes.now _ c.in-len1-up-indexes.len_at_least) c.requires.inside) (c.deref.ensures.value ∙ c.in_ok-list-in-len1-up-indexes.ensures) (to_z-of_z w32 c.axis-item.result.lo lo) m c.add_axis.ensures.tiles k lt
-
-pub returns-in_ok-add_axes-in-len1-up-indexes-clause-ranks : goal.returns-in_ok-add_axes-in-len1-up-indexes-clause-ranks
-returns-in_ok-add_axes-in-len1-up-indexes-clause-ranks t c = λ k lt.
-    let lo : SFits w32 c.axis-item.result.lo = search rules in
-    let hi : SFits w32 c.axis-item.result.hi = search rules in
-    let e = cut c.args.axes.now c.axis-item.result c.in-len1-up.len_at_least c.axis-item.is in
-    let m = gap_of c.distance.result _ _ c.axis-item.result.lo c.axis-item.result.hi c.distance.ensures.gap (to_z-of_z w32 c.axis-item.result.lo lo) (to_z-of_z w32 c.axis-item.result.hi hi) in
-    c.in_ok-add_axes-in-len1-up-indexes.ensures.ranks k lt ∙ counted_rank c.args.edge c.args.axes.now _ c.axis-item.result c.args.indexes.now _ _ c.args.frame.now c.deref.result.now _ c.distance.result c.args.scratch.now.ranks.items c.add_axis.new.ranks.items (head c.args.edge c.args.axes.now _ c.axis-item.result c.args.indexes.now _ _ c.args.frame.now e (cut_first c.args.indexes.now _ c.in-len1-up-indexes.len_at_least) c.requires.inside) (c.deref.ensures.value ∙ c.in_ok-list-in-len1-up-indexes.ensures) (to_z-of_z w32 c.axis-item.result.lo lo) m c.add_axis.ensures.ranks k lt
+    let m = gap_of c.distance.result _ _ c.axis-item.result.lo c.axis-item.result.hi c.distance.ensures.gap (to_z-of_z w32 c.axis-item.result.lo lo) (to_z-of_z w32 c.axis-item.result.hi hi) in (
+      λ k lt. c.in_ok-add_axes-in-len1-up-indexes.ensures.counted.0 k lt ∙ counted_tile c.args.edge c.args.axes.now _ c.axis-item.result c.args.indexes.now _ _ c.args.frame.now c.deref.result.now _ c.distance.result c.args.scratch.now.numbers.items c.add_axis.new.tiles.items (head c.args.edge c.args.axes.now _ c.axis-item.result c.args.indexes.now _ _ c.args.frame.now e (cut_first c.args.indexes.now _ c.in-len1-up-indexes.len_at_least) c.requires.inside) (c.deref.ensures.value ∙ c.in_ok-list-in-len1-up-indexes.ensures) (to_z-of_z w32 c.axis-item.result.lo lo) m c.add_axis.ensures.tiles k lt,
+      λ k lt. c.in_ok-add_axes-in-len1-up-indexes.ensures.counted.1 k lt ∙ counted_rank c.args.edge c.args.axes.now _ c.axis-item.result c.args.indexes.now _ _ c.args.frame.now c.deref.result.now _ c.distance.result c.args.scratch.now.ranks.items c.add_axis.new.ranks.items (head c.args.edge c.args.axes.now _ c.axis-item.result c.args.indexes.now _ _ c.args.frame.now e (cut_first c.args.indexes.now _ c.in-len1-up-indexes.len_at_least) c.requires.inside) (c.deref.ensures.value ∙ c.in_ok-list-in-len1-up-indexes.ensures) (to_z-of_z w32 c.axis-item.result.lo lo) m c.add_axis.ensures.ranks k lt,
+    )

@@ -3,19 +3,19 @@ use Rattle.std.proofs.Common.{◌≢◌, ◌∙◌, ap, arith, rules, get_or, po
 use Rattle.std.proofs.lemmas.Int.{to_z-of_z}
 use Rattle.arr_core.specs.Domains.{gap}
 use Rattle.tile_kernel.proofs.Places.{written_back}
-use Rattle.tile_columns.specs.Gathering.{tile_on, rank_on}
+use Rattle.tile_columns.specs.Locating.{tile_on, rank_on}
 use Rattle.tile_columns.proofs.Ranges.{written_more}
 use Rattle.tile_columns.proofs.locate.add_axis.Goals as goal
 
 pub located_along-now-requires-clause-tile : goal.located_along-now-requires-clause-tile
 located_along-now-requires-clause-tile c =
     let fits : SFits w64 (get_or c.args.coordinates.now c.loop-place.place (pos 0)) = search rules in
-    rw (to_z-of_z w64 (get_or c.args.coordinates.now c.loop-place.place (pos 0)) fits, c.loop-place.invariant.tiles_left c.loop-place.place (omega arith)) (c.requires.small c.loop-place.place (omega arith)).0
+    rw (to_z-of_z w64 (get_or c.args.coordinates.now c.loop-place.place (pos 0)) fits, c.loop-place.invariant.tiles_left c.loop-place.place (omega arith)) (c.requires.few_tiles c.loop-place.place (omega arith))
 
 pub located_along-now-requires-clause-rank : goal.located_along-now-requires-clause-rank
 located_along-now-requires-clause-rank c =
     let fits : SFits w64 (get_or c.args.coordinates.now c.loop-place.place (pos 0)) = search rules in
-    rw (to_z-of_z w64 (get_or c.args.coordinates.now c.loop-place.place (pos 0)) fits, c.loop-place.invariant.ranks_left c.loop-place.place (omega arith)) (c.requires.small c.loop-place.place (omega arith)).1
+    rw (to_z-of_z w64 (get_or c.args.coordinates.now c.loop-place.place (pos 0)) fits, c.loop-place.invariant.ranks_left c.loop-place.place (omega arith)) (c.requires.few_ranks c.loop-place.place (omega arith))
 
 pub loop-place-preserved : goal.loop-place-preserved
 loop-place-preserved c =

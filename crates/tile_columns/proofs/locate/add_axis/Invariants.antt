@@ -1,6 +1,6 @@
 use Rattle.std.proofs.Common.{◌≡◌, ℕ, ◌<◌, ◌≤◌, get_or, pos}
 use Rattle.arr_core.specs.Domains.{gap}
-use Rattle.tile_columns.specs.Gathering.{tile_on, rank_on}
+use Rattle.tile_columns.specs.Locating.{tile_on, rank_on}
 use Rattle.tile_columns.proofs.locate.add_axis.Given as goal
 
 abbrev pub invariant-loop-place : goal.invariant-loop-place

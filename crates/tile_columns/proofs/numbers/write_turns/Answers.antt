@@ -11,8 +11,7 @@ use Rattle.tile_columns.proofs.numbers.write_turns.Goals as goal
 pub loop-place-init : goal.loop-place-init
 loop-place-init c = record {
   written = λ k lt. absurd (omega arith);
-  step = (turn_start c.args.every c.distance-last.result c.requires.some).0;
-  times = (turn_start c.args.every c.distance-last.result c.requires.some).1;
+  turn = turn_start c.args.every c.distance-last.result c.requires.some;
   low = omega arith;
   few = c.requires.some;
 }
@@ -20,14 +19,13 @@ loop-place-init c = record {
 pub loop-place-preserved : goal.loop-place-preserved
 loop-place-preserved c =
     let inv = c.loop-place.invariant in
-    let n = c.turned-now.ensures.next c.loop-place.place inv.step inv.times in
+    let n = c.turned-now.ensures.next c.loop-place.place inv.turn in
     let fits : SFits w64 c.above.result = search rules in
     record {
       written = written_more (turn (to_z w32 (of_z w32 c.args.lo)) (to_z w32 (of_z w32 c.args.hi)) c.args.every) c.loop-place.all c.loop-place.place _ (pos 0) (omega arith)
           (to_z-of_z w64 c.above.result fits ∙ c.above.ensures
-          ∙ turn_here (to_z w32 (of_z w32 c.args.lo)) (to_z w32 (of_z w32 c.args.hi)) c.args.every c.loop-place.place c.distance-last.result c.loop-place.now.step inv.step c.distance-last.ensures.gap) inv.written;
-      step = n.0;
-      times = n.1;
+          ∙ turn_here (to_z w32 (of_z w32 c.args.lo)) (to_z w32 (of_z w32 c.args.hi)) c.args.every c.loop-place.place c.distance-last.result c.loop-place.now.step inv.turn.0 c.distance-last.ensures.gap) inv.written;
+      turn = n;
       low = c.turned-now.ensures.step;
       few = c.turned-now.ensures.times;
     }

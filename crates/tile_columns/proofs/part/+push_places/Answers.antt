@@ -25,7 +25,7 @@ overflow_mul-skipped t c =
     let wide = x.wide in
     let at : c.offset-skipped.result + c.loop-step.step < size_of c.axis-item.result = omega (arith, wide, c.offset-skipped.ensures.gap, c.size-rows.ensures.value, c.loop-step-test.true) in
     let few = row_few c.axis-item.result c.args.area.now _ c.args.first (c.offset-skipped.result + c.loop-step.step) area_is at c.requires.few in
-    let row = ap (λ n. (c.offset-skipped.result + c.loop-step.step) * n) c.count_of-row.ensures.count in
+    let row = ap (λ n. (c.offset-skipped.result + c.loop-step.step) * n) c.count_points-row.ensures.count in
     omega (arith, few, row)
 
 pub overflow_add-first-in-loop-step : goal.overflow_add-first-in-loop-step
@@ -36,7 +36,7 @@ overflow_add-first-in-loop-step t c =
     let wide = x.wide in
     let at : c.offset-skipped.result + c.loop-step.step < size_of c.axis-item.result = omega (arith, wide, c.offset-skipped.ensures.gap, c.size-rows.ensures.value, c.loop-step-test.true) in
     let few = row_few c.axis-item.result c.args.area.now _ c.args.first (c.offset-skipped.result + c.loop-step.step) area_is at c.requires.few in
-    let row = ap (λ n. (c.offset-skipped.result + c.loop-step.step) * n) c.count_of-row.ensures.count in
+    let row = ap (λ n. (c.offset-skipped.result + c.loop-step.step) * n) c.count_points-row.ensures.count in
     omega (arith, few, row)
 
 pub push_places-requires : goal.push_places-requires
@@ -47,7 +47,7 @@ push_places-requires t c =
     let wide = x.wide in
     let at : c.offset-skipped.result + c.loop-step.step < size_of c.axis-item.result = omega (arith, wide, c.offset-skipped.ensures.gap, c.size-rows.ensures.value, c.loop-step-test.true) in
     let few = row_few c.axis-item.result c.args.area.now _ c.args.first (c.offset-skipped.result + c.loop-step.step) area_is at c.requires.few in
-    let row = ap (λ n. (c.offset-skipped.result + c.loop-step.step) * n) c.count_of-row.ensures.count in
+    let row = ap (λ n. (c.offset-skipped.result + c.loop-step.step) * n) c.count_points-row.ensures.count in
     (search rules, (x.inside, (x.ordered, (x.part_ordered, omega (arith, few, row)))))
 
 pub loop-step-preserved : goal.loop-step-preserved
@@ -56,7 +56,7 @@ loop-step-preserved t c =
     let part = take (length c.args.part.now - 1) (drop 1 c.args.part.now) in
     let first = c.args.first in
     let skipped = c.offset-skipped.result in
-    let row = c.count_of-row.result in
+    let row = c.count_points-row.result in
     let places : ℕ → List ℕ = λ k. map (λ p. (first + (skipped + k) * row) + rank_of area p) (points part) in
     rows_more places c.args.list.now.items c.loop-step.list.items c.push_places.new.list.items c.loop-step.step c.loop-step.invariant c.in_ok-push_places-in-len1-up-part.ensures
 
@@ -69,4 +69,4 @@ returns-after-loop-step t c =
     let x = cut_boxes _ _ _ _ _ _ area_is part_is c.requires.inside c.requires.ordered c.requires.part_ordered in
     let all : c.loop-step.step ≡ size_of c.own-item.result = omega (arith, c.size-rows.ensures.value) in
     c.loop-step.invariant
-    ∙ ap (λ l. c.args.list.now.items ++ l) (all_rows area part _ _ _ _ c.args.first c.offset-skipped.result c.count_of-row.result c.loop-step.step area_is part_is c.offset-skipped.ensures.gap c.count_of-row.ensures.count all x.low)
+    ∙ ap (λ l. c.args.list.now.items ++ l) (all_rows area part _ _ _ _ c.args.first c.offset-skipped.result c.count_points-row.result c.loop-step.step area_is part_is c.offset-skipped.ensures.gap c.count_points-row.ensures.count all x.low)

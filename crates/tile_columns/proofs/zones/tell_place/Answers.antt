@@ -12,13 +12,13 @@ use Rattle.tile_columns.proofs.zones.tell_place.Goals as goal
 
 pub returns-in-Some : goal.returns-in-Some
 returns-in-Some c =
-    let seen = c.args.seen.now in
-    let keys = c.args.keys.now in
+    let seen = c.args.pool.now.seen.now in
+    let keys = c.args.pool.now.keys.now in
     let j = c.in-Some.j in
     let found = c.index-shared-j.result in
     let key = outcome_there keys.column c.args.place c.at-key.result c.at-key.ensures ∙ c.in-Some.ensures.key in
-    let lt : j < length c.args.shared.now = omega (arith, c.in-Some.ensures.within, c.requires.shared.many) in
-    let is : get_or c.args.shared.now j found ≡ found = sym c.index-shared-j.is in
+    let lt : j < length c.args.pool.now.shared.now = omega (arith, c.in-Some.ensures.within, c.requires.shared.many) in
+    let is : get_or c.args.pool.now.shared.now j found ≡ found = sym c.index-shared-j.is in
     let more = demanded_at seen.ranks.now (map (compared seen.key_first (outcome_at keys.column c.args.place)) seen.own.now) seen.column.now in
     let stands : Stands found more =
     subst (λ o. Stands found (demanded_at seen.ranks.now (map (compared seen.key_first o) seen.own.now) seen.column.now)) (sym key)
@@ -29,8 +29,8 @@ returns-in-Some c =
 
 pub returns-in-None : goal.returns-in-None
 returns-in-None c =
-    let seen = c.args.seen.now in
-    let keys = c.args.keys.now in
+    let seen = c.args.pool.now.seen.now in
+    let keys = c.args.pool.now.keys.now in
     let found = c.fold_equal-found.result in
     let key = outcome_there keys.column c.args.place c.at-key.result c.at-key.ensures in
     let more = demanded_at seen.ranks.now (map (compared seen.key_first (outcome_at keys.column c.args.place)) seen.own.now) seen.column.now in

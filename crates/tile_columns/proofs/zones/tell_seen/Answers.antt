@@ -6,13 +6,11 @@ use Rattle.tile_columns.proofs.zones.tell_seen.Goals as goal
 pub tell_places-requires : goal.tell_places-requires
 tell_places-requires c =
     let is = c.deref.ensures.value in
-    let own = c.requires.own in
-    let ranks = c.requires.ranks in
+    let whole = c.requires.seen in
     let keys = c.requires.keys in
-    let seen = c.args.seen.now in
-    let shared : AreShared c.args.op c.args.keys.now.slots seen.own.now seen.column.now seen.ranks.now c.deref.result.now =
-    subst (AreShared c.args.op c.args.keys.now.slots seen.own.now seen.column.now seen.ranks.now) (sym is) c.in_ok-shared.ensures in
+    let shared : AreShared c.args.op c.args.keys.now.slots c.args.seen.now c.deref.result.now =
+    subst (AreShared c.args.op c.args.keys.now.slots c.args.seen.now) (sym is) c.in_ok-shared.ensures in
     let op = c.requires.op in
     let few = c.len-few.ensures.few in
     let room = c.requires.room in
-    search (rules, own, ranks, keys, shared, op, few, room)
+    search (rules, whole, keys, shared, op, few, room)

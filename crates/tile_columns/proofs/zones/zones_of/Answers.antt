@@ -2,7 +2,7 @@
 use Rattle.std.proofs.Common.{◌∙◌, sym, subst, arith, Option}
 use Rattle.plan_ir.specs.declared.body.Body.{Body}
 use Rattle.plan_ir.specs.Bodies.{condition_view}
-use Rattle.tile_columns.specs.Zones.{own_side, key_side, AreSides}
+use Rattle.tile_columns.specs.Zones.{HasKey}
 use Rattle.tile_columns.proofs.Turns.{if_some}
 use Rattle.tile_columns.proofs.zones.zones_of.Goals as goal
 
@@ -13,7 +13,7 @@ returns-in-Some c =
       depth = c.depth-depth.result;
       deep = c.depth-depth.ensures;
       some = omega (arith, c.places-places.ensures.value, c.if-places-lt2.false);
-      sides = subst (λ (o : Option Body). AreSides c.depth-depth.result (condition_view o) (own_side z.key_first (condition_view o)) (key_side z.key_first (condition_view o)) z.key_first) (sym c.in-Some.is) s;
+      sides = subst (λ (o : Option Body). HasKey c.depth-depth.result (condition_view o) z.key_first) (sym c.in-Some.is) s;
       body_from = sym c.is_from.ensures ∙ c.if-not-is_from.false;
     })
     c.sides.ensures

@@ -8,20 +8,29 @@ use Rattle.arr_core.specs.Domains.{points, count}
 use Rattle.arr_core.specs.Tiles.{tile_boxes}
 use Rattle.wcps_mean.specs.Answer.{line_of, field_count}
 use Rattle.plan_ir.specs.Plans.{signature_of, item_view, field_view}
+use Rattle.plan_ir.specs.Placed.{spans}
 use Rattle.plan_ir.specs.Planned.{cells_of}
 use Rattle.plan_ir.specs.Units.{bound_of}
 use Rattle.tile_kernel.specs.Told.{IsFirst}
 use Rattle.tile_columns.specs.Fields.{HavePlaces}
+use Rattle.tile_columns.proofs.Boxes.{points_within}
 use Rattle.tile_exec.specs.Items.{places_of, told_to_item}
 use Rattle.tile_exec.specs.Rows.{cells_told}
 use Rattle.tile_exec.specs.Tasks.{item, bodies_of}
 use Rattle.tile_exec.proofs.Rows.{part_inside, ranks_small, written_places, written_cells, told_rows, places_below}
 use Rattle.tile_exec.proofs.item.item_tile.Goals as goal
 
+pub columns_over-requires-clause-place : goal.columns_over-requires-clause-place
+columns_over-requires-clause-place g c = record {
+  scope = spans c.args.item.now.domain;
+  placed = c.requires.placed.1;
+  within = points_within c.args.item.now.domain c.in_ok-part.part c.in_ok-part.ensures.inside c.axes-axes.ensures.domain.ordered;
+}
+
 pub tell_points-requires-clause-ranks : goal.tell_points-requires-clause-ranks
 tell_points-requires-clause-ranks g c =
     subst (All (λ r. r < 2 ^ 24)) (sym (c.deref.ensures.value ∙ c.in_ok-ranks.ensures))
-    (ranks_small c.args.planned.now.domain (points c.in_ok-part.part) c.requires.placed.0.few_points (part_inside c.args.planned.now.domain c.in_ok-part.part c.in_ok-part.ensures.inside c.axes-axes.ensures.domain.ordered))
+    (ranks_small c.args.item.now.domain (points c.in_ok-part.part) c.requires.placed.0.few_points (part_inside c.args.item.now.domain c.in_ok-part.part c.in_ok-part.ensures.inside c.axes-axes.ensures.domain.ordered))
 
 pub tell_points-requires-clause-there : goal.tell_points-requires-clause-there
 tell_points-requires-clause-there g c =
@@ -31,10 +40,10 @@ tell_points-requires-clause-there g c =
 
 pub returns-clause-fits : goal.returns-clause-fits
 returns-clause-fits g c =
-    let i = item_view c.args.planned.now in
+    let i = item_view c.args.item.now in
     let qs = points c.in_ok-part.part in
     let inside = part_inside i.domain c.in_ok-part.part c.in_ok-part.ensures.inside c.axes-axes.ensures.domain.ordered in
-    let width = length-map c.args.planned.now.fields.items field_view in
+    let width = length-map c.args.item.now.fields.items field_view in
     let ranks = c.deref.ensures.value ∙ c.in_ok-ranks.ensures in
     let columns = ap length c.deref-3.ensures.value ∙ c.in_ok-columns.ensures.fields ∙ sym width in
     let written = c.in_ok-first.ensures.cells ∙ ap (λ l. cells_told c.deref.result.now (map field_view l) c.deref-3.result.now (length c.deref.result.now)) c.deref-2.ensures.value in
@@ -48,14 +57,14 @@ returns-clause-fits g c =
 
 pub returns-clause-tells : goal.returns-clause-tells
 returns-clause-tells g c = λ intact.
-    let i = item_view c.args.planned.now in
-    let s = cells_of (g.S.Tiles.cells c.args.source.now) c.args.ground.now.coverages.now in
+    let i = item_view c.args.item.now in
+    let s = cells_of (g.S.Tiles.state c.args.source.now).cells c.args.ground.now.coverages.now in
     let regs = c.args.ground.now.registers.now in
     let part = c.in_ok-part.part in
     let qs = points part in
     let is = get_or_from_slice_get (tile_boxes i.domain) c.args.tile part [] c.in_ok-part.ensures.value in
     let inside = part_inside i.domain part c.in_ok-part.ensures.inside c.axes-axes.ensures.domain.ordered in
-    let width = length-map c.args.planned.now.fields.items field_view in
+    let width = length-map c.args.item.now.fields.items field_view in
     let ranks = c.deref.ensures.value ∙ c.in_ok-ranks.ensures in
     let many = ap length c.deref-3.ensures.value ∙ c.in_ok-columns.ensures.fields ∙ sym width in
     let columns = c.deref-3.ensures.value ∙ c.in_ok-columns.ensures.value intact in
@@ -69,7 +78,7 @@ returns-clause-tells g c = λ intact.
 
 pub returns-clause-fetched : goal.returns-clause-fetched
 returns-clause-fetched g c =
-    let i = item_view c.args.planned.now in
+    let i = item_view c.args.item.now in
     let is = get_or_from_slice_get (tile_boxes i.domain) c.args.tile c.in_ok-part.part [] c.in_ok-part.ensures.value in
-    let cs = signature_of (g.S.Tiles.coverages c.args.source.now) c.args.ground.now.coverages.now in
-    subst (λ b. g.S.Tiles.fetched c.columns_over.new.source ≤ g.S.Tiles.fetched c.args.source.now + sum_by (bound_of cs b) (bodies_of (item i))) (sym is) c.in_ok-columns.ensures.fetched
+    let cs = signature_of (g.S.Tiles.state c.args.source.now).coverages c.args.ground.now.coverages.now in
+    subst (λ b. (g.S.Tiles.state c.columns_over.new.source).fetched ≤ (g.S.Tiles.state c.args.source.now).fetched + sum_by (bound_of cs b) (bodies_of (item i))) (sym is) c.in_ok-columns.ensures.fetched

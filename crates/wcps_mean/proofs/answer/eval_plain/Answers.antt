@@ -6,12 +6,13 @@ use Rattle.wcps_types.specs.TypedQueries.{trees_in}
 use Rattle.wcps_types.specs.Cells.{result_cells, max_cells}
 use Rattle.wcps_mean.specs.Answer.{combination_answer, joined}
 use Rattle.wcps_mean.proofs.FewCells.{few_in_one}
+use Rattle.wcps_mean.proofs.Scoped.{leaves-on}
 use Rattle.wcps_mean.proofs.Told.{passes-from}
 use Rattle.wcps_mean.proofs.Joins.{turn-more, turn-stop, turns-all, map-map, tells-on, pushed-ok}
 use Rattle.wcps_mean.proofs.answer.eval_plain.Goals as goal
 
-pub returns-in_err-push_combination-clause-fault : goal.returns-in_err-push_combination-clause-fault
-returns-in_err-push_combination-clause-fault g c =
+pub returns-in_err-push_combination-clause-answer : goal.returns-in_err-push_combination-clause-answer
+returns-in_err-push_combination-clause-answer g c =
     let inv = c.loop-combination.invariant in
     let s = g.C.Cells.cells c.args.cells.now in
     let all = c.args.query.now.combinations.items in
@@ -19,12 +20,12 @@ returns-in_err-push_combination-clause-fault g c =
     let x = c.combination-item.result in
     let is = c.combination-item.is ∙ ap (λ l. get_or l c.loop-combination.combination-index x) c.combinations-combination-items.ensures in
     let lt : c.loop-combination.combination-index < length c.args.query.now.combinations.items = omega (arith, ap length c.combinations-combination-items.ensures) in
-    let same = ap (λ s. combination_answer s (view x)) inv.same in
+    let same = ap (λ s. combination_answer s (view x)) inv.leaves.cells in
     let p = err_from_is_err_and c.from_residual.result c.from_residual.ensures.1 in
     rw (p.1, p.2) (λ h. tells-on _ _ _
     (λ f e. ap joined (map-map (combination_answer s) view all)
     ∙ turn-stop (λ t. combination_answer s (view t)) all c.loop-combination.combination-index x x c.loop-combination.items.items f lt is (inv.pushed h) (sym same ∙ e))
-    (c.in_err-push_combination.ensures.fault (inv.intact h)))
+    (c.in_err-push_combination.ensures.pushed (inv.leaves.intact h)))
 
 pub loop-combination-preserved : goal.loop-combination-preserved
 loop-combination-preserved g c =
@@ -35,18 +36,16 @@ loop-combination-preserved g c =
     let x = c.combination-item.result in
     let is = c.combination-item.is ∙ ap (λ l. get_or l c.loop-combination.combination-index x) c.combinations-combination-items.ensures in
     let lt : c.loop-combination.combination-index < length c.args.query.now.combinations.items = omega (arith, ap length c.combinations-combination-items.ensures) in
-    let same = ap (λ s. combination_answer s (view x)) inv.same in
+    let same = ap (λ s. combination_answer s (view x)) inv.leaves.cells in
     record {
-      same = c.in_ok-push_combination.ensures.same ∙ inv.same;
-      kept = c.in_ok-push_combination.ensures.kept ∙ inv.kept;
-      intact = λ h. c.in_ok-push_combination.ensures.intact (inv.intact h);
+      leaves = leaves-on _ _ _ _ inv.leaves c.in_ok-push_combination.ensures.leaves;
       failures = c.in_ok-push_combination.ensures.reports ∙ inv.failures;
-      pushed = λ h. let w = pushed-ok _ _ _ (c.in_ok-push_combination.ensures.value (inv.intact h)) in
+      pushed = λ h. let w = pushed-ok _ _ _ (c.in_ok-push_combination.ensures.pushed (inv.leaves.intact h)) in
           turn-more (λ t. combination_answer s (view t)) all c.loop-combination.combination-index x x c.loop-combination.items.items w.0 lt is (inv.pushed h) (sym same ∙ w.1) ∙ ap Ok (sym w.2);
     }
 
-pub returns-clause-items : goal.returns-clause-items
-returns-clause-items g c h =
+pub returns-clause-answer : goal.returns-clause-answer
+returns-clause-answer g c h =
     let inv = c.loop-combination.invariant in
     let s = g.C.Cells.cells c.args.cells.now in
     let all = c.args.query.now.combinations.items in
@@ -59,7 +58,7 @@ pub returns-in_err-push_combination-clause-reports : goal.returns-in_err-push_co
 returns-in_err-push_combination-clause-reports g c =
     let inv = c.loop-combination.invariant in
     let p = err_from_is_err_and c.from_residual.result c.from_residual.ensures.1 in
-    rw (p.1, p.2) (passes-from _ _ _ _ inv.intact inv.failures c.in_err-push_combination.ensures.reports)
+    rw (p.1, p.2) (passes-from _ _ _ _ inv.leaves.intact inv.failures c.in_err-push_combination.ensures.reports)
 
 pub push_combination-requires : goal.push_combination-requires
 push_combination-requires g c =

@@ -39,7 +39,7 @@ in_parens-returns-in_default-clause-exact t c = rw c.in_default.ensures.value (c
 
 pub in_parens-returns-clause-exact : goal.in_parens-returns-clause-exact
 unfolding in_parens
-in_parens-returns-clause-exact t c = reads_then _ _ _ _ c.enclosed.result c.enclosed.ensures.exact (λ o h. rw c.in-Some.ensures.value h)
+in_parens-returns-clause-exact t c = reads_then _ c.enclosed.result c.enclosed.ensures.exact (λ o h. rw c.in-Some.ensures.value h)
 
 pub bit-returns-in_default-clause-exact : goal.bit-returns-in_default-clause-exact
 unfolding bit
@@ -229,7 +229,7 @@ pub condense-returns-clause-exact : goal.condense-returns-clause-exact
 unfolding condense
 condense-returns-clause-exact t c = record {
   whole = tree.condense c.in-Some.op (iters_from c.in_ok-iterators.ensures.exact.whole) c.in_ok-test.ensures.exact.whole c.in_ok-body.ensures.exact.whole;
-  fit = c.in_ok-condense.ensures c.in_ok-iterators.ensures.exact.whole c.in_ok-test.ensures.exact.whole c.in_ok-body.ensures.exact.whole c.in_ok-iterators.ensures.exact.fit c.in_ok-test.ensures.exact.fit c.in_ok-body.ensures.exact.fit;
+  fit = c.in_ok-condense.ensures c.in_ok-iterators.ensures.exact.whole c.in_ok-iterators.ensures.exact.fit c.in_ok-test.ensures.exact.whole c.in_ok-body.ensures.exact.whole c.in_ok-test.ensures.exact.fit c.in_ok-body.ensures.exact.fit;
   comes = rw (c.in-Some.ensures.value, c.in-Some-word_at.ensures.value) (comes_then _ c.in_ok-iterators.ensures.exact.comes (comes_then _ c.in_ok-test.ensures.exact.comes (rw c.in-Some-word_at-2.ensures.value (comes_then _ c.in_ok-body.ensures.exact.comes (comes_now _)))));
 }
 
@@ -335,7 +335,7 @@ interval-returns-in_default-word_at-clause-exact t c = rw (c.in_default.ensures.
 
 pub interval-returns-clause-exact : goal.interval-returns-clause-exact
 unfolding interval
-interval-returns-clause-exact t c = reads_then _ _ _ _ c.domain.result c.domain.ensures.exact (λ o h. rw (c.in_default.ensures.value, c.in-Some-word_at.ensures.value) h)
+interval-returns-clause-exact t c = reads_then _ c.domain.result c.domain.ensures.exact (λ o h. rw (c.in_default.ensures.value, c.in-Some-word_at.ensures.value) h)
 
 pub parts-returns-in_err-first-clause-exact : goal.parts-returns-in_err-first-clause-exact
 unfolding parts
@@ -545,23 +545,23 @@ prim-returns-in_ok-leaf-in-Variable-clause-exact t c = record { whole = tree.var
 
 pub prim-returns-in-Paren-clause-exact : goal.prim-returns-in-Paren-clause-exact
 unfolding begun
-prim-returns-in-Paren-clause-exact t c = reads_then _ _ _ _ c.enclosed.result c.enclosed.ensures.exact (λ o h. prim_by _ _ _ with_paren o c.in-Some.ensures.value (ap begin_of c.in-Paren.is) h)
+prim-returns-in-Paren-clause-exact t c = reads_then _ c.enclosed.result c.enclosed.ensures.exact (λ o h. prim_by _ _ _ with_paren o c.in-Some.ensures.value (ap begin_of c.in-Paren.is) h)
 
 pub prim-returns-in-Brace-clause-exact : goal.prim-returns-in-Brace-clause-exact
 unfolding begun
-prim-returns-in-Brace-clause-exact t c = reads_then _ _ _ _ c.record.result c.record.ensures.exact (λ o h. prim_by _ _ _ with_brace o c.in-Some.ensures.value (ap begin_of c.in-Brace.is) h)
+prim-returns-in-Brace-clause-exact t c = reads_then _ c.record.result c.record.ensures.exact (λ o h. prim_by _ _ _ with_brace o c.in-Some.ensures.value (ap begin_of c.in-Brace.is) h)
 
 pub prim-returns-in-Bit-clause-exact : goal.prim-returns-in-Bit-clause-exact
 unfolding begun
-prim-returns-in-Bit-clause-exact t c = reads_then _ _ _ _ c.bit.result c.bit.ensures.exact (λ o h. prim_by _ _ _ with_bit o c.in-Some.ensures.value (ap begin_of c.in-Bit.is) h)
+prim-returns-in-Bit-clause-exact t c = reads_then _ c.bit.result c.bit.ensures.exact (λ o h. prim_by _ _ _ with_bit o c.in-Some.ensures.value (ap begin_of c.in-Bit.is) h)
 
 pub prim-returns-in-Coverage-clause-exact : goal.prim-returns-in-Coverage-clause-exact
 unfolding begun
-prim-returns-in-Coverage-clause-exact t c = reads_then _ _ _ _ c.coverage.result c.coverage.ensures.exact (λ o h. prim_by _ _ _ with_coverage o c.in-Some.ensures.value (ap begin_of c.in-Coverage.is) h)
+prim-returns-in-Coverage-clause-exact t c = reads_then _ c.coverage.result c.coverage.ensures.exact (λ o h. prim_by _ _ _ with_coverage o c.in-Some.ensures.value (ap begin_of c.in-Coverage.is) h)
 
 pub prim-returns-in-Condense-clause-exact : goal.prim-returns-in-Condense-clause-exact
 unfolding begun
-prim-returns-in-Condense-clause-exact t c = reads_then _ _ _ _ c.condense.result c.condense.ensures.exact (λ o h. prim_by _ _ _ with_condense o c.in-Some.ensures.value (ap begin_of c.in-Condense.is) h)
+prim-returns-in-Condense-clause-exact t c = reads_then _ c.condense.result c.condense.ensures.exact (λ o h. prim_by _ _ _ with_condense o c.in-Some.ensures.value (ap begin_of c.in-Condense.is) h)
 
 pub prim-returns-in_err-value-in-Abs-clause-exact : goal.prim-returns-in_err-value-in-Abs-clause-exact
 unfolding begun

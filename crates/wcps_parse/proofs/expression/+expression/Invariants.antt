@@ -1,10 +1,8 @@
 use Rattle.std.proofs.Common.{◌<◌, length, ◌+◌, ◌*◌}
 use Rattle.wcps_text.specs.declared.token.Symbol.TheVariants as signs
 use Rattle.wcps_text.specs.Token.{toks}
-use Rattle.wcps_text.specs.Limits.{height}
 use Rattle.wcps_parse.specs.Reading.{level, climb, post, behind, more, parts, part_at, subs, sub_at, iters, iter_at}
-use Rattle.wcps_parse.specs.Fit.{highest}
-use Rattle.wcps_parse.specs.Views.{boxed_view, parts_view, subs_view, iters_view, part_height, sub_height, iter_height}
+use Rattle.wcps_parse.specs.Kinds.{FitTree, FitParts, FitSubs, FitIters}
 use Rattle.wcps_parse.proofs.Loops.{Going}
 use Rattle.wcps_parse.proofs.expression.+expression.Given as goal
 
@@ -73,7 +71,7 @@ decreases-condense l = 300 * length l.tokens.now + 0
 
 abbrev pub invariant-level-loop-op : goal.invariant-level-loop-op
 invariant-level-loop-op l = record {
-  going : Going boxed_view height l.left (λ e n m. climb m (level n) l.rank e (toks l.rest)) (λ n m. level n l.rank (toks l.tokens));
+  going : Going FitTree l.left (λ e n m. climb m (level n) l.rank e (toks l.rest)) (λ n m. level n l.rank (toks l.tokens));
   shorter : length l.rest < length l.tokens;
 }
 
@@ -82,7 +80,7 @@ decreases-level-loop-op l = length l.rest
 
 abbrev pub invariant-post-loop-kind : goal.invariant-post-loop-kind
 invariant-post-loop-kind l = record {
-  going : Going boxed_view height l.whole (λ e n m. behind m (level n) e (toks l.rest)) (λ n m. post m (level n) (toks l.tokens));
+  going : Going FitTree l.whole (λ e n m. behind m (level n) e (toks l.rest)) (λ n m. post m (level n) (toks l.tokens));
   shorter : length l.rest < length l.tokens;
 }
 
@@ -91,7 +89,7 @@ decreases-post-loop-kind l = length l.rest
 
 abbrev pub invariant-parts-loop-next : goal.invariant-parts-loop-next
 invariant-parts-loop-next l = record {
-  going : Going parts_view (highest part_height) l.list (λ xs n m. more signs.Semicolon (part_at (level n)) m xs (toks l.rest)) (λ n m. parts m (level n) (toks l.tokens));
+  going : Going FitParts l.list (λ xs n m. more signs.Semicolon (part_at (level n)) m xs (toks l.rest)) (λ n m. parts m (level n) (toks l.tokens));
   shorter : length l.rest < length l.tokens;
 }
 
@@ -100,7 +98,7 @@ decreases-parts-loop-next l = length l.rest
 
 abbrev pub invariant-subs-loop-next : goal.invariant-subs-loop-next
 invariant-subs-loop-next l = record {
-  going : Going subs_view (highest sub_height) l.list (λ xs n m. more signs.Comma (sub_at (level n)) m xs (toks l.rest)) (λ n m. subs m (level n) (toks l.tokens));
+  going : Going FitSubs l.list (λ xs n m. more signs.Comma (sub_at (level n)) m xs (toks l.rest)) (λ n m. subs m (level n) (toks l.tokens));
   shorter : length l.rest < length l.tokens;
 }
 
@@ -109,7 +107,7 @@ decreases-subs-loop-next l = length l.rest
 
 abbrev pub invariant-iters-loop-next : goal.invariant-iters-loop-next
 invariant-iters-loop-next l = record {
-  going : Going iters_view (highest iter_height) l.list (λ xs n m. more signs.Comma (iter_at (level n)) m xs (toks l.rest)) (λ n m. iters m (level n) (toks l.tokens));
+  going : Going FitIters l.list (λ xs n m. more signs.Comma (iter_at (level n)) m xs (toks l.rest)) (λ n m. iters m (level n) (toks l.tokens));
   shorter : length l.rest < length l.tokens;
 }
 

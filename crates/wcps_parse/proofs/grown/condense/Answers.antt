@@ -5,7 +5,7 @@ use Rattle.wcps_parse.proofs.Trees.{condense_fits}
 use Rattle.wcps_parse.proofs.grown.condense.Goals as goal
 
 pub returns : goal.returns
-returns c = λ is d e fi fd fe.
+returns c = λ is fi d e fd fe.
     let parts = c.in-Fits-Fits in
     let k = condense_fits c.args.op c.args.iterators c.args.condition c.args.body parts.iterators parts.condition c.in-Fits.body parts.one parts.other c.in-Fits.height is d e parts.is-0 parts.is-1 c.in-Fits.is fi fd fe in
     (ap view c.in_ok-tree.ensures.ok ∙ k.0, omega (arith, k.1, k.2, k.3, c.in-Some.ensures.some.0, c.max.ensures, c.max-2.ensures), c.in-Some.ensures.some.1)

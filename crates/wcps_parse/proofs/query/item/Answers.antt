@@ -10,7 +10,7 @@ use Rattle.wcps_parse.proofs.query.item.Goals as goal
 
 pub returns-in-Some : goal.returns-in-Some
 unfolding item
-returns-in-Some c = reads_all_then _ _ c.encoded.result c.encoded.ensures (λ o h. rw c.in-Some.ensures.value h)
+returns-in-Some c = reads_all_then _ c.encoded.result c.encoded.ensures (λ o h. rw c.in-Some.ensures.value h)
 
 pub returns-in_err-value : goal.returns-in_err-value
 unfolding item

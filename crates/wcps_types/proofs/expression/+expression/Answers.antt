@@ -1,16 +1,15 @@
 -- Forms with lists have the shape or the first refusal of what their parts are seen as; a bracket's axes are told one at a time.
-use Rattle.std.proofs.Common.{◌≡◌, ◌+◌, drop, ap, ◌∙◌, sym, subst, map, not, is_some, IfSome, Err, false, rules}
+use Rattle.std.proofs.Common.{◌≡◌, ◌+◌, drop, ap, ◌∙◌, sym, subst, map, not, is_some, IfSome, Ok, Err, false, rules}
 use Rattle.wcps_text.specs.declared.tree.Expr.{Expr}
 use Rattle.wcps_text.specs.Tree as tree
 use Rattle.wcps_text.specs.Tree.{Tree, view, view_place, sub, parts_of, subs_of, iters_of, condition_of}
 use Rattle.wcps_text.proofs.Views.{view-Record, view-Brackets, view-ValueList, view-Coverage, view-Condense}
-use Rattle.wcps_types.specs.Shapes.{Answer, Says, then_of, field_of_view}
-use Rattle.wcps_types.specs.Frames.{names_in}
-use Rattle.wcps_types.specs.Variables.{signatures_in}
+use Rattle.wcps_types.specs.Shapes.{Answer, Says, then_of, shape_view, field_of_view}
 use Rattle.wcps_types.specs.Brackets.{BracketTree, bracket_view, opened}
 use Rattle.wcps_types.specs.declared.pieces.NextPiece.{NextPiece}
 use Rattle.wcps_types.specs.Records.{piece_view, pieces_view, before_next, no_pieces, is_part, with_part}
-use Rattle.wcps_types.specs.Typing.{typ_parts, typ_subs}
+use Rattle.wcps_types.specs.Typing.{typ_parts, typ_subs, closed_on}
+use Rattle.wcps_types.specs.Contexts.{under}
 use Rattle.wcps_types.proofs.Parts.{drop_here, not_taken}
 use Rattle.wcps_types.proofs.expression.+expression.Goals as goal
 
@@ -39,8 +38,13 @@ expression-returns-in_err-over-in-Coverage-2 t c =
     let shown : view c.args.e.now ≡ tree.coverage (iters_of c.in-Coverage.iterators.items) (view c.in-Coverage.body.value) = ap (λ (x : Expr). view x) c.in-Coverage.is ∙ view-Coverage c.in-Coverage.iterators c.in-Coverage.body in
     rw shown (search rules)
 
-pub expression-returns-in_ok-over-in-Coverage-2 : goal.expression-returns-in_ok-over-in-Coverage-2
-expression-returns-in_ok-over-in-Coverage-2 t c =
+pub expression-returns-in_err-body-in-Coverage : goal.expression-returns-in_err-body-in-Coverage
+expression-returns-in_err-body-in-Coverage t c =
+    let shown : view c.args.e.now ≡ tree.coverage (iters_of c.in-Coverage.iterators.items) (view c.in-Coverage.body.value) = ap (λ (x : Expr). view x) c.in-Coverage.is ∙ view-Coverage c.in-Coverage.iterators c.in-Coverage.body in
+    rw shown (search rules)
+
+pub expression-returns-in_ok-body-in-Coverage : goal.expression-returns-in_ok-body-in-Coverage
+expression-returns-in_ok-body-in-Coverage t c =
     let shown : view c.args.e.now ≡ tree.coverage (iters_of c.in-Coverage.iterators.items) (view c.in-Coverage.body.value) = ap (λ (x : Expr). view x) c.in-Coverage.is ∙ view-Coverage c.in-Coverage.iterators c.in-Coverage.body in
     rw shown (search rules)
 
@@ -59,26 +63,40 @@ expression-returns-in_err-condition-in-Condense t c =
     let shown : view c.args.e.now ≡ tree.condense c.in-Condense.op (iters_of c.in-Condense.iterators.items) (condition_of c.in-Condense.condition) (view c.in-Condense.body.value) = ap (λ (x : Expr). view x) c.in-Condense.is ∙ view-Condense c.in-Condense.op c.in-Condense.iterators c.in-Condense.condition c.in-Condense.body in
     rw shown (search rules)
 
-pub expression-returns-in_ok-condition-in-Condense : goal.expression-returns-in_ok-condition-in-Condense
-expression-returns-in_ok-condition-in-Condense t c =
+pub expression-returns-in_err-body-in-Condense : goal.expression-returns-in_err-body-in-Condense
+expression-returns-in_err-body-in-Condense t c =
+    let shown : view c.args.e.now ≡ tree.condense c.in-Condense.op (iters_of c.in-Condense.iterators.items) (condition_of c.in-Condense.condition) (view c.in-Condense.body.value) = ap (λ (x : Expr). view x) c.in-Condense.is ∙ view-Condense c.in-Condense.op c.in-Condense.iterators c.in-Condense.condition c.in-Condense.body in
+    rw shown (search rules)
+
+pub expression-returns-in_err-only_scalar-in-Condense : goal.expression-returns-in_err-only_scalar-in-Condense
+expression-returns-in_err-only_scalar-in-Condense t c =
+    let shown : view c.args.e.now ≡ tree.condense c.in-Condense.op (iters_of c.in-Condense.iterators.items) (condition_of c.in-Condense.condition) (view c.in-Condense.body.value) = ap (λ (x : Expr). view x) c.in-Condense.is ∙ view-Condense c.in-Condense.op c.in-Condense.iterators c.in-Condense.condition c.in-Condense.body in
+    rw shown (search rules)
+
+pub expression-returns-in_ok-only_scalar-in-Condense : goal.expression-returns-in_ok-only_scalar-in-Condense
+expression-returns-in_ok-only_scalar-in-Condense t c =
     let shown : view c.args.e.now ≡ tree.condense c.in-Condense.op (iters_of c.in-Condense.iterators.items) (condition_of c.in-Condense.condition) (view c.in-Condense.body.value) = ap (λ (x : Expr). view x) c.in-Condense.is ∙ view-Condense c.in-Condense.op c.in-Condense.iterators c.in-Condense.condition c.in-Condense.body in
     rw shown (search rules)
 
 pub subscripts-returns-in_err-bracket : goal.subscripts-returns-in_err-bracket
 subscripts-returns-in_err-bracket t c =
     let next = drop_here c.args.subs.now c.loop-sub.sub-index c.sub-item.result c.loop-sub-test.true c.sub-item.is in
-    let inv : typ_subs (signatures_in c.args.coverages.now) c.args.bound.now.list.items (names_in c.args.scope.now.frames) (bracket_view c.loop-sub.bracket) (subs_of (drop c.loop-sub.sub-index c.args.subs.now))
-    ≡ typ_subs (signatures_in c.args.coverages.now) c.args.bound.now.list.items (names_in c.args.scope.now.frames) (opened c.args.domain) (subs_of c.args.subs.now) = c.loop-sub.invariant in
+    let inv : under typ_subs c.args.context.now (bracket_view c.loop-sub.bracket) (subs_of (drop c.loop-sub.sub-index c.args.subs.now))
+    ≡ under typ_subs c.args.context.now (opened c.args.domain) (subs_of c.args.subs.now) = c.loop-sub.invariant in
     rw (← inv, next) (search rules)
 
 pub subscripts-loop-sub-preserved : goal.subscripts-loop-sub-preserved
 subscripts-loop-sub-preserved t c =
     let next = drop_here c.args.subs.now c.loop-sub.sub-index c.sub-item.result c.loop-sub-test.true c.sub-item.is in
     let rest = subs_of (drop (c.loop-sub.sub-index + 1) c.args.subs.now) in
-    let step : typ_subs (signatures_in c.args.coverages.now) c.args.bound.now.list.items (names_in c.args.scope.now.frames) (bracket_view c.loop-sub.bracket) (sub c.sub-item.result.axis (view_place c.sub-item.result.place) rest)
-    ≡ typ_subs (signatures_in c.args.coverages.now) c.args.bound.now.list.items (names_in c.args.scope.now.frames) (bracket_view c.in_ok-bracket.bracket) rest =
-    ap (λ (a : Answer BracketTree). then_of a (λ (b : BracketTree). typ_subs (signatures_in c.args.coverages.now) c.args.bound.now.list.items (names_in c.args.scope.now.frames) b rest)) c.in_ok-bracket.ensures in
-    sym step ∙ ap (λ subs. typ_subs (signatures_in c.args.coverages.now) c.args.bound.now.list.items (names_in c.args.scope.now.frames) (bracket_view c.loop-sub.bracket) (subs_of subs)) (sym next) ∙ c.loop-sub.invariant
+    let step : under typ_subs c.args.context.now (bracket_view c.loop-sub.bracket) (sub c.sub-item.result.axis (view_place c.sub-item.result.place) rest)
+    ≡ under typ_subs c.args.context.now (bracket_view c.in_ok-bracket.bracket) rest =
+    ap (λ (a : Answer BracketTree). then_of a (λ (b : BracketTree). under typ_subs c.args.context.now b rest)) c.in_ok-bracket.ensures in
+    sym step ∙ ap (λ subs. under typ_subs c.args.context.now (bracket_view c.loop-sub.bracket) (subs_of subs)) (sym next) ∙ c.loop-sub.invariant
+
+pub bracketed-returns : goal.bracketed-returns
+bracketed-returns t c =
+    ap (λ (a : Answer BracketTree). then_of a (closed_on (shape_view c.args.value))) c.in_ok-bracket.ensures ∙ ap Ok (sym c.in_ok-closed_bracket.ensures)
 
 pub record-returns-in_err-pieces : goal.record-returns-in_err-pieces
 record-returns-in_err-pieces t c =
@@ -91,6 +109,6 @@ record-returns-in_err-pieces t c =
     let fresh : is_part c.part-item.result.name (map piece_view c.loop-part.pieces.list.items) ≡ false =
     not_taken _ (subst (λ o. is_some o ≡ not (is_part c.part-item.result.name (map piece_view c.loop-part.pieces.list.items))) c.in-Some.is c.in_ok-next.ensures.new) in
     let next = drop_here c.args.parts.now c.loop-part.part-index c.part-item.result c.loop-part-test.true c.part-item.is in
-    let inv : typ_parts (signatures_in c.args.coverages.now) c.args.bound.now.list.items (names_in c.args.scope.now.frames) (pieces_view c.loop-part.pieces) (parts_of (drop c.loop-part.part-index c.args.parts.now))
-    ≡ typ_parts (signatures_in c.args.coverages.now) c.args.bound.now.list.items (names_in c.args.scope.now.frames) no_pieces (parts_of c.args.parts.now) = c.loop-part.invariant in
+    let inv : under typ_parts c.args.context.now (pieces_view c.loop-part.pieces) (parts_of (drop c.loop-part.part-index c.args.parts.now))
+    ≡ under typ_parts c.args.context.now no_pieces (parts_of c.args.parts.now) = c.loop-part.invariant in
     rw (← inv, next, fresh) (search rules)

@@ -68,8 +68,7 @@ loop-number-preserved c =
     let pushed : map (combination_view new) c.push.new.self.items ≡ done ++ combination_view new x ∷ [] =
     ap (map (combination_view new)) put ∙ map-append (combination_view new) before (x ∷ []) ∙ ap (λ trees. trees ++ combination_view new x ∷ []) (views-grown old new before c.loop-number.invariant.there c.in_ok-tree.ensures.kept) in
     record {
-      made = c.in_ok-tree.ensures.made;
-      latest = c.in_ok-tree.ensures.latest;
+      making = c.in_ok-tree.ensures.making;
       there = subst (HaveTrees (length new)) (sym put) there;
       each = ap (λ trees. typ_each cs q trees more) pushed ∙ sym step ∙ ap (typ_each cs q done) (sym next) ∙ c.loop-number.invariant.each;
     }
@@ -84,3 +83,6 @@ returns-clause-said c =
     let inv : typ_each cs q (map (combination_view trees) c.loop-number.combinations.items) (drop c.loop-number.number (combinations choices)) ≡ typ_each cs q [] (combinations choices) = c.loop-number.invariant.each in
     let ended : drop c.loop-number.number (combinations choices) ≡ [] = ap (λ n. drop n (combinations choices)) all ∙ chosen_all choices in
     sym inv ∙ ap (typ_each cs q (map (combination_view trees) c.loop-number.combinations.items)) ended
+
+pub returns-clause-making : goal.returns-clause-making
+returns-clause-making c = record { made = c.loop-number.invariant.making.made; latest = tt }

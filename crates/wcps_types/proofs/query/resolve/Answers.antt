@@ -39,7 +39,7 @@ returns-then-combinations_cells-gt-MAX_CELLS-clause-said c =
     let bound : bound_from c.args.signatures.now no_bindings q.bindings ≡ Ok (bindings_view b) = subst (λ l. bound_from c.args.signatures.now no_bindings (bindings_of l) ≡ Ok (bindings_view b)) c.deref.ensures.value c.in_ok-bindings.ensures in
     let few : few_combinations choices ≡ Ok c.in_ok-count.count = subst (λ l. few_combinations (map choice_view l) ≡ Ok c.in_ok-count.count) c.deref-2.ensures.value c.in_ok-count.ensures.said in
     let each : typ_each cs q [] (combinations choices) ≡ Ok all = of_source cs q vs b.choices.items makers list _ _ c.deref-4.ensures.value c.deref-5.ensures.value c.in_ok-all.ensures.said in
-    let made : AreMade cs q vs makers = subst (λ k. AreMade k q vs makers) c.deref-4.ensures.value c.in_ok-all.ensures.made in
+    let made : AreMade cs q vs makers = subst (λ k. AreMade k q vs makers) c.deref-4.ensures.value c.in_ok-all.ensures.making.made in
     let counted = counted cs q vs makers made in
     let cells : c.combinations_cells.result ≡ capped_cells (result_cells all) =
     subst (λ l. c.combinations_cells.result ≡ capped_cells (result_cells (map (combination_view trees) l))) c.deref-7.ensures.value (c.combinations_cells.ensures trees (subst (AreCounted trees) (sym c.deref-6.ensures.value) counted)) in
@@ -59,7 +59,7 @@ returns-then-work-gt-MAX_WORK-clause-said c =
     let bound : bound_from c.args.signatures.now no_bindings q.bindings ≡ Ok (bindings_view b) = subst (λ l. bound_from c.args.signatures.now no_bindings (bindings_of l) ≡ Ok (bindings_view b)) c.deref.ensures.value c.in_ok-bindings.ensures in
     let few : few_combinations choices ≡ Ok c.in_ok-count.count = subst (λ l. few_combinations (map choice_view l) ≡ Ok c.in_ok-count.count) c.deref-2.ensures.value c.in_ok-count.ensures.said in
     let each : typ_each cs q [] (combinations choices) ≡ Ok all = of_source cs q vs b.choices.items makers list _ _ c.deref-4.ensures.value c.deref-5.ensures.value c.in_ok-all.ensures.said in
-    let made : AreMade cs q vs makers = subst (λ k. AreMade k q vs makers) c.deref-4.ensures.value c.in_ok-all.ensures.made in
+    let made : AreMade cs q vs makers = subst (λ k. AreMade k q vs makers) c.deref-4.ensures.value c.in_ok-all.ensures.making.made in
     let counted = counted cs q vs makers made in
     let cells : c.combinations_cells.result ≡ capped_cells (result_cells all) =
     subst (λ l. c.combinations_cells.result ≡ capped_cells (result_cells (map (combination_view trees) l))) c.deref-7.ensures.value (c.combinations_cells.ensures trees (subst (AreCounted trees) (sym c.deref-6.ensures.value) counted)) in
@@ -82,7 +82,7 @@ returns-clause-sound c =
     let bound : bound_from c.args.signatures.now no_bindings q.bindings ≡ Ok (bindings_view b) = subst (λ l. bound_from c.args.signatures.now no_bindings (bindings_of l) ≡ Ok (bindings_view b)) c.deref.ensures.value c.in_ok-bindings.ensures in
     let few : few_combinations choices ≡ Ok c.in_ok-count.count = subst (λ l. few_combinations (map choice_view l) ≡ Ok c.in_ok-count.count) c.deref-2.ensures.value c.in_ok-count.ensures.said in
     let each : typ_each cs q [] (combinations choices) ≡ Ok all = of_source cs q vs b.choices.items makers list _ _ c.deref-4.ensures.value c.deref-5.ensures.value c.in_ok-all.ensures.said in
-    let made : AreMade cs q vs makers = subst (λ k. AreMade k q vs makers) c.deref-4.ensures.value c.in_ok-all.ensures.made in
+    let made : AreMade cs q vs makers = subst (λ k. AreMade k q vs makers) c.deref-4.ensures.value c.in_ok-all.ensures.making.made in
     let counted = counted cs q vs makers made in
     let cells : c.combinations_cells.result ≡ capped_cells (result_cells all) =
     subst (λ l. c.combinations_cells.result ≡ capped_cells (result_cells (map (combination_view trees) l))) c.deref-7.ensures.value (c.combinations_cells.ensures trees (subst (AreCounted trees) (sym c.deref-6.ensures.value) counted)) in
@@ -112,7 +112,7 @@ returns-clause-said c =
     let bound : bound_from c.args.signatures.now no_bindings q.bindings ≡ Ok (bindings_view b) = subst (λ l. bound_from c.args.signatures.now no_bindings (bindings_of l) ≡ Ok (bindings_view b)) c.deref.ensures.value c.in_ok-bindings.ensures in
     let few : few_combinations choices ≡ Ok c.in_ok-count.count = subst (λ l. few_combinations (map choice_view l) ≡ Ok c.in_ok-count.count) c.deref-2.ensures.value c.in_ok-count.ensures.said in
     let each : typ_each cs q [] (combinations choices) ≡ Ok all = of_source cs q vs b.choices.items makers list _ _ c.deref-4.ensures.value c.deref-5.ensures.value c.in_ok-all.ensures.said in
-    let made : AreMade cs q vs makers = subst (λ k. AreMade k q vs makers) c.deref-4.ensures.value c.in_ok-all.ensures.made in
+    let made : AreMade cs q vs makers = subst (λ k. AreMade k q vs makers) c.deref-4.ensures.value c.in_ok-all.ensures.making.made in
     let counted = counted cs q vs makers made in
     let cells : c.combinations_cells.result ≡ capped_cells (result_cells all) =
     subst (λ l. c.combinations_cells.result ≡ capped_cells (result_cells (map (combination_view trees) l))) c.deref-7.ensures.value (c.combinations_cells.ensures trees (subst (AreCounted trees) (sym c.deref-6.ensures.value) counted)) in

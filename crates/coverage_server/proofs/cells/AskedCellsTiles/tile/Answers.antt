@@ -1,6 +1,6 @@
 -- A tile of the coverage at a place.
 use Rattle.coverage_server.specs.Tiles.{store_for}
-use Rattle.coverage_server.proofs.TileLemmas.{found_at, has_tile, tile_cells, tile_places, tile_reports}
+use Rattle.coverage_server.proofs.TileLemmas.{asked_reads, found_at, has_tile, tile_cells, tile_places, tile_reports}
 use Rattle.coverage_server.proofs.cells.AskedCellsTiles.tile.Goals as goal
 
 pub returns-in-Ok-clause-value : goal.returns-in-Ok-clause-value
@@ -24,3 +24,11 @@ returns-in-Err-clause-reports g c =
     let f = found_at store s.places.items c.args.coverage c.args.field c.args.tile c.index.result.now c.requires c.index.ensures in
     let has = has_tile store s.places.items c.args.coverage c.args.field c.args.tile c.index.result.now f in
     tile_reports s.coverages c.fetch.new.self s.job s.places.items c.args.coverage _ f.at has c.in-Err.fault c.cell_error.result c.cell_error.ensures c.in-Err.ensures.why c.in-Err.ensures.told
+
+pub returns-in-Ok-clause-reads : goal.returns-in-Ok-clause-reads
+returns-in-Ok-clause-reads g c =
+    let s = c.args.self.now in asked_reads s.job s.places.items s.coverages c.fetch.new.self c.fetch.ensures.still c.fetch.ensures.rises
+
+pub returns-in-Err-clause-reads : goal.returns-in-Err-clause-reads
+returns-in-Err-clause-reads g c =
+    let s = c.args.self.now in asked_reads s.job s.places.items s.coverages c.fetch.new.self c.fetch.ensures.still c.fetch.ensures.rises

@@ -1,4 +1,5 @@
 -- A box filled on an honest disk has the cell everywhere; a refusal has its reason, and the header stays.
+use Rattle.std.proofs.Common.{rules}
 use Rattle.block_file.proofs.Headers.{keeps_header}
 use Rattle.coverage_server.proofs.FreeLemmas.{stays_ready, written_ready}
 use Rattle.coverage_server.proofs.SpelledLemmas.{stays_spelled, writes_spelled}
@@ -36,11 +37,16 @@ returns-clause-spelled g c = elim c.match-fill_box.branch [
       w.in-Err.ensures.snapshots)
 ]
 
-pub returns-clause-header : goal.returns-clause-header
-returns-clause-header g c = elim c.match-fill_box.branch [
-  | in-Ok w ↦ rw (← c.self.view_is) (keeps_header _ _ w.in-Ok.ensures.done.1.moves.header)
-  | in-Err w ↦ rw (← c.self.view_is) (keeps_header _ _ w.in-Err.ensures.same.moves.header)
-]
+pub returns-clause-continues : goal.returns-clause-continues
+returns-clause-continues g c = record {
+  sound = search rules;
+  header = elim c.match-fill_box.branch [
+    | in-Ok w ↦ rw (← c.self.view_is) (keeps_header _ _ w.in-Ok.ensures.done.1.moves.header)
+    | in-Err w ↦ rw (← c.self.view_is) (keeps_header _ _ w.in-Err.ensures.same.moves.header)
+  ];
+  honest = search rules;
+  no_fewer = search rules;
+}
 
 pub invariant_of-self : goal.invariant_of-self
 invariant_of-self g c = elim c.match-fill_box.branch [

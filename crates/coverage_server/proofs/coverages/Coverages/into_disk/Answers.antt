@@ -7,24 +7,21 @@ use Rattle.raster_store.specs.Views.{AreIntact}
 use Rattle.coverage_server.proofs.ClosingLemmas.{lists, holds, header_unlisted}
 use Rattle.coverage_server.proofs.coverages.Coverages.into_disk.Goals as goal
 
-pub returns-clause-held : goal.returns-clause-held
-returns-clause-held g c =
+pub returns-clause-closed : goal.returns-clause-closed
+returns-clause-closed g c =
+    let is = c.into_blocks.ensures.blocks in
+    let store = c.self.inside.cells.coverages in
+    let indexes = c.self.inside.cells.indexes in
+    let catalogue = subst IsCatalogue c.self.invariant.signatures c.len-catalogue.ensures.catalogue in
+    let header = header_unlisted indexes c.self.inside.cells.snapshots (sym (c.self.invariant.counted 0)) in
     rw (c.into_disk.ensures.content, c.into_file.ensures, ← c.self.view_is)
-    (λ written sound.
-    holds (state_of c.into_blocks.result) c.self.inside.cells.coverages c.self.inside.cells.indexes c.into_blocks.ensures.listed
-    (subst (λ (b : BlockFileView). IsTrue b.honest) (sym c.into_blocks.ensures.blocks) sound.honest)
-    (subst IsCatalogue c.self.invariant.signatures c.len-catalogue.ensures.catalogue) c.self.invariant.once (header_unlisted c.self.inside.cells.indexes c.self.inside.cells.snapshots (sym (c.self.invariant.counted 0))) written
-    (subst (λ (b : BlockFileView). AreIntact b.content c.self.inside.cells.coverages c.self.inside.cells.indexes) (sym c.into_blocks.ensures.blocks) sound.intact))
-
-pub returns-clause-lists : goal.returns-clause-lists
-returns-clause-lists g c =
-    rw (c.into_disk.ensures.content, c.into_file.ensures, ← c.self.view_is)
-    (λ written honest.
-    lists (state_of c.into_blocks.result) c.self.inside.cells.coverages c.self.inside.cells.indexes c.into_blocks.ensures.listed
-    (subst (λ (b : BlockFileView). IsTrue b.honest) (sym c.into_blocks.ensures.blocks) honest)
-    (subst IsCatalogue c.self.invariant.signatures c.len-catalogue.ensures.catalogue) c.self.invariant.once (header_unlisted c.self.inside.cells.indexes c.self.inside.cells.snapshots (sym (c.self.invariant.counted 0))) written)
-
-pub returns-clause-intact : goal.returns-clause-intact
-returns-clause-intact g c =
-    rw (c.into_disk.ensures.content, c.into_file.ensures, ← c.self.view_is)
-    (λ sound. subst (λ (b : BlockFileView). AreIntact b.content c.self.inside.cells.coverages c.self.inside.cells.indexes) (sym c.into_blocks.ensures.blocks) sound.intact)
+    (record {
+      lists = λ written honest.
+          lists (state_of c.into_blocks.result) store indexes c.into_blocks.ensures.listed
+          (subst (λ (b : BlockFileView). IsTrue b.honest) (sym is) honest) catalogue c.self.invariant.once header written;
+      held = λ written sound.
+          holds (state_of c.into_blocks.result) store indexes c.into_blocks.ensures.listed
+          (subst (λ (b : BlockFileView). IsTrue b.honest) (sym is) sound.honest) catalogue c.self.invariant.once header written
+          (subst (λ (b : BlockFileView). AreIntact b.content store indexes) (sym is) sound.intact);
+      intact = λ sound. subst (λ (b : BlockFileView). AreIntact b.content store indexes) (sym is) sound.intact;
+    })

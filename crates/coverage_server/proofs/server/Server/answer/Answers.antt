@@ -10,9 +10,8 @@ use Rattle.kvp_front.specs.Requests.{asks}
 use Rattle.raster_store.specs.Calls.{AreWhole}
 use Rattle.coverage_server.specs.declared.arguments.Refusal.{Refusal}
 use Rattle.coverage_server.specs.declared.arguments.Refusal.TheVariants.{Numbered, NoMemory, DiskFault, NoRoom, Damaged}
-use Rattle.coverage_server.specs.Answered.{Steps}
 use Rattle.coverage_server.specs.Leaving.{refusal_number, reply_of}
-use Rattle.coverage_server.specs.Represents.{Places}
+use Rattle.coverage_server.specs.Represents.{Places, Steps}
 use Rattle.coverage_server.specs.Runs.{Placed}
 use Rattle.coverage_server.specs.Views.{SessionView, signatures_of}
 use Rattle.coverage_server.proofs.PlacedLemmas.{stepped}
@@ -58,4 +57,4 @@ returns-clause-step g c =
     subst (λ (reply : Reply). (q : Placed) × Places w q × Steps request v w p reply q) is
     (stepped request v w sure whole c.answered-answered.ensures.holding catalogue (blocks sure) p at r
     c.answered-answered.ensures.answered
-    c.answered-answered.ensures.lays c.answered-answered.ensures.leaves c.answered-answered.ensures.answer)
+    c.answered-answered.ensures.tiles c.answered-answered.ensures.leaves c.answered-answered.ensures.answer)

@@ -24,7 +24,7 @@ returns-in-InsertCoverage-clause-answered g c =
     let v = c.self.inside.cells.coverages in
     let desk = c.self.inside.desk in
     rw (← c.self.view_is, c.in-InsertCoverage.is)
-    (lifted desk v c.insert.new.coverages (Inserts u.coverage u.intervals.items u.fields.items) (λ honest. c.insert.ensures.held) _ _ c.insert.result c.insert.ensures.unchanged c.insert.ensures.answered)
+    (lifted desk v c.insert.new.coverages (Inserts u.coverage u.intervals.items u.fields.items) (λ honest. c.insert.ensures.keeps.held) _ _ c.insert.result c.insert.ensures.unchanged c.insert.ensures.answered)
 
 pub returns-in-UpdateCoverage-clause-answered : goal.returns-in-UpdateCoverage-clause-answered
 returns-in-UpdateCoverage-clause-answered g c =
@@ -40,7 +40,7 @@ returns-in-DeleteCoverage-clause-answered g c =
     let v = c.self.inside.cells.coverages in
     let desk = c.self.inside.desk in
     rw (← c.self.view_is, c.in-DeleteCoverage.is)
-    (lifted desk v c.delete.new.coverages (Deletes name) (λ honest. c.delete.ensures.held) _ _ c.delete.result c.delete.ensures.unchanged c.delete.ensures.answered)
+    (lifted desk v c.delete.new.coverages (Deletes name) (λ honest. c.delete.ensures.keeps.held) _ _ c.delete.result c.delete.ensures.unchanged c.delete.ensures.answered)
 
 pub returns-in-ProcessCoverages-clause-answered : goal.returns-in-ProcessCoverages-clause-answered
 returns-in-ProcessCoverages-clause-answered g c =
@@ -66,8 +66,8 @@ returns-in-StepJob-clause-answered g c = rw (← c.self.view_is, c.in-StepJob.is
 pub returns-in-FetchJob-clause-answered : goal.returns-in-FetchJob-clause-answered
 returns-in-FetchJob-clause-answered g c = rw (← c.self.view_is, c.in-FetchJob.is) (c.fetch_job.ensures.answered c.self.inside.cells.coverages)
 
-pub returns-in-UpdateCoverage-clause-header : goal.returns-in-UpdateCoverage-clause-header
-returns-in-UpdateCoverage-clause-header g c = rw (← c.self.view_is) c.update.ensures.header
+pub returns-in-UpdateCoverage-clause-continues : goal.returns-in-UpdateCoverage-clause-continues
+returns-in-UpdateCoverage-clause-continues g c = rw (← c.self.view_is) c.update.ensures.continues
 
 pub invariant_of-self-in-UpdateCoverage : goal.invariant_of-self-in-UpdateCoverage
 invariant_of-self-in-UpdateCoverage g c = holding_same c.self.inside.desk c.self.inside.cells.coverages.held c.update.new.coverages.held c.update.ensures.held.told c.self.invariant
@@ -81,8 +81,8 @@ process-requires g c = record { unheld = unheld_zero c.self.inside.desk c.self.i
 pub process_template-requires : goal.process_template-requires
 process_template-requires g c = record { unheld = unheld_zero c.self.inside.desk c.self.inside.cells.coverages.held c.self.invariant }
 
-pub returns-in-InsertCoverage-clause-lays : goal.returns-in-InsertCoverage-clause-lays
-returns-in-InsertCoverage-clause-lays g c =
+pub returns-in-InsertCoverage-clause-tiles : goal.returns-in-InsertCoverage-clause-tiles
+returns-in-InsertCoverage-clause-tiles g c =
     let u = c.in-InsertCoverage.insertion in
     let v = c.self.inside.cells.coverages in
     rw (← c.self.view_is, c.in-InsertCoverage.is)
@@ -91,27 +91,27 @@ returns-in-InsertCoverage-clause-lays g c =
       insert_keeps v c.insert.new.coverages u.coverage u.intervals.items u.fields.items _ c.insert.result
           c.len-whole.ensures.whole
           c.insert.ensures.answered c.insert.ensures.lays c.insert.ensures.answer c.insert.ensures.unchanged
-          c.insert.ensures.content sure,
+          c.insert.ensures.keeps.content sure,
     ))
 
-pub returns-in-UpdateCoverage-clause-lays : goal.returns-in-UpdateCoverage-clause-lays
-returns-in-UpdateCoverage-clause-lays g c =
+pub returns-in-UpdateCoverage-clause-tiles : goal.returns-in-UpdateCoverage-clause-tiles
+returns-in-UpdateCoverage-clause-tiles g c =
     rw (← c.self.view_is, c.in-UpdateCoverage.is)
     (λ sure. (on_ok c.update.result _ _ (λ lays. lays sure) c.update.ensures.lays, c.update.ensures.spelled sure))
 
-pub returns-in-DeleteCoverage-clause-lays : goal.returns-in-DeleteCoverage-clause-lays
-returns-in-DeleteCoverage-clause-lays g c =
+pub returns-in-DeleteCoverage-clause-tiles : goal.returns-in-DeleteCoverage-clause-tiles
+returns-in-DeleteCoverage-clause-tiles g c =
     let v = c.self.inside.cells.coverages in
     rw (← c.self.view_is, c.in-DeleteCoverage.is)
     (λ sure. (
       c.delete.ensures.lays,
       delete_keeps v c.delete.new.coverages c.in-DeleteCoverage.name c.delete.result c.len-whole.ensures.whole
           c.delete.ensures.answered
-          c.delete.ensures.lays c.delete.ensures.answer c.delete.ensures.unchanged c.delete.ensures.content sure,
+          c.delete.ensures.lays c.delete.ensures.answer c.delete.ensures.unchanged c.delete.ensures.keeps.content sure,
     ))
 
-pub returns-in-ListCoverages-clause-lays : goal.returns-in-ListCoverages-clause-lays
-returns-in-ListCoverages-clause-lays g c =
+pub returns-in-ListCoverages-clause-tiles : goal.returns-in-ListCoverages-clause-tiles
+returns-in-ListCoverages-clause-tiles g c =
     rw (← c.self.view_is, c.in-ListCoverages.is)
     (λ sure. (
       any_ok c.list.result _ refl,
@@ -119,8 +119,8 @@ returns-in-ListCoverages-clause-lays g c =
           refl,
     ))
 
-pub returns-in-DescribeCoverage-clause-lays : goal.returns-in-DescribeCoverage-clause-lays
-returns-in-DescribeCoverage-clause-lays g c =
+pub returns-in-DescribeCoverage-clause-tiles : goal.returns-in-DescribeCoverage-clause-tiles
+returns-in-DescribeCoverage-clause-tiles g c =
     rw (← c.self.view_is, c.in-DescribeCoverage.is)
     (λ sure. (
       any_ok c.describe.result _ refl,
@@ -128,8 +128,8 @@ returns-in-DescribeCoverage-clause-lays g c =
           refl,
     ))
 
-pub returns-in-FetchJob-clause-lays : goal.returns-in-FetchJob-clause-lays
-returns-in-FetchJob-clause-lays g c =
+pub returns-in-FetchJob-clause-tiles : goal.returns-in-FetchJob-clause-tiles
+returns-in-FetchJob-clause-tiles g c =
     rw (← c.self.view_is, c.in-FetchJob.is)
     (λ sure. (
       any_ok c.fetch_job.result _ refl,
@@ -137,8 +137,8 @@ returns-in-FetchJob-clause-lays g c =
           c.self.inside.cells.coverages refl,
     ))
 
-pub returns-in-ExpandTemplate-clause-lays : goal.returns-in-ExpandTemplate-clause-lays
-returns-in-ExpandTemplate-clause-lays g c =
+pub returns-in-ExpandTemplate-clause-tiles : goal.returns-in-ExpandTemplate-clause-tiles
+returns-in-ExpandTemplate-clause-tiles g c =
     rw (← c.self.view_is, c.in-ExpandTemplate.is)
     (λ sure. (
       any_ok c.expand_template.result _ refl,
@@ -146,8 +146,8 @@ returns-in-ExpandTemplate-clause-lays g c =
           c.self.inside.cells.coverages refl,
     ))
 
-pub returns-in-ProcessCoverages-clause-lays : goal.returns-in-ProcessCoverages-clause-lays
-returns-in-ProcessCoverages-clause-lays g c =
+pub returns-in-ProcessCoverages-clause-tiles : goal.returns-in-ProcessCoverages-clause-tiles
+returns-in-ProcessCoverages-clause-tiles g c =
     let v = c.self.inside.cells.coverages in
     rw (← c.self.view_is, c.in-ProcessCoverages.is)
     (λ sure. (
@@ -155,8 +155,8 @@ returns-in-ProcessCoverages-clause-lays g c =
       still_spelled v c.process.new.cells.coverages c.process.ensures.still,
     ))
 
-pub returns-in-ProcessTemplate-clause-lays : goal.returns-in-ProcessTemplate-clause-lays
-returns-in-ProcessTemplate-clause-lays g c =
+pub returns-in-ProcessTemplate-clause-tiles : goal.returns-in-ProcessTemplate-clause-tiles
+returns-in-ProcessTemplate-clause-tiles g c =
     let v = c.self.inside.cells.coverages in
     rw (← c.self.view_is, c.in-ProcessTemplate.is)
     (λ sure. (
@@ -165,8 +165,8 @@ returns-in-ProcessTemplate-clause-lays g c =
       still_spelled v c.process_template.new.cells.coverages c.process_template.ensures.still,
     ))
 
-pub returns-in-SubmitQuery-clause-lays : goal.returns-in-SubmitQuery-clause-lays
-returns-in-SubmitQuery-clause-lays g c =
+pub returns-in-SubmitQuery-clause-tiles : goal.returns-in-SubmitQuery-clause-tiles
+returns-in-SubmitQuery-clause-tiles g c =
     let v = c.self.inside.cells.coverages in
     let w = c.submit_query.new.cells.coverages in
     let next = c.self.inside.desk.next in
@@ -175,25 +175,25 @@ returns-in-SubmitQuery-clause-lays g c =
     (λ sure. (
       on_ok c.submit_query.result _ _ (subst (λ (q : List ℕ). LaysHeld q v.store next (layout_of v) (layout_of w)) is)
           c.submit_query.ensures.lays,
-      unheld_spelled v w c.submit_query.ensures.others,
+      unheld_spelled v w c.submit_query.ensures.changes.others,
     ))
 
-pub returns-in-StepJob-clause-lays : goal.returns-in-StepJob-clause-lays
-returns-in-StepJob-clause-lays g c =
+pub returns-in-StepJob-clause-tiles : goal.returns-in-StepJob-clause-tiles
+returns-in-StepJob-clause-tiles g c =
     rw (← c.self.view_is, c.in-StepJob.is)
     (λ sure. (
       c.step_job.ensures.lays,
       stepped_spelled c.self.inside.cells.coverages c.step_job.new.cells.coverages
-          c.step_job.ensures.others,
+          c.step_job.ensures.reads.others,
     ))
 
-pub returns-in-CancelJob-clause-lays : goal.returns-in-CancelJob-clause-lays
-returns-in-CancelJob-clause-lays g c =
+pub returns-in-CancelJob-clause-tiles : goal.returns-in-CancelJob-clause-tiles
+returns-in-CancelJob-clause-tiles g c =
     rw (← c.self.view_is, c.in-CancelJob.is)
     (λ sure. (
       c.cancel_job.ensures.lays,
       unheld_spelled c.self.inside.cells.coverages c.cancel_job.new.cells.coverages
-          c.cancel_job.ensures.others,
+          c.cancel_job.ensures.changes.others,
     ))
 
 pub returns-in-InsertCoverage-clause-leaves : goal.returns-in-InsertCoverage-clause-leaves
@@ -255,7 +255,7 @@ returns-in-StepJob-clause-leaves g c =
     rw (← c.self.view_is, c.in-StepJob.is)
     (refused_leaves _ _ _ c.step_job.result
     (on_err c.step_job.result _ _ (still_unchanged v c.step_job.new.cells.coverages) c.step_job.ensures.refused)
-    c.step_job.ensures.jobs.0)
+    (err_each c.step_job.result _ c.step_job.ensures.jobs))
 
 pub returns-in-FetchJob-clause-leaves : goal.returns-in-FetchJob-clause-leaves
 returns-in-FetchJob-clause-leaves g c =
@@ -291,13 +291,13 @@ returns-in-ProcessTemplate-clause-leaves g c =
     (each_err c.process_template.result _ (λ e. refl)))
 
 pub returns-in-InsertCoverage-clause-fetches : goal.returns-in-InsertCoverage-clause-fetches
-returns-in-InsertCoverage-clause-fetches g c = rw (← c.self.view_is, c.in-InsertCoverage.is) c.insert.ensures.fetched
+returns-in-InsertCoverage-clause-fetches g c = rw (← c.self.view_is, c.in-InsertCoverage.is) c.insert.ensures.keeps.fetched
 
 pub returns-in-UpdateCoverage-clause-fetches : goal.returns-in-UpdateCoverage-clause-fetches
 returns-in-UpdateCoverage-clause-fetches g c = rw (← c.self.view_is, c.in-UpdateCoverage.is) c.update.ensures.fetched
 
 pub returns-in-DeleteCoverage-clause-fetches : goal.returns-in-DeleteCoverage-clause-fetches
-returns-in-DeleteCoverage-clause-fetches g c = rw (← c.self.view_is, c.in-DeleteCoverage.is) c.delete.ensures.fetched
+returns-in-DeleteCoverage-clause-fetches g c = rw (← c.self.view_is, c.in-DeleteCoverage.is) c.delete.ensures.keeps.fetched
 
 pub returns-in-ListCoverages-clause-fetches : goal.returns-in-ListCoverages-clause-fetches
 returns-in-ListCoverages-clause-fetches g c = rw (← c.self.view_is, c.in-ListCoverages.is) refl
@@ -313,15 +313,15 @@ returns-in-ExpandTemplate-clause-fetches g c = rw (← c.self.view_is, c.in-Expa
 
 pub returns-in-SubmitQuery-clause-fetches : goal.returns-in-SubmitQuery-clause-fetches
 returns-in-SubmitQuery-clause-fetches g c =
-    rw (← c.self.view_is, c.in-SubmitQuery.is) (ap (λ (u : ServerView). u.fetched) c.submit_query.ensures.others)
+    rw (← c.self.view_is, c.in-SubmitQuery.is) (ap (λ (u : ServerView). u.fetched) c.submit_query.ensures.changes.others)
 
 pub returns-in-CancelJob-clause-fetches : goal.returns-in-CancelJob-clause-fetches
 returns-in-CancelJob-clause-fetches g c =
-    rw (← c.self.view_is, c.in-CancelJob.is) (ap (λ (u : ServerView). u.fetched) c.cancel_job.ensures.others)
+    rw (← c.self.view_is, c.in-CancelJob.is) (ap (λ (u : ServerView). u.fetched) c.cancel_job.ensures.changes.others)
 
 pub returns-in-StepJob-clause-fetches : goal.returns-in-StepJob-clause-fetches
 returns-in-StepJob-clause-fetches g c =
-    rw (← c.self.view_is, c.in-StepJob.is) (unless_told c.step_job.result _ c.step_job.ensures.jobs.1)
+    rw (← c.self.view_is, c.in-StepJob.is) (unless_told c.step_job.result _ c.step_job.ensures.fetches)
 
 pub returns-in-ProcessTemplate-clause-fetches : goal.returns-in-ProcessTemplate-clause-fetches
 returns-in-ProcessTemplate-clause-fetches g c =

@@ -1,7 +1,7 @@
 -- What is left of a server that is not closed is what its parts leave.
 use Rattle.std.proofs.Common.{Err, ap, ◌∙◌}
 use Rattle.coverage_server.proofs.HoldingLemmas.{holding_same}
-use Rattle.coverage_server.proofs.SpelledLemmas.{closed_spelled}
+use Rattle.coverage_server.proofs.ClosedLemmas.{closed_to}
 use Rattle.coverage_server.proofs.FaultLemmas.{never_fewer}
 use Rattle.coverage_server.proofs.server.Server.close.Goals as goal
 
@@ -21,8 +21,10 @@ returns-in-Err-clause-refused g c =
 pub invariant_of-result : goal.invariant_of-result
 invariant_of-result g c = holding_same c.self.inside.desk c.self.inside.cells.coverages.held c.write_closed.new.coverages.held c.write_closed.ensures.unchanged.held.told c.self.invariant
 
-pub returns-in-Ok-clause-spelled : goal.returns-in-Ok-clause-spelled
-returns-in-Ok-clause-spelled g c =
+pub returns-in-Ok-clause-closed : goal.returns-in-Ok-clause-closed
+returns-in-Ok-clause-closed g c =
     rw (← c.self.view_is)
-    (closed_spelled c.self.inside.cells.coverages c.write_closed.new.coverages _ c.into_disk.ensures.content
-    c.write_closed.ensures.unchanged c.write_closed.ensures.spelled)
+    (closed_to c.self.inside.cells.coverages c.write_closed.new.coverages _ c.in-Ok.ensures.written
+    c.write_closed.ensures.unchanged c.write_closed.ensures.sound c.write_closed.ensures.spelled
+    c.write_closed.ensures.honest (never_fewer _ _ _ c.write_closed.ensures.told) c.into_disk.ensures.closed
+    c.into_disk.ensures.content c.into_disk.ensures.honest c.into_disk.ensures.failures)

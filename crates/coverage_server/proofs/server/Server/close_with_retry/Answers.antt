@@ -1,14 +1,11 @@
 -- What the second close leaves, it leaves of what the first one left, without its jobs.
-use Rattle.std.proofs.Common.{◌≡◌, ◌∙◌, ℕ, List, ap, subst, inl, inr}
-use Rattle.std.specs.Prelude.{IsTrue}
-use Rattle.raster_store.specs.Views.{AreIntact}
+use Rattle.std.proofs.Common.{◌∙◌, ap, subst, inl, inr}
 use Rattle.coverage_server.specs.declared.closing.CloseFault.{CloseFault}
-use Rattle.coverage_server.specs.Damage.{IsIntactIn, IsIntactNamed}
-use Rattle.coverage_server.specs.Disk.{HoldsStore, ListsStore}
-use Rattle.coverage_server.specs.Sessions.{IsNotClosed}
-use Rattle.coverage_server.specs.Views.{SessionView, IsSound}
-use Rattle.coverage_server.proofs.ClosingLemmas.{spelled_again}
-use Rattle.coverage_server.proofs.LettingLemmas.{err_both, lists_again, intact_again, holds_again}
+use Rattle.coverage_server.specs.Disk.{disk_view}
+use Rattle.coverage_server.specs.Sessions.{IsClosedTo, IsNotClosed}
+use Rattle.coverage_server.specs.Views.{SessionView}
+use Rattle.coverage_server.proofs.ClosedLemmas.{closed_again}
+use Rattle.coverage_server.proofs.LettingLemmas.{err_both}
 use Rattle.coverage_server.proofs.FaultLemmas.{ok_weaker}
 use Rattle.coverage_server.proofs.server.Server.close_with_retry.Goals as goal
 
@@ -29,38 +26,11 @@ returns-in-NoMemory-clause-left g c =
 pub returns-in-DiskFault-clause-left : goal.returns-in-DiskFault-clause-left
 returns-in-DiskFault-clause-left g c = inl (c.in-DiskFault.is, c.in-Err.ensures.refused, c.in-Err.ensures.desk)
 
-pub returns-in-NoMemory-clause-lists : goal.returns-in-NoMemory-clause-lists
-returns-in-NoMemory-clause-lists g c =
+pub returns-in-NoMemory-clause-closed : goal.returns-in-NoMemory-clause-closed
+returns-in-NoMemory-clause-closed g c =
     ok_weaker c.close-in-NoMemory.result _ _
-    (λ disk keeps. lists_again c.in-Err.refused.fault c.args.self.coverages c.in-Err.refused.server.coverages
-    (g.D.Disk.content disk) c.in-Err.ensures.refused
-    (subst (λ (v : SessionView). IsTrue v.coverages.honest
-    → ListsStore (g.D.Disk.content disk) v.coverages.store v.coverages.indexes) c.let_go.ensures keeps))
-    c.close-in-NoMemory.ensures.lists
-
-pub returns-in-NoMemory-clause-intact : goal.returns-in-NoMemory-clause-intact
-returns-in-NoMemory-clause-intact g c =
-    ok_weaker c.close-in-NoMemory.result _ _
-    (λ disk keeps. intact_again c.in-Err.refused.fault c.args.self.coverages c.in-Err.refused.server.coverages
-    (g.D.Disk.content disk) c.in-Err.ensures.refused
-    (subst (λ (v : SessionView). IsSound v.coverages
-    → AreIntact (g.D.Disk.content disk) v.coverages.store v.coverages.indexes) c.let_go.ensures keeps))
-    c.close-in-NoMemory.ensures.intact
-
-pub returns-in-NoMemory-clause-held : goal.returns-in-NoMemory-clause-held
-returns-in-NoMemory-clause-held g c =
-    ok_weaker c.close-in-NoMemory.result _ _
-    (λ disk keeps. holds_again c.in-Err.refused.fault c.args.self.coverages c.in-Err.refused.server.coverages
-    (g.D.Disk.content disk) c.in-Err.ensures.refused
-    (subst (λ (v : SessionView). IsSound v.coverages → HoldsStore (g.D.Disk.content disk) v.coverages.store)
-    c.let_go.ensures keeps))
-    c.close-in-NoMemory.ensures.held
-
-pub returns-in-NoMemory-clause-spelled : goal.returns-in-NoMemory-clause-spelled
-returns-in-NoMemory-clause-spelled g c =
-    ok_weaker c.close-in-NoMemory.result _ _
-    (λ disk keeps. spelled_again c.in-Err.refused.fault c.args.self.coverages c.in-Err.refused.server.coverages
-    (g.D.Disk.content disk) c.in-Err.ensures.refused
-    (subst (λ (v : SessionView). IsTrue v.coverages.honest → (name : List ℕ) → IsIntactNamed v.coverages name
-    → IsIntactIn (g.D.Disk.content disk) v.coverages.store v.coverages.indexes name) c.let_go.ensures keeps))
-    c.close-in-NoMemory.ensures.spelled
+    (λ disk closed. closed_again c.in-Err.refused.fault c.args.self.coverages c.in-Err.refused.server.coverages
+    (disk_view g.D.Disk.content g.D.Disk.honest g.D.Disk.failures disk) c.in-Err.ensures.refused
+    (subst (λ (v : SessionView). IsClosedTo v.coverages (disk_view g.D.Disk.content g.D.Disk.honest g.D.Disk.failures disk))
+    c.let_go.ensures closed))
+    c.close-in-NoMemory.ensures.closed

@@ -11,7 +11,7 @@ pub returns-in-Ok-clause-step : goal.returns-in-Ok-clause-step
 returns-in-Ok-clause-step g c =
     let v = c.args.self.now in
     let w = c.answer.new.self in
-    λ sure s r asked shows.
+    λ asked shows sure s r.
     let told : asked ≡ Ok c.in-Message.pairs.items = subst (Shows asked) c.in-Message.is shows in
     let x = c.answer.ensures.step sure s r in
     let read : spelled c.in-Message.pairs.items ≡ Ok (asks c.in-Ok.request) = ap spelled (sym c.as_slice.ensures.value) ∙ c.in-Ok.ensures in (
@@ -25,7 +25,7 @@ returns-in-Ok-clause-step g c =
 pub returns-in-Message-clause-step : goal.returns-in-Message-clause-step
 returns-in-Message-clause-step g c =
     let may = may_answer c.args.self.now.coverages c.args.self.now.coverages in
-    λ sure s r asked shows.
+    λ asked shows sure s r.
     let told : asked ≡ Ok c.in-Message.pairs.items = subst (Shows asked) c.in-Message.is shows in (
       s,
       r,

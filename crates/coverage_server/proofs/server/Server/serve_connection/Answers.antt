@@ -4,7 +4,7 @@ use Rattle.std.specs.Prelude.{IsTrue}
 use Rattle.std.proofs.KnownBytes.{Appends-nil, Consumes-nil}
 use Rattle.stream_face.specs.Faults.{fault_told}
 use Rattle.http_front.proofs.TakenLemmas.{found_item}
-use Rattle.coverage_server.proofs.ServingLemmas.{ended, faulted, answered, unwritten, continued, roomy, step-later, rose-by, rose-since, quiet_item}
+use Rattle.coverage_server.proofs.ServingLemmas.{ended, faulted, answered, unwritten, continued, roomy, step-later, rose-by, rose-since, quiet_item, Continues-trans, Continues-refl}
 use Rattle.coverage_server.proofs.server.Server.serve_connection.Goals as goal
 
 pub serving-init : goal.serving-init
@@ -20,23 +20,20 @@ serving-init g c = record {
       items = [];
       taken = sym c.new-conn.ensures.held;
       replies = [];
-      run = (refl, refl);
+      run = refl;
       sent = Appends-nil _;
       counted = c.new-conn.ensures.count;
     },
   );
   read = refl;
   written = refl;
-  sound = λ sound. sound;
-  header = λ state count from size h. h;
-  honest = refl;
-  no_fewer = omega arith;
+  continues = Continues-refl _;
 }
 
 pub returns-in-Ended-clause-served : goal.returns-in-Ended-clause-served
 returns-in-Ended-clause-served g c =
     let f = c.in-Ended.ensures.found c.serving.invariant.going in
-    λ sure s r. let x = c.serving.invariant.served sure s r in (x.0, x.1, ended x.2 (g.R.Source.remaining c.next.new.source) f.0 f.1 f.2.0 f.2.1)
+    λ sure s r. let x = c.serving.invariant.served sure s r in (x.0, x.1, ended x.2 (g.R.Source.view c.next.new.source) f.0 f.1 f.2.0 f.2.1)
 
 pub returns-in-Ended-clause-told : goal.returns-in-Ended-clause-told
 returns-in-Ended-clause-told g c = (c.in-Ended.ensures.told ∙ c.serving.invariant.read, c.serving.invariant.written)
@@ -44,7 +41,7 @@ returns-in-Ended-clause-told g c = (c.in-Ended.ensures.told ∙ c.serving.invari
 pub returns-in-ReadFault-clause-served : goal.returns-in-ReadFault-clause-served
 returns-in-ReadFault-clause-served g c =
     let f = c.in-ReadFault.ensures.found c.serving.invariant.going in
-    λ sure s r. let x = c.serving.invariant.served sure s r in (x.0, x.1, faulted x.2 (g.R.Source.remaining c.next.new.source) f.0 f.1 f.2.0)
+    λ sure s r. let x = c.serving.invariant.served sure s r in (x.0, x.1, faulted x.2 (g.R.Source.view c.next.new.source) f.0 f.1 f.2.0)
 
 pub returns-in-ReadFault-clause-told : goal.returns-in-ReadFault-clause-told
 returns-in-ReadFault-clause-told g c =
@@ -57,18 +54,18 @@ returns-in-Err-clause-served g c =
     let inv = c.serving.invariant in
     λ sure s r.
     let y = inv.served sure s r in
-    let z = c.reply_to-reply.ensures.step (subst IsTrue (sym inv.honest) sure) y.0 y.1 x.0.asked x.2 in (
+    let z = c.reply_to-reply.ensures.step x.0.asked x.2 (subst IsTrue (sym inv.continues.honest) sure) y.0 y.1 in (
       z.0,
       z.1,
-      unwritten y.2 (g.R.Source.remaining c.next.new.source) f.0 f.1 _ x.0 x.1 z.0 _ _
-          (rose-by _ _ _ c.reply_to-reply.ensures.no_fewer) (step-later (rose-since _ _ _ inv.no_fewer) _ _ _ _ z.2) _ _
+      unwritten y.2 (g.R.Source.view c.next.new.source) f.0 f.1 _ x.0 x.1 z.0 _ _
+          (rose-by _ _ _ c.reply_to-reply.ensures.continues.no_fewer) (step-later (rose-since _ _ _ inv.continues.no_fewer) _ _ _ _ z.2) _ _
           x.3 x.4 _ c.in-Err.ensures.sent.0,
     )
 
 pub returns-in-Err-clause-told : goal.returns-in-Err-clause-told
 returns-in-Err-clause-told g c =
     let inv = c.serving.invariant in (
-      quiet_item _ _ c.next.result c.next.ensures.told c.in_default.not-Ended c.in_default.not-ReadFault ∙ inv.read,
+      quiet_item (g.R.Source.view c.serving.reader) (g.R.Source.view c.next.new.source) c.next.result c.next.ensures.told c.in_default.not-Ended c.in_default.not-ReadFault ∙ inv.read,
       c.in-Err.ensures.sent.1 ∙ ap fault_told inv.written,
     )
 
@@ -79,18 +76,18 @@ returns-then-is_over-clause-served g c =
     let inv = c.serving.invariant in
     λ sure s r.
     let y = inv.served sure s r in
-    let z = c.reply_to-reply.ensures.step (subst IsTrue (sym inv.honest) sure) y.0 y.1 x.0.asked x.2 in (
+    let z = c.reply_to-reply.ensures.step x.0.asked x.2 (subst IsTrue (sym inv.continues.honest) sure) y.0 y.1 in (
       z.0,
       z.1,
-      answered y.2 (g.R.Source.remaining c.next.new.source) f.0 f.1 _ x.0 x.1 z.0 _ _
-          (rose-by _ _ _ c.reply_to-reply.ensures.no_fewer) (step-later (rose-since _ _ _ inv.no_fewer) _ _ _ _ z.2) _ _
+      answered y.2 (g.R.Source.view c.next.new.source) f.0 f.1 _ x.0 x.1 z.0 _ _
+          (rose-by _ _ _ c.reply_to-reply.ensures.continues.no_fewer) (step-later (rose-since _ _ _ inv.continues.no_fewer) _ _ _ _ z.2) _ _
           x.3 x.4 _ (sym c.is_over.ensures ∙ c.if-is_over.true) c.in-Ok.ensures.sent.0,
     )
 
 pub returns-then-is_over-clause-told : goal.returns-then-is_over-clause-told
 returns-then-is_over-clause-told g c =
     let inv = c.serving.invariant in (
-      quiet_item _ _ c.next.result c.next.ensures.told c.in_default.not-Ended c.in_default.not-ReadFault ∙ inv.read,
+      quiet_item (g.R.Source.view c.serving.reader) (g.R.Source.view c.next.new.source) c.next.result c.next.ensures.told c.in_default.not-Ended c.in_default.not-ReadFault ∙ inv.read,
       c.in-Ok.ensures.sent.1 ∙ inv.written,
     )
 
@@ -101,26 +98,23 @@ serving-preserved-else-is_over g c =
     let goes_on = sym c.is_over.ensures ∙ c.if-is_over.false in
     let counted = c.next.ensures.count goes_on in
     let inv = c.serving.invariant in
-    let later = g.R.Source.remaining c.next.new.source in
+    let later = g.R.Source.view c.next.new.source in
     record {
       going = goes_on;
-      few = roomy c.serving.conn.count c.serving.conn.buffer f.0 _ later x.0 x.1 _ x.3 _ counted goes_on inv.few;
+      few = roomy c.serving.conn.count c.serving.conn.buffer f.0 _ later.remaining x.0 x.1 _ x.3 _ counted goes_on inv.few;
       served = λ sure s r.
           let y = inv.served sure s r in
-          let z = c.reply_to-reply.ensures.step (subst IsTrue (sym inv.honest) sure) y.0 y.1 x.0.asked x.2 in (
+          let z = c.reply_to-reply.ensures.step x.0.asked x.2 (subst IsTrue (sym inv.continues.honest) sure) y.0 y.1 in (
             z.0,
             z.1,
             continued y.2 later f.0 f.1 _ x.0 x.1 z.0 _ _
-                (rose-by _ _ _ c.reply_to-reply.ensures.no_fewer)
-                (step-later (rose-since _ _ _ inv.no_fewer) _ _ _ _ z.2) _ _ x.3 x.4 _ _ counted goes_on
+                (rose-by _ _ _ c.reply_to-reply.ensures.continues.no_fewer)
+                (step-later (rose-since _ _ _ inv.continues.no_fewer) _ _ _ _ z.2) _ _ x.3 x.4 _ _ counted goes_on
                 c.in-Ok.ensures.sent.0,
           );
-      read = quiet_item _ _ c.next.result c.next.ensures.told c.in_default.not-Ended c.in_default.not-ReadFault ∙ inv.read;
+      read = quiet_item (g.R.Source.view c.serving.reader) (g.R.Source.view c.next.new.source) c.next.result c.next.ensures.told c.in_default.not-Ended c.in_default.not-ReadFault ∙ inv.read;
       written = c.in-Ok.ensures.sent.1 ∙ inv.written;
-      sound = λ sound. c.reply_to-reply.ensures.sound (inv.sound sound);
-      header = λ state count from size h. c.reply_to-reply.ensures.header state count from size (inv.header state count from size h);
-      honest = c.reply_to-reply.ensures.honest ∙ inv.honest;
-      no_fewer = omega (arith, inv.no_fewer, c.reply_to-reply.ensures.no_fewer);
+      continues = Continues-trans _ _ _ inv.continues c.reply_to-reply.ensures.continues;
     }
 
 pub serving-preserved-else-is_over-2 : goal.serving-preserved-else-is_over-2
@@ -130,26 +124,23 @@ serving-preserved-else-is_over-2 g c =
     let goes_on = sym c.is_over.ensures ∙ c.if-is_over.false in
     let counted = c.next.ensures.count goes_on in
     let inv = c.serving.invariant in
-    let later = g.R.Source.remaining c.next.new.source in
+    let later = g.R.Source.view c.next.new.source in
     record {
       going = goes_on;
-      few = roomy c.serving.conn.count c.serving.conn.buffer f.0 _ later x.0 x.1 _ x.3 _ counted goes_on inv.few;
+      few = roomy c.serving.conn.count c.serving.conn.buffer f.0 _ later.remaining x.0 x.1 _ x.3 _ counted goes_on inv.few;
       served = λ sure s r.
           let y = inv.served sure s r in
-          let z = c.reply_to-reply.ensures.step (subst IsTrue (sym inv.honest) sure) y.0 y.1 x.0.asked x.2 in (
+          let z = c.reply_to-reply.ensures.step x.0.asked x.2 (subst IsTrue (sym inv.continues.honest) sure) y.0 y.1 in (
             z.0,
             z.1,
             continued y.2 later f.0 f.1 _ x.0 x.1 z.0 _ _
-                (rose-by _ _ _ c.reply_to-reply.ensures.no_fewer)
-                (step-later (rose-since _ _ _ inv.no_fewer) _ _ _ _ z.2) _ _ x.3 x.4 _ _ counted goes_on
+                (rose-by _ _ _ c.reply_to-reply.ensures.continues.no_fewer)
+                (step-later (rose-since _ _ _ inv.continues.no_fewer) _ _ _ _ z.2) _ _ x.3 x.4 _ _ counted goes_on
                 c.in-Ok.ensures.sent.0,
           );
-      read = quiet_item _ _ c.next.result c.next.ensures.told c.in_default.not-Ended c.in_default.not-ReadFault ∙ inv.read;
+      read = quiet_item (g.R.Source.view c.serving.reader) (g.R.Source.view c.next.new.source) c.next.result c.next.ensures.told c.in_default.not-Ended c.in_default.not-ReadFault ∙ inv.read;
       written = c.in-Ok.ensures.sent.1 ∙ inv.written;
-      sound = λ sound. c.reply_to-reply.ensures.sound (inv.sound sound);
-      header = λ state count from size h. c.reply_to-reply.ensures.header state count from size (inv.header state count from size h);
-      honest = c.reply_to-reply.ensures.honest ∙ inv.honest;
-      no_fewer = omega (arith, inv.no_fewer, c.reply_to-reply.ensures.no_fewer);
+      continues = Continues-trans _ _ _ inv.continues c.reply_to-reply.ensures.continues;
     }
 
 pub serving-preserved : goal.serving-preserved
@@ -159,32 +150,29 @@ serving-preserved g c =
     let goes_on = sym c.is_over.ensures ∙ c.if-is_over.false in
     let counted = c.next.ensures.count goes_on in
     let inv = c.serving.invariant in
-    let later = g.R.Source.remaining c.next.new.source in
+    let later = g.R.Source.view c.next.new.source in
     record {
       going = goes_on;
-      few = roomy c.serving.conn.count c.serving.conn.buffer f.0 _ later x.0 x.1 _ x.3 _ counted goes_on inv.few;
+      few = roomy c.serving.conn.count c.serving.conn.buffer f.0 _ later.remaining x.0 x.1 _ x.3 _ counted goes_on inv.few;
       served = λ sure s r.
           let y = inv.served sure s r in
-          let z = c.reply_to-reply.ensures.step (subst IsTrue (sym inv.honest) sure) y.0 y.1 x.0.asked x.2 in (
+          let z = c.reply_to-reply.ensures.step x.0.asked x.2 (subst IsTrue (sym inv.continues.honest) sure) y.0 y.1 in (
             z.0,
             z.1,
             continued y.2 later f.0 f.1 _ x.0 x.1 z.0 _ _
-                (rose-by _ _ _ c.reply_to-reply.ensures.no_fewer)
-                (step-later (rose-since _ _ _ inv.no_fewer) _ _ _ _ z.2) _ _ x.3 x.4 _ _ counted goes_on
+                (rose-by _ _ _ c.reply_to-reply.ensures.continues.no_fewer)
+                (step-later (rose-since _ _ _ inv.continues.no_fewer) _ _ _ _ z.2) _ _ x.3 x.4 _ _ counted goes_on
                 c.in-Ok.ensures.sent.0,
           );
-      read = quiet_item _ _ c.next.result c.next.ensures.told c.in_default.not-Ended c.in_default.not-ReadFault ∙ inv.read;
+      read = quiet_item (g.R.Source.view c.serving.reader) (g.R.Source.view c.next.new.source) c.next.result c.next.ensures.told c.in_default.not-Ended c.in_default.not-ReadFault ∙ inv.read;
       written = c.in-Ok.ensures.sent.1 ∙ inv.written;
-      sound = λ sound. c.reply_to-reply.ensures.sound (inv.sound sound);
-      header = λ state count from size h. c.reply_to-reply.ensures.header state count from size (inv.header state count from size h);
-      honest = c.reply_to-reply.ensures.honest ∙ inv.honest;
-      no_fewer = omega (arith, inv.no_fewer, c.reply_to-reply.ensures.no_fewer);
+      continues = Continues-trans _ _ _ inv.continues c.reply_to-reply.ensures.continues;
     }
 
-pub returns-in-Err-clause-header : goal.returns-in-Err-clause-header
-returns-in-Err-clause-header g c =
-    λ state count from size h. c.reply_to-reply.ensures.header state count from size (c.serving.invariant.header state count from size h)
+pub returns-in-Err-clause-continues : goal.returns-in-Err-clause-continues
+returns-in-Err-clause-continues g c =
+    Continues-trans _ _ _ c.serving.invariant.continues c.reply_to-reply.ensures.continues
 
-pub returns-then-is_over-clause-header : goal.returns-then-is_over-clause-header
-returns-then-is_over-clause-header g c =
-    λ state count from size h. c.reply_to-reply.ensures.header state count from size (c.serving.invariant.header state count from size h)
+pub returns-then-is_over-clause-continues : goal.returns-then-is_over-clause-continues
+returns-then-is_over-clause-continues g c =
+    Continues-trans _ _ _ c.serving.invariant.continues c.reply_to-reply.ensures.continues

@@ -16,7 +16,7 @@ returns-in-Whole-clause-found g c =
     rw (← c.self.view_is) (λ e. (
       a.0 ++ t.0,
       Consumes-trans _ _ _ a.0 t.0 a.1 t.1,
-      subst (λ l. Finds c.self.inside.count l taken.new.buffer (g.S.Source.remaining taken.new.source) taken.result.next taken.result.over c.in-Whole.head.bare) known t.2,
+      subst (λ l. Finds c.self.inside.count l taken.new.buffer (g.S.Source.view taken.new.source).remaining taken.result.next taken.result.over c.in-Whole.head.bare) known t.2,
       subst (λ l. length l ≤ 16384 + 1048576) known t.3,
     ))
 

@@ -7,25 +7,20 @@ use Rattle.http_front.proofs.SendingLemmas.{pending_sent, nothing_pending, prefi
 use Rattle.http_front.proofs.letter.Letter.add.Goals as goal
 
 pub returns-then-not-send_all : goal.returns-then-not-send_all
-returns-then-not-send_all g c held failed text s =
+returns-then-not-send_all g c first text s =
     let ok : c.args.ok ≡ true = search rules in
-    let a = g.K.Sink.contents c.args.sink.now in
-    let b = g.K.Sink.contents c.send_all.new.sink in
-    let f = g.K.Sink.failed c.args.sink.now in
-    let h = g.K.Sink.failed c.send_all.new.sink in
-    let gone = pending_sent held a b failed f h false text c.args.self.now (rw ok at s) (subst (Sent a b f h false) c.held.ensures c.if-not-send_all.ensures) in
-    (prefix_longer held b text c.args.bytes.now gone.0, gone.1)
+    let a = g.K.Sink.view c.args.sink.now in
+    let b = g.K.Sink.view c.send_all.new.sink in
+    let gone = pending_sent first a b false text c.args.self.now (rw ok at s) (subst (Sent a b false) c.held.ensures c.if-not-send_all.ensures) in
+    (prefix_longer first.contents b.contents text c.args.bytes.now gone.0, gone.1)
 
 pub returns : goal.returns
-returns g c held failed text s =
+returns g c first text s =
     let ok : c.args.ok ≡ true = search rules in
-    let a = g.K.Sink.contents c.args.sink.now in
-    let b = g.K.Sink.contents c.send_all.new.sink in
-    let d = g.K.Sink.contents c.send_all-2.new.sink in
-    let f = g.K.Sink.failed c.args.sink.now in
-    let h = g.K.Sink.failed c.send_all.new.sink in
-    let k = g.K.Sink.failed c.send_all-2.new.sink in
-    let gone = pending_sent held a b failed f h true text c.args.self.now (rw ok at s) (subst (Sent a b f h true) c.held.ensures c.if-not-send_all.ensures) in
-    let both = Sent-after held b d failed h k c.send_all-2.result text c.args.bytes.now gone c.send_all-2.ensures in
-    subst (IsUnderWay held d failed k c.send_all-2.result (text ++ c.args.bytes.now)) (sym c.clear.ensures)
-    (nothing_pending held d failed k c.send_all-2.result (text ++ c.args.bytes.now) both)
+    let a = g.K.Sink.view c.args.sink.now in
+    let b = g.K.Sink.view c.send_all.new.sink in
+    let d = g.K.Sink.view c.send_all-2.new.sink in
+    let gone = pending_sent first a b true text c.args.self.now (rw ok at s) (subst (Sent a b true) c.held.ensures c.if-not-send_all.ensures) in
+    let both = Sent-after first b d c.send_all-2.result text c.args.bytes.now gone c.send_all-2.ensures in
+    subst (IsUnderWay first d c.send_all-2.result (text ++ c.args.bytes.now)) (sym c.clear.ensures)
+    (nothing_pending first d c.send_all-2.result (text ++ c.args.bytes.now) both)

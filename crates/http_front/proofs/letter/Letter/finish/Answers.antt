@@ -5,10 +5,8 @@ use Rattle.http_front.proofs.SendingLemmas.{pending_sent}
 use Rattle.http_front.proofs.letter.Letter.finish.Goals as goal
 
 pub returns : goal.returns
-returns g c held failed text s =
+returns g c first text s =
     let ok : c.args.ok ≡ true = search rules in
-    let a = g.K.Sink.contents c.args.sink.now in
-    let b = g.K.Sink.contents c.send_all.new.sink in
-    let f = g.K.Sink.failed c.args.sink.now in
-    let h = g.K.Sink.failed c.send_all.new.sink in
-    pending_sent held a b failed f h c.send_all.result text c.args.self.now (rw ok at s) (subst (Sent a b f h c.send_all.result) c.held.ensures c.send_all.ensures)
+    let a = g.K.Sink.view c.args.sink.now in
+    let b = g.K.Sink.view c.send_all.new.sink in
+    pending_sent first a b c.send_all.result text c.args.self.now (rw ok at s) (subst (Sent a b c.send_all.result) c.held.ensures c.send_all.ensures)

@@ -28,10 +28,11 @@ invariant_of-self g c =
 
 pub returns-clause-source : goal.returns-clause-source
 returns-clause-source g c =
-    let at : IsPlace c.args.job c.self.inside.jobs.items c.in-Some.place = rw (← c.deref.ensures.value) c.in-Some.ensures in (
-      c.step_job.new.source,
-      search rules,
-      search rules,
-      search rules,
-      rw (← c.self.view_is) (changed _ c.args.job c.self.inside.jobs.items c.self.inside.next c.in-Some.place c.index_mut.result.now c.step_job.new.job at c.index_mut.ensures.value c.in_ok-left.ensures.fetched),
-    )
+    let at : IsPlace c.args.job c.self.inside.jobs.items c.in-Some.place = rw (← c.deref.ensures.value) c.in-Some.ensures in
+    record {
+      read = c.step_job.new.source;
+      reads = search rules;
+      reports = search rules;
+      ends = search rules;
+      fetched = rw (← c.self.view_is) (changed _ c.args.job c.self.inside.jobs.items c.self.inside.next c.in-Some.place c.index_mut.result.now c.step_job.new.job at c.index_mut.ensures.value c.in_ok-left.ensures.fetched);
+    }

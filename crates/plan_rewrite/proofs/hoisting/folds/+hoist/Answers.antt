@@ -8,8 +8,8 @@ use Rattle.plan_rewrite.proofs.hoisting.folds.+hoist.Goals as goal
 
 pub hoisted-returns-in_ok-b-in-Fold-clause-body : goal.hoisted-returns-in_ok-b-in-Fold-clause-body
 hoisted-returns-in_ok-b-in-Fold-clause-body t c =
-    let regs = c.args.regs.now in
-    let n = length c.args.scope.now in
+    let regs = c.args.at.now.regs.now in
+    let n = length c.args.at.now.scope.now in
     let ps = map pass_view c.args.passes.now.items in
     c.in_ok-b-in-Fold.ensures.body
     ∙ ap (λ f. (hoisted regs n ps (fold_view f)).body) c.deref-in-Fold.ensures
@@ -18,8 +18,8 @@ hoisted-returns-in_ok-b-in-Fold-clause-body t c =
 
 pub hoisted-returns-in_ok-b-in-Fold-clause-passes : goal.hoisted-returns-in_ok-b-in-Fold-clause-passes
 hoisted-returns-in_ok-b-in-Fold-clause-passes t c =
-    let regs = c.args.regs.now in
-    let n = length c.args.scope.now in
+    let regs = c.args.at.now.regs.now in
+    let n = length c.args.at.now.scope.now in
     let ps = map pass_view c.args.passes.now.items in
     c.in_ok-b-in-Fold.ensures.passes
     ∙ ap (λ f. (hoisted regs n ps (fold_view f)).passes) c.deref-in-Fold.ensures

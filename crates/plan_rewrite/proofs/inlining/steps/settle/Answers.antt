@@ -1,9 +1,10 @@
 -- The settled plan gives the same and stays well-formed, and none of its binds can give way.
-use Rattle.std.proofs.Common.{◌∙◌, ap, sym, subst, map}
-use Rattle.plan_ir.specs.Plans.{PlanTree, steps_view, plan_view}
+use Rattle.std.proofs.Common.{◌∙◌, ap, sym, subst}
+use Rattle.plan_ir.specs.Plans.{plan_view}
 use Rattle.plan_ir.specs.Planned.{planned}
 use Rattle.plan_ir.specs.Placed.{IsPlan}
-use Rattle.plan_rewrite.specs.Rewritten.{StepsAreReduced}
+use Rattle.plan_rewrite.specs.Everywhere.{Everywhere}
+use Rattle.plan_rewrite.specs.Rewritten.{NoBindGivesWay}
 use Rattle.plan_rewrite.proofs.SettledPlans.{settled-planned}
 use Rattle.plan_rewrite.proofs.SettledPlaced.{plan-placed, steps-reduced}
 use Rattle.plan_rewrite.proofs.inlining.steps.settle.Goals as goal
@@ -15,4 +16,4 @@ pub returns-clause-placed : goal.returns-clause-placed
 returns-clause-placed c h = subst IsPlan (sym c.in_ok-r.ensures) (plan-placed (plan_view c.args.plan) h)
 
 pub returns-clause-reduced : goal.returns-clause-reduced
-returns-clause-reduced c = subst StepsAreReduced (sym (ap (λ (p : PlanTree). p.steps) c.in_ok-r.ensures)) (steps-reduced (map steps_view c.args.plan.steps.items))
+returns-clause-reduced c = subst (Everywhere NoBindGivesWay) (sym c.in_ok-r.ensures) (steps-reduced (plan_view c.args.plan).steps)

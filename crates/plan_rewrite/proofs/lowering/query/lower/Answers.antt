@@ -1,14 +1,13 @@
 -- The plan gives the query's answer and is well-formed, and the combinations and their work bound its units.
-use Rattle.std.proofs.Common.{◌+◌, ◌*◌, ◌≤◌, ◌∙◌, ap, sym, subst, map, length}
+use Rattle.std.proofs.Common.{◌≤◌, ◌∙◌, ap, sym, subst, map}
 use Rattle.std.proofs.lemmas.List.{length-map}
 use Rattle.wcps_types.specs.Renamed.{combination_view}
 use Rattle.wcps_types.specs.TypedQueries.{trees_in}
-use Rattle.wcps_types.specs.Work.{query_work}
 use Rattle.plan_ir.specs.Plans.{steps_view, choice_view}
 use Rattle.plan_ir.specs.Planned.{planned}
 use Rattle.plan_ir.specs.Placed.{IsPlan}
-use Rattle.plan_ir.specs.Units.{units}
-use Rattle.plan_rewrite.specs.FoldPoints.{fold_points}
+use Rattle.plan_rewrite.specs.FoldPoints.{unit_bound}
+use Rattle.plan_rewrite.specs.Lowered.{work_bound}
 use Rattle.plan_rewrite.specs.LoweredPlans.{lowered_choices}
 use Rattle.plan_rewrite.proofs.LoweredQueries.{query-means, query-placed, query-within, same-plan, choices-map, as-many}
 use Rattle.plan_rewrite.proofs.lowering.query.lower.Goals as goal
@@ -45,7 +44,7 @@ returns-clause-units c =
     (c.in_ok-coverages.ensures ∙ c.coverages.ensures)
     (c.in_ok-combinations.ensures ∙ ap (λ l. lowered_choices l c.combinations.result.now) c.deref.ensures.value ∙ ap (lowered_choices c.in_ok-steps.steps.items) c.combinations.ensures ∙ sym (choices-map steps_view c.in_ok-steps.steps.items all)) in
     let views = map (combination_view trees) all in
-    subst (λ p. units p + fold_points p ≤ length views * (2 + query_work views)) (sym is) (query-within q.coverages.items trees steps all c.in_ok-steps.ensures q.some)
+    subst (λ p. unit_bound p ≤ work_bound views) (sym is) (query-within q.coverages.items trees steps all c.in_ok-steps.ensures q.some)
 
 pub returns-clause-shared : goal.returns-clause-shared
 returns-clause-shared c =

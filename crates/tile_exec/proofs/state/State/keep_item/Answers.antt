@@ -1,10 +1,9 @@
 -- Each cell of a tile lies in the item; the tile is kept, and after the last one the item or its fault is given.
-use Rattle.std.proofs.Common.{◌≡◌, arith, ◌-◌, subst, sym, ap, ◌<◌, ◌++◌, length, map, ℕ, List, Some}
-use Rattle.std.specs.Prelude.{slice_get}
+use Rattle.std.proofs.Common.{arith, ◌-◌, subst, sym, ap, ◌<◌, length, ℕ}
 use Rattle.std.specs.List.{All}
 use Rattle.arr_core.specs.declared.cell.Cell.{Cell}
 use Rattle.tile_exec.specs.declared.found.Found.TheVariants as found
-use Rattle.tile_exec.specs.Items.{AreWritten}
+use Rattle.tile_exec.specs.Items.{AreWrittenTo}
 use Rattle.tile_exec.specs.Standing.{tasks_left}
 use Rattle.tile_exec.specs.Units.{Fits}
 use Rattle.tile_exec.proofs.Keeping.{some_left, tile_small, tasks_small}
@@ -55,7 +54,7 @@ returns-then-last c =
       kept = c.begin_cells.ensures.kept;
       fresh = c.begin_cells.ensures.fresh;
       long = c.write_cells.ensures.length;
-      written = subst (λ ws. (all : List Cell) (places : List ℕ) → All (λ (w : ℕ × Cell). slice_get all w.0 ≡ Some w.1) ws → AreWritten all c.begin_cells.new.cells.items places → AreWritten all c.write_cells.new.cells.items (places ++ map (λ (w : ℕ × Cell). w.0) ws)) c.deref.ensures.value c.write_cells.ensures.written;
+      written = subst (AreWrittenTo c.begin_cells.new.cells.items c.write_cells.new.cells.items) c.deref.ensures.value c.write_cells.ensures.written;
       begun = c.begin_first.ensures;
       joined = c.least_first-self.ensures;
     }
@@ -78,7 +77,7 @@ returns c =
       kept = c.begin_cells.ensures.kept;
       fresh = c.begin_cells.ensures.fresh;
       long = c.write_cells.ensures.length;
-      written = subst (λ ws. (all : List Cell) (places : List ℕ) → All (λ (w : ℕ × Cell). slice_get all w.0 ≡ Some w.1) ws → AreWritten all c.begin_cells.new.cells.items places → AreWritten all c.write_cells.new.cells.items (places ++ map (λ (w : ℕ × Cell). w.0) ws)) c.deref.ensures.value c.write_cells.ensures.written;
+      written = subst (AreWrittenTo c.begin_cells.new.cells.items c.write_cells.new.cells.items) c.deref.ensures.value c.write_cells.ensures.written;
       begun = c.begin_first.ensures;
       joined = c.least_first-self.ensures;
     }

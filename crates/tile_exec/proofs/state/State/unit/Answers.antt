@@ -2,7 +2,6 @@
 use Rattle.std.proofs.Common.{arith, sym, ap, ◌∙◌, ◌+◌, ◌≤◌, subst, length, refl, take, drop, true}
 use Rattle.std.specs.Prelude.{slice_get, sum_by, IsSomeAnd}
 use Rattle.std.proofs.lemmas.Option.{slice_get_read}
-use Rattle.arr_core.specs.Tiles.{tile_boxes}
 use Rattle.plan_ir.specs.Plans.{signature_of}
 use Rattle.plan_ir.specs.Planned.{cells_of}
 use Rattle.plan_ir.specs.Units.{bound_of}
@@ -10,7 +9,7 @@ use Rattle.tile_exec.specs.declared.found.Found.TheVariants as found
 use Rattle.tile_exec.specs.Tasks.{PartTree, area_of, bodies_of, IsPartPlaced}
 use Rattle.tile_columns.specs.TileOrder.{tile_of}
 use Rattle.tile_exec.specs.Standing.{IsPartOf, IsStepsOf, plan_of, tasks_left, boxes_left}
-use Rattle.tile_exec.specs.Units.{Fits, Tells, IsLast, FitsPart, TellsPart, first_bound}
+use Rattle.tile_exec.specs.Units.{Fits, FitsUnit, TellsTask, TellsPart, first_bound}
 use Rattle.tile_exec.proofs.Finding.{found_task, some_within, read_length, none_past, ok_map, on_ok, next_bound}
 use Rattle.tile_exec.proofs.Keeping.{placed_at, none_left}
 use Rattle.tile_exec.proofs.Moves.{at_hand}
@@ -77,7 +76,7 @@ returns-in-Some-clause-fits g c =
     let is : IsPartOf c.index-steps.result.now t.count t.part x.tree.part = subst (λ o. IsSomeAnd o (λ s. IsPartOf s t.count t.part x.tree.part)) read2 steps.1 in
     let coverages = c.deref-in-Some-2.ensures.value ∙ steps.0 in
     let p = x.tree.part in
-    ok_map c.unit_of.result (λ u. (p : PartTree) → IsPartOf c.index-steps.result.now t.count t.part p → IsLast u.last e.tile (length (tile_boxes (area_of p))) × FitsPart e.tile e.status p u.found) (λ u. Fits e (tasks_left e) u.last u.found)
+    ok_map c.unit_of.result (λ u. (p : PartTree) → IsPartOf c.index-steps.result.now t.count t.part p → FitsUnit e.tile e.status p u.last u.found) (λ u. Fits e (tasks_left e) u.last u.found)
     (λ u f. subst (λ ts. Fits e ts u.last u.found) (sym x.hand) (f p is)) c.unit_of.ensures.fits
 
 pub returns-in-Some-clause-tells : goal.returns-in-Some-clause-tells
@@ -95,11 +94,11 @@ returns-in-Some-clause-tells g c =
     let is : IsPartOf c.index-steps.result.now t.count t.part x.tree.part = subst (λ o. IsSomeAnd o (λ s. IsPartOf s t.count t.part x.tree.part)) read2 steps.1 in
     let coverages = c.deref-in-Some-2.ensures.value ∙ steps.0 in
     let p = x.tree.part in
-    let s = g.S.Tiles.cells c.args.source.now in
+    let s = (g.S.Tiles.state c.args.source.now).cells in
     let registers = c.registers_from.ensures ∙ ap (λ r. take t.count (drop t.first r)) c.deref-in-Some-3.ensures.value ∙ ap (λ k. take k (drop t.first e.registers.items)) x.is.count ∙ ap (λ k. take x.tree.count (drop k e.registers.items)) x.is.first in
-    ok_map c.unit_of.result (λ u. g.S.Tiles.intact c.args.source.now → (p : PartTree) → IsPartOf c.index-steps.result.now t.count t.part p → TellsPart (cells_of s c.deref-in-Some-2.result.now) c.registers_from.result.now e.tile p u.found) (λ u. g.S.Tiles.intact c.args.source.now → Tells s e (tasks_left e) u.found)
-    (λ u f i. subst (λ ts. Tells s e ts u.found) (sym x.hand)
-    (subst (λ r. TellsPart (cells_of s x.tree.coverages) r e.tile p u.found) registers (subst (λ v. TellsPart (cells_of s v) c.registers_from.result.now e.tile p u.found) coverages (f i p is)))) c.unit_of.ensures.tells
+    ok_map c.unit_of.result (λ u. (p : PartTree) → IsPartOf c.index-steps.result.now t.count t.part p → (g.S.Tiles.state c.args.source.now).intact → TellsPart (cells_of s c.deref-in-Some-2.result.now) c.registers_from.result.now e.tile p u.found) (λ u. (g.S.Tiles.state c.args.source.now).intact → TellsTask s e (tasks_left e) u.found)
+    (λ u f i. subst (λ ts. TellsTask s e ts u.found) (sym x.hand)
+    (subst (λ r. TellsPart (cells_of s x.tree.coverages) r e.tile p u.found) registers (subst (λ v. TellsPart (cells_of s v) c.registers_from.result.now e.tile p u.found) coverages (f p is i)))) c.unit_of.ensures.tells
 
 pub returns-in-Some-clause-fetched : goal.returns-in-Some-clause-fetched
 returns-in-Some-clause-fetched g c =
@@ -116,13 +115,13 @@ returns-in-Some-clause-fetched g c =
     let is : IsPartOf c.index-steps.result.now t.count t.part x.tree.part = subst (λ o. IsSomeAnd o (λ s. IsPartOf s t.count t.part x.tree.part)) read2 steps.1 in
     let coverages = c.deref-in-Some-2.ensures.value ∙ steps.0 in
     let p = x.tree.part in
-    let new = g.S.Tiles.fetched c.unit_of.new.source in
-    let old = g.S.Tiles.fetched c.args.source.now in
+    let new = (g.S.Tiles.state c.unit_of.new.source).fetched in
+    let old = (g.S.Tiles.state c.args.source.now).fetched in
     let bound = next_bound e x.tree x.rest x.hand (at_hand e x.tree x.rest x.hand c.requires.sound).0 in
-    on_ok c.unit_of.result ((p : PartTree) → IsPartOf c.index-steps.result.now t.count t.part p → new ≤ old + sum_by (bound_of (signature_of (g.S.Tiles.coverages c.args.source.now) c.deref-in-Some-2.result.now) (tile_of (area_of p) e.tile)) (bodies_of p)) (new ≤ old + first_bound (plan_of e) (boxes_left e))
+    on_ok c.unit_of.result (new ≤ old + sum_by (bound_of (signature_of (g.S.Tiles.state c.args.source.now).coverages c.deref-in-Some-2.result.now) (tile_of (area_of p) e.tile)) (bodies_of p)) (new ≤ old + first_bound (plan_of e) (boxes_left e))
     (λ f. subst (λ n. new ≤ old + n) (sym bound)
     (subst (λ v. new ≤ old + sum_by (bound_of (signature_of (plan_of e).coverages v) (tile_of (area_of p) e.tile)) (bodies_of p)) coverages
-    (subst (λ a. new ≤ old + sum_by (bound_of (signature_of a c.deref-in-Some-2.result.now) (tile_of (area_of p) e.tile)) (bodies_of p)) c.requires.coverages (f p is)))) c.unit_of.ensures.fetched
+    (subst (λ a. new ≤ old + sum_by (bound_of (signature_of a c.deref-in-Some-2.result.now) (tile_of (area_of p) e.tile)) (bodies_of p)) c.requires.coverages f))) (c.unit_of.ensures.fetched p is)
 
 pub registers_from-requires : goal.registers_from-requires
 registers_from-requires g c =

@@ -1,0 +1,57 @@
+//! Lists of axes: how many coordinates and points they have, and the places of points in row-major order, the last axis
+//! fastest.
+
+ghost use Rattle.std.specs.Prelude.{◌≡◌, ℕ, ◌+◌, ◌*◌, ◌<◌, ◌≤◌, ◌^◌, List, [], length};
+ghost use Rattle.arr_core.specs.Domains.{gap, size_of, count, AreOrdered, rank_of};
+
+use crate::domain::Axis;
+
+/// How far two coordinates are apart.
+pub fn distance(lo: i32, x: i32) -> u64
+    ensures gap { result ≡ gap lo x }
+    ensures small { result < 2 ^ 32 }
+{
+    (x as i64 - lo as i64).unsigned_abs()
+}
+
+impl Axis {
+    /// How many coordinates the axis has; both bounds are of them.
+    pub fn size(&self) -> u64
+        ensures value { result ≡ size_of self.now }
+        ensures small { result ≤ 2 ^ 32 }
+    {
+        distance(self.lo, self.hi) + 1
+    }
+}
+
+/// How many points the axes have.
+pub fn count_points(axes: &[Axis]) -> u64
+    requires ordered { AreOrdered axes.now }
+    requires few { count axes.now ≤ 2 ^ 24 }
+    ensures count { result ≡ count axes.now }
+    ensures small { result ≤ 2 ^ 24 }
+{
+    match axes {
+        [] => 1,
+        [axis, rest @ ..] => axis.size() * count_points(rest),
+    }
+}
+
+/// The place of a point in the row-major list of the axes' points, from 0; of a point outside a number that no point has
+/// to have.
+pub fn rank_of(axes: &[Axis], point: &[i32]) -> u64
+    requires ordered { AreOrdered axes.now }
+    requires few { count axes.now ≤ 2 ^ 24 }
+    requires few_axes { length axes.now ≤ 6 }
+    ensures rank { result ≡ rank_of axes.now point.now }
+    ensures below { result ≤ length axes.now * 2 ^ 56 }
+{
+    match axes {
+        [] => 0,
+        [axis, rest @ ..] => match point {
+            [] => 0,
+            [x, further @ ..] => distance(axis.lo, *x) * count_points(rest)
+                + rank_of(rest, further),
+        },
+    }
+}

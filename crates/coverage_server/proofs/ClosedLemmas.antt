@@ -1,0 +1,54 @@
+-- What a disk holds to which a server was closed.
+use Rattle.std.proofs.Common.{◌≡◌, ◌∙◌, ℕ, ◌≤◌, List, IsTrue, sym, ap, subst, arith}
+use Rattle.arr_core.specs.Stores.{Store}
+use Rattle.metadata.specs.Metadata.{metadata_bytes}
+use Rattle.raster_store.specs.Views.{Index, AreIntact}
+use Rattle.coverage_server.specs.declared.closing.CloseFault.{CloseFault}
+use Rattle.coverage_server.specs.Closing.{HoldsClosed, IsWritten, WritesHeld, metadata_held}
+use Rattle.coverage_server.specs.Damage.{KeepsSpelled}
+use Rattle.coverage_server.specs.Disk.{DiskView, HoldsStore, ListsStore}
+use Rattle.coverage_server.specs.Sessions.{IsClosedTo, IsNotClosed}
+use Rattle.coverage_server.specs.Views.{ServerView, IsSound, IsUnchanged, signatures_of, without_held}
+use Rattle.coverage_server.proofs.ClosingLemmas.{spelled_again}
+use Rattle.coverage_server.proofs.LettingLemmas.{lists_again, intact_again, holds_again}
+use Rattle.coverage_server.proofs.SpelledLemmas.{closed_spelled}
+
+-- the disk below the coverages whose metadata was written
+pub closed_to : (v w : ServerView) (disk : DiskView) → WritesHeld v w → IsUnchanged v w → (IsSound v → IsSound w)
+    → (IsTrue v.honest → KeepsSpelled v w) → w.honest ≡ v.honest → v.failures ≤ w.failures
+    → HoldsClosed w disk.content → disk.content ≡ w.content → disk.honest ≡ w.honest → disk.failures ≡ w.failures
+    → IsClosedTo v disk
+closed_to v w disk written same sounds keeps honest more closed content truth count = record {
+  lists = λ sure.
+      subst (λ (s : Store). ListsStore disk.content s v.indexes) (same.store sure)
+      (subst (λ (l : List (List Index)). ListsStore disk.content w.store l) same.indexes
+      (closed.lists (now sure) (subst IsTrue (sym honest) sure)));
+  intact = λ sound.
+      subst (λ (s : Store). AreIntact disk.content s v.indexes) (same.store sound.honest)
+      (subst (λ (l : List (List Index)). AreIntact disk.content w.store l) same.indexes (closed.intact (sounds sound)));
+  spelled = closed_spelled v w disk.content content same keeps;
+  held = λ sound.
+      subst (HoldsStore disk.content) (same.store sound.honest) (closed.held (now sound.honest) (sounds sound));
+  honest = truth ∙ honest;
+  no_fewer = omega (arith, more, count);
+}
+  where
+    now : IsTrue v.honest → IsWritten disk.content (metadata_held w) w.indexes
+    now sure =
+        let metadata : metadata_held w ≡ metadata_held v =
+        ap (λ (s : Store). metadata_bytes (signatures_of s) w.indexes) (same.store sure)
+        ∙ ap (λ (l : List (List Index)). metadata_bytes (signatures_of v.store) l) same.indexes in
+        subst (λ (c : List ℕ). IsWritten c (metadata_held w) w.indexes) (sym content)
+        (subst (λ (b : List ℕ). IsWritten w.content b w.indexes) (sym metadata) (written sure))
+
+-- a close that was made once more, with the jobs let go
+pub closed_again : (fault : CloseFault) (old mid : ServerView) (disk : DiskView) → IsNotClosed fault old mid
+    → IsClosedTo (without_held mid) disk → IsClosedTo old disk
+closed_again fault old mid disk a closed = record {
+  lists = lists_again fault old mid disk.content a closed.lists;
+  intact = intact_again fault old mid disk.content a closed.intact;
+  spelled = spelled_again fault old mid disk.content a closed.spelled;
+  held = holds_again fault old mid disk.content a closed.held;
+  honest = closed.honest ∙ a.honest;
+  no_fewer = let first = a.no_fewer in let second = closed.no_fewer in omega (arith, first, second);
+}

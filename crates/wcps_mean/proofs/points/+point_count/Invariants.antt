@@ -1,5 +1,0 @@
-use Rattle.std.proofs.Common.{length}
-use Rattle.wcps_mean.proofs.points.+point_count.Given as goal
-
-abbrev pub decreases-point_count : goal.decreases-point_count
-decreases-point_count l = length l.axes.now
