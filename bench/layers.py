@@ -32,30 +32,28 @@ def message(**pairs):
     return b"POST /ows HTTP/1.1\r\nContent-Length: %d\r\n\r\n" % len(body) + body
 
 
-class Session:
-    """The program over a store, one connection through a pipe."""
+def on_processor(pid):
+    """The seconds that a process has been on a processor."""
+    with open(f"/proc/{pid}/schedstat") as file:
+        return int(file.read().split()[0]) / 1e9
 
-    def __init__(self, store=STORE):
-        self.process = subprocess.Popen([PROGRAM, store, "run"], stdin=subprocess.PIPE, stdout=subprocess.PIPE)
 
-    def __enter__(self):
-        return self
+class Connection:
+    """Messages to a process, and its replies, each through a file."""
 
-    def __exit__(self, *_):
-        self.process.stdin.close()
-        if self.process.wait() != 0:
-            sys.exit(f"the program ended with status {self.process.returncode}")
+    def __init__(self, process, messages, replies):
+        self.process, self.messages, self.replies = process, messages, replies
 
     def reply(self):
         """The body of the next reply."""
         head = b""
         while not head.endswith(b"\r\n\r\n"):
-            line = self.process.stdout.readline()
+            line = self.replies.readline()
             if not line:
                 sys.exit("no reply")
             head += line
         fields = dict(line.split(b": ", 1) for line in head[:-4].split(b"\r\n")[1:])
-        body = self.process.stdout.read(int(fields[b"Content-Length"]))
+        body = self.replies.read(int(fields[b"Content-Length"]))
         if body.startswith(b"refused"):
             sys.exit(f"a request was refused: {body.decode().strip()}")
         return body
@@ -64,16 +62,30 @@ class Session:
         """The bodies of the replies to messages that are sent together, or the body where there is one."""
         timer = threading.Timer(LONGEST, self.process.kill)
         timer.start()
-        self.process.stdin.write(b"".join(requests))
-        self.process.stdin.flush()
+        self.messages.write(b"".join(requests))
+        self.messages.flush()
         bodies = [self.reply() for _ in requests]
         timer.cancel()
         return bodies[0] if len(bodies) == 1 else bodies
 
     def spent(self):
-        """The seconds that the program has been on a processor."""
-        with open(f"/proc/{self.process.pid}/schedstat") as file:
-            return int(file.read().split()[0]) / 1e9
+        return on_processor(self.process.pid)
+
+
+class Session(Connection):
+    """The program over a store, one connection through a pipe."""
+
+    def __init__(self, store=STORE):
+        process = subprocess.Popen([PROGRAM, store, "run"], stdin=subprocess.PIPE, stdout=subprocess.PIPE)
+        super().__init__(process, process.stdin, process.stdout)
+
+    def __enter__(self):
+        return self
+
+    def __exit__(self, *_):
+        self.process.stdin.close()
+        if self.process.wait() != 0:
+            sys.exit(f"the program ended with status {self.process.returncode}")
 
     def resident(self, most=False):
         """The KiB of memory that the program has, or has had at most."""

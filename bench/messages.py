@@ -4,7 +4,7 @@
 usage: bench/messages.py [CONNECTIONS, else 2000]
 
 The server is the built program over an empty store in memory (`rt run` in crates/rasterd builds it). A connection has 500
-messages, each a list of coverages asked by GET or by POST; another connection follows at once. The server in C accepts
+messages, each a list of coverages asked by GET or by POST; another connection follows at once. The server in C, echo.c, accepts
 the same connections, reads 16,384 bytes at a time, looks for the blank line behind each head, passes over the body and
 writes the same bytes as the program, in one write a message. A client in this process sends all messages of a connection,
 then reads to its end.
@@ -32,47 +32,6 @@ KINDS = [
     ("GET", b"GET /ows?request=ListCoverages HTTP/1.1\r\n\r\n", 0),
     ("POST", b"POST /ows HTTP/1.1\r\nContent-Length: 21\r\n\r\n" + BODY, len(BODY)),
 ]
-
-LOOP = r"""
-#define _GNU_SOURCE
-#include <arpa/inet.h>
-#include <stdlib.h>
-#include <string.h>
-#include <sys/socket.h>
-#include <unistd.h>
-static const char reply[] = "HTTP/1.1 200 OK\r\nContent-Type: text/plain\r\nContent-Length: 0\r\n\r\n";
-static char held[16384];
-static void serve(int to, size_t body) {
-    size_t start = 0, end = 0;
-    for (;;) {
-        char *blank = memmem(held + start, end - start, "\r\n\r\n", 4);
-        size_t next = blank ? blank + 4 + body - held : sizeof held + 1;
-        if (next <= end) {
-            start = next;
-            if (write(to, reply, sizeof reply - 1) < 0) return;
-            continue;
-        }
-        memmove(held, held + start, end - start);
-        end -= start;
-        start = 0;
-        ssize_t came = read(to, held + end, sizeof held - end);
-        if (came <= 0) return;
-        end += came;
-    }
-}
-int main(int words, char **word) {
-    int at = socket(AF_INET, SOCK_STREAM, 0), yes = 1;
-    struct sockaddr_in here = {.sin_family = AF_INET, .sin_port = htons(atoi(word[1])), .sin_addr.s_addr = htonl(INADDR_LOOPBACK)};
-    setsockopt(at, SOL_SOCKET, SO_REUSEADDR, &yes, sizeof yes);
-    if (words < 4 || bind(at, (struct sockaddr *)&here, sizeof here) || listen(at, 16)) return 1;
-    for (long left = atol(word[2]); left > 0; left--) {
-        int to = accept(at, 0, 0);
-        if (to < 0) return 1;
-        serve(to, atol(word[3]));
-        close(to);
-    }
-}
-"""
 
 
 def free_port():
@@ -122,13 +81,15 @@ def served(words, message):
 
 def main():
     print(f"{'':14}{'messages a second':>20}{'of the server in C':>20}{'its time':>10}")
-    with compiled(LOOP) as loop:
+    with open(f"{TOP}/bench/echo.c") as file:
+        source = file.read()
+    with compiled(source) as loop:
         count, total = str(CONNECTIONS + 1), MESSAGES * CONNECTIONS
         for kind, message, body in KINDS:
             runs = [
                 (
                     served([PROGRAM, "-", "listen", None, count], message),
-                    served([loop, None, count, str(body)], message),
+                    served([loop, REPLY, str(body), None, count], message),
                 )
                 for _ in range(7)
             ]

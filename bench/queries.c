@@ -1,5 +1,6 @@
 /* The layers of bench/queries.py, and a loop beside each of its lines. With the name of a layer it writes that layer's cells, two
- * bytes each; without a word it runs each loop and writes its name, its time, how long its text is, and the text. */
+ * bytes each; else it runs the loops that its words name, without a word all of them, and writes of each its name, its time, how
+ * long its text is, and the text. */
 #include <stdint.h>
 #include <stdio.h>
 #include <stdlib.h>
@@ -134,8 +135,9 @@ static inline char *zones(long side, long kinds) {
     return at;
 }
 LOOP zones_16(void) { return zones(1024, 16); }
-LOOP zones_48(void) { return zones(SIDE, 48); }
 LOOP zones_256(void) { return zones(1024, 256); }
+LOOP all_zones_16(void) { return zones(SIDE, 16); }
+LOOP all_zones_48(void) { return zones(SIDE, 48); }
 
 static inline char *zonal(long side) {
     int64_t sums[16] = {0};
@@ -175,13 +177,20 @@ static const struct {
     {"max_land", max_land}, {"count_noise", count_noise}, {"count_terrain", count_terrain}, {"count_land", count_land},
     {"difference", difference}, {"inner_window", inner_window}, {"window", window}, {"cells", cells}, {"cell", cell},
     {"five", five}, {"focal_sum_1", focal_sum_1}, {"focal_sum_3", focal_sum_3}, {"focal_sum_8", focal_sum_8},
-    {"focal_max_1", focal_max_1}, {"focal_max_3", focal_max_3}, {"zones_16", zones_16}, {"zones_48", zones_48},
-    {"zones_256", zones_256}, {"zonal_64", zonal_64}, {"zonal_130", zonal_130}, {"ingest", ingest},
+    {"focal_max_1", focal_max_1}, {"focal_max_3", focal_max_3}, {"zones_16", zones_16}, {"zones_256", zones_256},
+    {"all_zones_16", all_zones_16}, {"all_zones_48", all_zones_48}, {"zonal_64", zonal_64}, {"zonal_130", zonal_130},
+    {"ingest", ingest},
 };
 
 static int earlier(const void *a, const void *b) {
     double x = *(double *)a, y = *(double *)b;
     return (x > y) - (x < y);
+}
+
+static int is_asked(const char *name, int count, char **words) {
+    for (int i = 1; i < count; i++)
+        if (!strcmp(words[i], name)) return 1;
+    return count == 1;
 }
 
 int main(int count, char **words) {
@@ -192,6 +201,7 @@ int main(int count, char **words) {
         if (!strcmp(words[1], layers[i].name)) return fwrite(layers[i].cells, 2, N, stdout) != N;
     write_decimal();
     for (unsigned n = 0; n < sizeof lines / sizeof *lines; n++) {
+        if (!is_asked(lines[n].name, count, words)) continue;
         double times[TIMES];
         char *end = text;
         for (int t = 0; t < TIMES; t++) {

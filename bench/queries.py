@@ -1,16 +1,23 @@
 #!/usr/bin/env python3
 """The time of queries on three layers of 4,096 x 4,096 cells of i16, each beside a loop in C over the same cells.
 
-usage: bench/queries.py [--again] [WORD..]    only the lines that have all of these words
+usage: bench/queries.py [--again] [--beside] [WORD..]    only the rows that have all of these words
 
 The queries go to the built program over the store of layers.py, through a pipe. The time is that which the program is on a
 processor from the query to the end of its reply, the median of several; the loops of queries.c read cells of 16 bits in memory
-and write their own digits; they are compiled here by cc -O3, and their times are medians of processor time too. Each reply is compared with
-what the loop printed. The aim is how many times C's time a query is to take at most; the last column is what the program has had
-of memory at most until then. Behind these lines stand small requests, and what a store of as many tiles as a file of 4 GiB has
-room for takes to open and to close. `rt run` in crates/rasterd builds the program; SERVER names another one. With --again the
-store is made anew. bench/submissions.py has what jobs take.
+and write their own digits; they are compiled here by cc -O3, and their times are medians of processor time too. Beside small
+requests stands a server in C, echo.c, that finds the end of a message and writes the same reply. Each reply is compared with
+what the loop printed. The second column is what the program has had of memory at most until then. The aim is how many times
+C's time a query is to take at most, or how many times another row's, where that is printed too; the last lines say which aims
+were missed. Behind the queries stand small requests, and what a store of as many tiles as a file of 4 GiB has room for takes to
+open and to close.
+
+With --beside the same is asked of PostGIS raster (by_postgis.py) and of numpy behind a small HTTP server (by_numpy.py), each
+where it is installed, and their processor times stand in columns of their own: that of the backend, and that of the server. A
+dash is where one has no reasonable form. `rt run` in crates/rasterd builds the program; SERVER names another one. With --again
+the store is made anew. bench/submissions.py has what jobs take.
 """
+import contextlib
 import os
 import statistics
 import subprocess
@@ -21,14 +28,18 @@ sys.dont_write_bytecode = True
 TOP = os.path.dirname(os.path.dirname(os.path.abspath(__file__)))
 sys.path.insert(0, f"{TOP}/oracle")
 
+import by_numpy
+import by_postgis
 from compiled import compiled
-from layers import FOLDER, SIDE, Session, cells_of, is_made, make_store, message, updates
+from layers import FOLDER, SIDE, Connection, Session, cells_of, is_made, make_store, message, updates
 from room import FILLER, Filler
 
 # no more askings of a query once they took so many seconds
 ENOUGH = 20
-SMALL = 400
+# how often small requests are asked
+TURNS = 100
 COVERAGES = 1024
+WRITTEN = 1024
 
 
 def query(text):
@@ -56,16 +67,18 @@ def by_zones(side, kinds):
 
 CORNER = "[y(0:1023), x(0:1023)]"
 COUNT = "return count((c * 3 + 7) / 2 > 100 and c != 0)"
-# what a line is called, its loop in C, how many times that it is to take at most, and its request
-LINES = [
+RADIUS_3 = "FocalSum, radius 3"
+ZONES_16 = "sums of 16 zones, 4096 x 4096, by products"
+# what a row is called, its loop in C, its aim, and its request
+QUERIES = [
     ("add(c), noise", "add_noise", 3.5, query("for c in (noise) return add(c)")),
     ("add(c), terrain", "add_terrain", 4, query("for c in (terrain) return add(c)")),
     ("add(c), land", "add_land", 3, query("for c in (land) return add(c)")),
     ("max(c), noise", "max_noise", 4, query("for c in (noise) return max(c)")),
     ("max(c), land", "max_land", 4, query("for c in (land) return max(c)")),
     ("count((c*3+7)/2 > 100 and c != 0), noise", "count_noise", 8, query("for c in (noise) " + COUNT)),
-    ("the same, terrain", "count_terrain", 8, query("for c in (terrain) " + COUNT)),
-    ("the same, land", "count_land", 5, query("for c in (land) " + COUNT)),
+    ("the same count, terrain", "count_terrain", 8, query("for c in (terrain) " + COUNT)),
+    ("the same count, land", "count_land", 5, query("for c in (land) " + COUNT)),
     ("add(abs(c - d))", "difference", 7, query("for c in (noise), d in (terrain) return add(abs(c - d))")),
     (
         "64 x 64 window in one tile as CSV",
@@ -81,23 +94,70 @@ LINES = [
     ),
     ("2^20 cells as CSV", "cells", 1.5, query(f"for c in (noise) return encode(c{CORNER}, csv)")),
     ("FocalSum, radius 1, 512 x 512 as CSV", "focal_sum_1", 3, template("FocalSum", "hill", radius=1)),
-    ("FocalSum, radius 3", "focal_sum_3", 6, template("FocalSum", "hill", radius=3)),
-    ("FocalSum, radius 8", "focal_sum_8", None, template("FocalSum", "hill", radius=8)),
+    (RADIUS_3, "focal_sum_3", 6, template("FocalSum", "hill", radius=3)),
+    ("FocalSum, radius 8", "focal_sum_8", (3, RADIUS_3), template("FocalSum", "hill", radius=8)),
     ("FocalMaximum, radius 1", "focal_max_1", 3, template("FocalMaximum", "hill", radius=1)),
     ("FocalMaximum, radius 3", "focal_max_3", 6, template("FocalMaximum", "hill", radius=3)),
     ("ZonalSum, 64 x 64 as CSV", "zonal_64", 12, template("ZonalSum", "noise64", second="land64")),
     ("ZonalSum, 130 x 130", "zonal_130", 40, template("ZonalSum", "noise130", second="land130")),
     ("sums of 16 zones, 1024 x 1024, by products", "zones_16", 6, by_products(CORNER, 16)),
-    ("the same by conditions", "zones_16", 6, by_zones(1024, 16)),
-    ("of 256 zones, 1024 x 1024", "zones_256", 12, by_zones(1024, 256)),
-    ("of 48 zones, 4096 x 4096, by products", "zones_48", 12, by_products("", 48)),
+    ("sums of 16 zones, 1024 x 1024, by conditions", "zones_16", 6, by_zones(1024, 16)),
+    ("sums of 256 zones, 1024 x 1024, by conditions", "zones_256", 12, by_zones(1024, 256)),
+    (ZONES_16, "all_zones_16", 6, by_products("", 16)),
+    ("sums of 48 zones, 4096 x 4096, by products", "all_zones_48", (2, ZONES_16), by_products("", 48)),
 ]
+FIVE = query("for c in (noise) return 2 + 3")
+# the same of small requests, and how many of each are sent together
+SMALL = [
+    ("2 + 3, one at a time", "five", 2, FIVE, 1),
+    ("2 + 3, sixteen at a time, each", "five", 3, FIVE, 16),
+    ("one cell", "cell", None, query("for c in (noise) return c[y(1000), x(1000)]"), 1),
+]
+INGEST = f"4096 x {WRITTEN} cells written by values"
+BESIDE_MANY = [f"one cell beside {COVERAGES} coverages", f"a list of {COVERAGES} coverages"]
+MOST_TILES = "as many tiles as there can be, opened"
 
 
-def printed_by(loops):
-    """Of each loop in C its time and what it printed."""
+class Table:
+    """The rows that have some words, which are printed one by one, with columns for what is asked besides."""
+
+    def __init__(self, words, beside):
+        self.words, self.beside = words, beside
+        self.taken, self.missed = {}, []
+        others = "".join(f"{it.name + ' ms':>12}" for it in beside)
+        print(f"{'request':46}{'ms':>11}{'MiB':>5}{'C ms':>10}{others}{'times C':>9}  aim", flush=True)
+
+    def has(self, *names):
+        return any(all(word in name for word in self.words) for name in names)
+
+    def loops(self):
+        """The loops in C that the rows need."""
+        rows = [(name, loop) for name, loop, *_ in QUERIES + SMALL] + [(INGEST, "ingest"), (INGEST, "add_noise")]
+        return {loop for name, loop in rows if self.has(name)}
+
+    def row(self, name, taken, mebibytes=None, plain=None, others=None, aim=None):
+        """Prints seconds: the program's, those of the loop in C, and those of the others."""
+        self.taken[name] = taken
+        times, base = aim if isinstance(aim, tuple) else (aim, None)
+        bound = self.taken.get(base) if base else plain
+        told = f"{times} x {base}" if base else times or "-"
+        if times and bound and taken > times * bound:
+            self.missed.append(f"{name}: {taken / bound:.1f}, not {told}")
+            told = f"{told}  missed"
+        columns = [(mebibytes, 5, 0), (plain and plain * 1e3, 10, 3)]
+        columns += [(it and it * 1e3, 12, 3) for it in others or [None] * len(self.beside)]
+        columns += [(plain and taken / plain, 9, 1)]
+        cells = "".join(f"{'-':>{width}}" if it is None else f"{it:{width}.{places}f}" for it, width, places in columns)
+        print(f"{name:46}{taken * 1e3:11.3f}{cells}  {told}", flush=True)
+
+    def end(self):
+        print(*([f"missed: {it}" for it in self.missed] or ["no aim was missed"]), sep="\n")
+
+
+def printed_by(loops, names):
+    """Of each loop in C that is named its time and what it printed."""
     found = {}
-    left = subprocess.run([loops], stdout=subprocess.PIPE, check=True).stdout
+    left = subprocess.run([loops, *names], stdout=subprocess.PIPE, check=True).stdout if names else b""
     while left:
         line, left = left.split(b"\n", 1)
         name, seconds, length = line.split()
@@ -106,46 +166,72 @@ def printed_by(loops):
     return found
 
 
-def askings(session, request, wanted, most=5):
-    """The program's seconds for a request, which has to have that reply, each time that it is asked."""
-    times, begun = [], time.monotonic()
-    while len(times) < most and (not times or time.monotonic() < begun + ENOUGH):
-        before = session.spent()
-        body = session.ask(request)
-        times.append(session.spent() - before)
-        if body != wanted:
-            sys.exit(f"another answer than C's: {request[:200]!r}: {body[:60]!r} is not {wanted[:60]!r}")
-    return times
-
-
-def told(name, taken, plain=None, aim=None, more=""):
-    beside = f" {plain * 1e3:9.3f} {taken / plain:9.1f} {aim or '-':>6}" if plain else " " * 27
-    print(f"{name:46} {taken * 1e3:10.3f}{beside} {more}", flush=True)
-
-
 def timed(session, *requests):
-    """The program's seconds for messages that are sent together, and their replies."""
+    """The seconds on a processor for requests that are sent together, and their replies in one."""
     before = session.spent()
     bodies = session.ask(*requests)
-    return session.spent() - before, bodies
+    return session.spent() - before, bodies if isinstance(bodies, bytes) else b"".join(bodies)
 
 
-def ingest(session, loops, plain):
-    """The first 1,024 rows of noise are written once more, as text, beside a loop in C that reads that text."""
-    writes = list(updates("noise", cells_of(loops, "noise"), SIDE, 0, 1024))
-    told("4,096 x 1,024 cells written by values", sum(timed(session, it)[0] for it in writes), plain, 4)
+def asked(session, request, wanted, together=1):
+    """The seconds for each of some requests that are sent together, which have to have that reply."""
+    taken, body = timed(session, *[request] * together)
+    if body != wanted * together:
+        sys.exit(f"another answer than C's: {request[:200]!r}: {body[:60]!r} is not {wanted[:60]!r}")
+    return taken / together
 
 
-def small_requests(session):
-    """Milliseconds of small requests, one at a time and many at a time, on connections that are there."""
-    sums = [query("for c in (noise) return 2 + 3")] * 16
-    one = query("for c in (noise) return c[y(1000), x(1000)]")
-    told("2 + 3, one at a time", statistics.median(timed(session, sums[0])[0] for _ in range(SMALL // 4)))
-    told("2 + 3, sixteen at a time, each", statistics.median(timed(session, *sums)[0] for _ in range(SMALL // 16)) / 16)
-    told("one cell", statistics.median(timed(session, one)[0] for _ in range(SMALL // 4)))
+def median(session, request, wanted):
+    """The median of the seconds of five times that it is asked, or of more where it is quick."""
+    times, begun = [], time.monotonic()
+    while len(times) < 5 or (len(times) < 50 and sum(times) < 0.1):
+        times.append(asked(session, request, wanted))
+        if time.monotonic() > begun + ENOUGH:
+            break
+    return statistics.median(times)
 
 
-def beside_many():
+def queries(table, session, plain):
+    for name, loop, aim, request in QUERIES:
+        if table.has(name):
+            seconds, text = plain[loop]
+            taken, most = median(session, request, text), session.resident(True) >> 10
+            others = [median(it, it.forms[loop], text) if loop in it.forms else None for it in table.beside]
+            table.row(name, taken, most, seconds, others, aim)
+
+
+def ingest(table, session, loops, plain):
+    """The first rows of noise are written once more, as text, beside a loop in C that reads that text."""
+    cells, sums = cells_of(loops, "noise"), query("for c in (noise) return add(c)")
+    taken = sum(timed(session, it)[0] for it in updates("noise", cells, SIDE, 0, WRITTEN))
+    others = [sum(timed(it, write)[0] for write in it.writes(cells, WRITTEN)) for it in table.beside]
+    for it, request in [(session, sums)] + [(it, it.forms["add_noise"]) for it in table.beside]:
+        asked(it, request, plain["add_noise"][1])
+    table.row(INGEST, taken, session.resident(True) >> 10, plain["ingest"][0], others, 4)
+
+
+@contextlib.contextmanager
+def echo(program, request, body):
+    """A server in C that writes the reply with this body to each such request."""
+    head = b"HTTP/1.1 200 OK\r\nContent-Type: text/csv\r\nContent-Length: %d\r\n\r\n" % len(body)
+    words = [program, head + body, str(len(request.split(b"\r\n\r\n", 1)[1]))]
+    with subprocess.Popen(words, stdin=subprocess.PIPE, stdout=subprocess.PIPE) as process:
+        yield Connection(process, process.stdin, process.stdout)
+
+
+def small_requests(table, session, echoes, plain):
+    """Small requests, one at a time and many at a time, on connections that are there, of all by turns."""
+    for name, loop, aim, request, together in SMALL:
+        if table.has(name):
+            text = plain[loop][1]
+            with echo(echoes, request, text) as server:
+                turns = [(session, request), (server, request)] + [(it, it.forms[loop]) for it in table.beside]
+                rounds = [[asked(*it, text, together) for it in turns] for _ in range(max(TURNS // together, 25))]
+            taken, least, *others = map(statistics.median, zip(*rounds))
+            table.row(name, taken, session.resident(True) >> 10, least, others, aim)
+
+
+def beside_many(table):
     """A query and a list beside as many coverages as there can be."""
     path = f"{FOLDER}/many.store"
     if os.path.exists(path):
@@ -156,24 +242,36 @@ def beside_many():
             for k in range(start, start + COVERAGES // 2):
                 session.ask(message(request="InsertCoverage", coverage=f"c{k}", domain="x(0:9)", fields="v:i16"))
     with Session(path) as session:
-        one = query("for c in (c7) return c[x(3)]")
-        told(f"one cell beside {COVERAGES:,} coverages", statistics.median(timed(session, one)[0] for _ in range(100)))
-        names = message(request="ListCoverages")
-        told(f"a list of {COVERAGES:,} coverages", statistics.median(timed(session, names)[0] for _ in range(100)))
+        requests = [query("for c in (c7) return c[x(3)]"), message(request="ListCoverages")]
+        for name, request in zip(BESIDE_MANY, requests):
+            table.row(name, statistics.median(timed(session, request)[0] for _ in range(100)))
     os.remove(path)
 
 
-def opened_and_closed():
-    """A store of as many tiles, of one block each, as there can be: the seconds to open it, with its first query, and to close."""
+def opened_and_closed(table):
+    """A store of as many tiles of one block as there can be: the seconds to open it, with its first query, and to close."""
     path, filler = f"{FOLDER}/most.store", Filler(16, 1)
     filler.write(path)
     with Session(path) as session:
-        cell = query(f"for c in ({FILLER}) return c[k(16777215), t(0), y(0), x(0)]")
-        session.ask(cell)
-        told(f"{filler.tiles:,} tiles opened", session.spent(), more=f"{session.resident(True) >> 10} MiB")
+        session.ask(query(f"for c in ({FILLER}) return c[k(16777215), t(0), y(0), x(0)]"))
+        table.row(MOST_TILES, session.spent(), session.resident(True) >> 10)
         begun = time.monotonic()
-    told("and closed, by the clock", time.monotonic() - begun)
+    table.row("and closed, by the clock", time.monotonic() - begun)
     os.remove(path)
+
+
+def others(stack, loops):
+    """What is asked besides, as far as it is installed."""
+    found = []
+    for name, installed, begun in [
+        ("PostGIS", by_postgis.FOUND, by_postgis.postgis),
+        ("numpy", by_numpy.interpreter(), by_numpy.numpy),
+    ]:
+        if installed:
+            found.append(stack.enter_context(begun(loops)))
+        else:
+            print(f"{name} is not installed", flush=True)
+    return found
 
 
 def processor():
@@ -182,28 +280,33 @@ def processor():
     return f"{len(names)} x {names[0]}" if names else "a machine without a name"
 
 
+def source(name):
+    with open(f"{TOP}/bench/{name}") as file:
+        return file.read()
+
+
 def main():
-    words = [word for word in sys.argv[1:] if word != "--again"]
-    with open(f"{TOP}/bench/queries.c") as file:
-        source = file.read()
-    with compiled(source, "-O3") as loops:
-        if "--again" in sys.argv[1:] or not is_made():
+    options = {it for it in sys.argv[1:] if it in ("--again", "--beside")}
+    with contextlib.ExitStack() as stack:
+        loops = stack.enter_context(compiled(source("queries.c"), "-O3"))
+        echoes = stack.enter_context(compiled(source("echo.c")))
+        if "--again" in options or not is_made():
             make_store(loops)
-        print(processor())
-        print(f"{'request':46} {'ms':>10} {'C ms':>9} {'times C':>9} {'aim':>6} {'at most':>9}")
-        plain = printed_by(loops)
+        print(f"{processor()}, load {os.getloadavg()[0]:.1f}")
+        beside = others(stack, loops) if "--beside" in options else []
+        table = Table([it for it in sys.argv[1:] if it not in options], beside)
+        plain = printed_by(loops, table.loops())
         with Session() as session:
-            for name, loop, aim, request in LINES:
-                if all(word in name for word in words):
-                    seconds, text = plain[loop]
-                    taken = statistics.median(askings(session, request, text))
-                    told(name, taken, seconds, aim, f"{session.resident(True) >> 10:5} MiB")
-        if not words:
-            with Session() as session:
-                ingest(session, loops, plain["ingest"][0])
-                small_requests(session)
-            beside_many()
-            opened_and_closed()
+            queries(table, session, plain)
+        with Session() as session:
+            if table.has(INGEST):
+                ingest(table, session, loops, plain)
+            small_requests(table, session, echoes, plain)
+        if table.has(*BESIDE_MANY):
+            beside_many(table)
+        if table.has(MOST_TILES):
+            opened_and_closed(table)
+        table.end()
 
 
 main()
