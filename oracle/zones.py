@@ -4,7 +4,8 @@
     oracle/zones.py PROGRAM [COUNT] [SEED]
 
 A query is an array over places, each cell of which condenses a box under the condition that a key of the box equals a key of
-the place; either key may be the left operand. Keys and values may fault: they divide, and they leave 64 bits. Keys are
+the place; either key may be the left operand. One in three is a table of zones instead: for each number a sum of products
+with a comparison, or a count of comparisons. Keys and values may fault: they divide, and they leave 64 bits. Keys are
 negative, Boolean, near one another, far apart, or past 32 bits; there are one zone, a few, and as many zones as cells; boxes
 lie in one tile and across several ones. The program is asked for all of them in one session for each store, and each reply has
 to be that of oracle/meaning.py. What was found is told by the seed of its store and the query.
@@ -19,7 +20,7 @@ sys.dont_write_bytecode = True
 import fuzz
 from files import posted
 from language import Refused
-from meaning import Coverage, Fault, answer, count, points
+from meaning import Coverage, Fault, answer, count
 
 WIDE = 2**63
 # the independent reading is to count up to any of these queries
@@ -55,26 +56,6 @@ class Zones:
         make = chance.choice(kinds)
         return [make(k) for k in range(n)]
 
-    def made(self):
-        """The messages that make the coverages."""
-        box = ",".join(f"{axis}({lo}:{hi})" for axis, lo, hi in self.axes)
-        out = []
-        for name, coverage in self.store.items():
-            fields = ",".join(f"{field}:{kind}" for field, kind in coverage.fields)
-            out.append({"request": "InsertCoverage", "coverage": name, "domain": box, "fields": fields})
-            for (field, kind), cells in zip(coverage.fields, coverage.cells):
-                told = [("true" if it else "false") if kind == "bool" else str(it) for it in cells]
-                out.append(
-                    {
-                        "request": "UpdateCoverage",
-                        "coverage": name,
-                        "field": field,
-                        "box": box,
-                        "values": ",".join(told),
-                    }
-                )
-        return out
-
     def key(self, variables):
         """A number or a truth value at the point of these variables."""
         chance = self.chance
@@ -102,7 +83,32 @@ class Zones:
             texts.append(f"${letter}{k} {axis}({lo}:{hi})")
         return names, ", ".join(texts)
 
+    def table(self):
+        """For each number what the cells of its zone come to, by arithmetic on comparisons."""
+        chance = self.chance
+        low = chance.choice([0, -2, 1])
+        key = chance.choice(["z.a"] * 5 + ["z.b", "z.a / 2", "(6 / z.a)", "w.a"])
+        number = chance.choice(["$k"] * 5 + ["$k * 1000000000", "$k - 1", "(1 / $k)", "$k / 2"])
+        sides = [key, number]
+        chance.shuffle(sides)
+        same = f"({sides[0]} = {sides[1]})"
+        value = chance.choice(["w.a"] * 4 + ["w.b", "(w.a - 1)", "(12 / w.a)", "w.a * 3", "2"])
+        truth = chance.choice(["w.b", "w.a > 0", "(12 / w.a) > 1", "true", f"w.a != {low}"])
+        factors = [value, same]
+        chance.shuffle(factors)
+        both = [truth, same]
+        chance.shuffle(both)
+        body = chance.choice(
+            [f"add({' * '.join(factors)})"] * 4
+            + [f"avg({' * '.join(factors)})", f"max({' * '.join(factors)})", f"add({same} * 1)", f"add(+{same})"]
+            + [f"count{same}", f"count({' and '.join(both)})", f"count({' and '.join(both)})"]
+            + [f"some({' and '.join(both)})", f"all({' or '.join(both)})", f"count(not {same})"]
+        )
+        return f"for w in (w), z in (z) return encode(coverage t over $k k({low}:{low + chance.randint(0, 9)}) values {body}, csv)"
+
     def query(self):
+        if self.chance.random() < 1 / 3:
+            return self.table()
         chance = self.chance
         out, places = self.iterators("p", chance.random() < 0.6)
         own, box = self.iterators("u", chance.random() < 0.7)
@@ -128,18 +134,32 @@ def expected(query, store):
         return f"refused {it.number} "
 
 
-def main(program, most="1000", seed="1"):
+def made(store):
+    """The messages that make coverages."""
+    out = []
+    for name, coverage in store.items():
+        box = ",".join(f"{axis}({lo}:{hi})" for axis, lo, hi in coverage.axes)
+        fields = ",".join(f"{field}:{kind}" for field, kind in coverage.fields)
+        out.append({"request": "InsertCoverage", "coverage": name, "domain": box, "fields": fields})
+        for (field, kind), cells in zip(coverage.fields, coverage.cells):
+            told = [("true" if it else "false") if kind == "bool" else str(it) for it in cells]
+            update = {"request": "UpdateCoverage", "coverage": name, "field": field, "box": box}
+            out.append(update | {"values": ",".join(told)})
+    return out
+
+
+def compared(program, most, number, make):
+    """Asks so many queries, forty over each store that is made of a number, and prints the replies that differ."""
     asked = wrong = values = 0
-    number = int(seed)
-    while asked < int(most):
-        zones = Zones(random.Random(f"zones {number}"))
-        queries = [zones.query() for _ in range(40)]
-        messages = [posted(pairs) for pairs in zones.made()]
+    while asked < most:
+        one = make(number)
+        queries = [one.query() for _ in range(40)]
+        messages = [posted(pairs) for pairs in made(one.store)]
         messages += [posted({"request": "ProcessCoverages", "query": query}) for query in queries]
         ran = subprocess.run([program, "-", "run"], input=b"".join(messages), stdout=subprocess.PIPE)
         bodies = [body.decode() for _, body in fuzz.replies_in(ran.stdout)][-len(queries) :]
         for query, body in zip(queries, bodies):
-            wanted = expected(query, zones.store)
+            wanted = expected(query, one.store)
             values += not wanted.startswith("refused")
             if body != wanted and not (wanted.startswith("refused") and body.startswith(wanted)):
                 wrong += 1
@@ -151,6 +171,10 @@ def main(program, most="1000", seed="1"):
         number += 1
     print(f"{asked} queries, {values} of them with a value, {wrong} wrong")
     return 1 if wrong else 0
+
+
+def main(program, most="1000", seed="1"):
+    return compared(program, int(most), int(seed), lambda number: Zones(random.Random(f"zones {number}")))
 
 
 if __name__ == "__main__":

@@ -75,6 +75,7 @@ def trials(seed):
     yield "sessions beside the independent reading", ["oracle/sessions.py", program, "200", seed], None
     yield "sessions over damaged tiles", ["oracle/damaged.py", program, "100", seed], None
     yield "folds by zone", ["oracle/zones.py", program, "200", seed], None
+    yield "windows and scattered cells", ["oracle/windows.py", program, "200", seed], None
     yield "clients that shut, reset, stall and go away", ["bench/sockets.py"], lacking("curl")
     yield "a device without room", ["bench/full_disk.py"], None
     yield "the clients and deploy/serve", ["clients/python/test.py", program], lacking("curl", "flock", "prlimit")
