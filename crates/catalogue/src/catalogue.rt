@@ -124,7 +124,14 @@ impl Catalogue {
     pub fn describe(&self, name: &Name) -> Option<&Signature>
         ensures { option_copied result ≡ listed name.now self.now }
     {
-        self.signatures.get(name.as_str())
+        self.find(name.as_str())
+    }
+
+    /// The signature of the coverage whose name a text is. Takes no memory.
+    pub fn find(&self, text: &str) -> Option<&Signature>
+        ensures { option_copied result ≡ listed text.now self.now }
+    {
+        self.signatures.get(text)
     }
 
     /// How many coverages there are: at most 1,024, each with a name of its own.

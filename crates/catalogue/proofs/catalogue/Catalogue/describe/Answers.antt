@@ -1,7 +1,0 @@
--- What stands under a name is the signature with that name.
-use Rattle.std.proofs.Common.{◌∙◌}
-use Rattle.catalogue.proofs.Held.{look-up}
-use Rattle.catalogue.proofs.catalogue.Catalogue.describe.Goals as goal
-
-pub returns : goal.returns
-returns c = c.get.ensures.value ∙ look-up c.self.invariant c.self.view_is c.as_str.ensures.value
