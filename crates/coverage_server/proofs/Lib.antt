@@ -15,6 +15,7 @@ pub mod IntactLemmas
 pub mod WriteLemmas
 pub mod TileLemmas
 pub mod TypedLemmas
+pub mod QueriedLemmas
 pub mod AskingLemmas
 pub mod OneAnswerLemmas
 pub mod TomlinLemmas

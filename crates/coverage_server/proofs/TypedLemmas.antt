@@ -28,7 +28,7 @@ use Rattle.wcps_types.proofs.Counted.{some-combinations}
 use Rattle.coverage_server.specs.Views.{IsHeld}
 
 -- the signature that a name is looked up as
-abbrev looked : List ℕ → List Signature → Answer Signature
+abbrev pub looked : List ℕ → List Signature → Answer Signature
 looked name signatures = bindings.known_signature (signature_at (coverage_place name signatures) signatures)
 
 -- a signature with that name, which is that of the store's coverage
@@ -55,7 +55,7 @@ found_name name (d ∷ store) c e = by_test (λ x. found_name name store c x) (b
     by_test rest false t = let later : found name (d ∷ store) ≡ found name store = rw t refl in rest (sym later ∙ e)
 
 -- the place of a name leads to what is found by it
-place_found : (name : List ℕ) (signatures : List Signature) → signature_at (coverage_place name signatures) signatures ≡ listed name signatures
+pub place_found : (name : List ℕ) (signatures : List Signature) → signature_at (coverage_place name signatures) signatures ≡ listed name signatures
 place_found name signatures = by_test (nat_lt (position_or_len is_named signatures) (length signatures)) refl
   where
     is_named : Signature → Bool

@@ -13,6 +13,7 @@ pub mod Answered
 pub mod Serves
 pub mod Sessions
 pub mod Stages
+pub mod Named
 pub mod Tiles
 pub mod Closing
 pub mod Disk

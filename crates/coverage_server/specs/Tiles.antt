@@ -1,6 +1,6 @@
 -- The coverages that a query reads, by their places, and the cells that are fetched of them.
 use Rattle.std.specs.Prelude.{◌≡◌, ℕ, ℤ, nat_eq, cond, IsTrue, List, [], map, All, Option, Some, None}
-use Rattle.std.specs.Prelude.{option_and_then, slice_get, IsSomeAnd}
+use Rattle.std.specs.Prelude.{option_and_then, slice_get}
 use Rattle.arr_core.specs.declared.signature.Signature.{Signature}
 use Rattle.arr_core.specs.Domains.{IsDomain}
 use Rattle.arr_core.specs.Stores.{Coverage, Store, found}

@@ -1,11 +1,11 @@
 //! The coverages of a disk: their catalogue, and their cells in tiles.
 ghost use Rattle.std.specs.Prelude.{◌≡◌, ◌≤◌, None, length, IfOk, IfErr, IfSome, IfNone, OnOk, OnErr};
-ghost use Rattle.std.specs.Prelude.{IsErr, IsErrOf, IsTrue, option_map, slice_get};
+ghost use Rattle.std.specs.Prelude.{IsErr, IsErrOf, IsTrue, option_copied, option_map, slice_get};
 ghost use Rattle.arr_core.specs.Stores.{deleted, found};
 ghost use Rattle.block_file.specs.Format.{HeaderTorn, KeepsHeader};
 ghost use Rattle.catalogue.specs.Bytes.{catalogue_bytes};
 ghost use Rattle.metadata.specs.Metadata.{part_bytes};
-ghost use Rattle.catalogue.specs.Signatures.{IsCatalogue};
+ghost use Rattle.catalogue.specs.Signatures.{IsCatalogue, listed};
 ghost use Rattle.tile_store.specs.Faults.{Refuses};
 ghost use Rattle.raster_store.specs.Calls.{AreWhole, HasField, IsIndexOf, indexes_without};
 ghost use Rattle.raster_store.specs.Views.{Fetched, SnapshotView};
@@ -166,6 +166,13 @@ impl<D: Disk> Coverages<D> {
         ensures { FindsCoverage name.now self.now.store result }
     {
         self.catalogue.describe(name)
+    }
+
+    /// The signature of the coverage whose name a text is.
+    pub fn find(&self, text: &str) -> Option<&Signature>
+        ensures { option_copied result ≡ listed text.now (signatures_of self.now.store) }
+    {
+        self.catalogue.find(text)
     }
 
     /// Adds a coverage that is 0 or false everywhere. Refused as the catalogue refuses its signature, then for memory,

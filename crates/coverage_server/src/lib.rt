@@ -9,6 +9,7 @@ mod coverages;
 mod describing;
 mod jobs;
 mod laws;
+mod named;
 mod opening;
 mod query;
 mod server;

@@ -16,6 +16,7 @@ ghost use Rattle.coverage_server.specs.Views.{IsHeld, still_of};
 use crate::arguments::Refusal;
 use crate::cells::AskedCells;
 use crate::coverages::Coverages;
+use crate::named::signatures_for;
 use arr_core::{Name, Signature};
 use disk_face::Disk;
 use http_front::{Reply, refusals};
@@ -115,9 +116,9 @@ pub fn typed_text<D: Disk>(
     if text.len() > MAX_QUERY {
         return Err(Refusal::Numbered(refusals::BAD_VALUE));
     }
-    let signatures = coverages.signatures(alloc)?;
     let tokens = tokens_of(alloc, text)?;
     let query = query_of(alloc, &tokens)?;
+    let signatures = signatures_for(alloc, coverages, &query)?;
     let typed = typed_of(alloc, &signatures, query)?;
     Ok(typed)
 }
