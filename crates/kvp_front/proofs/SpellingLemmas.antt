@@ -18,17 +18,17 @@ use Rattle.kvp_front.specs.Values.{and_then}
 use Rattle.kvp_front.specs.Jobs.{job_in}
 use Rattle.kvp_front.specs.Spelling.{digits_in, signed_in, is_byte, pieces_of, each_in}
 
-own : IsNumeralModel (λ ds. all_ascii_digits ds ≡ true) (digits_value 10)
+pub own : IsNumeralModel (λ ds. all_ascii_digits ds ≡ true) (digits_value 10)
 own = numerals_by_value _ tells_all_ascii_digits
 
 -- the digits of a number below the limit
-abbrev AreDigits : ℕ → List ℕ → Type 0
+abbrev pub AreDigits : ℕ → List ℕ → Type 0
 AreDigits limit ds = (all_ascii_digits ds ≡ true) × (0 < length ds) × (digits_value 10 ds < limit)
 
 lt_true : (a b : ℕ) → a < b → nat_lt a b ≡ true
 lt_true a b h = grind (arith, nat_tests)
 
-digits_yes : (limit : ℕ) (ds : List ℕ) → AreDigits limit ds → digits_in limit ds ≡ Ok (digits_value 10 ds)
+pub digits_yes : (limit : ℕ) (ds : List ℕ) → AreDigits limit ds → digits_in limit ds ≡ Ok (digits_value 10 ds)
 digits_yes limit ds d = rw (lt_true 0 (length ds) d.1, d.0, lt_true (digits_value 10 ds) limit d.2) refl
 
 digits_no : (limit : ℕ) (ds : List ℕ) → ¬ (AreDigits limit ds) → digits_in limit ds ≡ Err BadValue

@@ -4,3 +4,4 @@ pub mod Contents
 pub mod Templates
 pub mod Jobs
 pub mod Requests
+pub mod Front

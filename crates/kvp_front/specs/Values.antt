@@ -34,7 +34,7 @@ values_of key (pair ∷ pairs) =
 -- what was found is these values, as far as it tells
 abbrev pub IsFound : Found → List (List ℕ) → Type 0
 IsFound Absent values = values ≡ []
-IsFound (Once value) values = values ≡ string_bytes value ∷ []
+IsFound (Once value) values = values ≡ text_of value.now ∷ []
 IsFound Twice values = (first : List ℕ) × (second : List ℕ) × (more : List (List ℕ)) × (values ≡ first ∷ second ∷ more)
 
 -- the value of a key that is given once

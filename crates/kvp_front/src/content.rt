@@ -3,8 +3,8 @@ ghost use Rattle.std.specs.Prelude.{map};
 ghost use Rattle.kvp_front.specs.Values.{Gives, pair_view};
 ghost use Rattle.kvp_front.specs.Contents.{content_view, content_under};
 
-use crate::lists::read_list;
-use crate::pairs::{Found, Pair, find};
+use crate::cells::read_cells;
+use crate::pairs::{Found, Pair, find, text_of};
 use crate::request::RequestError;
 use crate::spelling::read_cell;
 use arr_core::Cell;
@@ -21,19 +21,20 @@ pub enum Content {
 pub fn content_under(alloc: Global, pairs: &[Pair<'_>]) -> Result<Content, RequestError>
     ensures { Gives content_view (content_under (map pair_view pairs.now)) result }
 {
-    let fill = find(alloc, pairs, "fill")?;
-    let values = find(alloc, pairs, "values")?;
+    let fill = find(pairs, "fill");
+    let values = find(pairs, "values");
     match (fill, values) {
         (Found::Twice, _) => Err(RequestError::RepeatedKey),
         (_, Found::Twice) => Err(RequestError::RepeatedKey),
         (Found::Absent, Found::Absent) => Err(RequestError::MissingKey),
         (Found::Once(_), Found::Once(_)) => Err(RequestError::BadValue),
-        (Found::Once(text), Found::Absent) => {
+        (Found::Once(value), Found::Absent) => {
+            let text = text_of(alloc, value)?;
             let cell = read_cell(text.as_str())?;
             Ok(Content::Fill(cell))
         }
-        (Found::Absent, Found::Once(text)) => {
-            let cells = read_list(alloc, text.as_str())?;
+        (Found::Absent, Found::Once(value)) => {
+            let cells = read_cells(alloc, value)?;
             Ok(Content::Values(cells))
         }
     }

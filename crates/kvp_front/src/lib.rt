@@ -1,6 +1,7 @@
 //! The requests that the key-value pairs of a message spell.
 #![tactic(auto)]
 
+mod cells;
 mod content;
 mod jobs;
 mod lists;

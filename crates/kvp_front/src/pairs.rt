@@ -14,16 +14,16 @@ pub struct Pair<'a> {
     pub value: &'a [u8],
 }
 
-/// How often a key is given, and its value.
+/// How often a key is given, and its value as it is encoded.
 #[derive(Drop)]
-pub enum Found {
+pub enum Found<'a> {
     Absent,
-    Once(String),
+    Once(&'a [u8]),
     Twice,
 }
 
 /// The text that an encoded name or value stands for.
-fn text_of(alloc: Global, bytes: &[u8]) -> Result<String, AllocError>
+pub fn text_of(alloc: Global, bytes: &[u8]) -> Result<String, AllocError>
     ensures { IfOk result (λ text. string_bytes text ≡ text_of bytes.now) }
 {
     let text = decode(alloc, bytes)?;
@@ -49,25 +49,22 @@ fn is_key(name: &str, key: &str) -> bool
     name.eq_ignore_ascii_case(key)
 }
 
-/// Looks for a key in any ASCII case, and decodes its value where it is given once.
-pub fn find(alloc: Global, pairs: &[Pair<'_>], key: &str) -> Result<Found, AllocError>
-    ensures { IfOk result (λ found. IsFound found (values_of key.now (map pair_view pairs.now))) }
+/// Looks for a key in any ASCII case.
+pub fn find<'a>(pairs: &[Pair<'a>], key: &str) -> Found<'a>
+    ensures { IsFound result (values_of key.now (map pair_view pairs.now)) }
 {
     let mut first = None;
     for pair in pairs {
         if is_key(pair.name.as_str(), key) {
             if first.is_some() {
-                return Ok(Found::Twice);
+                return Found::Twice;
             }
             first = Some(pair.value);
         }
     }
     match first {
-        Some(value) => {
-            let text = text_of(alloc, value)?;
-            Ok(Found::Once(text))
-        }
-        None => Ok(Found::Absent),
+        Some(value) => Found::Once(value),
+        None => Found::Absent,
     }
 }
 
@@ -75,10 +72,12 @@ pub fn find(alloc: Global, pairs: &[Pair<'_>], key: &str) -> Result<Found, Alloc
 pub fn value_under(alloc: Global, pairs: &[Pair<'_>], key: &str) -> Result<String, RequestError>
     ensures { Gives string_bytes (only_value (values_of key.now (map pair_view pairs.now))) result }
 {
-    match find(alloc, pairs, key) {
-        Ok(Found::Once(value)) => Ok(value),
-        Ok(Found::Absent) => Err(RequestError::MissingKey),
-        Ok(Found::Twice) => Err(RequestError::RepeatedKey),
-        Err(_) => Err(RequestError::NoMemory),
+    match find(pairs, key) {
+        Found::Once(value) => {
+            let text = text_of(alloc, value)?;
+            Ok(text)
+        }
+        Found::Absent => Err(RequestError::MissingKey),
+        Found::Twice => Err(RequestError::RepeatedKey),
     }
 }

@@ -4,7 +4,7 @@ ghost use Rattle.kvp_front.specs.Values.{Gives, pair_view, read_under};
 ghost use Rattle.kvp_front.specs.Spelling.{same, signed_in};
 ghost use Rattle.kvp_front.specs.Templates.{layer_in, optional_under, template_of, template_view};
 
-use crate::pairs::{Found, Pair, find, value_under};
+use crate::pairs::{Found, Pair, find, text_of, value_under};
 use crate::request::{RequestError, RequestedLayer, TemplateRequest};
 use crate::spelling::{read_name, read_signed};
 use std::alloc::Global;
@@ -44,10 +44,11 @@ fn layer_under(alloc: Global, pairs: &[Pair<'_>], key: &str) -> Result<Requested
 fn second_under(alloc: Global, pairs: &[Pair<'_>]) -> Result<Option<RequestedLayer>, RequestError>
     ensures { Gives same (optional_under layer_in (codes "second") (map pair_view pairs.now)) result }
 {
-    match find(alloc, pairs, "second")? {
+    match find(pairs, "second") {
         Found::Twice => Err(RequestError::RepeatedKey),
         Found::Absent => Ok(None),
-        Found::Once(text) => {
+        Found::Once(value) => {
+            let text = text_of(alloc, value)?;
             let layer = read_layer(alloc, text.as_str())?;
             Ok(Some(layer))
         }
@@ -58,10 +59,11 @@ fn second_under(alloc: Global, pairs: &[Pair<'_>]) -> Result<Option<RequestedLay
 fn radius_under(alloc: Global, pairs: &[Pair<'_>]) -> Result<Option<i64>, RequestError>
     ensures { Gives same (optional_under signed_in (codes "radius") (map pair_view pairs.now)) result }
 {
-    match find(alloc, pairs, "radius")? {
+    match find(pairs, "radius") {
         Found::Twice => Err(RequestError::RepeatedKey),
         Found::Absent => Ok(None),
-        Found::Once(text) => {
+        Found::Once(value) => {
+            let text = text_of(alloc, value)?;
             let radius = read_signed(text.as_str())?;
             Ok(Some(radius))
         }
