@@ -13,7 +13,7 @@ use Rattle.std.proofs.lemmas.List.Splits.{slice_split_at, slice_split_none}
 use Rattle.std.proofs.lemmas.Slice.Eq.{bytes_eq-Decides}
 use Rattle.std.proofs.lemmas.Str.{digit_value_digit, utf8_lossy-IsUtf8, IsUtf8-from_ascii}
 use Rattle.std.proofs.lemmas.Str.Ascii.{IsAscii-from_all}
-use Rattle.std.proofs.lemmas.Str.Parse.{digit_from_value}
+use Rattle.std.proofs.lemmas.Str.Parse.{digit_from_value, digits_value_short}
 use mir.Val.{bool_byte, SFits}
 use Rattle.arr_core.specs.declared.cell.Cell.{Cell}
 use Rattle.arr_core.specs.declared.cell.Cell.TheVariants.{Int, Bool as Truth}
@@ -37,6 +37,18 @@ number_more bytes number count inside digit written = (
   rw (take_more bytes count 0 inside) (digits_push (take count bytes) (get_or bytes count 0) written.1 digit),
   digits_value_more 10 bytes count inside ∙ omega (arith, written.2, digit_value_digit (get_or bytes count 0) digit),
 )
+
+-- so few digits write no large number
+written_small : (bytes : List ℕ) (number count most : ℕ) → WritesNumber bytes number count → count ≤ most → number < 10 ^ most
+written_small bytes number count most written few =
+    let short : length (take count bytes) ≤ most = omega (arith, length-take count bytes) in
+    subst (λ n. n < 10 ^ most) written.2 (digits_value_short own (take count bytes) most (own.from (take count bytes) written.1) short)
+
+pub number_small : (bytes : List ℕ) (number count : ℕ) → WritesNumber bytes number count → count ≤ 18 → number < 10 ^ 18
+number_small bytes number count written few = written_small bytes number count 18 written few
+
+pub number_has_room : (bytes : List ℕ) (number count : ℕ) → WritesNumber bytes number count → count < 18 → number < 10 ^ 17
+number_has_room bytes number count written few = written_small bytes number count 17 written (omega arith)
 
 -- digits stand for themselves
 digits_in_item : (ds : List ℕ) → AllDigits 10 ds → All IsItemByte ds

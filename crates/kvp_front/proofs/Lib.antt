@@ -1,3 +1,4 @@
 pub mod SpellingLemmas
 pub mod RequestLemmas
 pub mod FrontLemmas
+pub mod PairLemmas

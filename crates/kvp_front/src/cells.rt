@@ -12,23 +12,28 @@ use crate::request::RequestError;
 use arr_core::Cell;
 use std::alloc::{AllocError, Global};
 
-/// The least number that no digit is read after.
-const LARGE: u64 = 100000000000000000;
+/// How many bytes are looked at together.
+const FEW: usize = 128;
 
-/// The number that the digits at the front write, and how many they are. Behind a number of 18 digits the rest is left.
+/// So many digits write a number within 64 bits, whatever its sign.
+const DIGITS: usize = 18;
+
+/// The number that the digits at the front write, at most 18 of them, and how many they are.
 #[inline(always)]
 fn digits_at(bytes: &[u8]) -> (u64, usize)
     ensures number { WritesNumber bytes.now result.0 result.1 }
     ensures small { result.0 < 10 ^ 18 }
 {
+    let most = bytes.len().min(DIGITS);
     let mut number = 0;
-    for (count, byte) in bytes.iter().enumerate() {
-        if !byte.is_ascii_digit() || LARGE <= number {
+    for count in 0..most {
+        let byte = bytes[count];
+        if !byte.is_ascii_digit() {
             return (number, count);
         }
         number = 10 * number + (byte - b'0') as u64;
     }
-    (number, bytes.len())
+    (number, most)
 }
 
 /// Whether a minus sign stands first.
@@ -82,17 +87,30 @@ fn cell_at(bytes: &[u8]) -> Option<(Cell, &[u8])>
     }
 }
 
-/// How many commas there are.
-fn commas_in(bytes: &[u8]) -> usize
+/// How many commas there are among a few bytes.
+#[inline(always)]
+fn commas_among(bytes: &[u8]) -> u8
+    requires { length bytes.now ≤ 128 }
     ensures { result ≤ length bytes.now }
 {
     let mut commas = 0;
     for byte in bytes {
-        if *byte == b',' {
-            commas += 1;
-        }
+        commas += (*byte == b',') as u8;
     }
     commas
+}
+
+/// How many commas there are. They are counted a few bytes at a time, so that each count fits a byte.
+fn commas_in(bytes: &[u8]) -> usize
+    ensures { result ≤ length bytes.now }
+{
+    let mut commas = 0;
+    let mut rest = bytes;
+    'bytes: while FEW <= rest.len() {
+        commas += commas_among(&rest[..FEW]) as usize;
+        rest = &rest[FEW..];
+    }
+    commas + commas_among(rest) as usize
 }
 
 /// The cells of a list in which nothing is encoded and each is spelled in a usual way; of another value nothing.

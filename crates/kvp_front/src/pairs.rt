@@ -1,10 +1,12 @@
 //! The pairs of a web form, and the values under a key.
 ghost use Rattle.std.specs.Prelude.{◌≡◌, IfOk, map, string_bytes};
 ghost use Rattle.std.specs.Str.{str_eq_ignore_ascii_case};
+ghost use Rattle.form_urlencoded.specs.Form.{split_once};
 ghost use Rattle.kvp_front.specs.Values.{IsFound, pairs_of, pair_view, values_of, Gives, only_value, text_of};
 
 use crate::request::RequestError;
-use form_urlencoded::{decode, raw_pairs};
+use form_urlencoded::decode;
+use memchr::memchr;
 use std::alloc::{AllocError, Global};
 
 /// A pair: its name, and its value as it is encoded.
@@ -30,15 +32,30 @@ pub fn text_of(alloc: Global, bytes: &[u8]) -> Result<String, AllocError>
     text.into_owned(alloc)
 }
 
+/// The bytes before the first mark, or all of them, and those behind it, or none.
+fn cut_once(bytes: &[u8], mark: u8) -> (&[u8], &[u8])
+    ensures { (result.0.now, result.1.now) ≡ split_once mark bytes.now }
+{
+    match memchr(mark, bytes) {
+        Some(place) => (&bytes[..place], &bytes[place + 1..]),
+        None => (bytes, &[]),
+    }
+}
+
 /// The pairs that some bytes spell, in order. Names are decoded here, once for all keys.
 pub fn pairs_of<'a>(alloc: Global, bytes: &'a [u8]) -> Result<Vec<Pair<'a>>, AllocError>
     ensures { IfOk result (λ list. map pair_view list.items ≡ pairs_of bytes.now) }
 {
     let mut list = Vec::new(alloc);
-    let mut left = raw_pairs(bytes);
-    'pairs: while let Some((name, value)) = left.next() {
-        let name = text_of(alloc, name)?;
-        list.push(Pair { name, value })?;
+    let mut rest = bytes;
+    'pairs: while !rest.is_empty() {
+        let (pair, after) = cut_once(rest, b'&');
+        rest = after;
+        if !pair.is_empty() {
+            let (name, value) = cut_once(pair, b'=');
+            let name = text_of(alloc, name)?;
+            list.push(Pair { name, value })?;
+        }
     }
     Ok(list)
 }

@@ -1,5 +1,8 @@
-use Rattle.std.proofs.Common.{◌≤◌}
+use Rattle.std.proofs.Common.{◌+◌, ◌≤◌, length}
 use Rattle.kvp_front.proofs.cells.commas_in.Given as goal
 
-abbrev pub invariant-loop-byte : goal.invariant-loop-byte
-invariant-loop-byte l = l.commas ≤ l.byte-index
+abbrev pub invariant-bytes : goal.invariant-bytes
+invariant-bytes l = l.commas + length l.rest ≤ length l.bytes
+
+abbrev pub decreases-bytes : goal.decreases-bytes
+decreases-bytes l = length l.rest
