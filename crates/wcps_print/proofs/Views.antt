@@ -26,7 +26,7 @@ use Rattle.wcps_text.specs.declared.tree.Part.{Part}
 use Rattle.wcps_text.specs.declared.tree.Sub.{Sub}
 use Rattle.wcps_text.specs.declared.tree.Iter.{Iter}
 use Rattle.wcps_text.specs.Token.{Tok, number, word, sign}
-use Rattle.wcps_text.specs.Tree.{Tree, unary, parts, value_list, brackets, coverage, condense, Parts, Iters, view, view_place, view_interval, parts_of, subs_of, iters_of, condition_of, item_view, bindings_of, query_view}
+use Rattle.wcps_text.specs.Tree.{Tree, Condition, unary, binary, field, parts, value_list, brackets, coverage, condense, Parts, Iters, view, view_place, view_interval, parts_of, subs_of, iters_of, condition_of, item_view, bindings_of, query_view}
 use Rattle.wcps_text.specs.Grammar.{truth_word}
 use Rattle.wcps_text.proofs.Views.{view-Record, view-Brackets, view-ValueList, view-Coverage, view-Condense}
 use Rattle.wcps_print.specs.Printing.{name_token, int_tokens, unary_token, between_tokens, bit_tokens, reduce_token, condense_token, separator, items_tokens, head_tokens, expr_tokens, parts_tokens, subs_tokens, place_tokens, interval_tokens, iters_tokens, condition_tokens, names_tokens, bindings_tokens, item_tokens, query_tokens}
@@ -44,15 +44,17 @@ pub variable_of : (e : Expr) (x : List ℕ) → e ≡ exprs.Variable x → (rest
 unfolding expr_tokens
 variable_of e x is rest = rw is refl
 
-pub binary_of : (e x y : Expr) (op : BinaryOperator) (a b : Box Expr Global) → e ≡ exprs.Binary op a b → x ≡ a.value → y ≡ b.value → false ≡ sameb binary_operator.the_type op binaries.Bit
-    → (rest : List Tok) → between_tokens op (expr_tokens (view x)) (expr_tokens (view y)) rest ≡ expr_tokens (view e) rest
+pub binary_of : (e x y : Expr) (op : BinaryOperator) (a b : Box Expr Global) → e ≡ exprs.Binary op a b → x ≡ a.value → y ≡ b.value → (rest : List Tok) → expr_tokens (binary op (view x) (view y)) rest ≡ expr_tokens (view e) rest
 unfolding expr_tokens
-binary_of e x y op a b is left right other rest = rw (is, left, right) (between op (expr_tokens (view a.value)) (expr_tokens (view b.value)) rest (ranked_if_not_bit op (sym other)))
+binary_of e x y op a b is left right rest = rw (is, left, right) refl
 
-pub bit_of : (e x y : Expr) (op : BinaryOperator) (a b : Box Expr Global) → e ≡ exprs.Binary op a b → x ≡ a.value → y ≡ b.value → true ≡ sameb binary_operator.the_type op binaries.Bit
-    → (rest : List Tok) → bit_tokens (expr_tokens (view x)) (expr_tokens (view y)) rest ≡ expr_tokens (view e) rest
+pub between_of : (a b : Tree) (op : BinaryOperator) → false ≡ sameb binary_operator.the_type op binaries.Bit → (rest : List Tok) → between_tokens op (expr_tokens a) (expr_tokens b) rest ≡ expr_tokens (binary op a b) rest
 unfolding expr_tokens
-bit_of e x y op a b is left right same rest = rw (is, left, right) (rw (same_true binary_operator.the_type tt op binaries.Bit (sym same)) refl)
+between_of a b op other rest = between op (expr_tokens a) (expr_tokens b) rest (ranked_if_not_bit op (sym other))
+
+pub bit_of : (a b : Tree) (op : BinaryOperator) → true ≡ sameb binary_operator.the_type op binaries.Bit → (rest : List Tok) → bit_tokens (expr_tokens a) (expr_tokens b) rest ≡ expr_tokens (binary op a b) rest
+unfolding expr_tokens
+bit_of a b op same rest = rw (same_true binary_operator.the_type tt op binaries.Bit (sym same)) refl
 
 pub reduce_of : (e x : Expr) (op : Aggregate) (a : Box Expr Global) → e ≡ exprs.Reduce op a → x ≡ a.value → (rest : List Tok) → reduce_token op ∷ sign signs.LeftParen ∷ expr_tokens (view x) (sign signs.RightParen ∷ rest) ≡ expr_tokens (view e) rest
 unfolding expr_tokens
@@ -66,9 +68,13 @@ pub value_list_of : (e : Expr) (its : List Iter) (xs : List ListItem) (v : Vec I
 unfolding expr_tokens
 value_list_of e its xs v w is same equal rest = ap (λ (t : Tree). expr_tokens t rest) (ap (λ (is : List Iter). value_list (iters_of is) xs) same ∙ ap (value_list (iters_of v.items)) equal ∙ sym (view-ValueList v w) ∙ ap view (sym is))
 
-pub field_of : (e x : Expr) (a : Box Expr Global) (f : List ℕ) → e ≡ exprs.Field a f → x ≡ a.value → (rest : List Tok) → sign signs.LeftParen ∷ expr_tokens (view x) (sign signs.RightParen ∷ sign signs.Dot ∷ name_token f ∷ rest) ≡ expr_tokens (view e) rest
+pub field_of : (e x : Expr) (a : Box Expr Global) (f : List ℕ) → e ≡ exprs.Field a f → x ≡ a.value → (rest : List Tok) → expr_tokens (field (view x) f) rest ≡ expr_tokens (view e) rest
 unfolding expr_tokens
 field_of e x a f is same rest = rw (is, same) refl
+
+pub field_tokens : (e : Tree) (f : List ℕ) → (rest : List Tok) → sign signs.LeftParen ∷ expr_tokens e (sign signs.RightParen ∷ sign signs.Dot ∷ name_token f ∷ rest) ≡ expr_tokens (field e f) rest
+unfolding expr_tokens
+field_tokens e f rest = refl
 
 brackets_tree : (e x : Expr) (a : Box Expr Global) (ss : List Sub) (v : Vec Sub Global) → e ≡ exprs.Brackets a v → x ≡ a.value → ss ≡ v.items → brackets (view x) (subs_of ss) ≡ view e
 brackets_tree e x a ss v is same equal = ap (λ (y : Expr). brackets (view y) (subs_of ss)) same ∙ ap (λ (ts : List Sub). brackets (view a.value) (subs_of ts)) equal ∙ sym (view-Brackets a v) ∙ ap view (sym is)
@@ -87,9 +93,13 @@ pub coverage_of : (e x : Expr) (a : Box Expr Global) (its : List Iter) (v : Vec 
 unfolding expr_tokens
 coverage_of e x a its v is same equal rest = ap (λ (t : Tree). expr_tokens t rest) (coverage_tree e x a its v is same equal)
 
-pub condense_of : (e x : Expr) (op : Aggregate) (a : Box Expr Global) (o : Option (Box Expr Global)) (its : List Iter) (v : Vec Iter Global) → e ≡ exprs.Condense op v o a → x ≡ a.value → its ≡ v.items → (rest : List Tok) → word words.Condense ∷ condense_token op ∷ word words.Over ∷ iters_tokens true (iters_of its) (condition_tokens (condition_of o) (word words.Using ∷ sign signs.LeftParen ∷ expr_tokens (view x) (sign signs.RightParen ∷ rest))) ≡ expr_tokens (view e) rest
+pub condense_of : (e x : Expr) (op : Aggregate) (a : Box Expr Global) (o : Option (Box Expr Global)) (its : List Iter) (v : Vec Iter Global) → e ≡ exprs.Condense op v o a → x ≡ a.value → its ≡ v.items → (rest : List Tok) → expr_tokens (condense op (iters_of its) (condition_of o) (view x)) rest ≡ expr_tokens (view e) rest
 unfolding expr_tokens
 condense_of e x op a o its v is same equal rest = ap (λ (t : Tree). expr_tokens t rest) (condense_tree e x op a o its v is same equal)
+
+pub condense_tokens : (op : Aggregate) (is : Iters) (c : Condition) (e : Tree) → (rest : List Tok) → word words.Condense ∷ condense_token op ∷ word words.Over ∷ iters_tokens true is (condition_tokens c (word words.Using ∷ sign signs.LeftParen ∷ expr_tokens e (sign signs.RightParen ∷ rest))) ≡ expr_tokens (condense op is c e) rest
+unfolding expr_tokens
+condense_tokens op is c e rest = refl
 
 pub unary_of : (op : UnaryOperator) (e : Tree) → (rest : List Tok) → unary_token op ∷ sign signs.LeftParen ∷ expr_tokens e (sign signs.RightParen ∷ rest) ≡ expr_tokens (unary op e) rest
 unfolding expr_tokens

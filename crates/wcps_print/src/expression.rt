@@ -11,8 +11,8 @@ use crate::words::{
 };
 use std::alloc::AllocError;
 use wcps_text::{
-    BinaryOperator, Expr, Interval, Iter, Keyword, ListItem, Part, Place, Sub, Symbol,
-    UnaryOperator,
+    Aggregate, BinaryOperator, Expr, Interval, Iter, Keyword, ListItem, Part, Place, QueryName,
+    Sub, Symbol, UnaryOperator,
 };
 
 /// An expression.
@@ -25,30 +25,14 @@ pub fn put_expr(out: &mut String, expr: &Expr) -> Result<(), AllocError>
         Expr::Truth(truth) => put_truth(out, *truth),
         Expr::Variable(name) => put_name(out, name),
         Expr::Unary(op, operand) => put_unary(out, *op, operand),
-        Expr::Binary(op, left, right) => {
-            if *op == BinaryOperator::Bit {
-                put_word(out, Keyword::Bit)?;
-                put_symbol(out, Symbol::LeftParen)?;
-                put_expr(out, left)?;
-                put_symbol(out, Symbol::Comma)?;
-                put_expr(out, right)?;
-                return put_symbol(out, Symbol::RightParen);
-            }
-            put_grouped(out, left)?;
-            put_binary(out, *op)?;
-            put_grouped(out, right)
-        }
+        Expr::Binary(op, left, right) => put_operation(out, *op, left, right),
         Expr::Reduce(op, value) => {
             put_reduce(out, *op)?;
             put_grouped(out, value)
         }
         Expr::Record(parts) => put_record(out, parts),
         Expr::ValueList { iterators, items } => put_value_list(out, iterators, items),
-        Expr::Field(value, name) => {
-            put_grouped(out, value)?;
-            put_symbol(out, Symbol::Dot)?;
-            put_name(out, name)
-        }
+        Expr::Field(value, name) => put_field(out, value, name),
         Expr::Brackets(value, subs) => {
             put_grouped(out, value)?;
             put_subs(out, subs)
@@ -63,15 +47,7 @@ pub fn put_expr(out: &mut String, expr: &Expr) -> Result<(), AllocError>
             iterators,
             condition,
             body,
-        } => {
-            put_word(out, Keyword::Condense)?;
-            put_condense(out, *op)?;
-            put_word(out, Keyword::Over)?;
-            put_iters(out, iterators)?;
-            put_condition(out, condition)?;
-            put_word(out, Keyword::Using)?;
-            put_grouped(out, body)
-        }
+        } => put_condenser(out, *op, iterators, condition, body),
     }
 }
 
@@ -105,6 +81,60 @@ fn put_unary(out: &mut String, op: UnaryOperator, operand: &Expr) -> Result<(), 
 {
     put_unary_op(out, op)?;
     put_grouped(out, operand)
+}
+
+/// An operator between its operands, or `bit` and its operands.
+#[cycle(printing)]
+fn put_operation(
+    out: &mut String,
+    op: BinaryOperator,
+    left: &Expr,
+    right: &Expr,
+) -> Result<(), AllocError>
+    ensures { OnOk result (Adds out.old out.new (expr_tokens (tree.binary op (view left.now) (view right.now)))) }
+{
+    if op == BinaryOperator::Bit {
+        put_word(out, Keyword::Bit)?;
+        put_symbol(out, Symbol::LeftParen)?;
+        put_expr(out, left)?;
+        put_symbol(out, Symbol::Comma)?;
+        put_expr(out, right)?;
+        return put_symbol(out, Symbol::RightParen);
+    }
+    put_grouped(out, left)?;
+    put_binary(out, op)?;
+    put_grouped(out, right)
+}
+
+/// A field of a value.
+#[cycle(printing)]
+fn put_field(out: &mut String, value: &Expr, name: &QueryName) -> Result<(), AllocError>
+    ensures { OnOk result (Adds out.old out.new (expr_tokens (tree.field (view value.now) name.now))) }
+{
+    put_grouped(out, value)?;
+    put_symbol(out, Symbol::Dot)?;
+    put_name(out, name)
+}
+
+/// A condenser, with its condition where it has one.
+#[cycle(printing)]
+fn put_condenser(
+    out: &mut String,
+    op: Aggregate,
+    iterators: &[Iter],
+    condition: &Option<Box<Expr>>,
+    body: &Expr,
+) -> Result<(), AllocError>
+    ensures { OnOk result (Adds out.old out.new
+        (expr_tokens (tree.condense op (iters_of iterators.now) (condition_of condition.now) (view body.now)))) }
+{
+    put_word(out, Keyword::Condense)?;
+    put_condense(out, op)?;
+    put_word(out, Keyword::Over)?;
+    put_iters(out, iterators)?;
+    put_condition(out, condition)?;
+    put_word(out, Keyword::Using)?;
+    put_grouped(out, body)
 }
 
 #[cycle(printing)]

@@ -2,9 +2,9 @@
 use Rattle.std.proofs.Common.{◌∙◌, rules, arith, w64, SFits}
 use Rattle.std.proofs.lemmas.Grind.{common_steps}
 use Rattle.std.proofs.lemmas.Int.{to_z-of_z}
-use Rattle.wcps_text.specs.Tree.{view, parts_of, iters_of}
+use Rattle.wcps_text.specs.Tree.{view, parts_of, iters_of, condition_of}
 use Rattle.wcps_print.proofs.Puts.{last_puts, same_text}
-use Rattle.wcps_print.proofs.Views.{number_of, truth_of, variable_of, binary_of, bit_of, reduce_of, record_of, value_list_of, field_of, brackets_of, coverage_of, condense_of, unary_of, record_tokens, value_list_tokens, some_condition, no_condition, bounds_of, domain_of, position_of, trim_of, parts_end, parts_step, subs_end, subs_step, iters_end, iters_step}
+use Rattle.wcps_print.proofs.Views.{number_of, truth_of, variable_of, binary_of, between_of, bit_of, reduce_of, record_of, value_list_of, field_of, field_tokens, brackets_of, coverage_of, condense_of, condense_tokens, unary_of, record_tokens, value_list_tokens, some_condition, no_condition, bounds_of, domain_of, position_of, trim_of, parts_end, parts_step, subs_end, subs_step, iters_end, iters_step}
 use Rattle.wcps_print.proofs.expression.+printing.Goals as goal
 
 pub put_condition-returns-in_ok-put_word-in-Some : goal.put_condition-returns-in_ok-put_word-in-Some
@@ -28,23 +28,32 @@ put_expr-returns-in-Record t c = last_puts c.put_record.result _ _ _ _ _ c.put_r
 pub put_expr-returns-in-ValueList : goal.put_expr-returns-in-ValueList
 put_expr-returns-in-ValueList t c = last_puts c.put_value_list.result _ _ _ _ _ c.put_value_list.ensures (λ rest. same_text _ (value_list_of c.args.expr.now _ _ c.in-ValueList.iterators c.in-ValueList.items c.in-ValueList.is c.deref-in-ValueList.ensures.value c.deref-in-ValueList-2.ensures.value rest))
 
-pub put_expr-returns-then-eq : goal.put_expr-returns-then-eq
-put_expr-returns-then-eq t c = last_puts c.put_symbol-then-eq-2.result _ _ _ _ _ c.put_symbol-then-eq-2.ensures (λ rest. c.in_ok-put_expr-in-Binary-2.ensures _ ∙ (c.in_ok-put_symbol-in-Binary-2.ensures _ ∙ (c.in_ok-put_expr-in-Binary.ensures _ ∙ (c.in_ok-put_symbol-in-Binary.ensures _ ∙ (c.in_ok-put_word-in-Binary.ensures _ ∙ (same_text _ (bit_of c.args.expr.now _ _ c.in-Binary.op c.in-Binary.left c.in-Binary.right c.in-Binary.is c.deref-then-eq.ensures c.deref-then-eq-2.ensures c.if-eq.ensures rest)))))))
+pub put_expr-returns-in-Binary : goal.put_expr-returns-in-Binary
+put_expr-returns-in-Binary t c = last_puts c.put_operation.result _ _ _ _ _ c.put_operation.ensures (λ rest. same_text _ (binary_of c.args.expr.now _ _ c.in-Binary.op c.in-Binary.left c.in-Binary.right c.in-Binary.is c.deref-in-Binary.ensures c.deref-in-Binary-2.ensures rest))
 
-pub put_expr-returns-in_ok-put_binary-in-Binary : goal.put_expr-returns-in_ok-put_binary-in-Binary
-put_expr-returns-in_ok-put_binary-in-Binary t c = last_puts c.put_grouped-in-Binary.result _ _ _ _ _ c.put_grouped-in-Binary.ensures (λ rest. c.in_ok-put_binary-in-Binary.ensures _ ∙ (c.in_ok-put_grouped-in-Binary.ensures _ ∙ (same_text _ (binary_of c.args.expr.now _ _ c.in-Binary.op c.in-Binary.left c.in-Binary.right c.in-Binary.is c.deref-in-Binary.ensures c.deref-in-Binary-2.ensures c.if-eq.ensures rest))))
+pub put_operation-returns-then-eq : goal.put_operation-returns-then-eq
+put_operation-returns-then-eq t c = last_puts c.put_symbol-then-eq-2.result _ _ _ _ _ c.put_symbol-then-eq-2.ensures (λ rest. c.in_ok-put_expr-2.ensures _ ∙ (c.in_ok-put_symbol-2.ensures _ ∙ (c.in_ok-put_expr.ensures _ ∙ (c.in_ok-put_symbol.ensures _ ∙ (c.in_ok-put_word.ensures _ ∙ (same_text _ (bit_of (view c.args.left.now) (view c.args.right.now) c.args.op c.if-eq.ensures rest)))))))
+
+pub put_operation-returns : goal.put_operation-returns
+put_operation-returns t c = last_puts c.put_grouped-2.result _ _ _ _ _ c.put_grouped-2.ensures (λ rest. c.in_ok-put_binary.ensures _ ∙ (c.in_ok-put_grouped.ensures _ ∙ (same_text _ (between_of (view c.args.left.now) (view c.args.right.now) c.args.op c.if-eq.ensures rest))))
+
+pub put_expr-returns-in-Condense : goal.put_expr-returns-in-Condense
+put_expr-returns-in-Condense t c = last_puts c.put_condenser.result _ _ _ _ _ c.put_condenser.ensures (λ rest. same_text _ (condense_of c.args.expr.now _ c.in-Condense.op c.in-Condense.body c.in-Condense.condition _ c.in-Condense.iterators c.in-Condense.is c.deref-in-Condense-2.ensures c.deref-in-Condense.ensures.value rest))
+
+pub put_condenser-returns : goal.put_condenser-returns
+put_condenser-returns t c = last_puts c.put_grouped.result _ _ _ _ _ c.put_grouped.ensures (λ rest. c.in_ok-put_word-3.ensures _ ∙ (c.in_ok-put_condition.ensures _ ∙ (c.in_ok-put_iters.ensures _ ∙ (c.in_ok-put_word-2.ensures _ ∙ (c.in_ok-put_condense.ensures _ ∙ (c.in_ok-put_word.ensures _ ∙ (same_text _ (condense_tokens c.args.op (iters_of c.args.iterators.now) (condition_of c.args.condition.now) (view c.args.body.now) rest))))))))
 
 pub put_expr-returns-in_ok-put_grouped-in-Brackets : goal.put_expr-returns-in_ok-put_grouped-in-Brackets
 put_expr-returns-in_ok-put_grouped-in-Brackets t c = last_puts c.put_subs.result _ _ _ _ _ c.put_subs.ensures (λ rest. c.in_ok-put_grouped-in-Brackets.ensures _ ∙ (same_text _ (brackets_of c.args.expr.now _ c.in-Brackets.value _ c.in-Brackets.subs c.in-Brackets.is c.deref-in-Brackets.ensures c.deref-in-Brackets-2.ensures.value rest)))
 
 pub put_expr-returns-in_ok-put_reduce-in-Reduce : goal.put_expr-returns-in_ok-put_reduce-in-Reduce
-put_expr-returns-in_ok-put_reduce-in-Reduce t c = last_puts c.put_grouped-in-Reduce.result _ _ _ _ _ c.put_grouped-in-Reduce.ensures (λ rest. c.in_ok-put_reduce-in-Reduce.ensures _ ∙ (same_text _ (reduce_of c.args.expr.now _ c.in-Reduce.op c.in-Reduce.value c.in-Reduce.is c.deref-in-Reduce.ensures rest)))
+put_expr-returns-in_ok-put_reduce-in-Reduce t c = last_puts c.put_grouped.result _ _ _ _ _ c.put_grouped.ensures (λ rest. c.in_ok-put_reduce-in-Reduce.ensures _ ∙ (same_text _ (reduce_of c.args.expr.now _ c.in-Reduce.op c.in-Reduce.value c.in-Reduce.is c.deref-in-Reduce.ensures rest)))
 
-pub put_expr-returns-in_ok-put_symbol-in-Field : goal.put_expr-returns-in_ok-put_symbol-in-Field
-put_expr-returns-in_ok-put_symbol-in-Field t c = last_puts c.put_name-in-Field.result _ _ _ _ _ c.put_name-in-Field.ensures (λ rest. c.in_ok-put_symbol-in-Field.ensures _ ∙ (c.in_ok-put_grouped-in-Field.ensures _ ∙ (same_text _ (field_of c.args.expr.now _ c.in-Field.value c.in-Field.name c.in-Field.is c.deref-in-Field.ensures rest))))
+pub put_expr-returns-in-Field : goal.put_expr-returns-in-Field
+put_expr-returns-in-Field t c = last_puts c.put_field.result _ _ _ _ _ c.put_field.ensures (λ rest. same_text _ (field_of c.args.expr.now _ c.in-Field.value c.in-Field.name c.in-Field.is c.deref-in-Field.ensures rest))
 
-pub put_expr-returns-in_ok-put_word-in-Condense-3 : goal.put_expr-returns-in_ok-put_word-in-Condense-3
-put_expr-returns-in_ok-put_word-in-Condense-3 t c = last_puts c.put_grouped-in-Condense.result _ _ _ _ _ c.put_grouped-in-Condense.ensures (λ rest. c.in_ok-put_word-in-Condense-3.ensures _ ∙ (c.in_ok-put_condition-in-Condense.ensures _ ∙ (c.in_ok-put_iters-in-Condense.ensures _ ∙ (c.in_ok-put_word-in-Condense-2.ensures _ ∙ (c.in_ok-put_condense-in-Condense.ensures _ ∙ (c.in_ok-put_word-in-Condense.ensures _ ∙ (same_text _ (condense_of c.args.expr.now _ c.in-Condense.op c.in-Condense.body c.in-Condense.condition _ c.in-Condense.iterators c.in-Condense.is c.deref-in-Condense-2.ensures c.deref-in-Condense.ensures.value rest))))))))
+pub put_field-returns : goal.put_field-returns
+put_field-returns t c = last_puts c.put_name.result _ _ _ _ _ c.put_name.ensures (λ rest. c.in_ok-put_symbol.ensures _ ∙ (c.in_ok-put_grouped.ensures _ ∙ (same_text _ (field_tokens (view c.args.value.now) c.args.name.now rest))))
 
 pub put_expr-returns-in_ok-put_word-in-Coverage : goal.put_expr-returns-in_ok-put_word-in-Coverage
 put_expr-returns-in_ok-put_word-in-Coverage t c = last_puts c.put_grouped-in-Coverage.result _ _ _ _ _ c.put_grouped-in-Coverage.ensures (λ rest. c.in_ok-put_word-in-Coverage.ensures _ ∙ (c.in_ok-put_head-in-Coverage.ensures _ ∙ (same_text _ (coverage_of c.args.expr.now _ c.in-Coverage.body _ c.in-Coverage.iterators c.in-Coverage.is c.deref-in-Coverage-2.ensures c.deref-in-Coverage.ensures.value rest))))
