@@ -2,7 +2,8 @@
 
 ghost use Rattle.std.specs.Prelude.{◌<◌, ◌≤◌, length, IfOk};
 ghost use Rattle.wcps_text.specs.Token.{toks};
-ghost use Rattle.wcps_parse.specs.Reading.{level, operand, post, postfix, prim, in_parens, enclosed, bit, fields, parts, part_at, subs, sub_at, place, interval, domain, iters, iter_at, coverage, items, listed, condition, condense};
+ghost use Rattle.wcps_parse.specs.Reading.{level, operand, post, postfix, prim, in_parens, enclosed, bit, fields, parts, part_at, subs, sub_at, place, interval, domain, iters, iter_at, coverage, items, listed, condition, condense, begun};
+ghost use Rattle.wcps_parse.specs.Front.{with_abs, with_reduce};
 ghost use Rattle.wcps_parse.specs.Fit.{Gives, Reads};
 ghost use Rattle.wcps_parse.specs.Kinds.{FitTree, FitPart, FitParts, FitSub, FitSubs, FitPlace, FitInterval, FitIter, FitIters, FitCondition, Makes};
 ghost use Rattle.wcps_parse.specs.Prefixes.{IsBehind};
@@ -16,8 +17,8 @@ use crate::grown;
 use crate::grown::Grown;
 use std::alloc::{AllocError, Global};
 use wcps_text::{
-    BinaryOperator, Expr, Interval, Iter, Keyword, ListItem, Part, Place, QueryName, Sub, Symbol,
-    Token, UnaryOperator,
+    Aggregate, BinaryOperator, Expr, Interval, Iter, Keyword, ListItem, Part, Place, QueryName,
+    Sub, Symbol, Token, UnaryOperator,
 };
 
 /// The rank of the loosest operators.
@@ -142,18 +143,39 @@ fn prim<'t, 'a>(
         }
         Start::Paren => enclosed(alloc, rest),
         Start::Brace => record(alloc, rest),
-        Start::Abs => {
-            let (value, rest) = in_parens(alloc, rest)?;
-            Ok((grown::unary(alloc, UnaryOperator::Absolute, value)?, rest))
-        }
+        Start::Abs => absolute(alloc, rest),
         Start::Bit => bit(alloc, rest),
-        Start::Reduce(op) => {
-            let (value, rest) = in_parens(alloc, rest)?;
-            Ok((grown::reduce(alloc, op, value)?, rest))
-        }
+        Start::Reduce(op) => reduced(alloc, op, rest),
         Start::Coverage => coverage(alloc, rest),
         Start::Condense => condense(alloc, rest),
     }
+}
+
+/// What follows the word `abs`.
+#[cycle(expression)]
+fn absolute<'t, 'a>(
+    alloc: Global,
+    tokens: &'t [Token<'a>],
+) -> Result<(Grown<Box<Expr>>, &'t [Token<'a>]), ParseError>
+    ensures exact { Reads FitTree result (λ n m. begun m (level n) with_abs (toks tokens.now)) }
+    ensures shorter { IfOk result (λ x. length x.1.now < length tokens.now) }
+{
+    let (value, rest) = in_parens(alloc, tokens)?;
+    Ok((grown::unary(alloc, UnaryOperator::Absolute, value)?, rest))
+}
+
+/// What follows the word of a reduction.
+#[cycle(expression)]
+fn reduced<'t, 'a>(
+    alloc: Global,
+    op: Aggregate,
+    tokens: &'t [Token<'a>],
+) -> Result<(Grown<Box<Expr>>, &'t [Token<'a>]), ParseError>
+    ensures exact { Reads FitTree result (λ n m. begun m (level n) (with_reduce op) (toks tokens.now)) }
+    ensures shorter { IfOk result (λ x. length x.1.now < length tokens.now) }
+{
+    let (value, rest) = in_parens(alloc, tokens)?;
+    Ok((grown::reduce(alloc, op, value)?, rest))
 }
 
 /// An expression in parentheses.

@@ -563,26 +563,32 @@ pub prim-returns-in-Condense-clause-exact : goal.prim-returns-in-Condense-clause
 unfolding begun
 prim-returns-in-Condense-clause-exact t c = reads_then _ c.condense.result c.condense.ensures.exact (λ o h. prim_by _ _ _ with_condense o c.in-Some.ensures.value (ap begin_of c.in-Condense.is) h)
 
-pub prim-returns-in_err-value-in-Abs-clause-exact : goal.prim-returns-in_err-value-in-Abs-clause-exact
-unfolding begun
-prim-returns-in_err-value-in-Abs-clause-exact t c =
-    let p = err_from_is_err_and c.from_residual-in_err-value-in-Abs.result c.from_residual-in_err-value-in-Abs.ensures.1 in
-    rw (p.1, p.2) (fails_then c.in_err-value-in-Abs.field-0.0 c.in_err-value-in-Abs.ensures.exact (λ none. prim_by _ _ _ with_abs None c.in-Some.ensures.value (ap begin_of c.in-Abs.is) (comes_then _ none (comes_now _))))
+pub prim-returns-in-Abs-clause-exact : goal.prim-returns-in-Abs-clause-exact
+prim-returns-in-Abs-clause-exact t c = reads_then _ c.absolute.result c.absolute.ensures.exact (λ o h. prim_by _ _ _ with_abs o c.in-Some.ensures.value (ap begin_of c.in-Abs.is) h)
 
-pub prim-returns-in_ok-unary-in-Abs-clause-exact : goal.prim-returns-in_ok-unary-in-Abs-clause-exact
+pub absolute-returns-in_err-value-clause-exact : goal.absolute-returns-in_err-value-clause-exact
 unfolding begun
-prim-returns-in_ok-unary-in-Abs-clause-exact t c =
-    let value = c.in_ok-value-in-Abs.ensures.exact in
-    record { whole = tree.unary unaries.Absolute value.whole; fit = c.in_ok-unary-in-Abs.ensures value.whole value.fit; comes = prim_by _ _ _ with_abs _ c.in-Some.ensures.value (ap begin_of c.in-Abs.is) (comes_then _ value.comes (comes_now _)) }
+absolute-returns-in_err-value-clause-exact t c =
+    let p = err_from_is_err_and c.from_residual.result c.from_residual.ensures.1 in
+    rw (p.1, p.2) (fails_then c.in_err-value.field-0.0 c.in_err-value.ensures.exact (λ none. comes_then _ none (comes_now _)))
 
-pub prim-returns-in_err-value-in-Reduce-clause-exact : goal.prim-returns-in_err-value-in-Reduce-clause-exact
+pub absolute-returns-clause-exact : goal.absolute-returns-clause-exact
 unfolding begun
-prim-returns-in_err-value-in-Reduce-clause-exact t c =
-    let p = err_from_is_err_and c.from_residual-in_err-value-in-Reduce.result c.from_residual-in_err-value-in-Reduce.ensures.1 in
-    rw (p.1, p.2) (fails_then c.in_err-value-in-Reduce.field-0.0 c.in_err-value-in-Reduce.ensures.exact (λ none. prim_by _ _ _ (with_reduce c.in-Reduce.op) None c.in-Some.ensures.value (ap begin_of c.in-Reduce.is) (comes_then _ none (comes_now _))))
+absolute-returns-clause-exact t c =
+    let value = c.in_ok-value.ensures.exact in
+    record { whole = tree.unary unaries.Absolute value.whole; fit = c.in_ok-unary.ensures value.whole value.fit; comes = comes_then _ value.comes (comes_now _) }
 
-pub prim-returns-in_ok-reduce-in-Reduce-clause-exact : goal.prim-returns-in_ok-reduce-in-Reduce-clause-exact
+pub prim-returns-in-Reduce-clause-exact : goal.prim-returns-in-Reduce-clause-exact
+prim-returns-in-Reduce-clause-exact t c = reads_then _ c.reduced.result c.reduced.ensures.exact (λ o h. prim_by _ _ _ (with_reduce c.in-Reduce.op) o c.in-Some.ensures.value (ap begin_of c.in-Reduce.is) h)
+
+pub reduced-returns-in_err-value-clause-exact : goal.reduced-returns-in_err-value-clause-exact
 unfolding begun
-prim-returns-in_ok-reduce-in-Reduce-clause-exact t c =
-    let value = c.in_ok-value-in-Reduce.ensures.exact in
-    record { whole = tree.reduce c.in-Reduce.op value.whole; fit = c.in_ok-reduce-in-Reduce.ensures value.whole value.fit; comes = prim_by _ _ _ (with_reduce c.in-Reduce.op) _ c.in-Some.ensures.value (ap begin_of c.in-Reduce.is) (comes_then _ value.comes (comes_now _)) }
+reduced-returns-in_err-value-clause-exact t c =
+    let p = err_from_is_err_and c.from_residual.result c.from_residual.ensures.1 in
+    rw (p.1, p.2) (fails_then c.in_err-value.field-0.0 c.in_err-value.ensures.exact (λ none. comes_then _ none (comes_now _)))
+
+pub reduced-returns-clause-exact : goal.reduced-returns-clause-exact
+unfolding begun
+reduced-returns-clause-exact t c =
+    let value = c.in_ok-value.ensures.exact in
+    record { whole = tree.reduce c.args.op value.whole; fit = c.in_ok-reduce.ensures value.whole value.fit; comes = comes_then _ value.comes (comes_now _) }

@@ -27,6 +27,12 @@ decreases-in_parens l = 300 * length l.tokens.now + 13
 abbrev pub decreases-enclosed : goal.decreases-enclosed
 decreases-enclosed l = 300 * length l.tokens.now + 12
 
+abbrev pub decreases-absolute : goal.decreases-absolute
+decreases-absolute l = 300 * length l.tokens.now + 14
+
+abbrev pub decreases-reduced : goal.decreases-reduced
+decreases-reduced l = 300 * length l.tokens.now + 14
+
 abbrev pub decreases-bit : goal.decreases-bit
 decreases-bit l = 300 * length l.tokens.now + 0
 
