@@ -20,6 +20,10 @@ depth at = length at.scope.now
 abbrev pub body_hoisted : Around → Vec Fold Global → Body → Hoisted
 body_hoisted at passes e = hoisted at.regs.now (depth at) (passes_in passes) (body_view e)
 
+-- under one variable more
+abbrev pub deeper_hoisted : Around → Vec Fold Global → Body → Hoisted
+deeper_hoisted at passes e = hoisted at.regs.now (depth at + 1) (passes_in passes) (body_view e)
+
 -- a fold whose condition and body have been hoisted, under n variables with its own
 abbrev pub inner_pass : List ℕ → ℕ → Vec Fold Global → Fold → PassTree
 inner_pass regs n passes f =

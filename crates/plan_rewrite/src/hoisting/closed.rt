@@ -1,7 +1,7 @@
 //! Closed folds, which use no variable from outside them, and the passes that they become.
 
 ghost use Rattle.std.specs.Prelude.{◌≡◌, IfOk, map};
-ghost use Rattle.plan_ir.specs.Bodies.{body_view};
+ghost use Rattle.plan_ir.specs.Bodies.{body_view, read, table};
 ghost use Rattle.plan_ir.specs.Plans.{pass_view};
 ghost use Rattle.plan_ir.specs.Variables.{index_without, without};
 ghost use Rattle.plan_rewrite.specs.Hoisting.{pass_without};
@@ -11,6 +11,7 @@ use crate::nodes::{
     bind_body, boxed, conditional_fold, fold_body, op1_body, op2_body, plain_fold, read_body,
     table_body,
 };
+use arr_core::Domain;
 use plan_ir::{Body, Fold, Index};
 use std::alloc::{AllocError, Global};
 
@@ -36,18 +37,12 @@ fn without(alloc: Global, n: usize, e: &Body) -> Result<Box<Body>, AllocError>
             coverage,
             field,
             indexes,
-        } => {
-            let indexes = indexes_without(alloc, n, indexes)?;
-            read_body(alloc, *coverage, *field, indexes)
-        }
+        } => read_without(alloc, n, *coverage, *field, indexes),
         Body::Table {
             domain,
             items,
             indexes,
-        } => {
-            let indexes = indexes_without(alloc, n, indexes)?;
-            table_body(alloc, domain, items, indexes)
-        }
+        } => table_without(alloc, n, domain, items, indexes),
         Body::Bind {
             position,
             interval,
@@ -78,6 +73,34 @@ pub fn fold_without(alloc: Global, n: usize, f: &Fold) -> Result<Box<Fold>, Allo
             conditional_fold(alloc, f.op, &f.domain, c, body)
         }
     }
+}
+
+/// The cell of a field at a point without the first `n` variables.
+fn read_without(
+    alloc: Global,
+    n: usize,
+    coverage: usize,
+    field: usize,
+    indexes: &[Index],
+) -> Result<Box<Body>, AllocError>
+    ensures { IfOk result (λ b. tree_in b ≡ read coverage field (map (index_without n) indexes.now)) }
+{
+    let indexes = indexes_without(alloc, n, indexes)?;
+    read_body(alloc, coverage, field, indexes)
+}
+
+/// The item of a list at a point without the first `n` variables.
+fn table_without(
+    alloc: Global,
+    n: usize,
+    domain: &Domain,
+    items: &[i64],
+    indexes: &[Index],
+) -> Result<Box<Body>, AllocError>
+    ensures { IfOk result (λ b. tree_in b ≡ table domain.now items.now (map (index_without n) indexes.now)) }
+{
+    let indexes = indexes_without(alloc, n, indexes)?;
+    table_body(alloc, domain, items, indexes)
 }
 
 /// Indexes without the first `n` variables.

@@ -3,7 +3,7 @@
 ghost use Rattle.std.specs.Prelude.{◌≡◌, ◌+◌, [], ◌∷◌, IfOk, OnOk, length, map, slice_index_or};
 ghost use Rattle.plan_ir.specs.Plans.{pass_view};
 ghost use Rattle.plan_rewrite.specs.Hoisting.{passed};
-ghost use Rattle.plan_rewrite.specs.HoistedParts.{depth, body_hoisted, fold_hoisted, inner_pass, inner_passes};
+ghost use Rattle.plan_rewrite.specs.HoistedParts.{depth, body_hoisted, deeper_hoisted, fold_hoisted, inner_pass, inner_passes};
 ghost use Rattle.plan_rewrite.specs.Views.{tree_in, pass_in, passes_in, Gains};
 
 use crate::hoisting::closed::fold_without;
@@ -63,19 +63,31 @@ pub fn hoisted(
             body,
         } => {
             let p = hoisted(alloc, at, position, passes)?;
-            let scope = one_deeper(alloc, at.scope, *interval)?;
-            let inner = Around {
-                regs: at.regs,
-                scope: &scope,
-            };
-            let b = hoisted(alloc, &inner, body, passes)?;
+            let b = hoisted_deeper(alloc, at, *interval, body, passes)?;
             bind_body(alloc, p, *interval, b)
         }
-        Body::Fold(f) => {
-            let b = hoisted_fold(alloc, at, f, passes)?;
-            Ok(b)
-        }
+        Body::Fold(f) => hoisted_fold(alloc, at, f, passes),
     }
+}
+
+/// A body under one variable more, whose closed folds go to the end of the passes.
+#[cycle(hoist)]
+fn hoisted_deeper(
+    alloc: Global,
+    at: &Around,
+    interval: Interval,
+    e: &Body,
+    passes: &mut Vec<Fold>,
+) -> Result<Box<Body>, AllocError>
+    ensures body { IfOk result (λ b. tree_in b ≡ (deeper_hoisted at.now passes.old e.now).body) }
+    ensures passes { OnOk result (passes_in passes.new ≡ (deeper_hoisted at.now passes.old e.now).passes) }
+{
+    let scope = one_deeper(alloc, at.scope, interval)?;
+    let inner = Around {
+        regs: at.regs,
+        scope: &scope,
+    };
+    hoisted(alloc, &inner, e, passes)
 }
 
 /// What stands in the place of a fold.

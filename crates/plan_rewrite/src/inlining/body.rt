@@ -3,7 +3,7 @@
 
 ghost use Rattle.std.specs.Prelude.{◌≡◌, ◌++◌, [], ◌∷◌, IfOk, map};
 ghost use Rattle.std.specs.Option.{option_copied};
-ghost use Rattle.plan_ir.specs.Bodies.{body_view};
+ghost use Rattle.plan_ir.specs.Bodies.{body_view, read, table};
 ghost use Rattle.plan_rewrite.specs.Settling.{moved, literal, constant_in, variable_in, stand_in, settled, settled_under, settled_bind};
 ghost use Rattle.plan_ir.specs.Plans.{pass_view};
 ghost use Rattle.plan_rewrite.specs.Views.{tree_in, pass_in};
@@ -13,6 +13,7 @@ use crate::nodes::{
     table_body,
 };
 use crate::variables::{index_at, variable, with_interval, with_levels, with_spans};
+use arr_core::Domain;
 use plan_ir::{Body, Fold, Index, Interval};
 use std::alloc::{AllocError, Global};
 use wcps_mean::{Outcome, operate};
@@ -44,18 +45,12 @@ pub fn settled(
             coverage,
             field,
             indexes,
-        } => {
-            let indexes = all_moved(alloc, env, indexes)?;
-            read_body(alloc, *coverage, *field, indexes)
-        }
+        } => read_moved(alloc, env, *coverage, *field, indexes),
         Body::Table {
             domain,
             items,
             indexes,
-        } => {
-            let indexes = all_moved(alloc, env, indexes)?;
-            table_body(alloc, domain, items, indexes)
-        }
+        } => table_moved(alloc, env, domain, items, indexes),
         Body::Bind {
             position,
             interval,
@@ -118,6 +113,34 @@ pub fn settled_fold(
             conditional_fold(alloc, f.op, &f.domain, c, body)
         }
     }
+}
+
+/// The cell of a field at the indexes that stand for indexes.
+fn read_moved(
+    alloc: Global,
+    env: &[Index],
+    coverage: usize,
+    field: usize,
+    indexes: &[Index],
+) -> Result<Box<Body>, AllocError>
+    ensures { IfOk result (λ b. tree_in b ≡ read coverage field (map (moved env.now) indexes.now)) }
+{
+    let indexes = all_moved(alloc, env, indexes)?;
+    read_body(alloc, coverage, field, indexes)
+}
+
+/// The item of a list at the indexes that stand for indexes.
+fn table_moved(
+    alloc: Global,
+    env: &[Index],
+    domain: &Domain,
+    items: &[i64],
+    indexes: &[Index],
+) -> Result<Box<Body>, AllocError>
+    ensures { IfOk result (λ b. tree_in b ≡ table domain.now items.now (map (moved env.now) indexes.now)) }
+{
+    let indexes = all_moved(alloc, env, indexes)?;
+    table_body(alloc, domain, items, indexes)
 }
 
 /// The index that stands for an index.

@@ -1,9 +1,9 @@
 //! Lowering of one field of a typed expression to a body.
 
 ghost use Rattle.std.specs.Prelude.{◌≡◌, IfOk};
-ghost use Rattle.wcps_types.specs.Typed.{field_tree};
+ghost use Rattle.wcps_types.specs.Typed.{field_tree, unary, binary, array, condense, condense_where, reduce};
 ghost use Rattle.plan_ir.specs.Bodies.{body_view, fold, always};
-ghost use Rattle.plan_rewrite.specs.Lowering.{outermost, lowered, field_at, scalar_at};
+ghost use Rattle.plan_rewrite.specs.Lowering.{setting_of, outermost, at_slice, lowered, field_at, scalar_at};
 ghost use Rattle.plan_rewrite.specs.Lowered.{IsBodyFor};
 ghost use Rattle.plan_rewrite.specs.Views.{tree_in, bind_over};
 
@@ -16,7 +16,7 @@ use crate::variables::{index_at, variable};
 use arr_core::{Axis, Domain};
 use plan_ir::{Body, Interval};
 use std::alloc::{AllocError, Global};
-use wcps_text::Aggregate;
+use wcps_text::{Aggregate, BinaryOperator, UnaryOperator};
 use wcps_types::Node;
 
 /// The body of one field of an expression, whose variables are its iterators, which go over the axes `iterators`, and
@@ -64,15 +64,8 @@ pub fn lowered(
         Node::Number(z) => boxed(alloc, Body::Lit(*z)),
         Node::Iterator(k) => boxed(alloc, variable(index_at(&context.iterators, *k))),
         Node::Coverage(coverage) => read_at(alloc, *coverage, field, &context.point),
-        Node::Unary(op, e) => {
-            let x = lowered(alloc, context, e, 0)?;
-            op1_body(alloc, *op, x)
-        }
-        Node::Binary(op, l, r) => {
-            let x = lowered(alloc, context, l, 0)?;
-            let y = lowered(alloc, context, r, 0)?;
-            op2_body(alloc, *op, x, y)
-        }
+        Node::Unary(op, e) => lowered_unary(alloc, context, *op, e),
+        Node::Binary(op, l, r) => lowered_binary(alloc, context, *op, l, r),
         Node::Scalar(e) => lowered_scalar(alloc, context, e, field),
         Node::Record(parts) => match parts.get(field) {
             None => boxed(alloc, Body::Lit(0)),
@@ -88,34 +81,53 @@ pub fn lowered(
             position,
         } => {
             let interval = Interval { lo: *lo, hi: *hi };
-            let inner = context.sliced(alloc, *axis, interval)?;
-            let body = lowered(alloc, &inner, value, field)?;
+            let body = lowered_slice(alloc, context, value, field, *axis, interval)?;
             lowered_bind(alloc, context, position, interval, body)
         }
-        Node::Array(e) => {
-            let inner = context.inner(alloc)?;
-            lowered(alloc, &inner, e, 0)
-        }
+        Node::Array(e) => lowered_array(alloc, context, e),
         Node::List { domain, items } => table_at(alloc, domain, items, &context.point),
         Node::Condense { op, domain, body } => {
-            let inner = context.over(alloc, domain.axes())?;
-            lowered_fold(alloc, &inner, *op, domain, body)
+            lowered_condense(alloc, context, *op, domain, body)
         }
         Node::CondenseWhere {
             op,
             domain,
             condition,
             body,
-        } => {
-            let inner = context.over(alloc, domain.axes())?;
-            let c = lowered(alloc, &inner, condition, 0)?;
-            lowered_choice(alloc, &inner, *op, domain, body, c)
-        }
-        Node::Reduce { op, domain, body } => {
-            let inner = context.across(alloc, domain.axes())?;
-            lowered_fold(alloc, &inner, *op, domain, body)
-        }
+        } => lowered_where(alloc, context, *op, domain, condition, body),
+        Node::Reduce { op, domain, body } => lowered_reduce(alloc, context, *op, domain, body),
     }
+}
+
+/// The body of an operation on one operand.
+#[cycle(lower)]
+fn lowered_unary(
+    alloc: Global,
+    context: &Context,
+    op: UnaryOperator,
+    e: &Node,
+) -> Result<Box<Body>, AllocError>
+    ensures { IfOk result (λ b. tree_in b ≡ lowered (setting_of context.now) (unary op (field_tree e.now 0))) }
+{
+    let x = lowered(alloc, context, e, 0)?;
+    op1_body(alloc, op, x)
+}
+
+/// The body of an operation on two operands.
+#[cycle(lower)]
+fn lowered_binary(
+    alloc: Global,
+    context: &Context,
+    op: BinaryOperator,
+    l: &Node,
+    r: &Node,
+) -> Result<Box<Body>, AllocError>
+    ensures { IfOk result (λ b. tree_in b ≡
+        lowered (setting_of context.now) (binary op (field_tree l.now 0) (field_tree r.now 0))) }
+{
+    let x = lowered(alloc, context, l, 0)?;
+    let y = lowered(alloc, context, r, 0)?;
+    op2_body(alloc, op, x, y)
 }
 
 /// The body of one field of a scalar.
@@ -130,6 +142,82 @@ pub fn lowered_scalar(
 {
     let inner = context.scalar(alloc)?;
     lowered(alloc, &inner, e, field)
+}
+
+/// The body of one field of a value under a variable for a coordinate of its point.
+#[cycle(lower)]
+fn lowered_slice(
+    alloc: Global,
+    context: &Context,
+    value: &Node,
+    field: usize,
+    axis: usize,
+    interval: Interval,
+) -> Result<Box<Body>, AllocError>
+    ensures { IfOk result (λ b. tree_in b ≡
+        lowered (at_slice (setting_of context.now) axis interval.lo interval.hi) (field_tree value.now field)) }
+{
+    let inner = context.sliced(alloc, axis, interval)?;
+    lowered(alloc, &inner, value, field)
+}
+
+/// The body of an array's value, whose iterators are the coordinates of the point.
+#[cycle(lower)]
+fn lowered_array(alloc: Global, context: &Context, e: &Node) -> Result<Box<Body>, AllocError>
+    ensures { IfOk result (λ b. tree_in b ≡ lowered (setting_of context.now) (array (field_tree e.now 0))) }
+{
+    let inner = context.inner(alloc)?;
+    lowered(alloc, &inner, e, 0)
+}
+
+/// The body of a condenser.
+#[cycle(lower)]
+fn lowered_condense(
+    alloc: Global,
+    context: &Context,
+    op: Aggregate,
+    domain: &Domain,
+    body: &Node,
+) -> Result<Box<Body>, AllocError>
+    ensures { IfOk result (λ b. tree_in b ≡
+        lowered (setting_of context.now) (condense op domain.now (field_tree body.now 0))) }
+{
+    let inner = context.over(alloc, domain.axes())?;
+    lowered_fold(alloc, &inner, op, domain, body)
+}
+
+/// The body of a condenser with a condition.
+#[cycle(lower)]
+fn lowered_where(
+    alloc: Global,
+    context: &Context,
+    op: Aggregate,
+    domain: &Domain,
+    condition: &Node,
+    body: &Node,
+) -> Result<Box<Body>, AllocError>
+    ensures { IfOk result (λ b. tree_in b ≡ lowered (setting_of context.now)
+        (condense_where op domain.now (field_tree condition.now 0) (field_tree body.now 0))) }
+{
+    let inner = context.over(alloc, domain.axes())?;
+    let c = lowered(alloc, &inner, condition, 0)?;
+    lowered_choice(alloc, &inner, op, domain, body, c)
+}
+
+/// The body of a reduction.
+#[cycle(lower)]
+fn lowered_reduce(
+    alloc: Global,
+    context: &Context,
+    op: Aggregate,
+    domain: &Domain,
+    body: &Node,
+) -> Result<Box<Body>, AllocError>
+    ensures { IfOk result (λ b. tree_in b ≡
+        lowered (setting_of context.now) (reduce op domain.now (field_tree body.now 0))) }
+{
+    let inner = context.across(alloc, domain.axes())?;
+    lowered_fold(alloc, &inner, op, domain, body)
 }
 
 /// A body under a variable that has the value of a scalar.
