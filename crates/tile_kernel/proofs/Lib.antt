@@ -10,3 +10,4 @@ pub mod Tellings
 pub mod Keys
 pub mod Pairs
 pub mod Condensing
+pub mod Spans

@@ -4,5 +4,6 @@ pub mod Told
 pub mod Joins
 pub mod Standing
 pub mod Keyed
+pub mod Windows
 pub mod Lanes
 pub mod Condensing

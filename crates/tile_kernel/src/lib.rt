@@ -22,6 +22,7 @@ mod slots;
 mod summaries;
 mod summary;
 mod trial;
+mod windows;
 
 pub use accumulator::Accumulator;
 pub use column::{Column, MAX_PLACES};
@@ -35,3 +36,4 @@ pub use operate_one::operate_column;
 pub use slots::Slots;
 pub use summaries::{AllTrue, Factors, Greatest, Least, Mean, SomeTrue, Total, Trues};
 pub use summary::Summary;
+pub use windows::{Grid, Span, condense_windows};
