@@ -4,11 +4,11 @@
     oracle/zones.py PROGRAM [COUNT] [SEED]
 
 A query is an array over places, each cell of which condenses a box under the condition that a key of the box equals a key of
-the place; either key may be the left operand. One in three is a table of zones instead: for each number a sum of products
-with a comparison, or a count of comparisons. Keys and values may fault: they divide, and they leave 64 bits. Keys are
-negative, Boolean, near one another, far apart, or past 32 bits; there are one zone, a few, and as many zones as cells; boxes
-lie in one tile and across several ones. The program is asked for all of them in one session for each store, and each reply has
-to be that of oracle/meaning.py. What was found is told by the seed of its store and the query.
+the place, or condenses bodies in which such an equation stands, as a factor or another operand; either key may be the left
+operand. One in three is a table of zones over whole layers instead. Keys and values may fault: they divide, and they leave 64
+bits. Keys are negative, Boolean, near one another, far apart, or past 32 bits; there are one zone, a few, and as many zones as
+cells; boxes lie in one tile and across several ones. The program is asked for all of them in one session for each store, and
+each reply has to be that of oracle/meaning.py. What was found is told by the seed of its store and the query.
 """
 
 import random
@@ -83,6 +83,27 @@ class Zones:
             texts.append(f"${letter}{k} {axis}({lo}:{hi})")
         return names, ", ".join(texts)
 
+    def conditioned(self, box, equation, value, truth):
+        """A fold whose condition is the equation."""
+        chance = self.chance
+        condition = f"{equation} and true" if chance.random() < 0.1 else equation
+        op = chance.choice(["+", "+", "max", "min", "*", "and", "or"])
+        return f"condense {op} over {box} where {condition} using {truth if op in ('and', 'or') else value}"
+
+    def within(self, box, equation, value, truth):
+        """A fold in whose body the equation stands, by itself or as an operand on either side."""
+        chance = self.chance
+        if chance.random() < 0.6:
+            op = chance.choice(["add", "add", "add", "avg", "avg", "max", "min"])
+            sides, sign = [value, equation], chance.choice(["*", "*", "*", "+", "-", "/"])
+        else:
+            op = chance.choice(["count", "count", "some", "all"])
+            sides, sign = [truth, equation], chance.choice(["and", "and", "and", "or", "xor"])
+            if chance.random() < 0.2:
+                return f"{op}(coverage q over {box} values {equation})"
+        chance.shuffle(sides)
+        return f"{op}(coverage q over {box} values {sides[0]} {sign} {sides[1]})"
+
     def table(self):
         """For each number what the cells of its zone come to, by arithmetic on comparisons."""
         chance = self.chance
@@ -116,13 +137,13 @@ class Zones:
         if chance.random() < 0.1:
             sides[1] = str(chance.randint(-3, 3))
         chance.shuffle(sides)
-        condition = f"{sides[0]} = {sides[1]}"
-        if chance.random() < 0.1:
-            condition += " and true"
-        op = chance.choice(["+", "+", "max", "min", "*", "and", "or"])
+        equation = f"{sides[0]} = {sides[1]}"
         value = self.value(own) if chance.random() < 0.9 else self.value(out)
-        value = f"{value} > {chance.randint(-1, 1)}" if op in ("and", "or") else value
-        fold = f"condense {op} over {box} where {condition} using {value}"
+        truth = f"{value} > {chance.randint(-1, 1)}"
+        if chance.random() < 0.5:
+            fold = self.conditioned(box, equation, value, truth)
+        else:
+            fold = self.within(box, f"({equation})", value, f"({truth})")
         # where each cell is a fault, the first one alone is seen: many cells keep theirs to themselves
         return f"for w in (w), z in (z) return encode(coverage m over {places} values {fold}, csv)"
 

@@ -14,5 +14,6 @@ pub mod Condensings
 pub mod TileFolds
 pub mod Fetching
 pub mod Behind
+pub mod BlankFolds
 pub mod ZoneFolds
 pub mod FoldPlaces

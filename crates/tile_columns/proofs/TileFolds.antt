@@ -1,6 +1,6 @@
 -- Folds that are told tile by tile.
-use Rattle.std.proofs.Common.{◌≡◌, ◌≢◌, ℕ, zero, suc, ◌+◌, ◌-◌, ◌*◌, ◌<◌, ◌≤◌, ◌^◌, List, [], ◌∷◌, ◌++◌, length, get_or, map, take, refl, sym, ap, ◌∙◌, subst, arith, ℤ, pos, Bool, true, false, cond, below_more, length-append, Option, Some, None}
-use Rattle.std.specs.List.{All, flat_map, range_with_len}
+use Rattle.std.proofs.Common.{◌≡◌, ◌≢◌, ℕ, zero, suc, ◌+◌, ◌-◌, ◌*◌, ◌<◌, ◌≤◌, ◌^◌, List, [], ◌∷◌, ◌++◌, length, get_or, map, take, refl, sym, ap, ◌∙◌, subst, arith, ℤ, pos, false, cond, below_more, length-append, Option, Some, None}
+use Rattle.std.specs.List.{flat_map, range_with_len}
 use Rattle.std.specs.List.Sorted.{IsPermutation}
 use Rattle.std.proofs.lemmas.Bool.{false≢true}
 use Rattle.std.proofs.lemmas.List.Sorted.{length_permutation, All-permutation, Contains-permutation, IsPermutation-append_right}
@@ -23,10 +23,9 @@ use Rattle.plan_ir.specs.Bodies.{Tree}
 use Rattle.plan_ir.specs.Placed.{spans}
 use Rattle.plan_ir.specs.Units.{bound_times}
 use Rattle.tile_kernel.specs.declared.accumulator.Accumulator.{Accumulator}
-use Rattle.tile_kernel.specs.Columns.{outcome_at}
 use Rattle.tile_kernel.specs.Selected.{Chooses}
 use Rattle.tile_kernel.specs.Told.{Told, outcomes, told_at, demanded_of, demanded_at, IsValue, IsFirst, StandsFrom}
-use Rattle.tile_kernel.specs.Standing.{Stands, TakesIn, EachStands, EachTakesIn, HaveAtMost, AreOf}
+use Rattle.tile_kernel.specs.Standing.{Stands, TakesIn, EachTakesIn, HaveAtMost}
 use Rattle.tile_kernel.proofs.Orders.{total-permuted, trues-permuted, every-permuted, any-permuted, has_zero-permuted, sign-permuted, size-permuted, greatest-permuted, least-permuted}
 use Rattle.tile_columns.specs.Evaluating.{AreWithin, HasPlace, HasPlaceUnder}
 use Rattle.tile_columns.specs.Condensing.{told_of, under_vars, told_ranked, demands, MergesAt}
@@ -35,7 +34,7 @@ use Rattle.tile_columns.proofs.Boxes.{points_within}
 use Rattle.tile_columns.proofs.Condensings.{takes_nothing, takes_then, takes_same}
 use Rattle.tile_columns.proofs.Fetching.{times_both}
 use Rattle.tile_columns.proofs.Placing.{within_more}
-use Rattle.tile_columns.proofs.TileOrders.{told_all, told_more, points_more, points_few, points_whole, points_by_place}
+use Rattle.tile_columns.proofs.TileOrders.{told_all, told_more, points_more, points_few, points_by_place}
 
 -- ---- the order of telling does not matter
 

@@ -1,5 +1,5 @@
 -- Folds at the places of a frame, over a source of tiles.
-use Rattle.std.specs.Prelude.{◌≡◌, ℕ, ◌+◌, ◌*◌, ◌++◌, ℤ, List, [], map, length, slice_index_or}
+use Rattle.std.specs.Prelude.{◌≡◌, ℕ, ◌+◌, ◌*◌, ◌++◌, ℤ, List, [], map, length, slice_index_or, Bool, Result}
 use Rattle.std.specs.List.{flat_map}
 use Rattle.arr_core.specs.Domains.{points, count}
 use Rattle.wcps_mean.specs.declared.cell.Outcome.{Outcome}
@@ -9,15 +9,19 @@ use Rattle.tile_kernel.specs.declared.accumulator.Accumulator.{Accumulator}
 use Rattle.tile_kernel.specs.Told.{Told, demanded_of, demanded_at}
 use Rattle.tile_kernel.specs.Standing.{Stands, AreOf, HaveAtMost, EachTakesIn}
 use Rattle.tile_columns.specs.declared.part.Part.{Part}
+use Rattle.plan_ir.specs.declared.body.Body.{Body}
 use Rattle.plan_ir.specs.declared.body.Fold.{Fold}
 use Rattle.tile_columns.specs.declared.ground.Ground.{Ground}
 use Rattle.tile_columns.specs.declared.bodies.Point.{Point}
 use Rattle.tile_columns.specs.declared.bodies.Around.{Around}
+use Rattle.tile_columns.specs.declared.bodies.Zoning.{Zoning}
 use Rattle.tile_columns.specs.declared.bodies.Zoned.{Zoned}
+use Rattle.tile_columns.specs.declared.shapes.Shape.{Shape}
+use Rattle.tile_columns.specs.declared.shapes.ShapeSide.{ShapeSide}
 use Rattle.tile_columns.specs.Condensing.{told_of, under_vars, told_ranked}
 use Rattle.tile_columns.specs.Sources.{SourceState, FetchesAtMost}
-use Rattle.tile_columns.specs.Meaning.{meaning, HasPlaceOver, IsColumnOf}
-use Rattle.tile_columns.specs.Zones.{key_of, own_of}
+use Rattle.tile_columns.specs.Meaning.{meaning, HasPlaceOver, IsColumnOf, Fetches}
+use Rattle.tile_columns.specs.Zones.{side, key_of, own_of, other_of, inner, beside}
 
 -- a fold has its place over a source under the variables of a frame
 pub record FoldHasPlace {K : Type 0} (s : SourceState K) (g : Ground) (f : Fold) (envs : List (List ℤ)) : Type 0 where
@@ -96,6 +100,26 @@ FetchesPart f p a old new = FetchesPoints f (length a.frame.now * count p.area) 
 abbrev pub FetchesFold : {K : Type 0} → Fold → List (List ℤ) → SourceState K → SourceState K → Type 0
 FetchesFold f envs old new = FetchesPoints f (length envs * count f.domain) old new
 
+-- a column has what a side of the equation of a fold of zones gives at the places of a frame, or its other body
+abbrev pub IsColumnOfSide : {K : Type 0} → SourceState K → Zoning → Bool → Fold → List (List ℤ) → List Outcome → Type 0
+IsColumnOfSide s z left f envs column = IsColumnOf s z.ground.now (side z.zones left f) envs column
+
+abbrev pub IsColumnOfOther : {K : Type 0} → SourceState K → Zoning → Fold → List (List ℤ) → List Outcome → Type 0
+IsColumnOfOther s z f envs column = IsColumnOf s z.ground.now (other_of f z.zones) envs column
+
+-- and no more tiles are fetched than these ask for there
+abbrev pub FetchesSide : {A E K : Type 0} → Result A E → Zoning → Bool → Fold → List (List ℤ) → SourceState K → SourceState K → Type 0
+FetchesSide result z left f envs old new = Fetches result z.ground.now (side z.zones left f) envs old new
+
+abbrev pub FetchesOther : {A E K : Type 0} → Result A E → Zoning → Fold → List (List ℤ) → SourceState K → SourceState K → Type 0
+FetchesOther result z f envs old new = Fetches result z.ground.now (other_of f z.zones) envs old new
+
+abbrev pub FetchesInner : {A E K : Type 0} → Result A E → Ground → ShapeSide → Body → List (List ℤ) → SourceState K → SourceState K → Type 0
+FetchesInner result g at b envs old new = Fetches result g (inner at.shape at.left b) envs old new
+
+abbrev pub FetchesBeside : {A E K : Type 0} → Result A E → Ground → Shape → Body → List (List ℤ) → SourceState K → SourceState K → Type 0
+FetchesBeside result g shape b envs old new = Fetches result g (beside shape b) envs old new
+
 -- keys are those of the places of a frame
 abbrev pub AreKeysOf : {K : Type 0} → SourceState K → Zoned → Fold → Type 0
 AreKeysOf s z f = IsColumnOf s z.zoning.ground.now (key_of f z.zoning.zones) z.frame.now z.keys.now.column
@@ -110,7 +134,7 @@ TakeInZone s z f p old new =
 
 -- at most so many tiles are fetched as the bodies of a fold of zones ask for at so many points of its box
 abbrev pub FetchesOwn : {K : Type 0} → Zoned → Fold → ℕ → SourceState K → SourceState K → Type 0
-FetchesOwn z f n old new = FetchesAtMost (bound_times n (own_of f z.zoning.zones) + bound_times n (body_view f.body)) old new
+FetchesOwn z f n old new = FetchesAtMost (bound_times n (own_of f z.zoning.zones) + bound_times n (other_of f z.zoning.zones)) old new
 
 abbrev pub FetchesZones : {K : Type 0} → Zoned → Fold → SourceState K → SourceState K → Type 0
 FetchesZones z f old new = FetchesOwn z f (count f.domain) old new

@@ -11,6 +11,8 @@ pub mod Binding
 pub mod Condensing
 pub mod TileOrder
 pub mod Fields
+pub mod Shapes
+pub mod Blanks
 pub mod Zones
 pub mod Folds
 pub mod Binds

@@ -1,99 +1,173 @@
 -- Folds of zones.
-use Rattle.std.specs.Prelude.{◌≡◌, ◌≢◌, ℕ, ◌+◌, ◌<◌, ◌≤◌, ℤ, List, map, length, slice_index_or, Bool, true, false, not, IsTrue}
+use Rattle.std.specs.Prelude.{◌≡◌, ◌≢◌, ℕ, ◌+◌, ◌<◌, ◌≤◌, ℤ, pos, List, map, length, replicate, slice_index_or, Bool, true, false, not, IsTrue}
 use Rattle.std.specs.List.{All}
 use Rattle.wcps_text.specs.declared.operator.Aggregate.{Aggregate}
 use Rattle.wcps_text.specs.declared.operator.BinaryOperator.TheVariants.{Equal}
 use Rattle.wcps_mean.specs.declared.cell.Outcome.{Outcome}
+use Rattle.wcps_mean.specs.declared.cell.Outcome.TheVariants.{Value}
 use Rattle.wcps_mean.specs.Cells.{operate2}
 use Rattle.plan_ir.specs.declared.body.Body.{Body}
 use Rattle.plan_ir.specs.declared.body.Fold.{Fold}
-use Rattle.plan_ir.specs.Bodies.{Tree, body_view, condition_view, lit, var, reg, op1, op2, read, table, bind, fold}
+use Rattle.plan_ir.specs.Bodies.{Tree, body_view, condition_view, always, op2}
 use Rattle.plan_ir.specs.Variables.{is_from, is_below}
 use Rattle.tile_kernel.specs.declared.accumulator.Accumulator.{Accumulator}
 use Rattle.tile_kernel.specs.Columns.{outcome_at}
 use Rattle.tile_kernel.specs.Keyed.{having, number_at}
-use Rattle.tile_kernel.specs.Told.{Told, demanded_at}
+use Rattle.tile_kernel.specs.Told.{Told, told_at, demanded_at}
+use Rattle.tile_columns.specs.declared.shapes.Shape.{Shape}
+use Rattle.tile_columns.specs.Shapes.{operand, shaped, equation_by, other_by, joined, joined_all, IsZero}
+use Rattle.tile_columns.specs.Blanks.{skips_zeros, AddsZeros}
+use Rattle.tile_columns.specs.declared.zones.Role.{Role}
+use Rattle.tile_columns.specs.declared.zones.Role.TheVariants.{Condition, Within}
 use Rattle.tile_columns.specs.declared.zones.Zones.{Zones}
 use Rattle.tile_columns.specs.declared.zones.Seen.{Seen}
 use Rattle.tile_columns.specs.declared.zones.Pooled.{Pooled}
-use Rattle.tile_kernel.specs.Standing.{TakesIn, AreOf, HaveAtMost, EachStands}
+use Rattle.tile_kernel.specs.Standing.{Stands, TakesIn, AreOf, HaveAtMost, EachStands}
 
 -- an outcome that is compared with a key: the key is the left operand, or the right one
 abbrev pub compared : Bool → Outcome → Outcome → Outcome
 compared true key o = operate2 Equal key o
 compared false key o = operate2 Equal o key
 
--- the left or the right operand of a body that has two, else the body itself
-abbrev pub operand : Bool → Tree → Tree
-operand left (lit z) = lit z
-operand left (var k) = var k
-operand left (reg k) = reg k
-operand left (op1 op e) = op1 op e
-operand true (op2 op l r) = l
-operand false (op2 op l r) = r
-operand left (read c f is) = read c f is
-operand left (table box items is) = table box items is
-operand left (bind i lo hi e) = bind i lo hi e
-operand left (fold op box c e) = fold op box c e
-
--- the same of a body of the code, and of a fold's condition
+-- a side of a body of the code, and of the equation of one that has this shape
 abbrev pub branch : Bool → Body → Tree
 branch left b = operand left (body_view b)
 
-abbrev pub side : Bool → Fold → Tree
-side left f = operand left (condition_view f.condition)
+abbrev pub inner : Shape → Bool → Body → Tree
+inner shape left b = operand left (equation_by shape (body_view b))
 
--- a fold's body
-abbrev pub body_of : Fold → Tree
-body_of f = body_view f.body
+-- its other operand
+abbrev pub beside : Shape → Body → Tree
+beside shape b = other_by shape (body_view b)
 
--- the side of a fold's condition that is the key, and the other one
+-- the equation of a fold of zones: it is the condition, or stands in the body
+abbrev pub equation_in : Role → Tree → Tree → Tree
+equation_in Condition condition body = condition
+equation_in (Within shape) condition body = equation_by shape body
+
+-- what its points are told of where the equation holds: the body, or the other operand of the body
+abbrev pub other_in : Role → Tree → Tree
+other_in Condition body = body
+other_in (Within shape) body = other_by shape body
+
+-- the condition and the body that have this equation
+abbrev pub condition_in : Role → Tree → Tree
+condition_in Condition equation = equation
+condition_in (Within shape) equation = always
+
+abbrev pub body_in : Role → Tree → Tree → Tree
+body_in Condition equation other = other
+body_in (Within shape) equation other = shaped shape equation other
+
+-- and what they give at a point, by the outcomes of both
+abbrev pub condition_of : Role → Outcome → Outcome
+condition_of Condition q = q
+condition_of (Within shape) q = Value (pos 1)
+
+abbrev pub value_of : Role → Outcome → Outcome → Outcome
+value_of Condition q e = e
+value_of (Within shape) q e = joined shape q e
+
+-- the equation of a fold, and its other body
+abbrev pub equation_of : Fold → Zones → Tree
+equation_of f z = equation_in z.role (condition_view f.condition) (body_view f.body)
+
+abbrev pub other_of : Fold → Zones → Tree
+other_of f z = other_in z.role (body_view f.body)
+
+-- a side of the equation; that which is the key, and the other one
+abbrev pub side : Zones → Bool → Fold → Tree
+side z left f = operand left (equation_of f z)
+
 abbrev pub key_of : Fold → Zones → Tree
-key_of f z = side z.key_first f
+key_of f z = side z z.key_first f
 
 abbrev pub own_of : Fold → Zones → Tree
-own_of f z = side (not z.key_first) f
+own_of f z = side z (not z.key_first) f
 
 -- the condition that a body equals a key
 abbrev pub equality : Bool → Tree → Tree → Tree
 equality true own key = op2 Equal key own
 equality false own key = op2 Equal own key
 
--- a condition is that `own`, which uses none of the first `depth` variables, equals `key`, which uses these alone
-pub record AreSides (depth : ℕ) (condition own key : Tree) (first : Bool) : Type 0 where
-  pub is : condition ≡ equality first own key
+-- an equation is that `own`, which uses none of the first `depth` variables, equals `key`, which uses these alone
+pub record AreSides (depth : ℕ) (equation own key : Tree) (first : Bool) : Type 0 where
+  pub is : equation ≡ equality first own key
   pub own_from : IsTrue (is_from depth own)
   pub key_below : IsTrue (is_below depth key)
 
 -- which operand is the key
 abbrev pub HasKey : ℕ → Tree → Bool → Type 0
-HasKey depth condition first = AreSides depth condition (operand (not first) condition) (operand first condition) first
+HasKey depth equation first = AreSides depth equation (operand (not first) equation) (operand first equation) first
 
--- a fold's condition has such sides, under the variables of the places of a frame; its body uses none of these; and there
--- is a place
-pub record IsZonal (condition body own key : Tree) (first : Bool) (envs : List (List ℤ)) : Type 0 where
+-- a condition and a body are made of an equation with such sides, and of another body that uses none of these variables
+pub record IsZoned (depth : ℕ) (role : Role) (condition body own key : Tree) (first : Bool) : Type 0 where
+  pub condition_is : condition ≡ condition_in role (equation_in role condition body)
+  pub body_is : body ≡ body_in role (equation_in role condition body) (other_in role body)
+  pub sides : AreSides depth (equation_in role condition body) own key first
+  pub other_from : IsTrue (is_from depth (other_in role body))
+
+-- what is found of a condition and a body
+abbrev pub HasZones : ℕ → Tree → Tree → Zones → Type 0
+HasZones depth condition body z =
+    IsZoned depth z.role condition body (operand (not z.key_first) (equation_in z.role condition body)) (operand z.key_first (equation_in z.role condition body)) z.key_first
+
+-- a fold's condition and body are made so, under the variables of the places of a frame; and there is a place
+pub record IsZonal (role : Role) (condition body own key : Tree) (first : Bool) (envs : List (List ℤ)) : Type 0 where
   pub depth : ℕ
   pub deep : All (λ (e : List ℤ). length e ≡ depth) envs
   pub some : 0 < length envs
-  pub sides : AreSides depth condition own key first
-  pub body_from : IsTrue (is_from depth body)
+  pub zoned : IsZoned depth role condition body own key first
 
 abbrev pub AreZonesOf : Fold → List (List ℤ) → Zones → Type 0
-AreZonesOf f envs z = IsZonal (condition_view f.condition) (body_view f.body) (own_of f z) (key_of f z) z.key_first envs
+AreZonesOf f envs z = IsZonal z.role (condition_view f.condition) (body_view f.body) (own_of f z) (key_of f z) z.key_first envs
 
 -- each point of a part has an outcome that is compared with a key, one that is condensed, and its place in the box
 pub record IsWhole (s : Seen) : Type 0 where
   pub own : length s.own.now ≡ length s.column.now
   pub ranks : length s.ranks.now ≡ length s.column.now
 
--- what the points of a part add under a condition of each, and where they have a key
+-- what points tell, by the outcomes of their equations and of their other bodies
+abbrev pub told_all : Role → List ℕ → List Outcome → List Outcome → List Told
+told_all Condition ps qs es = demanded_at ps qs es
+told_all (Within shape) ps qs es = told_at ps (joined_all shape qs es)
+
+-- what the points of a part add by the outcome of the equation at each, and by the key that it compares them with
 abbrev pub added_where : Seen → List Outcome → List Told
-added_where s condition = demanded_at s.ranks.now condition s.column.now
+added_where s equation = told_all s.role s.ranks.now equation s.column.now
 
 abbrev pub added_with : Seen → Outcome → List Told
 added_with s key = added_where s (map (compared s.key_first key) s.own.now)
 
--- accumulators, one for each of these numbers, each told of the points of a part that have its number
+-- where the equation is false each point of a part gives 0, so that a point of another zone adds nothing but itself
+pub record HasBlanks (op : Aggregate) (shape : Shape) (s : Seen) : Type 0 where
+  pub skips : IsTrue (skips_zeros op)
+  pub zeros : All IsZero (joined_all shape (replicate (length s.column.now) (Value (pos 0))) s.column.now)
+
+-- one pass over a part tells what its points add for each number
+abbrev pub IsSharableAs : Role → Aggregate → Seen → Type 0
+IsSharableAs Condition op s = Unit {0}
+IsSharableAs (Within shape) op s = HasBlanks op shape s
+
+abbrev pub IsSharable : Aggregate → Seen → Type 0
+IsSharable op s = IsSharableAs s.role op s
+
+-- accumulators, one for each of these numbers, each told of the cells of a column whose own key is its number
+pub record AreKeyed (op : Aggregate) (numbers : List ℤ) (ranks : List ℕ) (own column : List Outcome) (folds : List Accumulator) : Type 0 where
+  pub many : length folds ≡ length numbers
+  pub kinds : AreOf op folds
+  pub room : HaveAtMost (length column) folds
+  pub told : EachStands folds (λ j. demanded_at ranks (having own (number_at numbers j)) column)
+
+-- they are so but for further points whose value is 0, so that each stands for as many points as the part has
+pub record AreCounted (op : Aggregate) (numbers : List ℤ) (s : Seen) (hits : List Outcome) (folds : List Accumulator) : Type 0 where
+  pub many : length folds ≡ length numbers
+  pub kinds : AreOf op folds
+  pub room : HaveAtMost (length s.column.now) folds
+  pub told : (j : ℕ) (d : Accumulator) (more : List Told) → j < length folds → AddsZeros (demanded_at s.ranks.now (having s.own.now (number_at numbers j)) hits) more
+      → length more ≡ length s.column.now → Stands (slice_index_or folds j d) more
+
+-- accumulators, one for each of these numbers, each told what the points of a part add for it
 pub record AreShared (op : Aggregate) (numbers : List ℤ) (s : Seen) (shared : List Accumulator) : Type 0 where
   pub many : length shared ≡ length numbers
   pub kinds : AreOf op shared

@@ -8,8 +8,9 @@ ghost use Rattle.tile_columns.specs.Sources.{OnlyReads, Tells};
 ghost use Rattle.tile_columns.specs.Meaning.{HasPlaceOver, IsColumnOf, Fetches};
 ghost use Rattle.tile_columns.specs.Binds.{HasPlaceBehind, IsColumnBehind, IsColumnUnder, FetchesBehind};
 ghost use Rattle.tile_columns.specs.TileOrder.{IsPart};
-ghost use Rattle.tile_columns.specs.Zones.{branch, side, body_of, AreZonesOf};
+ghost use Rattle.tile_columns.specs.Zones.{branch, inner, beside, side, other_of, AreZonesOf};
 ghost use Rattle.tile_columns.specs.Folds.{FoldHasPlace, BodiesHavePlace, AreOfFold, GrowBy, StandsFor, TakeInFold, TakeInBox, TakeInPoint, TakeInLast, TakeInZones, TakeInZone, FetchesFold, FetchesPart, FetchesPoint, FetchesZones, FetchesZonePart};
+ghost use Rattle.tile_columns.specs.Folds.{IsColumnOfSide, IsColumnOfOther, FetchesSide, FetchesOther, FetchesInner, FetchesBeside};
 
 use crate::binds::{coordinates, settle};
 use crate::folds::{
@@ -20,8 +21,9 @@ use crate::ground::{BodyRead, Ground, read_cells, register};
 use crate::lookup::{fill_variable, look_up};
 use crate::part::{Part, part_at};
 use crate::scratch::Scratch;
+use crate::shapes::{Shape, ShapeSide, always_true};
 use crate::source::Tiles;
-use crate::zones::{Keys, Seen, Zones, keys_of, tell_seen, zones_of};
+use crate::zones::{Keys, Role, Seen, Zones, keys_of, tell_seen, zones_of};
 use plan_ir::{Body, Fold, Interval};
 use tile_kernel::{
     Accumulator, Column, add_column, add_column_where, fold_column, fold_column_where,
@@ -271,7 +273,7 @@ fn tell_all<S: Tiles>(
     tell_points(source, ground, fold, frame, scratch, folds)
 }
 
-/// What the bodies of a fold of zones stand over, and what is found of its condition.
+/// What the bodies of a fold of zones stand over, and what is found of its condition and its body.
 #[derive(Clone, Copy)]
 pub(crate) struct Zoning<'a> {
     pub ground: &'a Ground<'a>,
@@ -299,7 +301,7 @@ fn tell_zones<S: Tiles>(
     ensures reports { Tells S.spelled result (S.state source.old) (S.state source.new) }
     ensures fetched { OnOk result (FetchesFold fold.now frame.old (S.state source.old) (S.state source.new)) }
 {
-    let column = side_of(source, on.ground, fold, on.zones.key_first, frame, scratch)?;
+    let column = side_of(source, on, fold, on.zones.key_first, frame, scratch)?;
     let keys = keys_of(scratch.alloc(), column)?;
     let zoned = Zoned {
         zoning: *on,
@@ -370,16 +372,17 @@ fn tell_zone_part<S: Tiles>(
     ensures reports { Tells S.spelled result (S.state source.old) (S.state source.new) }
     ensures fetched { OnOk result (FetchesZonePart zoned.now fold.now part.now (S.state source.old) (S.state source.new)) }
 {
-    let ground = zoned.zoning.ground;
-    let key_first = zoned.zoning.zones.key_first;
+    let on = &zoned.zoning;
+    let key_first = on.zones.key_first;
     let mut inner = part_frame(scratch.alloc(), zoned.frame, 0, &part.area)?;
-    let own = side_of(source, ground, fold, !key_first, &mut inner, scratch)?;
-    let column = body_of(source, ground, fold, &mut inner, scratch)?;
+    let own = side_of(source, on, fold, !key_first, &mut inner, scratch)?;
+    let column = other_of(source, on, fold, &mut inner, scratch)?;
     let seen = Seen {
         own: &own,
         column: &column,
         ranks: &part.ranks,
         key_first,
+        role: on.zones.role,
     };
     tell_seen(fold.op, folds, zoned.keys, &seen, scratch)?;
     scratch.give_back(own);
@@ -387,50 +390,119 @@ fn tell_zone_part<S: Tiles>(
     Ok(())
 }
 
-/// The outcomes of a fold's body at the places of a frame, in a column of the scratch.
+/// The outcomes of a fold's other body at the places of a frame, in a column of the scratch: of its body, or of what stands
+/// there beside the equation.
 #[cycle(evaluate)]
-fn body_of<S: Tiles>(
+fn other_of<S: Tiles>(
     source: &mut S,
-    ground: &Ground<'_>,
+    on: &Zoning<'_>,
     fold: &Fold,
     frame: &mut Frame,
     scratch: &mut Scratch,
 ) -> Result<Column, CellError>
-    requires signatures { ground.now.signatures.now ≡ (S.state source.old).coverages }
-    requires place { HasPlaceOver (S.state source.old) ground.now (body_of fold.now) frame.old }
-    ensures value { IfOk result (IsColumnOf (S.state source.old) ground.now (body_of fold.now) frame.old) }
+    requires signatures { on.now.ground.now.signatures.now ≡ (S.state source.old).coverages }
+    requires place { HasPlaceOver (S.state source.old) on.now.ground.now (other_of fold.now on.now.zones) frame.old }
+    ensures value { IfOk result (IsColumnOfOther (S.state source.old) on.now fold.now frame.old) }
     ensures places { IfOk result (λ c. length c ≡ length frame.old) }
     ensures frame { OnOk result (frame.new ≡ frame.old) }
     ensures reads { OnlyReads (S.state source.old) (S.state source.new) }
     ensures reports { Tells S.spelled result (S.state source.old) (S.state source.new) }
-    ensures fetched { Fetches result ground.now (body_of fold.now) frame.old (S.state source.old) (S.state source.new) }
+    ensures fetched { FetchesOther result on.now fold.now frame.old (S.state source.old) (S.state source.new) }
 {
-    column_of(source, ground, &fold.body, frame, scratch)
+    match on.zones.role {
+        Role::Condition => column_of(source, on.ground, &fold.body, frame, scratch),
+        Role::Within(shape) => beside(source, on.ground, &fold.body, shape, frame, scratch),
+    }
 }
 
-/// The outcomes of the left or the right operand of a fold's condition at the places of a frame, in a column of the scratch.
-/// A condition without two operands, which no fold of zones has, is refused as want of memory.
+/// The outcomes of what stands beside the equation in a body of a shape; where nothing does, of what is true. A body
+/// without two operands, which no fold of zones has, is refused as want of memory.
+#[cycle(evaluate)]
+fn beside<S: Tiles>(
+    source: &mut S,
+    ground: &Ground<'_>,
+    body: &Body,
+    shape: Shape,
+    frame: &mut Frame,
+    scratch: &mut Scratch,
+) -> Result<Column, CellError>
+    requires signatures { ground.now.signatures.now ≡ (S.state source.old).coverages }
+    requires place { HasPlaceOver (S.state source.old) ground.now (beside shape body.now) frame.old }
+    ensures value { IfOk result (IsColumnOf (S.state source.old) ground.now (beside shape body.now) frame.old) }
+    ensures places { IfOk result (λ c. length c ≡ length frame.old) }
+    ensures frame { OnOk result (frame.new ≡ frame.old) }
+    ensures reads { OnlyReads (S.state source.old) (S.state source.new) }
+    ensures reports { Tells S.spelled result (S.state source.old) (S.state source.new) }
+    ensures fetched { FetchesBeside result ground.now shape body.now frame.old (S.state source.old) (S.state source.new) }
+{
+    match body {
+        Body::Op2(_, l, r) => match shape {
+            Shape::Alone => Ok(always_true(frame, scratch)?),
+            Shape::First(_) => column_of(source, ground, r, frame, scratch),
+            Shape::Second(_) => column_of(source, ground, l, frame, scratch),
+        },
+        _ => Err(CellError::NoMemory),
+    }
+}
+
+/// The outcomes of the left or the right operand of the equation of a fold of zones at the places of a frame, in a column
+/// of the scratch. A fold without such an equation is refused as want of memory.
 #[cycle(evaluate)]
 fn side_of<S: Tiles>(
     source: &mut S,
-    ground: &Ground<'_>,
+    on: &Zoning<'_>,
     fold: &Fold,
     left: bool,
     frame: &mut Frame,
     scratch: &mut Scratch,
 ) -> Result<Column, CellError>
-    requires signatures { ground.now.signatures.now ≡ (S.state source.old).coverages }
-    requires place { HasPlaceOver (S.state source.old) ground.now (side left fold.now) frame.old }
-    ensures value { IfOk result (IsColumnOf (S.state source.old) ground.now (side left fold.now) frame.old) }
+    requires signatures { on.now.ground.now.signatures.now ≡ (S.state source.old).coverages }
+    requires place { HasPlaceOver (S.state source.old) on.now.ground.now (side on.now.zones left fold.now) frame.old }
+    ensures value { IfOk result (IsColumnOfSide (S.state source.old) on.now left fold.now frame.old) }
     ensures places { IfOk result (λ c. length c ≡ length frame.old) }
     ensures frame { OnOk result (frame.new ≡ frame.old) }
     ensures reads { OnlyReads (S.state source.old) (S.state source.new) }
     ensures reports { Tells S.spelled result (S.state source.old) (S.state source.new) }
-    ensures fetched { Fetches result ground.now (side left fold.now) frame.old (S.state source.old) (S.state source.new) }
+    ensures fetched { FetchesSide result on.now left fold.now frame.old (S.state source.old) (S.state source.new) }
 {
-    match &fold.condition {
-        None => Err(CellError::NoMemory),
-        Some(condition) => operand_of(source, ground, condition, left, frame, scratch),
+    match on.zones.role {
+        Role::Condition => match &fold.condition {
+            None => Err(CellError::NoMemory),
+            Some(condition) => operand_of(source, on.ground, condition, left, frame, scratch),
+        },
+        Role::Within(shape) => {
+            let at = ShapeSide { shape, left };
+            inner_of(source, on.ground, &fold.body, at, frame, scratch)
+        }
+    }
+}
+
+/// The same of the equation of a body of a shape.
+#[cycle(evaluate)]
+fn inner_of<S: Tiles>(
+    source: &mut S,
+    ground: &Ground<'_>,
+    body: &Body,
+    at: ShapeSide,
+    frame: &mut Frame,
+    scratch: &mut Scratch,
+) -> Result<Column, CellError>
+    requires signatures { ground.now.signatures.now ≡ (S.state source.old).coverages }
+    requires place { HasPlaceOver (S.state source.old) ground.now (inner at.shape at.left body.now) frame.old }
+    ensures value { IfOk result (IsColumnOf (S.state source.old) ground.now (inner at.shape at.left body.now) frame.old) }
+    ensures places { IfOk result (λ c. length c ≡ length frame.old) }
+    ensures frame { OnOk result (frame.new ≡ frame.old) }
+    ensures reads { OnlyReads (S.state source.old) (S.state source.new) }
+    ensures reports { Tells S.spelled result (S.state source.old) (S.state source.new) }
+    ensures fetched { FetchesInner result ground.now at body.now frame.old (S.state source.old) (S.state source.new) }
+{
+    match body {
+        Body::Op2(_, l, r) => match at.shape {
+            Shape::Alone => operand_of(source, ground, body, at.left, frame, scratch),
+            Shape::First(_) => operand_of(source, ground, l, at.left, frame, scratch),
+            Shape::Second(_) => operand_of(source, ground, r, at.left, frame, scratch),
+        },
+        _ => Err(CellError::NoMemory),
     }
 }
 

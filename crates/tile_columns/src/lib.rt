@@ -3,6 +3,7 @@
 #![tactic(auto)]
 
 mod binds;
+mod blanks;
 mod bodies;
 mod fields;
 mod folds;
@@ -14,6 +15,7 @@ mod lookup;
 mod numbers;
 mod part;
 mod scratch;
+mod shapes;
 mod source;
 mod zones;
 

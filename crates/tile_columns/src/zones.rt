@@ -1,35 +1,49 @@
-//! Folds of zones, whose condition is that a body of their own points equals a key of the places around them: one pass
-//! over their box tells the accumulators of all places.
+//! Folds of zones. An equation says whether a point lies in the zone of a place: that a body of the fold's own points
+//! equals a key of the places around it. It is the fold's condition, or stands in its body, as a factor does. One pass over
+//! the box tells the accumulators of all places.
 
-ghost use Rattle.std.specs.Prelude.{◌≡◌, ℕ, ◌+◌, ◌-◌, ◌*◌, ◌<◌, ◌≤◌, ◌^◌, length, map, IfSome, IfOk, OnOk, IsTrue, nat_le};
+ghost use Rattle.std.specs.Prelude.{◌≡◌, ℕ, ◌+◌, ◌-◌, ◌*◌, ◌<◌, ◌≤◌, ◌^◌, [], length, map, IfSome, IfOk, OnOk, IsTrue, nat_le};
 ghost use Rattle.arr_core.specs.Domains.{count};
 ghost use Rattle.wcps_text.specs.declared.operator.BinaryOperator.TheVariants.{Equal};
 ghost use Rattle.wcps_mean.specs.declared.cell.Outcome.TheVariants.{Value};
-ghost use Rattle.plan_ir.specs.Bodies.{body_view, op2};
+ghost use Rattle.plan_ir.specs.Bodies.{body_view, always, op2};
 ghost use Rattle.plan_ir.specs.Variables.{is_from, is_below};
 ghost use Rattle.tile_kernel.specs.Columns.{outcome_at};
 ghost use Rattle.tile_kernel.specs.Keyed.{number_at};
 ghost use Rattle.tile_kernel.specs.Standing.{Stands, AreOf, HaveAtMost, EachTakesIn};
+ghost use Rattle.tile_columns.specs.Blanks.{skips_zeros};
 ghost use Rattle.tile_columns.specs.Condensing.{HasRoomAt};
-ghost use Rattle.tile_columns.specs.Zones.{compared, HasKey, AreZonesOf, IsWhole, AreShared, TakesInKey, added_with, added_for};
+ghost use Rattle.tile_columns.specs.Zones.{compared, HasKey, HasZones, AreZonesOf, IsWhole, HasBlanks, IsSharable, AreKeyed, AreCounted, AreShared, TakesInKey, added_with, added_for};
 
+use crate::blanks::{count_all_zeros, skips_zeros};
 use crate::folds::{empty_folds, merge_at};
 use crate::frame::Frame;
 use crate::scratch::Scratch;
+use crate::shapes::{Shape, are_zeros, join, join_same};
 use arr_core::Domain;
 use plan_ir::{Body, Fold, is_below, is_from};
 use std::alloc::{AllocError, Global};
 use tile_kernel::{
-    Accumulator, Column, Numbers, Slots, add_keyed, fold_column_where, operate_columns,
+    Accumulator, Column, Numbers, Slots, add_keyed, fold_column, fold_column_where, operate_columns,
 };
 use wcps_mean::Outcome;
 use wcps_text::{Aggregate, BinaryOperator};
 
-/// What is found of the condition of a fold of zones.
+/// Where the equation of a fold of zones stands.
+#[derive(Clone, Copy)]
+pub(crate) enum Role {
+    /// It is the condition: a point of another zone adds nothing.
+    Condition,
+    /// It stands in the body, and there is no condition: a point of another zone adds what the body gives there.
+    Within(Shape),
+}
+
+/// What is found of the condition and the body of a fold of zones.
 #[derive(Clone, Copy)]
 pub(crate) struct Zones {
-    /// The key of the places is the left operand, and the body of the fold's own points the right one.
+    /// The key of the places is the left operand of the equation, and the body of the fold's own points the right one.
     pub key_first: bool,
+    pub role: Role,
 }
 
 /// How many pairs of a place and a point of a box take longer than to list the numbers among the keys.
@@ -43,8 +57,7 @@ fn are_many(places: usize, area: &Domain) -> bool
     places as u64 * area.points() >= MANY
 }
 
-/// Which side of a fold's condition is the key, where the fold is of zones, and where there are several places and many
-/// pairs of a place and a point of its box.
+/// What is found of a fold of zones, where there are several places and many pairs of a place and a point of its box.
 pub(crate) fn zones_of(fold: &Fold, frame: &Frame) -> Option<Zones>
     ensures { IfSome result (AreZonesOf fold.now frame.now) }
 {
@@ -56,20 +69,86 @@ pub(crate) fn zones_of(fold: &Fold, frame: &Frame) -> Option<Zones>
         return None;
     }
     let depth = frame.depth();
-    if !is_from(depth, &fold.body) {
-        return None;
-    }
     match &fold.condition {
-        None => None,
-        Some(condition) => sides(condition, depth),
+        None => in_body(&fold.body, depth),
+        Some(condition) => in_condition(condition, &fold.body, depth),
     }
 }
 
-/// Which side of a condition is the key, under so many variables of the places around the fold.
-fn sides(condition: &Body, depth: usize) -> Option<Zones>
-    ensures { IfSome result (λ z. HasKey depth (body_view condition.now) z.key_first) }
+/// What is found where the equation is the condition, under so many variables of the places around the fold.
+fn in_condition(condition: &Body, body: &Body, depth: usize) -> Option<Zones>
+    ensures { IfSome result (HasZones depth (body_view condition.now) (body_view body.now)) }
 {
-    match condition {
+    if !is_from(depth, body) {
+        return None;
+    }
+    match sides(condition, depth) {
+        None => None,
+        Some(key_first) => Some(Zones {
+            key_first,
+            role: Role::Condition,
+        }),
+    }
+}
+
+/// What is found where the equation stands in the body.
+fn in_body(body: &Body, depth: usize) -> Option<Zones>
+    ensures { IfSome result (HasZones depth always (body_view body.now)) }
+{
+    match sides(body, depth) {
+        None => in_operands(body, depth),
+        Some(key_first) => Some(Zones {
+            key_first,
+            role: Role::Within(Shape::Alone),
+        }),
+    }
+}
+
+/// What is found where the equation is an operand of the body.
+fn in_operands(body: &Body, depth: usize) -> Option<Zones>
+    ensures { IfSome result (HasZones depth always (body_view body.now)) }
+{
+    match body {
+        Body::Op2(op, l, r) => either_operand(*op, l, r, depth),
+        _ => None,
+    }
+}
+
+/// What is found where the equation is one of the two operands of an operation.
+fn either_operand(op: BinaryOperator, l: &Body, r: &Body, depth: usize) -> Option<Zones>
+    ensures { IfSome result (HasZones depth always (op2 op (body_view l.now) (body_view r.now))) }
+{
+    match sides_beside(l, r, depth) {
+        Some(key_first) => Some(Zones {
+            key_first,
+            role: Role::Within(Shape::First(op)),
+        }),
+        None => match sides_beside(r, l, depth) {
+            Some(key_first) => Some(Zones {
+                key_first,
+                role: Role::Within(Shape::Second(op)),
+            }),
+            None => None,
+        },
+    }
+}
+
+/// Which side of an equation is the key, where another body uses none of so many variables.
+fn sides_beside(equation: &Body, other: &Body, depth: usize) -> Option<bool>
+    ensures sides { IfSome result (HasKey depth (body_view equation.now)) }
+    ensures other { IfSome result (λ _. IsTrue (is_from depth (body_view other.now))) }
+{
+    if !is_from(depth, other) {
+        return None;
+    }
+    sides(equation, depth)
+}
+
+/// Which side of an equation is the key, under so many variables of the places around the fold.
+fn sides(equation: &Body, depth: usize) -> Option<bool>
+    ensures { IfSome result (HasKey depth (body_view equation.now)) }
+{
+    match equation {
         Body::Op2(op, l, r) => match op {
             BinaryOperator::Equal => either_side(l, r, depth),
             _ => None,
@@ -79,14 +158,14 @@ fn sides(condition: &Body, depth: usize) -> Option<Zones>
 }
 
 /// Which of the two operands of an equality is the key.
-fn either_side(l: &Body, r: &Body, depth: usize) -> Option<Zones>
-    ensures { IfSome result (λ z. HasKey depth (op2 Equal (body_view l.now) (body_view r.now)) z.key_first) }
+fn either_side(l: &Body, r: &Body, depth: usize) -> Option<bool>
+    ensures { IfSome result (HasKey depth (op2 Equal (body_view l.now) (body_view r.now))) }
 {
     if are_sides(l, r, depth) {
-        return Some(Zones { key_first: false });
+        return Some(false);
     }
     if are_sides(r, l, depth) {
-        return Some(Zones { key_first: true });
+        return Some(true);
     }
     None
 }
@@ -117,38 +196,132 @@ pub(crate) fn keys_of(alloc: Global, column: Column) -> Result<Keys, AllocError>
     Ok(Keys { column, slots })
 }
 
-/// What the points of a part of a fold's box have: the outcomes that are compared with a key, those that are condensed,
-/// and their places in the box.
+/// What the points of a part of a fold's box have: the outcomes that are compared with a key, those of the fold's other
+/// body, and their places in the box.
 #[derive(Clone, Copy)]
 pub(crate) struct Seen<'a> {
     pub own: &'a Column,
     pub column: &'a Column,
     pub ranks: &'a [u64],
-    /// The key is the left operand.
+    /// The key is the left operand of the equation.
     pub key_first: bool,
+    pub role: Role,
 }
 
-/// Columns that comparisons write to.
+/// Columns that comparisons and operations write to.
 #[derive(Drop)]
 struct Work {
     same: Column,
     chosen: Column,
 }
 
-/// The accumulators of different numbers, each told of the points of a part that have its number.
+/// Whether each point of a part gives 0 where the equation is false, and the condenser skips zeros.
+fn has_blanks(op: Aggregate, shape: Shape, seen: &Seen<'_>, work: &mut Work) -> bool
+    ensures { IsTrue result → HasBlanks op shape seen.now }
+{
+    if !skips_zeros(op) {
+        return false;
+    }
+    join_same(
+        shape,
+        Outcome::Value(0),
+        seen.column,
+        &mut work.same,
+        &mut work.chosen,
+    );
+    are_zeros(&work.chosen)
+}
+
+/// Whether one pass over a part tells what its points add for each number.
+fn is_sharable(op: Aggregate, seen: &Seen<'_>, work: &mut Work) -> bool
+    ensures { IsTrue result → IsSharable op seen.now }
+{
+    match seen.role {
+        Role::Condition => true,
+        Role::Within(shape) => has_blanks(op, shape, seen, work),
+    }
+}
+
+/// The numbers for which one pass over a part is made: all of these, or none of them.
+fn shared_numbers<'a>(
+    op: Aggregate,
+    all: &'a Slots,
+    none: &'a Slots,
+    seen: &Seen<'_>,
+    work: &mut Work,
+) -> &'a Slots
+    requires { none.now ≡ [] }
+    ensures { 0 < length result.now → IsSharable op seen.now }
+{
+    if is_sharable(op, seen, work) {
+        return all;
+    }
+    none
+}
+
+/// The accumulators of different numbers, each told of the cells of a column whose own key is its number.
+fn keyed_folds(
+    alloc: Global,
+    op: Aggregate,
+    slots: &Slots,
+    own: &Column,
+    column: &Column,
+    ranks: &[u64],
+) -> Result<Vec<Accumulator>, AllocError>
+    requires own { length own.now ≡ length column.now }
+    requires ranks { length ranks.now ≡ length column.now }
+    ensures { IfOk result (λ v. AreKeyed op slots.now ranks.now own.now column.now v.items) }
+{
+    let _few = column.len();
+    let mut folds = empty_folds(alloc, op, slots.len())?;
+    add_keyed(&mut folds, slots, own, column, ranks);
+    Ok(folds)
+}
+
+/// The accumulators of different numbers, each told of the points of a part that have its number, and of those that have
+/// another one where these add 0.
+fn blank_folds(
+    alloc: Global,
+    op: Aggregate,
+    slots: &Slots,
+    seen: &Seen<'_>,
+    hits: &Column,
+) -> Result<Vec<Accumulator>, AllocError>
+    requires whole { IsWhole seen.now }
+    requires hits { length hits.now ≡ length seen.now.column.now }
+    requires op { 0 < length slots.now → IsTrue (skips_zeros op) }
+    ensures { IfOk result (λ v. AreCounted op slots.now seen.now hits.now v.items) }
+{
+    let mut folds = keyed_folds(alloc, op, slots, seen.own, hits, seen.ranks)?;
+    count_all_zeros(&mut folds, seen.column.len() as u32);
+    Ok(folds)
+}
+
+/// The accumulators of different numbers, each told what the points of a part add for its number.
 fn shared_folds(
     alloc: Global,
     op: Aggregate,
     slots: &Slots,
     seen: &Seen<'_>,
+    work: &mut Work,
 ) -> Result<Vec<Accumulator>, AllocError>
-    requires { IsWhole seen.now }
+    requires whole { IsWhole seen.now }
+    requires sharable { 0 < length slots.now → IsSharable op seen.now }
     ensures { IfOk result (λ v. AreShared op slots.now seen.now v.items) }
 {
-    let _few = seen.column.len();
-    let mut shared = empty_folds(alloc, op, slots.len())?;
-    add_keyed(&mut shared, slots, seen.own, seen.column, seen.ranks);
-    Ok(shared)
+    match seen.role {
+        Role::Condition => keyed_folds(alloc, op, slots, seen.own, seen.column, seen.ranks),
+        Role::Within(shape) => {
+            join_same(
+                shape,
+                Outcome::Value(1),
+                seen.column,
+                &mut work.same,
+                &mut work.chosen,
+            );
+            blank_folds(alloc, op, slots, seen, &work.chosen)
+        }
+    }
 }
 
 /// The place of a key among different numbers.
@@ -174,7 +347,7 @@ fn compare(own: &Column, key: Outcome, key_first: bool, same: &mut Column, chose
     operate_columns(BinaryOperator::Equal, own, same, chosen);
 }
 
-/// The accumulator of the points of a part that have a key; a fault of the comparison counts.
+/// The accumulator of what the points of a part add for a key, each compared with it by itself; faults count.
 fn fold_equal(op: Aggregate, key: Outcome, seen: &Seen<'_>, work: &mut Work) -> Accumulator
     requires { IsWhole seen.now }
     ensures stands { Stands result (added_with seen.now key) }
@@ -188,32 +361,39 @@ fn fold_equal(op: Aggregate, key: Outcome, seen: &Seen<'_>, work: &mut Work) -> 
         &mut work.same,
         &mut work.chosen,
     );
-    fold_column_where(op, &work.chosen, seen.column, seen.ranks)
+    match seen.role {
+        Role::Condition => fold_column_where(op, &work.chosen, seen.column, seen.ranks),
+        Role::Within(shape) => {
+            join(shape, &work.chosen, seen.column, &mut work.same);
+            fold_column(op, &work.same, seen.ranks)
+        }
+    }
 }
 
-/// Accumulators of the different numbers among keys, each told of the points of a part that have its number.
+/// Accumulators of different numbers, each told what the points of a part add for its number.
 #[derive(Clone, Copy)]
 pub(crate) struct Pooled<'a> {
     pub op: Aggregate,
     pub keys: &'a Keys,
+    pub slots: &'a Slots,
     pub seen: &'a Seen<'a>,
     pub shared: &'a [Accumulator],
 }
 
-/// Tells the accumulator at a place of the points of a part that have its key: what that of its number was told, or by
+/// Tells the accumulator at a place what the points of a part add for its key: what that of its number was told, or by
 /// itself where there is none.
 fn tell_place(folds: &mut [Accumulator], place: usize, pool: &Pooled<'_>, work: &mut Work)
     requires seen { IsWhole pool.now.seen.now }
     requires place { place < length folds.old }
     requires keys { length folds.old ≡ length pool.now.keys.now.column }
-    requires shared { AreShared pool.now.op pool.now.keys.now.slots pool.now.seen.now pool.now.shared.now }
+    requires shared { AreShared pool.now.op pool.now.slots.now pool.now.seen.now pool.now.shared.now }
     requires op { AreOf pool.now.op folds.old }
     requires room { HasRoomAt place (length pool.now.seen.now.column.now) folds.old }
     ensures { TakesInKey place pool.now folds.old folds.new }
 {
     let shared = pool.shared;
     let key = pool.keys.column.at(place);
-    match place_of(&pool.keys.slots, key) {
+    match place_of(pool.slots, key) {
         Some(j) => merge_at(folds, place, &shared[j]),
         None => {
             let found = fold_equal(pool.op, key, pool.seen, work);
@@ -222,11 +402,11 @@ fn tell_place(folds: &mut [Accumulator], place: usize, pool: &Pooled<'_>, work: 
     }
 }
 
-/// Tells the accumulators of all places of the points of a part that have their keys.
+/// Tells the accumulators of all places what the points of a part add for their keys.
 fn tell_places(folds: &mut [Accumulator], pool: &Pooled<'_>, work: &mut Work)
     requires seen { IsWhole pool.now.seen.now }
     requires keys { length folds.old ≡ length pool.now.keys.now.column }
-    requires shared { AreShared pool.now.op pool.now.keys.now.slots pool.now.seen.now pool.now.shared.now }
+    requires shared { AreShared pool.now.op pool.now.slots.now pool.now.seen.now pool.now.shared.now }
     requires op { AreOf pool.now.op folds.old }
     requires few { length pool.now.seen.now.column.now ≤ 4096 }
     requires room { HaveAtMost (2 ^ 24 - length pool.now.seen.now.column.now) folds.old }
@@ -239,7 +419,7 @@ fn tell_places(folds: &mut [Accumulator], pool: &Pooled<'_>, work: &mut Work)
     }
 }
 
-/// Tells accumulators, one for each key, of the points of a part that have their keys.
+/// Tells accumulators, one for each key, what the points of a part add for their keys.
 pub(crate) fn tell_seen(
     op: Aggregate,
     folds: &mut [Accumulator],
@@ -256,14 +436,17 @@ pub(crate) fn tell_seen(
     ensures op { OnOk result (AreOf op folds.new) }
 {
     let _few = seen.column.len();
-    let shared = shared_folds(scratch.alloc(), op, &keys.slots, seen)?;
     let mut work = Work {
         same: scratch.take_column()?,
         chosen: scratch.take_column()?,
     };
+    let none = Slots::new(scratch.alloc(), 0, 0)?;
+    let slots = shared_numbers(op, &keys.slots, &none, seen, &mut work);
+    let shared = shared_folds(scratch.alloc(), op, slots, seen, &mut work)?;
     let pool = Pooled {
         op,
         keys,
+        slots,
         seen,
         shared: &shared,
     };

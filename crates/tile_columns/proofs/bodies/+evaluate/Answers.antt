@@ -35,12 +35,13 @@ use Rattle.tile_kernel.specs.declared.accumulator.Accumulator.{Accumulator}
 use Rattle.tile_kernel.specs.Told.{Told, told_at, demanded_at}
 use Rattle.tile_kernel.specs.Standing.{Stands, AreOf, HaveAtMost, EachTakesIn}
 use Rattle.tile_columns.specs.Condensing.{told_of, told_ranked}
-use Rattle.tile_columns.specs.Zones.{operand, own_of, key_of, AreZonesOf}
+use Rattle.tile_columns.specs.Shapes.{operand, other_by}
+use Rattle.tile_columns.specs.Zones.{equation_in, other_in, own_of, key_of, other_of, AreZonesOf}
 use Rattle.tile_columns.specs.TileOrder.{points_to}
 use Rattle.tile_columns.proofs.TileOrders.{points_whole}
 use Rattle.tile_columns.proofs.TileFolds.{no_tile, tile_more, all_tiles, points_next, room_more, place_more, count_more, rest_more, stands_ranked, always_told, never_told, one_place, place_in_part, times_tile}
-use Rattle.tile_columns.proofs.ZoneFolds.{zone_told, own_place, key_place, zone_bound, times_next}
-use Rattle.tile_columns.specs.Meaning.{meaning, chosen, HasPlaceOver}
+use Rattle.tile_columns.proofs.ZoneFolds.{zone_told, own_place, other_place, key_place, zone_bound, times_next}
+use Rattle.tile_columns.specs.Meaning.{meaning, chosen, HasPlaceOver, IsColumnOf, Fetches}
 use Rattle.tile_columns.specs.Folds.{FoldHasPlace, BodiesHavePlace, AreOfFold, FetchesPoint, FetchesPoints, FetchesOwn}
 use Rattle.tile_columns.proofs.Calls.{reads_on}
 use Rattle.tile_columns.proofs.FoldPlaces.{reads_same, fold_later}
@@ -563,13 +564,49 @@ operand_of-returns-else-left-clause-fetched g t c =
 
 pub side_of-returns-in-Some-clause-value : goal.side_of-returns-in-Some-clause-value
 side_of-returns-in-Some-clause-value g t c =
-    subst (λ b. IfOk c.operand_of.result (λ o. (g.S.Tiles.state c.args.source.now).intact → o ≡ map (meaning (g.S.Tiles.state c.args.source.now) c.args.ground.now b) c.args.frame.now))
-    (ap (λ (o : Option _). operand c.args.left (condition_view o)) (sym c.in-Some.is)) c.operand_of.ensures.value
+    subst (λ b. IfOk c.operand_of.result (λ o. (g.S.Tiles.state c.args.source.now).intact → o ≡ map (meaning (g.S.Tiles.state c.args.source.now) c.args.on.now.ground.now b) c.args.frame.now))
+    (ap (λ (o : Option _). operand c.args.left (condition_view o)) (sym c.in-Some.is) ∙ ap (λ r. operand c.args.left (equation_in r (condition_view c.args.fold.now.condition) (body_view c.args.fold.now.body))) (sym c.in-Condition.is)) c.operand_of.ensures.value
 
 pub side_of-returns-in-Some-clause-fetched : goal.side_of-returns-in-Some-clause-fetched
 side_of-returns-in-Some-clause-fetched g t c =
-    subst (λ b. OnOk c.operand_of.result ((n : ℕ) → All (λ (e : List ℤ). n ≤ length e) c.args.frame.now → (g.S.Tiles.state c.operand_of.new.source).fetched ≤ (g.S.Tiles.state c.args.source.now).fetched + fetches (chosen (g.S.Tiles.state c.args.source.now) c.args.ground.now) n c.args.frame.now b))
-    (ap (λ (o : Option _). operand c.args.left (condition_view o)) (sym c.in-Some.is)) c.operand_of.ensures.fetched
+    subst (λ b. OnOk c.operand_of.result ((n : ℕ) → All (λ (e : List ℤ). n ≤ length e) c.args.frame.now → (g.S.Tiles.state c.operand_of.new.source).fetched ≤ (g.S.Tiles.state c.args.source.now).fetched + fetches (chosen (g.S.Tiles.state c.args.source.now) c.args.on.now.ground.now) n c.args.frame.now b))
+    (ap (λ (o : Option _). operand c.args.left (condition_view o)) (sym c.in-Some.is) ∙ ap (λ r. operand c.args.left (equation_in r (condition_view c.args.fold.now.condition) (body_view c.args.fold.now.body))) (sym c.in-Condition.is)) c.operand_of.ensures.fetched
+
+pub side_of-returns-in-Within-clause-value : goal.side_of-returns-in-Within-clause-value
+side_of-returns-in-Within-clause-value g t c =
+    subst (λ b. IfOk c.inner_of.result (IsColumnOf (g.S.Tiles.state c.args.source.now) c.args.on.now.ground.now b c.args.frame.now))
+    (ap (λ r. operand c.args.left (equation_in r (condition_view c.args.fold.now.condition) (body_view c.args.fold.now.body))) (sym c.in-Within.is)) c.inner_of.ensures.value
+
+pub side_of-returns-in-Within-clause-fetched : goal.side_of-returns-in-Within-clause-fetched
+side_of-returns-in-Within-clause-fetched g t c =
+    subst (λ b. Fetches c.inner_of.result c.args.on.now.ground.now b c.args.frame.now (g.S.Tiles.state c.args.source.now) (g.S.Tiles.state c.inner_of.new.source))
+    (ap (λ r. operand c.args.left (equation_in r (condition_view c.args.fold.now.condition) (body_view c.args.fold.now.body))) (sym c.in-Within.is)) c.inner_of.ensures.fetched
+
+pub beside-returns-in_ok-always_true-in-Alone-clause-value : goal.beside-returns-in_ok-always_true-in-Alone-clause-value
+beside-returns-in_ok-always_true-in-Alone-clause-value g t c = λ i.
+    c.in_ok-always_true-in-Alone.ensures
+    ∙ filled (Value (pos 1)) c.args.frame.now (length c.args.frame.now) refl
+    ∙ ap (λ s. map (meaning (g.S.Tiles.state c.args.source.now) c.args.ground.now (other_by s (body_view c.args.body.now))) c.args.frame.now) (sym c.in-Alone.is)
+
+pub other_of-returns-in-Condition-clause-value : goal.other_of-returns-in-Condition-clause-value
+other_of-returns-in-Condition-clause-value g t c =
+    subst (λ b. IfOk c.column_of.result (IsColumnOf (g.S.Tiles.state c.args.source.now) c.args.on.now.ground.now b c.args.frame.now))
+    (ap (λ r. other_in r (body_view c.args.fold.now.body)) (sym c.in-Condition.is)) c.column_of.ensures.value
+
+pub other_of-returns-in-Condition-clause-fetched : goal.other_of-returns-in-Condition-clause-fetched
+other_of-returns-in-Condition-clause-fetched g t c =
+    subst (λ b. Fetches c.column_of.result c.args.on.now.ground.now b c.args.frame.now (g.S.Tiles.state c.args.source.now) (g.S.Tiles.state c.column_of.new.source))
+    (ap (λ r. other_in r (body_view c.args.fold.now.body)) (sym c.in-Condition.is)) c.column_of.ensures.fetched
+
+pub other_of-returns-in-Within-clause-value : goal.other_of-returns-in-Within-clause-value
+other_of-returns-in-Within-clause-value g t c =
+    subst (λ b. IfOk c.beside.result (IsColumnOf (g.S.Tiles.state c.args.source.now) c.args.on.now.ground.now b c.args.frame.now))
+    (ap (λ r. other_in r (body_view c.args.fold.now.body)) (sym c.in-Within.is)) c.beside.ensures.value
+
+pub other_of-returns-in-Within-clause-fetched : goal.other_of-returns-in-Within-clause-fetched
+other_of-returns-in-Within-clause-fetched g t c =
+    subst (λ b. Fetches c.beside.result c.args.on.now.ground.now b c.args.frame.now (g.S.Tiles.state c.args.source.now) (g.S.Tiles.state c.beside.new.source))
+    (ap (λ r. other_in r (body_view c.args.fold.now.body)) (sym c.in-Within.is)) c.beside.ensures.fetched
 
 pub tell_zone_tiles-loop-number-init : goal.tell_zone_tiles-loop-number-init
 tell_zone_tiles-loop-number-init g t c =
@@ -611,7 +648,7 @@ tell_zone_tiles-loop-number-preserved g t c =
       folds = subst (λ n. AreOfFold c.args.fold.now c.args.zoned.now.frame.now n c.tell_zone_part.new.folds) (sym (points_next dom part c.loop-number.number lt is)) (c.in_ok-tell_zone_part.ensures.folds (length (points_to dom c.loop-number.number)) inv.folds);
       fetched =
           let x = times_next dom part c.loop-number.number (own_of c.args.fold.now c.args.zoned.now.zoning.zones) lt is in
-          let y = times_next dom part c.loop-number.number (body_view c.args.fold.now.body) lt is in
+          let y = times_next dom part c.loop-number.number (other_of c.args.fold.now c.args.zoned.now.zoning.zones) lt is in
           omega (arith, c.in_ok-tell_zone_part.ensures.fetched, inv.fetched, x, y);
       reads = reads_on inv.reads c.tell_zone_part.ensures.reads;
       failures = c.in_ok-tell_zone_part.ensures.reports ∙ inv.failures;
@@ -634,19 +671,21 @@ tell_zone_part-side_of-requires g t c =
     let both = folded_place c.args.fold.now.op c.args.fold.now.domain (condition_view c.args.fold.now.condition) (body_view c.args.fold.now.body) (get_or c.args.zoned.now.frame.now 0 [] ∷ []) one in
     let there : HasPlaceOver (g.S.Tiles.state c.args.source.now) c.args.zoned.now.zoning.ground.now (own_of c.args.fold.now c.args.zoned.now.zoning.zones) c.in_ok-inner.inner =
     subst (HasPlaceOver (g.S.Tiles.state c.args.source.now) c.args.zoned.now.zoning.ground.now (own_of c.args.fold.now c.args.zoned.now.zoning.zones)) (sym c.in_ok-inner.ensures)
-    (own_place c.requires.zones.depth (condition_view c.args.fold.now.condition) (own_of c.args.fold.now c.args.zoned.now.zoning.zones) (key_of c.args.fold.now c.args.zoned.now.zoning.zones) c.args.zoned.now.zoning.zones.key_first (map (λ p. get_or c.args.zoned.now.frame.now 0 [] ++ p) (points c.args.part.now.area)) c.requires.zones.sides
-    (place_in_part c.args.fold.now.domain c.args.part.now.area (condition_view c.args.fold.now.condition) (get_or c.args.zoned.now.frame.now 0 []) both.0 c.requires.part.inside c.requires.part.ordered)) in
+    (own_place c.args.zoned.now.zoning.zones.role (condition_view c.args.fold.now.condition) (body_view c.args.fold.now.body) (own_of c.args.fold.now c.args.zoned.now.zoning.zones) (key_of c.args.fold.now c.args.zoned.now.zoning.zones) c.args.zoned.now.zoning.zones.key_first c.requires.zones.depth (map (λ p. get_or c.args.zoned.now.frame.now 0 [] ++ p) (points c.args.part.now.area)) c.requires.zones.zoned
+    (place_in_part c.args.fold.now.domain c.args.part.now.area (condition_view c.args.fold.now.condition) (get_or c.args.zoned.now.frame.now 0 []) both.0 c.requires.part.inside c.requires.part.ordered)
+    (place_in_part c.args.fold.now.domain c.args.part.now.area (body_view c.args.fold.now.body) (get_or c.args.zoned.now.frame.now 0 []) both.1 c.requires.part.inside c.requires.part.ordered)) in
     search (rules, there)
 
-pub tell_zone_part-body_of-requires : goal.tell_zone_part-body_of-requires
-tell_zone_part-body_of-requires g t c =
+pub tell_zone_part-other_of-requires : goal.tell_zone_part-other_of-requires
+tell_zone_part-other_of-requires g t c =
     let one = one_place (fold_view c.args.fold.now) c.args.zoned.now.frame.now 0 c.requires.zones.some c.requires.place.place in
     let both = folded_place c.args.fold.now.op c.args.fold.now.domain (condition_view c.args.fold.now.condition) (body_view c.args.fold.now.body) (get_or c.args.zoned.now.frame.now 0 [] ∷ []) one in
     let signatures : c.args.zoned.now.zoning.ground.now.signatures.now ≡ (g.S.Tiles.state c.side_of.new.source).coverages = c.requires.place.signatures ∙ sym c.side_of.ensures.reads.coverages in
-    let there : HasPlaceOver (g.S.Tiles.state c.side_of.new.source) c.args.zoned.now.zoning.ground.now (body_view c.args.fold.now.body) c.side_of.new.frame =
-    subst (HasPlaceOver (g.S.Tiles.state c.side_of.new.source) c.args.zoned.now.zoning.ground.now (body_view c.args.fold.now.body)) (sym (c.in_ok-own.ensures.frame ∙ c.in_ok-inner.ensures))
-    (subst (λ all. HasPlace (signature_of all c.args.zoned.now.zoning.ground.now.coverages.now) (length c.args.zoned.now.zoning.ground.now.registers.now) (body_view c.args.fold.now.body) (map (λ p. get_or c.args.zoned.now.frame.now 0 [] ++ p) (points c.args.part.now.area))) (sym c.side_of.ensures.reads.coverages)
-    (place_in_part c.args.fold.now.domain c.args.part.now.area (body_view c.args.fold.now.body) (get_or c.args.zoned.now.frame.now 0 []) both.1 c.requires.part.inside c.requires.part.ordered)) in
+    let there : HasPlaceOver (g.S.Tiles.state c.side_of.new.source) c.args.zoned.now.zoning.ground.now (other_of c.args.fold.now c.args.zoned.now.zoning.zones) c.side_of.new.frame =
+    subst (HasPlaceOver (g.S.Tiles.state c.side_of.new.source) c.args.zoned.now.zoning.ground.now (other_of c.args.fold.now c.args.zoned.now.zoning.zones)) (sym (c.in_ok-own.ensures.frame ∙ c.in_ok-inner.ensures))
+    (subst (λ all. HasPlace (signature_of all c.args.zoned.now.zoning.ground.now.coverages.now) (length c.args.zoned.now.zoning.ground.now.registers.now) (other_of c.args.fold.now c.args.zoned.now.zoning.zones) (map (λ p. get_or c.args.zoned.now.frame.now 0 [] ++ p) (points c.args.part.now.area))) (sym c.side_of.ensures.reads.coverages)
+    (other_place c.args.zoned.now.zoning.zones.role (condition_view c.args.fold.now.condition) (body_view c.args.fold.now.body) (own_of c.args.fold.now c.args.zoned.now.zoning.zones) (key_of c.args.fold.now c.args.zoned.now.zoning.zones) c.args.zoned.now.zoning.zones.key_first c.requires.zones.depth (map (λ p. get_or c.args.zoned.now.frame.now 0 [] ++ p) (points c.args.part.now.area)) c.requires.zones.zoned
+    (place_in_part c.args.fold.now.domain c.args.part.now.area (body_view c.args.fold.now.body) (get_or c.args.zoned.now.frame.now 0 []) both.1 c.requires.part.inside c.requires.part.ordered))) in
     search (rules, signatures, there)
 
 pub tell_zone_part-tell_seen-requires : goal.tell_zone_part-tell_seen-requires
@@ -665,8 +704,8 @@ tell_zone_part-tell_seen-requires g t c =
 
 pub tell_zone_part-returns-clause-told : goal.tell_zone_part-returns-clause-told
 tell_zone_part-returns-clause-told g t c = λ h i.
-    let column = c.in_ok-column.ensures.value (c.side_of.ensures.reads.intact i) ∙ ap (λ s. map (run (cells_of s c.args.zoned.now.zoning.ground.now.coverages.now) c.args.zoned.now.zoning.ground.now.registers.now (body_view c.args.fold.now.body)) c.side_of.new.frame) c.side_of.ensures.reads.cells ∙ ap (map (meaning (g.S.Tiles.state c.args.source.now) c.args.zoned.now.zoning.ground.now (body_view c.args.fold.now.body))) c.in_ok-own.ensures.frame in
-    zone_told (cells_of (g.S.Tiles.state c.args.source.now).cells c.args.zoned.now.zoning.ground.now.coverages.now) c.args.zoned.now.zoning.ground.now.registers.now c.args.fold.now.domain (condition_view c.args.fold.now.condition) (body_view c.args.fold.now.body) (own_of c.args.fold.now c.args.zoned.now.zoning.zones) (key_of c.args.fold.now c.args.zoned.now.zoning.zones) c.args.zoned.now.zoning.zones.key_first
+    let column = c.in_ok-column.ensures.value (c.side_of.ensures.reads.intact i) ∙ ap (λ s. map (run (cells_of s c.args.zoned.now.zoning.ground.now.coverages.now) c.args.zoned.now.zoning.ground.now.registers.now (other_of c.args.fold.now c.args.zoned.now.zoning.zones)) c.side_of.new.frame) c.side_of.ensures.reads.cells ∙ ap (map (meaning (g.S.Tiles.state c.args.source.now) c.args.zoned.now.zoning.ground.now (other_of c.args.fold.now c.args.zoned.now.zoning.zones))) c.in_ok-own.ensures.frame in
+    zone_told (cells_of (g.S.Tiles.state c.args.source.now).cells c.args.zoned.now.zoning.ground.now.coverages.now) c.args.zoned.now.zoning.ground.now.registers.now c.args.fold.now.domain c.args.zoned.now.zoning.zones.role (condition_view c.args.fold.now.condition) (body_view c.args.fold.now.body) (own_of c.args.fold.now c.args.zoned.now.zoning.zones) (key_of c.args.fold.now c.args.zoned.now.zoning.zones) c.args.zoned.now.zoning.zones.key_first
     c.args.zoned.now.frame.now (points c.args.part.now.area) c.in_ok-inner.inner c.args.zoned.now.keys.now.column c.in_ok-own.own c.in_ok-column.column c.deref.result.now c.args.folds.now c.tell_seen.new.folds
     c.requires.zones (c.tell_seen.auto.folds ∙ c.requires.folds.many) c.in_ok-inner.ensures (c.deref.ensures.value ∙ c.requires.part.ranks) (h i) (c.in_ok-own.ensures.value i) column c.in_ok-tell_seen.ensures.told
 
@@ -687,18 +726,18 @@ tell_zone_part-returns-clause-fetched g t c =
     let a = c.in_ok-own.ensures.fetched 0 (λ k d lt. omega arith) in
     let b = c.in_ok-column.ensures.fetched 0 (λ k d lt. omega arith) in
     let x = times_few (chosen (g.S.Tiles.state c.args.source.now) c.args.zoned.now.zoning.ground.now) 0 c.in_ok-inner.inner (own_of c.args.fold.now c.args.zoned.now.zoning.zones) in
-    let y = times_few (chosen (g.S.Tiles.state c.args.source.now) c.args.zoned.now.zoning.ground.now) 0 c.in_ok-inner.inner (body_view c.args.fold.now.body) in
-    let e : fetches (chosen (g.S.Tiles.state c.side_of.new.source) c.args.zoned.now.zoning.ground.now) 0 c.side_of.new.frame (body_view c.args.fold.now.body) ≡ fetches (chosen (g.S.Tiles.state c.args.source.now) c.args.zoned.now.zoning.ground.now) 0 c.in_ok-inner.inner (body_view c.args.fold.now.body) =
-    ap (λ all. fetches (signature_of all c.args.zoned.now.zoning.ground.now.coverages.now) 0 c.side_of.new.frame (body_view c.args.fold.now.body)) c.side_of.ensures.reads.coverages ∙ ap (λ f. fetches (chosen (g.S.Tiles.state c.args.source.now) c.args.zoned.now.zoning.ground.now) 0 f (body_view c.args.fold.now.body)) c.in_ok-own.ensures.frame in
+    let y = times_few (chosen (g.S.Tiles.state c.args.source.now) c.args.zoned.now.zoning.ground.now) 0 c.in_ok-inner.inner (other_of c.args.fold.now c.args.zoned.now.zoning.zones) in
+    let e : fetches (chosen (g.S.Tiles.state c.side_of.new.source) c.args.zoned.now.zoning.ground.now) 0 c.side_of.new.frame (other_of c.args.fold.now c.args.zoned.now.zoning.zones) ≡ fetches (chosen (g.S.Tiles.state c.args.source.now) c.args.zoned.now.zoning.ground.now) 0 c.in_ok-inner.inner (other_of c.args.fold.now c.args.zoned.now.zoning.zones) =
+    ap (λ all. fetches (signature_of all c.args.zoned.now.zoning.ground.now.coverages.now) 0 c.side_of.new.frame (other_of c.args.fold.now c.args.zoned.now.zoning.zones)) c.side_of.ensures.reads.coverages ∙ ap (λ f. fetches (chosen (g.S.Tiles.state c.args.source.now) c.args.zoned.now.zoning.ground.now) 0 f (other_of c.args.fold.now c.args.zoned.now.zoning.zones)) c.in_ok-own.ensures.frame in
     let n : length c.in_ok-inner.inner ≡ count area = ap length c.in_ok-inner.ensures ∙ length-map (points area) (λ p. get_or c.args.zoned.now.frame.now 0 [] ++ p) ∙ length-points area in
     let u = ap (λ m. bound_times m (own_of c.args.fold.now c.args.zoned.now.zoning.zones)) n in
-    let v = ap (λ m. bound_times m (body_view c.args.fold.now.body)) n in
+    let v = ap (λ m. bound_times m (other_of c.args.fold.now c.args.zoned.now.zoning.zones)) n in
     omega (arith, a, b, x, y, e, u, v)
 
 pub tell_zones-side_of-requires : goal.tell_zones-side_of-requires
 tell_zones-side_of-requires g t c =
     let there : HasPlaceOver (g.S.Tiles.state c.args.source.now) c.args.on.now.ground.now (key_of c.args.fold.now c.args.on.now.zones) c.args.frame.now =
-    key_place c.args.fold.now.op c.args.fold.now.domain (condition_view c.args.fold.now.condition) (body_view c.args.fold.now.body) (own_of c.args.fold.now c.args.on.now.zones) (key_of c.args.fold.now c.args.on.now.zones) c.args.on.now.zones.key_first c.args.frame.now c.requires.zones c.requires.place.place in
+    key_place c.args.fold.now.op c.args.fold.now.domain c.args.on.now.zones.role (condition_view c.args.fold.now.condition) (body_view c.args.fold.now.body) (own_of c.args.fold.now c.args.on.now.zones) (key_of c.args.fold.now c.args.on.now.zones) c.args.on.now.zones.key_first c.args.frame.now c.requires.zones c.requires.place.place in
     search (rules, there)
 
 pub tell_zones-tell_zone_tiles-requires : goal.tell_zones-tell_zone_tiles-requires
@@ -727,5 +766,5 @@ tell_zones-returns-clause-fetched g t c =
     let a = c.in_ok-column.ensures.fetched 0 (λ k d lt. omega arith) in
     let x = times_few (chosen (g.S.Tiles.state c.args.source.now) c.args.on.now.ground.now) 0 c.args.frame.now (key_of c.args.fold.now c.args.on.now.zones) in
     let b = c.in_ok-tell_zone_tiles.ensures.fetched in
-    let m = zone_bound (length c.args.frame.now) (count c.args.fold.now.domain) z.depth (condition_view c.args.fold.now.condition) (own_of c.args.fold.now c.args.on.now.zones) (key_of c.args.fold.now c.args.on.now.zones) (body_view c.args.fold.now.body) c.args.on.now.zones.key_first z.sides z.some (count-pos c.args.fold.now.domain) in
+    let m = zone_bound (length c.args.frame.now) (count c.args.fold.now.domain) c.args.on.now.zones.role (condition_view c.args.fold.now.condition) (body_view c.args.fold.now.body) (own_of c.args.fold.now c.args.on.now.zones) (key_of c.args.fold.now c.args.on.now.zones) c.args.on.now.zones.key_first z.depth z.zoned z.some (count-pos c.args.fold.now.domain) in
     omega (arith, a, x, b, m)

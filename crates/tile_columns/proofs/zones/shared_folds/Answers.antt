@@ -1,34 +1,28 @@
--- Accumulators of no point that have been told of the cells with their numbers.
-use Rattle.std.proofs.Common.{ℕ, ◌≡◌, ◌∙◌, ◌+◌, ◌-◌, ◌^◌, ◌++◌, [], length, take, drop, sym, ap, subst, arith, rules}
-use Rattle.tile_kernel.specs.Keyed.{having, number_at}
-use Rattle.tile_kernel.specs.Told.{demanded_at}
-use Rattle.tile_kernel.specs.Standing.{AreOf, HaveAtMost, EachStands}
-use Rattle.tile_columns.proofs.Condensings.{whole_back}
+-- What accumulators are told of the equation as a condition, or of it in the body with blanks for the points of other zones.
+use Rattle.std.proofs.Common.{◌≡◌, ◌∙◌, ◌<◌, length, ap, subst, pos, rules}
+use Rattle.std.specs.Prelude.{replicate, IsTrue}
+use Rattle.std.proofs.lemmas.List.{length-replicate}
+use Rattle.wcps_mean.specs.declared.cell.Outcome.TheVariants.{Value}
+use Rattle.tile_columns.specs.Blanks.{skips_zeros}
+use Rattle.tile_columns.specs.Zones.{HasBlanks, IsSharableAs}
+use Rattle.tile_columns.proofs.BlankFolds.{length-joined}
+use Rattle.tile_columns.proofs.ZoneFolds.{shared_conditioned, shared_within, if_done}
 use Rattle.tile_columns.proofs.zones.shared_folds.Goals as goal
 
-pub add_keyed-requires : goal.add_keyed-requires
-add_keyed-requires c =
-    let lent = c.deref_mut.ensures.value in
-    let long : length c.deref_mut.result.now ≡ length c.args.slots.now = ap length lent ∙ c.in_ok-shared.ensures.length ∙ c.len.ensures in
-    let own = c.requires.own in
-    let ranks = c.requires.ranks in
-    let none : HaveAtMost 0 c.deref_mut.result.now = subst (HaveAtMost 0) (sym lent) c.in_ok-shared.ensures.room in
-    let room : HaveAtMost (2 ^ 24 - length c.args.seen.now.column.now) c.deref_mut.result.now = λ k d lt. let few = none k d lt in omega (arith, few) in
-    let few = c.len-few.ensures.few in
-    search (rules, long, own, ranks, room, few)
-
-pub returns : goal.returns
-returns c =
+pub blank_folds-requires : goal.blank_folds-requires
+blank_folds-requires c =
     let seen = c.args.seen.now in
-    let told = λ (j : ℕ). demanded_at seen.ranks.now (having seen.own.now (number_at c.args.slots.now j)) seen.column.now in
-    let lent = sym c.deref_mut.ensures.value in
-    let same : length c.add_keyed.new.folds ≡ length c.in_ok-shared.shared.items = c.add_keyed.ensures.length ∙ ap length c.deref_mut.ensures.value in
-    let back : take c.in_ok-shared.shared.len (c.add_keyed.new.folds ++ drop (length c.add_keyed.new.folds) c.in_ok-shared.shared.items) ≡ c.add_keyed.new.folds =
-    whole_back c.in_ok-shared.shared.len c.add_keyed.new.folds c.in_ok-shared.shared.items (omega (arith, c.in_ok-shared.shared.ok.0)) same in
-    let few = c.add_keyed.ensures.room 0 (subst (HaveAtMost 0) lent c.in_ok-shared.ensures.room) in
-    record {
-      many = ap length back ∙ same ∙ c.in_ok-shared.ensures.length ∙ c.len.ensures;
-      kinds = subst (AreOf c.args.op) (sym back) (c.add_keyed.ensures.op c.args.op (subst (AreOf c.args.op) lent c.in_ok-shared.ensures.op));
-      room = subst (HaveAtMost (length seen.column.now)) (sym back) (λ k d lt. let n = few k d lt in omega (arith, n));
-      told = subst (λ l. EachStands l told) (sym back) (c.add_keyed.ensures.stands (λ k. []) (subst (λ l. EachStands l (λ k. [])) lent c.in_ok-shared.ensures.stands));
-    }
+    let whole = c.requires.whole in
+    let hits : length c.join_same.new.out ≡ length seen.column.now = ap length c.join_same.ensures ∙ length-joined c.in-Within.shape (replicate (length seen.column.now) (Value (pos 1))) seen.column.now (length-replicate (length seen.column.now) (Value (pos 1))) in
+    let op : 0 < length c.args.slots.now → IsTrue (skips_zeros c.args.op) = λ some. let b : HasBlanks c.args.op c.in-Within.shape seen = subst (λ role. IsSharableAs role c.args.op seen) c.in-Within.is (c.requires.sharable some) in b.skips in
+    search (rules, whole, hits, op)
+
+pub returns-in-Condition : goal.returns-in-Condition
+returns-in-Condition c = if_done c.keyed_folds.result _ _ (λ v k. shared_conditioned c.args.op c.args.slots.now c.args.seen.now v.items c.in-Condition.is k) c.keyed_folds.ensures
+
+pub returns-in-Within : goal.returns-in-Within
+returns-in-Within c =
+    if_done c.blank_folds.result _ _
+    (λ v k. shared_within c.args.op c.args.slots.now c.args.seen.now c.in-Within.shape c.join_same.new.out v.items c.requires.whole c.in-Within.is c.join_same.ensures
+    (λ some. subst (λ role. IsSharableAs role c.args.op c.args.seen.now) c.in-Within.is (c.requires.sharable some)) k)
+    c.blank_folds.ensures

@@ -1,5 +1,5 @@
 -- One more accumulator has been told of the points that have its key, and in the end all of them.
-use Rattle.std.proofs.Common.{ℕ, List, length, refl, ap, arith}
+use Rattle.std.proofs.Common.{ℕ, List, length, refl, arith}
 use Rattle.tile_kernel.specs.Columns.{outcome_at}
 use Rattle.tile_kernel.specs.Told.{Told}
 use Rattle.tile_columns.specs.Zones.{added_with}

@@ -8,8 +8,8 @@ tell_places-requires c =
     let is = c.deref.ensures.value in
     let whole = c.requires.seen in
     let keys = c.requires.keys in
-    let shared : AreShared c.args.op c.args.keys.now.slots c.args.seen.now c.deref.result.now =
-    subst (AreShared c.args.op c.args.keys.now.slots c.args.seen.now) (sym is) c.in_ok-shared.ensures in
+    let shared : AreShared c.args.op c.shared_numbers-slots.result.now c.args.seen.now c.deref.result.now =
+    subst (AreShared c.args.op c.shared_numbers-slots.result.now c.args.seen.now) (sym is) c.in_ok-shared.ensures in
     let op = c.requires.op in
     let few = c.len-few.ensures.few in
     let room = c.requires.room in
