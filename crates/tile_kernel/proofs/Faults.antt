@@ -67,7 +67,7 @@ none_more : (o : Outcome) (outs : List Outcome) → IsValue o → first_fault ou
 none_more (Value z) outs h e = e
 none_more (Fault f) outs h e = absurd h
 
-none_first : (told : List Told) → All (λ (t : Told). IsValue t.1) told → first_fault (outcomes told) ≡ None
+pub none_first : (told : List Told) → All (λ (t : Told). IsValue t.1) told → first_fault (outcomes told) ≡ None
 none_first [] a = refl
 none_first (t ∷ told) a = none_more t.1 (outcomes told) (a 0 t (omega arith)) (none_first told (λ k d lt. a (suc k) d (omega arith)))
 

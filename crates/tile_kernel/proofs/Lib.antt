@@ -11,3 +11,4 @@ pub mod Keys
 pub mod Pairs
 pub mod Condensing
 pub mod Spans
+pub mod Values

@@ -4,7 +4,10 @@ use Rattle.wcps_text.specs.declared.operator.BinaryOperator.TheVariants.{Equal}
 use Rattle.wcps_mean.specs.declared.cell.Outcome.{Outcome}
 use Rattle.wcps_mean.specs.declared.cell.Outcome.TheVariants.{Value}
 use Rattle.wcps_mean.specs.Cells.{operate2}
+use Rattle.tile_kernel.specs.declared.accumulator.Accumulator.{Accumulator}
+use Rattle.tile_kernel.specs.Columns.{outcome_at}
 use Rattle.tile_kernel.specs.Told.{Told, demanded_of, demanded_at}
+use Rattle.tile_kernel.specs.Standing.{EachTakesIn}
 
 -- the condition that a key is this number, at each place
 abbrev pub having : List Outcome → ℤ → List Outcome
@@ -21,6 +24,19 @@ told_by_key numbers place key o k = demanded_of place (operate2 Equal key (Value
 -- what the cells of a column tell it, by the key of each
 abbrev pub told_by_keys : List ℤ → List ℕ → List Outcome → List Outcome → ℕ → List Told
 told_by_keys numbers places keys column k = demanded_at places (having keys (number_at numbers k)) column
+
+-- the first n cells of a column have these values
+abbrev pub HasValues : ℕ → (ℕ → ℤ) → List Outcome → Type 0
+HasValues n value column = (length column ≡ n) × ((k : ℕ) → k < n → outcome_at column k ≡ Value (value k))
+
+-- each takes in a value by its key, whatever place that has
+abbrev pub TakeInValue : List ℤ → ℤ → ℤ → List Accumulator → List Accumulator → Type 0
+TakeInValue numbers key x before after = (place : ℕ) → EachTakesIn before after (told_by_key numbers place (Value key) (Value x))
+
+-- each takes in n values by their keys, whatever places these have
+abbrev pub TakeInValues : List ℤ → ℕ → List ℤ → (ℕ → ℤ) → List Accumulator → List Accumulator → Type 0
+TakeInValues numbers n keys value before after = (places : List ℕ) (own column : List Outcome) → length places ≡ n → HasValues n (number_at keys) own → HasValues n value column
+    → EachTakesIn before after (told_by_keys numbers places own column)
 
 -- this is the place of a number in a list in which no other place has it, or there is none
 abbrev pub IsPlaceOf : ℤ → List ℤ → Option ℕ → Type 0

@@ -1,6 +1,7 @@
 //! What is kept of the points that a condenser has been told of, in whatever order.
 
-ghost use Rattle.std.specs.Prelude.{◌≡◌, ◌+◌, ◌<◌, ◌≤◌, ◌^◌, List, [], ◌∷◌};
+ghost use Rattle.std.specs.Prelude.{◌≡◌, ℕ, ◌+◌, ◌<◌, ◌≤◌, ◌^◌, List, [], ◌∷◌};
+ghost use Rattle.wcps_mean.specs.declared.cell.Outcome.TheVariants.{Value};
 ghost use Rattle.tile_kernel.specs.Told.{Told, IsFirst};
 ghost use Rattle.tile_kernel.specs.Joins.{HoldsOfBoth};
 
@@ -79,6 +80,16 @@ impl Accumulator {
         self.place = first.place;
     }
 
+    /// Takes in one value; which place it has does not matter.
+    pub(crate) fn add_value(&mut self, x: i64)
+        requires { self.old.running.count < 2 ^ 24 }
+        ensures stands { (place : ℕ) → TakesIn self.old self.new ((place, Value x) ∷ []) }
+        ensures op { self.new.running.op ≡ self.old.running.op }
+        ensures count { self.new.running.count ≡ self.old.running.count + 1 }
+    {
+        self.running.add(Outcome::Value(x));
+    }
+
     /// Takes in one point.
     pub fn add(&mut self, place: u64, o: Outcome)
         requires { self.old.running.count < 2 ^ 24 }
@@ -86,7 +97,10 @@ impl Accumulator {
         ensures op { self.new.running.op ≡ self.old.running.op }
         ensures count { self.new.running.count ≡ self.old.running.count + 1 }
     {
-        self.merge(Accumulator::one(self.running.op, place, o));
+        match o {
+            Outcome::Value(x) => self.add_value(x),
+            Outcome::Fault(_) => self.merge(Accumulator::one(self.running.op, place, o)),
+        }
     }
 
     /// Takes in one point under a condition: the condition's fault, or nothing where it is false, else the point.

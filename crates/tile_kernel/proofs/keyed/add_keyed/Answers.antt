@@ -1,27 +1,33 @@
--- One more cell has been told, and in the end all of them.
-use Rattle.std.proofs.Common.{◌∙◌, ◌+◌, ◌-◌, ◌^◌, length, refl, arith}
-use Rattle.tile_kernel.proofs.Keys.{keyed_more, keyed_whole}
+-- Where each place has a value, or all places have one, the values are those of the columns.
+use Rattle.std.proofs.Common.{◌≡◌, ◌∙◌, ◌<◌, ◌≤◌, ◌+◌, length, sym, ap, arith, rules, SFits, w64, to_z, of_z}
+use Rattle.std.proofs.lemmas.Int.{to_z-of_z}
+use Rattle.wcps_mean.specs.declared.cell.Outcome.TheVariants.{Value}
+use Rattle.tile_kernel.proofs.Places.{places_are, value_there, same_there}
 use Rattle.tile_kernel.proofs.keyed.add_keyed.Goals as goal
 
-pub tell_keyed-requires-clause-room : goal.tell_keyed-requires-clause-room
-tell_keyed-requires-clause-room g c = λ k d l.
-    let h = c.loop-j.invariant.room (2 ^ 24 - length c.args.column.now) c.requires.room k d l in
-    omega (arith, h, c.requires.few)
+pub returns-in-Values-form-clause-stands : goal.returns-in-Values-form-clause-stands
+returns-in-Values-form-clause-stands g c =
+    let n : c.column.inside.len ≡ length c.args.column.now = places_are _ _ _ _ _ c.column.view_is c.column.invariant in
+    c.tell_values.ensures.stands c.args.places.now c.args.keys.now c.args.column.now (c.requires.places ∙ sym n)
+    (c.requires.keys ∙ sym n, λ k lt. value_there _ _ _ _ _ _ k c.in-Values.is c.keys.view_is c.keys.invariant c.as_slice-in-Values-form.ensures.value (omega (arith, lt, n, c.requires.keys)))
+    (sym n, λ k lt. value_there _ _ _ _ _ _ k c.in-Values-form.is c.column.view_is c.column.invariant c.as_slice.ensures.value (omega (arith, lt, n)))
 
-pub loop-j-preserved : goal.loop-j-preserved
-loop-j-preserved g c =
-    let inv = c.loop-j.invariant in
-    record {
-      stands = keyed_more c.args.folds.now c.loop-j.folds c.tell_keyed.new.folds (g.N.Numbers.numbers c.args.numbers.now) c.args.places.now c.args.keys.now c.args.column.now c.loop-j.j _ c.at.result c.at-in-loop-j.result
-          c.requires.places c.requires.keys (omega arith) refl c.at.ensures c.at-in-loop-j.ensures inv.length inv.stands c.tell_keyed.ensures.stands;
-      room = λ n h k d l. let r = c.tell_keyed.ensures.room (n + c.loop-j.j) (inv.room n h) k d l in omega (arith, r);
-      op = λ op h. c.tell_keyed.ensures.op op (inv.op op h);
-      length = c.tell_keyed.ensures.length ∙ inv.length;
-    }
+pub returns-in-Values-form-clause-room : goal.returns-in-Values-form-clause-room
+returns-in-Values-form-clause-room g c = λ m h k d l.
+    let n : c.column.inside.len ≡ length c.args.column.now = places_are _ _ _ _ _ c.column.view_is c.column.invariant in
+    let r = c.tell_values.ensures.room m h k d l in
+    omega (arith, n, r)
 
-pub returns-clause-stands : goal.returns-clause-stands
-returns-clause-stands g c =
-    keyed_whole c.args.folds.now c.loop-j.folds (g.N.Numbers.numbers c.args.numbers.now) c.args.places.now c.args.keys.now c.args.column.now c.loop-j.j c.requires.places c.requires.keys (omega arith) c.loop-j.invariant.stands
+pub returns-in-Value-clause-stands : goal.returns-in-Value-clause-stands
+returns-in-Value-clause-stands g c =
+    let n : c.column.inside.len ≡ length c.args.column.now = places_are _ _ _ _ _ c.column.view_is c.column.invariant in
+    let fits : SFits w64 c.in-Value.value = search rules in
+    c.tell_values-in-Value.ensures.stands c.args.places.now c.args.keys.now c.args.column.now (c.requires.places ∙ sym n)
+    (c.requires.keys ∙ sym n, λ k lt. value_there _ _ _ _ _ _ k c.in-Values.is c.keys.view_is c.keys.invariant c.as_slice-in-Value.ensures.value (omega (arith, lt, n, c.requires.keys)))
+    (sym n, λ k lt. same_there _ _ _ _ _ _ k c.in-Same.is c.column.view_is c.column.invariant (omega (arith, lt, n)) ∙ c.in-Value.is ∙ ap Value (sym (to_z-of_z w64 c.in-Value.value fits)))
 
-pub returns-clause-room : goal.returns-clause-room
-returns-clause-room g c = λ n h k d l. let r = c.loop-j.invariant.room n h k d l in omega (arith, r)
+pub returns-in-Value-clause-room : goal.returns-in-Value-clause-room
+returns-in-Value-clause-room g c = λ m h k d l.
+    let n : c.column.inside.len ≡ length c.args.column.now = places_are _ _ _ _ _ c.column.view_is c.column.invariant in
+    let r = c.tell_values-in-Value.ensures.room m h k d l in
+    omega (arith, n, r)

@@ -3,7 +3,7 @@ use Rattle.wcps_text.specs.declared.operator.Aggregate.{Aggregate}
 use Rattle.tile_kernel.specs.Told.{demanded_at}
 use Rattle.tile_kernel.specs.Standing.{HaveAtMost, AreOf, EachTakesIn}
 use Rattle.tile_kernel.specs.Keyed.{having, number_at}
-use Rattle.tile_kernel.proofs.keyed.add_keyed.Given as goal
+use Rattle.tile_kernel.proofs.keyed.tell_cells.Given as goal
 
 -- what the first cells add has been taken in
 abbrev pub invariant-loop-j : goal.invariant-loop-j
