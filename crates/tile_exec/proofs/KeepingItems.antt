@@ -23,8 +23,9 @@ use Rattle.tile_exec.specs.Tasks.{PartTree, TaskTree, pass, condition, item, are
 use Rattle.tile_exec.specs.Progress.{read_by, after_part, after_item}
 use Rattle.tile_columns.specs.TileOrder.{points_to, tile_of}
 use Rattle.tile_exec.specs.Items.{Fills, all_cells, told_to_item, places_of, AreWritten, AreWrittenTo, cell_count, IsFirstOf}
+use Rattle.tile_exec.specs.Rows.{all_cells_told}
 use Rattle.tile_exec.specs.Standing.{plan_of, tasks_left, progress_of, HasRoom, IsSound, IsUnder, HasCells, AtItem, AtPart}
-use Rattle.tile_exec.specs.Units.{Fits, FitsPart, FitsItem, BeginsTile, TellsTask, TellsPart, TellsItem, IsLast, GivesBy, Gives, Keeps}
+use Rattle.tile_exec.specs.Units.{cells_placed, Fits, FitsPart, FitsItem, BeginsTile, TellsTask, TellsPart, TellsItem, IsLast, GivesBy, Gives, Keeps}
 use Rattle.tile_columns.proofs.TileOrders.{told_more}
 use Rattle.tile_exec.proofs.Moves.{GoesOn, GoesFurther, sound_next, stands_next, boxes_next, sound_further, stands_further, boxes_further, at_hand, stands_at}
 use Rattle.tile_exec.proofs.Keeping.{placed_at}
@@ -81,12 +82,18 @@ cells_before e last x a before sound kept fresh =
       | inr some ↦ ap length (kept some) ∙ (item_under e last x a sound).1 some
     ]
 
+-- the cells that a tile tells, by lists that are its own
+pub placed_so : (x : ItemTile) (places : List ℕ) (booleans : List Bool) (columns : List (List Outcome)) → places ≡ x.places.items → booleans ≡ x.booleans.items → columns ≡ x.columns.items
+    → all_cells_told places booleans columns ≡ cells_placed x
+placed_so x places booleans columns a b e =
+    ap (λ l. all_cells_told l booleans columns) a ∙ ap (λ l. all_cells_told x.places.items l columns) b ∙ ap (λ l. all_cells_told x.places.items x.booleans.items l) e
+
 -- what a tile is found to tell, and what was told before it
 pub record ItemKept (e : State) (x : ItemTile) (before cells : List Cell) (first now : First) : Type 0 where
   pub kept : 0 < e.tile → before ≡ e.cells.items
   pub fresh : e.tile ≡ 0 → before ≡ x.fresh.items
   pub long : length cells ≡ length before
-  pub written : AreWrittenTo before cells x.written.items
+  pub written : AreWrittenTo before cells (cells_placed x)
   pub begun : BeginsTile e.tile (IsFirstOf e.first) (IsFirstOf first)
   pub joined : HoldsOfBoth (IsFirstOf first) (IsFirstOf x.first) (IsFirstOf now)
 

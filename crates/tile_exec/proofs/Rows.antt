@@ -1,10 +1,10 @@
 -- What columns tell of the points of a tile.
-use Rattle.std.proofs.Common.{◌≡◌, ℕ, zero, suc, ◌+◌, ◌*◌, ◌<◌, ◌≤◌, ◌^◌, List, [], ◌∷◌, ◌++◌, length, get_or, take, map, ℤ, pos, refl, sym, ap, ◌∙◌, subst, arith, Some, append_assoc, length-append}
+use Rattle.std.proofs.Common.{◌≡◌, ℕ, zero, suc, ◌+◌, ◌*◌, ◌<◌, ◌≤◌, ◌^◌, Bool, List, [], ◌∷◌, ◌++◌, length, get_or, take, map, ℤ, pos, refl, sym, ap, ◌∙◌, subst, arith, Some, append_assoc, length-append}
 use Rattle.std.specs.Prelude.{slice_get, All}
 use Rattle.std.specs.List.{flat_map, enumerate_from, range_with_len}
 use Rattle.std.proofs.Math.Nat.{suc-mul}
 use Rattle.std.proofs.lemmas.Option.{slice_get-get_or}
-use Rattle.std.proofs.lemmas.List.{length-map, get_or-map, map_more, length-take-le, get_or-append-add, get_or_append_left}
+use Rattle.std.proofs.lemmas.List.{length-map, get_or-map, map_more, take_more, length-take-le, get_or-append-add, get_or_append_left}
 use Rattle.std.proofs.lemmas.List.Elements.{All-append, All-nil}
 use Rattle.std.proofs.lemmas.List.FromFn.{get_or-range_with_len, length-range_with_len, length-enumerate_from, get_or-enumerate_from}
 use Rattle.std.proofs.lemmas.List.Folds.{flat_map-map}
@@ -15,8 +15,8 @@ use Rattle.arr_core.proofs.Points.{length-points, rank_of-lt-count, at_rank, pla
 use Rattle.wcps_mean.specs.declared.cell.Outcome.{Outcome}
 use Rattle.wcps_mean.specs.declared.cell.Outcome.TheVariants.{Value}
 use Rattle.wcps_mean.specs.Answer.{cell_of}
-use Rattle.plan_ir.specs.declared.plan.Field.{Field}
 use Rattle.plan_ir.specs.Plans.{FieldBody, ItemTree, field_view}
+use Rattle.plan_ir.specs.declared.plan.Field.{Field}
 use Rattle.plan_ir.specs.Run.{run}
 use Rattle.tile_kernel.specs.Columns.{outcome_at}
 use Rattle.tile_kernel.specs.Told.{Told}
@@ -25,17 +25,17 @@ use Rattle.tile_columns.proofs.Ranges.{map_map, same_over, by_places}
 use Rattle.tile_exec.specs.Items.{row, value_of, row_cells, all_cells, told_to_item, places_of}
 use Rattle.tile_columns.proofs.Boxes.{box-inside, points_inside}
 use Rattle.tile_columns.proofs.ByRows.{map_same, map_flat}
-use Rattle.tile_exec.specs.Rows.{row_at, cells_from, first_place, cells_told, rows_told}
+use Rattle.tile_exec.specs.Rows.{row_at, booleans_of, cells_from, first_place, cells_told, rows_told}
 
 -- ---- one more field
 
-cells_more : (n : ℕ) (fields : List FieldBody) (os : List Outcome) (f : FieldBody) (o : Outcome) → length os ≡ length fields → cells_from n (fields ++ f ∷ []) (os ++ o ∷ []) ≡ cells_from n fields os ++ (n + length fields, cell_of f.boolean (value_of o)) ∷ []
-cells_more n [] [] f o h = let e : n ≡ n + 0 = omega arith in ap (λ k. (k, cell_of f.boolean (value_of o)) ∷ []) e
-cells_more n [] (p ∷ os) f o h = absurd (omega arith)
-cells_more n (g ∷ fields) [] f o h = absurd (omega arith)
-cells_more n (g ∷ fields) (p ∷ os) f o h =
-    let e : (n + 1) + length fields ≡ n + suc (length fields) = omega arith in
-    ap (λ l. (n, cell_of g.boolean (value_of p)) ∷ l) (cells_more (n + 1) fields os f o (omega arith) ∙ ap (λ k. cells_from (n + 1) fields os ++ (k, cell_of f.boolean (value_of o)) ∷ []) e)
+cells_more : (n : ℕ) (bs : List Bool) (os : List Outcome) (b : Bool) (o : Outcome) → length os ≡ length bs → cells_from n (bs ++ b ∷ []) (os ++ o ∷ []) ≡ cells_from n bs os ++ (n + length bs, cell_of b (value_of o)) ∷ []
+cells_more n [] [] b o h = let e : n ≡ n + 0 = omega arith in ap (λ k. (k, cell_of b (value_of o)) ∷ []) e
+cells_more n [] (p ∷ os) b o h = absurd (omega arith)
+cells_more n (a ∷ bs) [] b o h = absurd (omega arith)
+cells_more n (a ∷ bs) (p ∷ os) b o h =
+    let e : (n + 1) + length bs ≡ n + suc (length bs) = omega arith in
+    ap (λ l. (n, cell_of a (value_of p)) ∷ l) (cells_more (n + 1) bs os b o (omega arith) ∙ ap (λ k. cells_from (n + 1) bs os ++ (k, cell_of b (value_of o)) ∷ []) e)
 
 enumerate_more : {X : Type 0} (n : ℕ) (os : List X) (o : X) → enumerate_from n (os ++ o ∷ []) ≡ enumerate_from n os ++ (n + length os, o) ∷ []
 enumerate_more n [] o = let e : n ≡ n + 0 = omega arith in ap (λ k. (k, o) ∷ []) e
@@ -43,25 +43,22 @@ enumerate_more n (p ∷ os) o =
     let e : (n + 1) + length os ≡ n + suc (length os) = omega arith in
     ap (λ l. (n, p) ∷ l) (enumerate_more (n + 1) os o ∙ ap (λ k. enumerate_from (n + 1) os ++ (k, o) ∷ []) e)
 
-pub cells_next : (place : ℕ) (fields : List Field) (columns : List (List Outcome)) (k j : ℕ) (d : Field) (e : List Outcome) (before written new : List (ℕ × Cell)) (own : ℕ) (cell : Cell)
-    → length columns ≡ length fields → j < length fields → own ≡ place + j → cell ≡ cell_of (get_or fields j d).boolean (value_of (outcome_at (get_or columns j e) k))
-    → written ≡ before ++ cells_from place (map field_view (take j fields)) (row_at (take j columns) k) → new ≡ written ++ (own, cell) ∷ []
-    → new ≡ before ++ cells_from place (map field_view (take (j + 1) fields)) (row_at (take (j + 1) columns) k)
-cells_next place fields columns k j d e before written new own cell m lt o c w n =
-    let f = get_or fields j d in
+pub cells_next : (place : ℕ) (booleans : List Bool) (columns : List (List Outcome)) (k j : ℕ) (d : Bool) (e : List Outcome) (own : ℕ) (cell : Cell)
+    → length columns ≡ length booleans → j < length booleans → own ≡ place + j → cell ≡ cell_of (get_or booleans j d) (value_of (outcome_at (get_or columns j e) k))
+    → cells_from place (take j booleans) (row_at (take j columns) k) ++ (own, cell) ∷ [] ≡ cells_from place (take (j + 1) booleans) (row_at (take (j + 1) columns) k)
+cells_next place booleans columns k j d e own cell m lt o c =
+    let f = get_or booleans j d in
     let x = outcome_at (get_or columns j e) k in
-    let fs = map field_view (take j fields) in
+    let fs = take j booleans in
     let os = row_at (take j columns) k in
-    let a : length fs ≡ j = length-map (take j fields) field_view ∙ length-take-le j fields (omega arith) in
+    let a : length fs ≡ j = length-take-le j booleans (omega arith) in
     let b : length os ≡ j = length-map (take j columns) (λ (c : List Outcome). outcome_at c k) ∙ length-take-le j columns (omega arith) in
     let at : place + length fs ≡ own = omega arith in
-    n ∙ ap (λ l. l ++ (own, cell) ∷ []) w ∙ append_assoc before (cells_from place fs os) ((own, cell) ∷ [])
-    ∙ ap (λ l. before ++ l)
-    (ap (λ y. cells_from place fs os ++ (own, y) ∷ []) c
-    ∙ ap (λ p. cells_from place fs os ++ (p, cell_of f.boolean (value_of x)) ∷ []) (sym at)
-    ∙ sym (cells_more place fs os (field_view f) x (b ∙ sym a))
-    ∙ ap (λ l. cells_from place l (os ++ x ∷ [])) (sym (map_more field_view fields j d lt))
-    ∙ ap (cells_from place (map field_view (take (j + 1) fields))) (sym (map_more (λ (c : List Outcome). outcome_at c k) columns j e (omega arith))))
+    ap (λ y. cells_from place fs os ++ (own, y) ∷ []) c
+    ∙ ap (λ p. cells_from place fs os ++ (p, cell_of f (value_of x)) ∷ []) (sym at)
+    ∙ sym (cells_more place fs os f x (b ∙ sym a))
+    ∙ ap (λ l. cells_from place l (os ++ x ∷ [])) (sym (take_more booleans j d lt))
+    ∙ ap (cells_from place (take (j + 1) booleans)) (sym (map_more (λ (c : List Outcome). outcome_at c k) columns j e (omega arith)))
 
 pub row_next : (place : ℕ) (columns : List (List Outcome)) (k j : ℕ) (e : List Outcome) (told : List Told) (own : ℕ) (o : Outcome) → j < length columns → own ≡ place + j → outcome_at (get_or columns j e) k ≡ o
     → (told ++ enumerate_from place (row_at (take j columns) k)) ++ (own, o) ∷ [] ≡ told ++ enumerate_from place (row_at (take (j + 1) columns) k)
@@ -90,7 +87,7 @@ row_there s regs i qs k lt =
     ∙ map_same (λ (f : FieldBody). outcome_at (map (run s regs (behind i.binds f.body)) qs) k) (λ (f : FieldBody). run s regs (behind i.binds f.body) (get_or qs k [])) i.fields
     (λ f. get_or-map (run s regs (behind i.binds f.body)) qs k [] (Value (pos 0)) lt)
 
-cells_of_row : (g : FieldBody → Outcome) (n : ℕ) (fields : List FieldBody) → cells_from n fields (map g fields) ≡ enumerate_from n (map (λ (f : FieldBody). cell_of f.boolean (value_of (g f))) fields)
+cells_of_row : (g : FieldBody → Outcome) (n : ℕ) (fields : List FieldBody) → cells_from n (booleans_of fields) (map g fields) ≡ enumerate_from n (map (λ (f : FieldBody). cell_of f.boolean (value_of (g f))) fields)
 cells_of_row g n [] = refl
 cells_of_row g n (f ∷ fields) = ap (λ l. (n, cell_of f.boolean (value_of (g f))) ∷ l) (cells_of_row g (n + 1) fields)
 
@@ -98,14 +95,17 @@ cells_of_row g n (f ∷ fields) = ap (λ l. (n, cell_of f.boolean (value_of (g f
 abbrev pub cells_at_points : (ℕ → ℕ → List ℤ → ℤ) → List Outcome → ItemTree → List (List ℤ) → List (ℕ × Cell)
 cells_at_points s regs i qs = flat_map (λ q. enumerate_from (rank_of i.domain q * length i.fields) (row_cells s regs i q)) qs
 
-pub cells_all : (s : ℕ → ℕ → List ℤ → ℤ) (regs : List Outcome) (i : ItemTree) (qs : List (List ℤ)) → cells_told (map (rank_of i.domain) qs) i.fields (columns_behind s regs i.binds i.fields qs) (length qs) ≡ cells_at_points s regs i qs
+pub cells_all : (s : ℕ → ℕ → List ℤ → ℤ) (regs : List Outcome) (i : ItemTree) (qs : List (List ℤ)) → cells_told (map (rank_of i.domain) qs) (booleans_of i.fields) (columns_behind s regs i.binds i.fields qs) (length qs) ≡ cells_at_points s regs i qs
 cells_all s regs i qs =
     let columns = columns_behind s regs i.binds i.fields qs in
     let ranks = map (rank_of i.domain) qs in
-    flat_over (λ k. cells_from (first_place ranks (length i.fields) k) i.fields (row_at columns k)) (λ q. enumerate_from (rank_of i.domain q * length i.fields) (row_cells s regs i q)) qs [] (length qs) refl
+    let booleans = booleans_of i.fields in
+    let width : length booleans ≡ length i.fields = length-map i.fields (λ (f : FieldBody). f.boolean) in
+    flat_over (λ k. cells_from (first_place ranks (length booleans) k) booleans (row_at columns k)) (λ q. enumerate_from (rank_of i.domain q * length i.fields) (row_cells s regs i q)) qs [] (length qs) refl
     (λ k lt.
-    ap (λ r. cells_from (r * length i.fields) i.fields (row_at columns k)) (get_or-map (rank_of i.domain) qs k [] 0 lt)
-    ∙ ap (cells_from (rank_of i.domain (get_or qs k []) * length i.fields) i.fields) (row_there s regs i qs k lt)
+    ap (λ n. cells_from (get_or ranks k 0 * n) booleans (row_at columns k)) width
+    ∙ ap (λ r. cells_from (r * length i.fields) booleans (row_at columns k)) (get_or-map (rank_of i.domain) qs k [] 0 lt)
+    ∙ ap (cells_from (rank_of i.domain (get_or qs k []) * length i.fields) booleans) (row_there s regs i qs k lt)
     ∙ cells_of_row (λ (f : FieldBody). run s regs (behind i.binds f.body) (get_or qs k [])) (rank_of i.domain (get_or qs k []) * length i.fields) i.fields)
 
 pub rows_all : (s : ℕ → ℕ → List ℤ → ℤ) (regs : List Outcome) (i : ItemTree) (qs : List (List ℤ)) → rows_told (map (rank_of i.domain) qs) (length i.fields) (columns_behind s regs i.binds i.fields qs) (length qs) ≡ flat_map (told_to_item s regs i) qs
@@ -119,20 +119,53 @@ rows_all s regs i qs =
 
 -- ---- the places
 
-cells_places : (n : ℕ) (fields : List FieldBody) (os : List Outcome) → length os ≡ length fields → map (λ (w : ℕ × Cell). w.0) (cells_from n fields os) ≡ range_with_len n (length fields)
+cells_places : (n : ℕ) (bs : List Bool) (os : List Outcome) → length os ≡ length bs → map (λ (w : ℕ × Cell). w.0) (cells_from n bs os) ≡ range_with_len n (length bs)
 cells_places n [] [] h = refl
 cells_places n [] (o ∷ os) h = absurd (omega arith)
-cells_places n (f ∷ fields) [] h = absurd (omega arith)
-cells_places n (f ∷ fields) (o ∷ os) h = ap (λ l. n ∷ l) (cells_places (n + 1) fields os (omega arith))
+cells_places n (b ∷ bs) [] h = absurd (omega arith)
+cells_places n (b ∷ bs) (o ∷ os) h = ap (λ l. n ∷ l) (cells_places (n + 1) bs os (omega arith))
 
-pub places_all : (i : ItemTree) (qs : List (List ℤ)) (columns : List (List Outcome)) → length columns ≡ length i.fields → map (λ (w : ℕ × Cell). w.0) (cells_told (map (rank_of i.domain) qs) i.fields columns (length qs)) ≡ flat_map (places_of i) qs
+pub cell_place : (n : ℕ) (bs : List Bool) (os : List Outcome) (j : ℕ) (d : ℕ × Cell) → length os ≡ length bs → j < length bs → (get_or (cells_from n bs os) j d).0 ≡ n + j
+cell_place n [] os j d h lt = absurd (omega arith)
+cell_place n (b ∷ bs) [] j d h lt = absurd (omega arith)
+cell_place n (b ∷ bs) (o ∷ os) zero d h lt = omega arith
+cell_place n (b ∷ bs) (o ∷ os) (suc j) d h lt =
+    let later = cell_place (n + 1) bs os j d (omega arith) (omega arith) in omega (arith, later)
+
+pub cell_count_at : (n : ℕ) (bs : List Bool) (os : List Outcome) → length os ≡ length bs → length (cells_from n bs os) ≡ length bs
+cell_count_at n [] os h = refl
+cell_count_at n (b ∷ bs) [] h = absurd (omega arith)
+cell_count_at n (b ∷ bs) (o ∷ os) h = ap suc (cell_count_at (n + 1) bs os (omega arith))
+
+pub places_all : (i : ItemTree) (qs : List (List ℤ)) (columns : List (List Outcome)) → length columns ≡ length i.fields → map (λ (w : ℕ × Cell). w.0) (cells_told (map (rank_of i.domain) qs) (booleans_of i.fields) columns (length qs)) ≡ flat_map (places_of i) qs
 places_all i qs columns m =
     let ranks = map (rank_of i.domain) qs in
-    map_flat (λ (w : ℕ × Cell). w.0) (λ k. cells_from (first_place ranks (length i.fields) k) i.fields (row_at columns k)) (range_with_len 0 (length qs))
-    ∙ flat_over (λ k. map (λ (w : ℕ × Cell). w.0) (cells_from (first_place ranks (length i.fields) k) i.fields (row_at columns k))) (places_of i) qs [] (length qs) refl
+    let booleans = booleans_of i.fields in
+    let width : length booleans ≡ length i.fields = length-map i.fields (λ (f : FieldBody). f.boolean) in
+    map_flat (λ (w : ℕ × Cell). w.0) (λ k. cells_from (first_place ranks (length booleans) k) booleans (row_at columns k)) (range_with_len 0 (length qs))
+    ∙ flat_over (λ k. map (λ (w : ℕ × Cell). w.0) (cells_from (first_place ranks (length booleans) k) booleans (row_at columns k))) (places_of i) qs [] (length qs) refl
     (λ k lt.
-    cells_places (first_place ranks (length i.fields) k) i.fields (row_at columns k) (length-map columns (λ (c : List Outcome). outcome_at c k) ∙ m)
+    cells_places (first_place ranks (length booleans) k) booleans (row_at columns k) (length-map columns (λ (c : List Outcome). outcome_at c k) ∙ m ∙ sym width)
+    ∙ ap (λ n. range_with_len (get_or ranks k 0 * n) n) width
     ∙ ap (λ r. range_with_len (r * length i.fields) (length i.fields)) (get_or-map (rank_of i.domain) qs k [] 0 lt))
+
+-- what holds of each in a list of pieces holds of each in a piece
+all_left : {Y : Type 0} (P : Y → Type 0) (xs ys : List Y) → All P (xs ++ ys) → All P xs
+all_left P xs ys h k d lt = subst P (get_or_append_left xs ys d k lt) (h k d (omega (arith, length-append xs ys)))
+
+all_right : {Y : Type 0} (P : Y → Type 0) (xs ys : List Y) → All P (xs ++ ys) → All P ys
+all_right P xs ys h k d lt = subst P (get_or-append-add xs ys k d) (h (length xs + k) d (omega (arith, length-append xs ys)))
+
+all_in_piece : {X Y : Type 0} (P : Y → Type 0) (f : X → List Y) (xs : List X) (k : ℕ) (d : X) → All P (flat_map f xs) → k < length xs → All P (f (get_or xs k d))
+all_in_piece P f [] k d h lt = absurd (omega arith)
+all_in_piece P f (x ∷ xs) zero d h lt = all_left P (f x) (flat_map f xs) h
+all_in_piece P f (x ∷ xs) (suc k) d h lt = all_in_piece P f xs k d (all_right P (f x) (flat_map f xs) h) (omega arith)
+
+pub all_at_point : {Y : Type 0} (P : Y → Type 0) (f : ℕ → List Y) (n k : ℕ) → All P (flat_map f (range_with_len 0 n)) → k < n → All P (f k)
+all_at_point P f n k h lt =
+    let none : 0 + k ≡ k = omega arith in
+    let at : get_or (range_with_len 0 n) k 0 ≡ k = get_or-range_with_len 0 n k 0 lt ∙ none in
+    subst (λ m. All P (f m)) at (all_in_piece P f (range_with_len 0 n) k 0 h (omega (arith, length-range_with_len 0 n)))
 
 all_flat : {X Y : Type 0} (P : Y → Type 0) (f : X → List Y) (xs : List X) → ((k : ℕ) (d : X) → k < length xs → All P (f (get_or xs k d))) → All P (flat_map f xs)
 all_flat P f [] h = All-nil P
@@ -214,18 +247,22 @@ ranks_small area qs few inside k d lt =
     let below = rank_of-lt-count area (get_or qs k []) (inside k [] l) in
     omega (arith, at, below, few)
 
-told_places : (i : ItemTree) (qs : List (List ℤ)) (ranks : List ℕ) (columns : List (List Outcome)) (written : List (ℕ × Cell)) → ranks ≡ map (rank_of i.domain) qs → written ≡ cells_told ranks i.fields columns (length ranks) → written ≡ cells_told (map (rank_of i.domain) qs) i.fields columns (length qs)
-told_places i qs ranks columns written r w = w ∙ ap (λ l. cells_told l i.fields columns (length l)) r ∙ ap (cells_told (map (rank_of i.domain) qs) i.fields columns) (length-map qs (rank_of i.domain))
+-- the fields of an item that are Boolean, by its fields or by their views
+pub which_are_boolean : (fields : List Field) (own : List Bool) → own ≡ map (λ (f : Field). f.boolean) fields → own ≡ booleans_of (map field_view fields)
+which_are_boolean fields own is = is ∙ sym (map_map (λ (f : FieldBody). f.boolean) field_view fields)
 
-pub written_places : (i : ItemTree) (qs : List (List ℤ)) (ranks : List ℕ) (columns : List (List Outcome)) (written : List (ℕ × Cell)) → ranks ≡ map (rank_of i.domain) qs → length columns ≡ length i.fields → written ≡ cells_told ranks i.fields columns (length ranks)
+told_places : (i : ItemTree) (qs : List (List ℤ)) (ranks : List ℕ) (columns : List (List Outcome)) (written : List (ℕ × Cell)) → ranks ≡ map (rank_of i.domain) qs → written ≡ cells_told ranks (booleans_of i.fields) columns (length ranks) → written ≡ cells_told (map (rank_of i.domain) qs) (booleans_of i.fields) columns (length qs)
+told_places i qs ranks columns written r w = w ∙ ap (λ l. cells_told l (booleans_of i.fields) columns (length l)) r ∙ ap (cells_told (map (rank_of i.domain) qs) (booleans_of i.fields) columns) (length-map qs (rank_of i.domain))
+
+pub written_places : (i : ItemTree) (qs : List (List ℤ)) (ranks : List ℕ) (columns : List (List Outcome)) (written : List (ℕ × Cell)) → ranks ≡ map (rank_of i.domain) qs → length columns ≡ length i.fields → written ≡ cells_told ranks (booleans_of i.fields) columns (length ranks)
     → map (λ (w : ℕ × Cell). w.0) written ≡ flat_map (places_of i) qs
 written_places i qs ranks columns written r m w = ap (map (λ (w : ℕ × Cell). w.0)) (told_places i qs ranks columns written r w) ∙ places_all i qs columns m
 
-pub written_cells : (s : ℕ → ℕ → List ℤ → ℤ) (regs : List Outcome) (i : ItemTree) (qs : List (List ℤ)) (ranks : List ℕ) (columns : List (List Outcome)) (written : List (ℕ × Cell)) → ranks ≡ map (rank_of i.domain) qs → columns ≡ columns_behind s regs i.binds i.fields qs → written ≡ cells_told ranks i.fields columns (length ranks)
+pub written_cells : (s : ℕ → ℕ → List ℤ → ℤ) (regs : List Outcome) (i : ItemTree) (qs : List (List ℤ)) (ranks : List ℕ) (columns : List (List Outcome)) (written : List (ℕ × Cell)) → ranks ≡ map (rank_of i.domain) qs → columns ≡ columns_behind s regs i.binds i.fields qs → written ≡ cells_told ranks (booleans_of i.fields) columns (length ranks)
     → All (IsInside i.domain) qs → All (λ (w : ℕ × Cell). slice_get (all_cells s regs i) w.0 ≡ Some w.1) written
 written_cells s regs i qs ranks columns written r e w inside =
     subst (All (λ (w : ℕ × Cell). slice_get (all_cells s regs i) w.0 ≡ Some w.1))
-    (sym (told_places i qs ranks columns written r w ∙ ap (λ l. cells_told (map (rank_of i.domain) qs) i.fields l (length qs)) e ∙ cells_all s regs i qs))
+    (sym (told_places i qs ranks columns written r w ∙ ap (λ l. cells_told (map (rank_of i.domain) qs) (booleans_of i.fields) l (length qs)) e ∙ cells_all s regs i qs))
     (cells_right s regs i qs inside)
 
 pub told_rows : (s : ℕ → ℕ → List ℤ → ℤ) (regs : List Outcome) (i : ItemTree) (qs : List (List ℤ)) (ranks : List ℕ) (columns : List (List Outcome)) (width : ℕ) → ranks ≡ map (rank_of i.domain) qs → columns ≡ columns_behind s regs i.binds i.fields qs → width ≡ length i.fields

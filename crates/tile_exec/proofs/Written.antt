@@ -1,12 +1,11 @@
 -- Cells that are written at their places.
-use Rattle.std.proofs.Common.{◌≡◌, ◌≢◌, ℕ, zero, suc, ◌+◌, ◌<◌, List, [], ◌∷◌, ◌++◌, length, get_or, set, take, map, refl, sym, ap, ◌∙◌, subst, arith, Some, ◌⊎◌, inl, inr, append_assoc}
+use Rattle.std.proofs.Common.{◌≡◌, ◌≢◌, ℕ, zero, suc, ◌+◌, ◌<◌, List, [], ◌∷◌, ◌++◌, length, get_or, set, take, map, refl, sym, ap, ◌∙◌, subst, arith, Some, ◌⊎◌, inl, inr, append_assoc, append-nil, length-append}
 use Rattle.std.specs.Prelude.{slice_get}
-use Rattle.std.proofs.lemmas.List.{map-append}
+use Rattle.std.proofs.lemmas.List.{map-append, get_or-append-add, get_or_append_left}
 use Rattle.std.proofs.lemmas.Bool.{cases_lt}
 use Rattle.std.proofs.lemmas.List.Elements.{All-append, All-cons, All-nil}
 use Rattle.arr_core.specs.declared.cell.Cell.{Cell}
-use Rattle.tile_exec.specs.Items.{AreWritten}
-use Rattle.tile_columns.proofs.TileOrders.{take_more}
+use Rattle.tile_exec.specs.Items.{AreWritten, AreWrittenTo, ArePlaced, places_written}
 
 same_or : (m n : ℕ) → (m ≡ n) ⊎ (m ≢ n)
 same_or m n = elim (cases_lt m n) [ inl h ↦ inr (λ e. absurd (omega (arith, e, h))) | inr h ↦ elim (cases_lt n m) [ inl k ↦ inr (λ e. absurd (omega (arith, e, k))) | inr k ↦ inl (omega arith) ] ]
@@ -39,13 +38,32 @@ written_more all cells places p x lt at h =
     All-append P places (p ∷ []) (λ j d l. written_one all cells p (get_or places j d) x lt at (inl (h j d l)))
     (All-cons P p [] (written_one all cells p p x lt at (inr refl)) (All-nil P))
 
--- the places of one more cell
-pub places_more : (places : List ℕ) (written : List (ℕ × Cell)) (n : ℕ) (d : ℕ × Cell) → n < length written
-    → (places ++ map (λ (w : ℕ × Cell). w.0) (take n written)) ++ (get_or written n d).0 ∷ [] ≡ places ++ map (λ (w : ℕ × Cell). w.0) (take (n + 1) written)
-places_more places written n d lt =
-    let f = λ (w : ℕ × Cell). w.0 in
-    append_assoc places (map f (take n written)) (f (get_or written n d) ∷ [])
-    ∙ ap (λ l. places ++ l) (sym (ap (map f) (take_more n written d lt) ∙ map-append f (take n written) (get_or written n d ∷ [])))
+-- nothing is written
+pub written_none : (cells : List Cell) → AreWrittenTo cells cells []
+written_none cells all places placed was = subst (AreWritten all cells) (sym (append-nil places)) was
+
+-- one cell is written
+pub written_cell : (cells : List Cell) (p : ℕ) (x : Cell) → p < length cells → AreWrittenTo cells (set cells p x) ((p, x) ∷ [])
+written_cell cells p x lt all places placed was = written_more all cells places p x lt (placed 0 (p, x) (omega arith)) was
+
+placed_left : (all : List Cell) (xs ys : List (ℕ × Cell)) → ArePlaced all (xs ++ ys) → ArePlaced all xs
+placed_left all xs ys h k d lt =
+    let P : ℕ × Cell → Type 0 = λ w. slice_get all w.0 ≡ Some w.1 in
+    subst P (get_or_append_left xs ys d k lt) (h k d (omega (arith, length-append xs ys)))
+
+placed_right : (all : List Cell) (xs ys : List (ℕ × Cell)) → ArePlaced all (xs ++ ys) → ArePlaced all ys
+placed_right all xs ys h k d lt =
+    let P : ℕ × Cell → Type 0 = λ w. slice_get all w.0 ≡ Some w.1 in
+    subst P (get_or-append-add xs ys k d) (h (length xs + k) d (omega (arith, length-append xs ys)))
+
+-- cells are written, and then others
+pub written_then : (before between after : List Cell) (xs ys : List (ℕ × Cell)) → AreWrittenTo before between xs → AreWrittenTo between after ys
+    → AreWrittenTo before after (xs ++ ys)
+written_then before between after xs ys first then all places placed was =
+    let w = λ (w : ℕ × Cell). w.0 in
+    let one = first all places (placed_left all xs ys placed) was in
+    let both = then all (places ++ places_written xs) (placed_right all xs ys placed) one in
+    subst (AreWritten all after) (append_assoc places (map w xs) (map w ys) ∙ ap (λ l. places ++ l) (sym (map-append w xs ys))) both
 
 some_same : {X : Type 0} (x y : X) → Some x ≡ Some y → x ≡ y
 some_same x y e = cc

@@ -1,5 +1,5 @@
 -- What a unit finds, and what comes of it.
-use Rattle.std.specs.Prelude.{◌≡◌, ℕ, ◌+◌, ◌<◌, ◌≤◌, List, [], ◌∷◌, ◌++◌, length, vec_capacity, Option, Some, None, Bool, true, false}
+use Rattle.std.specs.Prelude.{◌≡◌, ℕ, ◌+◌, ◌^◌, ◌<◌, ◌≤◌, List, [], ◌∷◌, ◌++◌, length, vec_capacity, Option, Some, None, Bool, true, false}
 use Rattle.std.specs.List.{All, flat_map}
 use Rattle.arr_core.specs.declared.cell.Cell.{Cell}
 use Rattle.arr_core.specs.Domains.{points}
@@ -26,6 +26,8 @@ use Rattle.tile_columns.specs.declared.ground.Ground.{Ground}
 use Rattle.tile_columns.specs.Sources.{SourceState}
 use Rattle.tile_columns.specs.TileOrder.{tile_of}
 use Rattle.tile_exec.specs.Passes.{told_by_tile}
+use Rattle.tile_columns.specs.Fields.{HavePlaces}
+use Rattle.tile_exec.specs.Rows.{all_cells_told}
 use Rattle.tile_exec.specs.Items.{all_cells, told_to_item, places_of, places_written, ArePlaced, cell_count, IsFirstOf}
 use Rattle.tile_exec.specs.Standing.{StandsFor, IsSound, IsPartOf, plan_of, tasks_left, boxes_left}
 
@@ -38,10 +40,19 @@ IsLast false tile n = tile + 1 < n
 abbrev pub BeginsTile : ℕ → (List Told → Type 0) → (List Told → Type 0) → Type 0
 BeginsTile tile Was Is = (told : ℕ → List Told) → told 0 ≡ [] → (0 < tile → Was (told tile)) → Is (told tile)
 
--- the tile of an item: each place is a cell's, and a first tile brings the cells
+-- the cells that the columns of an item's tile tell, with their places
+abbrev pub cells_placed : ItemTile → List (ℕ × Cell)
+cells_placed x = all_cells_told x.places.items x.booleans.items x.columns.items
+
+-- the tile of an item: a column for each field with each point's outcome, each place is a cell's, and a first tile brings
+-- the cells
 pub record FitsItem (i : ItemTree) (tile : ℕ) (status : Status) (x : ItemTile) : Type 0 where
   pub giving : status ≡ Giving
-  pub below : All (λ (w : ℕ × Cell). w.0 < cell_count i) x.written.items
+  pub columns : length x.columns.items ≡ length x.booleans.items
+  pub there : HavePlaces (length x.places.items) x.columns.items
+  pub small : All (λ (r : ℕ). r < 2 ^ 24) x.places.items
+  pub few : length x.booleans.items < 2 ^ 32
+  pub below : All (λ (w : ℕ × Cell). w.0 < cell_count i) (cells_placed x)
   pub fresh : tile ≡ 0 → length x.fresh.items ≡ cell_count i
   pub line : x.line ≡ line_of i.domain
   pub fields : x.fields ≡ field_count (length i.fields)
@@ -77,8 +88,8 @@ Fits e (t ∷ tasks) last x = FitsUnit e.tile e.status t.part last x
 
 -- the cells and the first fault of a tile of an item
 pub record TellsItem (s : Cells) (regs : List Outcome) (i : ItemTree) (t : ℕ) (x : ItemTile) : Type 0 where
-  pub places : places_written x.written.items ≡ flat_map (places_of i) (points (tile_of i.domain t))
-  pub cells : ArePlaced (all_cells s regs i) x.written.items
+  pub places : places_written (cells_placed x) ≡ flat_map (places_of i) (points (tile_of i.domain t))
+  pub cells : ArePlaced (all_cells s regs i) (cells_placed x)
   pub first : IsFirstOf x.first (flat_map (told_to_item s regs i) (points (tile_of i.domain t)))
 
 -- what is found is that of the tile at hand

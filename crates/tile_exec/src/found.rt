@@ -2,14 +2,17 @@
 
 use crate::task::First;
 use arr_core::Cell;
-use tile_kernel::Accumulator;
+use tile_kernel::{Accumulator, Column};
 use wcps_mean::Outcome;
 
-/// A tile of an item: the cells with their places, and the first fault. What a run along the last axis has, and how many
-/// fields, are those of the item. A first tile brings room for the item's cells.
+/// A tile of an item: the columns of its fields, the places of its points, which fields are Boolean, and the first fault.
+/// What a run along the last axis has, and how many fields, are those of the item. A first tile brings room for the
+/// item's cells.
 #[derive(Drop)]
 pub(crate) struct ItemTile {
-    pub written: Vec<(u64, Cell)>,
+    pub columns: Vec<Column>,
+    pub places: Vec<u64>,
+    pub booleans: Vec<bool>,
     pub first: First,
     pub fresh: Vec<Cell>,
     pub line: u64,

@@ -1,9 +1,10 @@
 //! A tile of an item.
 
-ghost use Rattle.std.specs.Prelude.{◌≡◌, ◌*◌, ◌<◌, ◌^◌, length, IfOk};
+ghost use Rattle.std.specs.Prelude.{◌≡◌, ◌*◌, ◌<◌, ◌^◌, length, map, IfOk};
 ghost use Rattle.arr_core.specs.Domains.{count};
 ghost use Rattle.arr_core.specs.Tiles.{tile_boxes};
 ghost use Rattle.wcps_mean.specs.Answer.{field_count};
+ghost use Rattle.plan_ir.specs.declared.plan.Field.{Field};
 ghost use Rattle.plan_ir.specs.Plans.{item_view};
 ghost use Rattle.tile_columns.specs.Sources.{OnlyReads, Tells};
 ghost use Rattle.tile_exec.specs.declared.found.Found.{Found};
@@ -13,7 +14,7 @@ ghost use Rattle.tile_exec.specs.Fetching.{as_item, IsPartOver, FetchesTile};
 
 use crate::column::columns_over;
 use crate::found::ItemTile;
-use crate::row::tell_points;
+use crate::row::first_fault;
 use crate::workspace::Workspace;
 use arr_core::Cell;
 use plan_ir::{Field, Item};
@@ -48,18 +49,32 @@ pub(crate) fn item_tile<S: Tiles>(
     let alloc = workspace.memory.alloc;
     let part = item.domain.tile_box(alloc, tile)?;
     let _axes = part.axes();
-    ranks(&mut workspace.places, &item.domain, &part)?;
+    let mut places = mem::replace(&mut workspace.places, Vec::new(alloc));
+    ranks(&mut places, &item.domain, &part)?;
     let columns = columns_over(&mut workspace.memory, source, ground, item, &part)?;
-    let mut written = mem::replace(&mut workspace.written, Vec::new(alloc));
-    written.clear();
-    let first = tell_points(&workspace.places, &item.fields, &columns, &mut written)?;
+    let booleans = booleans_of(alloc, &item.fields)?;
+    let fresh = fresh_cells(alloc, item, tile)?;
+    let first = first_fault(&places, &columns);
     Ok(ItemTile {
-        written,
+        columns,
+        places,
+        booleans,
         first,
-        fresh: fresh_cells(alloc, item, tile)?,
+        fresh,
         line: run_length(item.domain.axes()),
         fields: count_of(&item.fields),
     })
+}
+
+/// Which fields are Boolean.
+fn booleans_of(alloc: Global, fields: &[Field]) -> Result<Vec<bool>, AllocError>
+    ensures { IfOk result (λ v. v.items ≡ map (λ (f : Field). f.boolean) fields.now) }
+{
+    let mut booleans = Vec::new(alloc);
+    for field in fields {
+        booleans.push(field.boolean)?;
+    }
+    Ok(booleans)
 }
 
 /// Room for all cells of an item at its first tile, else none.

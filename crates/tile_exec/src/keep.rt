@@ -1,19 +1,19 @@
 //! What a unit found is kept. It takes no memory.
 
-ghost use Rattle.std.specs.Prelude.{◌≡◌, ℕ, Bool, ◌+◌, ◌<◌, ◌≤◌, ◌^◌, [], ◌∷◌, ◌++◌, length, vec_capacity, All, slice_set};
-ghost use Rattle.arr_core.specs.declared.cell.Cell.{Cell};
+ghost use Rattle.std.specs.Prelude.{◌≡◌, ℕ, Bool, ◌+◌, ◌<◌, ◌≤◌, ◌^◌, [], ◌∷◌, ◌++◌, length, vec_capacity};
 ghost use Rattle.wcps_text.specs.declared.operator.Aggregate.{Aggregate};
 ghost use Rattle.wcps_mean.specs.declared.cell.Outcome.{Outcome};
 ghost use Rattle.tile_kernel.specs.Joins.{HoldsOfBoth};
 ghost use Rattle.tile_kernel.specs.Standing.{Stands};
 ghost use Rattle.tile_exec.specs.declared.task.Status.{Status};
 ghost use Rattle.tile_exec.specs.declared.found.Found.{Found};
-ghost use Rattle.tile_exec.specs.Items.{AreWrittenTo, IsFirstOf};
+ghost use Rattle.tile_exec.specs.Items.{IsFirstOf};
 ghost use Rattle.tile_exec.specs.Progress.{after_condition};
 ghost use Rattle.tile_exec.specs.Standing.{IsSound, tasks_left};
 ghost use Rattle.tile_exec.specs.Units.{Fits, IsNotGiven, AfterSkipped, BeginsTile, Gives, Keeps};
 
 use crate::found::{Found, ItemTile, Unit};
+use crate::row::write_points;
 use crate::state::State;
 use crate::task::{First, Status};
 use arr_core::Cell;
@@ -87,25 +87,6 @@ fn begin_first(first: First, tile: u64) -> First
         };
     }
     first
-}
-
-/// Writes a cell.
-fn write_cell(cells: &mut Vec<Cell>, place: u64, cell: Cell)
-    requires { place < length cells.old.items }
-    ensures { cells.new.items ≡ slice_set cells.old.items place cell }
-{
-    cells[place as usize] = cell;
-}
-
-/// Writes cells at their places.
-fn write_cells(cells: &mut Vec<Cell>, written: &[(u64, Cell)])
-    requires below { All (λ (w : ℕ × Cell). w.0 < length cells.old.items) written.now }
-    ensures length { length cells.new.items ≡ length cells.old.items }
-    ensures written { AreWrittenTo cells.old.items cells.new.items written.now }
-{
-    for (place, cell) in written {
-        write_cell(cells, *place, *cell);
-    }
 }
 
 /// The cells before a tile: those of the tiles before it, or fresh ones before the first tile.
@@ -212,15 +193,17 @@ impl State {
         ensures { Keeps self.old self.new (Found.Item found) }
     {
         let ItemTile {
-            written,
+            columns,
+            places,
+            booleans,
             first,
             fresh,
             line,
             fields,
         } = found;
         begin_cells(&mut self.cells, self.tile, fresh);
-        write_cells(&mut self.cells, &written);
-        self.workspace.take_back(written);
+        write_points(&mut self.cells, &places, &booleans, &columns);
+        self.workspace.take_back(places);
         self.first = least_first(begin_first(self.first, self.tile), first);
         self.left -= 1;
         if last {

@@ -1,6 +1,5 @@
 //! What units work in.
 
-use arr_core::Cell;
 use std::alloc::{AllocError, Global};
 use std::marker::Model;
 use tile_columns::Scratch;
@@ -24,8 +23,6 @@ pub(crate) struct Workspace {
     pub chosen: Column,
     /// The outcomes of a body.
     pub column: Column,
-    /// The cells of an item's tile with their places, between two units.
-    pub written: Vec<(u64, Cell)>,
 }
 
 impl Model for Workspace {
@@ -48,12 +45,11 @@ impl Workspace {
             places: Vec::new(alloc),
             chosen,
             column,
-            written: Vec::new(alloc),
         })
     }
 
-    /// Takes back the list for the cells of an item's tile.
-    pub fn take_back(&mut self, written: Vec<(u64, Cell)>) {
-        self.written = written;
+    /// Takes back the list for the places of a tile's points.
+    pub fn take_back(&mut self, places: Vec<u64>) {
+        self.places = places;
     }
 }

@@ -1,0 +1,10 @@
+use Rattle.std.proofs.Common.{◌≡◌, length}
+use Rattle.tile_exec.specs.Items.{AreWrittenTo}
+use Rattle.tile_exec.specs.Rows.{cells_told}
+use Rattle.tile_exec.proofs.row.write_points.Given as goal
+
+abbrev pub invariant-loop-k : goal.invariant-loop-k
+invariant-loop-k l = record {
+  length : length l.cells.items ≡ length l.fn.cells.items;
+  written : AreWrittenTo l.fn.cells.items l.cells.items (cells_told l.ranks l.booleans l.columns l.k);
+}
