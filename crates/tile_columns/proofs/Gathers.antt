@@ -115,7 +115,7 @@ added_grows : (seen : List ℕ) (n : ℕ) (b : Bool) → length seen ≤ length 
 added_grows seen n true = omega arith
 added_grows seen n false = omega (arith, length-append seen (n ∷ []))
 
-grows : (seen ns : List ℕ) → length seen ≤ length (distinct_after seen ns)
+pub grows : (seen ns : List ℕ) → length seen ≤ length (distinct_after seen ns)
 grows seen [] = omega arith
 grows seen (n ∷ ns) = omega (arith, grows (added seen n) ns, added_grows seen n (list_any (λ m. nat_eq m n) seen))
 

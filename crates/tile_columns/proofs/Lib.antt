@@ -4,6 +4,9 @@ pub mod Turns
 pub mod Turning
 pub mod Locating
 pub mod Gathers
+pub mod Distinct
+pub mod InOrder
+pub mod Picking
 pub mod Placing
 pub mod Bindings
 pub mod Reorders

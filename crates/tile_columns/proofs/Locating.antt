@@ -127,6 +127,15 @@ cell_there axes n p s cells h e c =
     ∙ get_or-map s (points (box_at (edge_of (length axes)) axes (tile_at (edge_of (length axes)) axes p))) (rank_in_tile axes p) [] (pos 0) lt
     ∙ ap s (at_rank (box_at (edge_of (length axes)) axes (tile_at (edge_of (length axes)) axes p)) p [] inside)
 
+-- the point that stands at its rank in the box of its tile, and its rank
+pub point_there : (axes : List Axis) (n : ℕ) (p : List ℤ) → IsInside axes p → n ≡ tile_number axes p → get_or (points (get_or (tile_boxes axes) n [])) (rank_in_tile axes p) [] ≡ p
+point_there axes n p h e =
+    ap (λ b. get_or (points b) (rank_in_tile axes p) []) (own_box axes n p h e)
+    ∙ at_rank (box_at (edge_of (length axes)) axes (tile_at (edge_of (length axes)) axes p)) p [] (at-box (edge_of (length axes)) axes p (edge-some (length axes)) h)
+
+pub rank_there : (axes : List Axis) (n : ℕ) (p : List ℤ) → IsInside axes p → n ≡ tile_number axes p → rank_in_tile axes p < count (get_or (tile_boxes axes) n [])
+rank_there axes n p h e = omega (arith, ap count (own_box axes n p h e), rank_below axes p h)
+
 -- a tile of what is read
 pub tile_here : (o : Option Signature) (field n : ℕ) (domain : List Axis) → IsRead o field domain → n < length (tile_boxes domain) → HasTile o field n × (box_of o n ≡ get_or (tile_boxes domain) n [])
 tile_here None field n domain h lt = absurd h

@@ -1,7 +1,7 @@
 -- Cells that are gathered tile by tile.
-use Rattle.std.specs.Prelude.{◌≡◌, ◌≢◌, ℕ, ◌+◌, ◌<◌, ◌≤◌, nat_eq, ℤ, pos, List, [], length, true, slice_index_or}
+use Rattle.std.specs.Prelude.{◌≡◌, ◌≢◌, ℕ, ◌+◌, ◌<◌, nat_eq, ℤ, pos, List, [], length, take, true, slice_index_or}
 use Rattle.std.specs.List.{list_any}
-use Rattle.plan_ir.specs.Units.{added}
+use Rattle.plan_ir.specs.Units.{distinct}
 use Rattle.tile_columns.specs.declared.gather.Reading.{Reading}
 use Rattle.tile_columns.specs.declared.scratch.Scratch.{Scratch}
 use Rattle.tile_columns.specs.Sources.{SourceState}
@@ -27,22 +27,21 @@ pub record IsLocated (r : Reading) (envs : List (List ℤ)) (s : Scratch) : Type
   pub ranks : s.ranks.items ≡ ranks_of r envs
   pub cells : length s.cells.items ≡ length envs
 
--- the scratch has the cells of the tiles that have been seen
-abbrev pub HasGathered : {K : Type 0} → SourceState K → Reading → List (List ℤ) → Scratch → Type 0
-HasGathered s r envs scratch =
-    (j : ℕ) → j < length scratch.numbers.items → IsSeen scratch.seen.items (slice_index_or scratch.numbers.items j 0) → slice_index_or scratch.cells.items j (pos 0) ≡ cell_read s r (slice_index_or envs j [])
+-- the different tiles of the places are listed, and more than k of them
+abbrev pub AreListed : Reading → List (List ℤ) → Scratch → Type 0
+AreListed r envs s = s.seen.items ≡ distinct (tiles_of r envs)
 
--- if it has them before a call, it has them after it, those of a further tile too
-abbrev pub KeepsGathered : {K : Type 0} → SourceState K → Reading → List (List ℤ) → Scratch → Scratch → Type 0
-KeepsGathered s r envs old new = s.intact → HasGathered s r envs old → HasGathered s r envs new
+abbrev pub IsListed : Reading → List (List ℤ) → ℕ → Scratch → Type 0
+IsListed r envs k s = (k < length s.seen.items) × AreListed r envs s
 
--- the tile of a place has been seen as well
-abbrev pub SeesTile : ℕ → Scratch → Scratch → Type 0
-SeesTile place old new = new.seen.items ≡ added old.seen.items (slice_index_or old.numbers.items place 0)
+-- the scratch has the cells of the first n of the tiles that are listed
+abbrev pub HasGathered : {K : Type 0} → SourceState K → Reading → List (List ℤ) → ℕ → Scratch → Type 0
+HasGathered s r envs n scratch =
+    (j : ℕ) → j < length scratch.numbers.items → IsSeen (take n scratch.seen.items) (slice_index_or scratch.numbers.items j 0) → slice_index_or scratch.cells.items j (pos 0) ≡ cell_read s r (slice_index_or envs j [])
 
--- a call fetches no more tiles than it adds to those that have been seen
-abbrev pub FetchesUnseen : {K : Type 0} → Scratch → Scratch → SourceState K → SourceState K → Type 0
-FetchesUnseen before after old new = new.fetched + length before.seen.items ≤ old.fetched + length after.seen.items
+-- if it has them before a call, it has those of the next tile too after it
+abbrev pub KeepsGathered : {K : Type 0} → SourceState K → Reading → List (List ℤ) → ℕ → Scratch → Scratch → Type 0
+KeepsGathered s r envs n old new = s.intact → HasGathered s r envs n old → HasGathered s r envs (n + 1) new
 
 -- the cells of the tile that was fetched were written at the places whose tile it is, and nothing else has changed
 pub record WritesTile (number : ℕ) (old new : Scratch) : Type 0 where

@@ -2,7 +2,9 @@ pub mod Frames
 pub mod Sources
 pub mod Locating
 pub mod Readings
+pub mod Spots
 pub mod Gathering
+pub mod Stretches
 pub mod Tables
 pub mod Evaluating
 pub mod Meaning

@@ -68,3 +68,8 @@ box_in s coverage tile = box_of (slice_get s.coverages coverage) tile
 abbrev pub AreOfTile : {K : Type 0} → SourceState K → ℕ → ℕ → ℕ → List ℤ → Type 0
 AreOfTile s coverage field tile cells =
     s.intact → cells ≡ map (s.cells coverage field) (points (box_in s coverage tile))
+
+-- cells are those of a tile at ranks in its box
+abbrev pub ArePicked : {K : Type 0} → SourceState K → ℕ → ℕ → ℕ → List ℕ → List ℤ → Type 0
+ArePicked s coverage field tile ranks cells =
+    s.intact → cells ≡ map (λ r. s.cells coverage field (slice_index_or (points (box_in s coverage tile)) r [])) ranks

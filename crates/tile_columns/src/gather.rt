@@ -1,23 +1,28 @@
-//! Reads at all places of a column: each tile that holds a cell of it is fetched once.
+//! Reads at all places of a column: each tile that holds a cell of it is fetched once. Where the places read few tiles,
+//! one tile after the other is copied to all places that read it; else the places are put in the order of their tiles.
 
-ghost use Rattle.std.specs.Prelude.{◌≡◌, ◌≢◌, ◌<◌, ◌≤◌, pos, ◌++◌, ◌∷◌, [], length, map, slice_index_or, nat_eq, IsTrue, IfSome, IfOk, OnOk};
-ghost use Rattle.std.specs.List.{list_any};
+ghost use Rattle.std.specs.Prelude.{◌≡◌, ◌≢◌, ◌<◌, ◌≤◌, pos, length, map, slice_index_or, IfSome, IfOk, OnOk};
 ghost use Rattle.wcps_mean.specs.declared.cell.Outcome.TheVariants.{Value};
-ghost use Rattle.tile_columns.specs.Sources.{OnlyReads, Tells, FetchesOnce};
+ghost use Rattle.tile_columns.specs.Sources.{OneMore, OnlyReads, Tells, FetchesOnce};
 ghost use Rattle.tile_columns.specs.Readings.{IsThere, ReadsInside, ReadsWhole, tiles_of, AreCellsRead, IsColumnRead};
-ghost use Rattle.tile_columns.specs.Gathering.{IsSeen, HasRanks, CopiesTile, IsLocated, KeepsGathered, SeesTile, FetchesUnseen, WritesTile};
+ghost use Rattle.tile_columns.specs.Gathering.{HasRanks, CopiesTile, IsLocated, AreListed, IsListed, KeepsGathered, WritesTile};
 
+use crate::different::list_tiles;
 use crate::frame::Frame;
 use crate::locate::{Located, locate};
 use crate::lookup::point_at;
 use crate::numbers::fill_list;
 use crate::scratch::Scratch;
 use crate::source::Tiles;
+use crate::stretches::{FEW, gather_stretches};
 use arr_core::Domain;
 use plan_ir::Index;
 use std::alloc::AllocError;
 use tile_kernel::{Column, MAX_PLACES};
 use wcps_mean::CellError;
+
+/// How many different tiles are copied one after the other, each to all places that read it.
+const MOST_TILES: usize = 8;
 
 /// What is read: a coverage of the plan and a field, by their places, the coverage's domain, and an index for each axis.
 #[derive(Clone, Copy)]
@@ -26,34 +31,6 @@ pub struct Reading<'a> {
     pub field: usize,
     pub domain: &'a Domain,
     pub indexes: &'a [Index],
-}
-
-/// Whether a number is in the list; the last one is looked at first.
-fn is_seen(seen: &[u64], number: u64) -> bool
-    ensures { result ≡ list_any (λ m. nat_eq m number) seen.now }
-{
-    if ends_with(seen, number) {
-        return true;
-    }
-    seen.iter().any(|m| *m == number)
-}
-
-/// Whether a list ends with a number.
-fn ends_with(seen: &[u64], number: u64) -> bool
-    ensures { IsTrue result → IsSeen seen.now number }
-{
-    match seen {
-        [] => false,
-        [.., last] => *last == number,
-    }
-}
-
-/// Puts a number at the end of a list.
-fn push_number(numbers: &mut Vec<u64>, number: u64) -> Result<(), AllocError>
-    ensures { OnOk result (numbers.new.items ≡ numbers.old.items ++ number ∷ []) }
-{
-    numbers.push(number)?;
-    Ok(())
 }
 
 /// The cell of a place if its tile is this one, else the cell that was there.
@@ -85,32 +62,28 @@ fn copy_tile(numbers: &[u64], ranks: &[u64], number: u64, tile: &[i64], cells: &
     }
 }
 
-/// Fetches the tile of a place, if it has not been, and writes the cells of all places whose tile it is.
-fn fetch_at<S: Tiles>(
+/// Fetches one of the tiles that are listed, and writes the cells of all places whose tile it is.
+fn fetch_listed<S: Tiles>(
     source: &mut S,
     reading: &Reading<'_>,
     frame: &Frame,
-    place: usize,
+    k: usize,
     scratch: &mut Scratch,
 ) -> Result<(), CellError>
     requires there { IsThere (S.state source.old) reading.now }
     requires inside { ReadsInside reading.now frame.now }
-    requires place { place < length frame.now }
     requires located { IsLocated reading.now frame.now scratch.old }
-    ensures value { OnOk result (KeepsGathered (S.state source.old) reading.now frame.now scratch.old scratch.new) }
+    requires listed { IsListed reading.now frame.now k scratch.old }
+    ensures value { OnOk result (KeepsGathered (S.state source.old) reading.now frame.now k scratch.old scratch.new) }
     ensures located { OnOk result (IsLocated reading.now frame.now scratch.new) }
-    ensures seen { OnOk result (SeesTile place scratch.old scratch.new) }
-    ensures fetched { OnOk result (FetchesUnseen scratch.old scratch.new (S.state source.old) (S.state source.new)) }
+    ensures listed { OnOk result (scratch.new.seen.items ≡ scratch.old.seen.items) }
+    ensures fetched { OnOk result (OneMore (S.state source.old).fetched (S.state source.new).fetched) }
     ensures reads { OnlyReads (S.state source.old) (S.state source.new) }
     ensures reports { Tells S.spelled result (S.state source.old) (S.state source.new) }
 {
-    let number = scratch.numbers[place];
-    if is_seen(&scratch.seen, number) {
-        return Ok(());
-    }
+    let number = scratch.seen[k];
     source.tile(reading.coverage, reading.field, number, &mut scratch.tile)?;
     copy_fetched(number, scratch);
-    push_number(&mut scratch.seen, number)?;
     Ok(())
 }
 
@@ -130,6 +103,30 @@ fn copy_fetched(number: u64, scratch: &mut Scratch)
     );
 }
 
+/// Makes scratch cells those that are read at each place, of tiles that are listed.
+fn gather_listed<S: Tiles>(
+    source: &mut S,
+    reading: &Reading<'_>,
+    frame: &Frame,
+    scratch: &mut Scratch,
+) -> Result<(), CellError>
+    requires there { IsThere (S.state source.old) reading.now }
+    requires inside { ReadsInside reading.now frame.now }
+    requires located { IsLocated reading.now frame.now scratch.old }
+    requires listed { AreListed reading.now frame.now scratch.old }
+    ensures value { OnOk result (AreCellsRead (S.state source.old) reading.now frame.now scratch.new.cells.items) }
+    ensures places { OnOk result (length scratch.new.cells.items ≡ length frame.now) }
+    ensures reads { OnlyReads (S.state source.old) (S.state source.new) }
+    ensures reports { Tells S.spelled result (S.state source.old) (S.state source.new) }
+    ensures fetched { OnOk result (FetchesOnce (tiles_of reading.now frame.now) (S.state source.old) (S.state source.new)) }
+{
+    let tiles = scratch.seen.len();
+    for k in 0..tiles {
+        fetch_listed(source, reading, frame, k, scratch)?;
+    }
+    Ok(())
+}
+
 /// Makes scratch cells those that are read at each place.
 fn gather<S: Tiles>(
     source: &mut S,
@@ -147,10 +144,12 @@ fn gather<S: Tiles>(
 {
     locate(reading, frame, scratch)?;
     fill_list(frame.places(), 0, &mut scratch.cells)?;
-    scratch.seen.clear();
-    for place in 0..frame.places() {
-        fetch_at(source, reading, frame, place, scratch)?;
+    let most = MOST_TILES.min(frame.places() / FEW);
+    if list_tiles(&scratch.numbers, most, &mut scratch.seen)? {
+        gather_listed(source, reading, frame, scratch)?;
+        return Ok(());
     }
+    gather_stretches(source, reading, frame, scratch)?;
     Ok(())
 }
 
@@ -187,9 +186,9 @@ fn put(cells: &mut Vec<i64>, out: &mut Column)
     out.write(cells);
 }
 
-/// Makes `out` the cells that are read at each place. Each tile that holds one of them is fetched once, in the order of
-/// the places, and one tile is held at a time; where the indexes go over the box of a tile, its cells are the column. What
-/// the source reports passes through.
+/// Makes `out` the cells that are read at each place. Each tile that holds one of them is fetched once, whole or in part,
+/// and one tile is held at a time; where the indexes go over the box of a tile, its cells are the column. What the source
+/// reports passes through.
 pub fn read<S: Tiles>(
     source: &mut S,
     reading: &Reading<'_>,

@@ -5,6 +5,7 @@
 mod binds;
 mod blanks;
 mod bodies;
+mod different;
 mod fields;
 mod folds;
 mod frame;
@@ -17,6 +18,8 @@ mod part;
 mod scratch;
 mod shapes;
 mod source;
+mod spots;
+mod stretches;
 mod zones;
 
 pub use bodies::evaluate;

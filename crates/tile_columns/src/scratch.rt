@@ -1,5 +1,6 @@
 //! Lists and columns that reads and operations write to, one after the other.
 
+use crate::spots::Spot;
 use std::alloc::{AllocError, Global};
 use tile_kernel::Column;
 use wcps_mean::Outcome;
@@ -15,6 +16,9 @@ pub struct Scratch {
     pub(crate) numbers: Vec<u64>,
     pub(crate) ranks: Vec<u64>,
     pub(crate) seen: Vec<u64>,
+    pub(crate) spots: Vec<Spot>,
+    pub(crate) wanted: Vec<u64>,
+    pub(crate) picked: Vec<i64>,
     pub(crate) point: Vec<i32>,
     pub(crate) outcomes: Vec<Outcome>,
     spare: Vec<Column>,
@@ -31,6 +35,9 @@ impl Scratch {
             numbers: Vec::new(alloc),
             ranks: Vec::new(alloc),
             seen: Vec::new(alloc),
+            spots: Vec::new(alloc),
+            wanted: Vec::new(alloc),
+            picked: Vec::new(alloc),
             point: Vec::new(alloc),
             outcomes: Vec::new(alloc),
             spare: Vec::new(alloc),

@@ -1,12 +1,13 @@
 //! Where tiles come from.
 
-ghost use Rattle.std.specs.Prelude.{◌≡◌, slice_get, length, OnOk};
+ghost use Rattle.std.specs.Prelude.{◌≡◌, ◌<◌, slice_get, length, OnOk};
+ghost use Rattle.std.specs.List.{All};
 ghost use Rattle.arr_core.specs.Domains.{count};
-ghost use Rattle.tile_columns.specs.Sources.{SourceState, OneMore, HasTile, box_in, AreOfTile, OnlyReads, Tells};
+ghost use Rattle.tile_columns.specs.Sources.{SourceState, OneMore, HasTile, box_in, AreOfTile, ArePicked, OnlyReads, Tells};
 
 use wcps_mean::CellError;
 
-/// What gives the cells of a plan's coverages, a tile at a time.
+/// What gives the cells of a plan's coverages, a tile or some cells of one at a time.
 pub trait Tiles {
     /// What calls leave as it is, beside coverages and cells.
     ghost Kept: { Type 0 } = { Unit {0} };
@@ -34,7 +35,24 @@ pub trait Tiles {
         ensures reads { OnlyReads (state self.old) (state self.new) }
         ensures reports { Tells spelled result (state self.old) (state self.new) };
 
-    /// How many tiles were fetched, in a `u64`, which stays at its last value.
+    /// Makes `cells` those of a tile at ranks in its box, one for each rank, in their order. Refused as `tile` is.
+    fn pick(
+        &mut self,
+        coverage: usize,
+        field: usize,
+        tile: u64,
+        ranks: &[u64],
+        cells: &mut Vec<i64>,
+    ) -> Result<(), CellError>
+        requires tile { HasTile (slice_get (state self.old).coverages coverage) field tile }
+        requires ranks { All (λ r. r < count (box_in (state self.old) coverage tile)) ranks.now }
+        ensures value { OnOk result (ArePicked (state self.old) coverage field tile ranks.now cells.new.items) }
+        ensures places { OnOk result (length cells.new.items ≡ length ranks.now) }
+        ensures fetched { OnOk result (OneMore (state self.old).fetched (state self.new).fetched) }
+        ensures reads { OnlyReads (state self.old) (state self.new) }
+        ensures reports { Tells spelled result (state self.old) (state self.new) };
+
+    /// How many tiles were fetched, whole or in part, in a `u64`, which stays at its last value.
     fn count(&self) -> u64
         ensures { result ≡ (state self.now).fetched };
 }

@@ -1,21 +1,21 @@
--- A tile that has not been seen is fetched, and the cells of all its places are written.
-use Rattle.std.proofs.Common.{◌≡◌, ◌∙◌, ◌++◌, ◌∷◌, ◌<◌, ap, sym, subst, arith, length, map, get_or, [], pos}
+-- A tile is fetched, and the cells of all its places are written.
+use Rattle.std.proofs.Common.{◌≡◌, ◌+◌, ◌∙◌, ◌++◌, ◌∷◌, ◌<◌, ap, sym, subst, arith, length, map, get_or, take, [], pos}
 use Rattle.std.specs.Prelude.{slice_get}
-use Rattle.std.proofs.lemmas.List.{length-map, get_or-map}
+use Rattle.std.proofs.lemmas.List.{length-map, get_or-map, take_more}
 use Rattle.arr_core.specs.Domains.{points, count}
 use Rattle.plan_ir.specs.Run.{numbers_at}
 use Rattle.plan_ir.specs.Units.{tile_number}
 use Rattle.tile_columns.specs.Locating.{rank_in_tile}
 use Rattle.tile_columns.proofs.Ranges.{at_same}
 use Rattle.tile_columns.proofs.Gathers.{Gathered, number_of_place, gathered_more}
-use Rattle.tile_columns.proofs.Locating.{tile_within, rank_within, cell_there, tile_here}
-use Rattle.tile_columns.proofs.gather.fetch_at.Goals as goal
+use Rattle.tile_columns.proofs.Picking.{listed_within}
+use Rattle.tile_columns.proofs.Locating.{rank_within, cell_there, tile_here}
+use Rattle.tile_columns.proofs.gather.fetch_listed.Goals as goal
 
 pub tile-requires : goal.tile-requires
 tile-requires g c =
-    let e = number_of_place (λ e. tile_number c.args.reading.now.domain.now (numbers_at e c.args.reading.now.indexes.now)) c.args.frame.now [] c.args.scratch.now.numbers.items c.index-number.result.now c.args.place c.requires.located.tiles c.index-number.ensures c.requires.place in
-    let lt = tile_within c.args.reading.now.domain.now c.index-number.result.now (numbers_at (get_or c.args.frame.now c.args.place []) c.args.reading.now.indexes.now) (c.requires.inside c.args.place [] c.requires.place) e in
-    (tile_here (slice_get (g.S.Tiles.state c.args.source.now).coverages c.args.reading.now.coverage) c.args.reading.now.field c.index-number.result.now c.args.reading.now.domain.now c.requires.there lt).0
+    let below = listed_within c.args.reading.now.domain.now c.args.reading.now.indexes.now c.args.frame.now c.args.scratch.now.seen.items c.args.k c.index-number.result.now c.requires.inside c.requires.listed.1 c.requires.listed.0 c.index-number.ensures in
+    (tile_here (slice_get (g.S.Tiles.state c.args.source.now).coverages c.args.reading.now.coverage) c.args.reading.now.field c.index-number.result.now c.args.reading.now.domain.now c.requires.there below).0
 
 pub copy_fetched-requires-clause-ranks : goal.copy_fetched-requires-clause-ranks
 copy_fetched-requires-clause-ranks g c =
@@ -35,22 +35,20 @@ copy_fetched-requires-clause-inside g c = λ j l e.
     ap (λ xs. get_or xs j 0) c.requires.located.ranks ∙ get_or-map (λ e. rank_in_tile c.args.reading.now.domain.now (numbers_at e c.args.reading.now.indexes.now)) c.args.frame.now j [] 0 lt in
     let here = number_of_place (λ e. tile_number c.args.reading.now.domain.now (numbers_at e c.args.reading.now.indexes.now)) c.args.frame.now [] c.args.scratch.now.numbers.items c.index-number.result.now j c.requires.located.tiles (sym (at_same c.args.scratch.now.numbers.items j c.index-number.result.now 0 l ∙ e)) lt in
     let inside = c.requires.inside j [] lt in
-    let first = number_of_place (λ e. tile_number c.args.reading.now.domain.now (numbers_at e c.args.reading.now.indexes.now)) c.args.frame.now [] c.args.scratch.now.numbers.items c.index-number.result.now c.args.place c.requires.located.tiles c.index-number.ensures c.requires.place in
-    let below = tile_within c.args.reading.now.domain.now c.index-number.result.now (numbers_at (get_or c.args.frame.now c.args.place []) c.args.reading.now.indexes.now) (c.requires.inside c.args.place [] c.requires.place) first in
+    let below = listed_within c.args.reading.now.domain.now c.args.reading.now.indexes.now c.args.frame.now c.args.scratch.now.seen.items c.args.k c.index-number.result.now c.requires.inside c.requires.listed.1 c.requires.listed.0 c.index-number.ensures in
     let box = (tile_here (slice_get (g.S.Tiles.state c.args.source.now).coverages c.args.reading.now.coverage) c.args.reading.now.field c.index-number.result.now c.args.reading.now.domain.now c.requires.there below).1 in
     omega (arith, r, rank_within c.args.reading.now.domain.now c.index-number.result.now (numbers_at (get_or c.args.frame.now j []) c.args.reading.now.indexes.now) c.tile.new.buffer.items inside here (c.in_ok-tile.ensures.places ∙ ap count box))
 
 pub returns-clause-value : goal.returns-clause-value
 returns-clause-value g c = λ i h.
     let n : length c.args.scratch.now.numbers.items ≡ length c.args.frame.now = ap length c.requires.located.tiles ∙ length-map c.args.frame.now (λ e. tile_number c.args.reading.now.domain.now (numbers_at e c.args.reading.now.indexes.now)) in
-    let first = number_of_place (λ e. tile_number c.args.reading.now.domain.now (numbers_at e c.args.reading.now.indexes.now)) c.args.frame.now [] c.args.scratch.now.numbers.items c.index-number.result.now c.args.place c.requires.located.tiles c.index-number.ensures c.requires.place in
-    let below = tile_within c.args.reading.now.domain.now c.index-number.result.now (numbers_at (get_or c.args.frame.now c.args.place []) c.args.reading.now.indexes.now) (c.requires.inside c.args.place [] c.requires.place) first in
+    let below = listed_within c.args.reading.now.domain.now c.args.reading.now.indexes.now c.args.frame.now c.args.scratch.now.seen.items c.args.k c.index-number.result.now c.requires.inside c.requires.listed.1 c.requires.listed.0 c.index-number.ensures in
     let box = (tile_here (slice_get (g.S.Tiles.state c.args.source.now).coverages c.args.reading.now.coverage) c.args.reading.now.field c.index-number.result.now c.args.reading.now.domain.now c.requires.there below).1 in
-    subst (λ l. Gathered c.push_number.new.numbers.items l (λ j. (g.S.Tiles.state c.args.source.now).cells c.args.reading.now.coverage c.args.reading.now.field (numbers_at (get_or c.args.frame.now j []) c.args.reading.now.indexes.now)) c.copy_fetched.new.scratch.cells.items) (sym c.copy_fetched.ensures.tiles)
-    (gathered_more c.args.scratch.now.seen.items _ c.args.scratch.now.numbers.items (length c.args.frame.now) c.index-number.result.now
+    subst (λ l. Gathered (take (c.args.k + 1) c.copy_fetched.new.scratch.seen.items) l (λ j. (g.S.Tiles.state c.args.source.now).cells c.args.reading.now.coverage c.args.reading.now.field (numbers_at (get_or c.args.frame.now j []) c.args.reading.now.indexes.now)) c.copy_fetched.new.scratch.cells.items) (sym c.copy_fetched.ensures.tiles)
+    (gathered_more (take c.args.k c.args.scratch.now.seen.items) (take (c.args.k + 1) c.copy_fetched.new.scratch.seen.items) c.args.scratch.now.numbers.items (length c.args.frame.now) c.index-number.result.now
     (λ j. (g.S.Tiles.state c.args.source.now).cells c.args.reading.now.coverage c.args.reading.now.field (numbers_at (get_or c.args.frame.now j []) c.args.reading.now.indexes.now))
     c.args.scratch.now.cells.items _ n
-    (c.in_ok-push_number.ensures ∙ ap (λ l. l ++ c.index-number.result.now ∷ []) c.copy_fetched.ensures.seen)
+    (ap (take (c.args.k + 1)) c.copy_fetched.ensures.seen ∙ take_more c.args.scratch.now.seen.items c.args.k c.index-number.result.now c.requires.listed.0 ∙ ap (λ m. take c.args.k c.args.scratch.now.seen.items ++ m ∷ []) (sym c.index-number.ensures))
     (λ j lt e.
     let l : j < length c.args.scratch.now.numbers.items = omega (arith, lt, n) in
     let here = number_of_place (λ e. tile_number c.args.reading.now.domain.now (numbers_at e c.args.reading.now.indexes.now)) c.args.frame.now [] c.args.scratch.now.numbers.items c.index-number.result.now j c.requires.located.tiles (sym (at_same c.args.scratch.now.numbers.items j c.index-number.result.now 0 l ∙ e)) lt in
