@@ -3,3 +3,4 @@ pub mod Values
 pub mod Progress
 pub mod Pushes
 pub mod RawTiles
+pub mod Picks

@@ -3,3 +3,4 @@ pub mod Runs
 pub mod Bytes
 pub mod Raw
 pub mod Reading
+pub mod Picking

@@ -5,6 +5,7 @@
 mod decoding;
 mod encoding;
 mod error;
+mod picking;
 mod raw;
 mod reading;
 mod run;
@@ -12,3 +13,5 @@ mod run;
 pub use decoding::{decode, decode_into};
 pub use encoding::encode;
 pub use error::DecodeError;
+pub use picking::{pick_runs, raw_cell};
+pub use run::width;

@@ -90,7 +90,7 @@ fn read_values(kind: FieldType, bytes: &[u8], cells: &mut [i64]) -> bool
 
 /// The value at a place, counted from 0.
 #[inline(always)]
-fn value_at(kind: FieldType, bytes: &[u8], place: usize) -> i64
+pub(crate) fn value_at(kind: FieldType, bytes: &[u8], place: usize) -> i64
     requires { place * width_of kind + width_of kind ≤ length bytes.now }
     ensures { result ≡ raw_at kind bytes.now place }
 {
