@@ -1,13 +1,15 @@
 -- The cell at a rank is the value of the run that it stands in.
-use Rattle.std.proofs.Common.{◌≡◌, ℕ, ◌+◌, ◌-◌, ◌<◌, ◌≤◌, ℤ, pos, List, ◌++◌, length, map, take, drop, replicate, get_or, All, refl, sym, ap, ◌∙◌, arith, length-append}
-use Rattle.std.proofs.lemmas.List.{length-map, length-replicate, take-append-drop, ext_get_or, get_or-map, get_or_append_left, get_or-append_right, get_or-replicate}
-use Rattle.std.proofs.lemmas.List.FromFn.{take-map-range_with_len, get_or-map-range_with_len}
+use Rattle.std.proofs.Common.{◌≡◌, ℕ, ◌+◌, ◌-◌, ◌*◌, ◌<◌, ◌≤◌, ℤ, pos, List, ◌++◌, length, map, take, drop, replicate, get_or, sym, ap, ◌∙◌, arith, length-append, length-drop}
+use Rattle.std.proofs.lemmas.List.{length-map, length-replicate, take-append-drop, ext_get_or, get_or-map, get_or_append_left, get_or-append_right, get_or-replicate, get_or-take, get_or-drop, length-take-le}
+use Rattle.std.proofs.lemmas.List.FromFn.{length-map-range_with_len, take-map-range_with_len, get_or-map-range_with_len}
 use Rattle.std.proofs.lemmas.Grind.{flat_map-append}
+use Rattle.byteorder.specs.Endian.{little_from, little_number}
+use Rattle.byteorder.specs.Numbers.{little_from-take}
 use Rattle.arr_core.specs.declared.cell.FieldType.{FieldType}
-use Rattle.run_tile.specs.Types.{width_of}
+use Rattle.run_tile.specs.Types.{width_of, value_of}
 use Rattle.run_tile.specs.Runs.{run_at, run_count, first_runs, cells_of}
 use Rattle.run_tile.specs.Raw.{raw_at, raw_cells, raw_count}
-use Rattle.run_tile.specs.Picking.{picked, AreRanks, IsStart}
+use Rattle.run_tile.specs.Picking.{picked, IsStart}
 use Rattle.run_tile.specs.declared.picking.Start.{Start}
 use Rattle.run_tile.proofs.Spelling.{cells_of-more, cells_of-none}
 
@@ -61,3 +63,28 @@ picked-all cells ranks own size each =
 pub raw-at : (kind : FieldType) (bytes : List ℕ) (rank : ℕ) → rank < raw_count kind bytes → get_or (raw_cells kind bytes) rank (pos 0) ≡ raw_at kind bytes rank
 unfolding raw_cells
 raw-at kind bytes rank h = get_or-map-range_with_len (raw_at kind bytes) 0 (raw_count kind bytes) rank rank (pos 0) h (omega arith)
+
+-- a number is read from its own bytes alone
+same-number : (n : ℕ) (xs ys : List ℕ) → n ≤ length xs → n ≤ length ys → ((i : ℕ) → i < n → get_or xs i 0 ≡ get_or ys i 0) → little_number n xs ≡ little_number n ys
+same-number n xs ys hx hy each =
+    let lx = length-take-le n xs hx in
+    let ly = length-take-le n ys hy in
+    let front : take n xs ≡ take n ys =
+    ext_get_or 0 (take n xs) (take n ys) (lx ∙ sym ly) (λ i h.
+    let lt : i < n = omega (arith, h, lx) in
+    get_or-take n xs i 0 lt ∙ each i lt ∙ sym (get_or-take n ys i 0 lt)) in
+    sym (little_from-take 0 n n xs (omega arith)) ∙ ap (little_from 0 n) front ∙ little_from-take 0 n n ys (omega arith)
+
+-- and so is a value
+pub raw-same : (kind : FieldType) (xs ys : List ℕ) (i k : ℕ) → i * width_of kind + width_of kind ≤ length xs → k * width_of kind + width_of kind ≤ length ys
+    → ((b : ℕ) → b < width_of kind → get_or xs (i * width_of kind + b) 0 ≡ get_or ys (k * width_of kind + b) 0) → raw_at kind xs i ≡ raw_at kind ys k
+unfolding raw_at
+raw-same kind xs ys i k hx hy each =
+    ap (value_of kind)
+    (same-number (width_of kind) (drop (i * width_of kind) xs) (drop (k * width_of kind) ys) (omega (arith, hx, length-drop (i * width_of kind) xs)) (omega (arith, hy, length-drop (k * width_of kind) ys))
+    (λ b lt. get_or-drop (i * width_of kind) xs b 0 ∙ each b lt ∙ sym (get_or-drop (k * width_of kind) ys b 0)))
+
+-- how many values bytes read as
+pub length-raw : (kind : FieldType) (bytes : List ℕ) → length (raw_cells kind bytes) ≡ raw_count kind bytes
+unfolding raw_cells
+length-raw kind bytes = length-map-range_with_len (raw_at kind bytes) 0 (raw_count kind bytes)

@@ -1,6 +1,7 @@
 pub mod Listed
 pub mod Takes
 pub mod Kept
+pub mod Picks
 mod Rows
 mod Fitting
 mod Parts

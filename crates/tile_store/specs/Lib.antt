@@ -7,3 +7,4 @@ pub mod Room
 pub mod Reading
 pub mod Patches
 pub mod Written
+pub mod Picking

@@ -1,6 +1,6 @@
 -- What reads give. Where the disk is honest: the numbers that the field has there, from tiles that are spelled as the
 -- format says.
-use Rattle.std.specs.Prelude.{◌≡◌, ℕ, ◌<◌, ℤ, IsTrue, List, map, length, All}
+use Rattle.std.specs.Prelude.{◌≡◌, ℕ, ◌<◌, ℤ, IsTrue, List, [], map, length, slice_index_or, All}
 use Rattle.arr_core.specs.declared.domain.Axis.{Axis}
 use Rattle.arr_core.specs.Cells.{Fits}
 use Rattle.arr_core.specs.Domains.{points}
@@ -28,6 +28,12 @@ pub record IsTileRead (f : FieldTiles) (tile : ℕ) (s : BlocksState) (cells : L
   pub fit : All (Fits f.kind) cells
   pub numbers : IsTrue s.honest → cells ≡ map (number_in f s) (points (tile_box f.domain.now tile))
   pub spelled : IsTrue s.honest → IsSpelledIn f s tile
+
+-- these are cells of a tile, one at each of some ranks of its points in row-major order
+pub record ArePicked (f : FieldTiles) (tile : ℕ) (ranks : List ℕ) (s : BlocksState) (cells : List ℤ) : Type 0 where
+  pub counted : length cells ≡ length ranks
+  pub numbers : IsTrue s.honest
+      → cells ≡ map (λ (r : ℕ). number_in f s (slice_index_or (points (tile_box f.domain.now tile)) r [])) ranks
 
 -- the tile is not spelled as the format says
 abbrev pub IsTileDamaged : FieldTiles → ℕ → BlocksState → Type 0

@@ -89,7 +89,7 @@ impl FieldIndex {
     }
 
     /// The entry of a tile. Takes no memory.
-    fn get(&self, tile: u64) -> Option<&Entry>
+    pub(crate) fn get(&self, tile: u64) -> Option<&Entry>
         ensures { option_copied result ≡ found_at tile self.now }
     {
         self.index.get(tile)

@@ -7,6 +7,7 @@ mod fault;
 mod field;
 mod numbers;
 mod overlay;
+mod picking;
 mod reserve;
 mod tile;
 mod update;
@@ -16,3 +17,4 @@ pub use field::{
     FieldIndex, FieldTiles, give_back, read_area, read_point, read_tile_into, release, write_area,
 };
 pub use numbers::{Numbers, Patch};
+pub use picking::pick_tile_into;

@@ -1,0 +1,165 @@
+//! Cells of a tile at ranks, read without the others: of a tile of cells one after the other only the blocks that they
+//! stand in.
+
+ghost use Rattle.std.specs.Prelude.{◌≡◌, ◌<◌, [], ◌∷◌, length, pos, slice_index_or, Some, All, IfOk, IsErrOf, OnOk, IsTrue};
+ghost use Rattle.arr_core.specs.Domains.{count};
+ghost use Rattle.arr_core.specs.Tiles.{tile_boxes};
+ghost use Rattle.disk_face.specs.Disk.{Tells};
+ghost use Rattle.block_file.specs.State.{one, times, block};
+ghost use Rattle.block_file.specs.Words.{OnlyReads};
+ghost use Rattle.file_bytes.specs.declared.form.Form.TheVariants.{Raw};
+ghost use Rattle.tile_store.specs.Faults.{Refuses};
+ghost use Rattle.tile_store.specs.Listing.{listed, IsSound};
+ghost use Rattle.tile_store.specs.Picking.{IsEntryIn, cells_as, IsLast, ArePicks, LackPicks};
+ghost use Rattle.tile_store.specs.Reading.{ArePicked, IsTileDamaged};
+ghost use Rattle.tile_store.specs.Stored.{tile_box};
+
+use crate::bytes::read_bytes;
+use crate::fault::Fault;
+use crate::field::FieldTiles;
+use arr_core::FieldType;
+use block_file::{BLOCK_BYTES, Blocks};
+use file_bytes::Form;
+use run_tile::{pick_runs, raw_cell, width};
+use tile_index::Entry;
+
+/// The block that was read last: its number, where one was, and what it holds.
+#[derive(Drop)]
+pub(crate) struct LastBlock {
+    number: Option<u32>,
+    bytes: [u8; 4096],
+}
+
+/// Reads a block, unless it is the one that was read last.
+fn turn_to<B: Blocks>(blocks: &mut B, last: &mut LastBlock, number: u32) -> Result<(), Fault>
+    requires used { 0 < (B.state blocks.old).uses number }
+    requires last { IsLast (B.state blocks.old) last.old }
+    ensures here { OnOk result (last.new.number ≡ Some number) }
+    ensures last { OnOk result (IsLast (B.state blocks.old) last.new) }
+    ensures why { Refuses result ⊥ ⊥ }
+    ensures frame { OnlyReads (one number) (B.state blocks.old) (B.state blocks.new) }
+    ensures told { Tells (IsErrOf result Fault.DiskFault) (B.state blocks.old).failures (B.state blocks.new).failures }
+{
+    if last.number != Some(number) {
+        blocks.read(number, &mut last.bytes)?;
+        last.number = Some(number);
+    }
+    Ok(())
+}
+
+/// Reads the cell at a rank of a tile of cells one after the other from the block that it stands in.
+fn read_raw_cell<B: Blocks>(
+    blocks: &mut B,
+    last: &mut LastBlock,
+    kind: FieldType,
+    entry: &Entry,
+    rank: u64,
+) -> Result<i64, Fault>
+    requires entry { IsEntryIn (B.state blocks.old) entry.now }
+    requires last { IsLast (B.state blocks.old) last.old }
+    ensures cell { IfOk result (λ z. IsTrue (B.state blocks.old).honest
+        → z ≡ slice_index_or (cells_as Raw kind (B.state blocks.old) entry.now) rank (pos 0)) }
+    ensures last { OnOk result (IsLast (B.state blocks.old) last.new) }
+    ensures why { Refuses result (LackPicks Raw kind (B.state blocks.old) entry.now (rank ∷ [])) ⊥ }
+    ensures frame { OnlyReads (times entry.now.blocks) (B.state blocks.old) (B.state blocks.new) }
+    ensures told { Tells (IsErrOf result Fault.DiskFault) (B.state blocks.old).failures (B.state blocks.new).failures }
+{
+    let size = width(kind);
+    let rank = rank as usize;
+    if entry.length as usize / size <= rank {
+        return Err(Fault::Damaged);
+    }
+    let from = rank * size;
+    let numbers = entry.blocks.as_slice();
+    turn_to(blocks, last, numbers[from / BLOCK_BYTES])?;
+    Ok(raw_cell(kind, &last.bytes, from % BLOCK_BYTES / size))
+}
+
+/// Writes the cells at ranks of a tile of cells one after the other. Ranks that rise take each block once.
+fn pick_raw<B: Blocks>(
+    blocks: &mut B,
+    kind: FieldType,
+    entry: &Entry,
+    ranks: &[u64],
+    cells: &mut [i64],
+) -> Result<(), Fault>
+    requires entry { IsEntryIn (B.state blocks.old) entry.now }
+    requires room { length cells.old ≡ length ranks.now }
+    ensures picked { OnOk result (ArePicks Raw kind (B.state blocks.old) entry.now ranks.now cells.new) }
+    ensures why { Refuses result (LackPicks Raw kind (B.state blocks.old) entry.now ranks.now) ⊥ }
+    ensures frame { OnlyReads (times entry.now.blocks) (B.state blocks.old) (B.state blocks.new) }
+    ensures told { Tells (IsErrOf result Fault.DiskFault) (B.state blocks.old).failures (B.state blocks.new).failures }
+{
+    let mut last = LastBlock {
+        number: None,
+        bytes: [0; 4096],
+    };
+    for place in 0..ranks.len() {
+        cells[place] = read_raw_cell(blocks, &mut last, kind, entry, ranks[place])?;
+    }
+    Ok(())
+}
+
+/// Reads the cells at ranks of a tile that is listed into a buffer, and the bytes of one of runs into another, whatever
+/// the two held before.
+fn pick_entry<B: Blocks>(
+    blocks: &mut B,
+    kind: FieldType,
+    entry: &Entry,
+    ranks: &[u64],
+    bytes: &mut Vec<u8>,
+    cells: &mut Vec<i64>,
+) -> Result<(), Fault>
+    requires { IsEntryIn (B.state blocks.old) entry.now }
+    ensures picked { OnOk result
+        (ArePicks entry.now.form kind (B.state blocks.old) entry.now ranks.now cells.new.items) }
+    ensures counted { OnOk result (length cells.new.items ≡ length ranks.now) }
+    ensures why { Refuses result (LackPicks entry.now.form kind (B.state blocks.old) entry.now ranks.now) ⊥ }
+    ensures frame { OnlyReads (times entry.now.blocks) (B.state blocks.old) (B.state blocks.new) }
+    ensures told { Tells (IsErrOf result Fault.DiskFault) (B.state blocks.old).failures (B.state blocks.new).failures }
+{
+    match entry.form {
+        Form::Runs => {
+            read_bytes(blocks, entry, bytes)?;
+            pick_runs(kind, bytes, ranks, cells)?;
+            Ok(())
+        }
+        Form::Raw => {
+            cells.resize(ranks.len(), 0)?;
+            pick_raw(blocks, kind, entry, ranks, cells)
+        }
+    }
+}
+
+/// Reads the stored numbers of a tile, by its number, at ranks of its points in row-major order, into `cells`, one for
+/// each rank, whatever it held before. Of a tile that has cells one after the other it reads the blocks that they stand
+/// in, and of one of runs its bytes into `bytes`, which it walks. Whether the other cells are spelled is not told:
+/// `Damaged` comes only where the tile is not, but need not come there. After a refusal the two buffers hold anything.
+pub fn pick_tile_into<B: Blocks>(
+    blocks: &mut B,
+    field: FieldTiles,
+    tile: u64,
+    ranks: &[u64],
+    bytes: &mut Vec<u8>,
+    cells: &mut Vec<i64>,
+) -> Result<(), Fault>
+    requires tile { tile < length (tile_boxes field.domain.now) }
+    requires ranks { All (λ r. r < count (tile_box field.domain.now tile)) ranks.now }
+    requires sound { IsSound field.domain.now (B.state blocks.old) field.index.now }
+    ensures picked { OnOk result
+        (ArePicked field.entry tile ranks.now (B.state blocks.old) cells.new.items) }
+    ensures why { Refuses result (IsTileDamaged field.entry tile (B.state blocks.old)) ⊥ }
+    ensures frame { OnlyReads (listed field.entry.index.now) (B.state blocks.old) (B.state blocks.new) }
+    ensures told { Tells (IsErrOf result Fault.DiskFault) (B.state blocks.old).failures (B.state blocks.new).failures }
+{
+    let _listed = field.index.index();
+    let _axes = field.domain.axes();
+    match field.index.get(tile) {
+        None => {
+            cells.clear();
+            cells.resize(ranks.len(), 0)?;
+            Ok(())
+        }
+        Some(entry) => pick_entry(blocks, field.kind, entry, ranks, bytes, cells),
+    }
+}
