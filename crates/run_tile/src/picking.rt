@@ -1,10 +1,9 @@
 //! Single cells of a tile, read without the others.
 
-ghost use Rattle.std.specs.Prelude.{◌≡◌, ◌+◌, ◌≤◌, ◌<◌, ℕ, ℤ, List, false, length, pos, slice_index_or, vec_capacity, IsErrOf, IsTrue, OnOk};
+ghost use Rattle.std.specs.Prelude.{◌≡◌, ◌≤◌, ◌<◌, false, length, pos, slice_index_or, vec_capacity, IsErrOf, IsTrue, OnOk};
 ghost use Rattle.file_bytes.specs.declared.form.Form.TheVariants.{Runs};
-ghost use Rattle.run_tile.specs.Runs.{run_at, run_count};
 ghost use Rattle.run_tile.specs.Raw.{cells_in, raw_cells, raw_count};
-ghost use Rattle.run_tile.specs.Picking.{picked, AreRanks, IsStart};
+ghost use Rattle.run_tile.specs.Picking.{picked, AreRanks, IsStart, IsBefore};
 
 use crate::error::DecodeError;
 use crate::raw::value_at;
@@ -29,8 +28,7 @@ fn find_run(kind: FieldType, bytes: &[u8], from: Start, rank: usize) -> Start
     requires before { from.cells ≤ rank }
     ensures start { IsStart kind bytes.now result }
     ensures before { result.cells ≤ rank }
-    ensures here { result.runs < run_count kind bytes.now
-        → rank < result.cells + (run_at kind bytes.now result.runs).count }
+    ensures here { IsBefore kind bytes.now rank result }
 {
     let runs = bytes.len() / (2 + width(kind));
     let mut at = from;

@@ -1,5 +1,5 @@
 -- Cells of a tile at ranks, read without the others.
-use Rattle.std.specs.Prelude.{◌≡◌, ℕ, ◌<◌, ℤ, IsTrue, List, length, Some}
+use Rattle.std.specs.Prelude.{◌≡◌, ℕ, ◌<◌, ℤ, pos, IsTrue, List, length, slice_index_or, Some}
 use Rattle.arr_core.specs.declared.cell.FieldType.{FieldType}
 use Rattle.block_file.specs.State.{BlocksState, block, times}
 use Rattle.block_file.specs.Words.{Covers}
@@ -24,7 +24,11 @@ cells_as form kind s e = cells_read form kind (entry_data s.content e)
 abbrev pub IsLast : BlocksState → LastBlock → Type 0
 IsLast s last = IsTrue s.honest → (k : ℕ) → last.number ≡ Some k → last.bytes ≡ block s k
 
--- on an honest disk these are the cells at ranks of an entry's; or there is none at one of them
+-- on an honest disk this is the cell at a rank of an entry's
+abbrev pub IsPick : Form → FieldType → BlocksState → Entry → ℕ → ℤ → Type 0
+IsPick form kind s e rank z = IsTrue s.honest → z ≡ slice_index_or (cells_as form kind s e) rank (pos 0)
+
+-- these are the cells at ranks of an entry's; or there is none at one of them
 abbrev pub ArePicks : Form → FieldType → BlocksState → Entry → List ℕ → List ℤ → Type 0
 ArePicks form kind s e ranks cells = IsTrue s.honest → cells ≡ picked (cells_as form kind s e) ranks
 

@@ -1,16 +1,16 @@
 //! Cells of a tile at ranks, read without the others: of a tile of cells one after the other only the blocks that they
 //! stand in.
 
-ghost use Rattle.std.specs.Prelude.{◌≡◌, ◌<◌, [], ◌∷◌, length, pos, slice_index_or, Some, All, IfOk, IsErrOf, OnOk, IsTrue};
+ghost use Rattle.std.specs.Prelude.{◌≡◌, ◌<◌, [], ◌∷◌, length, Some, All, IfOk, IsErrOf, OnOk};
 ghost use Rattle.arr_core.specs.Domains.{count};
 ghost use Rattle.arr_core.specs.Tiles.{tile_boxes};
 ghost use Rattle.disk_face.specs.Disk.{Tells};
-ghost use Rattle.block_file.specs.State.{one, times, block};
+ghost use Rattle.block_file.specs.State.{one, times};
 ghost use Rattle.block_file.specs.Words.{OnlyReads};
 ghost use Rattle.file_bytes.specs.declared.form.Form.TheVariants.{Raw};
 ghost use Rattle.tile_store.specs.Faults.{Refuses};
 ghost use Rattle.tile_store.specs.Listing.{listed, IsSound};
-ghost use Rattle.tile_store.specs.Picking.{IsEntryIn, cells_as, IsLast, ArePicks, LackPicks};
+ghost use Rattle.tile_store.specs.Picking.{IsEntryIn, IsLast, IsPick, ArePicks, LackPicks};
 ghost use Rattle.tile_store.specs.Reading.{ArePicked, IsTileDamaged};
 ghost use Rattle.tile_store.specs.Stored.{tile_box};
 
@@ -57,8 +57,7 @@ fn read_raw_cell<B: Blocks>(
 ) -> Result<i64, Fault>
     requires entry { IsEntryIn (B.state blocks.old) entry.now }
     requires last { IsLast (B.state blocks.old) last.old }
-    ensures cell { IfOk result (λ z. IsTrue (B.state blocks.old).honest
-        → z ≡ slice_index_or (cells_as Raw kind (B.state blocks.old) entry.now) rank (pos 0)) }
+    ensures cell { IfOk result (IsPick Raw kind (B.state blocks.old) entry.now rank) }
     ensures last { OnOk result (IsLast (B.state blocks.old) last.new) }
     ensures why { Refuses result (LackPicks Raw kind (B.state blocks.old) entry.now (rank ∷ [])) ⊥ }
     ensures frame { OnlyReads (times entry.now.blocks) (B.state blocks.old) (B.state blocks.new) }
