@@ -1,7 +1,7 @@
 -- What is known of a coverage that is found, and what reads of its fields' tiles say of it.
-use Rattle.std.proofs.Common.{◌≡◌, ℕ, zero, suc, ◌<◌, List, [], ◌∷◌, length, Option, Some, None, arith, get_or, refl, sym, ap, ◌∙◌, subst, map, All, inl, inr}
+use Rattle.std.proofs.Common.{◌≡◌, ℕ, zero, suc, ◌<◌, List, [], ◌∷◌, length, Option, Some, None, arith, get_or, refl, sym, ap, ◌∙◌, subst, map, All, inl, inr, ◌+◌, ◌++◌, take}
 use Rattle.std.specs.Prelude.{IsSomeAnd, slice_get, IsTrue, option_map, ℤ, pos}
-use Rattle.std.proofs.lemmas.List.{length-map, get_or-map}
+use Rattle.std.proofs.lemmas.List.{length-map, get_or-map, map_push, take_more}
 use Rattle.std.proofs.lemmas.List.Elements.{All-from_recursion}
 use Rattle.std.proofs.lemmas.Option.{slice_get-map, slice_get_read, slice_get_cases, slice_get-get_or}
 use Rattle.std.proofs.lemmas.Int.{ints}
@@ -20,13 +20,14 @@ use Rattle.tile_store.specs.declared.numbers.Numbers.{Numbers}
 use Rattle.tile_store.specs.Numbers.{AreNumbers}
 use Rattle.tile_store.specs.Listing.{IsBelow, IsSound}
 use Rattle.tile_store.specs.declared.field.FieldTiles.{FieldTiles}
-use Rattle.tile_store.specs.Reading.{number_in, IsSpelledIn, IsTileRead, Meets}
+use Rattle.tile_store.specs.Picking.{picked}
+use Rattle.tile_store.specs.Reading.{number_in, ArePicked, IsSpelledIn, IsTileRead, Meets}
 use Rattle.tile_store.specs.Stored.{field_values, number_at, tile_box, tile_number, IsSpelled, IsTileSpelled}
 use Rattle.raster_store.specs.declared.held.Held.{Held}
 use Rattle.raster_store.specs.declared.reading.TileAt.{TileAt}
 use Rattle.raster_store.specs.Views.{FieldsIntact, AreIntact, listed_fields, Index}
 use Rattle.raster_store.specs.Calls.{HasField}
-use Rattle.raster_store.specs.Fetches.{HasTile, HasTileNumber, IsPlaceOf, IsSpelledAt, IsSpelledOf, IsDecoded}
+use Rattle.raster_store.specs.Fetches.{HasTile, HasRanks, HasTileNumber, IsPlaceOf, IsSpelledAt, IsSpelledOf, IsDecoded, ArePickedIn}
 use Rattle.raster_store.specs.Holding.{coverages_of, coverage_of, indexes_of, index_at, NoneNamed, IsNamedAt, IsWhole, IsHeld}
 use Rattle.raster_store.specs.Fields.{IsNamed, HasKind, HasPatch, IsFieldOf}
 use Rattle.raster_store.proofs.Contents.{intact-at, found_none, found_named, named_within, values-at}
@@ -172,6 +173,16 @@ module _ {s : BlocksState} {held : List Held} {o : Option Coverage} {h : Held} {
       let below : k < count area = omega (arith, l, length-points area) in
       rw (at_place area k d below) (number_is (point_at area k) (box_inside h.signature.domain area (point_at area k) box (point-inside area k below ordered))))
 
+  -- the values at ranks of a box
+  pub ranked_are : (area : List Axis) → AreOrdered area → IsBoxOf h.signature.domain area → (ranks : List ℕ) → All (λ (r : ℕ). r < count area) ranks
+      → map (λ (r : ℕ). number_in f s (get_or (points area) r [])) ranks ≡ map (λ (r : ℕ). value_at (coverage_of s.content h) j (get_or (points area) r [])) ranks
+  ranked_are area ordered box ranks within =
+      same_map (λ (r : ℕ). number_in f s (get_or (points area) r [])) (λ (r : ℕ). value_at (coverage_of s.content h) j (get_or (points area) r [])) ranks
+      (λ k d l.
+      let r = get_or ranks k d in
+      let below : r < count area = within k d l in
+      rw (at_place area r [] below) (number_is (point_at area r) (box_inside h.signature.domain area (point_at area r) box (point-inside area r below ordered))))
+
   -- in an intact store each tile is spelled
   pub intact_tile : AreIntact s.content (coverages_of s.content held) (indexes_of held) → (tile : ℕ) → IsSpelledIn f s tile
   unfolding IsSpelled
@@ -208,6 +219,43 @@ module _ {s : BlocksState} {held : List Held} {at : TileAt} {h : Held} (p : Plac
         values = λ sure. rw p.of.facts.at (read.numbers sure ∙ ap (λ (d : List Axis). map (number_in f s) (points (tile_box d at.tile))) is.domain ∙ numbers_are p.of f is (tile_box h.signature.domain at.tile) box.0 box.1);
         spelled = λ sure. (spelled_is is).1 (read.spelled sure);
       }
+
+  -- and cells at ranks that were read
+  pub picked_tile : (ranks : List ℕ) (cells : List ℤ) → IsFieldOf h at.field f → All (λ (r : ℕ). r < count (tile_box h.signature.domain at.tile)) ranks → ArePicked f at.tile ranks s cells
+      → (IsTrue s.honest → IsSpelledAt at s.content (coverages_of s.content held) (indexes_of held)) → ArePickedIn s (coverages_of s.content held) (indexes_of held) at ranks cells
+  picked_tile ranks cells is within read tested =
+      let box = tile_is_box h.signature.domain at.tile is.is_domain p.below in
+      record {
+        counted = read.counted;
+        values = λ sure.
+            rw p.of.facts.at
+            (read.numbers sure ∙ ap (λ (d : List Axis). map (λ (r : ℕ). number_in f s (get_or (points (tile_box d at.tile)) r [])) ranks) is.domain ∙ ranked_are p.of f is (tile_box h.signature.domain at.tile) box.0 box.1 ranks within);
+        spelled = tested;
+      }
+
+-- cells at ranks of those of a whole tile
+pub gathered : (s : BlocksState) (coverages : Store) (indexes : List (List Index)) (at : TileAt) (ranks : List ℕ) (whole cells : List ℤ) → HasRanks at ranks coverages → IsDecoded s coverages indexes at whole → cells ≡ picked whole ranks
+    → ArePickedIn s coverages indexes at ranks cells
+gathered s coverages indexes at ranks whole cells has read is = record {
+  counted = ap length is ∙ length-map ranks (λ (r : ℕ). get_or whole r (pos 0));
+  values = λ sure. by_coverage (slice_get coverages at.coverage) has (read.values sure);
+  spelled = read.spelled;
+}
+  where
+    by_coverage : (o : Option Coverage) → IsSomeAnd o (λ c. All (λ (r : ℕ). r < count (tile_box c.domain at.tile)) ranks) → IsSomeAnd o (λ c. whole ≡ map (value_at c at.field) (points (tile_box c.domain at.tile)))
+        → IsSomeAnd o (λ c. cells ≡ map (λ (r : ℕ). value_at c at.field (get_or (points (tile_box c.domain at.tile)) r [])) ranks)
+    by_coverage None within values = absurd within
+    by_coverage (Some c) within values =
+        let box = tile_box c.domain at.tile in
+        is ∙ ap (λ (l : List ℤ). picked l ranks) values
+        ∙ same_map (λ (r : ℕ). get_or (map (value_at c at.field) (points box)) r (pos 0)) (λ (r : ℕ). value_at c at.field (get_or (points box) r [])) ranks
+        (λ k d l. (let below : get_or ranks k d < count box = within k d l in get_or-map (value_at c at.field) (points box) (get_or ranks k d) [] (pos 0) (omega (arith, below, length-points box))))
+
+-- one cell more
+pub picked_more : (whole picks : List ℤ) (ranks : List ℕ) (i : ℕ) (z : ℤ) → i < length ranks → picks ≡ picked whole (take i ranks) → z ≡ get_or whole (get_or ranks i 0) (pos 0) → picks ++ z ∷ [] ≡ picked whole (take (i + 1) ranks)
+picked_more whole picks ranks i z h was is =
+    let at = λ (r : ℕ). get_or whole r (pos 0) in
+    ap (λ (l : List ℤ). l ++ z ∷ []) was ∙ ap (λ (v : ℤ). map at (take i ranks) ++ v ∷ []) is ∙ sym (map_push at (take i ranks) (get_or ranks i 0)) ∙ ap (map at) (sym (take_more ranks i 0 h))
 
 -- a tile of the coverage with a name is spelled where it is in the store
 pub spelled_named : (s : BlocksState) (held : List Held) (name : List ℕ) (field : ℕ) (h : Held) (kind : FieldType) (tile : ℕ) → IsHeld s held → IsNamed name held h → HasKind h.signature.fields field kind → field < length h.fields.items

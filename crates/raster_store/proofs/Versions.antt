@@ -1,5 +1,5 @@
 -- Decoded tiles are told by the version of their coverage: what changes of blocks, coverages and tiles do to them.
-use Rattle.std.proofs.Common.{◌≡◌, ℕ, zero, suc, ◌+◌, ◌<◌, ◌≤◌, nat_eq, List, [], ◌∷◌, ◌++◌, length, get_or, set, take, drop, refl, sym, ap, ◌∙◌, arith, inl, inr, All, IsTrue, subst, cond, Option, Some, None}
+use Rattle.std.proofs.Common.{◌≡◌, ℕ, zero, suc, ◌+◌, ◌<◌, ◌≤◌, nat_eq, List, [], ◌∷◌, ◌++◌, length, get_or, set, take, drop, refl, sym, ap, ◌∙◌, arith, inl, inr, All, IsTrue, subst, cond, Option, Some, None, Contains}
 use Rattle.std.specs.Prelude.{ℤ, slice_get}
 use Rattle.std.specs.List.{remove}
 use Rattle.std.proofs.lemmas.Bool.{cases_lt, ne_eqb}
@@ -18,8 +18,8 @@ use Rattle.raster_store.specs.declared.snapshot.Snapshot.{Snapshot}
 use Rattle.raster_store.specs.declared.reading.TileAt.{TileAt}
 use Rattle.raster_store.specs.declared.reading.TileKey.{TileKey}
 use Rattle.raster_store.specs.Views.{Index, coverage_in, listed_fields, listed_all}
-use Rattle.raster_store.specs.Fetches.{IsDecoded, AreTileCells, HasTile, IsSpelledAt}
-use Rattle.raster_store.specs.Decoded.{Kept, IsKept, NoneAdded, Adds}
+use Rattle.raster_store.specs.Fetches.{IsDecoded, ArePickedIn, AreTileCells, HasTile, HasRanks, IsSpelledAt}
+use Rattle.raster_store.specs.Decoded.{Known, Kept, nothing, IsKept, NoneAdded, Adds}
 use Rattle.raster_store.specs.Holding.{coverages_of, indexes_of, IsWhole, IsHeld, Version, told_by, tile_in, IsTileIn, IsTileOf, Renews, AreOf, AddsOf, AreVersions, AreDecoded}
 use Rattle.raster_store.specs.Picking.{IsPicked}
 use Rattle.raster_store.proofs.Contents.{KeepsFields, KeepsAll, values_as, named_within, apart_none, apart_push}
@@ -37,22 +37,28 @@ member : (held : List Held) (i : ℕ) (d : Held) (k : ℕ) → i < length held �
 unfolding listed_all
 member held i d k lt = omega (arith, sums (λ (f : List Index). listed_fields f k) held, get_or-le-sum_by (λ (h : Held). listed_fields h.fields.items k) held i d lt)
 
--- the tile of a coverage whose blocks hold what they held
-tile_moved : (s s' : BlocksState) (v : Version) (key : TileKey) (cells : List ℤ) → s'.honest ≡ s.honest → (IsTrue s.honest → KeepsFields v.1 s.content s'.content) → IsTileIn s v key cells → IsTileIn s' v key cells
-tile_moved s s' v key cells honest kept t =
+abbrev IsTileSpelledIn : BlocksState → Version → TileKey → Type 0
+IsTileSpelledIn s v key = IsSpelledAt (tile_in key.field key.tile) s.content (coverage_in s.content v.0 v.1 ∷ []) (v.1 ∷ [])
+
+-- a tile of a coverage whose blocks hold what they held is spelled where it was
+spelled_moved : (s s' : BlocksState) (v : Version) (key : TileKey) → KeepsFields v.1 s.content s'.content → IsTileSpelledIn s v key → IsTileSpelledIn s' v key
+spelled_moved s s' v key kept =
     let domain = v.0.domain in
     let index = get_or v.1 key.field [] in
-    record {
-      counted = t.counted;
-      values = λ sure.
-          let before = rw honest at sure in
-          let same : coverage_in s'.content v.0 v.1 ≡ coverage_in s.content v.0 v.1 = rw (values_as s.content s'.content domain v.0.fields v.1 (kept before)).0 refl in
-          subst (λ (c : Coverage). AreTileCells (tile_in key.field key.tile) (c ∷ []) cells) (sym same) (t.values before);
-      spelled = λ sure.
-          let before = rw honest at sure in
-          some_weaker (slice_get v.0.fields key.field) (λ (f : Field). IsTileSpelled f.kind domain index s.content key.tile) (λ (f : Field). IsTileSpelled f.kind domain index s'.content key.tile)
-          (λ f was. tile_kept f.kind domain index s.content s'.content key.tile (λ k some. kept before k (omega (arith, some, field_listed v.1 key.field k))) was) (t.spelled before);
-    }
+    some_weaker (slice_get v.0.fields key.field) (λ (f : Field). IsTileSpelled f.kind domain index s.content key.tile) (λ (f : Field). IsTileSpelled f.kind domain index s'.content key.tile)
+    (λ f was. tile_kept f.kind domain index s.content s'.content key.tile (λ k some. kept k (omega (arith, some, field_listed v.1 key.field k))) was)
+
+-- what is known of it is true
+tile_moved : (s s' : BlocksState) (v : Version) (key : TileKey) (known : Known) → s'.honest ≡ s.honest → (IsTrue s.honest → KeepsFields v.1 s.content s'.content) → IsTileIn s v key known → IsTileIn s' v key known
+tile_moved s s' v key None honest kept t = λ sure. (let before = rw honest at sure in spelled_moved s s' v key (kept before) (t before))
+tile_moved s s' v key (Some cells) honest kept t = record {
+  counted = t.counted;
+  values = λ sure.
+      let before = rw honest at sure in
+      let same : coverage_in s'.content v.0 v.1 ≡ coverage_in s.content v.0 v.1 = rw (values_as s.content s'.content v.0.domain v.0.fields v.1 (kept before)).0 refl in
+      subst (λ (c : Coverage). AreTileCells (tile_in key.field key.tile) (c ∷ []) cells) (sym same) (t.values before);
+  spelled = λ sure. (let before = rw honest at sure in spelled_moved s s' v key (kept before) (t.spelled before));
+}
 
 -- those of some coverages
 versions_moved : (s s' : BlocksState) (table : ℕ → Version) (next : ℕ) (kept : Kept) (held : List Held) → s'.honest ≡ s.honest → (IsTrue s.honest → KeepsAll (indexes_of held) s.content s'.content) → AreVersions s table next kept held → AreVersions s' table next kept held
@@ -121,16 +127,16 @@ versions_remove s table next kept held i a = record {
 record IsNew (s : BlocksState) (table : ℕ → Version) (next following : ℕ) (kept : Kept) (h : Held) : Type 0 where
   pub like : (n : ℕ) → h.version ≡ Some n → given table next (told_by h) n ≡ told_by h
   pub below : (n : ℕ) → h.version ≡ Some n → n < following
-  pub tiles : (key : TileKey) (cells : List ℤ) → IsKept key cells kept → h.version ≡ Some key.version → IsTileIn s (told_by h) key cells
+  pub tiles : (key : TileKey) (cells : Known) → IsKept key cells kept → h.version ≡ Some key.version → IsTileIn s (told_by h) key cells
 
-is_new : (s : BlocksState) (table : ℕ → Version) (next following : ℕ) (kept : Kept) (h : Held) → ((key : TileKey) (cells : List ℤ) → IsKept key cells kept → key.version < next) → Renews next h.version following → IsNew s table next following kept h
+is_new : (s : BlocksState) (table : ℕ → Version) (next following : ℕ) (kept : Kept) (h : Held) → ((key : TileKey) (cells : Known) → IsKept key cells kept → key.version < next) → Renews next h.version following → IsNew s table next following kept h
 is_new s table next following kept h known is = record {
   like = λ n e. ap (given table next (told_by h)) (renews_new next h.version following n is e).0 ∙ given_here table next (told_by h);
   below = λ n e. let new = renews_new next h.version following n is e in omega (arith, new.0, new.1);
   tiles = λ key cells found e. let new = renews_new next h.version following key.version is e in absurd (omega (arith, new.0, known key cells found));
 }
 
-versions_put : (s : BlocksState) (table : ℕ → Version) (next following : ℕ) (kept : Kept) (held : List Held) (i : ℕ) (h : Held) → ((key : TileKey) (cells : List ℤ) → IsKept key cells kept → key.version < next) → Renews next h.version following
+versions_put : (s : BlocksState) (table : ℕ → Version) (next following : ℕ) (kept : Kept) (held : List Held) (i : ℕ) (h : Held) → ((key : TileKey) (cells : Known) → IsKept key cells kept → key.version < next) → Renews next h.version following
     → AreVersions s table next kept (remove held i) → AreVersions s (given table next (told_by h)) following kept (set held i h)
 versions_put s table next following kept held i h known is a =
     let b = versions_given s table next following (told_by h) kept (remove held i) (renews_le next h.version following is) a in
@@ -141,7 +147,7 @@ versions_put s table next following kept held i h known is a =
       tiles = λ key cells found. All-put (λ (g : Held). g.version ≡ Some key.version → IsTileIn s (told_by g) key cells) held i h (b.tiles key cells found) (new.tiles key cells found);
     }
 
-versions_push : (s : BlocksState) (table : ℕ → Version) (next following : ℕ) (kept : Kept) (held : List Held) (h : Held) → ((key : TileKey) (cells : List ℤ) → IsKept key cells kept → key.version < next) → Renews next h.version following
+versions_push : (s : BlocksState) (table : ℕ → Version) (next following : ℕ) (kept : Kept) (held : List Held) (h : Held) → ((key : TileKey) (cells : Known) → IsKept key cells kept → key.version < next) → Renews next h.version following
     → AreVersions s table next kept held → AreVersions s (given table next (told_by h)) following kept (held ++ h ∷ [])
 versions_push s table next following kept held h known is a =
     let b = versions_given s table next following (told_by h) kept held (renews_le next h.version following is) a in
@@ -200,11 +206,12 @@ decoded_moved s s' next kept held xs honest keeps jobs a = record {
 pub decoded_read : (s s' : BlocksState) (next : ℕ) (kept : Kept) (held : List Held) (xs : List Snapshot) → s'.content ≡ s.content → s'.honest ≡ s.honest → AreDecoded s next kept held xs → AreDecoded s' next kept held xs
 decoded_read s s' next kept held xs content honest a = decoded_moved s s' next kept held xs honest (λ sure k some. rw content refl) (λ k d l sure j some. rw content refl) a
 
-nothing_kept : (kept : Kept) → kept ≡ [] → (key : TileKey) (cells : List ℤ) → IsKept key cells kept → ⊥
-nothing_kept kept is key cells found = Contains-nil (key, found.0) (rw is at found.1)
+nothing_kept : (kept : Kept) → kept ≡ nothing → (key : TileKey) (known : Known) → IsKept key known kept → ⊥
+nothing_kept kept is key None found = Contains-nil (Some key) (subst (λ (k : Kept). Contains k.tested (Some key)) is found)
+nothing_kept kept is key (Some cells) found = Contains-nil (key, found.0) (subst (λ (k : Kept). Contains k.tiles (key, found.0)) is found.1)
 
 -- no tile, and no coverage
-pub decoded_none : (s : BlocksState) (next : ℕ) (kept : Kept) → kept ≡ [] → AreDecoded s next kept [] []
+pub decoded_none : (s : BlocksState) (next : ℕ) (kept : Kept) → kept ≡ nothing → AreDecoded s next kept [] []
 decoded_none s next kept is = record {
   table = λ n. (record { name = []; domain = []; fields = [] }, []);
   known = λ key cells found. absurd (nothing_kept kept is key cells found);
@@ -213,14 +220,14 @@ decoded_none s next kept is = record {
 }
 
 -- all tiles are let go
-versions_let_go : (s : BlocksState) (table : ℕ → Version) (next : ℕ) (old new : Kept) (held : List Held) → new ≡ [] → AreVersions s table next old held → AreVersions s table next new held
+versions_let_go : (s : BlocksState) (table : ℕ → Version) (next : ℕ) (old new : Kept) (held : List Held) → new ≡ nothing → AreVersions s table next old held → AreVersions s table next new held
 versions_let_go s table next old new held is v = record {
   like = v.like;
   below = v.below;
   tiles = λ key cells found. absurd (nothing_kept new is key cells found);
 }
 
-pub decoded_let_go : (s : BlocksState) (next : ℕ) (old new : Kept) (held : List Held) (xs : List Snapshot) → new ≡ [] → AreDecoded s next old held xs → AreDecoded s next new held xs
+pub decoded_let_go : (s : BlocksState) (next : ℕ) (old new : Kept) (held : List Held) (xs : List Snapshot) → new ≡ nothing → AreDecoded s next old held xs → AreDecoded s next new held xs
 decoded_let_go s next old new held xs is a = record {
   table = a.table;
   known = λ key cells found. absurd (nothing_kept new is key cells found);
@@ -256,15 +263,18 @@ pub serves_job : (s : BlocksState) (next : ℕ) (old : Kept) (held : List Held) 
 serves_job s next old held xs j x i h a within is inside was =
     serves_of s next old held xs a x.coverages.items i h (subst (λ (y : Snapshot). AreVersions s a.table next old y.coverages.items) (sym is) (a.jobs j x within)) inside was
 
--- a tile that was kept after a fetch
-pub adds_of : (s : BlocksState) (h : Held) (key : TileKey) (cells : List ℤ) (old mid new : Kept) → NoneAdded old mid → Adds key cells mid new → h.version ≡ Some key.version → IsTileIn s (told_by h) key cells → AddsOf s h old new
-adds_of s h key cells old mid new fewer adds is tile j others found = elim (adds j others found) [
-  | inl was ↦ inl (fewer j others was)
+pub adds_none : (s : BlocksState) (h : Held) (old new : Kept) → NoneAdded old new → AddsOf s h old new
+adds_none s h old new fewer key cells found = inl (fewer key cells found)
+
+-- more is known of a tile, after a fetch
+pub adds_then : (s : BlocksState) (h : Held) (key : TileKey) (what : Known) (old mid new : Kept) → AddsOf s h old mid → Adds key what mid new → h.version ≡ Some key.version → IsTileIn s (told_by h) key what → AddsOf s h old new
+adds_then s h key what old mid new first adds is tile j known found = elim (adds j known found) [
+  | inl was ↦ first j known was
   | inr same ↦ inr (rw same.0 is, rw (same.0, same.1) tile)
 ]
 
-pub adds_none : (s : BlocksState) (h : Held) (old new : Kept) → NoneAdded old new → AddsOf s h old new
-adds_none s h old new fewer key cells found = inl (fewer key cells found)
+pub adds_of : (s : BlocksState) (h : Held) (key : TileKey) (what : Known) (old mid new : Kept) → NoneAdded old mid → Adds key what mid new → h.version ≡ Some key.version → IsTileIn s (told_by h) key what → AddsOf s h old new
+adds_of s h key what old mid new fewer adds is tile = adds_then s h key what old mid new (adds_none s h old mid fewer) adds is tile
 
 -- ---- coverages come, go and change
 
@@ -305,7 +315,9 @@ pub record Alone (s : BlocksState) (held : List Held) (at : TileAt) (h : Held) :
   pub within : at.coverage < length held
   pub is_held : IsHeld s (h ∷ [])
   pub tile : HasTile (tile_in at.field at.tile) (coverages_of s.content (h ∷ []))
+  pub ranks : (ranks : List ℕ) → HasRanks at ranks (coverages_of s.content held) → HasRanks (tile_in at.field at.tile) ranks (coverages_of s.content (h ∷ []))
   pub there : (cells : List ℤ) → IsTileOf s h at.field at.tile cells → IsDecoded s (coverages_of s.content held) (indexes_of held) at cells
+  pub picked : (ranks : List ℕ) (cells : List ℤ) → ArePickedIn s (coverages_of s.content (h ∷ [])) (indexes_of (h ∷ [])) (tile_in at.field at.tile) ranks cells → ArePickedIn s (coverages_of s.content held) (indexes_of held) at ranks cells
   pub spelled : IsSpelledAt at s.content (coverages_of s.content held) (indexes_of held) → IsSpelledAt (tile_in at.field at.tile) s.content (coverages_of s.content (h ∷ [])) (indexes_of (h ∷ []))
 
 one_held : (s : BlocksState) (held : List Held) (i : ℕ) (h : Held) → IsHeld s held → i < length held → h ≡ get_or held i h → IsHeld s (h ∷ [])
@@ -327,6 +339,8 @@ alone s held at h is has was =
       within = within;
       is_held = one_held s held at.coverage h is within was;
       tile = rw found at has;
+      ranks = λ ranks within. rw found at within;
+      picked = λ ranks cells t. record { counted = t.counted; values = λ sure. rw found (t.values sure); spelled = λ sure. rw (found, p.indexes) (t.spelled sure) };
       there = λ cells t. record { counted = rw found t.counted; values = λ sure. rw found (t.values sure); spelled = λ sure. rw (found, p.indexes) (t.spelled sure) };
       spelled = λ spelled. rw (found, p.indexes) at spelled;
     }

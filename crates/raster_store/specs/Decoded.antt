@@ -1,26 +1,41 @@
--- The tiles that a store keeps decoded: each by the version of its coverage, with its cells in row-major order.
+-- What a store keeps of tiles that were read, each by the version of its coverage: the cells of some, in row-major order,
+-- and of more that they were tested.
 use Rattle.std.specs.Prelude.{◌≡◌, ℤ, List, [], Option, Some, None, Vec, Contains, ◌⊎◌}
 use Rattle.std.specs.declared.alloc.Global.{Global}
 use Rattle.lru.specs.LruCache.{LruCache}
 use Rattle.raster_store.specs.declared.reading.TileKey.{TileKey}
 
-abbrev pub Kept : Type 0
-Kept = List (TileKey × Vec ℤ Global)
+-- what is known of a tile: its cells, or only that it was tested, which is to say read whole without a refusal
+abbrev pub Known : Type 0
+Known = Option (List ℤ)
+
+-- the tiles with their cells, and those that were tested, each at some place
+pub record Kept : Type 0 where
+  pub tiles : List (TileKey × Vec ℤ Global)
+  pub tested : List (Option TileKey)
 
 -- the tiles of a cache that may be left out
-abbrev pub entries_of : Option (LruCache TileKey (Vec ℤ Global)) → Kept
+abbrev pub entries_of : Option (LruCache TileKey (Vec ℤ Global)) → List (TileKey × Vec ℤ Global)
 entries_of None = []
 entries_of (Some cache) = cache.entries
 
--- a tile is kept with these cells
-abbrev pub IsKept : TileKey → List ℤ → Kept → Type 0
-IsKept at cells kept = (tile : Vec ℤ Global) × Contains kept (at, tile) × (tile.items ≡ cells)
+abbrev pub kept_of : Option (LruCache TileKey (Vec ℤ Global)) → List (Option TileKey) → Kept
+kept_of cache tested = record { tiles = entries_of cache; tested = tested }
 
--- each tile was kept
+-- nothing
+abbrev pub nothing : Kept
+nothing = record { tiles = []; tested = [] }
+
+-- this is kept of a tile
+abbrev pub IsKept : TileKey → Known → Kept → Type 0
+IsKept at None kept = Contains kept.tested (Some at)
+IsKept at (Some cells) kept = (tile : Vec ℤ Global) × Contains kept.tiles (at, tile) × (tile.items ≡ cells)
+
+-- all that is kept was kept
 abbrev pub NoneAdded : Kept → Kept → Type 0
-NoneAdded old new = (at : TileKey) (cells : List ℤ) → IsKept at cells new → IsKept at cells old
+NoneAdded old new = (at : TileKey) (known : Known) → IsKept at known new → IsKept at known old
 
--- each tile was kept, or is this one with these cells
-abbrev pub Adds : TileKey → List ℤ → Kept → Kept → Type 0
-Adds at cells old new =
-    (j : TileKey) (others : List ℤ) → IsKept j others new → IsKept j others old ⊎ ((j ≡ at) × (others ≡ cells))
+-- all that is kept was kept, or is this, of this tile
+abbrev pub Adds : TileKey → Known → Kept → Kept → Type 0
+Adds at what old new =
+    (j : TileKey) (known : Known) → IsKept j known new → IsKept j known old ⊎ ((j ≡ at) × (known ≡ what))

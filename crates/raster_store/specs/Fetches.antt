@@ -1,8 +1,8 @@
 -- Tiles that are fetched by their places in a store.
-use Rattle.std.specs.Prelude.{◌≡◌, ℕ, ◌<◌, ℤ, IsTrue, List, [], map, length, slice_get, slice_index_or, Some, IsSomeAnd}
+use Rattle.std.specs.Prelude.{◌≡◌, ℕ, ◌<◌, ℤ, IsTrue, List, [], map, length, slice_get, slice_index_or, Some, IsSomeAnd, All}
 use Rattle.arr_core.specs.declared.field.Field.{Field}
 use Rattle.arr_core.specs.declared.domain.Axis.{Axis}
-use Rattle.arr_core.specs.Domains.{points, IsBoxOf}
+use Rattle.arr_core.specs.Domains.{points, count, IsBoxOf}
 use Rattle.arr_core.specs.Stores.{Coverage, Store, found, value_at}
 use Rattle.arr_core.specs.Tiles.{tile_boxes}
 use Rattle.block_file.specs.State.{BlocksState}
@@ -46,6 +46,28 @@ pub record IsDecoded (s : BlocksState) (coverages : Store) (indexes : List (List
   pub counted : HasTileCount at coverages cells
   pub values : IsTrue s.honest → AreTileCells at coverages cells
   pub spelled : IsTrue s.honest → IsSpelledAt at s.content coverages indexes
+
+-- each of these is a rank of the tile's points
+abbrev pub HasRanks : TileAt → List ℕ → Store → Type 0
+HasRanks at ranks coverages =
+    IsSomeAnd (slice_get coverages at.coverage) (λ c. All (λ (r : ℕ). r < count (tile_box c.domain at.tile)) ranks)
+
+-- the values of the field at the tile's points with these ranks, in row-major order
+abbrev pub AreRankedCells : TileAt → List ℕ → Store → List ℤ → Type 0
+AreRankedCells at ranks coverages cells =
+    IsSomeAnd (slice_get coverages at.coverage)
+    (λ c. cells ≡ map (λ (r : ℕ). value_at c at.field (slice_index_or (points (tile_box c.domain at.tile)) r [])) ranks)
+
+-- Cells are those of a tile of a store at some ranks: one for each, and, where the disk is honest, the values there, of a
+-- tile that is spelled, its other cells too.
+pub record ArePickedIn (s : BlocksState) (coverages : Store) (indexes : List (List Index)) (at : TileAt)
+    (ranks : List ℕ) (cells : List ℤ) : Type 0 where
+  pub counted : length cells ≡ length ranks
+  pub values : IsTrue s.honest → AreRankedCells at ranks coverages cells
+  pub spelled : IsTrue s.honest → IsSpelledAt at s.content coverages indexes
+
+abbrev pub ArePicked : {B : Type 0} → (B → BlocksState) → TileAt → List ℕ → RasterView B → List ℤ → Type 0
+ArePicked state at ranks v cells = ArePickedIn (state v.blocks) v.coverages v.indexes at ranks cells
 
 -- cells are those of a tile of a store
 abbrev pub IsFetched : {B : Type 0} → (B → BlocksState) → TileAt → RasterView B → List ℤ → Type 0

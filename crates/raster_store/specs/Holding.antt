@@ -14,7 +14,7 @@ use Rattle.raster_store.specs.Views.{Index, SnapshotView, coverage_in, listed_al
 use Rattle.raster_store.specs.declared.reading.TileAt.{TileAt}
 use Rattle.raster_store.specs.declared.reading.TileKey.{TileKey}
 use Rattle.raster_store.specs.Fetches.{IsDecoded, IsSpelledAt}
-use Rattle.raster_store.specs.Decoded.{Kept, IsKept}
+use Rattle.raster_store.specs.Decoded.{Known, Kept, IsKept}
 
 abbrev pub signatures_of : List Held → List Signature
 signatures_of held = map (λ (h : Held). h.signature) held
@@ -106,9 +106,13 @@ told_by h = (h.signature, h.fields.items)
 abbrev pub tile_in : ℕ → ℕ → TileAt
 tile_in field tile = record { coverage = 0; field = field; tile = tile }
 
--- cells are those of a tile of a coverage, as a version tells it
-abbrev pub IsTileIn : BlocksState → Version → TileKey → List ℤ → Type 0
-IsTileIn s v key cells =
+-- What is known of a tile of a coverage, as a version tells it, is true: cells are those of the tile, and one that was
+-- tested is spelled, if the disk is honest.
+abbrev pub IsTileIn : BlocksState → Version → TileKey → Known → Type 0
+IsTileIn s v key None =
+    IsTrue s.honest
+    → IsSpelledAt (tile_in key.field key.tile) s.content (coverage_in s.content v.0 v.1 ∷ []) (v.1 ∷ [])
+IsTileIn s v key (Some cells) =
     IsDecoded s (coverage_in s.content v.0 v.1 ∷ []) (v.1 ∷ []) (tile_in key.field key.tile) cells
 
 -- as it is held
@@ -128,31 +132,31 @@ Renews next version following =
     ((version ≡ Some next) × (following ≡ next + 1))
     ⊎ ((version ≡ None) × (following ≡ next) × (2 ^ 64 ≤ next + 1))
 
--- each tile that is kept of the version of a coverage is the coverage's
+-- what is kept of tiles of the version of a coverage is true of the coverage
 abbrev pub AreOf : BlocksState → Held → Kept → Type 0
 AreOf s h kept =
-    (key : TileKey) (cells : List ℤ) → IsKept key cells kept → h.version ≡ Some key.version
-    → IsTileIn s (told_by h) key cells
+    (key : TileKey) (known : Known) → IsKept key known kept → h.version ≡ Some key.version
+    → IsTileIn s (told_by h) key known
 
--- each kept tile was kept, or is one of a coverage
+-- all that is kept was kept, or is true of a coverage
 abbrev pub AddsOf : BlocksState → Held → Kept → Kept → Type 0
 AddsOf s h old new =
-    (key : TileKey) (cells : List ℤ) → IsKept key cells new
-    → IsKept key cells old ⊎ ((h.version ≡ Some key.version) × IsTileIn s (told_by h) key cells)
+    (key : TileKey) (known : Known) → IsKept key known new
+    → IsKept key known old ⊎ ((h.version ≡ Some key.version) × IsTileIn s (told_by h) key known)
 
--- What versions coverages have are below a number and tell what a table says of them, and each kept tile of such a
--- version is theirs.
+-- What versions coverages have are below a number and tell what a table says of them, and what is kept of a tile of such
+-- a version is true of theirs.
 pub record AreVersions (s : BlocksState) (table : ℕ → Version) (next : ℕ) (kept : Kept) (held : List Held) : Type 0 where
   pub like : (n : ℕ) → All (λ (h : Held). h.version ≡ Some n → table n ≡ told_by h) held
   pub below : (n : ℕ) → All (λ (h : Held). h.version ≡ Some n → n < next) held
-  pub tiles : (key : TileKey) (cells : List ℤ) → IsKept key cells kept
-      → All (λ (h : Held). h.version ≡ Some key.version → IsTileIn s (told_by h) key cells) held
+  pub tiles : (key : TileKey) (known : Known) → IsKept key known kept
+      → All (λ (h : Held). h.version ≡ Some key.version → IsTileIn s (told_by h) key known) held
 
 -- Coverages of a store, and those that are held for jobs, with the same version are the same, and each tile that is kept
 -- of a version is theirs. The number is above all versions, also of tiles whose coverage is there no more.
 pub record AreDecoded (s : BlocksState) (next : ℕ) (kept : Kept) (held : List Held) (others : List Snapshot) : Type 0 where
   pub table : ℕ → Version
-  pub known : (key : TileKey) (cells : List ℤ) → IsKept key cells kept → key.version < next
+  pub known : (key : TileKey) (what : Known) → IsKept key what kept → key.version < next
   pub own : AreVersions s table next kept held
   pub jobs : All (λ (x : Snapshot). AreVersions s table next kept x.coverages.items) others
 

@@ -1,7 +1,7 @@
 //! The tiles that are kept decoded.
 
-ghost use Rattle.std.specs.Prelude.{◌≡◌, [], IsTrue, IfOk};
-ghost use Rattle.raster_store.specs.Decoded.{IsKept, NoneAdded, Adds};
+ghost use Rattle.std.specs.Prelude.{◌≡◌, ◌<◌, IsTrue, IfOk, None, Some, replicate};
+ghost use Rattle.raster_store.specs.Decoded.{nothing, IsKept, NoneAdded, Adds};
 
 use crate::reading::TileKey;
 use lru::LruCache;
@@ -15,21 +15,45 @@ const TILES: usize = 64;
 /// How many keys are noted of tiles that were read.
 const NOTED: usize = 256;
 
-/// The cells of tiles by the versions of their coverages, in the order of their last use. What finds no memory is left
-/// out: a tile, or the whole. A tile is kept where it was read lately, so that one pass over many tiles drives out none.
-/// Tiles of versions that no coverage has any more go as the least lately used.
+/// How many places there are for marks of tiles that were tested. Each has one place, where a later tile takes it.
+const MARKS: usize = 65536;
+
+/// How far apart the places of tiles of one number are, of versions and of fields that follow one another.
+const STRIDE: u64 = 4099;
+
+/// The cells of tiles by the versions of their coverages, in the order of their last use, and marks of tiles that were
+/// tested, which is to say read whole without a refusal. What finds no memory is left out: a tile, the marks, or the
+/// whole. A tile is kept where it was read lately, so that one pass over many tiles drives out none. Tiles of versions
+/// that no coverage has any more go as the least lately used.
 #[derive(Drop)]
 pub(crate) struct DecodedTiles {
     kept: Option<LruCache<TileKey, Vec<i64>>>,
     read: Vec<TileKey>,
+    tested: Vec<Option<TileKey>>,
 }
 
 impl Model for DecodedTiles {
-    ghost use Rattle.raster_store.specs.Decoded.{Kept, entries_of};
+    ghost use Rattle.raster_store.specs.Decoded.{Kept, kept_of};
 
     ghost Value = { Kept };
 
-    ghost view = { λ d. entries_of d.kept };
+    ghost view = { λ d. kept_of d.kept d.tested.items };
+}
+
+/// No mark, at each of so many places.
+fn no_marks(alloc: Global, count: usize) -> Result<Vec<Option<TileKey>>, AllocError>
+    ensures { IfOk result (λ marks. marks.items ≡ replicate count None) }
+{
+    vec![in alloc; None; count]
+}
+
+/// The place for the mark of a tile.
+fn place_of(at: TileKey) -> usize
+    ensures { result < MARKS }
+{
+    let first = at.version.wrapping_add(at.field as u64);
+    let place = first.wrapping_mul(STRIDE).wrapping_add(at.tile) % MARKS as u64;
+    place as usize
 }
 
 /// The same cells again.
@@ -43,7 +67,7 @@ fn copy_of(alloc: Global, cells: &[i64]) -> Result<Vec<i64>, AllocError>
 
 /// No tile, and the places for keys.
 fn empty(alloc: Global, count: NonZeroUsize) -> Result<DecodedTiles, AllocError>
-    ensures { IfOk result (λ tiles. tiles ≡ []) }
+    ensures { IfOk result (λ tiles. tiles ≡ nothing) }
 {
     let first = TileKey {
         version: 0,
@@ -55,13 +79,14 @@ fn empty(alloc: Global, count: NonZeroUsize) -> Result<DecodedTiles, AllocError>
     Ok(DecodedTiles {
         kept: Some(kept),
         read,
+        tested: Vec::new(alloc),
     })
 }
 
 impl DecodedTiles {
     /// No tile yet.
     pub(crate) fn new(alloc: Global) -> DecodedTiles
-        ensures { result ≡ [] }
+        ensures { result ≡ nothing }
     {
         if let Some(count) = NonZeroUsize::new(TILES) {
             if let Ok(tiles) = empty(alloc, count) {
@@ -71,20 +96,22 @@ impl DecodedTiles {
         DecodedTiles {
             kept: None,
             read: Vec::new(alloc),
+            tested: Vec::new(alloc),
         }
     }
 
-    /// Drops the tiles, and keeps none from now on. Takes no memory.
+    /// Drops the tiles, and keeps none from now on, and drops the marks. Takes no memory.
     pub(crate) fn let_go(&mut self, alloc: Global)
-        ensures { self.new ≡ [] }
+        ensures { self.new ≡ nothing }
     {
         self.kept = None;
         self.read = Vec::new(alloc);
+        self.tested = Vec::new(alloc);
     }
 
     /// Copies the cells of a tile into a buffer, whatever that held before, where the tile is kept, which it tells.
     pub(crate) fn get(&mut self, at: TileKey, cells: &mut Vec<i64>) -> Result<bool, AllocError>
-        ensures kept { IfOk result (λ found. IsTrue found → IsKept at cells.new.items self.old) }
+        ensures kept { IfOk result (λ found. IsTrue found → IsKept at (Some cells.new.items) self.old) }
         ensures same { NoneAdded self.old self.new }
     {
         let Some(kept) = &mut self.kept else {
@@ -115,7 +142,7 @@ impl DecodedTiles {
 
     /// Keeps the cells of a tile, where there is memory for them.
     fn put(&mut self, alloc: Global, at: TileKey, cells: &[i64])
-        ensures { Adds at cells.now self.old self.new }
+        ensures { Adds at (Some cells.now) self.old self.new }
     {
         let Some(kept) = &mut self.kept else {
             return;
@@ -128,10 +155,55 @@ impl DecodedTiles {
 
     /// Keeps the cells of a tile that was read, where it was read lately before and there is memory for them.
     pub(crate) fn keep(&mut self, alloc: Global, at: TileKey, cells: &[i64])
-        ensures { Adds at cells.now self.old self.new }
+        ensures { Adds at (Some cells.now) self.old self.new }
     {
         if self.note(at) {
             self.put(alloc, at, cells);
+        }
+    }
+    /// Makes so many places for marks, where there are none and there is memory for them.
+    fn make_places(&mut self, alloc: Global, count: usize)
+        ensures { NoneAdded self.old self.new }
+    {
+        if self.tested.len() > 0 {
+            return;
+        }
+        let Ok(marks) = no_marks(alloc, count) else {
+            return;
+        };
+        self.tested = marks;
+    }
+
+    /// Marks a tile as tested, where there is a place for the mark.
+    fn put_mark(&mut self, at: TileKey)
+        ensures { Adds at None self.old self.new }
+    {
+        let place = place_of(at);
+        if place >= self.tested.len() {
+            return;
+        }
+        self.tested[place] = Some(at);
+    }
+
+    /// Marks a tile as tested, where there is memory for marks.
+    pub(crate) fn mark(&mut self, alloc: Global, at: TileKey)
+        ensures { Adds at None self.old self.new }
+    {
+        self.make_places(alloc, MARKS);
+        self.put_mark(at);
+    }
+
+    /// Whether a tile is marked as tested.
+    pub(crate) fn is_tested(&self, at: TileKey) -> bool
+        ensures { IsTrue result → IsKept at None self.now }
+    {
+        let place = place_of(at);
+        if place >= self.tested.len() {
+            return false;
+        }
+        match self.tested[place] {
+            Some(key) => key == at,
+            None => false,
         }
     }
 }

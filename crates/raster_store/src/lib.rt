@@ -6,6 +6,7 @@ mod decoded;
 mod fault;
 mod fetching;
 mod held;
+mod picking;
 mod reading;
 mod sizes;
 mod snapshot;

@@ -12,7 +12,7 @@ ghost use Rattle.tile_store.specs.Faults.{Refuses};
 ghost use Rattle.raster_store.specs.Views.{AreBelow, Fetched, SnapshotView};
 ghost use Rattle.raster_store.specs.Calls.{signature_in, AreWhole, AreListed, HasField, MayAttach, IsIndexOf};
 ghost use Rattle.raster_store.specs.Fetches.{IsPlaceOf, HasTile, HasTileNumber, IsFetched, IsDamagedAt, AreCellsOf};
-ghost use Rattle.raster_store.specs.Fetches.{IsDamagedTile, IsDamagedCell, IsDamagedBox};
+ghost use Rattle.raster_store.specs.Fetches.{HasRanks, ArePicked, IsDamagedTile, IsDamagedCell, IsDamagedBox};
 ghost use Rattle.raster_store.specs.Fields.{HasPatch, Puts, RefusesPut, PutsCells, RefusesPutCells};
 ghost use Rattle.raster_store.specs.Words.{OnBlocks, TellsFault, OnlyFetches, SameCoverages, Stays};
 ghost use Rattle.raster_store.specs.Words.{Keeps, Attaches, Creates, LacksRoomToCreate, IsCell, AreBoxCells};
@@ -23,6 +23,7 @@ use crate::decoded::DecodedTiles;
 use crate::fault::WriteFault;
 use crate::fetching::{TileOf, fetch_of};
 use crate::held::{Held, give_back_fields, named, place_held, place_of, renewed};
+use crate::picking::{RanksOf, pick_of};
 use crate::reading::TileAt;
 use crate::sizes::{created_size, has_room, rest_size};
 use crate::snapshot::{Snapshot, blocks_of, copies_of, place_for, release_all};
@@ -212,6 +213,44 @@ impl<B: Blocks> RasterStore<B> {
             tile: at.tile,
         };
         fetch_of(
+            self.alloc,
+            &mut self.blocks,
+            of,
+            &mut self.decoded,
+            &mut self.bytes,
+            cells,
+        )?;
+        self.fetched = self.fetched.saturating_add(1);
+        Ok(())
+    }
+
+    /// Reads the stored numbers of a tile at ranks of its points in row-major order into `cells`, one for each rank,
+    /// whatever it held before: the same as `fetch_tile_into` gives there, without the others where the tile was read
+    /// so before. `Damaged` comes where `fetch_tile_into` tells it. It counts as a tile that was fetched.
+    #[tactic(auto, using(crate::proofs::Readings::placed, crate::proofs::Readings::place_within))]
+    pub fn pick_tile_into(
+        &mut self,
+        at: TileAt,
+        ranks: &[u64],
+        cells: &mut Vec<i64>,
+    ) -> Result<(), Fault>
+        requires tile { HasTile at self.old.coverages }
+        requires ranks { HasRanks at ranks.now self.old.coverages }
+        ensures read { OnOk result (ArePicked B.state at ranks.now self.old cells.new.items) }
+        ensures why { Refuses result (IsDamagedAt B.state at self.old) ⊥ }
+        ensures frame { OnlyFetches B.state self.old self.new }
+        ensures fetched { OnOk result (Fetched 1 self.old.fetched self.new.fetched) }
+        ensures unfetched { OnErr result (self.new.fetched ≡ self.old.fetched) }
+        ensures told { TellsFault (IsErrOf result Fault.DiskFault) B.state self.old self.new }
+    {
+        let coverage = &self.coverages[at.coverage];
+        let tile = TileOf {
+            coverage,
+            field: at.field,
+            tile: at.tile,
+        };
+        let of = RanksOf { tile, ranks };
+        pick_of(
             self.alloc,
             &mut self.blocks,
             of,
@@ -415,8 +454,8 @@ impl<B: Blocks> RasterStore<B> {
         }
     }
 
-    /// Lets go the tiles that are kept decoded, the buffer of bytes and what the blocks keep. Callers see no difference.
-    /// Takes no memory.
+    /// Lets go the tiles that are kept decoded, the marks of those that were tested, the buffer of bytes and what the
+    /// blocks keep. Callers see no difference. Takes no memory.
     pub fn let_go(&mut self)
         ensures { self.new ≡ self.old }
     {
@@ -467,6 +506,66 @@ impl<B: Blocks> RasterStore<B> {
         match place_for(&self.snapshots, job) {
             Some(place) => self.fetch_held(place, at, cells),
             None => self.fetch_tile_into(at, cells),
+        }
+    }
+
+    /// Reads cells of a tile as `pick_tile_into` does, of the coverages that are held at a place.
+    fn pick_held(
+        &mut self,
+        place: usize,
+        at: TileAt,
+        ranks: &[u64],
+        cells: &mut Vec<i64>,
+    ) -> Result<(), Fault>
+        requires tile { OnHeldAt place self.old (λ v. HasTile at v.coverages) }
+        requires ranks { OnHeldAt place self.old (λ v. HasRanks at ranks.now v.coverages) }
+        ensures read { OnOk result (OnHeldAt place self.old (λ v. ArePicked B.state at ranks.now v cells.new.items)) }
+        ensures why { Refuses result (OnHeldAt place self.old (λ v. IsDamagedAt B.state at v)) ⊥ }
+        ensures frame { OnlyFetches B.state self.old self.new }
+        ensures fetched { OnOk result (Fetched 1 self.old.fetched self.new.fetched) }
+        ensures unfetched { OnErr result (self.new.fetched ≡ self.old.fetched) }
+        ensures told { TellsFault (IsErrOf result Fault.DiskFault) B.state self.old self.new }
+    {
+        let coverage = &self.snapshots[place].coverages[at.coverage];
+        let tile = TileOf {
+            coverage,
+            field: at.field,
+            tile: at.tile,
+        };
+        let of = RanksOf { tile, ranks };
+        pick_of(
+            self.alloc,
+            &mut self.blocks,
+            of,
+            &mut self.decoded,
+            &mut self.bytes,
+            cells,
+        )?;
+        self.fetched = self.fetched.saturating_add(1);
+        Ok(())
+    }
+
+    /// Reads cells of a tile as `pick_tile_into` does, of the coverages that are held for a job, by their places there.
+    /// For number 0, where nothing is held for it, of those of the store as it is.
+    pub fn pick_at(
+        &mut self,
+        job: u64,
+        at: TileAt,
+        ranks: &[u64],
+        cells: &mut Vec<i64>,
+    ) -> Result<(), Fault>
+        requires tile { OnHeldFor job self.old (λ v. HasTile at v.coverages) }
+        requires ranks { OnHeldFor job self.old (λ v. HasRanks at ranks.now v.coverages) }
+        ensures read { OnOk result (OnHeldFor job self.old (λ v. ArePicked B.state at ranks.now v cells.new.items)) }
+        ensures why { Refuses result (OnHeldFor job self.old (λ v. IsDamagedAt B.state at v)) ⊥ }
+        ensures frame { OnlyFetches B.state self.old self.new }
+        ensures fetched { OnOk result (Fetched 1 self.old.fetched self.new.fetched) }
+        ensures unfetched { OnErr result (self.new.fetched ≡ self.old.fetched) }
+        ensures told { TellsFault (IsErrOf result Fault.DiskFault) B.state self.old self.new }
+    {
+        match place_for(&self.snapshots, job) {
+            Some(place) => self.pick_held(place, at, ranks, cells),
+            None => self.pick_tile_into(at, ranks, cells),
         }
     }
 

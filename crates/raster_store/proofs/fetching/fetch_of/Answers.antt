@@ -1,10 +1,10 @@
 -- A tile that is kept of the coverage's version is the coverage's, and one that is read is kept.
-use Rattle.std.proofs.Common.{rules}
+use Rattle.std.proofs.Common.{rules, Some}
 use Rattle.raster_store.proofs.Versions.{adds_of}
 use Rattle.raster_store.proofs.fetching.fetch_of.Goals as goal
 
 pub returns-then-branch-clause-read : goal.returns-then-branch-clause-read
-returns-then-branch-clause-read g c = c.requires.kept _ c.get.new.cells.items (c.in_ok-get.ensures.kept (search rules)) (search rules)
+returns-then-branch-clause-read g c = c.requires.kept _ (Some c.get.new.cells.items) (c.in_ok-get.ensures.kept (search rules)) (search rules)
 
 pub returns-clause-kept : goal.returns-clause-kept
 returns-clause-kept g c =
