@@ -1,10 +1,10 @@
 -- What is kept of a tile of an item.
 use Rattle.std.proofs.Common.{◌≡◌, ℕ, zero, suc, ◌+◌, ◌<◌, ◌≤◌, List, [], ◌∷◌, ◌++◌, length, ℤ, refl, sym, ap, ◌∙◌, subst, arith, Bool, true, false, Option, Some, None, Vec, Global, ◌⊎◌, inl, inr, length-append}
 use Rattle.std.specs.Prelude.{vec_capacity, slice_get, Ok, Err}
-use Rattle.std.specs.List.{All, flat_map}
+use Rattle.std.specs.List.{flat_map}
 use Rattle.std.proofs.lemmas.List.Elements.{All-nil}
 use Rattle.arr_core.specs.declared.cell.Cell.{Cell}
-use Rattle.arr_core.specs.Domains.{points, count, IsDomain}
+use Rattle.arr_core.specs.Domains.{points, IsDomain}
 use Rattle.arr_core.specs.Tiles.{tile_boxes}
 use Rattle.wcps_mean.specs.declared.cell.PointFault.{PointFault}
 use Rattle.wcps_mean.specs.declared.cell.Outcome.{Outcome}

@@ -1,5 +1,5 @@
 -- One more point.
-use Rattle.std.proofs.Common.{◌≡◌, ◌∙◌, ◌<◌, ◌*◌, ℕ, sym, subst, arith, refl, length, get_or}
+use Rattle.std.proofs.Common.{◌≡◌, ◌∙◌, ◌<◌, ℕ, sym, subst, arith, refl, length}
 use Rattle.std.specs.Prelude.{All}
 use Rattle.arr_core.specs.declared.cell.Cell.{Cell}
 use Rattle.tile_columns.proofs.ByRows.{flat_more}
