@@ -20,3 +20,8 @@ pub mod Behind
 pub mod BlankFolds
 pub mod ZoneFolds
 pub mod FoldPlaces
+pub mod Lying
+pub mod Reaches
+pub mod Grid
+pub mod WindowMeaning
+pub mod Halos

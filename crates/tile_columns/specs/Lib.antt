@@ -18,3 +18,5 @@ pub mod Blanks
 pub mod Zones
 pub mod Folds
 pub mod Binds
+pub mod Reaching
+pub mod Windows

@@ -18,11 +18,13 @@ use crate::folds::{
 };
 use crate::frame::Frame;
 use crate::ground::{BodyRead, Ground, read_cells, register};
+use crate::halo::condense_window;
 use crate::lookup::{fill_variable, look_up};
 use crate::part::{Part, part_at};
 use crate::scratch::Scratch;
 use crate::shapes::{Shape, ShapeSide, always_true};
 use crate::source::Tiles;
+use crate::windows::window_of;
 use crate::zones::{Keys, Role, Seen, Zones, keys_of, tell_seen, zones_of};
 use plan_ir::{Body, Fold, Interval};
 use tile_kernel::{
@@ -211,7 +213,8 @@ fn at_coordinates<S: Tiles>(
     Ok(())
 }
 
-/// Makes `out` what a fold gives at the places of a frame.
+/// Makes `out` what a fold gives at the places of a frame: where it is one of windows, of the cells of all of them at
+/// once.
 #[cycle(evaluate)]
 fn condense<S: Tiles>(
     source: &mut S,
@@ -230,6 +233,11 @@ fn condense<S: Tiles>(
     ensures reports { Tells S.spelled result (S.state source.old) (S.state source.new) }
     ensures fetched { Fetches result ground.now (fold_view fold.now) frame.old (S.state source.old) (S.state source.new) }
 {
+    let found = window_of(scratch.alloc(), ground, fold, frame)?;
+    match found {
+        Some(window) => return condense_window(source, ground, &window, scratch, out),
+        None => (),
+    }
     let mut folds = empty_folds(scratch.alloc(), fold.op, frame.places())?;
     tell_all(source, ground, fold, frame, scratch, &mut folds)?;
     finish_folds(folds, &mut scratch.outcomes)?;

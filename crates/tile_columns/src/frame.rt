@@ -8,7 +8,7 @@ ghost use Rattle.tile_columns.specs.Frames.{turn, number_of, environment, HasPla
 
 use crate::numbers::fill_list;
 use arr_core::{Axis, Domain, distance};
-use plan_ir::Index;
+use plan_ir::{Index, Interval};
 use std::alloc::{AllocError, Global};
 use std::marker::Model;
 
@@ -293,5 +293,13 @@ impl Frame {
         ensures { self.new ≡ map (take depth) self.old }
     {
         self.variables.truncate(depth);
+    }
+
+    /// The bounds of a variable that turns as the coordinates of an axis.
+    pub(crate) fn bounds(&self, k: usize) -> Option<Interval> {
+        match self.variables.get(k) {
+            Some(Variable::Axis(lo, hi, _)) => Some(Interval { lo: *lo, hi: *hi }),
+            _ => None,
+        }
     }
 }

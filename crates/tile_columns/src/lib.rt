@@ -11,15 +11,18 @@ mod folds;
 mod frame;
 mod gather;
 mod ground;
+mod halo;
 mod locate;
 mod lookup;
 mod numbers;
 mod part;
+mod reach;
 mod scratch;
 mod shapes;
 mod source;
 mod spots;
 mod stretches;
+mod windows;
 mod zones;
 
 pub use bodies::evaluate;

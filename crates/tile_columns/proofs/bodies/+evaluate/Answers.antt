@@ -45,6 +45,7 @@ use Rattle.tile_columns.specs.Meaning.{meaning, chosen, HasPlaceOver, IsColumnOf
 use Rattle.tile_columns.specs.Folds.{FoldHasPlace, BodiesHavePlace, AreOfFold, FetchesPoint, FetchesPoints, FetchesOwn}
 use Rattle.tile_columns.proofs.Calls.{reads_on}
 use Rattle.tile_columns.proofs.FoldPlaces.{reads_same, fold_later}
+use Rattle.tile_columns.proofs.WindowMeaning.{all_windows, windows_many, window_bound}
 use Rattle.tile_columns.proofs.bodies.+evaluate.Goals as goal
 
 pub at_coordinates-evaluate-requires : goal.at_coordinates-evaluate-requires
@@ -73,6 +74,27 @@ bind-returns-clause-value g t c = λ i.
 
 pub bind-returns-clause-places : goal.bind-returns-clause-places
 bind-returns-clause-places g t c = ap length c.in_ok-settle-2.ensures ∙ length-at_positions c.args.bound.now.positions.now _ _ _ ∙ c.requires.positions
+
+pub condense-condense_window-requires : goal.condense-condense_window-requires
+condense-condense_window-requires g t c =
+    let w = rw c.in-Some.is at c.in_ok-found.ensures in
+    record { signatures = c.requires.signatures; ready = w.ready }
+
+pub condense-returns-in-Some-clause-value : goal.condense-returns-in-Some-clause-value
+condense-returns-in-Some-clause-value g t c =
+    let w = rw c.in-Some.is at c.in_ok-found.ensures in
+    on_ok c.condense_window.result (λ v i. v i ∙ all_windows (g.S.Tiles.state c.args.source.now) c.args.ground.now c.args.fold.now c.args.frame.now c.in-Some.window w) c.condense_window.ensures.value
+
+pub condense-returns-in-Some-clause-places : goal.condense-returns-in-Some-clause-places
+condense-returns-in-Some-clause-places g t c =
+    let w = rw c.in-Some.is at c.in_ok-found.ensures in
+    on_ok c.condense_window.result (λ v. v ∙ windows_many c.args.ground.now c.args.fold.now c.args.frame.now c.in-Some.window w) c.condense_window.ensures.places
+
+pub condense-returns-in-Some-clause-fetched : goal.condense-returns-in-Some-clause-fetched
+condense-returns-in-Some-clause-fetched g t c =
+    let w = rw c.in-Some.is at c.in_ok-found.ensures in
+    let few = window_bound c.args.ground.now c.args.fold.now c.args.frame.now c.in-Some.window w in
+    on_ok c.condense_window.result (λ le n h. omega (arith, le, few)) c.condense_window.ensures.fetched
 
 pub condense-write_outcomes-requires : goal.condense-write_outcomes-requires
 condense-write_outcomes-requires g t c =

@@ -1,0 +1,548 @@
+//! Folds of windows, as those of focal sums: at each place of a box they condense the cells within reach of it, as far
+//! as these lie within bounds.
+
+ghost use Rattle.std.specs.Prelude.{◌≡◌, ◌+◌, ◌*◌, ◌<◌, ◌≤◌, ◌≤ℤ◌, [], ◌∷◌, length, slice_index_or, IfSome, IfOk, IsTrue};
+ghost use Rattle.arr_core.specs.Domains.{count};
+ghost use Rattle.wcps_text.specs.declared.operator.BinaryOperator.{BinaryOperator};
+ghost use Rattle.wcps_text.specs.declared.operator.BinaryOperator.TheVariants.{Add, LessEqual, GreaterEqual, And};
+ghost use Rattle.wcps_text.specs.declared.operator.UnaryOperator.TheVariants.{Negate};
+ghost use Rattle.wcps_mean.specs.declared.cell.Outcome.TheVariants.{Value};
+ghost use Rattle.plan_ir.specs.declared.body.Index.TheVariants.{Var};
+ghost use Rattle.plan_ir.specs.Bodies.{body_view, var, op1, op2, read, bind};
+ghost use Rattle.plan_ir.specs.Placed.{LiesWithin};
+ghost use Rattle.tile_columns.specs.Windows.{Means, compared_sum, low_edge, high_edge, row_edges, three_edges, edges, cell_tree, column_tree, window_tree, halo_cells, IsPattern, GoesOver, IsNear, Covers, CanRead, IsWindow};
+
+use crate::frame::Frame;
+use crate::ground::Ground;
+use crate::reach::{Extents, Reach, extents_of, grid, reach_of, size_of};
+use arr_core::{Domain, Signature};
+use plan_ir::{Body, Fold, Index, Interval};
+use std::alloc::{AllocError, Global};
+use wcps_text::{Aggregate, BinaryOperator, UnaryOperator};
+
+/// Along an axis of windows: the variable of the places, and the bounds outside of which nothing is read.
+#[derive(Clone, Copy)]
+pub(crate) struct Sight {
+    pub level: usize,
+    pub bounds: Interval,
+}
+
+/// What is found of the body of a fold of windows: the coverage that it reads, by its place among those that are
+/// chosen, the field by its place, and both axes.
+#[derive(Clone, Copy)]
+pub(crate) struct Pattern {
+    pub coverage: usize,
+    pub field: usize,
+    pub rows: Sight,
+    pub columns: Sight,
+}
+
+/// The windows of all places of a frame. The coverage that they read is also known by its place in the plan.
+#[derive(Clone, Copy)]
+pub(crate) struct Window {
+    pub op: Aggregate,
+    pub place: usize,
+    pub pattern: Pattern,
+    pub rows: Reach,
+    pub columns: Reach,
+}
+
+/// How many variables the places around a fold of windows have at most.
+const MAX_LEVELS: usize = 1024;
+
+/// How many cells a halo has at most.
+const MAX_HALO: u64 = 16_384;
+
+/// Whether a body is a variable.
+fn is_variable(body: &Body, level: usize) -> bool
+    ensures { IsTrue result → body_view body.now ≡ var level }
+{
+    match body {
+        Body::Var(k) => *k == level,
+        _ => false,
+    }
+}
+
+/// Whether two operands are two variables.
+fn are_variables(l: &Body, r: &Body, level: usize, own: usize) -> bool
+    ensures { IsTrue result → op2 Add (body_view l.now) (body_view r.now) ≡ op2 Add (var level) (var own) }
+{
+    if !is_variable(l, level) {
+        return false;
+    }
+    is_variable(r, own)
+}
+
+/// Whether a body is the sum of two variables.
+fn is_sum(body: &Body, level: usize, own: usize) -> bool
+    ensures { IsTrue result → body_view body.now ≡ op2 Add (var level) (var own) }
+{
+    match body {
+        Body::Op2(op, l, r) => match op {
+            BinaryOperator::Add => are_variables(l, r, level, own),
+            _ => false,
+        },
+        _ => false,
+    }
+}
+
+/// Whether a body is a number, below which stands a minus.
+fn is_negated(body: &Body, z: i32) -> bool
+    ensures { IsTrue result → Means (op1 Negate (body_view body.now)) (λ vars. Value z) }
+{
+    match body {
+        Body::Lit(n) => *n == -(z as i64),
+        _ => false,
+    }
+}
+
+/// Whether a body is a number.
+fn is_number(body: &Body, z: i32) -> bool
+    ensures { IsTrue result → Means (body_view body.now) (λ vars. Value z) }
+{
+    match body {
+        Body::Lit(n) => *n == z as i64,
+        Body::Op1(op, e) => match op {
+            UnaryOperator::Negate => is_negated(e, z),
+            _ => false,
+        },
+        _ => false,
+    }
+}
+
+/// Whether two operands are the sum of two variables, and a number.
+fn are_compared(l: &Body, r: &Body, level: usize, own: usize, z: i32) -> bool
+    ensures { IsTrue result → (op : BinaryOperator) → Means (op2 op (body_view l.now) (body_view r.now)) (compared_sum op level own z) }
+{
+    if !is_sum(l, level, own) {
+        return false;
+    }
+    is_number(r, z)
+}
+
+/// Whether a body is that the sum of two variables lies not below the lower bound of an axis.
+fn is_low_edge(body: &Body, sight: Sight, own: usize) -> bool
+    ensures { IsTrue result → Means (body_view body.now) (low_edge sight own) }
+{
+    match body {
+        Body::Op2(op, l, r) => match op {
+            BinaryOperator::GreaterEqual => are_compared(l, r, sight.level, own, sight.bounds.lo),
+            _ => false,
+        },
+        _ => false,
+    }
+}
+
+/// Whether a body is that the sum of two variables lies not above the upper bound of an axis.
+fn is_high_edge(body: &Body, sight: Sight, own: usize) -> bool
+    ensures { IsTrue result → Means (body_view body.now) (high_edge sight own) }
+{
+    match body {
+        Body::Op2(op, l, r) => match op {
+            BinaryOperator::LessEqual => are_compared(l, r, sight.level, own, sight.bounds.hi),
+            _ => false,
+        },
+        _ => false,
+    }
+}
+
+/// Whether two operands are the edges of the rows.
+fn make_row_edges(l: &Body, r: &Body, pattern: &Pattern, depth: usize) -> bool
+    ensures { IsTrue result → Means (op2 And (body_view l.now) (body_view r.now)) (row_edges pattern.now depth) }
+{
+    if !is_low_edge(l, pattern.rows, depth) {
+        return false;
+    }
+    is_high_edge(r, pattern.rows, depth)
+}
+
+/// Whether a body is the edges of the rows.
+fn are_row_edges(body: &Body, pattern: &Pattern, depth: usize) -> bool
+    ensures { IsTrue result → Means (body_view body.now) (row_edges pattern.now depth) }
+{
+    match body {
+        Body::Op2(op, l, r) => match op {
+            BinaryOperator::And => make_row_edges(l, r, pattern, depth),
+            _ => false,
+        },
+        _ => false,
+    }
+}
+
+/// Whether two operands are the edges of the rows, and the lower one of the columns.
+fn make_three_edges(l: &Body, r: &Body, pattern: &Pattern, depth: usize) -> bool
+    requires { depth ≤ 1024 }
+    ensures { IsTrue result → Means (op2 And (body_view l.now) (body_view r.now)) (three_edges pattern.now depth) }
+{
+    if !are_row_edges(l, pattern, depth) {
+        return false;
+    }
+    is_low_edge(r, pattern.columns, depth + 1)
+}
+
+/// Whether a body is the edges of the rows, and the lower one of the columns.
+fn are_three_edges(body: &Body, pattern: &Pattern, depth: usize) -> bool
+    requires { depth ≤ 1024 }
+    ensures { IsTrue result → Means (body_view body.now) (three_edges pattern.now depth) }
+{
+    match body {
+        Body::Op2(op, l, r) => match op {
+            BinaryOperator::And => make_three_edges(l, r, pattern, depth),
+            _ => false,
+        },
+        _ => false,
+    }
+}
+
+/// Whether two operands are the edges of rows and columns.
+fn make_edges(l: &Body, r: &Body, pattern: &Pattern, depth: usize) -> bool
+    requires { depth ≤ 1024 }
+    ensures { IsTrue result → Means (op2 And (body_view l.now) (body_view r.now)) (edges pattern.now depth) }
+{
+    if !are_three_edges(l, pattern, depth) {
+        return false;
+    }
+    is_high_edge(r, pattern.columns, depth + 1)
+}
+
+/// Whether a body is the edges of rows and columns.
+fn are_edges(body: &Body, pattern: &Pattern, depth: usize) -> bool
+    requires { depth ≤ 1024 }
+    ensures { IsTrue result → Means (body_view body.now) (edges pattern.now depth) }
+{
+    match body {
+        Body::Op2(op, l, r) => match op {
+            BinaryOperator::And => make_edges(l, r, pattern, depth),
+            _ => false,
+        },
+        _ => false,
+    }
+}
+
+/// Whether an index is a variable.
+fn stands_for(index: Index, level: usize) -> bool
+    ensures { IsTrue result → index ≡ Var level }
+{
+    match index {
+        Index::Const(_) => false,
+        Index::Var(k) => k == level,
+    }
+}
+
+/// Whether indexes are two variables, one level after the other.
+fn are_next(indexes: &[Index], level: usize) -> bool
+    requires { level ≤ 2048 }
+    ensures { IsTrue result → indexes.now ≡ Var level ∷ Var (level + 1) ∷ [] }
+{
+    match indexes {
+        [row, column] => {
+            if !stands_for(*row, level) {
+                return false;
+            }
+            stands_for(*column, level + 1)
+        }
+        _ => false,
+    }
+}
+
+/// Whether a body is the cell of windows, at two variables.
+fn is_cell(body: &Body, pattern: &Pattern, level: usize) -> bool
+    requires { level ≤ 2048 }
+    ensures { IsTrue result → body_view body.now ≡ cell_tree pattern.now level }
+{
+    match body {
+        Body::Read {
+            coverage,
+            field,
+            indexes,
+        } => {
+            if *coverage != pattern.coverage || *field != pattern.field {
+                return false;
+            }
+            are_next(indexes, level)
+        }
+        _ => false,
+    }
+}
+
+/// Whether an interval is another one.
+fn is_same(a: Interval, b: Interval) -> bool
+    ensures { IsTrue result → a ≡ b }
+{
+    a.lo == b.lo && a.hi == b.hi
+}
+
+/// Whether a body is the cell of windows behind the bind of its columns.
+fn is_behind_columns(body: &Body, pattern: &Pattern, depth: usize) -> bool
+    requires { depth ≤ 1024 }
+    ensures { IsTrue result → body_view body.now ≡ column_tree pattern.now depth }
+{
+    match body {
+        Body::Bind {
+            position,
+            interval,
+            body: inner,
+        } => {
+            if !is_same(*interval, pattern.columns.bounds) {
+                return false;
+            }
+            if !is_sum(position, pattern.columns.level, depth + 1) {
+                return false;
+            }
+            is_cell(inner, pattern, depth + 2)
+        }
+        _ => false,
+    }
+}
+
+/// Whether a body is the cell of windows behind the binds of its rows and its columns.
+fn is_behind_rows(body: &Body, pattern: &Pattern, depth: usize) -> bool
+    requires { depth ≤ 1024 }
+    ensures { IsTrue result → body_view body.now ≡ window_tree pattern.now depth }
+{
+    match body {
+        Body::Bind {
+            position,
+            interval,
+            body: inner,
+        } => {
+            if !is_same(*interval, pattern.rows.bounds) {
+                return false;
+            }
+            if !is_sum(position, pattern.rows.level, depth) {
+                return false;
+            }
+            is_behind_columns(inner, pattern, depth)
+        }
+        _ => false,
+    }
+}
+
+/// The variable that a body is, or 0.
+fn level_of(body: &Body) -> usize {
+    match body {
+        Body::Var(k) => *k,
+        _ => 0,
+    }
+}
+
+/// The variable that is the left operand of a body, or 0.
+fn left_level(body: &Body) -> usize {
+    match body {
+        Body::Op2(_, l, _) => level_of(l),
+        _ => 0,
+    }
+}
+
+/// The pattern of windows that a body behind the bind of its rows may have.
+fn likely_columns(body: &Body, rows: Sight) -> Option<Pattern> {
+    match body {
+        Body::Bind {
+            position,
+            interval,
+            body: inner,
+        } => {
+            let columns = Sight {
+                level: left_level(position),
+                bounds: *interval,
+            };
+            likely_cell(inner, rows, columns)
+        }
+        _ => None,
+    }
+}
+
+/// The pattern of windows that a body behind both binds may have.
+fn likely_cell(body: &Body, rows: Sight, columns: Sight) -> Option<Pattern> {
+    match body {
+        Body::Read {
+            coverage,
+            field,
+            ..
+        } => Some(Pattern {
+            coverage: *coverage,
+            field: *field,
+            rows,
+            columns,
+        }),
+        _ => None,
+    }
+}
+
+/// The pattern of windows that a body may have.
+fn likely_pattern(body: &Body) -> Option<Pattern> {
+    match body {
+        Body::Bind {
+            position,
+            interval,
+            body: inner,
+        } => {
+            let rows = Sight {
+                level: left_level(position),
+                bounds: *interval,
+            };
+            likely_columns(inner, rows)
+        }
+        _ => None,
+    }
+}
+
+/// Whether a fold has a pattern, where the places around it have so many variables.
+fn has_pattern(fold: &Fold, pattern: &Pattern, depth: usize) -> bool
+    ensures { IsTrue result → IsPattern fold.now depth pattern.now }
+{
+    if depth > MAX_LEVELS {
+        return false;
+    }
+    if pattern.rows.level >= depth || pattern.columns.level >= depth {
+        return false;
+    }
+    if !is_behind_rows(&fold.body, pattern, depth) {
+        return false;
+    }
+    match &fold.condition {
+        None => false,
+        Some(condition) => are_edges(condition, pattern, depth),
+    }
+}
+
+/// The pattern of a fold of windows, where the places around it have so many variables.
+fn pattern_of(fold: &Fold, depth: usize) -> Option<Pattern>
+    ensures { IfSome result (IsPattern fold.now depth) }
+{
+    let pattern = likely_pattern(&fold.body)?;
+    if !has_pattern(fold, &pattern, depth) {
+        return None;
+    }
+    Some(pattern)
+}
+
+/// The coordinates that the variables of the places go over, if they turn as the axes of a box.
+fn places_of(
+    alloc: Global,
+    pattern: &Pattern,
+    like: &Domain,
+    frame: &Frame,
+) -> Result<Option<Extents>, AllocError>
+    ensures { IfOk result (λ o. IfSome o (GoesOver pattern.now frame.now)) }
+{
+    let Some(rows) = frame.bounds(pattern.rows.level) else {
+        return Ok(None);
+    };
+    let Some(columns) = frame.bounds(pattern.columns.level) else {
+        return Ok(None);
+    };
+    let places = Extents { rows, columns };
+    let Some(area) = grid(alloc, like, places)? else {
+        return Ok(None);
+    };
+    let indexes = [
+        Index::Var(pattern.rows.level),
+        Index::Var(pattern.columns.level),
+    ];
+    if !frame.goes_over(&indexes, &area) {
+        return Ok(None);
+    }
+    Ok(Some(places))
+}
+
+/// Whether the halo of windows has few cells, no more than there are pairs of a place and a point, and there are few
+/// places.
+fn is_near(window: &Window, pairs: u64) -> bool
+    ensures near { IsTrue result → IsNear window.now }
+    ensures pairs { IsTrue result → halo_cells window.now ≤ pairs }
+{
+    let width = size_of(window.columns.halo);
+    let height = size_of(window.rows.halo);
+    let across = size_of(window.columns.places);
+    let down = size_of(window.rows.places);
+    if width > 4096 || height > MAX_HALO || across > 4096 || down > 4096 {
+        return false;
+    }
+    height * width <= MAX_HALO && height * width <= pairs && down * across <= 4096
+}
+
+/// Whether one interval lies within another.
+fn lies_within(inner: Interval, outer: Interval) -> bool
+    ensures { IsTrue result → LiesWithin inner outer }
+{
+    outer.lo <= inner.lo && inner.hi <= outer.hi
+}
+
+/// Whether a coverage has the field of windows, and two axes on which their halo lies.
+fn covers(window: &Window, signature: &Signature) -> bool
+    ensures { IsTrue result → Covers window.now signature.now }
+{
+    if window.pattern.field >= signature.fields.len() {
+        return false;
+    }
+    match extents_of(&signature.domain) {
+        None => false,
+        Some(extents) => {
+            if !lies_within(window.rows.halo, extents.rows) {
+                return false;
+            }
+            lies_within(window.columns.halo, extents.columns)
+        }
+    }
+}
+
+/// Whether the coverage of windows is there, and covers their halo.
+fn can_read(ground: &Ground<'_>, window: &Window) -> bool
+    ensures { IsTrue result → CanRead ground.now window.now }
+{
+    match ground.signatures.get(window.place) {
+        None => false,
+        Some(signature) => covers(window, signature),
+    }
+}
+
+/// A coverage by its place in the plan.
+fn coverage_at(coverages: &[usize], k: usize) -> usize
+    ensures { result ≡ slice_index_or coverages.now k 0 }
+{
+    match coverages.get(k) {
+        Some(c) => *c,
+        None => 0,
+    }
+}
+
+/// The windows of a fold at the places of a frame, if it is one of windows that lie within few cells.
+pub(crate) fn window_of(
+    alloc: Global,
+    ground: &Ground<'_>,
+    fold: &Fold,
+    frame: &Frame,
+) -> Result<Option<Window>, AllocError>
+    ensures { IfOk result (λ o. IfSome o (IsWindow ground.now fold.now frame.now)) }
+{
+    let Some(pattern) = pattern_of(fold, frame.depth()) else {
+        return Ok(None);
+    };
+    let Some(offsets) = extents_of(&fold.domain) else {
+        return Ok(None);
+    };
+    let Some(places) = places_of(alloc, &pattern, &fold.domain, frame)? else {
+        return Ok(None);
+    };
+    let Some(rows) = reach_of(places.rows, offsets.rows, pattern.rows.bounds) else {
+        return Ok(None);
+    };
+    let Some(columns) = reach_of(places.columns, offsets.columns, pattern.columns.bounds) else {
+        return Ok(None);
+    };
+    let window = Window {
+        op: fold.op,
+        place: coverage_at(ground.coverages, pattern.coverage),
+        pattern,
+        rows,
+        columns,
+    };
+    if !is_near(&window, frame.places() as u64 * fold.domain.points()) {
+        return Ok(None);
+    }
+    if !can_read(ground, &window) {
+        return Ok(None);
+    }
+    Ok(Some(window))
+}
