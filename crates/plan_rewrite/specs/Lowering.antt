@@ -2,6 +2,7 @@
 -- their iterators away, and each cell is read at the indexes of the point.
 use Rattle.std.specs.Prelude.{ℕ, ℤ, pos, List, [], ◌∷◌, ◌++◌, length, slice_index_or, insert}
 use Rattle.arr_core.specs.declared.domain.Axis.{Axis}
+use Rattle.wcps_text.specs.declared.operator.Aggregate.{Aggregate}
 use Rattle.wcps_types.specs.declared.typed.Node.{Node}
 use Rattle.wcps_types.specs.Typed.{Typed, field_tree, number, iterator, cell, unary, binary, scalar, select, bracket, slice, array, listed, condense, condense_where, reduce}
 use Rattle.plan_ir.specs.declared.body.Index.{Index}
@@ -85,3 +86,15 @@ field_at c e field = lowered (setting_of c) (field_tree e field)
 -- a field of a scalar there
 abbrev pub scalar_at : Context → Node → ℕ → Tree
 scalar_at c e field = lowered (at_scalar (setting_of c)) (field_tree e field)
+
+-- a tree where the code lowers it
+abbrev pub tree_at : Context → Typed → Tree
+tree_at c e = lowered (setting_of c) e
+
+-- a field of a node, where a coordinate of the point is a variable over an interval
+abbrev pub slice_at : Context → ℕ → Interval → Node → ℕ → Tree
+slice_at c axis interval e field = lowered (at_slice (setting_of c) axis interval.lo interval.hi) (field_tree e field)
+
+-- a condenser with a condition
+abbrev pub chosen : Aggregate → List Axis → Node → Node → Typed
+chosen op box c e = condense_where op box (field_tree c 0) (field_tree e 0)

@@ -1,9 +1,9 @@
 //! Lowering of one field of a typed expression to a body.
 
 ghost use Rattle.std.specs.Prelude.{◌≡◌, IfOk};
-ghost use Rattle.wcps_types.specs.Typed.{field_tree, unary, binary, array, condense, condense_where, reduce};
+ghost use Rattle.wcps_types.specs.Typed.{field_tree, only_tree, iterator, cell, unary, binary, array, listed, condense, reduce};
 ghost use Rattle.plan_ir.specs.Bodies.{body_view, fold, always};
-ghost use Rattle.plan_rewrite.specs.Lowering.{setting_of, outermost, at_slice, lowered, field_at, scalar_at};
+ghost use Rattle.plan_rewrite.specs.Lowering.{outermost, lowered, field_at, scalar_at, tree_at, slice_at, chosen};
 ghost use Rattle.plan_rewrite.specs.Lowered.{IsBodyFor};
 ghost use Rattle.plan_rewrite.specs.Views.{tree_in, bind_over};
 
@@ -62,8 +62,8 @@ pub fn lowered(
 {
     match e {
         Node::Number(z) => boxed(alloc, Body::Lit(*z)),
-        Node::Iterator(k) => boxed(alloc, variable(index_at(&context.iterators, *k))),
-        Node::Coverage(coverage) => read_at(alloc, *coverage, field, &context.point),
+        Node::Iterator(k) => lowered_iterator(alloc, context, *k),
+        Node::Coverage(coverage) => lowered_cell(alloc, context, *coverage, field),
         Node::Unary(op, e) => lowered_unary(alloc, context, *op, e),
         Node::Binary(op, l, r) => lowered_binary(alloc, context, *op, l, r),
         Node::Scalar(e) => lowered_scalar(alloc, context, e, field),
@@ -85,7 +85,7 @@ pub fn lowered(
             lowered_bind(alloc, context, position, interval, body)
         }
         Node::Array(e) => lowered_array(alloc, context, e),
-        Node::List { domain, items } => table_at(alloc, domain, items, &context.point),
+        Node::List { domain, items } => lowered_list(alloc, context, domain, items),
         Node::Condense { op, domain, body } => {
             lowered_condense(alloc, context, *op, domain, body)
         }
@@ -99,6 +99,37 @@ pub fn lowered(
     }
 }
 
+/// The body of an iterator: its variable, or its number.
+fn lowered_iterator(alloc: Global, context: &Context, k: usize) -> Result<Box<Body>, AllocError>
+    ensures { IfOk result (λ b. tree_in b ≡ tree_at context.now (iterator k)) }
+{
+    boxed(alloc, variable(index_at(&context.iterators, k)))
+}
+
+/// The body of a field of a coverage, whose cell is read at the point.
+fn lowered_cell(
+    alloc: Global,
+    context: &Context,
+    coverage: usize,
+    field: usize,
+) -> Result<Box<Body>, AllocError>
+    ensures { IfOk result (λ b. tree_in b ≡ tree_at context.now (cell coverage field)) }
+{
+    read_at(alloc, coverage, field, &context.point)
+}
+
+/// The body of a list of values, of which the point chooses one.
+fn lowered_list(
+    alloc: Global,
+    context: &Context,
+    domain: &Domain,
+    items: &[i64],
+) -> Result<Box<Body>, AllocError>
+    ensures { IfOk result (λ b. tree_in b ≡ tree_at context.now (listed domain.now items.now)) }
+{
+    table_at(alloc, domain, items, &context.point)
+}
+
 /// The body of an operation on one operand.
 #[cycle(lower)]
 fn lowered_unary(
@@ -107,7 +138,7 @@ fn lowered_unary(
     op: UnaryOperator,
     e: &Node,
 ) -> Result<Box<Body>, AllocError>
-    ensures { IfOk result (λ b. tree_in b ≡ lowered (setting_of context.now) (unary op (field_tree e.now 0))) }
+    ensures { IfOk result (λ b. tree_in b ≡ tree_at context.now (unary op (only_tree e.now))) }
 {
     let x = lowered(alloc, context, e, 0)?;
     op1_body(alloc, op, x)
@@ -122,8 +153,7 @@ fn lowered_binary(
     l: &Node,
     r: &Node,
 ) -> Result<Box<Body>, AllocError>
-    ensures { IfOk result (λ b. tree_in b ≡
-        lowered (setting_of context.now) (binary op (field_tree l.now 0) (field_tree r.now 0))) }
+    ensures { IfOk result (λ b. tree_in b ≡ tree_at context.now (binary op (only_tree l.now) (only_tree r.now))) }
 {
     let x = lowered(alloc, context, l, 0)?;
     let y = lowered(alloc, context, r, 0)?;
@@ -154,8 +184,7 @@ fn lowered_slice(
     axis: usize,
     interval: Interval,
 ) -> Result<Box<Body>, AllocError>
-    ensures { IfOk result (λ b. tree_in b ≡
-        lowered (at_slice (setting_of context.now) axis interval.lo interval.hi) (field_tree value.now field)) }
+    ensures { IfOk result (λ b. tree_in b ≡ slice_at context.now axis interval value.now field) }
 {
     let inner = context.sliced(alloc, axis, interval)?;
     lowered(alloc, &inner, value, field)
@@ -164,7 +193,7 @@ fn lowered_slice(
 /// The body of an array's value, whose iterators are the coordinates of the point.
 #[cycle(lower)]
 fn lowered_array(alloc: Global, context: &Context, e: &Node) -> Result<Box<Body>, AllocError>
-    ensures { IfOk result (λ b. tree_in b ≡ lowered (setting_of context.now) (array (field_tree e.now 0))) }
+    ensures { IfOk result (λ b. tree_in b ≡ tree_at context.now (array (only_tree e.now))) }
 {
     let inner = context.inner(alloc)?;
     lowered(alloc, &inner, e, 0)
@@ -179,8 +208,7 @@ fn lowered_condense(
     domain: &Domain,
     body: &Node,
 ) -> Result<Box<Body>, AllocError>
-    ensures { IfOk result (λ b. tree_in b ≡
-        lowered (setting_of context.now) (condense op domain.now (field_tree body.now 0))) }
+    ensures { IfOk result (λ b. tree_in b ≡ tree_at context.now (condense op domain.now (only_tree body.now))) }
 {
     let inner = context.over(alloc, domain.axes())?;
     lowered_fold(alloc, &inner, op, domain, body)
@@ -196,8 +224,7 @@ fn lowered_where(
     condition: &Node,
     body: &Node,
 ) -> Result<Box<Body>, AllocError>
-    ensures { IfOk result (λ b. tree_in b ≡ lowered (setting_of context.now)
-        (condense_where op domain.now (field_tree condition.now 0) (field_tree body.now 0))) }
+    ensures { IfOk result (λ b. tree_in b ≡ tree_at context.now (chosen op domain.now condition.now body.now)) }
 {
     let inner = context.over(alloc, domain.axes())?;
     let c = lowered(alloc, &inner, condition, 0)?;
@@ -213,8 +240,7 @@ fn lowered_reduce(
     domain: &Domain,
     body: &Node,
 ) -> Result<Box<Body>, AllocError>
-    ensures { IfOk result (λ b. tree_in b ≡
-        lowered (setting_of context.now) (reduce op domain.now (field_tree body.now 0))) }
+    ensures { IfOk result (λ b. tree_in b ≡ tree_at context.now (reduce op domain.now (only_tree body.now))) }
 {
     let inner = context.across(alloc, domain.axes())?;
     lowered_fold(alloc, &inner, op, domain, body)
