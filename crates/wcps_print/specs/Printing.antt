@@ -1,5 +1,5 @@
 -- The tokens of a printed query, and how they are written. Each function gives the tokens of its thing, and then the rest.
-use Rattle.std.specs.Prelude.{◌≡◌, ℕ, suc, ℤ, pos, negsuc, List, [], ◌∷◌, ◌++◌, Bool, true, false, cond, ◌==◌, codes, get_or, decimal, String, string_bytes}
+use Rattle.std.specs.Prelude.{◌≡◌, ℕ, suc, Option, Box, ℤ, pos, negsuc, List, [], ◌∷◌, ◌++◌, Bool, true, false, cond, ◌==◌, codes, get_or, decimal, String, string_bytes}
 use Rattle.std.specs.Global.{Global}
 use Rattle.wcps_text.specs.declared.token.Symbol.{Symbol}
 use Rattle.wcps_text.specs.declared.token.Symbol.TheVariants as signs
@@ -10,11 +10,13 @@ use Rattle.wcps_text.specs.declared.operator.BinaryOperator.{BinaryOperator}
 use Rattle.wcps_text.specs.declared.operator.BinaryOperator.TheVariants as binaries
 use Rattle.wcps_text.specs.declared.operator.Aggregate.{Aggregate}
 use Rattle.wcps_text.specs.declared.operator.Aggregate.TheVariants as aggregates
+use Rattle.wcps_text.specs.declared.tree.Expr.{Expr}
+use Rattle.wcps_text.specs.declared.tree.Iter.{Iter}
 use Rattle.wcps_text.specs.declared.tree.ListItem.{ListItem}
 use Rattle.wcps_text.specs.declared.tree.ListItem.TheVariants as list_items
 use Rattle.wcps_text.specs.Token.{Tok, number, name, dollar, quoted, word, sign}
 use Rattle.wcps_text.specs.Tree as tree
-use Rattle.wcps_text.specs.Tree.{Tree, Parts, no_parts, part, Subs, no_subs, sub, PlaceTree, trim, at, IntervalTree, bounds, domain, Iters, no_iters, iter, Condition, always, only, BindingTree, ItemTree, encode, plain, QueryTree}
+use Rattle.wcps_text.specs.Tree.{Tree, Parts, no_parts, part, Subs, no_subs, sub, PlaceTree, trim, at, IntervalTree, bounds, domain, Iters, no_iters, iter, Condition, always, only, BindingTree, ItemTree, encode, plain, QueryTree, view, iters_of, condition_of}
 use Rattle.wcps_text.specs.Lexing.{keyword_text, symbol_text}
 use Rattle.wcps_text.specs.Grammar.{binary_token, truth_word}
 
@@ -100,6 +102,10 @@ condense_token aggregates.Average = word words.Avg
 abbrev pub separator : Bool → Symbol → List Tok → List Tok
 separator true s rest = rest
 separator false s rest = sign s ∷ rest
+
+-- a condenser, by its parts as the code has them
+abbrev pub condenser : Aggregate → List Iter → Option (Box Expr Global) → Expr → Tree
+condenser op is c e = tree.condense op (iters_of is) (condition_of c) (view e)
 
 -- things with a separator before each, but before the first one only where it is not the first
 unfoldable pub items_tokens : Bool → List ListItem → List Tok → List Tok

@@ -3,7 +3,7 @@
 ghost use Rattle.std.specs.Prelude.{[], ◌∷◌, true, OnOk};
 ghost use Rattle.wcps_text.specs.Tree.{view, view_interval, view_place, iters_of, parts_of, subs_of, condition_of};
 ghost use Rattle.wcps_text.specs.Tree as tree;
-ghost use Rattle.wcps_print.specs.Printing.{condition_tokens, expr_tokens, head_tokens, in_brackets, in_parens, interval_tokens, items_tokens, iters_tokens, place_tokens, subs_tokens, Adds};
+ghost use Rattle.wcps_print.specs.Printing.{condenser, condition_tokens, expr_tokens, head_tokens, in_brackets, in_parens, interval_tokens, items_tokens, iters_tokens, place_tokens, subs_tokens, Adds};
 
 use crate::words::{
     put_any_name, put_binary, put_condense, put_int, put_name, put_number, put_reduce,
@@ -125,8 +125,7 @@ fn put_condenser(
     condition: &Option<Box<Expr>>,
     body: &Expr,
 ) -> Result<(), AllocError>
-    ensures { OnOk result (Adds out.old out.new
-        (expr_tokens (tree.condense op (iters_of iterators.now) (condition_of condition.now) (view body.now)))) }
+    ensures { OnOk result (Adds out.old out.new (expr_tokens (condenser op iterators.now condition.now body.now))) }
 {
     put_word(out, Keyword::Condense)?;
     put_condense(out, op)?;
