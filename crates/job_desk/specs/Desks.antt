@@ -66,6 +66,10 @@ pub record IsSubmitted (tree : PlanTree) (coverages : List (List ℕ)) (n units 
   pub begun : IsBegun tree job.exec
   pub desk : new ≡ record { jobs = old.jobs ++ job ∷ []; next = number_after n }
 
+-- what does a plan's units came to be a job, whatever the plan is
+abbrev pub IsTakenIn : Exec → List (List ℕ) → ℕ → ℕ → DeskView → DeskView → Type 0
+IsTakenIn exec coverages n units old new = (tree : PlanTree) → IsBegun tree exec → IsSubmitted tree coverages n units old new
+
 -- the text of the items, or the fault
 abbrev pub IsAnswer : Result (List Item) PointFault → Answer → Type 0
 IsAnswer (Ok items) (Text text) = string_bytes text ≡ csv items

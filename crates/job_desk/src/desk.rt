@@ -5,7 +5,7 @@ ghost use Rattle.std.specs.Int.NonZero.{non_zero_u64_get};
 ghost use Rattle.std.specs.List.{remove};
 ghost use Rattle.plan_ir.specs.Plans.{plan_view};
 ghost use Rattle.plan_ir.specs.Placed.{IsPlan};
-ghost use Rattle.job_desk.specs.Desks.{job_of, taken_out, number_after, IsSubmitted, IsFetched, IsDesk};
+ghost use Rattle.job_desk.specs.Desks.{job_of, taken_out, number_after, IsSubmitted, IsTakenIn, IsFetched, IsDesk};
 ghost use Rattle.job_desk.specs.Steps.{coverages_of, HasCoverages, IsLowered, IsChanged, IsRefusedStep, StepsSource, IsRefusedFetch, IsRefusedSubmit};
 
 use crate::answer::{Answer, answer_of};
@@ -87,9 +87,28 @@ impl JobDesk {
             return Err(SubmitError::TooManyJobs);
         }
         let exec = Exec::new(*self.jobs.allocator(), plan)?;
+        self.take_in(number, exec, names, store)
+    }
+
+    /// Takes what does a plan's units as a job under the next number, for which there is room, and holds its coverages.
+    fn take_in<H: Snapshots>(
+        &mut self,
+        number: u64,
+        exec: Exec,
+        names: Vec<Name>,
+        store: &mut H,
+    ) -> Result<(u64, u64), SubmitError>
+        requires next { self.old.next ≡ Some number }
+        requires room { length self.old.jobs < 64 }
+        requires names { H.may_hold store.old number names.items }
+        ensures submitted { IfOk result (λ r. IsTakenIn exec names.items r.0 r.1 self.old self.new) }
+        ensures held { IfOk result (λ r. H.holds store.old r.0 names.items store.new) }
+        ensures refused { IfErr result (λ e. IsRefusedSubmit self.old e) }
+        ensures unchanged { OnErr result (self.new ≡ self.old) }
+        ensures stays { OnErr result ((store.new ≡ store.old) ⊎ H.stays store.old store.new) }
+    {
         let left = exec.left();
-        self.jobs.reserve(1)?;
-        store.hold(number, &names)?;
+        make_room(&mut self.jobs, number, &names, store)?;
         let job = Job {
             number,
             names: NameList::new(names),
@@ -185,6 +204,24 @@ impl JobDesk {
         store.release(job);
         Ok(())
     }
+}
+
+/// Makes room for one job more, and holds coverages for it. Refused for memory, with the jobs as they were.
+fn make_room<H: Snapshots>(
+    jobs: &mut Vec<Job>,
+    number: u64,
+    names: &[Name],
+    store: &mut H,
+) -> Result<(), AllocError>
+    requires { H.may_hold store.old number names.now }
+    ensures jobs { jobs.new.items ≡ jobs.old.items }
+    ensures room { OnOk result (vec_len jobs.new < vec_capacity jobs.new) }
+    ensures held { OnOk result (H.holds store.old number names.now store.new) }
+    ensures stays { OnErr result ((store.new ≡ store.old) ⊎ H.stays store.old store.new) }
+{
+    jobs.reserve(1)?;
+    store.hold(number, names)?;
+    Ok(())
 }
 
 /// Puts a job at the end, for which there is room.
