@@ -1,6 +1,7 @@
 //! Templates of map algebra over the coverages: the text of a template's query, and the answer to it.
 ghost use Rattle.std.specs.Prelude.{◌≡◌, ◌≤◌, None, IfOk};
 ghost use Rattle.kvp_front.specs.Templates.{template_view};
+ghost use Rattle.map_templates.specs.Expansion.{asked, as_text};
 ghost use Rattle.raster_store.specs.Snapshots.{held_for};
 ghost use Rattle.coverage_server.specs.Answered.{Answered, AnswersAsked, IsAnswer};
 ghost use Rattle.coverage_server.specs.Fetching.{FetchesForTemplate};
@@ -13,6 +14,7 @@ use crate::arguments::Refusal;
 use crate::cells::AskedCells;
 use crate::coverages::Coverages;
 use crate::query::process;
+use arr_core::Signature;
 use disk_face::Disk;
 use http_front::Reply;
 use kvp_front::{RequestedLayer, TemplateRequest};
@@ -62,6 +64,22 @@ fn params_of(alloc: Global, request: &TemplateRequest) -> Result<Params, AllocEr
     }
 }
 
+/// The text of a template's query over coverages with those signatures, or the refusal of the template.
+fn expanded(
+    alloc: Global,
+    request: &TemplateRequest,
+    params: &Params,
+    signatures: &[Signature],
+) -> Result<String, Refusal>
+    ensures { GivesExpansion (as_text (asked (template_view request.now).name params.now signatures.now)) result }
+{
+    match expand(alloc, request.template.as_str(), params, signatures) {
+        Ok(text) => Ok(text),
+        Err(ExpandError::Refused(refusal)) => Err(Refusal::Numbered(refusal.number())),
+        Err(ExpandError::NoMemory) => Err(Refusal::NoMemory),
+    }
+}
+
 /// The text of a template's query over the coverages, or the refusal of the template.
 fn expansion<D: Disk>(
     alloc: Global,
@@ -72,11 +90,7 @@ fn expansion<D: Disk>(
 {
     let params = params_of(alloc, request)?;
     let signatures = coverages.signatures(alloc)?;
-    match expand(alloc, request.template.as_str(), &params, &signatures) {
-        Ok(text) => Ok(text),
-        Err(ExpandError::Refused(refusal)) => Err(Refusal::Numbered(refusal.number())),
-        Err(ExpandError::NoMemory) => Err(Refusal::NoMemory),
-    }
+    expanded(alloc, request, &params, &signatures)
 }
 
 /// The text of a template's query, on a line.
