@@ -18,7 +18,7 @@ use Rattle.tile_store.specs.Stored.{tile_box, IsTileSpelled, IsSpelled}
 use Rattle.raster_store.proofs.Readings.{box_inside, tile_is_box}
 use Rattle.raster_store.specs.declared.reading.TileAt.{TileAt}
 use Rattle.raster_store.specs.Calls.{signature_of}
-use Rattle.raster_store.specs.Fetches.{HasTile, AreTileCells, HasTileCount, IsSpelledAt, IsPlaceOf, IsFetched, IsDamagedAt}
+use Rattle.raster_store.specs.Fetches.{HasTile, HasRanks, AreTileCells, AreRankedCells, HasTileCount, IsSpelledAt, IsPlaceOf, IsFetched, ArePicked, IsDamagedAt}
 use Rattle.raster_store.specs.Snapshots.{held_for, held_view, as_held}
 use Rattle.raster_store.specs.Views.{Index, RasterView, SnapshotView, AreIntact, FieldsIntact}
 use Rattle.coverage_server.specs.Asking.{number_in, listed_in}
@@ -160,6 +160,39 @@ tile_places store places n field tile place numbers f x =
     let counted : length numbers ≡ length (points (tile_box c.domain tile)) =
     subst (λ (o : Option Coverage). IsSomeAnd o (λ d. length numbers ≡ length (points (tile_box d.domain tile)))) f.is x in
     rw f.told (counted ∙ length-points (tile_box c.domain tile))
+
+-- ranks in the box of a tile are ranks of its points
+pub tile_ranks : (store : Store) (places : List ℕ) (n field tile place : ℕ) (ranks : List ℕ) → Found store places n field tile place
+    → All (λ (r : ℕ). r < count (box_of (slice_get (signatures_at store places) n) tile)) ranks → HasRanks (record { coverage = place; field = field; tile = tile }) ranks store
+tile_ranks store places n field tile place ranks f within =
+    let all : All (λ (r : ℕ). r < count (tile_box f.coverage.domain tile)) ranks = subst (λ (o : Option Signature). All (λ (r : ℕ). r < count (box_of o tile)) ranks) f.told within in
+    subst (λ (o : Option Coverage). IsSomeAnd o (λ c. All (λ (r : ℕ). r < count (tile_box c.domain tile)) ranks)) (sym f.is) all
+
+-- the numbers of a coverage at ranks of a tile's points are its cells there
+pub picked_cells : (store : Store) (places : List ℕ) (n field tile place : ℕ) (ranks : List ℕ) (numbers : List ℤ) → Found store places n field tile place
+    → HaveDomains (signatures_at store places) → All (λ (r : ℕ). r < count (box_of (slice_get (signatures_at store places) n) tile)) ranks → AreRankedCells (record { coverage = place; field = field; tile = tile }) ranks store numbers
+    → numbers ≡ map (λ (r : ℕ). cells_at store places n field (slice_index_or (points (box_of (slice_get (signatures_at store places) n) tile)) r [])) ranks
+picked_cells store places n field tile place ranks numbers f domains within x =
+    let c = f.coverage in
+    let box = tile_box c.domain tile in
+    let is_box = tile_is_box c.domain tile (domain_at (signatures_at store places) n (signature_of c) f.told domains) f.has_tile in
+    let all : All (λ (r : ℕ). r < count box) ranks = subst (λ (o : Option Signature). All (λ (r : ℕ). r < count (box_of o tile)) ranks) f.told within in
+    let read : numbers ≡ map (λ (r : ℕ). value_at c field (get_or (points box) r [])) ranks =
+    subst (λ (o : Option Coverage). IsSomeAnd o (λ d. numbers ≡ map (λ (r : ℕ). value_at d field (get_or (points (tile_box d.domain tile)) r [])) ranks)) f.is x in
+    let alike : map (λ (r : ℕ). value_at c field (get_or (points box) r [])) ranks ≡ map (λ (r : ℕ). cells_at store places n field (get_or (points box) r [])) ranks =
+    alike_at (λ (r : ℕ). value_at c field (get_or (points box) r [])) (λ (r : ℕ). cells_at store places n field (get_or (points box) r [])) ranks
+    (λ k d l.
+    let r = get_or ranks k d in
+    let below : r < count box = all k d l in
+    let here : get_or (points box) r [] ≡ point_at box r = at_place box r [] below in
+    let inside : IsInside c.domain (get_or (points box) r []) =
+    subst (λ (p : List ℤ). IsInside c.domain p) (sym here) (box_inside c.domain box (point_at box r) is_box.1 (point-inside box r below is_box.0)) in
+    sym (rw (f.at, f.is) (number_inside c field (get_or (points box) r []) f.has_field inside))) in
+    subst (λ (o : Option Signature). numbers ≡ map (λ (r : ℕ). cells_at store places n field (get_or (points (box_of o tile)) r [])) ranks) (sym f.told) (read ∙ alike)
+  where
+    alike_at : (g h : ℕ → ℤ) (xs : List ℕ) → All (λ x. g x ≡ h x) xs → map g xs ≡ map h xs
+    alike_at g h [] same = refl
+    alike_at g h (y ∷ ys) same = rw (same 0 y (omega arith), alike_at g h ys (λ k d l. same (suc k) d (omega (arith, l)))) refl
 
 -- where nothing but counts has changed, tiles were only read
 pub asked_reads : (job : ℕ) (places : List ℕ) (v w : ServerView) → still_of w ≡ still_of v → v.fetched ≤ w.fetched → OnlyReads (asked_state job places v) (asked_state job places w)
@@ -308,6 +341,28 @@ module _ (job : ℕ) (cells : RasterView BlockFileView) where
       some_view (λ v. IsFetched state_of at v numbers) (HasTileCount at (store_for job (shown cells)) numbers)
       (λ same d. subst (λ (c : Store). HasTileCount at c numbers) (sym same) d.counted)
       (λ x held same d. subst (λ (c : Store). HasTileCount at c numbers) (sym same) d.counted) h
+
+  -- and ranks of its points, and what is read there
+  pub view_ranks : (at : TileAt) (ranks : List ℕ) → HasRanks at ranks (store_for job (shown cells)) → IsSomeAnd (held_view job cells) (λ v. HasRanks at ranks v.coverages)
+  view_ranks at ranks h = by_snapshot (held_for job cells.snapshots) refl
+    where
+      by_zero : (b : Bool) → nat_eq job 0 ≡ b → held_for job cells.snapshots ≡ None → IsSomeAnd (held_view job cells) (λ v. HasRanks at ranks v.coverages)
+      by_zero true t none = rw (none, t) (rw (none, t) at h)
+      by_zero false t none = absurd (rw (none, t) at h)
+
+      by_snapshot : (o : Option SnapshotView) → held_for job cells.snapshots ≡ o → IsSomeAnd (held_view job cells) (λ v. HasRanks at ranks v.coverages)
+      by_snapshot None e = by_zero (nat_eq job 0) refl e
+      by_snapshot (Some x) e = rw e (rw e at h)
+
+  pub view_picked : (at : TileAt) (ranks : List ℕ) (numbers : List ℤ) → IsSomeAnd (held_view job cells) (λ v. ArePicked state_of at ranks v numbers) → IsTrue cells.blocks.honest
+      → AreRankedCells at ranks (store_for job (shown cells)) numbers
+  view_picked at ranks numbers h honest =
+      some_view (λ v. ArePicked state_of at ranks v numbers) (AreRankedCells at ranks (store_for job (shown cells)) numbers)
+      (λ same d. subst (λ (c : Store). AreRankedCells at ranks c numbers) (sym same) (d.values honest))
+      (λ x held same d. subst (λ (c : Store). AreRankedCells at ranks c numbers) (sym same) (d.values honest)) h
+
+  pub view_picked_count : (at : TileAt) (ranks : List ℕ) (numbers : List ℤ) → IsSomeAnd (held_view job cells) (λ v. ArePicked state_of at ranks v numbers) → length numbers ≡ length ranks
+  view_picked_count at ranks numbers h = some_view (λ v. ArePicked state_of at ranks v numbers) (length numbers ≡ length ranks) (λ same d. d.counted) (λ x held same d. d.counted) h
 
   -- a tile that is damaged is not spelled
   pub view_damaged : (at : TileAt) → IsSomeAnd (held_view job cells) (λ v. IsDamagedAt state_of at v) → IsTrue cells.blocks.honest → IsSpelledFor job at (shown cells) → ⊥

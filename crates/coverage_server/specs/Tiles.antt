@@ -5,7 +5,7 @@ use Rattle.arr_core.specs.declared.signature.Signature.{Signature}
 use Rattle.arr_core.specs.Domains.{IsDomain}
 use Rattle.arr_core.specs.Stores.{Coverage, Store, found}
 use Rattle.raster_store.specs.Calls.{signature_of}
-use Rattle.raster_store.specs.Fetches.{IsSpelledAt}
+use Rattle.raster_store.specs.Fetches.{IsSpelledAt, AreRankedCells}
 use Rattle.raster_store.specs.Snapshots.{held_for}
 use Rattle.raster_store.specs.Views.{Index, SnapshotView}
 use Rattle.raster_store.specs.declared.reading.TileAt.{TileAt}
@@ -34,6 +34,10 @@ indexes_or (Some x) indexes = x.indexes
 
 abbrev pub indexes_for : ℕ → ServerView → List (List Index)
 indexes_for job v = indexes_or (held_for job v.held) (cond (nat_eq job 0) v.indexes [])
+
+-- on an honest disk cells are those of a tile of what a number reads, at ranks
+abbrev pub ArePickedFor : ℕ → TileAt → List ℕ → ServerView → List ℤ → Type 0
+ArePickedFor job at ranks v cells = IsTrue v.honest → AreRankedCells at ranks (store_for job v) cells
 
 -- a tile of what a number reads is spelled; and so is each tile of the coverages at places there
 abbrev pub IsSpelledFor : ℕ → TileAt → ServerView → Type 0

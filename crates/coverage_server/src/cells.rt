@@ -112,6 +112,25 @@ impl<D: Disk> Tiles for AskedCells<D> {
         }
     }
 
+    fn pick(
+        &mut self,
+        coverage: usize,
+        field: usize,
+        tile: u64,
+        ranks: &[u64],
+        cells: &mut Vec<i64>,
+    ) -> Result<(), CellError> {
+        let at = TileAt {
+            coverage: self.places[coverage],
+            field,
+            tile,
+        };
+        match self.coverages.pick(self.job, at, ranks, cells) {
+            Ok(()) => Ok(()),
+            Err(fault) => Err(cell_error(fault)),
+        }
+    }
+
     fn count(&self) -> u64 {
         self.coverages.fetched()
     }

@@ -9,12 +9,12 @@ ghost use Rattle.catalogue.specs.Signatures.{IsCatalogue, listed};
 ghost use Rattle.tile_store.specs.Faults.{Refuses};
 ghost use Rattle.raster_store.specs.Calls.{AreWhole, HasField, IsIndexOf, indexes_without};
 ghost use Rattle.raster_store.specs.Views.{Fetched, SnapshotView};
-ghost use Rattle.raster_store.specs.Fetches.{IsPlaceOf, HasTile, HasTileCount, AreTileCells};
+ghost use Rattle.raster_store.specs.Fetches.{IsPlaceOf, HasTile, HasRanks, HasTileCount, AreTileCells};
 ghost use Rattle.raster_store.specs.Snapshots.{held_for};
 ghost use Rattle.coverage_server.specs.Damage.{AreListedWhole, KeepsSpelled};
 ghost use Rattle.coverage_server.specs.Holding.{MayHold, HoldsFor, ReleasesFor};
 ghost use Rattle.coverage_server.specs.Leaving.{Continues, KeepsDisk};
-ghost use Rattle.coverage_server.specs.Tiles.{IsSpelledFor, store_for};
+ghost use Rattle.coverage_server.specs.Tiles.{ArePickedFor, IsSpelledFor, store_for};
 ghost use Rattle.disk_face.specs.Disk.{Tells};
 ghost use Rattle.kvp_front.specs.Contents.{content_view};
 ghost use Rattle.coverage_server.specs.Closing.{bytes_written, ClosesFile, HoldsClosed, TellsClose, WritesHeld};
@@ -340,6 +340,29 @@ impl<D: Disk> Coverages<D> {
     {
         let _fetched = self.cells.fetched();
         self.cells.fetch_at(number, at, numbers)
+    }
+
+    /// Makes `numbers` those at ranks of a tile's points, one for each rank, of the coverages that a number reads, by
+    /// its place there.
+    pub fn pick(
+        &mut self,
+        number: u64,
+        at: TileAt,
+        ranks: &[u64],
+        numbers: &mut Vec<i64>,
+    ) -> Result<(), Fault>
+        requires tile { HasTile at (store_for number self.old) }
+        requires ranks { HasRanks at ranks.now (store_for number self.old) }
+        ensures value { OnOk result (ArePickedFor number at ranks.now self.old numbers.new.items) }
+        ensures counted { OnOk result (length numbers.new.items ≡ length ranks.now) }
+        ensures why { Refuses result (IsTrue self.old.honest → IsSpelledFor number at self.old → ⊥) ⊥ }
+        ensures still { still_of self.new ≡ still_of self.old }
+        ensures fetched { OnOk result (Fetched 1 self.old.fetched self.new.fetched) }
+        ensures rises { self.old.fetched ≤ self.new.fetched }
+        ensures told { Tells (IsErrOf result Fault.DiskFault) self.old.failures self.new.failures }
+    {
+        let _fetched = self.cells.fetched();
+        self.cells.pick_at(number, at, ranks, numbers)
     }
 
     /// The first part of the metadata: the catalogue behind its length.
