@@ -36,6 +36,10 @@ moved k m vars = operate2 Add (Value (slice_index_or vars k (pos 0))) (Value (sl
 abbrev pub compared_sum : BinaryOperator → ℕ → ℕ → ℤ → List ℤ → Outcome
 compared_sum op k m z vars = operate2 op (moved k m vars) (Value z)
 
+-- any comparison of two operands is one of the sum of two variables with a number
+abbrev pub MeansCompared : Tree → Tree → ℕ → ℕ → ℤ → Type 0
+MeansCompared l r k m z = (op : BinaryOperator) → Means (op2 op l r) (compared_sum op k m z)
+
 -- that it lies not below the lower bound, and not above the upper one
 abbrev pub low_edge : Sight → ℕ → List ℤ → Outcome
 low_edge a m vars = operate2 GreaterEqual (moved a.level m vars) (Value a.bounds.lo)

@@ -3,14 +3,13 @@
 
 ghost use Rattle.std.specs.Prelude.{◌≡◌, ◌+◌, ◌*◌, ◌<◌, ◌≤◌, ◌≤ℤ◌, [], ◌∷◌, length, slice_index_or, IfSome, IfOk, IsTrue};
 ghost use Rattle.arr_core.specs.Domains.{count};
-ghost use Rattle.wcps_text.specs.declared.operator.BinaryOperator.{BinaryOperator};
 ghost use Rattle.wcps_text.specs.declared.operator.BinaryOperator.TheVariants.{Add, LessEqual, GreaterEqual, And};
 ghost use Rattle.wcps_text.specs.declared.operator.UnaryOperator.TheVariants.{Negate};
 ghost use Rattle.wcps_mean.specs.declared.cell.Outcome.TheVariants.{Value};
 ghost use Rattle.plan_ir.specs.declared.body.Index.TheVariants.{Var};
 ghost use Rattle.plan_ir.specs.Bodies.{body_view, var, op1, op2, read, bind};
 ghost use Rattle.plan_ir.specs.Placed.{LiesWithin};
-ghost use Rattle.tile_columns.specs.Windows.{Means, compared_sum, low_edge, high_edge, row_edges, three_edges, edges, cell_tree, column_tree, window_tree, halo_cells, IsPattern, GoesOver, IsNear, Covers, CanRead, IsWindow};
+ghost use Rattle.tile_columns.specs.Windows.{Means, MeansCompared, low_edge, high_edge, row_edges, three_edges, edges, cell_tree, column_tree, window_tree, halo_cells, IsPattern, GoesOver, IsNear, Covers, CanRead, IsWindow};
 
 use crate::frame::Frame;
 use crate::ground::Ground;
@@ -112,7 +111,7 @@ fn is_number(body: &Body, z: i32) -> bool
 
 /// Whether two operands are the sum of two variables, and a number.
 fn are_compared(l: &Body, r: &Body, level: usize, own: usize, z: i32) -> bool
-    ensures { IsTrue result → (op : BinaryOperator) → Means (op2 op (body_view l.now) (body_view r.now)) (compared_sum op level own z) }
+    ensures { IsTrue result → MeansCompared (body_view l.now) (body_view r.now) level own z }
 {
     if !is_sum(l, level, own) {
         return false;
