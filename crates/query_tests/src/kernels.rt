@@ -3,6 +3,7 @@
 use crate::columns::{column, exchanged, operated, outcomes, text};
 use crate::folds::{added, added_where, folded, folded_where, merged, whole, whole_where};
 use crate::keyed::keyed;
+use crate::windows::windowed;
 use crate::words::{aggregate, binary, outcome, shown, unary};
 use anyhow::{Context, Result, bail};
 use std::alloc::Global;
@@ -63,6 +64,7 @@ fn given(alloc: Global, verb: &str, words: &str) -> Result<String> {
         "added" => added(alloc, words),
         "added_where" => added_where(alloc, words),
         "keyed" => keyed(alloc, words),
+        "windowed" => windowed(alloc, words),
         _ => bail!("no call {verb}"),
     }
 }

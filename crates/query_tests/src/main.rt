@@ -18,6 +18,7 @@ mod planned;
 mod plans;
 mod queries;
 mod texts;
+mod windows;
 mod words;
 
 use anyhow::Result;
