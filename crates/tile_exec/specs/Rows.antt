@@ -1,6 +1,6 @@
 -- What columns tell of a point.
-use Rattle.std.specs.Prelude.{ℕ, ◌+◌, ◌*◌, Bool, List, [], ◌∷◌, map, length, slice_index_or}
-use Rattle.std.specs.List.{flat_map, enumerate_from, range_with_len}
+use Rattle.std.specs.Prelude.{ℕ, ◌+◌, ◌*◌, ◌<◌, Bool, List, [], ◌∷◌, map, length, slice_index_or}
+use Rattle.std.specs.List.{All, flat_map, enumerate_from, range_with_len}
 use Rattle.arr_core.specs.declared.cell.Cell.{Cell}
 use Rattle.wcps_mean.specs.declared.cell.Outcome.{Outcome}
 use Rattle.wcps_mean.specs.Answer.{cell_of}
@@ -26,6 +26,10 @@ cells_from n (boolean ∷ booleans) (o ∷ os) = (n, cell_of boolean (value_of o
 -- the cells of the fields at a place of their columns
 abbrev pub cells_at : ℕ → List Bool → List (List Outcome) → ℕ → List (ℕ × Cell)
 cells_at n booleans columns k = cells_from n booleans (row_at columns k)
+
+-- each cell's place is below n
+abbrev pub LieBelow : ℕ → List (ℕ × Cell) → Type 0
+LieBelow n cells = All (λ (c : ℕ × Cell). c.0 < n) cells
 
 -- the place of a point's first cell, by the point's place in the columns; ranks are the places of the points
 abbrev pub first_place : List ℕ → ℕ → ℕ → ℕ

@@ -2,12 +2,11 @@
 
 ghost use Rattle.std.specs.Prelude.{◌≡◌, ℕ, ◌+◌, ◌<◌, ◌^◌, List, [], ◌∷◌, All, length, slice_set};
 ghost use Rattle.std.specs.List.{enumerate_from};
-ghost use Rattle.arr_core.specs.declared.cell.Cell.{Cell};
 ghost use Rattle.wcps_mean.specs.declared.cell.Outcome.{Outcome};
 ghost use Rattle.wcps_mean.specs.Answer.{cell_of};
 ghost use Rattle.tile_columns.specs.Fields.{HavePlaces};
 ghost use Rattle.tile_exec.specs.Items.{value_of, AreWrittenTo, IsFirstOf, IsFirstAfter};
-ghost use Rattle.tile_exec.specs.Rows.{row_at, cells_at, all_cells_told, all_rows_told};
+ghost use Rattle.tile_exec.specs.Rows.{row_at, cells_at, LieBelow, all_cells_told, all_rows_told};
 
 use crate::keep::least_first;
 use crate::task::First;
@@ -85,7 +84,7 @@ fn write_point(cells: &mut Vec<Cell>, booleans: &[bool], columns: &[Column], k: 
     requires columns { length columns.now ≡ length booleans.now }
     requires there { All (λ (c : List Outcome). k < length c) columns.now }
     requires small { place + length booleans.now < 2 ^ 64 }
-    requires below { All (λ (w : ℕ × Cell). w.0 < length cells.old.items) (cells_at place booleans.now columns.now k) }
+    requires below { LieBelow (length cells.old.items) (cells_at place booleans.now columns.now k) }
     ensures length { length cells.new.items ≡ length cells.old.items }
     ensures written { AreWrittenTo cells.old.items cells.new.items (cells_at place booleans.now columns.now k) }
 {
@@ -107,7 +106,7 @@ pub(crate) fn write_points(
     requires there { HavePlaces (length ranks.now) columns.now }
     requires ranks { All (λ (r : ℕ). r < 2 ^ 24) ranks.now }
     requires few { length booleans.now < 2 ^ 32 }
-    requires below { All (λ (w : ℕ × Cell). w.0 < length cells.old.items) (all_cells_told ranks.now booleans.now columns.now) }
+    requires below { LieBelow (length cells.old.items) (all_cells_told ranks.now booleans.now columns.now) }
     ensures length { length cells.new.items ≡ length cells.old.items }
     ensures written { AreWrittenTo cells.old.items cells.new.items (all_cells_told ranks.now booleans.now columns.now) }
 {
