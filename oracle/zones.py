@@ -7,8 +7,9 @@ A query is an array over places, each cell of which condenses a box under the co
 the place, or condenses bodies in which such an equation stands, as a factor or another operand; either key may be the left
 operand. One in three is a table of zones over whole layers instead. Keys and values may fault: they divide, and they leave 64
 bits. Keys are negative, Boolean, near one another, far apart, or past 32 bits; there are one zone, a few, and as many zones as
-cells; boxes lie in one tile and across several ones. The program is asked for all of them in one session for each store, and
-each reply has to be that of oracle/meaning.py. What was found is told by the seed of its store and the query.
+cells; boxes lie in one tile and across several ones. The program is asked for all of them in one session for each store, for
+each fourth one as a job too, and each reply has to be that of oracle/meaning.py. What was found is told by the seed of its
+store and the query.
 """
 
 import random
@@ -169,28 +170,51 @@ def made(store):
     return out
 
 
+def as_job(query, number):
+    """The messages that ask a query as a job."""
+    yield {"request": "SubmitQuery", "query": query}
+    yield {"request": "StepJob", "job": number, "units": "1000"}
+    yield {"request": "FetchJob", "job": number}
+
+
+def asked(queries, answers):
+    """The messages that ask queries, and for each query the places of its answers among the replies; each fourth one that
+    is taken is asked as a job too."""
+    messages, places, jobs = [], [], 0
+    for k, (query, wanted) in enumerate(zip(queries, answers)):
+        messages.append({"request": "ProcessCoverages", "query": query})
+        places.append([len(messages) - 1])
+        taken = not wanted.startswith("refused") or wanted.startswith("refused 6")
+        if taken and k % 4 == 0:
+            jobs += 1
+            messages += as_job(query, str(jobs))
+            places[-1].append(len(messages) - 1)
+    return messages, places
+
+
 def compared(program, most, number, make):
     """Asks so many queries, forty over each store that is made of a number, and prints the replies that differ."""
-    asked = wrong = values = 0
-    while asked < most:
+    done = wrong = values = 0
+    while done < most:
         one = make(number)
         queries = [one.query() for _ in range(40)]
-        messages = [posted(pairs) for pairs in made(one.store)]
-        messages += [posted({"request": "ProcessCoverages", "query": query}) for query in queries]
-        ran = subprocess.run([program, "-", "run"], input=b"".join(messages), stdout=subprocess.PIPE)
-        bodies = [body.decode() for _, body in fuzz.replies_in(ran.stdout)][-len(queries) :]
-        for query, body in zip(queries, bodies):
-            wanted = expected(query, one.store)
-            values += not wanted.startswith("refused")
-            if body != wanted and not (wanted.startswith("refused") and body.startswith(wanted)):
-                wrong += 1
-                print(f"seed {number}: {query}\n  wanted {wanted[:200]!r}\n  got    {body[:200]!r}")
-        if len(bodies) != len(queries):
+        answers = [expected(query, one.store) for query in queries]
+        messages, places = asked(queries, answers)
+        sent = b"".join(posted(pairs) for pairs in [*made(one.store), *messages])
+        ran = subprocess.run([program, "-", "run"], input=sent, stdout=subprocess.PIPE)
+        bodies = [body.decode() for _, body in fuzz.replies_in(ran.stdout)][-len(messages) :]
+        if len(bodies) != len(messages):
             wrong += 1
-            print(f"seed {number}: {len(bodies)} replies to {len(queries)} queries, status {ran.returncode}")
-        asked += len(queries)
+            print(f"seed {number}: {len(bodies)} replies to {len(messages)} messages, status {ran.returncode}")
+        for query, wanted, at in zip(queries, answers, places):
+            values += not wanted.startswith("refused")
+            for body in (bodies[k] for k in at if k < len(bodies)):
+                if body != wanted and not (wanted.startswith("refused") and body.startswith(wanted)):
+                    wrong += 1
+                    print(f"seed {number}: {query}\n  wanted {wanted[:200]!r}\n  got    {body[:200]!r}")
+        done += len(queries)
         number += 1
-    print(f"{asked} queries, {values} of them with a value, {wrong} wrong")
+    print(f"{done} queries, {values} of them with a value, {wrong} wrong")
     return 1 if wrong else 0
 
 
