@@ -3,25 +3,19 @@
 TRIALS lists, and over its libraries the edits.
 
 In CI's clone those edits alone are tried that are not recorded as refused on the text that stands here, and those of
-about one crate in eight besides, which the commit decides. A run there has 180 minutes, so no round of edits begins after
-LONGEST: what is left out then is named.
+about one crate in eight besides, which the commit decides.
 """
 
 import contextlib
-import math
 import os
 import re
 import shutil
 import subprocess
 import sys
 import tempfile
-import time
 
 sys.dont_write_bytecode = True
 from must_fail import closed, recorded, said_by, sum_of, sums, tried
-
-# seconds of CI's run after which no round of edits begins
-LONGEST = 145 * 60
 
 
 def minutes():
@@ -109,10 +103,10 @@ def run_trials(seed):
 
 
 def gate():
-    is_ci = os.environ.get("CI") == "true"
-    ends = time.monotonic() + LONGEST if is_ci else math.inf
     now, then, commit = sums(), recorded(), said_by("git", "rev-parse", "HEAD").strip()
-    is_left_out = lambda it: is_ci and then.get(it) == now[it] and int(sum_of(commit, it), 16) % 8
+    is_left_out = (
+        lambda it: os.environ.get("CI") == "true" and then.get(it) == now[it] and int(sum_of(commit, it), 16) % 8
+    )
     with copied():
         import must_fail_groups_test
 
@@ -124,7 +118,7 @@ def gate():
         wrong = [f"the trier of edits: {it}" for it in must_fail_groups_test.faults()]
         print(*wrong or ["the trier of edits and its control: ok"], sep="\n", flush=True)
         faults = wrong + run_trials(str(int(sum_of(commit)[:8], 16)))
-        _, passed, failed = tried([it for it in now if not is_left_out(it)], builds=False, ends=ends)
+        _, passed, failed = tried([it for it in now if not is_left_out(it)], builds=False)
         print(f"with these edits: {minutes()}", flush=True)
         return closed(int(proved[1]) + passed, faults + failed)
 

@@ -4,14 +4,12 @@
   scripts/must_fail.py               names the crates whose edits are not recorded as refused on the text that stands here
   scripts/must_fail.py try [NAME..]  tries those, or the named ones, and records each crate whose edits were all refused
 
-What an edit comes to follows from the logic of the toolchain, the crate's text and that of the crates below it: a body that
-breaks its contract has no proof in that logic, whichever release looks for one. The record, scripts/must_fail.txt, has the sum
-of all these for each crate, as it was when its edits were last all refused. A changed byte changes the sum, and the edits are
-tried again. Which other crates are tried besides, the commit decides.
+What an edit comes to follows from the toolchain, the crate's text and that of the crates below it. The record,
+scripts/must_fail.txt, has the sum of all these for each crate, as it was when its edits were last all refused. A changed byte
+changes the sum, and the edits are tried again. Which other crates are tried besides, the commit decides.
 """
 
 import hashlib
-import math
 import os
 import re
 import subprocess
@@ -48,7 +46,7 @@ def dependencies():
 
 def sums():
     """What the edits of each crate rest on, as one sum."""
-    lines, logic = dependencies(), said_by("rt", "version").split()[-1]
+    lines, kit = dependencies(), said_by("rt", "version")
     with open("HANDLES", encoding="utf-8") as file:
         handles = file.read()
 
@@ -62,9 +60,7 @@ def sums():
     own = {name: of_crate(name) for name in lines}
     with_edits = [name for name in lines if os.path.isdir(f"crates/{name}/must-fail")]
     return {
-        it: sum_of(
-            logic, handles, own[it], sorted(own[dep] for dep in below(it)), texts_below(f"crates/{it}/must-fail")
-        )
+        it: sum_of(kit, handles, own[it], sorted(own[dep] for dep in below(it)), texts_below(f"crates/{it}/must-fail"))
         for it in with_edits
     }
 
@@ -82,9 +78,8 @@ def record(now, names):
         file.writelines(f"{it} {kept[it]}\n" for it in sorted(kept))
 
 
-def tried(names, builds, ends=math.inf):
-    """Tries the edits of these crates and says what came of each; no round of them begins once the clock is past `ends`. Returns
-    the crates whose edits were all refused, how many edits were, and what is told of the others."""
+def tried(names, builds):
+    """Tries the edits of these crates and says what came of each. Returns the crates whose edits were all refused, how many edits were, and what is told of the others."""
     import must_fail_groups as groups
 
     crates = [it for it in groups.rt.rtlib.crates_below(os.getcwd()) if it.name in names]
@@ -94,8 +89,7 @@ def tried(names, builds, ends=math.inf):
             if it.build_rlib(groups.ONE_JOB, anew=False):
                 sys.exit(f"{it.name} is not proved, and crates above it have edits to try")
     print(f"must-fail edits: those of {', '.join(names) or 'no crate'}", flush=True)
-    say = lambda each: print("".join(f"{text}\n" for _, text in each), end="", flush=True)
-    told = groups.side_by_side(crates, say, ends)
+    told = groups.side_by_side(crates, lambda each: print("".join(f"{text}\n" for _, text in each), end="", flush=True))
     outcomes = [it for each in told.values() for it in each]
     refused = [name for name, each in told.items() if all(is_refused for is_refused, _ in each)]
     return (

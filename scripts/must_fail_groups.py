@@ -12,13 +12,11 @@ import functools
 import importlib.machinery
 import importlib.util
 import itertools
-import math
 import os
 import re
 import shutil
 import sys
 import tempfile
-import time
 from dataclasses import dataclass
 
 
@@ -253,9 +251,8 @@ def try_round(crate, functions, edits, kept, numbers):
     return told + [tried_alone(crate, it, kept) for it in alone]
 
 
-def try_edits(crate, tell, ends=math.inf):
-    """What came of the edits of a crate, told as each round ends. Its rounds run one after the other, each over what those before
-    it have proved; none begins once the clock is past `ends`, and the edits that are left out then are only named."""
+def try_edits(crate, tell):
+    """What came of the edits of a crate, told as each round ends. Its rounds run one after the other, each over what those before it have proved."""
     edits, strays = rt.edits_of(crate)
     told = [
         (
@@ -268,20 +265,16 @@ def try_edits(crate, tell, ends=math.inf):
     functions, numbers = functions_of(crate), itertools.count(1)
     with tempfile.TemporaryDirectory(prefix="edits-kept-") as kept:
         for edits_of_round in rounds_of(crate, functions, edits):
-            if time.monotonic() > ends:
-                names = ", ".join(os.path.basename(it) for it in edits_of_round)
-                print(f"must-fail {crate.name}: not tried for want of time: {names}", flush=True)
-                continue
             of_round = try_round(crate, functions, edits_of_round, kept, numbers)
             tell(of_round)
             told += of_round
     return told
 
 
-def side_by_side(crates, tell=lambda told: None, ends=math.inf):
+def side_by_side(crates, tell=lambda told: None):
     """What came of the edits of each crate, by its name. As many crates at a time as there are processors and memory."""
     rt.rtlib.guarded()
-    call = lambda crate, given, jobs: try_edits(crate, tell, ends)
+    call = lambda crate, given, jobs: try_edits(crate, tell)
     tasks = {(it.name, "edits"): ([], it.count(rb"\n"), rt.need(it), functools.partial(call, it)) for it in crates}
     given = rt.in_lanes(tasks) if tasks else {}
     return {name: told for (name, _), told in given.items()}
