@@ -2,8 +2,9 @@
  * to be made where there is none (`disk`), reads and writes of other files and of sockets (`stream`), or growths of memory
  * (`memory`). The environment says which: FAULT_ON one of these words, FAULT_FIRST the number of the first call, from 1 on,
  * FAULT_COUNT how many from it on (1 where it is left out), FAULT_HOW what becomes of them. FAULT_LOG names a file that gets a
- * line for each call on the file as it is made, behind a write's line its bytes, and at the end the numbers of calls. There is
- * no header: it is compiled for glibc on x86-64 by itself. */
+ * line for each call on the file as it is made, behind a write's line its bytes, and at the end the numbers of calls. A program
+ * of rows that arms the library itself does so by the sizes of two growths, which no other program asks for, whatever the
+ * environment says. There is no header: it is compiled for glibc on x86-64 by itself. */
 
 typedef unsigned long size;
 typedef long count;
@@ -131,6 +132,23 @@ count send(int file, const void *bytes, size length, int flags) {
     return moved(STREAM, SENDTO, file, (void *)bytes, length, flags, 0, 0);
 }
 
-void *malloc(size length) { return ready && due(MEMORY) ? 0 : __libc_malloc(length); }
+/* A growth of 0x7ee0 << 48 bytes and more is always refused. Its lower 32 bits say which growth from then on is the first one
+ * that is refused, and the 16 above them how many are. One of TELLS bytes is refused where one was refused since. */
+enum { ASKS = 0x7ee0, TELLS = 4000037 };
+static size armed_first, armed_count, armed_made, armed_met;
 
-void *realloc(void *old, size length) { return ready && due(MEMORY) ? 0 : __libc_realloc(old, length); }
+static int is_refused(size length) {
+    if (length >> 48 == ASKS) {
+        armed_first = length & 0xffffffff;
+        armed_count = length >> 32 & 0xffff;
+        armed_made = armed_met = 0;
+        return 1;
+    }
+    if (length == TELLS) return armed_met;
+    if (armed_count && ++armed_made >= armed_first && armed_made < armed_first + armed_count) return armed_met = 1;
+    return ready && due(MEMORY);
+}
+
+void *malloc(size length) { return is_refused(length) ? 0 : __libc_malloc(length); }
+
+void *realloc(void *old, size length) { return is_refused(length) ? 0 : __libc_realloc(old, length); }

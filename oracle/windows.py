@@ -8,7 +8,7 @@ it: under a condition that the neighbour lies in the domain. The boxes of neighb
 place itself; in some queries a bound of the condition is off by one, a part of it is missing, the axes are exchanged, or
 the neighbour's cell is only a part of an expression, so that neighbours outside of the domain are faults. The others read a
 cell here and a cell there, in whatever order, some of them outside. Coverages lie in one tile and across several ones.
-What was found is told by the seed of its store and the query.
+Each query that is taken is asked as a job too, as zones.py does. What was found is told by the seed of its store and the query.
 """
 
 import random

@@ -7,9 +7,9 @@ A query is an array over places, each cell of which condenses a box under the co
 the place, or condenses bodies in which such an equation stands, as a factor or another operand; either key may be the left
 operand. One in three is a table of zones over whole layers instead. Keys and values may fault: they divide, and they leave 64
 bits. Keys are negative, Boolean, near one another, far apart, or past 32 bits; there are one zone, a few, and as many zones as
-cells; boxes lie in one tile and across several ones. The program is asked for all of them in one session for each store, for
-each fourth one as a job too, and each reply has to be that of oracle/meaning.py. What was found is told by the seed of its
-store and the query.
+cells; boxes lie in one tile and across several ones. The program is asked for all of them in one session for each store, and for
+each that it takes as a job too, whose coverages are written over between its steps. Each reply has to be that of
+oracle/meaning.py. What was found is told by the seed of its store and the query.
 """
 
 import random
@@ -170,25 +170,30 @@ def made(store):
     return out
 
 
-def as_job(query, number):
-    """The messages that ask a query as a job."""
+def as_job(query, number, update):
+    """The messages that ask a query as a job. Behind its first unit a field that it may read is written over, and what was
+    there comes back behind its last one."""
+    written = {key: it for key, it in update.items() if key != "values"}
     yield {"request": "SubmitQuery", "query": query}
+    yield {"request": "StepJob", "job": number, "units": "1"}
+    yield written | {"fill": "true" if update["values"][0] in "tf" else "1"}
     yield {"request": "StepJob", "job": number, "units": "1000"}
     yield {"request": "FetchJob", "job": number}
+    yield update
 
 
-def asked(queries, answers):
-    """The messages that ask queries, and for each query the places of its answers among the replies; each fourth one that
-    is taken is asked as a job too."""
+def asked(queries, answers, updates):
+    """The messages that ask queries, and for each query the places of its answers among the replies; each that is taken is
+    asked as a job too."""
     messages, places, jobs = [], [], 0
     for k, (query, wanted) in enumerate(zip(queries, answers)):
         messages.append({"request": "ProcessCoverages", "query": query})
         places.append([len(messages) - 1])
         taken = not wanted.startswith("refused") or wanted.startswith("refused 6")
-        if taken and k % 4 == 0:
+        if taken:
             jobs += 1
-            messages += as_job(query, str(jobs))
-            places[-1].append(len(messages) - 1)
+            messages += as_job(query, str(jobs), updates[k % len(updates)])
+            places[-1].append(len(messages) - 2)
     return messages, places
 
 
@@ -199,8 +204,10 @@ def compared(program, most, number, make):
         one = make(number)
         queries = [one.query() for _ in range(40)]
         answers = [expected(query, one.store) for query in queries]
-        messages, places = asked(queries, answers)
-        sent = b"".join(posted(pairs) for pairs in [*made(one.store), *messages])
+        first = made(one.store)
+        updates = [it for it in first if "values" in it]
+        messages, places = asked(queries, answers, updates)
+        sent = b"".join(posted(pairs) for pairs in [*first, *messages])
         ran = subprocess.run([program, "-", "run"], input=sent, stdout=subprocess.PIPE)
         bodies = [body.decode() for _, body in fuzz.replies_in(ran.stdout)][-len(messages) :]
         if len(bodies) != len(messages):

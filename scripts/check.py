@@ -3,8 +3,10 @@
 
     scripts/check.py [PROGRAM [DOCUMENT..]]
 
-Without a program it compares alone: the tables of crates (`crate_table.py`), the public calls (`surface.py`), the
-limits (`limits.py`) and the refusals (`refusals.py`); and it tells which contracts are too wide or too long (`contracts.py`).
+Without a program it compares alone: the tables of crates (`crate_table.py`), the public calls (`surface.py`), the limits
+(`limits.py`), the refusals (`refusals.py`), what is said of keywords, types and limits elsewhere (`words.py`), and the names
+that the documents quote (`names.py`). It tells too which facts stand a second time (`homes.py`) and which contracts are too
+wide or too long (`contracts.py`).
 
 An example is a line of an indented block that begins with `$ `: a command for bash. The indented lines below it, up to the
 next such line or the next paragraph, are what it prints. All of a document's commands run in one shell, in a folder of their own,
@@ -23,9 +25,12 @@ DOCS = f"{TOP}/docs"
 
 import contracts
 import crate_table
+import homes
 import limits
+import names
 import refusals
 import surface
+import words
 from served import served
 
 SAYS = "localhost:8080"
@@ -65,10 +70,10 @@ def differences(program, document):
         found = examples(file.read())
     told = []
     with tempfile.TemporaryDirectory() as folder, served(program, folder) as port:
-        words = ["bash", "--norc", "--noprofile"]
+        bash = ["bash", "--norc", "--noprofile"]
         plain = {name: value for name, value in os.environ.items() if not name.lower().endswith("_proxy")}
         with subprocess.Popen(
-            words,
+            bash,
             cwd=folder,
             env=plain,
             stdin=subprocess.PIPE,
@@ -86,7 +91,9 @@ def differences(program, document):
 
 def compared():
     """Prints where the documents and the crates differ, and tells how many places that are."""
-    found = [it for part in (crate_table, surface, limits, refusals, contracts) for it in part.faults()]
+    found = [
+        it for part in (crate_table, surface, limits, refusals, words, names, homes, contracts) for it in part.faults()
+    ]
     print(*found, sep="\n", end="\n" if found else "")
     print(f"documents beside crates: {len(found)} differ")
     return len(found)

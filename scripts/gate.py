@@ -69,6 +69,7 @@ def trials(seed):
     """What is run over the built program: what it is, its command, and what it lacks here, if anything."""
     program = "crates/rasterd/out/rasterd"
     yield "the documents beside the crates", ["scripts/check.py"], None
+    yield "second homes of facts", ["scripts/homes_test.py"], None
     yield "the examples of the documents", ["scripts/check.py", program], lacking("curl")
     yield "files of version 1", ["oracle/version_1.py", program], None
     yield "words, statuses and lines of the program", ["scripts/statuses.py", program], None
@@ -85,6 +86,8 @@ def trials(seed):
     yield "a server that is stopped, and two on one file", ["faults/interrupts.py", program, "40"], None
     every = ["memory", "25", str(int(seed) % 25 + 1)]
     yield "growths that are refused, every 25th", ["faults/failing.py", program, *every], None
+    rows = ["crates/server_tests/out/server_tests", "crates/server_tests/stdin"]
+    yield "growths that are refused, each under the rows of scripts", ["faults/growths.py", *rows], None
     yield "the layout of Python", ["black", "--check", "--quiet", "."], lacking("black")
 
 

@@ -1,8 +1,7 @@
 """The whole numbers that the crates which hold code have as constants, beside docs/LIMITS.md.
 
 A row of the page has a value, and a cell with the places where it stands: `NAME` in `crate/file.rt`, with `= VALUE` behind the
-name where that constant has another value than the row; or the number in `crate/file.rt`, where it has no name. The numbers of
-refusals have a page of their own.
+name where that constant has another value than the row; or the number in `crate/file.rt`, where it has no name.
 """
 
 import os
@@ -11,7 +10,7 @@ import re
 from surface import TOP, crates, modules, source
 
 PAGE = f"{TOP}/docs/LIMITS.md"
-OTHER = {"http_front/refusals.rt"}
+NO_LIMITS = "## Numbers that are no limits"
 CONSTANT = re.compile(r"^ *(?:pub(?:\([a-z]+\))? )?const (\w+): [ui](?:8|16|32|64|128|size) = ([^;]+);", re.M)
 NAMED = re.compile(r"`(\w+)`(?: = ([\d,]+))? in `([\w/]+\.rt)`")
 BARE = re.compile(r"the number in `([\w/]+\.rt)`")
@@ -36,15 +35,15 @@ def constants():
             file, others = f"{crate}/{module}.rt", {}
             for name, text in CONSTANT.findall(source(crate, module)):
                 others[name] = value(text, others)
-                if file not in OTHER:
-                    found[file, name] = others[name]
+                found[file, name] = others[name]
     return found
 
 
-def rows():
-    """Of each row of the page what it is about, its value and the places that it names."""
+def rows(of_limits=False):
+    """Of each row of the page what it is about, its value and the places that it names; of its limits alone where it is asked."""
     with open(PAGE, encoding="utf-8") as file:
-        cells = [[it.strip() for it in line.split("|")[1:-1]] for line in file if line.startswith("| ")]
+        text = file.read().partition(NO_LIMITS if of_limits else "\0")[0]
+    cells = [[it.strip() for it in line.split("|")[1:-1]] for line in text.splitlines() if line.startswith("| ")]
     for what, first, where, *_ in cells:
         if given := re.match(r"-?\d[\d,]*", first):
             yield what, number(given[0]), where

@@ -1,9 +1,9 @@
-"""The refusals of the crates, by number, name and status, beside docs/REFUSALS.md and the independent reading in oracle/.
+"""The refusals of `arr_core::Refusal`, by number, name and status, beside docs/REFUSALS.md and the independent reading in oracle/.
 
-Names are those of `arr_core::refusal_name` and of its definition, statuses those of `http_front::refusals::status_of`; those of
-an opening have none. The independent reading has no device, and so it may lack the refusals of one.
+The independent reading has no device, and so it may lack the refusals of one.
 """
 
+import functools
 import os
 import re
 import sys
@@ -13,8 +13,10 @@ from surface import TOP, source
 sys.path.insert(0, f"{TOP}/oracle")
 
 PAGE = "docs/REFUSALS.md"
+HOME = ("arr_core", "refusal")
 OF_DEVICE = {90, 91, 92, 93, 94, 95}
-OF_OPENING = {94, 95}
+NUMBER = re.compile(r"^ +Refusal::(\w+) => (\d+),", re.M)
+STATUS = re.compile(r"((?:Refusal::\w+[\s|]*)+|_ )=> (?:Some\((\d+)\)|None),")
 ROW = re.compile(r"^\| (\d+) (\w+) \| (\d*) ?\|", re.M)
 MENTION = re.compile(r"(?<![\w.,-])(\d{1,2}) ([A-Z]\w+)")
 FOLDERS = ("docs", "oracle", "clients", "web", "faults", "examples", "deploy", "bench")
@@ -26,33 +28,20 @@ def read(path):
         return file.read()
 
 
+@functools.cache
 def names():
-    """Each refusal's name by its number, as the code gives it."""
-    return {
-        int(number): name for number, name in re.findall(r'^ +(\d+) => "(\w+)",', source("arr_core", "refusal"), re.M)
-    }
+    """Each refusal's name by its number."""
+    return {int(number): name for name, number in NUMBER.findall(source(*HOME))}
 
 
-def defined():
-    """The same as it is defined."""
-    text = read("crates/arr_core/specs/Refusals.antt")
-    return {int(number): name for number, name in re.findall(r'\((\d+), codes "(\w+)"\)', text)}
-
-
+@functools.cache
 def statuses():
-    """The status of each refusal that has one, as the code gives it."""
-    text = source("http_front", "refusals").partition("pub fn status_of")[2]
-    found = {}
-    for numbers, status in re.findall(r"^ +([\d |]+) => (\d+),", text, re.M):
-        found |= {int(it): int(status) for it in numbers.split("|")}
-    (rest,) = re.findall(r"^ +_ => (\d+),", text, re.M)
-    return {number: found.get(number, int(rest)) for number in names() if number not in OF_OPENING}
-
-
-def constants():
-    """The numbers that `http_front::refusals` has names for, by the name of a refusal that each is made from."""
-    found = re.findall(r"^pub const (\w+): u16 = (\d+);", source("http_front", "refusals"), re.M)
-    return {int(number): "".join(it.capitalize() for it in name.split("_")) for name, number in found}
+    """The status of each refusal that has one."""
+    arms = STATUS.findall(source(*HOME).partition("pub fn status")[2])
+    given = {name: status for heads, status in arms for name in re.findall(r"Refusal::(\w+)", heads)}
+    (rest,) = [status for heads, status in arms if heads == "_ "]
+    found = {number: given.get(name, rest) for number, name in names().items()}
+    return {number: int(status) for number, status in found.items() if status}
 
 
 def differing(where, what, told, there):
@@ -119,11 +108,4 @@ def mentions():
 
 
 def faults():
-    made = {it: name for it, name in names().items() if it in constants()}
-    return [
-        *differing("arr_core/specs/Refusals.antt", "name", defined(), names()),
-        *differing("http_front/refusals.rt", "name", constants(), made),
-        *page_faults(),
-        *reading_faults(),
-        *mentions(),
-    ]
+    return [*page_faults(), *reading_faults(), *mentions()]

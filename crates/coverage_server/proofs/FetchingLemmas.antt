@@ -14,7 +14,7 @@ use Rattle.wcps_mean.specs.declared.cells.CellError.TheVariants as cell
 use Rattle.http_front.specs.declared.reply.Reply.{Reply}
 use Rattle.http_front.specs.declared.reply.Reply.TheVariants.{Text, Csv, Refused}
 use Rattle.kvp_front.specs.Templates.{Template}
-use Rattle.coverage_server.specs.declared.arguments.Refusal.{Refusal}
+use Rattle.coverage_server.specs.declared.error.AnswerError.{AnswerError}
 use Rattle.coverage_server.specs.Fetching.{FetchesNone, FetchesTemplate, FetchesText, FetchesUnits, IsFailure, UnlessFailed, UnlessFails, most_of_plan}
 use Rattle.coverage_server.specs.Holding.{ReleasesFor}
 use Rattle.coverage_server.specs.Leaving.{refusal_number, reply_of}
@@ -25,17 +25,17 @@ use Rattle.coverage_server.specs.Views.{ServerView, session}
 
 -- ---- answers
 
-pub unless_any : {A : Type 0} (r : Result A Refusal) (P : Type 0) → P → UnlessFails r P
+pub unless_any : {A : Type 0} (r : Result A AnswerError) (P : Type 0) → P → UnlessFails r P
 unless_any (Ok a) P p = p
 unless_any (Err e) P p = inr p
 
-pub unless_weaker : {A : Type 0} (r : Result A Refusal) (P Q : Type 0) → (P → Q) → UnlessFails r P → UnlessFails r Q
+pub unless_weaker : {A : Type 0} (r : Result A AnswerError) (P Q : Type 0) → (P → Q) → UnlessFails r P → UnlessFails r Q
 unless_weaker (Ok a) P Q f p = f p
 unless_weaker (Err e) P Q f (inl k) = inl k
 unless_weaker (Err e) P Q f (inr p) = inr (f p)
 
 -- what is said of an answer is said of its reply
-pub unless_told : (r : Result Reply Refusal) (P : Type 0) → UnlessFails r P → UnlessFailed (reply_of r) P
+pub unless_told : (r : Result Reply AnswerError) (P : Type 0) → UnlessFails r P → UnlessFailed (reply_of r) P
 unless_told (Ok (Text text)) P p = p
 unless_told (Ok (Csv text)) P p = p
 unless_told (Ok (Refused code)) P p = inr p
@@ -81,10 +81,10 @@ module _ (n : ℕ) (old new : DeskView) (u v m w : ServerView) (job then : ℕ) 
       (sym (after_end n left m w ends)) before
 
   -- where a unit failed it is not said
-  pub refused_units : (e : StepError) (r : Refusal) → w ≡ m → r ≡ step_refusal e
+  pub refused_units : (e : StepError) (r : AnswerError) → w ≡ m → r ≡ step_refusal e
       → StepFetches (Err e) n old new (asked_state job places u) (asked_state then others m)
       → IsFailure (refusal_number r) ⊎ (FetchesNone v w ⊎ FetchesUnits n (session v old) (session w new))
   refused_units stepping.NoSuchJob r as_was told x =
       inr (inl (ap (λ (y : ServerView). y.fetched) as_was ∙ x ∙ ap (λ (y : ServerView). y.fetched) same))
   refused_units (stepping.Cells e) r as_was told x =
-      inl (subst (λ (q : Refusal). IsFailure (refusal_number q)) (sym told) (cells_fail e))
+      inl (subst (λ (q : AnswerError). IsFailure (refusal_number q)) (sym told) (cells_fail e))

@@ -9,7 +9,9 @@ use Rattle.block_file.specs.View.{BlockFileView, state_of}
 use Rattle.block_file.specs.Words.{OnlyHeader}
 use Rattle.block_file.proofs.Free.{free_same}
 use Rattle.catalogue.specs.Bytes.{catalogue_bytes}
-use Rattle.catalogue.specs.Signatures.{without}
+use Rattle.catalogue.specs.Signatures.{IsRefused, without}
+use Rattle.catalogue.specs.declared.error.InsertError.{InsertError}
+use Rattle.catalogue.specs.declared.error.InsertError.TheVariants as insertion
 use Rattle.tile_store.specs.declared.fault.Fault.{Fault}
 use Rattle.tile_store.specs.declared.fault.Fault.TheVariants as device
 use Rattle.tile_store.specs.Faults.{Refuses}
@@ -23,7 +25,7 @@ use Rattle.coverage_server.specs.Layouts.{layout_of}
 use Rattle.coverage_server.specs.Room.{LacksRoomToInsert}
 use Rattle.coverage_server.specs.Holding.{HoldsFor, ReleasesFor}
 use Rattle.coverage_server.specs.Views.{ServerView, IsClosable, IsUnchanged, KeepsHeld, still_of, signatures_of, uses_in, free_in, free_blocks, without_held}
-use Rattle.coverage_server.specs.Writing.{device_refusal, InsertRefused}
+use Rattle.coverage_server.specs.Writing.{device_refusal, insert_refusal, InsertRefused}
 use Rattle.coverage_server.proofs.StoreLemmas.{signatures_inserted}
 use Rattle.coverage_server.proofs.HeldLemmas.{lists_push, lists_left, picked_lists, same_snapshots, same_after, same_lists, intact_push, intact_left}
 use Rattle.coverage_server.proofs.RemovalLemmas.{signatures_deleted, listed_left, no_fewer_free, room_left}
@@ -133,6 +135,19 @@ lacks_room catalogue s size cells ready is lacks =
     let free = ready_free catalogue cells ready in
     let bytes : size ≡ length (catalogue_bytes (signatures_of cells.coverages ++ s ∷ [])) = is ∙ ap (λ (l : List Signature). length (catalogue_bytes (l ++ s ∷ []))) ready.signatures in
     rw (← bytes) (omega (arith, free, lacks))
+
+-- why the catalogue does not take a signature
+pub catalogue_refused : (catalogue : List Signature) (s : Signature) (cells : RasterView BlockFileView) (e : InsertError) → IsReady catalogue cells
+    → IsRefused catalogue s e → InsertRefused (shown cells) s (insert_refusal e)
+catalogue_refused catalogue s cells insertion.CoverageExists ready is =
+    (insertion.CoverageExists, refl, subst (λ (l : List Signature). IsRefused l s insertion.CoverageExists) ready.signatures is)
+catalogue_refused catalogue s cells insertion.BadDomain ready is =
+    (insertion.BadDomain, refl, subst (λ (l : List Signature). IsRefused l s insertion.BadDomain) ready.signatures is)
+catalogue_refused catalogue s cells insertion.BadField ready is =
+    (insertion.BadField, refl, subst (λ (l : List Signature). IsRefused l s insertion.BadField) ready.signatures is)
+catalogue_refused catalogue s cells insertion.TooManyCoverages ready is =
+    (insertion.TooManyCoverages, refl, subst (λ (l : List Signature). IsRefused l s insertion.TooManyCoverages) ready.signatures is)
+catalogue_refused catalogue s cells insertion.NoMemory ready is = tt
 
 -- why a coverage does not come
 pub create_refused : {T : Type 0} (catalogue : List Signature) (s : Signature) (size : ℕ) (cells : RasterView BlockFileView) (fault : Fault) → IsReady catalogue cells

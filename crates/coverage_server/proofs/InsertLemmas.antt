@@ -3,6 +3,9 @@ use Rattle.std.proofs.Common.{◌≡◌, ℕ, ◌<◌, ◌≤◌, List, length, 
 use Rattle.std.specs.Prelude.{String, string_bytes, codes, Ok}
 use Rattle.std.specs.declared.alloc.Global.{Global}
 use Rattle.std.proofs.lemmas.List.{length-map}
+use Rattle.arr_core.specs.declared.refusal.Refusal.{Refusal}
+use Rattle.arr_core.specs.declared.refusal.Refusal.TheVariants.{BadDomain, BadField, TooManyCoverages}
+use Rattle.arr_core.specs.Refusals.{number_of}
 use Rattle.arr_core.specs.declared.domain.Axis.{Axis}
 use Rattle.arr_core.specs.declared.field.Field.{Field}
 use Rattle.arr_core.specs.declared.signature.Signature.{Signature}
@@ -13,8 +16,8 @@ use Rattle.catalogue.specs.Signatures.{IsRefused, MayInsert}
 use Rattle.raster_store.specs.Calls.{signature_of}
 use Rattle.http_front.specs.declared.reply.Reply.TheVariants.{Text, Refused}
 use Rattle.kvp_front.specs.declared.request.Interval.{Interval}
-use Rattle.coverage_server.specs.declared.arguments.Refusal.{Refusal}
-use Rattle.coverage_server.specs.declared.arguments.Refusal.TheVariants.{Numbered, NoMemory, DiskFault, NoRoom, Damaged}
+use Rattle.coverage_server.specs.declared.error.AnswerError.{AnswerError}
+use Rattle.coverage_server.specs.declared.error.AnswerError.TheVariants.{Named, NoMemory, DiskFault, NoRoom, Damaged}
 use Rattle.coverage_server.specs.Answered.{Answered}
 use Rattle.coverage_server.specs.Machine.{SpellDomain, SpellWhole, axes_of, axis_of, Inserts}
 use Rattle.coverage_server.specs.Layouts.{layout_of}
@@ -38,30 +41,30 @@ module _ (v w : ServerView) (name : List ℕ) (intervals : List Interval) (field
   some_intervals : 1 ≤ length (axes_of intervals) → SpellWhole intervals
   some_intervals some = let e = length-map intervals axis_of in let more : 0 < length intervals = omega (arith, e, some) in (spelled, more)
 
-  refused_by : (e : InsertError) (code : ℕ) → insert_refusal e ≡ Numbered code → IsRefused (signatures_of v.store) asked e
-      → Inserts name intervals fields v.store (Refused code) v.store
-  refused_by insertion.CoverageExists code e x = absurd (unfound_fresh name v.store none x)
-  refused_by insertion.BadDomain code e x =
-      let is : 22 ≡ code = cc in
+  refused_by : (e : InsertError) (refusal : Refusal) → insert_refusal e ≡ Named refusal → IsRefused (signatures_of v.store) asked e
+      → Inserts name intervals fields v.store (Refused (number_of refusal)) v.store
+  refused_by insertion.CoverageExists refusal e x = absurd (unfound_fresh name v.store none x)
+  refused_by insertion.BadDomain refusal e x =
+      let is : BadDomain ≡ refusal = cc in
       let empty = ap (λ (l : List Axis). length l) x.1 in
       let size = length-map intervals axis_of in
-      subst (λ (n : ℕ). Inserts name intervals fields v.store (Refused n) v.store) is
+      subst (λ (r : Refusal). Inserts name intervals fields v.store (Refused (number_of r)) v.store) is
       (no_domain name intervals fields v.store none (λ (whole : SpellWhole intervals). let more : 0 < length intervals = whole.1 in absurd (omega (arith, empty, size, more))))
-  refused_by insertion.BadField code e x =
-      let is : 23 ≡ code = cc in
-      subst (λ (n : ℕ). Inserts name intervals fields v.store (Refused n) v.store) is (no_fields name intervals fields v.store none (some_intervals x.1) x.2)
-  refused_by insertion.TooManyCoverages code e x =
-      let is : 27 ≡ code = cc in
+  refused_by insertion.BadField refusal e x =
+      let is : BadField ≡ refusal = cc in
+      subst (λ (r : Refusal). Inserts name intervals fields v.store (Refused (number_of r)) v.store) is (no_fields name intervals fields v.store none (some_intervals x.1) x.2)
+  refused_by insertion.TooManyCoverages refusal e x =
+      let is : TooManyCoverages ≡ refusal = cc in
       let size = length-map v.store signature_of in
       let full = x.3 in
-      subst (λ (n : ℕ). Inserts name intervals fields v.store (Refused n) v.store) is
+      subst (λ (r : Refusal). Inserts name intervals fields v.store (Refused (number_of r)) v.store) is
       (no_room name intervals fields v.store none (some_intervals x.1) x.2 (λ (few : length v.store < 1024). absurd (omega (arith, size, full, few))))
-  refused_by insertion.NoMemory code e x = absurd cc
+  refused_by insertion.NoMemory refusal e x = absurd cc
 
-  pub insert_refused : (e : Refusal) → InsertRefused v asked e → IsUnchanged v w
+  pub insert_refused : (e : AnswerError) → InsertRefused v asked e → IsUnchanged v w
       → Answered (Inserts name intervals fields) (LacksRoomToInsert asked v.store (layout_of v)) ⊥ v w (Err e)
-  insert_refused (Numbered code) x same =
-      λ sound. subst (λ (s : Store). Inserts name intervals fields v.store (Refused code) s) (sym (same.store sound)) (refused_by x.0 code x.1 x.2)
+  insert_refused (Named refusal) x same =
+      λ sound. subst (λ (s : Store). Inserts name intervals fields v.store (Refused (number_of refusal)) s) (sym (same.store sound)) (refused_by x.0 refusal x.1 x.2)
   insert_refused NoMemory x same = tt
   insert_refused DiskFault x same = absurd x
   insert_refused NoRoom x same = λ sound. x

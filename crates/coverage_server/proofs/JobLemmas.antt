@@ -2,6 +2,8 @@
 use Rattle.std.proofs.Common.{◌≡◌, ℕ, zero, suc, ◌+◌, ◌*◌, ◌<◌, ◌≤◌, get_or, Bool, true, false, nat_eq, List, [], ◌∷◌, ◌++◌, length, map, max, Option, None, Some, Result, Ok, Err, inl, inr, refl, sym, ap, ◌∙◌, subst, arith}
 use Rattle.std.specs.Prelude.{All, IsSomeAnd, MatchOption, String, string_bytes, codes, decimal, IsSome}
 use Rattle.std.specs.declared.alloc.Global.{Global}
+use Rattle.arr_core.specs.declared.refusal.Refusal.TheVariants.{NoSuchJob, NotReady, TooManyJobs}
+use Rattle.arr_core.specs.Refusals.{number_of}
 use Rattle.arr_core.specs.declared.signature.Signature.{Signature}
 use Rattle.arr_core.specs.Stores.{Coverage, Store, found}
 use Rattle.std.proofs.lemmas.List.Elements.{All-head, All-tail, All-cons, All-nil, All-map}
@@ -23,13 +25,13 @@ use Rattle.plan_ir.specs.Units.{units}
 use Rattle.tile_exec.specs.Standing.{plan_of, left_of}
 use Rattle.wcps_mean.specs.declared.cell.PointFault.{PointFault}
 use Rattle.wcps_mean.specs.declared.item.Item.{Item}
-use Rattle.wcps_mean.specs.Faults.{number_of as fault_number}
+use Rattle.wcps_mean.specs.Faults.{refusal_of as fault_refusal}
 use Rattle.wcps_types.specs.Typed.{TypedTree}
 use Rattle.wcps_types.specs.Work.{query_work}
 use Rattle.http_front.specs.declared.reply.Reply.{Reply}
 use Rattle.http_front.specs.declared.reply.Reply.TheVariants.{Text, Csv, Refused}
-use Rattle.coverage_server.specs.declared.arguments.Refusal.{Refusal}
-use Rattle.coverage_server.specs.declared.arguments.Refusal.TheVariants.{Numbered, NoMemory, DiskFault, NoRoom, Damaged}
+use Rattle.coverage_server.specs.declared.error.AnswerError.{AnswerError}
+use Rattle.coverage_server.specs.declared.error.AnswerError.TheVariants.{Named, NoMemory, DiskFault, NoRoom, Damaged}
 use Rattle.coverage_server.specs.Answered.{AnsweredIn, Moves, Never}
 use Rattle.coverage_server.specs.Asking.{QueryAnswer, cells_of, items_answer, evaluated, TextTyped}
 use Rattle.coverage_server.specs.Machine.{Job, State, job_of, with_left, without, with_jobs, number_after, Refuses, Unless, Adds, Tells, Submits, Fetches, Cancels}
@@ -54,9 +56,9 @@ pub answer_text : (r : Result (List Item) PointFault) (text : String Global) →
 answer_text (Ok items) text x = ap Ok (sym x)
 answer_text (Err f) text x = absurd x
 
-pub answer_fault : (r : Result (List Item) PointFault) (f : PointFault) → IsAnswer r (given.Refused f) → items_answer r ≡ Err (fault_number f)
+pub answer_fault : (r : Result (List Item) PointFault) (f : PointFault) → IsAnswer r (given.Refused f) → items_answer r ≡ Err (fault_refusal f)
 answer_fault (Ok items) f x = absurd x
-answer_fault (Err g) f x = ap (λ (h : PointFault). Err (fault_number h)) (sym x)
+answer_fault (Err g) f x = ap (λ (h : PointFault). Err (fault_refusal h)) (sym x)
 
 -- ---- jobs, one for one
 
@@ -254,8 +256,9 @@ module _ (v : ServerView) (text : List ℕ) (old : DeskView) where
   abbrev here : SessionView
   here = session v old
 
-  pub submit_refused : (e : Refusal) → GivesText v.store text (Err e) → AnsweredIn (Submits text) ⊥ Never here here (Err e)
-  submit_refused (Numbered code) x = λ sure s r. (s, r, (Err code, subst (λ (o : Store). TextTyped o text (Err code)) (sym r.store) x, (refl, refl)))
+  pub submit_refused : (e : AnswerError) → GivesText v.store text (Err e) → AnsweredIn (Submits text) ⊥ Never here here (Err e)
+  submit_refused (Named refusal) x =
+      λ sure s r. (s, r, (Err refusal, subst (λ (o : Store). TextTyped o text (Err refusal)) (sym r.store) x, (refl, refl)))
   submit_refused NoMemory x = λ sure s r. r
   submit_refused DiskFault x = absurd x
   submit_refused NoRoom x = absurd x
@@ -265,11 +268,12 @@ module _ (v : ServerView) (text : List ℕ) (old : DeskView) where
     typed_at : (s : State) → Represents here s → TextTyped s.store text (Ok q)
     typed_at s r = subst (λ (o : Store). TextTyped o text (Ok q)) (sym r.store) typed.typed
 
-    pub submit_full : IsFull old → Moves (Submits text) here (Refused 72) here
+    pub submit_full : IsFull old → Moves (Submits text) here (Refused (number_of TooManyJobs)) here
     submit_full (inl many) = λ sure s r. (s, r, (Ok q, typed_at s r, by_next s r s.next))
       where
         by_next : (s : State) → Represents here s → (o : Option ℕ)
-            → MatchOption o (Refuses 72 s (Refused 72) s) (λ number. Unless (length s.jobs < 64) 72 (Adds q number) s (Refused 72) s)
+            → MatchOption o (Refuses TooManyJobs s (Refused (number_of TooManyJobs)) s)
+            (λ number. Unless (length s.jobs < 64) TooManyJobs (Adds q number) s (Refused (number_of TooManyJobs)) s)
         by_next s r None = (refl, refl)
         by_next s r (Some n) = inl ((λ few. let l = lengths v.held old.jobs s.jobs r.jobs in absurd (omega (arith, l, many, few))), (refl, refl))
     submit_full (inr none) = λ sure s r. (s, r, (Ok q, typed_at s r, at_nothing s.next _ _ (r.next ∙ none) (refl, refl)))
@@ -358,10 +362,10 @@ module _ (v : ServerView) (old new : DeskView) (n : ℕ) where
       fetched x (Csv text)
       (λ j st. subst (λ (a : QueryAnswer). Tells a (Csv text)) (sym (st.answer ∙ answer_text (planned st.cells (plan_of x.job.exec)) text (x.answer st.cells st.stands))) refl)
 
-  pub fetched_fault : (f : PointFault) → IsFetched n (given.Refused f) old new → Moves (Fetches n) (session v old) (Refused (fault_number f)) (session v new)
+  pub fetched_fault : (f : PointFault) → IsFetched n (given.Refused f) old new → Moves (Fetches n) (session v old) (Refused (number_of (fault_refusal f))) (session v new)
   fetched_fault f x =
-      fetched x (Refused (fault_number f))
-      (λ j st. subst (λ (a : QueryAnswer). Tells a (Refused (fault_number f))) (sym (st.answer ∙ answer_fault (planned st.cells (plan_of x.job.exec)) f (x.answer st.cells st.stands))) refl)
+      fetched x (Refused (number_of (fault_refusal f)))
+      (λ j st. subst (λ (a : QueryAnswer). Tells a (Refused (number_of (fault_refusal f)))) (sym (st.answer ∙ answer_fault (planned st.cells (plan_of x.job.exec)) f (x.answer st.cells st.stands))) refl)
 
 -- a job that is dropped
 pub cancelled : (v w : ServerView) (old new : DeskView) (n : ℕ) → IsDesk old → IsSome (desks.job_of n old.jobs) → new ≡ desks.taken_out n old → ReleasesFor n v w
@@ -381,16 +385,16 @@ cancelled v w old new n desk some e gone text ok = λ sure s r. by_job s r (desk
 
 -- numbers of no job, and a job that is not done
 module _ (v : ServerView) (old : DeskView) (n : ℕ) where
-  pub fetch_absent : desks.job_of n old.jobs ≡ None → Moves (Fetches n) (session v old) (Refused 70) (session v old)
+  pub fetch_absent : desks.job_of n old.jobs ≡ None → Moves (Fetches n) (session v old) (Refused (number_of NoSuchJob)) (session v old)
   fetch_absent none = λ sure s r. (s, r, at_nothing (job_of n s.jobs) _ _ (no_job v.held n old.jobs s.jobs r.jobs none) (refl, refl))
 
-  pub fetch_early : (h : Held) → desks.job_of n old.jobs ≡ Some h → 0 < h.left → Moves (Fetches n) (session v old) (Refused 71) (session v old)
+  pub fetch_early : (h : Held) → desks.job_of n old.jobs ≡ Some h → 0 < h.left → Moves (Fetches n) (session v old) (Refused (number_of NotReady)) (session v old)
   fetch_early h held some = λ sure s r.
       let at = at_job v.held n h old.jobs s.jobs r.jobs held in
       let left = at.stands.left in
       (s, r, at_this (job_of n s.jobs) at.job _ _ at.held (inl ((λ (e : at.job.left ≡ 0). absurd (omega (arith, left, e, some))), (refl, refl))))
 
-  pub cancel_absent : desks.job_of n old.jobs ≡ None → Moves (Cancels n) (session v old) (Refused 70) (session v old)
+  pub cancel_absent : desks.job_of n old.jobs ≡ None → Moves (Cancels n) (session v old) (Refused (number_of NoSuchJob)) (session v old)
   cancel_absent none = λ sure s r. (s, r, at_nothing (job_of n s.jobs) _ _ (no_job v.held n old.jobs s.jobs r.jobs none) (refl, refl))
 
   pub fetch_refused : (e : FetchError) → IsRefusedFetch n old.jobs e → AnsweredIn (Fetches n) ⊥ Never (session v old) (session v old) (Err (fetch_refusal e))
@@ -399,15 +403,15 @@ module _ (v : ServerView) (old : DeskView) (n : ℕ) where
   fetch_refused fetching.NoMemory x = λ sure s r. r
 
 -- the same of a refusal that is told in these words
-pub fetch_refused_as : (v : ServerView) (old new : DeskView) (n : ℕ) (e : FetchError) (r : Refusal) → r ≡ fetch_refusal e → new ≡ old → IsRefusedFetch n old.jobs e
+pub fetch_refused_as : (v : ServerView) (old new : DeskView) (n : ℕ) (e : FetchError) (r : AnswerError) → r ≡ fetch_refusal e → new ≡ old → IsRefusedFetch n old.jobs e
     → AnsweredIn (Fetches n) ⊥ Never (session v old) (session v new) (Err r)
 fetch_refused_as v old new n e r is same x =
     subst (λ (d : DeskView). AnsweredIn (Fetches n) ⊥ Never (session v old) (session v d) (Err r)) (sym same)
-    (subst (λ (q : Refusal). AnsweredIn (Fetches n) ⊥ Never (session v old) (session v old) (Err q)) (sym is) (fetch_refused v old n e x))
+    (subst (λ (q : AnswerError). AnsweredIn (Fetches n) ⊥ Never (session v old) (session v old) (Err q)) (sym is) (fetch_refused v old n e x))
 
-pub submit_failed_as : (v w : ServerView) (text : List ℕ) (old new : DeskView) (q : TypedTree) → IsTypedText v.store text q → (e : SubmitError) (r : Refusal) → r ≡ submit_refusal e → new ≡ old
+pub submit_failed_as : (v w : ServerView) (text : List ℕ) (old new : DeskView) (q : TypedTree) → IsTypedText v.store text q → (e : SubmitError) (r : AnswerError) → r ≡ submit_refusal e → new ≡ old
     → w ≡ v → IsRefusedSubmit old e → AnsweredIn (Submits text) ⊥ Never (session v old) (session w new) (Err r)
 submit_failed_as v w text old new q typed e r is same stays x =
     subst (λ (u : ServerView). AnsweredIn (Submits text) ⊥ Never (session v old) (session u new) (Err r)) (sym stays)
     (subst (λ (d : DeskView). AnsweredIn (Submits text) ⊥ Never (session v old) (session v d) (Err r)) (sym same)
-    (subst (λ (s : Refusal). AnsweredIn (Submits text) ⊥ Never (session v old) (session v old) (Err s)) (sym is) (submit_failed v text old q typed e x)))
+    (subst (λ (s : AnswerError). AnsweredIn (Submits text) ⊥ Never (session v old) (session v old) (Err s)) (sym is) (submit_failed v text old q typed e x)))

@@ -3,6 +3,9 @@ use Rattle.std.proofs.Common.{◌≡◌, ℕ, ◌<◌, ◌≤◌, Bool, true, fa
 use Rattle.std.specs.Prelude.{◌⊎◌, IsSomeAnd, MatchOption, String, string_bytes, codes, slice_get}
 use Rattle.std.specs.declared.alloc.Global.{Global}
 use Rattle.std.specs.List.{flat_map}
+use Rattle.arr_core.specs.declared.refusal.Refusal.{Refusal}
+use Rattle.arr_core.specs.declared.refusal.Refusal.TheVariants.{BadDomain, BadField, CoverageExists, NoSuchCoverage, NoSuchField, OutsideDomain, TooManyCoverages}
+use Rattle.arr_core.specs.Refusals.{number_of}
 use Rattle.arr_core.specs.declared.cell.FieldType.{FieldType}
 use Rattle.arr_core.specs.declared.domain.Axis.{Axis}
 use Rattle.arr_core.specs.declared.field.Field.{Field}
@@ -29,17 +32,17 @@ at_nothing : {X : Type 0} (o : Option X) (P : Type 0) (Q : X → Type 0) → o �
 at_nothing o P Q e p = subst (λ (y : Option _). MatchOption y P Q) (sym e) p
 
 module _ (name : List ℕ) (intervals : List Interval) (fields : List Field) (old : Store) where
-  pub taken_name : (c : Coverage) → found name old ≡ Some c → Inserts name intervals fields old (Refused 21) old
+  pub taken_name : (c : Coverage) → found name old ≡ Some c → Inserts name intervals fields old (Refused (number_of CoverageExists)) old
   taken_name c e = at_this (found name old) c _ _ e (refl, refl)
 
-  pub no_domain : found name old ≡ None → ¬ (SpellWhole intervals) → Inserts name intervals fields old (Refused 22) old
+  pub no_domain : found name old ≡ None → ¬ (SpellWhole intervals) → Inserts name intervals fields old (Refused (number_of BadDomain)) old
   no_domain e none = at_nothing (found name old) _ _ e (inl (none, (refl, refl)))
 
-  pub no_fields : found name old ≡ None → SpellWhole intervals → ¬ (AreFields fields) → Inserts name intervals fields old (Refused 23) old
+  pub no_fields : found name old ≡ None → SpellWhole intervals → ¬ (AreFields fields) → Inserts name intervals fields old (Refused (number_of BadField)) old
   no_fields e whole none = at_nothing (found name old) _ _ e (inr (whole, inl (none, (refl, refl))))
 
   pub no_room : found name old ≡ None → SpellWhole intervals → AreFields fields → ¬ (length old < 1024)
-      → Inserts name intervals fields old (Refused 27) old
+      → Inserts name intervals fields old (Refused (number_of TooManyCoverages)) old
   no_room e whole some full = at_nothing (found name old) _ _ e (inr (whole, inr (some, inl (full, (refl, refl)))))
 
   pub is_inserted : found name old ≡ None → SpellWhole intervals → AreFields fields → length old < 1024
@@ -48,11 +51,13 @@ module _ (name : List ℕ) (intervals : List Interval) (fields : List Field) (ol
   is_inserted e whole some room text new ok is = at_nothing (found name old) _ _ e (inr (whole, inr (some, inr (room, (ok, is)))))
 
 -- cells that are refused, and cells that are written
-pub cells_refused : (name : List ℕ) (field : ℕ) (box : List Axis) (kind : FieldType) (cells : Cells) (old : Store) (code : ℕ) → AreRefused kind box cells code
-    → UpdatesCells name field box kind cells old (Refused code) old
-cells_refused name field box kind (fill cell) old code x = inl (x.0, (ap Refused x.1, refl))
-cells_refused name field box kind (values cells) old code (inl x) = inl (x.0, (ap Refused x.1, refl))
-cells_refused name field box kind (values cells) old code (inr x) = inr (x.0, inl (x.1, (ap Refused x.2, refl)))
+pub cells_refused : (name : List ℕ) (field : ℕ) (box : List Axis) (kind : FieldType) (cells : Cells) (old : Store) (refusal : Refusal) → AreRefused kind box cells refusal
+    → UpdatesCells name field box kind cells old (Refused (number_of refusal)) old
+cells_refused name field box kind (fill cell) old refusal x = inl (x.0, (ap (λ (r : Refusal). Refused (number_of r)) x.1, refl))
+cells_refused name field box kind (values cells) old refusal (inl x) =
+    inl (x.0, (ap (λ (r : Refusal). Refused (number_of r)) x.1, refl))
+cells_refused name field box kind (values cells) old refusal (inr x) =
+    inr (x.0, inl (x.1, (ap (λ (r : Refusal). Refused (number_of r)) x.2, refl)))
 
 pub cells_written : (name : List ℕ) (field : ℕ) (box : List Axis) (kind : FieldType) (cells : Cells) (old new : Store) (text : String Global)
     → AreCellsOf kind box cells → string_bytes text ≡ codes "ok\n" → new ≡ updated name field box (numbers_of box cells) old
@@ -66,15 +71,15 @@ said_of None x P e h = absurd cc
 said_of (Some y) x P e h = let same : y ≡ x = cc in subst P same h
 
 module _ (name field : List ℕ) (intervals : List Interval) (cells : Cells) (old : Store) where
-  pub no_coverage : found name old ≡ None → Updates name field intervals cells old (Refused 20) old
+  pub no_coverage : found name old ≡ None → Updates name field intervals cells old (Refused (number_of NoSuchCoverage)) old
   no_coverage e = at_nothing (found name old) _ _ e (refl, refl)
 
   module _ (c : Coverage) (at : found name old ≡ Some c) where
-    pub no_field : field_place field c.fields ≡ None → Updates name field intervals cells old (Refused 42) old
+    pub no_field : field_place field c.fields ≡ None → Updates name field intervals cells old (Refused (number_of NoSuchField)) old
     no_field e = at_this (found name old) c _ _ at (at_nothing (field_place field c.fields) _ _ e (refl, refl))
 
     module _ (k : ℕ) (f : Field) (place : field_place field c.fields ≡ Some k) (is : slice_get c.fields k ≡ Some f) where
-      pub no_box : ¬ (SpellDomain intervals × IsBoxOf c.domain (axes_of intervals)) → Updates name field intervals cells old (Refused 24) old
+      pub no_box : ¬ (SpellDomain intervals × IsBoxOf c.domain (axes_of intervals)) → Updates name field intervals cells old (Refused (number_of OutsideDomain)) old
       no_box none = at_this (found name old) c _ _ at (at_this (field_place field c.fields) k _ _ place (f, is, inl (none, (refl, refl))))
 
       pub in_box : SpellDomain intervals → IsBoxOf c.domain (axes_of intervals) → (reply : Reply) (new : Store)
@@ -82,10 +87,13 @@ module _ (name field : List ℕ) (intervals : List Interval) (cells : Cells) (ol
       in_box spelled box reply new x =
           at_this (found name old) c _ _ at (at_this (field_place field c.fields) k _ _ place (f, is, inr ((spelled, box), x)))
 
-      pub refused_write : SpellDomain intervals → (code : ℕ) → IsNoWrite c k (axes_of intervals) cells code → Updates name field intervals cells old (Refused code) old
-      refused_write spelled code (inl x) = subst (λ (n : ℕ). Updates name field intervals cells old (Refused n) old) (sym x.1) (no_box (λ w. x.0 w.1))
-      refused_write spelled code (inr x) =
-          in_box spelled x.0 (Refused code) old (cells_refused name k (axes_of intervals) f.kind cells old code (said_of (slice_get c.fields k) f _ is x.1))
+      pub refused_write : SpellDomain intervals → (refusal : Refusal) → IsNoWrite c k (axes_of intervals) cells refusal
+          → Updates name field intervals cells old (Refused (number_of refusal)) old
+      refused_write spelled refusal (inl x) =
+          subst (λ (r : Refusal). Updates name field intervals cells old (Refused (number_of r)) old) (sym x.1) (no_box (λ w. x.0 w.1))
+      refused_write spelled refusal (inr x) =
+          in_box spelled x.0 (Refused (number_of refusal)) old
+          (cells_refused name k (axes_of intervals) f.kind cells old refusal (said_of (slice_get c.fields k) f _ is x.1))
 
       pub done_write : SpellDomain intervals → MayWrite name k (axes_of intervals) cells old → (text : String Global) (new : Store)
           → string_bytes text ≡ codes "ok\n" → new ≡ updated name k (axes_of intervals) (numbers_of (axes_of intervals) cells) old

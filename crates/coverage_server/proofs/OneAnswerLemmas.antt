@@ -2,11 +2,12 @@
 use Rattle.std.proofs.Common.{◌≡◌, ℕ, List, Err, refl, sym, ap, ◌∙◌, arith}
 use Rattle.arr_core.specs.Stores.{Store}
 use Rattle.wcps_text.specs.declared.error.LexError.{LexError}
+use Rattle.wcps_text.specs.Refusals.{refusal_of as token_refusal}
 use Rattle.wcps_text.specs.Token.{Tok}
 use Rattle.wcps_text.specs.Lexing.{tokens_of}
 use Rattle.wcps_parse.proofs.Queries.{one_spelled}
 use Rattle.wcps_parse.proofs.Texts.{lexed-once, refused-once, not-both}
-use Rattle.coverage_server.specs.Asking.{QueryAnswer, TypedAnswer, token_number, tree_typed, TokensTyped, too_deep, no_query, query, TextTyped, too_long, no_tokens, lexed, evaluated, TextAnswer}
+use Rattle.coverage_server.specs.Asking.{QueryAnswer, TypedAnswer, tree_typed, TokensTyped, too_deep, no_query, query, TextTyped, too_long, no_tokens, lexed, evaluated, TextAnswer}
 
 tokens_once : (store : Store) (ts us : List Tok) (r s : TypedAnswer) → ts ≡ us → TokensTyped store ts r → TokensTyped store us s → r ≡ s
 tokens_once store ts us r s same (too_deep deep) (too_deep more) = refl
@@ -24,7 +25,7 @@ typed_once store text r s (too_long long) (too_long more) = refl
 typed_once store text r s (too_long long) (no_tokens e short refused) = absurd (omega arith)
 typed_once store text r s (too_long long) (lexed pieces short split typed) = absurd (omega arith)
 typed_once store text r s (no_tokens e short refused) (too_long long) = absurd (omega arith)
-typed_once store text r s (no_tokens e short refused) (no_tokens f also told) = ap (λ (x : LexError). Err (token_number x)) (refused-once text e f refused told)
+typed_once store text r s (no_tokens e short refused) (no_tokens f also told) = ap (λ (x : LexError). Err (token_refusal x)) (refused-once text e f refused told)
 typed_once store text r s (no_tokens e short refused) (lexed pieces also split typed) = absurd (not-both 0 text pieces e split refused)
 typed_once store text r s (lexed pieces short split typed) (too_long long) = absurd (omega arith)
 typed_once store text r s (lexed pieces short split typed) (no_tokens e also refused) = absurd (not-both 0 text pieces e split refused)

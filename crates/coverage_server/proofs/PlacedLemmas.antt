@@ -3,6 +3,7 @@ use Rattle.std.proofs.Common.{◌≡◌, ℕ, zero, suc, nat_lt, true, List, [],
 use Rattle.std.specs.Prelude.{All, IfErr, IfOk, IsSomeAnd, IsTrue}
 use Rattle.std.proofs.lemmas.List.Elements.{All-cons, All-weaker}
 use Rattle.std.proofs.lemmas.Bool.{lt-ltb}
+use Rattle.arr_core.specs.Refusals.{number_of}
 use Rattle.arr_core.specs.declared.signature.Signature.{Signature}
 use Rattle.arr_core.specs.Fields.{place_of as field_place}
 use Rattle.arr_core.specs.Names.{AreDistinct}
@@ -18,8 +19,8 @@ use Rattle.raster_store.specs.Calls.{AreWhole}
 use Rattle.raster_store.specs.Snapshots.{IsSnapshot, without_job}
 use Rattle.raster_store.specs.Views.{SnapshotView, listed_all, listed_snapshots}
 use Rattle.wcps_types.specs.Typed.{TypedTree}
-use Rattle.coverage_server.specs.declared.arguments.Refusal.{Refusal}
-use Rattle.coverage_server.specs.declared.arguments.Refusal.TheVariants.{Numbered, NoMemory, DiskFault, NoRoom, Damaged}
+use Rattle.coverage_server.specs.declared.error.AnswerError.{AnswerError}
+use Rattle.coverage_server.specs.declared.error.AnswerError.TheVariants.{Named, NoMemory, DiskFault, NoRoom, Damaged}
 use Rattle.coverage_server.specs.Answered.{AnsweredIn, IsAnswer}
 use Rattle.coverage_server.specs.Asking.{TextTyped}
 use Rattle.coverage_server.specs.Damage.{AreHeldWhole, AreIntactHeld, IsIntactNamed, KeepsSpelled, Spoils}
@@ -244,7 +245,7 @@ numbers_read xs (h ∷ hs) (j ∷ js) x = by_left h.left refl (numbers_read xs h
         rw (more_left h hs l e, some) (rw (x.0.number, rest) refl)
 
 -- what a refusal leaves of the coverages, and of the jobs
-pub refused_leaves : (asks : Asks) (old new : SessionView) (r : Result Reply Refusal)
+pub refused_leaves : (asks : Asks) (old new : SessionView) (r : Result Reply AnswerError)
     → OnErr r (IsUnchanged old.coverages new.coverages)
     → IfErr r (λ e. LeavesJobs asks (refusal_number e) old.desk new.desk)
     → IfErr r (λ e. Leaves asks (refusal_number e) old new)
@@ -333,7 +334,7 @@ module _ (asks : Asks) (old new : SessionView) (sure : IsTrue old.coverages.hone
   answer_lays (Csv text) is x = x
   answer_lays (Refused code) is x = absurd is
 
-  pub stepped : (r : Result Reply Refusal)
+  pub stepped : (r : Result Reply AnswerError)
       → AnsweredIn (Serves asks) (LacksRoom asks old.coverages.store (layout_of old.coverages))
       (Spoils asks old.coverages) old new r
       → (IsTrue old.coverages.honest → OnOk r (Lays asks old.coverages.store old.desk.next new.coverages.store
@@ -344,9 +345,9 @@ module _ (asks : Asks) (old new : SessionView) (sure : IsTrue old.coverages.hone
       let y = x sure p.state at.state in
       let z = lays sure in
       placed reply y.0 y.1 y.2 (answer_lays reply is z.0) z.1
-  stepped (Err (Numbered code)) x lays same is =
+  stepped (Err (Named refusal)) x lays same is =
       let y = x sure p.state at.state in
-      placed (Refused code) y.0 y.1 y.2 (laid_same old.coverages new.coverages sure same.coverages) (lays sure).1
+      placed (Refused (number_of refusal)) y.0 y.1 y.2 (laid_same old.coverages new.coverages sure same.coverages) (lays sure).1
   stepped (Err NoMemory) x lays same is =
       (p, stayed (x sure p.state at.state) same.coverages (lays sure).1, inr (inl (inl (refl, refl))))
   stepped (Err DiskFault) x lays same is =

@@ -4,6 +4,7 @@ use Rattle.std.proofs.lemmas.List.{length-append}
 use Rattle.std.specs.List.{concat}
 use Rattle.std.specs.Io.KnownBytes.{Appends, Consumes, IsAtEnd}
 use Rattle.std.proofs.KnownBytes.{Appends-trans, Consumes-trans}
+use Rattle.arr_core.specs.declared.refusal.Refusal.{Refusal}
 use Rattle.stream_face.specs.Faults.{AppendsPrefix}
 use Rattle.stream_face.specs.Views.{SourceView, SinkView}
 use Rattle.http_front.specs.declared.conn.Next.{Next}
@@ -38,11 +39,11 @@ spelled-later f (Ok asks) old reply new (inr (inl (inr (inr x)))) = inr (inl (in
 spelled-later f (Ok asks) old reply new (inr (inr x)) = inr (inr x)
 spelled-later f (Err e) old reply new x = x
 
-pub step-later : {P Q : Type 0} → Allows P Q → (old : Placed) (asked : Result (List ℕ) ℕ) (reply : Reply) (new : Placed)
+pub step-later : {P Q : Type 0} → Allows P Q → (old : Placed) (asked : Result (List ℕ) Refusal) (reply : Reply) (new : Placed)
     → MessageStep P old asked reply new
     → MessageStep Q old asked reply new
 step-later f old (Ok pairs) reply new x = spelled-later f (spelled pairs) old reply new x
-step-later f old (Err code) reply new x = x
+step-later f old (Err refusal) reply new x = x
 
 run-later : {P Q : Type 0} → Allows P Q → (old : Placed) (items : List Item) (replies : List (List ℕ)) (new : Placed)
     → Run P old items replies new → Run Q old items replies new

@@ -5,6 +5,8 @@ use Rattle.std.specs.Str.{bytes_eq}
 use Rattle.std.proofs.lemmas.Bool.{cases_Bool}
 use Rattle.std.proofs.lemmas.List.Sums.{sum_by-cons}
 use Rattle.std.proofs.lemmas.Slice.Eq.{bytes_eq-Decides}
+use Rattle.arr_core.specs.declared.refusal.Refusal.{Refusal}
+use Rattle.arr_core.specs.declared.refusal.Refusal.TheVariants.{BadDomain, BadField, CoverageExists, NoSuchCoverage, TooManyCoverages}
 use Rattle.arr_core.specs.declared.domain.Axis.{Axis}
 use Rattle.arr_core.specs.declared.field.Field.{Field}
 use Rattle.arr_core.specs.declared.signature.Signature.{Signature}
@@ -23,7 +25,7 @@ use Rattle.raster_store.specs.Fetches.{IsSpelledOf}
 use Rattle.raster_store.specs.Snapshots.{KeepsSnapshots}
 use Rattle.raster_store.specs.Views.{Index, RasterView, listed_all, listed_fields, listed_snapshots}
 use Rattle.raster_store.specs.Words.{SameCoverages, Stays, Writes}
-use Rattle.coverage_server.specs.declared.arguments.Refusal.{Refusal}
+use Rattle.coverage_server.specs.declared.error.AnswerError.{AnswerError}
 use Rattle.coverage_server.specs.Answered.{Answered, IsAnswer}
 use Rattle.coverage_server.specs.Damage.{IsIntactIn, IsIntactNamed, KeepsSpelled}
 use Rattle.coverage_server.specs.Layouts.{Layout, LaysNone, LaysRest, layout_of}
@@ -251,10 +253,10 @@ deleted_spelled content gone name field tile store indexes whole x = elim (cases
 
 -- ---- what an insertion and a deletion do
 
-unless_answer : {S : Type 0} (condition : Type 0) (code : ℕ) (next : S → Reply → S → Type 0) (old : S) (reply : Reply)
-    (new : S) → IsAnswer reply → Unless condition code next old reply new → next old reply new
-unless_answer condition code next old reply new is (inl x) = absurd (subst IsAnswer x.1.0 is)
-unless_answer condition code next old reply new is (inr x) = x.1
+unless_answer : {S : Type 0} (condition : Type 0) (refusal : Refusal) (next : S → Reply → S → Type 0) (old : S) (reply : Reply)
+    (new : S) → IsAnswer reply → Unless condition refusal next old reply new → next old reply new
+unless_answer condition refusal next old reply new is (inl x) = absurd (subst IsAnswer x.1.0 is)
+unless_answer condition refusal next old reply new is (inr x) = x.1
 
 -- an insertion that was answered found none with the name
 pub inserts_to : (name : List ℕ) (intervals : List Interval) (fields : List Field) (old : Store) (reply : Reply) (new : Store)
@@ -267,24 +269,25 @@ inserts_to name intervals fields old reply new is x = by_found (found name old) 
     by_found None e =
         let does = λ (before : Store). Does (inserted name (axes_of intervals) fields before) in
         let third : Does (inserted name (axes_of intervals) fields old) reply new =
-        unless_answer (length old < 1024) 27 does old reply new is
-        (unless_answer (AreFields fields) 23 (Unless (length old < 1024) 27 does) old reply new is
-        (unless_answer (SpellWhole intervals) 22 (Unless (AreFields fields) 23 (Unless (length old < 1024) 27 does)) old
+        unless_answer (length old < 1024) TooManyCoverages does old reply new is
+        (unless_answer (AreFields fields) BadField (Unless (length old < 1024) TooManyCoverages does) old reply new is
+        (unless_answer (SpellWhole intervals) BadDomain
+        (Unless (AreFields fields) BadField (Unless (length old < 1024) TooManyCoverages does)) old
         reply new is (rw e at x))) in
         (e, third.1)
     by_found (Some c) e =
-        let y : Refuses 21 old reply new = rw e at x in absurd (subst IsAnswer y.0 is)
+        let y : Refuses CoverageExists old reply new = rw e at x in absurd (subst IsAnswer y.0 is)
 
 deletes_to : (name : List ℕ) (old : Store) (reply : Reply) (new : Store) → IsAnswer reply → Deletes name old reply new
     → new ≡ deleted name old
 deletes_to name old reply new is x = by_found (found name old) refl
   where
     by_found : (o : Option Coverage) → found name old ≡ o → new ≡ deleted name old
-    by_found None e = let y : Refuses 20 old reply new = rw e at x in absurd (subst IsAnswer y.0 is)
+    by_found None e = let y : Refuses NoSuchCoverage old reply new = rw e at x in absurd (subst IsAnswer y.0 is)
     by_found (Some c) e = (rw e at x).1
 
 pub insert_keeps : (v w : ServerView) (name : List ℕ) (intervals : List Interval) (fields : List Field) (lacks : Type 0)
-    (r : Result Reply Refusal) → AreWhole v.store v.indexes → Answered (Inserts name intervals fields) lacks ⊥ v w r
+    (r : Result Reply AnswerError) → AreWhole v.store v.indexes → Answered (Inserts name intervals fields) lacks ⊥ v w r
     → OnOk r (LaysNone (record { name = name; domain = axes_of intervals; fields = fields }) (layout_of v) (layout_of w))
     → IfOk r IsAnswer → OnErr r (IsUnchanged v w) → w.content ≡ v.content → IsTrue v.honest → KeepsSpelled v w
 insert_keeps v w name intervals fields lacks (Ok reply) whole x lays is same content sure =
@@ -300,7 +303,7 @@ insert_keeps v w name intervals fields lacks (Ok reply) whole x lays is same con
 insert_keeps v w name intervals fields lacks (Err e) whole x lays is same content sure =
     unchanged_spelled v w content same sure
 
-pub delete_keeps : (v w : ServerView) (name : List ℕ) (r : Result Reply Refusal) → AreWhole v.store v.indexes
+pub delete_keeps : (v w : ServerView) (name : List ℕ) (r : Result Reply AnswerError) → AreWhole v.store v.indexes
     → Answered (Deletes name) ⊥ ⊥ v w r → OnOk r (LaysRest name v.store (layout_of v) (layout_of w))
     → IfOk r IsAnswer → OnErr r (IsUnchanged v w) → w.content ≡ v.content → IsTrue v.honest → KeepsSpelled v w
 delete_keeps v w name (Ok reply) whole x lays is same content sure =

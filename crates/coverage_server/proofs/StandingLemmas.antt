@@ -3,6 +3,7 @@ use Rattle.std.proofs.Common.{◌≡◌, ℕ, ◌<◌, ◌≤◌, List, length, 
 use Rattle.std.specs.Prelude.{◌⊎◌, All, IsSomeAnd, IsTrue, slice_get, option_and_then, OnErr}
 use Rattle.std.proofs.lemmas.Option.{slice_get_cases}
 use mathlib.Core.Path.{fun_ext}
+use Rattle.arr_core.specs.Refusals.{number_of}
 use Rattle.arr_core.specs.declared.signature.Signature.{Signature}
 use Rattle.arr_core.specs.Stores.{Coverage, Store, found}
 use Rattle.raster_store.specs.Calls.{signature_of}
@@ -10,8 +11,8 @@ use Rattle.job_desk.specs.Desks.{DeskView}
 use Rattle.coverage_server.specs.Asking.{cells_of, number_in}
 use Rattle.http_front.specs.declared.reply.Reply.{Reply}
 use Rattle.http_front.specs.declared.reply.Reply.TheVariants.{Refused}
-use Rattle.coverage_server.specs.declared.arguments.Refusal.{Refusal}
-use Rattle.coverage_server.specs.declared.arguments.Refusal.TheVariants.{Numbered, NoMemory, DiskFault, NoRoom, Damaged}
+use Rattle.coverage_server.specs.declared.error.AnswerError.{AnswerError}
+use Rattle.coverage_server.specs.declared.error.AnswerError.TheVariants.{Named, NoMemory, DiskFault, NoRoom, Damaged}
 use Rattle.coverage_server.specs.Answered.{Answered, AnsweredIn, Moves, Stays}
 use Rattle.coverage_server.specs.Machine.{State, OnStore}
 use Rattle.coverage_server.specs.Represents.{Represents}
@@ -70,10 +71,10 @@ module _ (desk : DeskView) (v w : ServerView) (step : Store → Reply → Store 
   stays same = λ sure s r. represents-same (session v desk) (session w desk) (same.store sure) (kept sure) refl s r
 
   -- what the part on the coverages answers, it answers over states
-  pub lifted : (lacks spoils : Type 0) (r : Result Reply Refusal) → OnErr r (IsUnchanged v w) → Answered step lacks spoils v w r
+  pub lifted : (lacks spoils : Type 0) (r : Result Reply AnswerError) → OnErr r (IsUnchanged v w) → Answered step lacks spoils v w r
       → AnsweredIn (OnStore step) lacks (λ _. spoils) (session v desk) (session w desk) r
   lifted lacks spoils (Ok reply) same x = moves reply x
-  lifted lacks spoils (Err (Numbered code)) same x = moves (Refused code) x
+  lifted lacks spoils (Err (Named refusal)) same x = moves (Refused (number_of refusal)) x
   lifted lacks spoils (Err NoMemory) same x = stays same
   lifted lacks spoils (Err DiskFault) same x = (x, stays same)
   lifted lacks spoils (Err NoRoom) same x = (x, stays same)

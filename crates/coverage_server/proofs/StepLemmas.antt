@@ -2,6 +2,8 @@
 use Rattle.std.proofs.Common.{◌≡◌, ℕ, zero, suc, ◌<◌, ◌≤◌, ◌-◌, ◌⊎◌, Bool, true, false, nat_eq, cond, List, [], ◌∷◌, ◌++◌, Option, None, Some, Result, Ok, Err, inl, inr, refl, sym, ap, ◌∙◌, subst, arith}
 use Rattle.std.specs.Prelude.{All, IsTrue, IsSomeAnd, String, string_bytes, codes, decimal, option_map}
 use Rattle.std.specs.declared.alloc.Global.{Global}
+use Rattle.arr_core.specs.declared.refusal.Refusal.TheVariants.{NoSuchJob}
+use Rattle.arr_core.specs.Refusals.{number_of}
 use Rattle.arr_core.specs.declared.signature.Signature.{Signature}
 use Rattle.arr_core.specs.Stores.{Store}
 use Rattle.std.proofs.lemmas.Bool.{eqb-true}
@@ -23,12 +25,12 @@ use Rattle.wcps_mean.specs.declared.cells.CellError.{CellError}
 use Rattle.wcps_mean.specs.declared.cells.CellError.TheVariants as cell
 use Rattle.wcps_mean.specs.Reports.{Tells as TellsError}
 use Rattle.http_front.specs.declared.reply.Reply.TheVariants.{Text, Refused}
-use Rattle.coverage_server.specs.declared.arguments.Refusal.{Refusal}
+use Rattle.coverage_server.specs.declared.error.AnswerError.{AnswerError}
 use Rattle.coverage_server.specs.Answered.{AnsweredIn, Moves, Stays}
 use Rattle.coverage_server.specs.Asking.{cells_of, items_answer}
 use Rattle.coverage_server.specs.Machine.{Job, State, job_of, with_left, with_jobs, StepsJob}
 use Rattle.coverage_server.specs.Holding.{AreHeldOnce, ReleasesFor, HoldsPlan, IsHolding}
-use Rattle.coverage_server.specs.Leaving.{IsStill, LeavesJob}
+use Rattle.coverage_server.specs.Leaving.{IsStill, LeavesJob, ReadsHeld}
 use Rattle.coverage_server.specs.Represents.{IsReading, StandsAs, AreJobs, Represents}
 use Rattle.coverage_server.specs.Stages.{cell_refusal, step_refusal}
 use Rattle.coverage_server.specs.Tiles.{AreRead, AskedKept, HaveDomains, ReadsHonest, ReadsSpelled, asked_state, cells_at, held_or, signatures_at, store_for}
@@ -301,7 +303,7 @@ module _ (v m : ServerView) (still : still_of m ≡ still_of v) (old new : DeskV
             subst (λ (o : Option Job). IsSomeAnd o (λ j. 0 < j.left)) (sym at.held) left
 
 -- a number of no job, and a job without units left
-pub step_absent : (v : ServerView) (old : DeskView) (n units : ℕ) → desks.job_of n old.jobs ≡ None → Moves (StepsJob n units) (session v old) (Refused 70) (session v old)
+pub step_absent : (v : ServerView) (old : DeskView) (n units : ℕ) → desks.job_of n old.jobs ≡ None → Moves (StepsJob n units) (session v old) (Refused (number_of NoSuchJob)) (session v old)
 step_absent v old n units none = λ sure s r. (s, r, at_nothing (job_of n s.jobs) _ _ (no_job v.held n old.jobs s.jobs r.jobs none) (refl, refl))
 
 pub step_done : (v : ServerView) (old : DeskView) (n units : ℕ) (h : Held) → desks.job_of n old.jobs ≡ Some h → h.left ≡ 0 → (reply : String Global)
@@ -403,7 +405,7 @@ module _ (v w' : ServerView) (old new : DeskView) (n units left : ℕ) (asked : 
       let there = subst (λ (k : ℕ). IsSomeAnd (held_for k v.held) (λ x. x.coverages ≡ store_for n v)) (number_of_job n old.jobs was at) (asks was at).is in
       asked_spoils v w' n job places same is there sure bad
 
-  pub step_err : (w : ServerView) (e : StepError) (r : Refusal) → w ≡ m → r ≡ step_refusal e → IsRefusedStep source n units old new e
+  pub step_err : (w : ServerView) (e : StepError) (r : AnswerError) → w ≡ m → r ≡ step_refusal e → IsRefusedStep source n units old new e
       → (after : SourceState AskedKept) → after.failures ≡ m.failures → StepReports (Err e) (λ (k : AskedKept). ReadsSpelled k.0 k.1 k.2) source after
       → AnsweredIn (StepsJob n units) ⊥ (SpoilsJob n v) (session v old) (session w new) (Err r) × IsHolding new w.held
   step_err w e r as_was told_as x after is_after reports =
@@ -412,9 +414,28 @@ module _ (v w' : ServerView) (old new : DeskView) (n units left : ℕ) (asked : 
       (subst (StepTold e (ReadsSpelled (still_of w') job places) w'.failures) is_after (step_told e (λ (k : AskedKept). ReadsSpelled k.0 k.1 k.2) source after reports))) in
       let holds = step_holds v m still old new asked (store_for n v) n units source reads are desk asks_as e x holding in (
         subst (λ (u : ServerView). AnsweredIn (StepsJob n units) ⊥ (SpoilsJob n v) (session v old) (session u new) (Err r)) (sym as_was)
-            (subst (λ (q : Refusal). AnsweredIn (StepsJob n units) ⊥ (SpoilsJob n v) (session v old) (session m new) (Err q)) (sym told_as) answered),
+            (subst (λ (q : AnswerError). AnsweredIn (StepsJob n units) ⊥ (SpoilsJob n v) (session v old) (session m new) (Err q)) (sym told_as) answered),
         subst (λ (u : ServerView). IsHolding new u.held) (sym as_was) holds,
       )
+
+-- the count of failures never falls where a step is refused
+told_no_fewer : (e : StepError) (Spelled : Type 0) (before after : ℕ) → StepTold e Spelled before after → before ≤ after
+told_no_fewer stepping.NoSuchJob Spelled before after told = omega (arith, told)
+told_no_fewer (stepping.Cells cell.NoMemory) Spelled before after told = omega (arith, told)
+told_no_fewer (stepping.Cells cell.DiskFault) Spelled before after told = told.0
+told_no_fewer (stepping.Cells cell.Damaged) Spelled before after told = omega (arith, told.1)
+
+-- a refused step leaves the coverages as what it read left them
+pub refused_reads : {K : Type 0} (e : StepError) (spelled : K → Type 0) (v u m w : ServerView) (before after : SourceState K) → u ≡ v → still_of m ≡ still_of u → w ≡ m
+    → before.failures ≡ u.failures → after.failures ≡ m.failures → StepReports (Err e) spelled before after → ReadsHeld v w
+refused_reads e spelled v u m w before after same kept ends is_before is_after reports =
+    let rises = told_no_fewer e (spelled before.kept) before.failures after.failures (step_told e spelled before after reports) in
+    let still : still_of w ≡ still_of v = ap still_of ends ∙ kept ∙ ap still_of same in
+    record {
+      others = ap without_held still;
+      sound = still_sound v w still;
+      no_fewer = (let f = ap (λ (x : ServerView). x.failures) ends in let g = ap (λ (x : ServerView). x.failures) same in omega (arith, f, g, is_before, is_after, rises));
+    }
 
 -- what a refused step leaves of the jobs, on any disk
 pub step_leaves : {K : Type 0} (s : SourceState K) (n units : ℕ) (old new : DeskView) (e : StepError) → IsRefusedStep s n units old new e → LeavesJob n old new

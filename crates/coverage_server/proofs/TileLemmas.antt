@@ -161,6 +161,17 @@ tile_places store places n field tile place numbers f x =
     subst (λ (o : Option Coverage). IsSomeAnd o (λ d. length numbers ≡ length (points (tile_box d.domain tile)))) f.is x in
     rw f.told (counted ∙ length-points (tile_box c.domain tile))
 
+-- as many values as a tile of 4,096 points has points
+pub tile_room : (store : Store) (places : List ℕ) (n field tile place : ℕ) (values : List ℤ) → Found store places n field tile place
+    → count (box_of (slice_get (signatures_at store places) n) tile) ≡ 4096 → length values ≡ 4096
+    → HasTileCount (record { coverage = place; field = field; tile = tile }) store values
+tile_room store places n field tile place values f whole room =
+    let c = f.coverage in
+    let all : count (tile_box c.domain tile) ≡ 4096 =
+    subst (λ (o : Option Signature). count (box_of o tile) ≡ 4096) f.told whole in
+    subst (λ (o : Option Coverage). IsSomeAnd o (λ d. length values ≡ length (points (tile_box d.domain tile)))) (sym f.is)
+    (room ∙ sym all ∙ sym (length-points (tile_box c.domain tile)))
+
 -- ranks in the box of a tile are ranks of its points
 pub tile_ranks : (store : Store) (places : List ℕ) (n field tile place : ℕ) (ranks : List ℕ) → Found store places n field tile place
     → All (λ (r : ℕ). r < count (box_of (slice_get (signatures_at store places) n) tile)) ranks → HasRanks (record { coverage = place; field = field; tile = tile }) ranks store
@@ -316,17 +327,28 @@ module _ (job : ℕ) (cells : RasterView BlockFileView) where
       by_snapshot None e = by_zero (nat_eq job 0) refl e
       by_snapshot (Some x) e = g x e (rw e refl) (rw e at h)
 
-  -- a tile of what the number reads
-  pub view_tile : (at : TileAt) → HasTile at (store_for job (shown cells)) → IsSomeAnd (held_view job cells) (λ v. HasTile at v.coverages)
-  view_tile at h = by_snapshot (held_for job cells.snapshots) refl
+  -- what holds of what the number reads, and not of no coverages
+  view_of : (P : Store → Type 0) → (P [] → ⊥) → P (store_for job (shown cells)) → IsSomeAnd (held_view job cells) (λ v. P v.coverages)
+  view_of P some h = by_snapshot (held_for job cells.snapshots) refl
     where
-      by_zero : (b : Bool) → nat_eq job 0 ≡ b → held_for job cells.snapshots ≡ None → IsSomeAnd (held_view job cells) (λ v. HasTile at v.coverages)
+      by_zero : (b : Bool) → nat_eq job 0 ≡ b → held_for job cells.snapshots ≡ None → IsSomeAnd (held_view job cells) (λ v. P v.coverages)
       by_zero true t none = rw (none, t) (rw (none, t) at h)
-      by_zero false t none = absurd (rw (none, t) at h)
+      by_zero false t none = absurd (some (rw (none, t) at h))
 
-      by_snapshot : (o : Option SnapshotView) → held_for job cells.snapshots ≡ o → IsSomeAnd (held_view job cells) (λ v. HasTile at v.coverages)
+      by_snapshot : (o : Option SnapshotView) → held_for job cells.snapshots ≡ o → IsSomeAnd (held_view job cells) (λ v. P v.coverages)
       by_snapshot None e = by_zero (nat_eq job 0) refl e
       by_snapshot (Some x) e = rw e (rw e at h)
+
+  -- a tile of it, as many values as it has points, and ranks of these
+  pub view_tile : (at : TileAt) → HasTile at (store_for job (shown cells)) → IsSomeAnd (held_view job cells) (λ v. HasTile at v.coverages)
+  view_tile at h = view_of (HasTile at) (λ none. none) h
+
+  pub view_room : (at : TileAt) (values : List ℤ) → HasTileCount at (store_for job (shown cells)) values
+      → IsSomeAnd (held_view job cells) (λ v. HasTileCount at v.coverages values)
+  view_room at values h = view_of (λ store. HasTileCount at store values) (λ none. none) h
+
+  pub view_ranks : (at : TileAt) (ranks : List ℕ) → HasRanks at ranks (store_for job (shown cells)) → IsSomeAnd (held_view job cells) (λ v. HasRanks at ranks v.coverages)
+  view_ranks at ranks h = view_of (HasRanks at ranks) (λ none. none) h
 
   pub view_cells : (at : TileAt) (numbers : List ℤ) → IsSomeAnd (held_view job cells) (λ v. IsFetched state_of at v numbers) → IsTrue cells.blocks.honest
       → AreTileCells at (store_for job (shown cells)) numbers
@@ -342,18 +364,7 @@ module _ (job : ℕ) (cells : RasterView BlockFileView) where
       (λ same d. subst (λ (c : Store). HasTileCount at c numbers) (sym same) d.counted)
       (λ x held same d. subst (λ (c : Store). HasTileCount at c numbers) (sym same) d.counted) h
 
-  -- and ranks of its points, and what is read there
-  pub view_ranks : (at : TileAt) (ranks : List ℕ) → HasRanks at ranks (store_for job (shown cells)) → IsSomeAnd (held_view job cells) (λ v. HasRanks at ranks v.coverages)
-  view_ranks at ranks h = by_snapshot (held_for job cells.snapshots) refl
-    where
-      by_zero : (b : Bool) → nat_eq job 0 ≡ b → held_for job cells.snapshots ≡ None → IsSomeAnd (held_view job cells) (λ v. HasRanks at ranks v.coverages)
-      by_zero true t none = rw (none, t) (rw (none, t) at h)
-      by_zero false t none = absurd (rw (none, t) at h)
-
-      by_snapshot : (o : Option SnapshotView) → held_for job cells.snapshots ≡ o → IsSomeAnd (held_view job cells) (λ v. HasRanks at ranks v.coverages)
-      by_snapshot None e = by_zero (nat_eq job 0) refl e
-      by_snapshot (Some x) e = rw e (rw e at h)
-
+  -- what is read at ranks
   pub view_picked : (at : TileAt) (ranks : List ℕ) (numbers : List ℤ) → IsSomeAnd (held_view job cells) (λ v. ArePicked state_of at ranks v numbers) → IsTrue cells.blocks.honest
       → AreRankedCells at ranks (store_for job (shown cells)) numbers
   view_picked at ranks numbers h honest =

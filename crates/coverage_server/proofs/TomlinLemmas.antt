@@ -3,6 +3,9 @@ use Rattle.std.proofs.Common.{◌≡◌, ℕ, ◌<◌, ℤ, ◌≤ℤ◌, pos, n
 use Rattle.std.specs.Prelude.{option_and_then, slice_get}
 use Rattle.std.proofs.lemmas.Int.{ints}
 use mathlib.Core.Path.{fun_ext}
+use Rattle.arr_core.specs.declared.refusal.Refusal.{Refusal}
+use Rattle.arr_core.specs.declared.refusal.Refusal.TheVariants.{BadValue}
+use Rattle.arr_core.specs.Refusals.{number_of}
 use Rattle.arr_core.specs.declared.domain.Axis.{Axis}
 use Rattle.arr_core.specs.declared.signature.Signature.{Signature}
 use Rattle.arr_core.specs.Stores.{Store, found}
@@ -28,7 +31,7 @@ use Rattle.map_templates.specs.Queries.{IsAxis, IsCoverage, IsQueryOf}
 use Rattle.map_templates.specs.Refusals.{Answer}
 use Rattle.map_templates.specs.Templates.{template_named}
 use Rattle.map_templates.proofs.Asked.{asked_query}
-use Rattle.coverage_server.specs.Asking.{QueryAnswer, TypedAnswer, cells_of, number_in, items_answer, numbered, tree_typed, TokensTyped, too_deep, no_query, query, TextTyped, too_long, no_tokens, lexed, evaluated}
+use Rattle.coverage_server.specs.Asking.{QueryAnswer, TypedAnswer, cells_of, number_in, items_answer, typed_answer, tree_typed, TokensTyped, too_deep, no_query, query, TextTyped, too_long, no_tokens, lexed, evaluated}
 use Rattle.coverage_server.specs.Machine.{Answers, AnswersText, Tells}
 use Rattle.coverage_server.specs.Templates.{params_of}
 use Rattle.coverage_server.specs.Tomlin.{layers_of, RepliesArray, TemplatesAreTomlins}
@@ -68,13 +71,13 @@ cell_alike store (Some c) field point = refl
 layers_alike : (store : Store) (coverages : List Signature) → cells_of store coverages ≡ listed_cells (layers_of store) coverages
 layers_alike store coverages = fun_ext (λ n. fun_ext (λ field. fun_ext (λ point. cell_alike store (slice_get coverages n) field point)))
 
-told_refused : (n : ℕ) (reply : Reply) → Tells (Err n) reply → reply ≡ Refused n
-told_refused n (Refused code) x = ap Refused x
-told_refused n (Csv text) x = absurd x
-told_refused n (Text text) x = absurd x
+told_refused : (refusal : Refusal) (reply : Reply) → Tells (Err refusal) reply → reply ≡ Refused (number_of refusal)
+told_refused refusal (Refused code) x = ap Refused x
+told_refused refusal (Csv text) x = absurd x
+told_refused refusal (Text text) x = absurd x
 
 module _ (store : Store) (o : Operation) (q : IsQueryOf (signatures_of store) o (text_of o)) (integers : AreIntegers (layers_of store)) (reply : Reply) where
-  by_types : (r : Result TypedTree TypeRefusal) → typ_query (signatures_of store) q.query ≡ r → Tells (evaluated store (numbered r)) reply → RepliesArray store o reply
+  by_types : (r : Result TypedTree TypeRefusal) → typ_query (signatures_of store) q.query ≡ r → Tells (evaluated store (typed_answer r)) reply → RepliesArray store o reply
   by_types (Ok t) e told =
       inl (subst (λ (a : Result (List Item) PointFault). Tells (items_answer a) reply) (ap (λ (cells : ℕ → ℕ → List ℤ → ℤ). answer cells t) (layers_alike store t.coverages) ∙ q.answered t (layers_of store) e integers) told)
   by_types (Err refusal) e told =
@@ -92,7 +95,7 @@ module _ (store : Store) (o : Operation) (q : IsQueryOf (signatures_of store) o 
       by_tree t (one_spelled ts t q.query spelled (subst (λ (l : List Tok). IsSpelled l q.query) same q.reads.spelled)) told
 
   pub by_text : (text : List ℕ) (r : TypedAnswer) → text_of o ≡ text → TextTyped store text r → Tells (evaluated store r) reply → RepliesArray store o reply
-  by_text text r same (too_long long) told = inr (inr (subst (λ (l : List ℕ). 65536 < length l) (sym same) long, told_refused 14 reply told))
+  by_text text r same (too_long long) told = inr (inr (subst (λ (l : List ℕ). 65536 < length l) (sym same) long, told_refused BadValue reply told))
   by_text text r same (no_tokens e short refused) told =
       absurd (not-both 0 text q.reads.pieces e (subst (λ (l : List ℕ). Lexed 0 l q.reads.pieces) same q.reads.lexed) refused)
   by_text text r same (lexed pieces short cut x) told =

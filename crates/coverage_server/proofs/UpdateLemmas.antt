@@ -2,6 +2,8 @@
 use Rattle.std.proofs.Common.{◌≡◌, ℕ, ◌<◌, List, length, Some, Ok, Err, refl, sym, subst, inl, inr}
 use Rattle.std.specs.Prelude.{IsSomeAnd, IsTrue, IsErrOf, String, string_bytes, codes, ◌⊎◌, slice_get}
 use Rattle.std.specs.declared.alloc.Global.{Global}
+use Rattle.arr_core.specs.declared.refusal.Refusal.TheVariants.{OutsideDomain}
+use Rattle.arr_core.specs.Refusals.{number_of}
 use Rattle.arr_core.specs.declared.field.Field.{Field}
 use Rattle.arr_core.specs.Fields.{place_of as field_place}
 use Rattle.arr_core.specs.Stores.{Coverage, Store, found, updated}
@@ -10,8 +12,8 @@ use Rattle.raster_store.specs.Calls.{HasField}
 use Rattle.kvp_front.specs.Contents.{Cells}
 use Rattle.http_front.specs.declared.reply.Reply.TheVariants.{Text, Refused}
 use Rattle.kvp_front.specs.declared.request.Interval.{Interval}
-use Rattle.coverage_server.specs.declared.arguments.Refusal.{Refusal}
-use Rattle.coverage_server.specs.declared.arguments.Refusal.TheVariants.{Numbered, NoMemory, DiskFault, NoRoom, Damaged}
+use Rattle.coverage_server.specs.declared.error.AnswerError.{AnswerError}
+use Rattle.coverage_server.specs.declared.error.AnswerError.TheVariants.{Named, NoMemory, DiskFault, NoRoom, Damaged}
 use Rattle.coverage_server.specs.Answered.{Answered}
 use Rattle.coverage_server.specs.Damage.{SpoilsWrite, SpoilsUpdate}
 use Rattle.coverage_server.specs.Layouts.{LaysBox, LaysUpdate, layout_of}
@@ -30,17 +32,17 @@ module _ (v : ServerView) (name field : List ℕ) (intervals : List Interval) (c
   there = field_there field c.fields k place
 
   -- intervals that spell no domain
-  pub area_refused : (e : Refusal) (shown : List Interval) → shown ≡ intervals → ((e ≡ Numbered 24) × (¬ (SpellDomain shown))) ⊎ (e ≡ NoMemory)
+  pub area_refused : (e : AnswerError) (shown : List Interval) → shown ≡ intervals → ((e ≡ Named OutsideDomain) × (¬ (SpellDomain shown))) ⊎ (e ≡ NoMemory)
       → Answered (Updates name field intervals cells)
       (LacksRoomToUpdate name field intervals cells v.store (layout_of v)) (SpoilsUpdate name field intervals v) v v
       (Err e)
   area_refused e shown same (inl x) =
-      subst (λ (d : Refusal). Answered (Updates name field intervals cells)
+      subst (λ (d : AnswerError). Answered (Updates name field intervals cells)
       (LacksRoomToUpdate name field intervals cells v.store (layout_of v)) (SpoilsUpdate name field intervals v) v v
       (Err d)) (sym x.0)
       (λ sure. no_box name field intervals cells v.store c at k there.0 place there.1 (λ w. x.1 (subst SpellDomain (sym same) w.0)))
   area_refused e shown same (inr out) =
-      subst (λ (d : Refusal). Answered (Updates name field intervals cells)
+      subst (λ (d : AnswerError). Answered (Updates name field intervals cells)
       (LacksRoomToUpdate name field intervals cells v.store (layout_of v)) (SpoilsUpdate name field intervals v) v v
       (Err d)) (sym out) tt
 
@@ -58,13 +60,13 @@ module _ (v : ServerView) (name field : List ℕ) (intervals : List Interval) (c
       (subst (λ o. IsSomeAnd o (λ j. SpoilsWrite name j (axes_of intervals) v)) (sym place) x)
 
   module _ (w : ServerView) (spelled : SpellDomain intervals) where
-    pub answered : {X : Type 0} (e : Refusal) → WriteRefused name k (axes_of intervals) cells v e → (IsErrOf {T = X} (Err e) DiskFault → Rose v.failures w.failures) → IsUnchanged v w
+    pub answered : {X : Type 0} (e : AnswerError) → WriteRefused name k (axes_of intervals) cells v e → (IsErrOf {T = X} (Err e) DiskFault → Rose v.failures w.failures) → IsUnchanged v w
         → Answered (Updates name field intervals cells)
         (LacksRoomToUpdate name field intervals cells v.store (layout_of v)) (SpoilsUpdate name field intervals v) v w
         (Err e)
-    answered (Numbered code) x rose same =
-        λ sure. subst (λ (s : Store). Updates name field intervals cells v.store (Refused code) s) (sym (same.store sure))
-        (refused_write name field intervals cells v.store c at k there.0 place there.1 spelled code (said_of (found name v.store) c _ at x))
+    answered (Named refusal) x rose same =
+        λ sure. subst (λ (s : Store). Updates name field intervals cells v.store (Refused (number_of refusal)) s) (sym (same.store sure))
+        (refused_write name field intervals cells v.store c at k there.0 place there.1 spelled refusal (said_of (found name v.store) c _ at x))
     answered NoMemory x rose same = tt
     answered DiskFault x rose same = rose refl
     answered NoRoom x rose same = λ sure. lacks_room (x sure)
@@ -78,7 +80,7 @@ module _ (v : ServerView) (name field : List ℕ) (intervals : List Interval) (c
     done text ok may new = λ sure. done_write name field intervals cells v.store c at k there.0 place there.1 spelled may text w.store ok (new sure)
 
 pub write_answered : {X : Type 0} (v w : ServerView) (name field : List ℕ) (intervals : List Interval) (cells : Cells) (c : Coverage) → found name v.store ≡ Some c → (k : ℕ)
-    → field_place field c.fields ≡ Some k → SpellDomain intervals → (e : Refusal) → WriteRefused name k (axes_of intervals) cells v e
+    → field_place field c.fields ≡ Some k → SpellDomain intervals → (e : AnswerError) → WriteRefused name k (axes_of intervals) cells v e
     → (IsErrOf {T = X} (Err e) DiskFault → Rose v.failures w.failures) → IsUnchanged v w
     → Answered (Updates name field intervals cells) (LacksRoomToUpdate name field intervals cells v.store (layout_of v))
     (SpoilsUpdate name field intervals v) v w (Err e)

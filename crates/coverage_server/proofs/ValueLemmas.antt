@@ -12,7 +12,7 @@ use Rattle.wcps_mean.specs.declared.cell.PointFault.{PointFault}
 use Rattle.wcps_mean.specs.declared.cells.CellError.{CellError}
 use Rattle.wcps_mean.specs.declared.cells.CellError.TheVariants as cell
 use Rattle.wcps_mean.specs.Answer.{answer}
-use Rattle.wcps_mean.specs.Faults.{number_of as fault_number}
+use Rattle.wcps_mean.specs.Faults.{refusal_of as fault_refusal}
 use Rattle.wcps_mean.specs.Reports.{Tells}
 use Rattle.wcps_types.specs.Typed.{TypedTree}
 use Rattle.coverage_server.specs.Asking.{QueryAnswer, cells_of, items_answer, evaluated}
@@ -55,5 +55,5 @@ module _ (store : Store) (q : TypedTree) (plan done : PlanTree) (p : IsPlanOf q 
   pub text_given : (text : String Global) → IsAnswer (planned (cells_of store asked) done) (given.Text text) → GivesValues (evaluated store (Ok q)) (Ok text)
   text_given text x = ap items_answer (sym over_store) ∙ answer_text (planned (cells_of store asked) done) text x
 
-  pub fault_given : (f : PointFault) → IsAnswer (planned (cells_of store asked) done) (given.Refused f) → evaluated store (Ok q) ≡ Err (fault_number f)
+  pub fault_given : (f : PointFault) → IsAnswer (planned (cells_of store asked) done) (given.Refused f) → evaluated store (Ok q) ≡ Err (fault_refusal f)
   fault_given f x = ap items_answer (sym over_store) ∙ answer_fault (planned (cells_of store asked) done) f x

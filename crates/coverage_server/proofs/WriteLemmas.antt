@@ -29,8 +29,8 @@ use Rattle.coverage_server.specs.Layouts.{layout_of}
 use Rattle.coverage_server.specs.Room.{LacksRoomToWrite, numbers_of}
 use Rattle.coverage_server.specs.Views.{signatures_of}
 use Rattle.coverage_server.specs.Writing.{write_refusal, FindsCoverage, MayWrite, WritesCells, WriteRefused}
-use Rattle.coverage_server.specs.declared.arguments.Refusal.{Refusal}
-use Rattle.coverage_server.specs.declared.arguments.Refusal.TheVariants.{DiskFault}
+use Rattle.coverage_server.specs.declared.error.AnswerError.{AnswerError}
+use Rattle.coverage_server.specs.declared.error.AnswerError.TheVariants.{DiskFault}
 use Rattle.coverage_server.proofs.FaultLemmas.{tells_as, tells_none}
 use Rattle.coverage_server.proofs.FreeLemmas.{IsReady, shown, ready_free}
 use Rattle.coverage_server.proofs.RoomLemmas.{listed_as, room_alike}
@@ -188,7 +188,7 @@ put_done name field area list size old new x held = record {
 }
 
 -- what a refused write tells of the disk
-pub write_told : (T U : Type 0) (fault : WriteFault) (told : Refusal) (old new : ℕ) → told ≡ write_refusal fault
+pub write_told : (T U : Type 0) (fault : WriteFault) (told : AnswerError) (old new : ℕ) → told ≡ write_refusal fault
     → Tells (IsErrOf {T = T} (Err fault) (writing.Device device.DiskFault)) old new → Tells (IsErrOf {T = U} (Err told) DiskFault) old new
 write_told T U writing.OutsideDomain told old new is t = tells_none _ _ old new (λ e. absurd cc) (λ e. absurd cc) t
 write_told T U writing.ValueCount told old new is t = tells_none _ _ old new (λ e. absurd cc) (λ e. absurd cc) t

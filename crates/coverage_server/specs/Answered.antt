@@ -1,5 +1,6 @@
 -- What the parts of the server answer.
 use Rattle.std.specs.Prelude.{ℕ, List, Option, IsTrue, Result, Ok, Err, OnOk, ⊤}
+use Rattle.arr_core.specs.Refusals.{number_of}
 use Rattle.disk_face.specs.Disk.{Rose}
 use Rattle.arr_core.specs.Stores.{Store}
 use Rattle.job_desk.specs.Desks.{DeskView}
@@ -18,35 +19,36 @@ use Rattle.coverage_server.specs.Stages.{IsTypedText}
 use Rattle.coverage_server.specs.Views.{ServerView, SessionView, session}
 use Rattle.http_front.specs.declared.reply.Reply.{Reply}
 use Rattle.http_front.specs.declared.reply.Reply.TheVariants.{Text, Csv, Refused}
-use Rattle.coverage_server.specs.declared.arguments.Refusal.{Refusal}
-use Rattle.coverage_server.specs.declared.arguments.Refusal.TheVariants.{Numbered, NoMemory, DiskFault, NoRoom, Damaged}
+use Rattle.coverage_server.specs.declared.error.AnswerError.{AnswerError}
+use Rattle.coverage_server.specs.declared.error.AnswerError.TheVariants.{Named, NoMemory, DiskFault, NoRoom, Damaged}
 
--- A reply or a numbered refusal as a step allows it. A disk fault is told only where the disk's count of failures rose, want of
+-- A reply or a refusal as a step allows it. A disk fault is told only where the disk's count of failures rose, want of
 -- room only where it is wanting, and damage only where a tile is in the way.
-abbrev pub Answered : (Store → Reply → Store → Type 0) → Type 0 → Type 0 → ServerView → ServerView → Result Reply Refusal → Type 0
+abbrev pub Answered : (Store → Reply → Store → Type 0) → Type 0 → Type 0 → ServerView → ServerView → Result Reply AnswerError → Type 0
 Answered step lacks spoils old new (Ok reply) = IsTrue old.honest → step old.store reply new.store
-Answered step lacks spoils old new (Err (Numbered code)) = IsTrue old.honest → step old.store (Refused code) new.store
+Answered step lacks spoils old new (Err (Named refusal)) =
+    IsTrue old.honest → step old.store (Refused (number_of refusal)) new.store
 Answered step lacks spoils old new (Err NoMemory) = ⊤
 Answered step lacks spoils old new (Err DiskFault) = Rose old.failures new.failures
 Answered step lacks spoils old new (Err NoRoom) = IsTrue old.honest → lacks
 Answered step lacks spoils old new (Err Damaged) = IsTrue old.honest → spoils
 
 -- the answers to requests on the coverages: an insertion, an update, the text of a query, a template
-abbrev pub AnswersInsertion : Insertion → ServerView → ServerView → Result Reply Refusal → Type 0
+abbrev pub AnswersInsertion : Insertion → ServerView → ServerView → Result Reply AnswerError → Type 0
 AnswersInsertion r old new =
     Answered (Inserts r.coverage r.intervals.items r.fields.items)
     (LacksRoomToInsert (asked_signature r) old.store (layout_of old)) ⊥ old new
 
-abbrev pub AnswersUpdate : Update → ServerView → ServerView → Result Reply Refusal → Type 0
+abbrev pub AnswersUpdate : Update → ServerView → ServerView → Result Reply AnswerError → Type 0
 AnswersUpdate r old new =
     Answered (Updates r.coverage r.field r.intervals.items (content_view r.content))
     (LacksRoomToUpdate r.coverage r.field r.intervals.items (content_view r.content) old.store (layout_of old))
     (SpoilsUpdate r.coverage r.field r.intervals.items old) old new
 
-abbrev pub AnswersQuery : List ℕ → ServerView → ServerView → Result Reply Refusal → Type 0
+abbrev pub AnswersQuery : List ℕ → ServerView → ServerView → Result Reply AnswerError → Type 0
 AnswersQuery text old new = Answered (Answers text) ⊥ (SpoilsText text old) old new
 
-abbrev pub AnswersAsked : Template → ServerView → ServerView → Result Reply Refusal → Type 0
+abbrev pub AnswersAsked : Template → ServerView → ServerView → Result Reply AnswerError → Type 0
 AnswersAsked template old new = Answered (AnswersTemplate template) ⊥ (SpoilsTemplate template old) old new
 
 -- a reply that is no refusal
@@ -68,10 +70,10 @@ Stays old new = IsTrue old.coverages.honest → (s : State) → Represents old s
 abbrev pub Hinders : (State → Type 0) → SessionView → Type 0
 Hinders spoils old = IsTrue old.coverages.honest → (s : State) → Represents old s → spoils s
 
--- A reply or a numbered refusal as a step of the machine allows it. A failure, which is told as above, leaves the state as it was.
-abbrev pub AnsweredIn : (State → Reply → State → Type 0) → Type 0 → (State → Type 0) → SessionView → SessionView → Result Reply Refusal → Type 0
+-- A reply or a refusal as a step of the machine allows it. A failure, which is told as above, leaves the state as it was.
+abbrev pub AnsweredIn : (State → Reply → State → Type 0) → Type 0 → (State → Type 0) → SessionView → SessionView → Result Reply AnswerError → Type 0
 AnsweredIn step lacks spoils old new (Ok reply) = Moves step old reply new
-AnsweredIn step lacks spoils old new (Err (Numbered code)) = Moves step old (Refused code) new
+AnsweredIn step lacks spoils old new (Err (Named refusal)) = Moves step old (Refused (number_of refusal)) new
 AnsweredIn step lacks spoils old new (Err NoMemory) = Stays old new
 AnsweredIn step lacks spoils old new (Err DiskFault) = Rose old.coverages.failures new.coverages.failures × Stays old new
 AnsweredIn step lacks spoils old new (Err NoRoom) = (IsTrue old.coverages.honest → lacks) × Stays old new
@@ -82,17 +84,17 @@ abbrev pub Never : State → Type 0
 Never s = ⊥
 
 -- the answer to a request, as the machine's step allows it
-abbrev pub AnsweredAs : Asks → SessionView → SessionView → Result Reply Refusal → Type 0
+abbrev pub AnsweredAs : Asks → SessionView → SessionView → Result Reply AnswerError → Type 0
 AnsweredAs asks old new =
     AnsweredIn (Serves asks) (LacksRoom asks old.coverages.store (layout_of old.coverages)) (Spoils asks old.coverages)
     old new
 
 -- the answer to a request on jobs, by the coverages and the desk before and after it
-abbrev pub AnswersJob : Asks → ServerView → DeskView → ServerView → DeskView → Result Reply Refusal → Type 0
+abbrev pub AnswersJob : Asks → ServerView → DeskView → ServerView → DeskView → Result Reply AnswerError → Type 0
 AnswersJob asks old desk new later = AnsweredAs asks (session old desk) (session new later)
 
 -- the answer to the submission of each text that is this typed query
-abbrev pub AnswersTree : TypedTree → ServerView → DeskView → ServerView → DeskView → Result Reply Refusal → Type 0
+abbrev pub AnswersTree : TypedTree → ServerView → DeskView → ServerView → DeskView → Result Reply AnswerError → Type 0
 AnswersTree q old desk new later result =
     (text : List ℕ) → IsTypedText old.store text q → AnswersJob (submit_query text) old desk new later result
 
@@ -101,7 +103,7 @@ abbrev pub LaysTree : TypedTree → ServerView → Option ℕ → ServerView →
 LaysTree q old next new = (text : List ℕ) → IsTypedText old.store text q → LaysQuery text old next new
 
 -- On an honest disk the tiles lie as a request that is answered makes them lie, and each that was spelled is so.
-abbrev pub LeavesTiles : Asks → Result Reply Refusal → SessionView → SessionView → Type 0
+abbrev pub LeavesTiles : Asks → Result Reply AnswerError → SessionView → SessionView → Type 0
 LeavesTiles asks result old new =
     IsTrue old.coverages.honest
     → OnOk result (Lays asks old.coverages.store old.desk.next new.coverages.store (layout_of old.coverages)

@@ -1,5 +1,7 @@
 -- What it is that a disk holds a store.
 use Rattle.std.specs.Prelude.{◌≡◌, ◌≢◌, ℕ, ◌/◌, ◌<◌, ◌⊎◌, Bool, List, [], ◌∷◌, length, ⊤}
+use Rattle.arr_core.specs.declared.refusal.Refusal.{Refusal}
+use Rattle.arr_core.specs.declared.refusal.Refusal.TheVariants.{Damaged, DiskFault, NoMemory, NotAStore, NotClosed}
 use Rattle.arr_core.specs.declared.signature.Signature.{Signature}
 use Rattle.arr_core.specs.Stores.{Store}
 use Rattle.block_file.specs.State.{block_at}
@@ -75,17 +77,17 @@ pub record HoldsStore (content : List ℕ) (store : Store) : Type 0 where
 abbrev pub IsOpenFile : List ℕ → Type 0
 IsOpenFile content = IsHeader content Open (length content / 4096) 0 0 × TellsVersion Two content
 
--- the numbers of the refusals of an opening and of a closing
-abbrev pub open_number : OpenFault → ℕ
-open_number opening.NoMemory = 90
-open_number opening.DiskFault = 91
-open_number opening.Damaged = 93
-open_number opening.NotAStore = 94
-open_number opening.NotClosed = 95
+-- the refusals of an opening and of a closing
+abbrev pub open_refusal : OpenFault → Refusal
+open_refusal opening.NoMemory = NoMemory
+open_refusal opening.DiskFault = DiskFault
+open_refusal opening.Damaged = Damaged
+open_refusal opening.NotAStore = NotAStore
+open_refusal opening.NotClosed = NotClosed
 
-abbrev pub close_number : CloseFault → ℕ
-close_number closing.NoMemory = 90
-close_number closing.DiskFault = 91
+abbrev pub close_refusal : CloseFault → Refusal
+close_refusal closing.NoMemory = NoMemory
+close_refusal closing.DiskFault = DiskFault
 
 -- what may be told of any disk
 abbrev pub IsWant : OpenFault → Type 0

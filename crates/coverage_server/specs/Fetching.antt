@@ -1,5 +1,7 @@
 -- How many tiles a request fetches.
 use Rattle.std.specs.Prelude.{◌≡◌, ◌⊎◌, ℕ, ◌+◌, ◌*◌, ◌≤◌, ℤ, List, length, Result, Ok, Err, sum_by}
+use Rattle.arr_core.specs.declared.refusal.Refusal.TheVariants.{Damaged, DiskFault, NoMemory}
+use Rattle.arr_core.specs.Refusals.{number_of}
 use Rattle.job_desk.specs.Desks.{DeskView}
 use Rattle.job_desk.specs.Steps.{IsChanged}
 use Rattle.plan_ir.specs.Placed.{IsPlan}
@@ -14,7 +16,7 @@ use Rattle.http_front.specs.declared.reply.Reply.{Reply}
 use Rattle.http_front.specs.declared.reply.Reply.TheVariants.{Text, Csv, Refused}
 use Rattle.kvp_front.specs.Requests.{Asks, insert_coverage, update_coverage, delete_coverage, list_coverages, describe_coverage, process_coverages, submit_query, step_job, fetch_job, cancel_job, expand_template, process_template}
 use Rattle.kvp_front.specs.Templates.{Template}
-use Rattle.coverage_server.specs.declared.arguments.Refusal.{Refusal}
+use Rattle.coverage_server.specs.declared.error.AnswerError.{AnswerError}
 use Rattle.coverage_server.specs.Asking.{TextTyped}
 use Rattle.coverage_server.specs.Leaving.{refusal_number}
 use Rattle.coverage_server.specs.Templates.{expansion}
@@ -60,7 +62,7 @@ FetchesUnits number old new =
 
 -- want of memory, a disk fault or damage, by its number
 abbrev pub IsFailure : ℕ → Type 0
-IsFailure code = (code ≡ 90) ⊎ (code ≡ 91) ⊎ (code ≡ 93)
+IsFailure code = (code ≡ number_of NoMemory) ⊎ (code ≡ number_of DiskFault) ⊎ (code ≡ number_of Damaged)
 
 -- This holds, or the reply tells of such a failure. How many tiles were fetched before one is not said.
 abbrev pub UnlessFailed : Reply → Type 0 → Type 0
@@ -69,18 +71,18 @@ UnlessFailed (Csv text) P = P
 UnlessFailed (Refused code) P = IsFailure code ⊎ P
 
 -- the same of an answer that is not yet told
-abbrev pub UnlessFails : {A : Type 0} → Result A Refusal → Type 0 → Type 0
+abbrev pub UnlessFails : {A : Type 0} → Result A AnswerError → Type 0 → Type 0
 UnlessFails (Ok a) P = P
 UnlessFails (Err e) P = IsFailure (refusal_number e) ⊎ P
 
 -- what the answers to the text of a query and to a template fetch, and a step of a job
-abbrev pub FetchesForText : {A : Type 0} → List ℕ → ServerView → ServerView → Result A Refusal → Type 0
+abbrev pub FetchesForText : {A : Type 0} → List ℕ → ServerView → ServerView → Result A AnswerError → Type 0
 FetchesForText text old new result = UnlessFails result (FetchesNone old new ⊎ FetchesText text old new)
 
-abbrev pub FetchesForTemplate : {A : Type 0} → Template → ServerView → ServerView → Result A Refusal → Type 0
+abbrev pub FetchesForTemplate : {A : Type 0} → Template → ServerView → ServerView → Result A AnswerError → Type 0
 FetchesForTemplate template old new result = UnlessFails result (FetchesNone old new ⊎ FetchesTemplate template old new)
 
-abbrev pub FetchesForJob : {A : Type 0} → ℕ → ServerView → DeskView → ServerView → DeskView → Result A Refusal → Type 0
+abbrev pub FetchesForJob : {A : Type 0} → ℕ → ServerView → DeskView → ServerView → DeskView → Result A AnswerError → Type 0
 FetchesForJob number old desk new later result =
     UnlessFails result (FetchesNone old new ⊎ FetchesUnits number (session old desk) (session new later))
 

@@ -1,5 +1,8 @@
 -- What calls leave of the coverages, and what a refused request leaves, on any disk.
 use Rattle.std.specs.Prelude.{◌≡◌, ◌⊎◌, ℕ, ◌≤◌, Result, Ok, Err, ⊤}
+use Rattle.arr_core.specs.declared.refusal.Refusal.{Refusal}
+use Rattle.arr_core.specs.declared.refusal.Refusal.TheVariants as refusal
+use Rattle.arr_core.specs.Refusals.{number_of}
 use Rattle.block_file.specs.Format.{KeepsHeader}
 use Rattle.job_desk.specs.declared.answer.Answer.TheVariants as given
 use Rattle.job_desk.specs.declared.job.Job.{Job as Held}
@@ -7,12 +10,12 @@ use Rattle.job_desk.specs.Desks.{DeskView, IsFetched}
 use Rattle.job_desk.specs.Steps.{IsChanged}
 use Rattle.tile_exec.specs.Standing.{plan_of, left_of}
 use Rattle.wcps_mean.specs.declared.cell.PointFault.{PointFault}
-use Rattle.wcps_mean.specs.Faults.{number_of as fault_number}
+use Rattle.wcps_mean.specs.Faults.{refusal_of as fault_refusal}
 use Rattle.http_front.specs.declared.reply.Reply.{Reply}
 use Rattle.http_front.specs.declared.reply.Reply.TheVariants.{Text, Csv, Refused}
 use Rattle.kvp_front.specs.Requests.{Asks, insert_coverage, update_coverage, delete_coverage, list_coverages, describe_coverage, process_coverages, submit_query, step_job, fetch_job, cancel_job, expand_template, process_template}
-use Rattle.coverage_server.specs.declared.arguments.Refusal.{Refusal}
-use Rattle.coverage_server.specs.declared.arguments.Refusal.TheVariants.{Numbered, NoMemory, DiskFault, NoRoom, Damaged}
+use Rattle.coverage_server.specs.declared.error.AnswerError.{AnswerError}
+use Rattle.coverage_server.specs.declared.error.AnswerError.TheVariants.{Named, NoMemory, DiskFault, NoRoom, Damaged}
 use Rattle.coverage_server.specs.Views.{ServerView, SessionView, IsSound, IsUnchanged, still_of, without_held}
 
 -- What every call leaves: what was sound is so, the header tells what it told, the disk is as honest as it was, and its
@@ -60,7 +63,7 @@ LeavesJob n old new = (new ≡ old) ⊎ IsChanged IsStill n old new
 -- The jobs are as they were; or the refusal is the fault that was the answer of a job that was done, and which was fetched.
 abbrev pub LeavesFetched : ℕ → ℕ → DeskView → DeskView → Type 0
 LeavesFetched n code old new =
-    (new ≡ old) ⊎ ((f : PointFault) × (code ≡ fault_number f) × IsFetched n (given.Refused f) old new)
+    (new ≡ old) ⊎ ((f : PointFault) × (code ≡ number_of (fault_refusal f)) × IsFetched n (given.Refused f) old new)
 
 -- what a request that is refused by a number leaves of the jobs
 abbrev pub LeavesJobs : Asks → ℕ → DeskView → DeskView → Type 0
@@ -82,16 +85,20 @@ pub record Leaves (asks : Asks) (code : ℕ) (old new : SessionView) : Type 0 wh
   pub coverages : IsUnchanged old.coverages new.coverages
   pub jobs : LeavesJobs asks code old.desk new.desk
 
--- the number by which it is told why a request is refused
-abbrev pub refusal_number : Refusal → ℕ
-refusal_number (Numbered code) = code
-refusal_number NoMemory = 90
-refusal_number DiskFault = 91
-refusal_number NoRoom = 92
-refusal_number Damaged = 93
+-- the refusal that is told of it that a request is not answered
+abbrev pub refusal_of : AnswerError → Refusal
+refusal_of (Named r) = r
+refusal_of NoMemory = refusal.NoMemory
+refusal_of DiskFault = refusal.DiskFault
+refusal_of NoRoom = refusal.NoRoom
+refusal_of Damaged = refusal.Damaged
+
+-- and its number
+abbrev pub refusal_number : AnswerError → ℕ
+refusal_number e = number_of (refusal_of e)
 
 -- the reply to a request, where a refusal is told by its number
-abbrev pub reply_of : Result Reply Refusal → Reply
+abbrev pub reply_of : Result Reply AnswerError → Reply
 reply_of (Ok reply) = reply
 reply_of (Err e) = Refused (refusal_number e)
 

@@ -4,6 +4,9 @@ use Rattle.std.specs.Prelude.{◌≡◌, ℕ, ◌+◌, ◌-◌, ◌*◌, ◌^◌
 use Rattle.std.specs.Fmt.{decimal}
 use Rattle.std.specs.Int.{w32}
 use Rattle.std.specs.List.{find, flat_map}
+use Rattle.arr_core.specs.declared.refusal.Refusal.{Refusal}
+use Rattle.arr_core.specs.declared.refusal.Refusal.TheVariants.{BadDomain, BadField, CoverageExists, DiskFault, NoMemory, NoRoom, NoSuchCoverage, NoSuchField, NoSuchJob, NotReady, OutsideDomain, TooManyCoverages, TooManyJobs, ValueCount, ValueRange}
+use Rattle.arr_core.specs.Refusals.{number_of}
 use Rattle.arr_core.specs.declared.cell.FieldType.{FieldType}
 use Rattle.arr_core.specs.declared.domain.Axis.{Axis}
 use Rattle.arr_core.specs.declared.field.Field.{Field}
@@ -15,7 +18,7 @@ use Rattle.arr_core.specs.Stores.{Coverage, Store, found, inserted, deleted, upd
 use Rattle.kvp_front.specs.Contents.{Cells, fill, values}
 use Rattle.kvp_front.specs.Requests.{Asks, insert_coverage, update_coverage, delete_coverage, list_coverages, describe_coverage, process_coverages, submit_query, step_job, fetch_job, cancel_job, expand_template, process_template}
 use Rattle.kvp_front.specs.Templates.{Template}
-use Rattle.map_templates.specs.Refusals.{Answer, number_of as template_number}
+use Rattle.map_templates.specs.Refusals.{Answer, refusal_of as template_refusal}
 use Rattle.wcps_types.specs.Typed.{TypedTree}
 use Rattle.wcps_types.specs.Work.{query_work}
 use Rattle.coverage_server.specs.Asking.{QueryAnswer, TypedAnswer, TextTyped, TextAnswer, evaluated}
@@ -49,16 +52,16 @@ IsText (Csv text) expected = ⊥
 IsText (Refused code) expected = ⊥
 
 -- a refusal, which changes nothing
-abbrev pub Refuses : {S : Type 0} → ℕ → S → Reply → S → Type 0
-Refuses code old reply new = (reply ≡ Refused code) × (new ≡ old)
+abbrev pub Refuses : {S : Type 0} → Refusal → S → Reply → S → Type 0
+Refuses refusal old reply new = (reply ≡ Refused (number_of refusal)) × (new ≡ old)
 
 -- `ok` on a line, and this is the next state
 abbrev pub Does : {S : Type 0} → S → Reply → S → Type 0
 Does next reply new = IsText reply (codes "ok\n") × (new ≡ next)
 
 -- one refusal where a condition fails, and what comes next where it holds
-abbrev pub Unless : {S : Type 0} → Type 0 → ℕ → (S → Reply → S → Type 0) → S → Reply → S → Type 0
-Unless condition code next old reply new = ((¬ condition) × Refuses code old reply new) ⊎ (condition × next old reply new)
+abbrev pub Unless : {S : Type 0} → Type 0 → Refusal → (S → Reply → S → Type 0) → S → Reply → S → Type 0
+Unless condition refusal next old reply new = ((¬ condition) × Refuses refusal old reply new) ⊎ (condition × next old reply new)
 
 -- the axes that intervals spell
 abbrev pub axis_of : Interval → Axis
@@ -79,46 +82,50 @@ SpellDomain intervals = All FitBounds intervals × IsDomain (axes_of intervals)
 abbrev pub SpellWhole : List Interval → Type 0
 SpellWhole intervals = SpellDomain intervals × (0 < length intervals)
 
--- InsertCoverage: 21 for a name that is there, 22 for what is no domain, 23 for what are no fields, 27 where 1,024 coverages are held
+-- InsertCoverage: CoverageExists for a name that is there, BadDomain for what is no domain, BadField for what are no fields,
+-- TooManyCoverages where 1,024 are held
 abbrev pub Inserts : List ℕ → List Interval → List Field → Store → Reply → Store → Type 0
 Inserts name intervals fields old reply new =
     MatchOption (found name old)
-    (Unless (SpellWhole intervals) 22
-    (Unless (AreFields fields) 23
-    (Unless (length old < 1024) 27 (λ before. Does (inserted name (axes_of intervals) fields before)))) old reply new)
-    (λ c. Refuses 21 old reply new)
+    (Unless (SpellWhole intervals) BadDomain
+    (Unless (AreFields fields) BadField
+    (Unless (length old < 1024) TooManyCoverages (λ before. Does (inserted name (axes_of intervals) fields before)))) old reply new)
+    (λ c. Refuses CoverageExists old reply new)
 
 -- the new numbers stand in the box
 abbrev pub Writes : List ℕ → ℕ → List Axis → List ℤ → Store → Reply → Store → Type 0
 Writes name field box numbers old = Does (updated name field box numbers old)
 
--- 25 where there are not as many cells as points, 26 where one is none of the field's type
+-- ValueCount where there are not as many cells as points, ValueRange where one is none of the field's type
 abbrev pub UpdatesCells : List ℕ → ℕ → List Axis → FieldType → Cells → Store → Reply → Store → Type 0
 UpdatesCells name field box kind (fill cell) =
-    Unless (Holds kind cell) 26 (Writes name field box (replicate (count box) (stored cell)))
+    Unless (Holds kind cell) ValueRange (Writes name field box (replicate (count box) (stored cell)))
 UpdatesCells name field box kind (values cells) =
-    Unless (length cells ≡ count box) 25 (Unless (All (Holds kind) cells) 26 (Writes name field box (map stored cells)))
+    Unless (length cells ≡ count box) ValueCount
+    (Unless (All (Holds kind) cells) ValueRange (Writes name field box (map stored cells)))
 
--- 24 for what is no box of the coverage's domain
+-- OutsideDomain for what is no box of the coverage's domain
 abbrev pub UpdatesBox : List ℕ → Coverage → ℕ → Field → List Interval → Cells → Store → Reply → Store → Type 0
 UpdatesBox name c field f intervals cells =
-    Unless (SpellDomain intervals × IsBoxOf c.domain (axes_of intervals)) 24 (UpdatesCells name field (axes_of intervals) f.kind cells)
+    Unless (SpellDomain intervals × IsBoxOf c.domain (axes_of intervals)) OutsideDomain
+    (UpdatesCells name field (axes_of intervals) f.kind cells)
 
--- 42 for a field that the coverage lacks
+-- NoSuchField for a field that the coverage lacks
 abbrev pub UpdatesField : List ℕ → Coverage → List ℕ → List Interval → Cells → Store → Reply → Store → Type 0
 UpdatesField name c field intervals cells old reply new =
-    MatchOption (field_place field c.fields) (Refuses 42 old reply new)
+    MatchOption (field_place field c.fields) (Refuses NoSuchField old reply new)
     (λ k. (f : Field) × (slice_get c.fields k ≡ Some f) × UpdatesBox name c k f intervals cells old reply new)
 
--- UpdateCoverage: 20 for a name that is not there
+-- UpdateCoverage: NoSuchCoverage for a name that is not there
 abbrev pub Updates : List ℕ → List ℕ → List Interval → Cells → Store → Reply → Store → Type 0
 Updates name field intervals cells old reply new =
-    MatchOption (found name old) (Refuses 20 old reply new)
+    MatchOption (found name old) (Refuses NoSuchCoverage old reply new)
     (λ c. UpdatesField name c field intervals cells old reply new)
 
--- DeleteCoverage: 20 for a name that is not there; else the coverage with it is taken out
+-- DeleteCoverage: NoSuchCoverage for a name that is not there; else the coverage with it is taken out
 abbrev pub Deletes : List ℕ → Store → Reply → Store → Type 0
-Deletes name old reply new = MatchOption (found name old) (Refuses 20 old reply new) (λ c. Does (deleted name old) reply new)
+Deletes name old reply new =
+    MatchOption (found name old) (Refuses NoSuchCoverage old reply new) (λ c. Does (deleted name old) reply new)
 
 -- ListCoverages: each name on a line, in order of insertion
 abbrev pub line_of : Coverage → List ℕ
@@ -127,19 +134,20 @@ line_of c = c.name ++ codes "\n"
 abbrev pub Lists : Store → Reply → Store → Type 0
 Lists old reply new = IsText reply (flat_map line_of old) × (new ≡ old)
 
--- DescribeCoverage: 20 for a name that is not there; else the axes and the fields of the coverage with it
+-- DescribeCoverage: NoSuchCoverage for a name that is not there; else the axes and the fields of the coverage with it
 abbrev pub Describes : List ℕ → Store → Reply → Store → Type 0
 Describes name old reply new =
-    MatchOption (found name old) (Refuses 20 old reply new) (λ c. IsText reply (description c.domain c.fields) × (new ≡ old))
+    MatchOption (found name old) (Refuses NoSuchCoverage old reply new)
+    (λ c. IsText reply (description c.domain c.fields) × (new ≡ old))
 
 -- the reply to a query with this answer
 abbrev pub Tells : QueryAnswer → Reply → Type 0
 Tells (Ok bytes) (Csv text) = string_bytes text ≡ bytes
 Tells (Ok bytes) (Text text) = ⊥
 Tells (Ok bytes) (Refused code) = ⊥
-Tells (Err number) (Refused code) = code ≡ number
-Tells (Err number) (Csv text) = ⊥
-Tells (Err number) (Text text) = ⊥
+Tells (Err refusal) (Refused code) = code ≡ number_of refusal
+Tells (Err refusal) (Csv text) = ⊥
+Tells (Err refusal) (Text text) = ⊥
 
 -- ProcessCoverages: the answer to the query, and nothing changes
 abbrev pub Answers : List ℕ → Store → Reply → Store → Type 0
@@ -148,7 +156,7 @@ Answers query old reply new = (a : QueryAnswer) × TextAnswer old query a × Tel
 -- ExpandTemplate: the text of the template's query on a line, or the refusal of the template; nothing changes
 abbrev pub TellsText : Answer (List ℕ) → Store → Reply → Store → Type 0
 TellsText (Ok text) old reply new = IsText reply (text ++ codes "\n") × (new ≡ old)
-TellsText (Err refusal) old reply new = Refuses (template_number refusal) old reply new
+TellsText (Err refusal) old reply new = Refuses (template_refusal refusal) old reply new
 
 abbrev pub Expands : Template → Store → Reply → Store → Type 0
 Expands template old reply new = TellsText (expansion template old) old reply new
@@ -156,7 +164,7 @@ Expands template old reply new = TellsText (expansion template old) old reply ne
 -- ProcessTemplate: the answer to the template's query, as that of any query, or the refusal of the template
 abbrev pub AnswersText : Answer (List ℕ) → Store → Reply → Store → Type 0
 AnswersText (Ok text) old reply new = Answers text old reply new
-AnswersText (Err refusal) old reply new = Refuses (template_number refusal) old reply new
+AnswersText (Err refusal) old reply new = Refuses (template_refusal refusal) old reply new
 
 abbrev pub AnswersTemplate : Template → Store → Reply → Store → Type 0
 AnswersTemplate template old reply new = AnswersText (expansion template old) old reply new
@@ -197,31 +205,34 @@ Adds q number old reply new =
       next = number_after number;
     })
 
--- SubmitQuery: the refusals of the query's text, and then 72 where 64 jobs are held or no number is left
+-- SubmitQuery: the refusals of the query's text, and then TooManyJobs where 64 jobs are held or no number is left
 abbrev pub SubmitsTyped : TypedAnswer → State → Reply → State → Type 0
-SubmitsTyped (Err code) old reply new = Refuses code old reply new
+SubmitsTyped (Err refusal) old reply new = Refuses refusal old reply new
 SubmitsTyped (Ok q) old reply new =
-    MatchOption old.next (Refuses 72 old reply new) (λ number. Unless (length old.jobs < 64) 72 (Adds q number) old reply new)
+    MatchOption old.next (Refuses TooManyJobs old reply new)
+    (λ number. Unless (length old.jobs < 64) TooManyJobs (Adds q number) old reply new)
 
 abbrev pub Submits : List ℕ → State → Reply → State → Type 0
 Submits query old reply new = (r : TypedAnswer) × TextTyped old.store query r × SubmitsTyped r old reply new
 
--- StepJob: 70 for a number of no job; else the job has so many units less left, but not below 0
+-- StepJob: NoSuchJob for a number of no job; else the job has so many units less left, but not below 0
 abbrev pub StepsJob : ℕ → ℕ → State → Reply → State → Type 0
 StepsJob number units old reply new =
-    MatchOption (job_of number old.jobs) (Refuses 70 old reply new)
+    MatchOption (job_of number old.jobs) (Refuses NoSuchJob old reply new)
     (λ j. IsText reply (codes "left " ++ decimal (j.left - units) ++ codes "\n") × (new ≡ with_jobs old (with_left number (j.left - units) old.jobs)))
 
--- FetchJob: 70 for a number of no job, 71 for a job that has units left; else its answer, a fault included, and the job is dropped
+-- FetchJob: NoSuchJob for a number of no job, NotReady for a job that has units left; else its answer, a fault included, and
+-- the job is dropped
 abbrev pub Fetches : ℕ → State → Reply → State → Type 0
 Fetches number old reply new =
-    MatchOption (job_of number old.jobs) (Refuses 70 old reply new)
-    (λ j. Unless (j.left ≡ 0) 71 (λ before told after. Tells j.answer told × (after ≡ with_jobs before (without number before.jobs))) old reply new)
+    MatchOption (job_of number old.jobs) (Refuses NoSuchJob old reply new)
+    (λ j. Unless (j.left ≡ 0) NotReady (λ before told after. Tells j.answer told × (after ≡ with_jobs before (without number before.jobs))) old reply new)
 
--- CancelJob: 70 for a number of no job; else the job is dropped
+-- CancelJob: NoSuchJob for a number of no job; else the job is dropped
 abbrev pub Cancels : ℕ → State → Reply → State → Type 0
 Cancels number old reply new =
-    MatchOption (job_of number old.jobs) (Refuses 70 old reply new) (λ j. Does (with_jobs old (without number old.jobs)) reply new)
+    MatchOption (job_of number old.jobs) (Refuses NoSuchJob old reply new)
+    (λ j. Does (with_jobs old (without number old.jobs)) reply new)
 
 -- ---- requests
 
@@ -248,4 +259,4 @@ Serves (process_template template) old = OnStore (AnswersTemplate template) old
 -- and want of room only where it is wanting.
 abbrev pub Fails : {S : Type 0} → Type 0 → Type 0 → S → Reply → S → Type 0
 Fails failed wanting old reply new =
-    Refuses 90 old reply new ⊎ (failed × Refuses 91 old reply new) ⊎ (wanting × Refuses 92 old reply new)
+    Refuses NoMemory old reply new ⊎ (failed × Refuses DiskFault old reply new) ⊎ (wanting × Refuses NoRoom old reply new)

@@ -1,6 +1,7 @@
 -- Which state of the machine a server represents, and that an answer is a step of the machine. The answer of a job is not stored while it runs: it is the one that the plan of its
 -- executor has over the cells for which the executor stands.
 use Rattle.std.specs.Prelude.{◌≡◌, ◌⊎◌, ℕ, ◌<◌, ℤ, List, [], ◌∷◌, All, IsSomeAnd, IsTrue}
+use Rattle.arr_core.specs.declared.refusal.Refusal.TheVariants.{Damaged}
 use Rattle.disk_face.specs.Disk.{Rose}
 use Rattle.http_front.specs.declared.reply.Reply.{Reply}
 use Rattle.job_desk.specs.declared.job.Job.{Job as Held}
@@ -59,11 +60,11 @@ abbrev pub Refines : (Placed → Placed → Type 0) → SessionView → SessionV
 Refines step old new =
     IsTrue old.coverages.honest → (p : Placed) → Places old p → (q : Placed) × Places new q × step p q
 
--- A reply of the machine, or a failure: want of memory (90) at any time, a disk fault (91) where the disk's count of failures rose
--- or stands at its last value, want of room (92) where the request asks for more blocks than are free, and damage (93) where a
--- tile that is in the way of the request is not spelled.
+-- A reply of the machine, or a failure: want of memory at any time, a disk fault where the disk's count of failures rose or
+-- stands at its last value, want of room where the request asks for more blocks than are free, and damage where a tile that
+-- is in the way of the request is not spelled.
 abbrev pub Steps : Asks → SessionView → SessionView → Placed → Reply → Placed → Type 0
 Steps asks old new p reply q =
     ServesPlaced asks p reply q
     ⊎ Fails (Rose old.coverages.failures new.coverages.failures) (LacksRoomAt asks p) p reply q
-    ⊎ (Spoils asks old.coverages p.state × Refuses 93 p reply q)
+    ⊎ (Spoils asks old.coverages p.state × Refuses Damaged p reply q)

@@ -2,6 +2,8 @@
 -- request asks for more blocks than are free; and which coverages are intact, so that damage is told only of others.
 use Rattle.std.specs.Prelude.{◌≡◌, ◌⊎◌, ℕ, nat_eq, nat_lt, cond, List, [], ◌∷◌, ◌++◌, map, All, Contains, Option, Result, Ok, Err, IsSomeAnd}
 use Rattle.std.specs.List.{filter}
+use Rattle.arr_core.specs.declared.refusal.Refusal.{Refusal}
+use Rattle.arr_core.specs.declared.refusal.Refusal.TheVariants.{Damaged, NoMemory}
 use Rattle.arr_core.specs.declared.signature.Signature.{Signature}
 use Rattle.arr_core.specs.Stores.{Coverage, Store}
 use Rattle.http_front.specs.Replies.{reply_bytes}
@@ -9,7 +11,7 @@ use Rattle.http_front.specs.Stream.{Item}
 use Rattle.http_front.specs.declared.reply.Reply.{Reply}
 use Rattle.http_front.specs.declared.reply.Reply.TheVariants.{Text, Csv, Refused}
 use Rattle.kvp_front.specs.declared.request.RequestError.{RequestError}
-use Rattle.kvp_front.specs.Requests.{Asks, insert_coverage, update_coverage, delete_coverage, list_coverages, describe_coverage, process_coverages, submit_query, step_job, fetch_job, cancel_job, expand_template, process_template, spelled, number_of}
+use Rattle.kvp_front.specs.Requests.{Asks, insert_coverage, update_coverage, delete_coverage, list_coverages, describe_coverage, process_coverages, submit_query, step_job, fetch_job, cancel_job, expand_template, process_template, spelled, refusal_of}
 use Rattle.raster_store.specs.Calls.{AreWhole}
 use Rattle.raster_store.specs.Snapshots.{held_for}
 use Rattle.raster_store.specs.Views.{Index, SnapshotView}
@@ -148,21 +150,21 @@ MayBeDamaged (process_template template) p =
     (text : List ℕ) × (expansion template p.state.store ≡ Ok text) × NamesDamaged text p
 
 -- A step: in place of any reply a failure may be told, want of room only where the request asks for more blocks than
--- are free, and damage (93) only where it may be in the way of the request, with the state and the layout unchanged.
+-- are free, and damage only where it may be in the way of the request, with the state and the layout unchanged.
 abbrev pub Step : Type 0 → Asks → Placed → Reply → Placed → Type 0
 Step failed asks old reply new =
     ServesPlaced asks old reply new ⊎ Fails failed (LacksRoomAt asks old) old reply new
-    ⊎ (MayBeDamaged asks old × Refuses 93 old reply new)
+    ⊎ (MayBeDamaged asks old × Refuses Damaged old reply new)
 
 -- the step of what the pairs of a message spell, or of their refusal
 abbrev pub SpelledStep : Type 0 → Result Asks RequestError → Placed → Reply → Placed → Type 0
 SpelledStep failed (Ok asks) old reply new = Step failed asks old reply new
-SpelledStep failed (Err e) old reply new = Refuses (number_of e) old reply new ⊎ Refuses 90 old reply new
+SpelledStep failed (Err e) old reply new = Refuses (refusal_of e) old reply new ⊎ Refuses NoMemory old reply new
 
 -- the step of a message: its pairs are read, or it is refused
-abbrev pub MessageStep : Type 0 → Placed → Result (List ℕ) ℕ → Reply → Placed → Type 0
+abbrev pub MessageStep : Type 0 → Placed → Result (List ℕ) Refusal → Reply → Placed → Type 0
 MessageStep failed old (Ok pairs) reply new = SpelledStep failed (spelled pairs) old reply new
-MessageStep failed old (Err code) reply new = Refuses code old reply new ⊎ Refuses 90 old reply new
+MessageStep failed old (Err refusal) reply new = Refuses refusal old reply new ⊎ Refuses NoMemory old reply new
 
 -- The messages lead from one state to the other, and these are the bytes of the reply to each. Disk faults are among them
 -- only where the disk may have failed, damage only where it may be in the way, and want of room only where it is wanting.

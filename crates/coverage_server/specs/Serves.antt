@@ -2,6 +2,7 @@
 use Rattle.std.specs.Prelude.{◌≡◌, ℕ, List, [], ◌∷◌, ◌++◌, Option, Result, IfSome}
 use Rattle.std.specs.List.{concat}
 use Rattle.std.specs.Io.KnownBytes.{Appends, Consumes}
+use Rattle.arr_core.specs.declared.refusal.Refusal.{Refusal}
 use Rattle.disk_face.specs.Disk.{Rose}
 use Rattle.stream_face.specs.Faults.{AppendsPrefix, fault_told}
 use Rattle.stream_face.specs.Views.{SourceView, SinkView}
@@ -69,5 +70,5 @@ IsServed e end old new =
 -- the reply to what a connection shows refines the machine's step of the message that is asked
 abbrev pub IsReply : Next → SessionView → Reply → SessionView → Type 0
 IsReply next old reply new =
-    (asked : Result (List ℕ) ℕ) → Shows asked next
+    (asked : Result (List ℕ) Refusal) → Shows asked next
     → Refines (λ p q. MessageStep (Rose old.coverages.failures new.coverages.failures) p asked reply q) old new

@@ -1,10 +1,12 @@
 -- That ProcessTemplate is answered by Tomlin's operation on the coverages of the store.
 use Rattle.std.specs.Prelude.{◌≡◌, ◌<◌, ◌⊎◌, length, Ok, Err}
+use Rattle.arr_core.specs.declared.refusal.Refusal.TheVariants.{BadValue}
+use Rattle.arr_core.specs.Refusals.{number_of}
 use Rattle.arr_core.specs.Stores.{Store, found}
 use Rattle.catalogue.specs.Signatures.{IsCatalogue}
 use Rattle.wcps_text.specs.Tree.{QueryTree}
 use Rattle.wcps_types.specs.declared.refusal.TypeRefusal.{TypeRefusal}
-use Rattle.wcps_types.specs.Refusals.{number_of as type_number}
+use Rattle.wcps_types.specs.Refusals.{refusal_of as type_refusal}
 use Rattle.wcps_types.specs.Queries.{typ_query}
 use Rattle.http_front.specs.declared.reply.Reply.{Reply}
 use Rattle.http_front.specs.declared.reply.Reply.TheVariants.{Refused}
@@ -27,13 +29,14 @@ pub record IsRefusedQuery (store : Store) (o : Operation) (reply : Reply) : Type
   pub refusal : TypeRefusal
   pub reads : IsText (text_of o) query
   pub refused : typ_query (signatures_of store) query ≡ Err refusal
-  pub is : reply ≡ Refused (type_number refusal)
+  pub is : reply ≡ Refused (number_of (type_refusal refusal))
 
--- The reply is the array that the operation gives on the layers of the store, as comma-separated values, or 60 for Overflow. Only
--- where the query of its text is not accepted it is the refusal of that, or 14 where the text is too long for a query.
+-- The reply is the array that the operation gives on the layers of the store, as comma-separated values, or Overflow. Only
+-- where the query of its text is not accepted it is the refusal of that, or BadValue where the text is too long for a query.
 abbrev pub RepliesArray : Store → Operation → Reply → Type 0
 RepliesArray store o reply =
-    Tells (items_answer (array_of (layers_of store) o)) reply ⊎ IsRefusedQuery store o reply ⊎ ((65536 < length (text_of o)) × (reply ≡ Refused 14))
+    Tells (items_answer (array_of (layers_of store) o)) reply ⊎ IsRefusedQuery store o reply
+    ⊎ ((65536 < length (text_of o)) × (reply ≡ Refused (number_of BadValue)))
 
 -- where a template asks for an operation, over coverages whose numbers have 64 bits, its answer is that of the operation
 abbrev pub TemplatesAreTomlins : Type 0

@@ -2,6 +2,8 @@
 use Rattle.std.specs.Prelude.{◌≡◌, ℕ, ◌⊎◌, IsTrue, List, length, All, Option, Some, None, SomeIff, option_map, slice_get, IsSomeAnd, Vec, ⊤}
 use Rattle.std.specs.Borrow.{Bor}
 use Rattle.std.specs.declared.alloc.Global.{Global}
+use Rattle.arr_core.specs.declared.refusal.Refusal.{Refusal}
+use Rattle.arr_core.specs.declared.refusal.Refusal.TheVariants.{BadDomain, BadField, CoverageExists, OutsideDomain, TooManyCoverages, ValueCount, ValueRange}
 use Rattle.arr_core.specs.declared.cell.FieldType.{FieldType}
 use Rattle.arr_core.specs.declared.domain.Axis.{Axis}
 use Rattle.arr_core.specs.declared.field.Field.{Field}
@@ -24,35 +26,35 @@ use Rattle.coverage_server.specs.Machine.{FitBounds, axes_of}
 use Rattle.coverage_server.specs.Layouts.{LaysBox, LaysNone, layout_of}
 use Rattle.coverage_server.specs.Room.{LacksRoomToInsert, LacksRoomToWrite, numbers_of}
 use Rattle.coverage_server.specs.Views.{ServerView, signatures_of}
-use Rattle.coverage_server.specs.declared.arguments.Refusal.{Refusal}
-use Rattle.coverage_server.specs.declared.arguments.Refusal.TheVariants.{Numbered, NoMemory, DiskFault, NoRoom, Damaged}
+use Rattle.coverage_server.specs.declared.error.AnswerError.{AnswerError}
+use Rattle.coverage_server.specs.declared.error.AnswerError.TheVariants.{Named, NoMemory, DiskFault, NoRoom, Damaged}
 
 -- the axes that intervals spell, or nothing where a bound does not fit 32 bits
 abbrev pub GivesAxes : List Interval → Option (Vec Axis Global) → Type 0
 GivesAxes intervals given = SomeIff (option_map (λ (v : Vec Axis Global). v.items) given) (All FitBounds intervals) (axes_of intervals)
 
--- a refusal by this number, for this cause, or for memory
-abbrev pub IsRefusedFor : ℕ → Type 0 → Refusal → Type 0
-IsRefusedFor number cause e = ((e ≡ Numbered number) × cause) ⊎ (e ≡ NoMemory)
+-- this refusal, for this cause, or want of memory
+abbrev pub IsRefusedFor : Refusal → Type 0 → AnswerError → Type 0
+IsRefusedFor refusal cause e = ((e ≡ Named refusal) × cause) ⊎ (e ≡ NoMemory)
 
 -- how the refusals below are told
-abbrev pub device_refusal : Fault → Refusal
+abbrev pub device_refusal : Fault → AnswerError
 device_refusal device.NoMemory = NoMemory
 device_refusal device.DiskFault = DiskFault
 device_refusal device.NoRoom = NoRoom
 device_refusal device.Damaged = Damaged
 
-abbrev pub write_refusal : WriteFault → Refusal
-write_refusal writing.OutsideDomain = Numbered 24
-write_refusal writing.ValueCount = Numbered 25
-write_refusal writing.ValueRange = Numbered 26
+abbrev pub write_refusal : WriteFault → AnswerError
+write_refusal writing.OutsideDomain = Named OutsideDomain
+write_refusal writing.ValueCount = Named ValueCount
+write_refusal writing.ValueRange = Named ValueRange
 write_refusal (writing.Device fault) = device_refusal fault
 
-abbrev pub insert_refusal : InsertError → Refusal
-insert_refusal insertion.CoverageExists = Numbered 21
-insert_refusal insertion.BadDomain = Numbered 22
-insert_refusal insertion.BadField = Numbered 23
-insert_refusal insertion.TooManyCoverages = Numbered 27
+abbrev pub insert_refusal : InsertError → AnswerError
+insert_refusal insertion.CoverageExists = Named CoverageExists
+insert_refusal insertion.BadDomain = Named BadDomain
+insert_refusal insertion.BadField = Named BadField
+insert_refusal insertion.TooManyCoverages = Named TooManyCoverages
 insert_refusal insertion.NoMemory = NoMemory
 
 -- the coverage with a name, and what is told of it
@@ -67,8 +69,9 @@ pub record InsertsCoverage (s : Signature) (old new : ServerView) : Type 0 where
   pub lays : LaysNone s (layout_of old) (layout_of new)
 
 -- a coverage is not inserted: the catalogue refuses it, memory is wanting, or room
-abbrev pub InsertRefused : ServerView → Signature → Refusal → Type 0
-InsertRefused v s (Numbered code) = (e : InsertError) × (insert_refusal e ≡ Numbered code) × IsRefused (signatures_of v.store) s e
+abbrev pub InsertRefused : ServerView → Signature → AnswerError → Type 0
+InsertRefused v s (Named refusal) =
+    (e : InsertError) × (insert_refusal e ≡ Named refusal) × IsRefused (signatures_of v.store) s e
 InsertRefused v s NoMemory = ⊤
 InsertRefused v s DiskFault = ⊥
 InsertRefused v s NoRoom = LacksRoomToInsert s v.store (layout_of v)
@@ -79,12 +82,12 @@ abbrev pub AreCellsOf : FieldType → List Axis → Cells → Type 0
 AreCellsOf kind box (fill cell) = Holds kind cell
 AreCellsOf kind box (values cells) = (length cells ≡ count box) × All (Holds kind) cells
 
--- these cells are refused by this number
-abbrev pub AreRefused : FieldType → List Axis → Cells → ℕ → Type 0
-AreRefused kind box (fill cell) code = (¬ (Holds kind cell)) × (code ≡ 26)
-AreRefused kind box (values cells) code =
-    ((¬ (length cells ≡ count box)) × (code ≡ 25))
-    ⊎ ((length cells ≡ count box) × (¬ (All (Holds kind) cells)) × (code ≡ 26))
+-- these cells are refused so
+abbrev pub AreRefused : FieldType → List Axis → Cells → Refusal → Type 0
+AreRefused kind box (fill cell) refusal = (¬ (Holds kind cell)) × (refusal ≡ ValueRange)
+AreRefused kind box (values cells) refusal =
+    ((¬ (length cells ≡ count box)) × (refusal ≡ ValueCount))
+    ⊎ ((length cells ≡ count box) × (¬ (All (Holds kind) cells)) × (refusal ≡ ValueRange))
 
 -- a box of the coverage with a name, and cells for its field at a place
 abbrev pub MayWrite : List ℕ → ℕ → List Axis → Cells → Store → Type 0
@@ -99,13 +102,14 @@ pub record WritesCells (name : List ℕ) (field : ℕ) (box : List Axis) (cells 
   pub lays : IsTrue old.honest → LaysBox name field box old.store new.store (layout_of old) (layout_of new)
 
 -- no box of the coverage, or no cells for the field
-abbrev pub IsNoWrite : Coverage → ℕ → List Axis → Cells → ℕ → Type 0
-IsNoWrite c field box cells code =
-    ((¬ (IsBoxOf c.domain box)) × (code ≡ 24))
-    ⊎ (IsBoxOf c.domain box × IsSomeAnd (slice_get c.fields field) (λ (f : Field). AreRefused f.kind box cells code))
+abbrev pub IsNoWrite : Coverage → ℕ → List Axis → Cells → Refusal → Type 0
+IsNoWrite c field box cells refusal =
+    ((¬ (IsBoxOf c.domain box)) × (refusal ≡ OutsideDomain))
+    ⊎ (IsBoxOf c.domain box × IsSomeAnd (slice_get c.fields field) (λ (f : Field). AreRefused f.kind box cells refusal))
 
-abbrev pub WriteRefused : List ℕ → ℕ → List Axis → Cells → ServerView → Refusal → Type 0
-WriteRefused name field box cells v (Numbered code) = IsSomeAnd (found name v.store) (λ c. IsNoWrite c field box cells code)
+abbrev pub WriteRefused : List ℕ → ℕ → List Axis → Cells → ServerView → AnswerError → Type 0
+WriteRefused name field box cells v (Named refusal) =
+    IsSomeAnd (found name v.store) (λ c. IsNoWrite c field box cells refusal)
 WriteRefused name field box cells v NoMemory = ⊤
 WriteRefused name field box cells v DiskFault = ⊤
 WriteRefused name field box cells v NoRoom =

@@ -5,45 +5,10 @@ ghost use Rattle.std.specs.Option.{SomeIff};
 ghost use Rattle.coverage_server.specs.Machine.{FitBounds, SpellDomain, axis_of, axes_of};
 ghost use Rattle.coverage_server.specs.Writing.{GivesAxes, IsRefusedFor};
 
-use arr_core::{Axis, Domain, Field, Fields};
+use crate::error::AnswerError;
+use arr_core::{Axis, Domain, Field, Fields, Refusal};
 use kvp_front::Interval;
-use std::alloc::{AllocError, AllocFailed, Global};
-use thiserror::Error;
-
-/// Why a request is refused: by a number of its own, for memory, for the disk, for room, or for a tile that is damaged.
-#[derive(Debug, Drop, Error)]
-pub enum Refusal {
-    #[error("refused {0}")]
-    Numbered(u16),
-    #[error("out of memory")]
-    NoMemory,
-    #[error("the disk failed")]
-    DiskFault,
-    #[error("too few blocks are free")]
-    NoRoom,
-    #[error("the file is damaged")]
-    Damaged,
-}
-
-impl From<AllocError> for Refusal {
-    ghost use Rattle.coverage_server.specs.declared.arguments.Refusal.TheVariants.{NoMemory};
-
-    ghost from_gives = { λ _ e. e ≡ NoMemory };
-
-    fn from(_error: AllocError) -> Refusal {
-        Refusal::NoMemory
-    }
-}
-
-impl<T: Drop> From<AllocFailed<T>> for Refusal {
-    ghost use Rattle.coverage_server.specs.declared.arguments.Refusal.TheVariants.{NoMemory};
-
-    ghost from_gives = { λ _ e. e ≡ NoMemory };
-
-    fn from(_error: AllocFailed<T>) -> Refusal {
-        Refusal::NoMemory
-    }
-}
+use std::alloc::{AllocError, Global};
 
 /// A bound of 32 bits.
 fn bound(number: i64) -> Option<i32>
@@ -87,15 +52,19 @@ fn axes_of(alloc: Global, intervals: &[Interval]) -> Result<Option<Vec<Axis>>, A
 }
 
 /// The domain that intervals spell, or the refusal of intervals that spell none.
-pub fn domain_of(alloc: Global, intervals: &[Interval], refusal: u16) -> Result<Domain, Refusal>
+pub fn domain_of(
+    alloc: Global,
+    intervals: &[Interval],
+    refusal: Refusal,
+) -> Result<Domain, AnswerError>
     ensures ok { IfOk result (λ d. SpellDomain intervals.now × (d ≡ axes_of intervals.now)) }
     ensures err { IfErr result (IsRefusedFor refusal (¬ (SpellDomain intervals.now))) }
 {
     match axes_of(alloc, intervals)? {
-        None => Err(Refusal::Numbered(refusal)),
+        None => Err(AnswerError::Named(refusal)),
         Some(axes) => match Domain::new(axes) {
             Ok(domain) => Ok(domain),
-            Err(_) => Err(Refusal::Numbered(refusal)),
+            Err(_) => Err(AnswerError::Named(refusal)),
         },
     }
 }

@@ -5,7 +5,7 @@ ghost use Rattle.coverage_server.specs.Views.{IsHeld};
 ghost use Rattle.coverage_server.specs.Tiles.{AreRead, TellsCells, store_for};
 
 use crate::coverages::Coverages;
-use arr_core::{Name, Signature};
+use arr_core::{Name, RunList, Signature};
 use disk_face::Disk;
 use job_desk::Snapshots;
 use raster_store::{Fault, TileAt};
@@ -107,6 +107,24 @@ impl<D: Disk> Tiles for AskedCells<D> {
             tile,
         };
         match self.coverages.fetch(self.job, at, buffer) {
+            Ok(()) => Ok(()),
+            Err(fault) => Err(cell_error(fault)),
+        }
+    }
+
+    fn runs(
+        &mut self,
+        coverage: usize,
+        field: usize,
+        tile: u64,
+        runs: &mut RunList,
+    ) -> Result<(), CellError> {
+        let at = TileAt {
+            coverage: self.places[coverage],
+            field,
+            tile,
+        };
+        match self.coverages.fetch_runs(self.job, at, runs) {
             Ok(()) => Ok(()),
             Err(fault) => Err(cell_error(fault)),
         }

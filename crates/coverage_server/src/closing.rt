@@ -11,7 +11,7 @@ ghost use Rattle.coverage_server.specs.Views.{IsSound, IsUnchanged, without_jobs
 use crate::cells::AskedCells;
 use crate::coverages::Coverages;
 use crate::server::Server;
-use arr_core::Name;
+use arr_core::{Name, Refusal};
 use disk_face::Disk;
 use metadata::push_part;
 use std::alloc::{AllocError, Global};
@@ -37,15 +37,15 @@ impl From<AllocError> for CloseFault {
 }
 
 impl CloseFault {
-    ghost use Rattle.coverage_server.specs.Disk.{close_number};
+    ghost use Rattle.coverage_server.specs.Disk.{close_refusal};
 
-    /// The number of the refusal: 90 or 91.
-    pub fn number(self) -> u16
-        ensures { result ≡ close_number self }
+    /// The refusal that is told of it.
+    pub fn refusal(self) -> Refusal
+        ensures { result ≡ close_refusal self }
     {
         match self {
-            CloseFault::NoMemory => 90,
-            CloseFault::DiskFault => 91,
+            CloseFault::NoMemory => Refusal::NoMemory,
+            CloseFault::DiskFault => Refusal::DiskFault,
         }
     }
 }

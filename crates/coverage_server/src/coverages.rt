@@ -1,6 +1,7 @@
 //! The coverages of a disk: their catalogue, and their cells in tiles.
 ghost use Rattle.std.specs.Prelude.{◌≡◌, ◌≤◌, None, length, IfOk, IfErr, IfSome, IfNone, OnOk, OnErr};
 ghost use Rattle.std.specs.Prelude.{IsErr, IsErrOf, IsTrue, option_copied, option_map, slice_get};
+ghost use Rattle.arr_core.specs.Runs.{cells_of};
 ghost use Rattle.arr_core.specs.Stores.{deleted, found};
 ghost use Rattle.block_file.specs.Format.{HeaderTorn, KeepsHeader};
 ghost use Rattle.catalogue.specs.Bytes.{catalogue_bytes};
@@ -25,13 +26,12 @@ ghost use Rattle.coverage_server.specs.Views.{IsSound, IsUnchanged, KeepsHeld, s
 ghost use Rattle.coverage_server.specs.Writing.{device_refusal, write_refusal, insert_refusal, FindsCoverage};
 ghost use Rattle.coverage_server.specs.Writing.{InsertsCoverage, InsertRefused, WritesCells, WriteRefused};
 
-use crate::arguments::Refusal;
 use crate::closing::CloseFault;
-use arr_core::{Cell, Domain, Name, Signature};
+use crate::error::AnswerError;
+use arr_core::{Cell, Domain, Name, Refusal, RunList, Signature};
 use block_file::State;
 use catalogue::{Catalogue, InsertError};
 use disk_face::{Disk, DiskFault};
-use http_front::refusals;
 use kvp_front::Content;
 use metadata::catalogue_part;
 use page_pool::PagePool;
@@ -67,39 +67,39 @@ impl<D: Disk> Model for Coverages<D> {
 }
 
 /// Why a signature is not inserted.
-fn insert_refusal(error: InsertError) -> Refusal
+fn insert_refusal(error: InsertError) -> AnswerError
     ensures { result ≡ insert_refusal error }
 {
     match error {
-        InsertError::CoverageExists => Refusal::Numbered(refusals::COVERAGE_EXISTS),
-        InsertError::BadDomain => Refusal::Numbered(refusals::BAD_DOMAIN),
-        InsertError::BadField => Refusal::Numbered(refusals::BAD_FIELD),
-        InsertError::TooManyCoverages => Refusal::Numbered(refusals::TOO_MANY_COVERAGES),
-        InsertError::NoMemory => Refusal::NoMemory,
+        InsertError::CoverageExists => AnswerError::Named(Refusal::CoverageExists),
+        InsertError::BadDomain => AnswerError::Named(Refusal::BadDomain),
+        InsertError::BadField => AnswerError::Named(Refusal::BadField),
+        InsertError::TooManyCoverages => AnswerError::Named(Refusal::TooManyCoverages),
+        InsertError::NoMemory => AnswerError::NoMemory,
     }
 }
 
 /// Why cells are not written.
-fn write_refusal(fault: WriteFault) -> Refusal
+fn write_refusal(fault: WriteFault) -> AnswerError
     ensures { result ≡ write_refusal fault }
 {
     match fault {
-        WriteFault::OutsideDomain => Refusal::Numbered(refusals::OUTSIDE_DOMAIN),
-        WriteFault::ValueCount => Refusal::Numbered(refusals::VALUE_COUNT),
-        WriteFault::ValueRange => Refusal::Numbered(refusals::VALUE_RANGE),
+        WriteFault::OutsideDomain => AnswerError::Named(Refusal::OutsideDomain),
+        WriteFault::ValueCount => AnswerError::Named(Refusal::ValueCount),
+        WriteFault::ValueRange => AnswerError::Named(Refusal::ValueRange),
         WriteFault::Device(fault) => device_refusal(fault),
     }
 }
 
 /// Why the device refused.
-fn device_refusal(fault: Fault) -> Refusal
+fn device_refusal(fault: Fault) -> AnswerError
     ensures { result ≡ device_refusal fault }
 {
     match fault {
-        Fault::NoMemory => Refusal::NoMemory,
-        Fault::DiskFault => Refusal::DiskFault,
-        Fault::NoRoom => Refusal::NoRoom,
-        Fault::Damaged => Refusal::Damaged,
+        Fault::NoMemory => AnswerError::NoMemory,
+        Fault::DiskFault => AnswerError::DiskFault,
+        Fault::NoRoom => AnswerError::NoRoom,
+        Fault::Damaged => AnswerError::Damaged,
     }
 }
 
@@ -177,21 +177,21 @@ impl<D: Disk> Coverages<D> {
 
     /// Adds a coverage that is 0 or false everywhere. Refused as the catalogue refuses its signature, then for memory,
     /// and for room where fewer blocks are free than the metadata takes with it. A refusal changes nothing.
-    pub fn insert(&mut self, alloc: Global, signature: Signature) -> Result<(), Refusal>
-        ensures inserted { OnOk result (InsertsCoverage signature self.old self.new) }
-        ensures refused { IfErr result (λ e. InsertRefused self.old signature e) }
+    pub fn insert(&mut self, alloc: Global, signature: &Signature) -> Result<(), AnswerError>
+        ensures inserted { OnOk result (InsertsCoverage signature.now self.old self.new) }
+        ensures refused { IfErr result (λ e. InsertRefused self.old signature.now e) }
         ensures unchanged { OnErr result (IsUnchanged self.old self.new) }
         ensures keeps { KeepsDisk self.old self.new }
     {
-        if let Err(error) = self.catalogue.check(&signature) {
+        if let Err(error) = self.catalogue.check(signature) {
             return Err(insert_refusal(error));
         }
-        let bytes = self.catalogue.bytes_len_with(&signature);
+        let bytes = self.catalogue.bytes_len_with(signature);
         let listed = signature.copy(alloc)?;
         if let Err(error) = self.catalogue.insert(listed) {
             return Err(insert_refusal(error));
         }
-        match self.cells.create(&signature, bytes) {
+        match self.cells.create(signature, bytes) {
             Ok(()) => Ok(()),
             Err(fault) => {
                 let _removed = self.catalogue.remove(&signature.name);
@@ -219,11 +219,11 @@ impl<D: Disk> Coverages<D> {
         field: usize,
         area: &Domain,
         content: &Content,
-    ) -> Result<(), Refusal>
+    ) -> Result<(), AnswerError>
         requires field { HasField name.now field self.old.store }
         ensures done { OnOk result (WritesCells name.now field area.now (content_view content.now) self.old self.new) }
         ensures refused { IfErr result (WriteRefused name.now field area.now (content_view content.now) self.old) }
-        ensures told { Tells (IsErrOf result Refusal.DiskFault) self.old.failures self.new.failures }
+        ensures told { Tells (IsErrOf result AnswerError.DiskFault) self.old.failures self.new.failures }
         ensures unchanged { OnErr result (IsUnchanged self.old self.new) }
         ensures continues { Continues self.old self.new }
         ensures spelled { IsTrue self.old.honest → KeepsSpelled self.old self.new }
@@ -237,11 +237,17 @@ impl<D: Disk> Coverages<D> {
     }
 
     /// Writes one cell at each point of a box.
-    fn fill(&mut self, name: &Name, field: usize, area: &Domain, cell: Cell) -> Result<(), Refusal>
+    fn fill(
+        &mut self,
+        name: &Name,
+        field: usize,
+        area: &Domain,
+        cell: Cell,
+    ) -> Result<(), AnswerError>
         requires field { HasField name.now field self.old.store }
         ensures done { OnOk result (WritesCells name.now field area.now (contents.fill cell) self.old self.new) }
         ensures refused { IfErr result (WriteRefused name.now field area.now (contents.fill cell) self.old) }
-        ensures told { Tells (IsErrOf result Refusal.DiskFault) self.old.failures self.new.failures }
+        ensures told { Tells (IsErrOf result AnswerError.DiskFault) self.old.failures self.new.failures }
         ensures unchanged { OnErr result (IsUnchanged self.old self.new) }
         ensures continues { Continues self.old self.new }
         ensures spelled { IsTrue self.old.honest → KeepsSpelled self.old self.new }
@@ -263,11 +269,11 @@ impl<D: Disk> Coverages<D> {
         field: usize,
         area: &Domain,
         cells: &[Cell],
-    ) -> Result<(), Refusal>
+    ) -> Result<(), AnswerError>
         requires field { HasField name.now field self.old.store }
         ensures done { OnOk result (WritesCells name.now field area.now (contents.values cells.now) self.old self.new) }
         ensures refused { IfErr result (WriteRefused name.now field area.now (contents.values cells.now) self.old) }
-        ensures told { Tells (IsErrOf result Refusal.DiskFault) self.old.failures self.new.failures }
+        ensures told { Tells (IsErrOf result AnswerError.DiskFault) self.old.failures self.new.failures }
         ensures unchanged { OnErr result (IsUnchanged self.old self.new) }
         ensures continues { Continues self.old self.new }
         ensures spelled { IsTrue self.old.honest → KeepsSpelled self.old self.new }
@@ -340,6 +346,25 @@ impl<D: Disk> Coverages<D> {
     {
         let _fetched = self.cells.fetched();
         self.cells.fetch_at(number, at, numbers)
+    }
+
+    /// Makes `runs` the numbers of a tile of the coverages that a number reads, by its place there, as runs where the tile
+    /// lies so. It has a value for each of the tile's points, and keeps as many.
+    pub fn fetch_runs(&mut self, number: u64, at: TileAt, runs: &mut RunList) -> Result<(), Fault>
+        requires tile { HasTile at (store_for number self.old) }
+        requires room { HasTileCount at (store_for number self.old) runs.old.values.items }
+        ensures value { OnOk result (IsTrue self.old.honest
+            → AreTileCells at (store_for number self.old) (cells_of runs.new)) }
+        ensures counted { OnOk result (HasTileCount at (store_for number self.old) (cells_of runs.new)) }
+        ensures why { Refuses result (IsTrue self.old.honest → IsSpelledFor number at self.old → ⊥) ⊥ }
+        ensures still { still_of self.new ≡ still_of self.old }
+        ensures fetched { OnOk result (Fetched 1 self.old.fetched self.new.fetched) }
+        ensures rises { self.old.fetched ≤ self.new.fetched }
+        ensures told { Tells (IsErrOf result Fault.DiskFault) self.old.failures self.new.failures }
+        ensures room { length runs.new.values.items ≡ length runs.old.values.items }
+    {
+        let _fetched = self.cells.fetched();
+        self.cells.fetch_runs_at(number, at, runs)
     }
 
     /// Makes `numbers` those at ranks of a tile's points, one for each rank, of the coverages that a number reads, by

@@ -12,11 +12,12 @@ ghost use Rattle.coverage_server.specs.Views.{IsHeld, ServerView, still_of};
 ghost use Rattle.kvp_front.specs.Requests.{submit_query, step_job, fetch_job, cancel_job};
 ghost use Rattle.wcps_types.specs.TypedQueries.{query_view as tree_of};
 
-use crate::arguments::Refusal;
 use crate::cells::AskedCells;
+use crate::error::AnswerError;
 use crate::query::{names_of, plan_of, typed_text};
+use arr_core::Refusal;
 use disk_face::Disk;
-use http_front::{Reply, refusals};
+use http_front::Reply;
 use itoa::Buffer;
 use job_desk::{Answer, FetchError, JobDesk, NoSuchJob, StepError, SubmitError};
 use std::alloc::Global;
@@ -51,33 +52,33 @@ fn write_job(text: &mut String, number: u64, left: u64)
 }
 
 /// Why a query does not become a job.
-fn submit_refusal(error: SubmitError) -> Refusal
+fn submit_refusal(error: SubmitError) -> AnswerError
     ensures { result ≡ submit_refusal error }
 {
     match error {
-        SubmitError::TooManyJobs => Refusal::Numbered(refusals::TOO_MANY_JOBS),
-        SubmitError::NoMemory => Refusal::NoMemory,
+        SubmitError::TooManyJobs => AnswerError::Named(Refusal::TooManyJobs),
+        SubmitError::NoMemory => AnswerError::NoMemory,
     }
 }
 
 /// Why no units were done.
-fn step_refusal(error: StepError) -> Refusal
+fn step_refusal(error: StepError) -> AnswerError
     ensures { result ≡ step_refusal error }
 {
     match error {
-        StepError::NoSuchJob => Refusal::Numbered(refusals::NO_SUCH_JOB),
-        StepError::Cells(error) => Refusal::from(error),
+        StepError::NoSuchJob => AnswerError::Named(Refusal::NoSuchJob),
+        StepError::Cells(error) => AnswerError::from(error),
     }
 }
 
 /// Why no answer is fetched.
-fn fetch_refusal(error: FetchError) -> Refusal
+fn fetch_refusal(error: FetchError) -> AnswerError
     ensures { result ≡ fetch_refusal error }
 {
     match error {
-        FetchError::NoSuchJob => Refusal::Numbered(refusals::NO_SUCH_JOB),
-        FetchError::NotReady => Refusal::Numbered(refusals::NOT_READY),
-        FetchError::NoMemory => Refusal::NoMemory,
+        FetchError::NoSuchJob => AnswerError::Named(Refusal::NoSuchJob),
+        FetchError::NotReady => AnswerError::Named(Refusal::NotReady),
+        FetchError::NoMemory => AnswerError::NoMemory,
     }
 }
 
@@ -87,7 +88,7 @@ fn submit_typed<D: Disk>(
     cells: &mut AskedCells<D>,
     desk: &mut JobDesk,
     typed: &TypedQuery,
-) -> Result<Reply, Refusal>
+) -> Result<Reply, AnswerError>
     requires some { 1 ≤ length (tree_of typed.now).combinations }
     requires held { All (IsHeld cells.old.coverages.store) (tree_of typed.now).coverages }
     requires holding { IsHolding desk.old cells.old.coverages.held }
@@ -120,7 +121,7 @@ pub fn submit_query<D: Disk>(
     cells: &mut AskedCells<D>,
     desk: &mut JobDesk,
     text: &str,
-) -> Result<Reply, Refusal>
+) -> Result<Reply, AnswerError>
     requires holding { IsHolding desk.old cells.old.coverages.held }
     ensures answered { AnswersJob (submit_query text.now)
         cells.old.coverages desk.old cells.new.coverages desk.new result }
@@ -142,7 +143,7 @@ pub fn step_job<D: Disk>(
     desk: &mut JobDesk,
     number: u64,
     units: u64,
-) -> Result<Reply, Refusal>
+) -> Result<Reply, AnswerError>
     requires holding { IsHolding desk.old cells.old.coverages.held }
     ensures answered { AnswersJob (step_job number units)
         cells.old.coverages desk.old cells.new.coverages desk.new result }
@@ -155,10 +156,10 @@ pub fn step_job<D: Disk>(
     ensures fetches { FetchesForJob number cells.old.coverages desk.old cells.new.coverages desk.new result }
 {
     let Some(left) = desk.left(number) else {
-        return Err(Refusal::Numbered(refusals::NO_SUCH_JOB));
+        return Err(AnswerError::Named(Refusal::NoSuchJob));
     };
     let Some(coverages) = desk.coverages(number) else {
-        return Err(Refusal::Numbered(refusals::NO_SUCH_JOB));
+        return Err(AnswerError::Named(Refusal::NoSuchJob));
     };
     let reply = format!(in cells.alloc; "left {}\n", left.saturating_sub(units))?;
     if left == 0 {
@@ -172,7 +173,7 @@ pub fn step_job<D: Disk>(
 }
 
 /// The answer of a job that has no units left, which is dropped.
-pub fn fetch_job(desk: &mut JobDesk, number: u64) -> Result<Reply, Refusal>
+pub fn fetch_job(desk: &mut JobDesk, number: u64) -> Result<Reply, AnswerError>
     ensures answered { (v : ServerView) → AnswersJob (fetch_job number) v desk.old v desk.new result }
     ensures answer { IfOk result IsAnswer }
     ensures holding { (held : List SnapshotView) → IsHolding desk.old held → IsHolding desk.new held }
@@ -184,7 +185,7 @@ pub fn fetch_job(desk: &mut JobDesk, number: u64) -> Result<Reply, Refusal>
     };
     match answer {
         Answer::Text(text) => Ok(Reply::Csv(text)),
-        Answer::Refused(fault) => Err(Refusal::Numbered(fault.number())),
+        Answer::Refused(fault) => Err(AnswerError::Named(fault.refusal())),
     }
 }
 
@@ -193,7 +194,7 @@ pub fn cancel_job<D: Disk>(
     cells: &mut AskedCells<D>,
     desk: &mut JobDesk,
     number: u64,
-) -> Result<Reply, Refusal>
+) -> Result<Reply, AnswerError>
     requires holding { IsHolding desk.old cells.old.coverages.held }
     ensures answered { AnswersJob (cancel_job number)
         cells.old.coverages desk.old cells.new.coverages desk.new result }
@@ -208,6 +209,6 @@ pub fn cancel_job<D: Disk>(
     let _rising = desk.coverages(number);
     match desk.cancel(number, cells) {
         Ok(()) => Ok(Reply::Text(reply)),
-        Err(NoSuchJob) => Err(Refusal::Numbered(refusals::NO_SUCH_JOB)),
+        Err(NoSuchJob) => Err(AnswerError::Named(Refusal::NoSuchJob)),
     }
 }

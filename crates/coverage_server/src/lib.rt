@@ -7,6 +7,7 @@ mod cells;
 mod closing;
 mod coverages;
 mod describing;
+mod error;
 mod jobs;
 mod laws;
 mod named;

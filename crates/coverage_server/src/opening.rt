@@ -16,7 +16,7 @@ ghost use Rattle.coverage_server.specs.Sessions.{IsOpenedFrom, LeavesUnopened};
 use crate::cells::AskedCells;
 use crate::coverages::Coverages;
 use crate::server::Server;
-use arr_core::Signature;
+use arr_core::{Refusal, Signature};
 use block_file::{BlockFile, Blocks, CHAIN_BYTES, Opened, Refused, State};
 use catalogue::Catalogue;
 use disk_face::Disk;
@@ -48,18 +48,18 @@ pub enum OpenFault {
 }
 
 impl OpenFault {
-    ghost use Rattle.coverage_server.specs.Disk.{open_number};
+    ghost use Rattle.coverage_server.specs.Disk.{open_refusal};
 
-    /// The number of the refusal: 90, 91, or 93 to 95.
-    pub fn number(self) -> u16
-        ensures { result ≡ open_number self }
+    /// The refusal that is told of it.
+    pub fn refusal(self) -> Refusal
+        ensures { result ≡ open_refusal self }
     {
         match self {
-            OpenFault::NoMemory => 90,
-            OpenFault::DiskFault => 91,
-            OpenFault::Damaged => 93,
-            OpenFault::NotAStore => 94,
-            OpenFault::NotClosed => 95,
+            OpenFault::NoMemory => Refusal::NoMemory,
+            OpenFault::DiskFault => Refusal::DiskFault,
+            OpenFault::Damaged => Refusal::Damaged,
+            OpenFault::NotAStore => Refusal::NotAStore,
+            OpenFault::NotClosed => Refusal::NotClosed,
         }
     }
 }

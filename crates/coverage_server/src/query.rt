@@ -13,13 +13,13 @@ ghost use Rattle.coverage_server.specs.Answered.{AnswersQuery, IsAnswer};
 ghost use Rattle.coverage_server.specs.Fetching.{FetchesBoxes, FetchesForText, FetchesPlan, IsPlanOf, UnlessFails};
 ghost use Rattle.coverage_server.specs.Views.{IsHeld, still_of};
 
-use crate::arguments::Refusal;
 use crate::cells::AskedCells;
 use crate::coverages::Coverages;
+use crate::error::AnswerError;
 use crate::named::signatures_for;
-use arr_core::{Name, Signature};
+use arr_core::{Name, Refusal, Signature};
 use disk_face::Disk;
-use http_front::{Reply, refusals};
+use http_front::Reply;
 use job_desk::{Answer, answer_of, run_down};
 use plan_ir::Plan;
 use plan_rewrite::{lower, rewrite};
@@ -34,37 +34,41 @@ use wcps_types::{CheckError, TypedQuery, check};
 const MAX_QUERY: usize = 65_536;
 
 /// The tokens of a query.
-fn tokens_of(alloc: Global, text: &str) -> Result<Vec<Token<'_>>, Refusal>
+fn tokens_of(alloc: Global, text: &str) -> Result<Vec<Token<'_>>, AnswerError>
     ensures { GivesTokens text.now result }
 {
     match lex(alloc, text) {
         Ok(tokens) => Ok(tokens),
-        Err(LexError::BadToken) => Err(Refusal::Numbered(refusals::BAD_TOKEN)),
-        Err(LexError::NumberTooLarge) => Err(Refusal::Numbered(refusals::NUMBER_TOO_LARGE)),
-        Err(LexError::NoMemory) => Err(Refusal::NoMemory),
+        Err(LexError::BadToken) => Err(AnswerError::Named(Refusal::BadToken)),
+        Err(LexError::NumberTooLarge) => Err(AnswerError::Named(Refusal::NumberTooLarge)),
+        Err(LexError::NoMemory) => Err(AnswerError::NoMemory),
     }
 }
 
 /// The query that the tokens spell.
-fn query_of(alloc: Global, tokens: &[Token]) -> Result<Query, Refusal>
+fn query_of(alloc: Global, tokens: &[Token]) -> Result<Query, AnswerError>
     ensures { GivesQuery (map tok tokens.now) result }
 {
     match parse(alloc, tokens) {
         Ok(query) => Ok(query),
-        Err(ParseError::BadSyntax) => Err(Refusal::Numbered(refusals::BAD_SYNTAX)),
-        Err(ParseError::TooDeep) => Err(Refusal::Numbered(refusals::TOO_DEEP)),
-        Err(ParseError::NoMemory) => Err(Refusal::NoMemory),
+        Err(ParseError::BadSyntax) => Err(AnswerError::Named(Refusal::BadSyntax)),
+        Err(ParseError::TooDeep) => Err(AnswerError::Named(Refusal::TooDeep)),
+        Err(ParseError::NoMemory) => Err(AnswerError::NoMemory),
     }
 }
 
 /// The typed query.
-fn typed_of(alloc: Global, signatures: &[Signature], query: Query) -> Result<TypedQuery, Refusal>
+fn typed_of(
+    alloc: Global,
+    signatures: &[Signature],
+    query: Query,
+) -> Result<TypedQuery, AnswerError>
     ensures { GivesTyped (typ_query signatures.now (query_view query)) result }
 {
     match check(alloc, signatures, query) {
         Ok(typed) => Ok(typed),
-        Err(CheckError::Refused(refusal)) => Err(Refusal::Numbered(refusal.number())),
-        Err(CheckError::NoMemory) => Err(Refusal::NoMemory),
+        Err(CheckError::Refused(error)) => Err(AnswerError::Named(error.refusal())),
+        Err(CheckError::NoMemory) => Err(AnswerError::NoMemory),
     }
 }
 
@@ -80,16 +84,16 @@ pub fn names_of(alloc: Global, coverages: &[Signature]) -> Result<Vec<Name>, All
     Ok(names)
 }
 
-impl From<CellError> for Refusal {
+impl From<CellError> for AnswerError {
     ghost use Rattle.coverage_server.specs.Stages.{cell_refusal};
 
     ghost from_gives = { λ e r. r ≡ cell_refusal e };
 
-    fn from(error: CellError) -> Refusal {
+    fn from(error: CellError) -> AnswerError {
         match error {
-            CellError::NoMemory => Refusal::NoMemory,
-            CellError::DiskFault => Refusal::DiskFault,
-            CellError::Damaged => Refusal::Damaged,
+            CellError::NoMemory => AnswerError::NoMemory,
+            CellError::DiskFault => AnswerError::DiskFault,
+            CellError::Damaged => AnswerError::Damaged,
         }
     }
 }
@@ -110,11 +114,11 @@ pub fn typed_text<D: Disk>(
     alloc: Global,
     coverages: &Coverages<D>,
     text: &str,
-) -> Result<TypedQuery, Refusal>
+) -> Result<TypedQuery, AnswerError>
     ensures { GivesText coverages.now.store text.now result }
 {
     if text.len() > MAX_QUERY {
-        return Err(Refusal::Numbered(refusals::BAD_VALUE));
+        return Err(AnswerError::Named(Refusal::BadValue));
     }
     let tokens = tokens_of(alloc, text)?;
     let query = query_of(alloc, &tokens)?;
@@ -129,7 +133,7 @@ fn values_by<D: Disk>(
     cells: &mut AskedCells<D>,
     typed: &TypedQuery,
     exec: &mut Exec,
-) -> Result<String, Refusal>
+) -> Result<String, AnswerError>
     requires unheld { held_for 0 cells.old.coverages.held ≡ None }
     requires held { All (IsHeld cells.old.coverages.store) typed.now.coverages.items }
     requires plan { IsPlanOf (typed_view typed.now) (plan_in exec.old) }
@@ -145,12 +149,12 @@ fn values_by<D: Disk>(
     run_down(exec, cells, 0)?;
     match answer_of(cells.alloc, exec)? {
         Answer::Text(text) => Ok(text),
-        Answer::Refused(fault) => Err(Refusal::Numbered(fault.number())),
+        Answer::Refused(fault) => Err(AnswerError::Named(fault.refusal())),
     }
 }
 
 /// The comma-separated values of a typed query, or the refusal by its evaluation.
-fn values_of<D: Disk>(cells: &mut AskedCells<D>, typed: &TypedQuery) -> Result<String, Refusal>
+fn values_of<D: Disk>(cells: &mut AskedCells<D>, typed: &TypedQuery) -> Result<String, AnswerError>
     requires unheld { held_for 0 cells.old.coverages.held ≡ None }
     requires held { All (IsHeld cells.old.coverages.store) typed.now.coverages.items }
     requires some { 1 ≤ length (typed_view typed.now).combinations }
@@ -167,7 +171,7 @@ fn values_of<D: Disk>(cells: &mut AskedCells<D>, typed: &TypedQuery) -> Result<S
 
 /// The answer to a query, as comma-separated values: the query is typed, then evaluated. It reads the store as it is, as
 /// number 0, and nothing is held for it.
-pub fn process<D: Disk>(cells: &mut AskedCells<D>, text: &str) -> Result<Reply, Refusal>
+pub fn process<D: Disk>(cells: &mut AskedCells<D>, text: &str) -> Result<Reply, AnswerError>
     requires unheld { held_for 0 cells.old.coverages.held ≡ None }
     ensures answered { AnswersQuery text.now cells.old.coverages cells.new.coverages result }
     ensures answer { IfOk result IsAnswer }

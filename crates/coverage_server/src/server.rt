@@ -14,16 +14,17 @@ ghost use Rattle.coverage_server.specs.Serves.{IsReply, IsServed, TellsEnd, ends
 ghost use Rattle.catalogue.specs.Signatures.{IsCatalogue};
 ghost use Rattle.coverage_server.specs.Views.{IsUnchanged, KeepsHeld, signatures_of};
 
-use crate::arguments::{Refusal, copied_fields, domain_of};
+use crate::arguments::{copied_fields, domain_of};
 use crate::cells::AskedCells;
 use crate::coverages::Coverages;
 use crate::describing::description;
+use crate::error::AnswerError;
 use crate::jobs::{cancel_job, fetch_job, step_job, submit_query};
 use crate::query::process;
 use crate::templates::{expand_template, process_template};
-use arr_core::{Name, Signature};
+use arr_core::{Name, Refusal, Signature};
 use disk_face::Disk;
-use http_front::{Conn, Next, Reply, WriteFault, refusals};
+use http_front::{Conn, Next, Reply, WriteFault};
 use job_desk::JobDesk;
 use kvp_front::{Insertion, Request, Update, read_request};
 use std::alloc::Global;
@@ -65,7 +66,7 @@ fn insert<D: Disk>(
     alloc: Global,
     coverages: &mut Coverages<D>,
     insertion: &Insertion,
-) -> Result<Reply, Refusal>
+) -> Result<Reply, AnswerError>
     ensures answered { AnswersInsertion insertion.now coverages.old coverages.new result }
     ensures lays { OnOk result (LaysInsertion insertion.now coverages.old coverages.new) }
     ensures answer { IfOk result IsAnswer }
@@ -73,9 +74,9 @@ fn insert<D: Disk>(
     ensures keeps { KeepsDisk coverages.old coverages.new }
 {
     if coverages.signature(&insertion.coverage).is_some() {
-        return Err(Refusal::Numbered(refusals::COVERAGE_EXISTS));
+        return Err(AnswerError::Named(Refusal::CoverageExists));
     }
-    let domain = domain_of(alloc, &insertion.intervals, refusals::BAD_DOMAIN)?;
+    let domain = domain_of(alloc, &insertion.intervals, Refusal::BadDomain)?;
     let fields = copied_fields(alloc, &insertion.fields)?;
     let name = insertion.coverage.copy(alloc)?;
     let reply = String::from_str(alloc, "ok\n")?;
@@ -84,7 +85,7 @@ fn insert<D: Disk>(
         domain,
         fields,
     };
-    coverages.insert(alloc, signature)?;
+    coverages.insert(alloc, &signature)?;
     Ok(Reply::Text(reply))
 }
 
@@ -93,7 +94,7 @@ fn update<D: Disk>(
     alloc: Global,
     coverages: &mut Coverages<D>,
     update: &Update,
-) -> Result<Reply, Refusal>
+) -> Result<Reply, AnswerError>
     ensures answered { AnswersUpdate update.now coverages.old coverages.new result }
     ensures lays { OnOk result (IsTrue coverages.old.honest → LaysChange update.now coverages.old coverages.new) }
     ensures answer { IfOk result IsAnswer }
@@ -104,12 +105,12 @@ fn update<D: Disk>(
     ensures fetched { coverages.new.fetched ≡ coverages.old.fetched }
 {
     let Some(signature) = coverages.signature(&update.coverage) else {
-        return Err(Refusal::Numbered(refusals::NO_SUCH_COVERAGE));
+        return Err(AnswerError::Named(Refusal::NoSuchCoverage));
     };
     let Some(field) = signature.fields.place_of(update.field.as_str()) else {
-        return Err(Refusal::Numbered(refusals::NO_SUCH_FIELD));
+        return Err(AnswerError::Named(Refusal::NoSuchField));
     };
-    let area = domain_of(alloc, &update.intervals, refusals::OUTSIDE_DOMAIN)?;
+    let area = domain_of(alloc, &update.intervals, Refusal::OutsideDomain)?;
     let reply = String::from_str(alloc, "ok\n")?;
     coverages.write(&update.coverage, field, &area, &update.content)?;
     Ok(Reply::Text(reply))
@@ -120,7 +121,7 @@ fn delete<D: Disk>(
     alloc: Global,
     coverages: &mut Coverages<D>,
     name: &Name,
-) -> Result<Reply, Refusal>
+) -> Result<Reply, AnswerError>
     ensures answered { Answered (Deletes name.now) ⊥ ⊥ coverages.old coverages.new result }
     ensures lays { OnOk result
         (LaysRest name.now coverages.old.store (layout_of coverages.old) (layout_of coverages.new)) }
@@ -129,7 +130,7 @@ fn delete<D: Disk>(
     ensures keeps { KeepsDisk coverages.old coverages.new }
 {
     let Some(_) = coverages.signature(name) else {
-        return Err(Refusal::Numbered(refusals::NO_SUCH_COVERAGE));
+        return Err(AnswerError::Named(Refusal::NoSuchCoverage));
     };
     let reply = String::from_str(alloc, "ok\n")?;
     coverages.remove(name);
@@ -137,19 +138,23 @@ fn delete<D: Disk>(
 }
 
 /// The axes and the fields of a coverage, each on a line.
-fn describe<D: Disk>(alloc: Global, coverages: &Coverages<D>, name: &Name) -> Result<Reply, Refusal>
+fn describe<D: Disk>(
+    alloc: Global,
+    coverages: &Coverages<D>,
+    name: &Name,
+) -> Result<Reply, AnswerError>
     ensures answered { Answered (Describes name.now) ⊥ ⊥ coverages.now coverages.now result }
     ensures answer { IfOk result IsAnswer }
 {
     let Some(signature) = coverages.signature(name) else {
-        return Err(Refusal::Numbered(refusals::NO_SUCH_COVERAGE));
+        return Err(AnswerError::Named(Refusal::NoSuchCoverage));
     };
     let text = description(alloc, signature)?;
     Ok(Reply::Text(text))
 }
 
 /// The names of the coverages, each on a line.
-fn list<D: Disk>(alloc: Global, coverages: &Coverages<D>) -> Result<Reply, Refusal>
+fn list<D: Disk>(alloc: Global, coverages: &Coverages<D>) -> Result<Reply, AnswerError>
     ensures answered { Answered Lists ⊥ ⊥ coverages.now coverages.now result }
     ensures answer { IfOk result IsAnswer }
 {
@@ -163,9 +168,19 @@ fn list<D: Disk>(alloc: Global, coverages: &Coverages<D>) -> Result<Reply, Refus
     Ok(Reply::Text(text))
 }
 
+/// What was answered, or the refusal that is told in its place.
+fn reply_of(answered: Result<Reply, AnswerError>) -> Reply
+    ensures { result ≡ reply_of answered }
+{
+    match answered {
+        Ok(reply) => reply,
+        Err(error) => Reply::Refused(error.refusal().number()),
+    }
+}
+
 impl<D: Disk> Server<D> {
     /// What a request is answered, or why it is refused.
-    fn answered(&mut self, request: &Request) -> Result<Reply, Refusal>
+    fn answered(&mut self, request: &Request) -> Result<Reply, AnswerError>
         ensures answered { AnsweredAs (asks request.now) self.old self.new result }
         ensures tiles { LeavesTiles (asks request.now) result self.old self.new }
         ensures answer { IfOk result IsAnswer }
@@ -201,13 +216,13 @@ impl<D: Disk> Server<D> {
     }
 
     /// Answers a request: from each state of the machine that the server represents, with its tiles where they lie, one
-    /// step of it to one that it then represents, on an honest disk. In place of any reply want of memory (90), a disk
-    /// fault (91), want of room (92) or damage (93) may be told; damage only where a tile that is in the way of this
-    /// very request is not spelled. A refusal leaves the signatures, the indexes, the jobs and what is held for them as
-    /// they were on any disk, but for a fault that is fetched as the answer of a job, which is dropped then. The
-    /// coverages are those of a catalogue. Coverages are held for exactly the jobs that have units left. Tiles are
-    /// fetched for ProcessCoverages, ProcessTemplate and StepJob alone: no more than the boxes of the query's plan,
-    /// or of the units that were done, bound together, unless it fails.
+    /// step of it to one that it then represents, on an honest disk. In place of any reply want of memory, a disk fault,
+    /// want of room or damage may be told; damage only where a tile that is in the way of this very request is not
+    /// spelled. A refusal leaves the signatures, the indexes, the jobs and what is held for them as they were on any
+    /// disk, but for a fault that is fetched as the answer of a job, which is dropped then. The coverages are those of a
+    /// catalogue. Coverages are held for exactly the jobs that have units left. Tiles are fetched for ProcessCoverages,
+    /// ProcessTemplate and StepJob alone: no more than the boxes of the query's plan, or of the units that were done,
+    /// bound together, unless it fails.
     pub fn answer(&mut self, request: &Request) -> Reply
         ensures step { Refines (λ p q. Steps (asks request.now) self.old self.new p result q) self.old self.new }
         ensures catalogue { IsCatalogue (signatures_of self.old.coverages.store) }
@@ -219,14 +234,7 @@ impl<D: Disk> Server<D> {
         let _count = self.cells.coverages.len();
         let answered = self.answered(request);
         let _whole = self.cells.coverages.len();
-        match answered {
-            Ok(reply) => reply,
-            Err(Refusal::Numbered(code)) => Reply::Refused(code),
-            Err(Refusal::NoMemory) => Reply::Refused(refusals::NO_MEMORY),
-            Err(Refusal::DiskFault) => Reply::Refused(refusals::DISK_FAULT),
-            Err(Refusal::NoRoom) => Reply::Refused(refusals::NO_ROOM),
-            Err(Refusal::Damaged) => Reply::Refused(refusals::DAMAGED),
-        }
+        reply_of(answered)
     }
 
     /// The reply to what a connection asks.
@@ -237,11 +245,15 @@ impl<D: Disk> Server<D> {
         let alloc = self.cells.alloc;
         match next {
             Next::Message(pairs) => match read_request(alloc, pairs.as_slice()) {
-                Ok(request) => self.answer(&request),
-                Err(error) => Reply::Refused(error.number()),
+                Ok(request) => {
+                    let reply = self.answer(&request);
+                    drop(request);
+                    reply
+                }
+                Err(error) => Reply::Refused(error.refusal().number()),
             },
             Next::Refused(code) => Reply::Refused(code),
-            _ => Reply::Refused(refusals::NO_MEMORY),
+            _ => Reply::Refused(Refusal::NoMemory.number()),
         }
     }
 

@@ -10,9 +10,9 @@ ghost use Rattle.coverage_server.specs.Templates.{GivesExpansion, expansion, lay
 ghost use Rattle.coverage_server.specs.Tomlin.{TemplatesAreTomlins};
 ghost use Rattle.coverage_server.specs.Views.{still_of};
 
-use crate::arguments::Refusal;
 use crate::cells::AskedCells;
 use crate::coverages::Coverages;
+use crate::error::AnswerError;
 use crate::query::process;
 use arr_core::Signature;
 use disk_face::Disk;
@@ -70,13 +70,13 @@ fn expanded(
     request: &TemplateRequest,
     params: &Params,
     signatures: &[Signature],
-) -> Result<String, Refusal>
+) -> Result<String, AnswerError>
     ensures { GivesExpansion (as_text (asked (template_view request.now).name params.now signatures.now)) result }
 {
     match expand(alloc, request.template.as_str(), params, signatures) {
         Ok(text) => Ok(text),
-        Err(ExpandError::Refused(refusal)) => Err(Refusal::Numbered(refusal.number())),
-        Err(ExpandError::NoMemory) => Err(Refusal::NoMemory),
+        Err(ExpandError::Refused(error)) => Err(AnswerError::Named(error.refusal())),
+        Err(ExpandError::NoMemory) => Err(AnswerError::NoMemory),
     }
 }
 
@@ -85,7 +85,7 @@ fn expansion<D: Disk>(
     alloc: Global,
     coverages: &Coverages<D>,
     request: &TemplateRequest,
-) -> Result<String, Refusal>
+) -> Result<String, AnswerError>
     ensures { GivesExpansion (expansion (template_view request.now) coverages.now.store) result }
 {
     let params = params_of(alloc, request)?;
@@ -98,7 +98,7 @@ pub fn expand_template<D: Disk>(
     alloc: Global,
     coverages: &Coverages<D>,
     request: &TemplateRequest,
-) -> Result<Reply, Refusal>
+) -> Result<Reply, AnswerError>
     ensures answered { Answered (Expands (template_view request.now)) ⊥ ⊥ coverages.now coverages.now result }
     ensures answer { IfOk result IsAnswer }
 {
@@ -112,7 +112,7 @@ pub fn expand_template<D: Disk>(
 pub fn process_template<D: Disk>(
     cells: &mut AskedCells<D>,
     request: &TemplateRequest,
-) -> Result<Reply, Refusal>
+) -> Result<Reply, AnswerError>
     requires unheld { held_for 0 cells.old.coverages.held ≡ None }
     ensures answered { AnswersAsked (template_view request.now) cells.old.coverages cells.new.coverages result }
     ensures answer { IfOk result IsAnswer }

@@ -6,6 +6,8 @@ use Rattle.std.proofs.lemmas.Bool.{leb-true}
 use Rattle.std.proofs.lemmas.List.{length-append, take-append-drop}
 use Rattle.httparse.specs.Grammar.{RequestHead, ReadsRequest}
 use Rattle.httparse.proofs.GrammarLemmas.{ReadsRequest-append, request_unique}
+use Rattle.arr_core.specs.declared.refusal.Refusal.{Refusal}
+use Rattle.arr_core.specs.declared.refusal.Refusal.TheVariants.{BodyTooLong}
 use Rattle.http1.specs.declared.fields.ContentLength.{ContentLength}
 use Rattle.http1.specs.declared.fields.ContentLength.TheVariants as Length
 use Rattle.http1.specs.declared.fields.TransferEncoding.{TransferEncoding}
@@ -24,7 +26,7 @@ framed_within : (coding : TransferEncoding) (size : ContentLength) (len : ℕ) �
 framed_within Coding.Absent Length.Absent len e = let none : 0 ≡ len = cc in omega arith
 framed_within Coding.Absent (Length.Value n) len e = value_within (nat_le n 1048576) refl e
   where
-    value_within : (b : Bool) → nat_le n 1048576 ≡ b → if◌then◌else◌ {A = Result ℕ ℕ} b (Ok n) (Err 2) ≡ Ok len → len ≤ 1048576
+    value_within : (b : Bool) → nat_le n 1048576 ≡ b → if◌then◌else◌ {A = Result ℕ Refusal} b (Ok n) (Err BodyTooLong) ≡ Ok len → len ≤ 1048576
     value_within true few e = let same : n ≡ len = cc in omega (arith, leb-true n 1048576 few)
     value_within false few e = absurd cc
 framed_within Coding.Absent Length.Invalid len e = absurd cc
@@ -90,14 +92,14 @@ module _ {held : List ℕ} {front : WholeHead} (x : IsHeadAt held front) (came :
   }
 
   -- no body is read
-  pub whole_refused : (n code : ℕ) (rest : List ℕ) → length held ≤ 16384 → framing x.h ≡ Err code → rest ≡ drop front.len held
-      → came ≡ [] → Whole n (held ++ came) (refusal_item code (is_bare x.h)) rest
-  whole_refused n code rest fits framed is none = record {
+  pub whole_refused : (n : ℕ) (refusal : Refusal) (rest : List ℕ) → length held ≤ 16384 → framing x.h ≡ Err refusal → rest ≡ drop front.len held
+      → came ≡ [] → Whole n (held ++ came) (refusal_item refusal (is_bare x.h)) rest
+  whole_refused n refusal rest fits framed is none = record {
     head = x.h;
     after = drop front.len held ++ came;
     reads = whole_head fits;
     framed =
-        subst (λ f. Frames f n x.h (drop front.len held ++ came) (refusal_item code (is_bare x.h)) rest) (sym framed)
+        subst (λ f. Frames f n x.h (drop front.len held ++ came) (refusal_item refusal (is_bare x.h)) rest) (sym framed)
         (refl, ap (λ l. drop front.len held ++ l) none ∙ append-nil (drop front.len held) ∙ sym is);
   }
 
@@ -122,7 +124,7 @@ found_as n known left future item Ended last bare x s l b = absurd s
 found_as n known left future item ReadFault last bare x s l b = absurd s
 
 -- and of a message or a refusal no fault is told
-pub told_as : (old new : SourceView) (asked : Result (List ℕ) ℕ) (next : Next) → Shows asked next → new.failed ≡ old.failed
+pub told_as : (old new : SourceView) (asked : Result (List ℕ) Refusal) (next : Next) → Shows asked next → new.failed ≡ old.failed
     → TellsNext old new next
 told_as old new asked (Message pairs) s e = e
 told_as old new asked (Refused code) s e = e

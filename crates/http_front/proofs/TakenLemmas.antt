@@ -4,6 +4,7 @@ use Rattle.std.specs.Prelude.{MatchBool, ◌⊎◌, ◌==◌}
 use Rattle.std.specs.Io.KnownBytes.{Consumes, IsAtEnd}
 use Rattle.httparse.specs.Grammar.{RequestHead}
 use Rattle.httparse.proofs.GrammarLemmas.{ReadsRequest-append}
+use Rattle.arr_core.specs.declared.refusal.Refusal.{Refusal}
 use Rattle.http_front.specs.declared.conn.Next.{Next}
 use Rattle.http_front.specs.declared.conn.Next.TheVariants.{Message, Refused, Ended, ReadFault}
 use Rattle.http_front.specs.Head.{framing, is_last}
@@ -15,11 +16,11 @@ ReadsHead-append {bytes} {rest} {h} x more =
     record { reads = ReadsRequest-append bytes h rest more x.reads; short = x.short; few = x.few }
 
 -- what follows a head stays the same
-pub Frames-append : (f : Result ℕ ℕ) (n : ℕ) (h : RequestHead) (after : List ℕ) (item : Item) (rest more : List ℕ)
+pub Frames-append : (f : Result ℕ Refusal) (n : ℕ) (h : RequestHead) (after : List ℕ) (item : Item) (rest more : List ℕ)
     → Frames f n h after item rest → Frames f n h (after ++ more) item (rest ++ more)
 Frames-append (Ok len) n h after item rest more x =
     (x.0, x.1, ap (λ (l : List ℕ). l ++ more) x.2 ∙ append_assoc x.0 rest more, x.3)
-Frames-append (Err code) n h after item rest more x = (x.0, ap (λ (l : List ℕ). l ++ more) x.1)
+Frames-append (Err refusal) n h after item rest more x = (x.0, ap (λ (l : List ℕ). l ++ more) x.1)
 
 -- and so does a whole message
 pub Whole-append : {n : ℕ} {bytes rest : List ℕ} {item : Item} → Whole n bytes item rest → (more : List ℕ)
@@ -155,11 +156,11 @@ right_false false c e = e
 differ : true ≡ false → ⊥
 differ e = cc
 
-last_framed : (f : Result ℕ ℕ) (n : ℕ) (h : RequestHead) (after : List ℕ) (item : Item) (rest : List ℕ) → Frames f n h after item rest
+last_framed : (f : Result ℕ Refusal) (n : ℕ) (h : RequestHead) (after : List ℕ) (item : Item) (rest : List ℕ) → Frames f n h after item rest
     → item.last ≡ false → (n == 999) ≡ false
 last_framed (Ok len) n h after item rest x goes_on =
     right_false (is_last h) (n == 999) (sym (ap (λ (i : Item). i.last) x.3) ∙ goes_on)
-last_framed (Err code) n h after item rest x goes_on =
+last_framed (Err refusal) n h after item rest x goes_on =
     let closed : item.last ≡ true = ap (λ (i : Item). i.last) x.0 in absurd cc
 
 -- a message after which the connection goes on is not the thousandth

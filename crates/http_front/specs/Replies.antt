@@ -1,18 +1,13 @@
 -- The bytes of a reply (RFC 9112): a status line, the type and the length of the body, whether the connection ends, and the body.
-use Rattle.std.specs.Prelude.{ℕ, ◌==◌, ◌||◌, Bool, List, [], ◌++◌, length, codes, decimal, if◌then◌else◌, unwrap_or, string_bytes}
+use Rattle.std.specs.Prelude.{ℕ, Bool, List, [], ◌++◌, length, codes, decimal, if◌then◌else◌, option_and_then, unwrap_or, string_bytes}
 use Rattle.http.specs.StatusCode.{reason_phrase}
-use Rattle.arr_core.specs.Refusals.{refusal_name}
+use Rattle.arr_core.specs.Refusals.{numbered, refusal_name, status_of as refusal_status}
 use Rattle.http_front.specs.declared.reply.Reply.{Reply}
 use Rattle.http_front.specs.declared.reply.Reply.TheVariants.{Text, Csv, Refused}
 
--- the status of a refusal
+-- the status of a refusal by its number: 400 where no refusal with a status has it
 abbrev pub status_of : ℕ → ℕ
-status_of code =
-    if code == 3 || code == 20 || code == 70 then 404
-    else (if code == 21 || code == 28 || code == 71 then 409
-    else (if code == 2 then 413
-    else (if code == 91 || code == 93 then 500
-    else (if code == 4 then 501 else (if code == 27 || code == 72 || code == 90 || code == 92 then 503 else 400)))))
+status_of code = unwrap_or (option_and_then refusal_status (numbered code)) 400
 
 -- the phrase of a status
 unfoldable pub phrase_of : ℕ → List ℕ

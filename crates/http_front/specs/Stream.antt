@@ -1,6 +1,9 @@
 -- The messages of a stream, one after another, until one ends the connection or the stream stops.
 use Rattle.std.specs.Prelude.{◌≡◌, ◌≢◌, ℕ, ◌+◌, ◌≤◌, ◌||◌, ◌==◌, ◌⊎◌, Bool, true, false, List, [], ◌∷◌, ◌++◌, length, Option, Result, Ok, Err, IsOk, MatchBool, ⊤}
 use Rattle.std.specs.Io.KnownBytes.{IsAtEnd}
+use Rattle.arr_core.specs.declared.refusal.Refusal.{Refusal}
+use Rattle.arr_core.specs.declared.refusal.Refusal.TheVariants.{BadHead, NoMemory}
+use Rattle.arr_core.specs.Refusals.{number_of}
 use Rattle.httparse.specs.Grammar.{RequestHead, print_request, ReadsRequest}
 use Rattle.stream_face.specs.Faults.{fault_told}
 use Rattle.stream_face.specs.Views.{SourceView}
@@ -26,7 +29,7 @@ IsBareAt bytes false = (h : RequestHead) (rest : List ℕ) → ReadsHead bytes h
 -- What a message asks, or the refusal that it gets; whether the connection ends with its reply; and whether that reply
 -- has no body.
 pub record Item : Type 0 where
-  pub asked : Result (List ℕ) ℕ
+  pub asked : Result (List ℕ) Refusal
   pub last : Bool
   pub bare : Bool
 
@@ -35,17 +38,17 @@ abbrev pub item_of : ℕ → RequestHead → List ℕ → Item
 item_of n h body = record { asked = asked_by h body; last = is_last h || (n == 999); bare = is_bare h }
 
 -- a refusal that ends the connection
-abbrev pub refusal_item : ℕ → Bool → Item
-refusal_item code bare = record { asked = Err code; last = true; bare = bare }
+abbrev pub refusal_item : Refusal → Bool → Item
+refusal_item refusal bare = record { asked = Err refusal; last = true; bare = bare }
 
--- what is no message is refused as 1
+-- what is no message has a bad head
 abbrev pub bad_head : Bool → Item
-bad_head bare = refusal_item 1 bare
+bad_head bare = refusal_item BadHead bare
 
 -- what follows a head: a body of its length, or anything where that is refused
-abbrev pub Frames : Result ℕ ℕ → ℕ → RequestHead → List ℕ → Item → List ℕ → Type 0
+abbrev pub Frames : Result ℕ Refusal → ℕ → RequestHead → List ℕ → Item → List ℕ → Type 0
 Frames (Ok len) n h after item rest = (body : List ℕ) × (length body ≡ len) × (after ≡ body ++ rest) × (item ≡ item_of n h body)
-Frames (Err code) n h after item rest = (item ≡ refusal_item code (is_bare h)) × (after ≡ rest)
+Frames (Err refusal) n h after item rest = (item ≡ refusal_item refusal (is_bare h)) × (after ≡ rest)
 
 -- the whole message with this number at the front
 pub record Whole (n : ℕ) (bytes : List ℕ) (item : Item) (rest : List ℕ) : Type 0 where
@@ -92,9 +95,10 @@ Taken n bytes (item ∷ items) rest =
     (after : List ℕ) × Whole n bytes item after × (item.last ≡ false) × Taken (n + 1) after items rest
 
 -- the answer to a whole message: its pairs, for which memory may be wanting, or its refusal
-abbrev pub Shows : Result (List ℕ) ℕ → Next → Type 0
+abbrev pub Shows : Result (List ℕ) Refusal → Next → Type 0
 Shows asked (Message pairs) = asked ≡ Ok pairs.items
-Shows asked (Refused code) = (asked ≡ Err code) ⊎ (IsOk asked × (code ≡ 90))
+Shows asked (Refused code) =
+    (refusal : Refusal) × (code ≡ number_of refusal) × ((asked ≡ Err refusal) ⊎ (IsOk asked × (refusal ≡ NoMemory)))
 Shows asked Ended = ⊥
 Shows asked ReadFault = ⊥
 

@@ -9,8 +9,8 @@ ghost use Rattle.http_front.specs.Connection.{TakesNext};
 use crate::ahead::{Ahead, look_ahead};
 use crate::buffer::Buffer;
 use crate::message::take_message;
-use crate::refusals::BAD_HEAD;
 use crate::reply::{Reply, WriteFault, send};
+use arr_core::Refusal;
 use std::alloc::Global;
 use std::marker::Model;
 use stream_face::{Sink, Source};
@@ -71,9 +71,9 @@ impl Conn {
     /// Takes the next message, reading as much as it needs: at most 16,384 bytes of head and 1,048,576 of body. Once the
     /// connection is over it is `Ended`, and nothing is read.
     ///
-    /// A message is its pairs, still encoded. `Refused` is 1 for what is no head within the limits, a bad length or a body cut short, 2 for a
-    /// body that is too long, 3 for another path than `/ows`, 4 for a message that is not served, and 90 where no memory
-    /// was found for the pairs. `ReadFault` is answered only where a read failed in this call.
+    /// A message is its pairs, still encoded. `Refused` is the number of BadHead for what is no head within the limits, a bad
+    /// length or a body cut short, of BodyTooLong, of NoSuchPath for another path than `/ows`, of NotServed, and of NoMemory
+    /// where none was found for the pairs. `ReadFault` is answered only where a read failed in this call.
     pub fn next<S: Source>(&mut self, alloc: Global, source: &mut S) -> Next
         ensures found { self.old.over ≡ false → TakesNext (S.view source.old) (S.view source.new) self.old self.new result }
         ensures ended { self.old.over ≡ true → (result ≡ Next.Ended) × (source.new ≡ source.old) × (self.new ≡ self.old) }
@@ -98,12 +98,12 @@ impl Conn {
             Ahead::Bad => {
                 self.over = true;
                 self.bare = false;
-                Next::Refused(BAD_HEAD)
+                Next::Refused(Refusal::BadHead.number())
             }
             Ahead::Cut => {
                 self.over = true;
                 self.bare = false;
-                Next::Refused(BAD_HEAD)
+                Next::Refused(Refusal::BadHead.number())
             }
             Ahead::Fault => {
                 self.over = true;

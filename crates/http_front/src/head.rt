@@ -6,7 +6,7 @@ ghost use Rattle.http1.specs.Fields.{known_fields};
 ghost use Rattle.http_front.specs.Bytes.{has_line_end};
 ghost use Rattle.http_front.specs.Head.{FrontOf, query_of, query_at, IsQueryPlaced, IsAsked, asked_parts, IsPlaced, framing_of, is_served};
 
-use crate::refusals::{BAD_HEAD, BODY_TOO_LONG, NO_SUCH_PATH, NOT_SERVED};
+use arr_core::Refusal;
 use http1::fields::{ContentLength, KnownFields, TransferEncoding};
 use httparse::Status;
 use httparse::spans::{EMPTY_HEADER_SPAN, HeaderSpan, Span, parse_request};
@@ -22,7 +22,7 @@ pub const BODY_LIMIT: u64 = 1048576;
 pub enum Asked {
     Query(Span),
     Body,
-    Refuses(u16),
+    Refuses(Refusal),
 }
 
 /// A whole head at the front.
@@ -31,8 +31,8 @@ pub struct WholeHead {
     /// How many bytes it has.
     pub len: usize,
     pub asked: Asked,
-    /// How many bytes the body has, or the number of the refusal.
-    pub framing: Result<u64, u16>,
+    /// How many bytes the body has, or the refusal.
+    pub framing: Result<u64, Refusal>,
     /// The reply ends the connection.
     pub last: bool,
     /// The reply has no body.
@@ -48,7 +48,7 @@ pub enum Front {
 }
 
 /// Where the query part of a target stands. Another target than `/ows` is refused.
-fn query_at(bytes: &[u8], target: Span) -> Result<Span, u16>
+fn query_at(bytes: &[u8], target: Span) -> Result<Span, Refusal>
     requires ordered { target.start ≤ target.end }
     requires in_range { target.end ≤ length bytes.now }
     ensures asked { query_at bytes.now result ≡ query_of (span_bytes bytes.now target) }
@@ -66,7 +66,7 @@ fn query_at(bytes: &[u8], target: Span) -> Result<Span, u16>
             end: target.end,
         })
     } else {
-        Err(NO_SUCH_PATH)
+        Err(Refusal::NoSuchPath)
     }
 }
 
@@ -80,20 +80,20 @@ fn asked_of(bytes: &[u8], method: &[u8], target: Span) -> Asked
     if method == b"GET".as_slice() {
         return match query_at(bytes, target) {
             Ok(span) => Asked::Query(span),
-            Err(code) => Asked::Refuses(code),
+            Err(refusal) => Asked::Refuses(refusal),
         };
     }
     if method == b"POST".as_slice() {
         return match query_at(bytes, target) {
             Ok(_) => Asked::Body,
-            Err(code) => Asked::Refuses(code),
+            Err(refusal) => Asked::Refuses(refusal),
         };
     }
-    Asked::Refuses(NOT_SERVED)
+    Asked::Refuses(Refusal::NotServed)
 }
 
-/// How many bytes the body has, or the number of the refusal.
-fn framing_of(coding: TransferEncoding, length: ContentLength) -> Result<u64, u16>
+/// How many bytes the body has, or the refusal.
+fn framing_of(coding: TransferEncoding, length: ContentLength) -> Result<u64, Refusal>
     ensures { result ≡ framing_of coding length }
 {
     match coding {
@@ -103,15 +103,15 @@ fn framing_of(coding: TransferEncoding, length: ContentLength) -> Result<u64, u1
                 if len <= BODY_LIMIT {
                     Ok(len)
                 } else {
-                    Err(BODY_TOO_LONG)
+                    Err(Refusal::BodyTooLong)
                 }
             }
-            ContentLength::Invalid => Err(BAD_HEAD),
+            ContentLength::Invalid => Err(Refusal::BadHead),
         },
-        TransferEncoding::Chunked => Err(NOT_SERVED),
-        TransferEncoding::Other => Err(NOT_SERVED),
-        TransferEncoding::Blank => Err(NOT_SERVED),
-        TransferEncoding::Invalid => Err(NOT_SERVED),
+        TransferEncoding::Chunked => Err(Refusal::NotServed),
+        TransferEncoding::Other => Err(Refusal::NotServed),
+        TransferEncoding::Blank => Err(Refusal::NotServed),
+        TransferEncoding::Invalid => Err(Refusal::NotServed),
     }
 }
 

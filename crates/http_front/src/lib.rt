@@ -9,7 +9,6 @@ mod head;
 mod letter;
 mod message;
 mod pieces;
-pub mod refusals;
 mod reply;
 
 pub use conn::{Conn, Next};

@@ -1,5 +1,6 @@
 //! The message whose head stands at the front of a stream.
 ghost use Rattle.std.specs.Prelude.{◌≡◌, ◌≢◌, ℕ, List, true, false, ◌||◌, Result, Ok};
+ghost use Rattle.arr_core.specs.declared.refusal.Refusal.{Refusal};
 ghost use Rattle.http_front.specs.Head.{IsHeadAt, IsPlaced, asked_at};
 ghost use Rattle.http_front.specs.Stream.{Shows, TellsNext};
 ghost use Rattle.http_front.specs.Connection.{Takes};
@@ -8,7 +9,7 @@ use crate::body::{Body, take_body};
 use crate::buffer::Buffer;
 use crate::conn::Next;
 use crate::head::{Asked, WholeHead};
-use crate::refusals::{BAD_HEAD, NO_MEMORY};
+use arr_core::Refusal;
 use std::alloc::Global;
 use stream_face::Source;
 
@@ -38,10 +39,10 @@ pub fn take_message<S: Source>(
     let prepared = prepare(alloc, buffer.held(), head.asked);
     let len = match head.framing {
         Ok(len) => len as usize,
-        Err(code) => {
+        Err(refusal) => {
             buffer.discard(head.len);
             return Taken {
-                next: Next::Refused(code),
+                next: Next::Refused(refusal.number()),
                 over: true,
             };
         }
@@ -51,7 +52,7 @@ pub fn take_message<S: Source>(
     let over = either(head.last, number == LAST_MESSAGE);
     match take_body(buffer, alloc, source, len, keep) {
         Body::Short => Taken {
-            next: Next::Refused(BAD_HEAD),
+            next: Next::Refused(Refusal::BadHead.number()),
             over: true,
         },
         Body::Cut => Taken {
@@ -77,10 +78,10 @@ fn prepare(alloc: Global, held: &[u8], asked: Asked) -> Next
     match asked {
         Asked::Query(span) => match span.of(held).to_vec(alloc) {
             Ok(pairs) => Next::Message(pairs),
-            Err(_) => Next::Refused(NO_MEMORY),
+            Err(_) => Next::Refused(Refusal::NoMemory.number()),
         },
-        Asked::Body => Next::Refused(NO_MEMORY),
-        Asked::Refuses(code) => Next::Refused(code),
+        Asked::Body => Next::Refused(Refusal::NoMemory.number()),
+        Asked::Refuses(refusal) => Next::Refused(refusal.number()),
     }
 }
 
@@ -97,7 +98,7 @@ fn is_body(asked: Asked) -> bool
 
 /// The body where it was asked for, else the other.
 fn chosen(keep: bool, body: Vec<u8>, other: Next) -> Next
-    ensures { (asked : Result (List ℕ) ℕ) → (keep ≡ true → asked ≡ Ok body.items) → Shows asked other → Shows asked result }
+    ensures { (a : Result (List ℕ) Refusal) → (keep ≡ true → a ≡ Ok body.items) → Shows a other → Shows a result }
 {
     if keep { Next::Message(body) } else { other }
 }

@@ -1,5 +1,7 @@
 -- The request that the pairs of a message spell, and the first refusal of those that spell none.
 use Rattle.std.specs.Prelude.{ℕ, List, [], ◌∷◌, Result, Ok, Err, if◌then◌else◌, bytes_eq, codes, string_bytes}
+use Rattle.arr_core.specs.declared.refusal.Refusal.{Refusal}
+use Rattle.arr_core.specs.declared.refusal.Refusal.TheVariants as refusal
 use Rattle.arr_core.specs.declared.field.Field.{Field}
 use Rattle.kvp_front.specs.Values.{pairs_of, values_of, and_then, read_under}
 use Rattle.kvp_front.specs.Spelling.{name_in, interval_in, field_in, list_in, query_in}
@@ -54,14 +56,14 @@ asks (Asked.CancelJob job) = cancel_job job
 asks (Asked.ExpandTemplate template) = expand_template (template_view template)
 asks (Asked.ProcessTemplate template) = process_template (template_view template)
 
--- the number of a refusal
-abbrev pub number_of : RequestError → ℕ
-number_of NoRequest = 10
-number_of UnknownRequest = 11
-number_of MissingKey = 12
-number_of RepeatedKey = 13
-number_of BadValue = 14
-number_of NoMemory = 90
+-- how it is told that pairs spell no request
+abbrev pub refusal_of : RequestError → Refusal
+refusal_of NoRequest = refusal.NoRequest
+refusal_of UnknownRequest = refusal.UnknownRequest
+refusal_of MissingKey = refusal.MissingKey
+refusal_of RepeatedKey = refusal.RepeatedKey
+refusal_of BadValue = refusal.BadValue
+refusal_of NoMemory = refusal.NoMemory
 
 -- each request reads its keys in this order, and the first refusal stands
 abbrev pub insertion_of : List (List ℕ × List ℕ) → Result Asks RequestError

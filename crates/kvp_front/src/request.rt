@@ -1,9 +1,9 @@
 //! What a message asks of the store.
 ghost use Rattle.std.specs.Prelude.{◌≡◌};
-ghost use Rattle.kvp_front.specs.Requests.{number_of};
+ghost use Rattle.kvp_front.specs.Requests.{refusal_of};
 
 use crate::content::Content;
-use arr_core::{Field, Name};
+use arr_core::{Field, Name, Refusal};
 use std::alloc::{AllocError, AllocFailed, Global};
 use thiserror::Error;
 
@@ -124,17 +124,17 @@ impl<T: Drop> From<AllocFailed<T>> for RequestError {
 }
 
 impl RequestError {
-    /// The number of the refusal.
-    pub fn number(&self) -> u16
-        ensures { result ≡ number_of self.now }
+    /// The refusal that is told of it.
+    pub fn refusal(&self) -> Refusal
+        ensures { result ≡ refusal_of self.now }
     {
         match self {
-            RequestError::NoRequest => 10,
-            RequestError::UnknownRequest => 11,
-            RequestError::MissingKey => 12,
-            RequestError::RepeatedKey => 13,
-            RequestError::BadValue => 14,
-            RequestError::NoMemory => 90,
+            RequestError::NoRequest => Refusal::NoRequest,
+            RequestError::UnknownRequest => Refusal::UnknownRequest,
+            RequestError::MissingKey => Refusal::MissingKey,
+            RequestError::RepeatedKey => Refusal::RepeatedKey,
+            RequestError::BadValue => Refusal::BadValue,
+            RequestError::NoMemory => Refusal::NoMemory,
         }
     }
 }

@@ -8,50 +8,12 @@ use Rattle.std.specs.Char.{is_ascii_digit}
 use Rattle.std.specs.List.{list_all}
 use Rattle.std.specs.Str.{str_eq_ignore_ascii_case}
 use Rattle.arr_core.specs.Names as names
-use Rattle.arr_core.specs.Names.{keywords, is_keyword, goes_on_name, is_spelled}
-use Rattle.wcps_text.specs.declared.token.Keyword.{Keyword}
-use Rattle.wcps_text.specs.declared.token.Keyword.TheVariants as words
+use Rattle.arr_core.specs.Keywords.{is_keyword}
+use Rattle.arr_core.specs.Names.{goes_on_name, is_spelled}
+use Rattle.arr_core.proofs.Keywords.{unwritten}
 use Rattle.wcps_text.specs.Token.{name, dollar}
-use Rattle.wcps_text.specs.Lexing.{continues_name, Every, keyword_text, IsWritten, IsWord, is_word, Reads, plain, marked}
+use Rattle.wcps_text.specs.Lexing.{continues_name, Every, IsWord, is_word, Reads, plain, marked}
 use Rattle.wcps_text.proofs.Fronts.{true_false}
-use Rattle.wcps_text.proofs.Words.{place, place_bound}
-
-keyword_at : (k : Keyword) → get_or keywords (place k) [] ≡ keyword_text k
-keyword_at words.For = refl
-keyword_at words.In = refl
-keyword_at words.Where = refl
-keyword_at words.Return = refl
-keyword_at words.Encode = refl
-keyword_at words.Csv = refl
-keyword_at words.Coverage = refl
-keyword_at words.Over = refl
-keyword_at words.Values = refl
-keyword_at words.Value = refl
-keyword_at words.List = refl
-keyword_at words.Condense = refl
-keyword_at words.Using = refl
-keyword_at words.And = refl
-keyword_at words.Or = refl
-keyword_at words.Xor = refl
-keyword_at words.Not = refl
-keyword_at words.Abs = refl
-keyword_at words.Bit = refl
-keyword_at words.True = refl
-keyword_at words.False = refl
-keyword_at words.Count = refl
-keyword_at words.Some = refl
-keyword_at words.All = refl
-keyword_at words.Add = refl
-keyword_at words.Avg = refl
-keyword_at words.Min = refl
-keyword_at words.Max = refl
-keyword_at words.ImageCrsDomain = refl
-
-written_keyword : (k : Keyword) (x : List ℕ) → IsWritten k x → is_keyword x ≡ true
-unfolding is_keyword
-written_keyword k x e =
-    list_any_at (str_eq_ignore_ascii_case x) keywords (place k) [] (place_bound k)
-    (subst (λ (w : List ℕ). str_eq_ignore_ascii_case x w ≡ true) (sym (keyword_at k)) ((bytes_eq-Decides _ _).1 e))
 
 goes_on : (b : ℕ) → goes_on_name b ≡ true → continues_name b ≡ true
 goes_on b h = grind (arith, nat_tests)
@@ -87,14 +49,14 @@ name_parts x h =
 at_most : (n : ℕ) → nat_le n 64 ≡ true → n ≤ 64
 at_most n h = grind (arith, nat_tests)
 
-not_true : (b : Bool) → not b ≡ true → b ≡ true → ⊥
-not_true true h e = true_false h refl
-not_true false h e = true_false e refl
+denied : (b : Bool) → not b ≡ true → b ≡ false
+denied true h = absurd (true_false h refl)
+denied false h = refl
 
 pub name_reads : (x : List ℕ) → names.IsName x → Reads x (Ok (name x))
 name_reads x h =
     let n = name_parts x h in
-    plain (spelled_name x n.spelled) (at_most (length x) n.short) (λ k written. not_true (is_keyword x) n.free (written_keyword k x written))
+    plain (spelled_name x n.spelled) (at_most (length x) n.short) (unwritten x (denied (is_keyword x) n.free))
 
 -- the names of variables in templates
 short_a : names.IsName (codes "a")

@@ -6,7 +6,7 @@ use Rattle.arr_core.specs.declared.domain.Axis.{Axis}
 use Rattle.arr_core.specs.Names.{IsName}
 use Rattle.wcps_text.specs.declared.token.Symbol.{Symbol}
 use Rattle.wcps_text.specs.declared.token.Symbol.TheVariants as signs
-use Rattle.wcps_text.specs.declared.token.Keyword.TheVariants as words
+use Rattle.arr_core.specs.declared.keyword.Keyword.TheVariants as words
 use Rattle.wcps_text.specs.Token.{Tok, number, name, dollar, word, sign}
 use Rattle.wcps_text.specs.Lexing.{Reads}
 use Rattle.map_templates.specs.declared.params.Layer.{Layer}

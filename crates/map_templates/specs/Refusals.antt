@@ -1,15 +1,17 @@
 -- The refusals of templates.
-use Rattle.std.specs.Prelude.{◌≡◌, ℕ, Result, Ok, Err}
+use Rattle.std.specs.Prelude.{◌≡◌, Result, Ok, Err}
+use Rattle.arr_core.specs.declared.refusal.Refusal.{Refusal}
+use Rattle.arr_core.specs.declared.refusal.Refusal.TheVariants as refusals
 use Rattle.map_templates.specs.declared.refusal.ExpandRefusal.{ExpandRefusal}
 use Rattle.map_templates.specs.declared.refusal.ExpandRefusal.TheVariants.{NoSuchTemplate, NoSuchCoverage, BadParameter}
 use Rattle.map_templates.specs.declared.refusal.ExpandError.{ExpandError}
 use Rattle.map_templates.specs.declared.refusal.ExpandError.TheVariants.{Refused, NoMemory}
 
--- the number of each
-abbrev pub number_of : ExpandRefusal → ℕ
-number_of NoSuchTemplate = 80
-number_of NoSuchCoverage = 20
-number_of BadParameter = 81
+-- the refusal that a reply gives
+abbrev pub refusal_of : ExpandRefusal → Refusal
+refusal_of NoSuchTemplate = refusals.NoSuchTemplate
+refusal_of NoSuchCoverage = refusals.NoSuchCoverage
+refusal_of BadParameter = refusals.BadParameter
 
 -- what a check gives: the thing, or the first refusal
 abbrev pub Answer : Type 0 → Type 0

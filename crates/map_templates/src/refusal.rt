@@ -1,5 +1,6 @@
 //! Why a template is not expanded.
 
+use arr_core::Refusal;
 use std::alloc::AllocError;
 use thiserror::Error;
 
@@ -16,16 +17,16 @@ pub enum ExpandRefusal {
 
 impl ExpandRefusal {
     ghost use Rattle.std.specs.Prelude.{◌≡◌};
-    ghost use Rattle.map_templates.specs.Refusals.{number_of};
+    ghost use Rattle.map_templates.specs.Refusals.{refusal_of};
 
-    /// The refusal's number in replies.
-    pub fn number(self) -> u16
-        ensures { result ≡ number_of self }
+    /// The refusal that a reply gives for it.
+    pub fn refusal(self) -> Refusal
+        ensures { result ≡ refusal_of self }
     {
         match self {
-            ExpandRefusal::NoSuchTemplate => 80,
-            ExpandRefusal::NoSuchCoverage => 20,
-            ExpandRefusal::BadParameter => 81,
+            ExpandRefusal::NoSuchTemplate => Refusal::NoSuchTemplate,
+            ExpandRefusal::NoSuchCoverage => Refusal::NoSuchCoverage,
+            ExpandRefusal::BadParameter => Refusal::BadParameter,
         }
     }
 }

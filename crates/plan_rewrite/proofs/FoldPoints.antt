@@ -12,10 +12,10 @@ use Rattle.plan_ir.specs.Placed.{spans}
 use Rattle.plan_ir.specs.Plans.{PassTree, BindTree, FieldBody, StepsTree, Choice, PlanTree}
 use Rattle.plan_ir.specs.Units.{item_units, steps_units, units}
 use Rattle.plan_ir.proofs.Parts.{slice_get-map}
-use Rattle.plan_rewrite.specs.Settling.{variable, levels, stand_in, bind_or_go, settled}
-use Rattle.plan_rewrite.specs.Settled.{Ground, way, after_bind, ground, kept, kept_binds, settled_pass, settled_field, settled_steps, settled_plan}
+use Rattle.plan_rewrite.specs.Inlining.{variable, levels, stand_in, bind_or_go, inlining}
+use Rattle.plan_rewrite.specs.InlinedPlans.{Variables, stand_in_for, after_bind, variables_after, unless_inlined, kept_binds, inlined_pass, inlined_field, inlined_steps, inlined_plan}
 use Rattle.plan_ir.specs.Variables.{is_from, without}
-use Rattle.plan_rewrite.specs.Hoisting.{hoisted, pass_without}
+use Rattle.plan_rewrite.specs.Hoisting.{hoisting, pass_without}
 use Rattle.plan_rewrite.specs.HoistedPlans.{Places, with_pass, with_passes, hoisted_condition, hoisted_fields, hoisted_item, hoisted_steps, hoisted_plan}
 use Rattle.plan_rewrite.proofs.HoistedReduced.{fold_or_register}
 use Rattle.plan_rewrite.specs.FoldPoints.{body_folds, passes_folds, condition_folds, binds_folds, fields_folds, steps_folds, fold_points}
@@ -29,81 +29,81 @@ go-folds : (o : Option Index) (env : List Index) (scope : List Interval) (lo hi 
 go-folds (Some i) env scope lo hi p go n m h k = let a = k (env ++ i ∷ []) scope in omega (arith, a)
 go-folds None env scope lo hi p go n m h k = let a = k (env ++ Var (length scope) ∷ []) (scope ++ record { lo = lo; hi = hi } ∷ []) in omega (arith, h, a)
 
--- a bind that gives way takes no fold along
-settled-folds : (t : Tree) (env : List Index) (scope : List Interval) → body_folds (settled env scope t) ≤ body_folds t
-settled-folds (lit z) env scope = omega arith
-settled-folds (var k) env scope = let a = variable-folds (get_or env k (Const (pos 0))) in omega (arith, a)
-settled-folds (reg k) env scope = omega arith
-settled-folds (op1 op e) env scope = settled-folds e env scope
-settled-folds (op2 op l r) env scope =
-    let a = settled-folds l env scope in
-    let b = settled-folds r env scope in
+-- a bind that is inlined takes no fold along
+inlined-folds : (t : Tree) (env : List Index) (scope : List Interval) → body_folds (inlining env scope t) ≤ body_folds t
+inlined-folds (lit z) env scope = omega arith
+inlined-folds (var k) env scope = let a = variable-folds (get_or env k (Const (pos 0))) in omega (arith, a)
+inlined-folds (reg k) env scope = omega arith
+inlined-folds (op1 op e) env scope = inlined-folds e env scope
+inlined-folds (op2 op l r) env scope =
+    let a = inlined-folds l env scope in
+    let b = inlined-folds r env scope in
     omega (arith, a, b)
-settled-folds (read c f is) env scope = omega arith
-settled-folds (table box items is) env scope = omega arith
-settled-folds (bind i lo hi e) env scope =
-    go-folds (stand_in scope lo hi (settled env scope i)) env scope lo hi (settled env scope i) (λ env' scope'. settled env' scope' e) (body_folds i) (body_folds e) (settled-folds i env scope) (λ env' scope'. settled-folds e env' scope')
-settled-folds (fold op box c e) env scope =
+inlined-folds (read c f is) env scope = omega arith
+inlined-folds (table box items is) env scope = omega arith
+inlined-folds (bind i lo hi e) env scope =
+    go-folds (stand_in scope lo hi (inlining env scope i)) env scope lo hi (inlining env scope i) (λ env' scope'. inlining env' scope' e) (body_folds i) (body_folds e) (inlined-folds i env scope) (λ env' scope'. inlined-folds e env' scope')
+inlined-folds (fold op box c e) env scope =
     let env' = env ++ levels (length scope) (spans box) in
     let scope' = scope ++ spans box in
-    let a = settled-folds c env' scope' in
-    let b = settled-folds e env' scope' in
+    let a = inlined-folds c env' scope' in
+    let b = inlined-folds e env' scope' in
     omega (arith, a, b)
 
-settled-passes : (ps : List PassTree) → passes_folds (map settled_pass ps) ≤ passes_folds ps
-settled-passes [] = omega arith
-settled-passes (p ∷ ps) =
-    let a = settled-folds p.condition (levels 0 (spans p.domain)) (spans p.domain) in
-    let b = settled-folds p.body (levels 0 (spans p.domain)) (spans p.domain) in
-    let c = settled-passes ps in
+inlined-passes : (ps : List PassTree) → passes_folds (map inlined_pass ps) ≤ passes_folds ps
+inlined-passes [] = omega arith
+inlined-passes (p ∷ ps) =
+    let a = inlined-folds p.condition (levels 0 (spans p.domain)) (spans p.domain) in
+    let b = inlined-folds p.body (levels 0 (spans p.domain)) (spans p.domain) in
+    let c = inlined-passes ps in
     omega (arith, a, b, c)
 
-settled-condition : (o : Option Tree) → condition_folds (option_map (settled [] []) o) ≤ condition_folds o
-settled-condition None = omega arith
-settled-condition (Some c) = settled-folds c [] []
+inlined-condition : (o : Option Tree) → condition_folds (option_map (inlining [] []) o) ≤ condition_folds o
+inlined-condition None = omega arith
+inlined-condition (Some c) = inlined-folds c [] []
 
-settled-fields : (fields : List FieldBody) (g : Ground) → fields_folds (map (settled_field g) fields) ≤ fields_folds fields
-settled-fields [] g = omega arith
-settled-fields (f ∷ fields) g =
-    let a = settled-folds f.body g.env g.scope in
-    let b = settled-fields fields g in
+inlined-fields : (fields : List FieldBody) (g : Variables) → fields_folds (map (inlined_field g) fields) ≤ fields_folds fields
+inlined-fields [] g = omega arith
+inlined-fields (f ∷ fields) g =
+    let a = inlined-folds f.body g.env g.scope in
+    let b = inlined-fields fields g in
     omega (arith, a, b)
 
 kept-folds : (o : Option Index) (b : BindTree) (env : List Index) (scope : List Interval) (p : Tree) (go : List Index → List Interval → List BindTree) (n m : ℕ) → body_folds p ≤ n → ((env' : List Index) (scope' : List Interval) → binds_folds (go env' scope') ≤ m)
-    → binds_folds (kept o p b (after_bind env scope b o go)) ≤ n + m
+    → binds_folds (unless_inlined o p b (after_bind env scope b o go)) ≤ n + m
 kept-folds (Some i) b env scope p go n m h k = let a = k (env ++ i ∷ []) scope in omega (arith, a)
 kept-folds None b env scope p go n m h k = let a = k (env ++ Var (length scope) ∷ []) (scope ++ record { lo = b.lo; hi = b.hi } ∷ []) in omega (arith, h, a)
 
-settled-binds : (binds : List BindTree) (env : List Index) (scope : List Interval) → binds_folds (kept_binds env scope binds) ≤ binds_folds binds
-settled-binds [] env scope = omega arith
-settled-binds (b ∷ binds) env scope =
-    kept-folds (way env scope b) b env scope (settled env scope b.position) (λ env' scope'. kept_binds env' scope' binds) (body_folds b.position) (binds_folds binds) (settled-folds b.position env scope) (λ env' scope'. settled-binds binds env' scope')
+inlined-binds : (binds : List BindTree) (env : List Index) (scope : List Interval) → binds_folds (kept_binds env scope binds) ≤ binds_folds binds
+inlined-binds [] env scope = omega arith
+inlined-binds (b ∷ binds) env scope =
+    kept-folds (stand_in_for env scope b) b env scope (inlining env scope b.position) (λ env' scope'. kept_binds env' scope' binds) (body_folds b.position) (binds_folds binds) (inlined-folds b.position env scope) (λ env' scope'. inlined-binds binds env' scope')
 
 abbrev pass_count : PassTree → ℕ
 pass_count p = count p.domain
 
-settled-counts : (ps : List PassTree) → sum_by pass_count (map settled_pass ps) ≡ sum_by pass_count ps
-settled-counts [] = refl
-settled-counts (p ∷ ps) = sum_by-cons pass_count (settled_pass p) (map settled_pass ps) ∙ ap (λ n. count p.domain + n) (settled-counts ps) ∙ sym (sum_by-cons pass_count p ps)
+inlined-counts : (ps : List PassTree) → sum_by pass_count (map inlined_pass ps) ≡ sum_by pass_count ps
+inlined-counts [] = refl
+inlined-counts (p ∷ ps) = sum_by-cons pass_count (inlined_pass p) (map inlined_pass ps) ∙ ap (λ n. count p.domain + n) (inlined-counts ps) ∙ sym (sum_by-cons pass_count p ps)
 
-settled-item-units : (box : List Axis) (g : Ground) (fields : List FieldBody) → item_units box (map (settled_field g) fields) ≡ item_units box fields
-settled-item-units box g [] = refl
-settled-item-units box g (f ∷ fields) = refl
+inlined-item-units : (box : List Axis) (g : Variables) (fields : List FieldBody) → item_units box (map (inlined_field g) fields) ≡ item_units box fields
+inlined-item-units box g [] = refl
+inlined-item-units box g (f ∷ fields) = refl
 
 -- units, and the points of folds
 abbrev pub both_of : Option StepsTree → ℕ
 both_of o = steps_units o + steps_folds o
 
-settled-few : (t : StepsTree) → both_of (Some (settled_steps t)) ≤ both_of (Some t)
-settled-few t =
+inlined-few : (t : StepsTree) → both_of (Some (inlined_steps t)) ≤ both_of (Some t)
+inlined-few t =
     let box = spans t.item.domain in
-    let g = ground (levels 0 box) box t.item.binds in
-    let a = settled-passes t.passes in
-    let b = settled-condition t.condition in
-    let c = settled-binds t.item.binds (levels 0 box) box in
-    let d = settled-fields t.item.fields g in
-    let e = settled-counts t.passes in
-    let f = settled-item-units t.item.domain g t.item.fields in
+    let g = variables_after (levels 0 box) box t.item.binds in
+    let a = inlined-passes t.passes in
+    let b = inlined-condition t.condition in
+    let c = inlined-binds t.item.binds (levels 0 box) box in
+    let d = inlined-fields t.item.fields g in
+    let e = inlined-counts t.passes in
+    let f = inlined-item-units t.item.domain g t.item.fields in
     omega (arith, a, b, c, d, e, f)
 
 without-folds : (t : Tree) (n : ℕ) → body_folds (without n t) ≡ body_folds t
@@ -140,25 +140,25 @@ pass-whole true n passes f =
     omega (arith, a, c, e)
 
 -- a fold takes its points along
-hoisted-whole : (t : Tree) (regs : List ℕ) (n : ℕ) (passes : List PassTree) → whole (hoisted regs n passes t).passes + body_folds (hoisted regs n passes t).body ≡ whole passes + body_folds t
+hoisted-whole : (t : Tree) (regs : List ℕ) (n : ℕ) (passes : List PassTree) → whole (hoisting regs n passes t).passes + body_folds (hoisting regs n passes t).body ≡ whole passes + body_folds t
 hoisted-whole (lit z) regs n passes = refl
 hoisted-whole (var k) regs n passes = refl
 hoisted-whole (reg k) regs n passes = refl
 hoisted-whole (op1 op e) regs n passes = hoisted-whole e regs n passes
 hoisted-whole (op2 op l r) regs n passes =
     let a = hoisted-whole l regs n passes in
-    let b = hoisted-whole r regs n (hoisted regs n passes l).passes in
+    let b = hoisted-whole r regs n (hoisting regs n passes l).passes in
     omega (arith, a, b)
 hoisted-whole (read c f is) regs n passes = refl
 hoisted-whole (table box items is) regs n passes = refl
 hoisted-whole (bind i lo hi e) regs n passes =
     let a = hoisted-whole i regs n passes in
-    let b = hoisted-whole e regs (n + 1) (hoisted regs n passes i).passes in
+    let b = hoisted-whole e regs (n + 1) (hoisting regs n passes i).passes in
     omega (arith, a, b)
 hoisted-whole (fold op box c e) regs n passes =
     let m = n + length box in
-    let hc = hoisted regs m passes c in
-    let he = hoisted regs m hc.passes e in
+    let hc = hoisting regs m passes c in
+    let he = hoisting regs m hc.passes e in
     let a = hoisted-whole c regs m passes in
     let b = hoisted-whole e regs m hc.passes in
     let d = pass-whole (is_from n hc.body && is_from n he.body) n he.passes (record { op = op; domain = box; condition = hc.body; body = he.body }) in
@@ -168,8 +168,8 @@ hoisted-passes : (ps : List PassTree) (w : Places) → whole (with_passes w ps).
 hoisted-passes [] w = omega arith
 hoisted-passes (p ∷ ps) w =
     let n = length p.domain in
-    let hc = hoisted w.regs n w.passes p.condition in
-    let he = hoisted w.regs n hc.passes p.body in
+    let hc = hoisting w.regs n w.passes p.condition in
+    let he = hoisting w.regs n hc.passes p.body in
     let a = hoisted-whole p.condition w.regs n w.passes in
     let b = hoisted-whole p.body w.regs n hc.passes in
     let c = whole-last he.passes (record { op = p.op; domain = p.domain; condition = hc.body; body = he.body }) in
@@ -180,7 +180,7 @@ hoisted-fields : (fields : List FieldBody) (regs : List ℕ) (n : ℕ) (passes :
 hoisted-fields [] regs n passes = refl
 hoisted-fields (f ∷ fields) regs n passes =
     let a = hoisted-whole f.body regs n passes in
-    let b = hoisted-fields fields regs n (hoisted regs n passes f.body).passes in
+    let b = hoisted-fields fields regs n (hoisting regs n passes f.body).passes in
     omega (arith, a, b)
 
 hoisted-items : (binds : List BindTree) (fields : List FieldBody) (regs : List ℕ) (n : ℕ) (passes : List PassTree)
@@ -188,7 +188,7 @@ hoisted-items : (binds : List BindTree) (fields : List FieldBody) (regs : List �
 hoisted-items [] fields regs n passes = let a = hoisted-fields fields regs n passes in omega (arith, a)
 hoisted-items (b ∷ binds) fields regs n passes =
     let a = hoisted-whole b.position regs n passes in
-    let c = hoisted-items binds fields regs (n + 1) (hoisted regs n passes b.position).passes in
+    let c = hoisted-items binds fields regs (n + 1) (hoisting regs n passes b.position).passes in
     omega (arith, a, c)
 
 hoisted-conditions : (o : Option Tree) (w : Places) → whole (hoisted_condition w o).passes + condition_folds (hoisted_condition w o).condition ≡ whole w.passes + condition_folds o
@@ -201,7 +201,7 @@ fields-item-units (f ∷ fields) box regs n passes = refl
 
 hoisted-item-units : (binds : List BindTree) (fields : List FieldBody) (box : List Axis) (regs : List ℕ) (n : ℕ) (passes : List PassTree) → item_units box (hoisted_item regs n passes binds fields).fields ≡ item_units box fields
 hoisted-item-units [] fields box regs n passes = fields-item-units fields box regs n passes
-hoisted-item-units (b ∷ binds) fields box regs n passes = hoisted-item-units binds fields box regs (n + 1) (hoisted regs n passes b.position).passes
+hoisted-item-units (b ∷ binds) fields box regs n passes = hoisted-item-units binds fields box regs (n + 1) (hoisting regs n passes b.position).passes
 
 hoisted-few : (t : StepsTree) → both_of (Some (hoisted_steps t)) ≤ both_of (Some t)
 hoisted-few t =
@@ -240,8 +240,8 @@ choices-few f h steps (c ∷ all) =
     omega (arith, a, b, u, v, w, x)
 
 -- units and the points of folds together do not grow
-pub rewritten-few : (p : PlanTree) → units (hoisted_plan (settled_plan p)) + fold_points (hoisted_plan (settled_plan p)) ≤ units p + fold_points p
+pub rewritten-few : (p : PlanTree) → units (hoisted_plan (inlined_plan p)) + fold_points (hoisted_plan (inlined_plan p)) ≤ units p + fold_points p
 rewritten-few p =
-    let a = choices-few settled_steps settled-few p.steps p.combinations in
-    let b = choices-few hoisted_steps hoisted-few (map settled_steps p.steps) p.combinations in
+    let a = choices-few inlined_steps inlined-few p.steps p.combinations in
+    let b = choices-few hoisted_steps hoisted-few (map inlined_steps p.steps) p.combinations in
     omega (arith, a, b)

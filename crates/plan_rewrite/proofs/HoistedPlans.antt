@@ -14,7 +14,7 @@ use Rattle.plan_ir.specs.Planned.{cells_of, choice_planned, planned}
 use Rattle.plan_ir.specs.Placed.{AreSteps, IsChoice, IsPlan}
 use Rattle.plan_ir.proofs.Parts.{slice_get-map}
 use Rattle.plan_ir.specs.Variables.{index_from, is_from, index_without, without}
-use Rattle.plan_rewrite.specs.Hoisting.{Hoisted, hoisted}
+use Rattle.plan_rewrite.specs.Hoisting.{Hoist, hoisting}
 use Rattle.plan_rewrite.specs.HoistedPlans.{Places, with_pass, with_passes, hoisted_condition, hoisted_fields, hoisted_item, hoisted_steps, hoisted_plan}
 use Rattle.plan_ir.proofs.FirstVariables.{both-true}
 use Rattle.plan_rewrite.proofs.HoistedSteps.{steps-hoist}
@@ -103,7 +103,7 @@ passes-last : (ps : List PassTree) (p : PassTree) → PassesAreOpen ps → HasOp
 passes-last [] p h c b = (c, b, tt)
 passes-last (q ∷ ps) p h c b = (h.0, h.1, passes-last ps p h.2 c b)
 
-abbrev Open : ℕ → Hoisted → Type 0
+abbrev Open : ℕ → Hoist → Type 0
 Open n h = PassesAreOpen h.passes × HasOpenFolds n h.body
 
 pass-open : (b : Bool) (n : ℕ) (passes : List PassTree) (f : PassTree) → (is_from n f.condition && is_from n f.body) ≡ b → PassesAreOpen passes → HasOpenFolds (n + length f.domain) f.condition → HasOpenFolds (n + length f.domain) f.body
@@ -121,25 +121,25 @@ pass-open true n passes f is h c b =
       tt,
     )
 
-hoisted-open : (t : Tree) (regs : List ℕ) (n : ℕ) (passes : List PassTree) → PassesAreOpen passes → Open n (hoisted regs n passes t)
+hoisted-open : (t : Tree) (regs : List ℕ) (n : ℕ) (passes : List PassTree) → PassesAreOpen passes → Open n (hoisting regs n passes t)
 hoisted-open (lit z) regs n passes h = (h, tt)
 hoisted-open (var k) regs n passes h = (h, tt)
 hoisted-open (reg k) regs n passes h = (h, tt)
 hoisted-open (op1 op e) regs n passes h = hoisted-open e regs n passes h
 hoisted-open (op2 op l r) regs n passes h =
     let a = hoisted-open l regs n passes h in
-    let b = hoisted-open r regs n (hoisted regs n passes l).passes a.0 in
+    let b = hoisted-open r regs n (hoisting regs n passes l).passes a.0 in
     (b.0, (a.1, b.1))
 hoisted-open (read c f is) regs n passes h = (h, tt)
 hoisted-open (table box items is) regs n passes h = (h, tt)
 hoisted-open (bind i lo hi e) regs n passes h =
     let a = hoisted-open i regs n passes h in
-    let b = hoisted-open e regs (n + 1) (hoisted regs n passes i).passes a.0 in
+    let b = hoisted-open e regs (n + 1) (hoisting regs n passes i).passes a.0 in
     (b.0, (a.1, b.1))
 hoisted-open (fold op box c e) regs n passes h =
     let m = n + length box in
-    let hc = hoisted regs m passes c in
-    let he = hoisted regs m hc.passes e in
+    let hc = hoisting regs m passes c in
+    let he = hoisting regs m hc.passes e in
     let a = hoisted-open c regs m passes h in
     let b = hoisted-open e regs m hc.passes a.0 in
     pass-open (is_from n hc.body && is_from n he.body) n he.passes (record { op = op; domain = box; condition = hc.body; body = he.body }) refl b.0 a.1 b.1
@@ -149,14 +149,14 @@ passes-open [] w h = h
 passes-open (p ∷ ps) w h =
     let n = length p.domain in
     let a = hoisted-open p.condition w.regs n w.passes h in
-    let b = hoisted-open p.body w.regs n (hoisted w.regs n w.passes p.condition).passes a.0 in
+    let b = hoisted-open p.body w.regs n (hoisting w.regs n w.passes p.condition).passes a.0 in
     passes-open ps (with_pass w p) (passes-last _ _ b.0 a.1 b.1)
 
 fields-open : (fields : List FieldBody) (regs : List ℕ) (n : ℕ) (passes : List PassTree) → PassesAreOpen passes → PassesAreOpen (hoisted_fields regs n passes fields).passes × FieldsAreOpen n (hoisted_fields regs n passes fields).fields
 fields-open [] regs n passes h = (h, tt)
 fields-open (f ∷ fields) regs n passes h =
     let a = hoisted-open f.body regs n passes h in
-    let b = fields-open fields regs n (hoisted regs n passes f.body).passes a.0 in
+    let b = fields-open fields regs n (hoisting regs n passes f.body).passes a.0 in
     (b.0, (a.1, b.1))
 
 item-open : (binds : List BindTree) (fields : List FieldBody) (regs : List ℕ) (n : ℕ) (passes : List PassTree) → PassesAreOpen passes
@@ -164,7 +164,7 @@ item-open : (binds : List BindTree) (fields : List FieldBody) (regs : List ℕ) 
 item-open [] fields regs n passes h = fields-open fields regs n passes h
 item-open (b ∷ binds) fields regs n passes h =
     let a = hoisted-open b.position regs n passes h in
-    let r = item-open binds fields regs (n + 1) (hoisted regs n passes b.position).passes a.0 in
+    let r = item-open binds fields regs (n + 1) (hoisting regs n passes b.position).passes a.0 in
     (r.0, (a.1, r.1))
 
 condition-open : (c : Option Tree) (w : Places) → PassesAreOpen w.passes → PassesAreOpen (hoisted_condition w c).passes × ConditionIsOpen (hoisted_condition w c).condition

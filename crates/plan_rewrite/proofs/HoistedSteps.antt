@@ -18,10 +18,10 @@ use Rattle.plan_ir.specs.Run.{run}
 use Rattle.plan_ir.specs.Plans.{PassTree, BindTree, FieldBody, StepsTree}
 use Rattle.plan_ir.specs.Planned.{pass_outcome, registers_after, registers, coordinate, bound, field_cell, cells_at, item_cells, item_planned, chosen, steps_planned}
 use Rattle.plan_ir.specs.Placed.{span, spans, IsPlaced, PassesArePlaced, ConditionIsPlaced, FieldsArePlaced, ItemIsPlaced, AreSteps}
-use Rattle.plan_rewrite.specs.Hoisting.{hoisted}
+use Rattle.plan_rewrite.specs.Hoisting.{hoisting}
 use Rattle.plan_rewrite.specs.HoistedPlans.{Places, with_pass, with_passes, HoistedCondition, hoisted_condition, HoistedFields, hoisted_fields, HoistedItem, hoisted_item, hoisted_steps}
 use Rattle.plan_rewrite.proofs.Scopes.{Lie, lie-length, points-lie, flat-same}
-use Rattle.plan_rewrite.proofs.SettledPlans.{map-same}
+use Rattle.plan_rewrite.proofs.InlinedPlans.{map-same}
 use Rattle.plan_rewrite.proofs.Hoists.{Kept, kept-more, later, last-register, registers-count, passes-last, run-later, placed-later, Hoists, hoists, two}
 
 -- the fields behind all passes
@@ -35,7 +35,7 @@ pub record FieldsHoist (s : ℕ → ℕ → List ℤ → ℤ) (cs : ℕ → Opti
 pub fields-hoist : (fields : List FieldBody) (s : ℕ → ℕ → List ℤ → ℤ) (cs : ℕ → Option Signature) (regs : List ℕ) (old : List Outcome) (passes : List PassTree) (scope : List Interval) → Kept s regs old passes → PassesArePlaced cs 0 passes → FieldsArePlaced cs (length old) scope fields → FieldsHoist s cs old passes scope fields (hoisted_fields regs (length scope) passes fields)
 fields-hoist [] s cs regs old passes scope k h p = record { more = []; extends = sym (append-nil passes); passes_placed = h; placed = tt; means = λ vars e. refl }
 fields-hoist (f ∷ fields) s cs regs old passes scope k h p =
-    let hf = hoisted regs (length scope) passes f.body in
+    let hf = hoisting regs (length scope) passes f.body in
     let a = hoists f.body s cs regs old passes scope k h p.0 in
     let kf = subst (Kept s regs old) (sym a.extends) (kept-more s regs old passes a.more k) in
     let b = fields-hoist fields s cs regs old hf.passes scope kf a.passes_placed p.1 in
@@ -73,7 +73,7 @@ item-hoists [] fields s cs regs old passes scope k h p =
     record { more = a.more; extends = a.extends; passes_placed = a.passes_placed; placed = a.placed; means = λ vars e. ap joined (a.means vars e) }
 item-hoists (b ∷ binds) fields s cs regs old passes scope k h p =
     let one : List Interval = record { lo = b.lo; hi = b.hi } ∷ [] in
-    let hb = hoisted regs (length scope) passes b.position in
+    let hb = hoisting regs (length scope) passes b.position in
     let a = hoists b.position s cs regs old passes scope k h p.0 in
     let kb = subst (Kept s regs old) (sym a.extends) (kept-more s regs old passes a.more k) in
     let long : length (scope ++ one) ≡ length scope + 1 = length-append scope one in
@@ -138,12 +138,12 @@ pass-hoists p s cs w old u c b =
     let box = p.domain in
     let n = length box in
     let long = length-map box span in
-    let hc = hoisted w.regs n w.passes p.condition in
-    let he = hoisted w.regs n hc.passes p.body in
+    let hc = hoisting w.regs n w.passes p.condition in
+    let he = hoisting w.regs n hc.passes p.body in
     let k = kept-of s w.passes w.regs old u.holds in
-    let x = subst (λ m. Hoists s cs old w.passes (spans box) p.condition (hoisted w.regs m w.passes p.condition)) long (hoists p.condition s cs w.regs old w.passes (spans box) k u.placed c) in
+    let x = subst (λ m. Hoists s cs old w.passes (spans box) p.condition (hoisting w.regs m w.passes p.condition)) long (hoists p.condition s cs w.regs old w.passes (spans box) k u.placed c) in
     let kc = subst (Kept s w.regs old) (sym x.extends) (kept-more s w.regs old w.passes x.more k) in
-    let y = subst (λ m. Hoists s cs old hc.passes (spans box) p.body (hoisted w.regs m hc.passes p.body)) long (hoists p.body s cs w.regs old hc.passes (spans box) kc x.passes_placed b) in
+    let y = subst (λ m. Hoists s cs old hc.passes (spans box) p.body (hoisting w.regs m hc.passes p.body)) long (hoists p.body s cs w.regs old hc.passes (spans box) kc x.passes_placed b) in
     let z = two s cs old w.passes (spans box) (spans box) p.condition p.body hc he x y in
     let q : PassTree = record { op = p.op; domain = box; condition = hc.body; body = he.body } in
     let same : pass_outcome s (registers s he.passes) q ≡ pass_outcome s old p = ap (condensed p.op) (flat-same (Lie (spans box)) _ _ (points box) (λ v lv.
@@ -173,7 +173,7 @@ record ConditionHoists (s : ℕ → ℕ → List ℤ → ℤ) (cs : ℕ → Opti
 condition-hoists : (c : Option Tree) (s : ℕ → ℕ → List ℤ → ℤ) (cs : ℕ → Option Signature) (w : Places) (old : List Outcome) → Hung s cs w old → ConditionIsPlaced cs (length old) [] c → ConditionHoists s cs old w.passes c (hoisted_condition w c)
 condition-hoists None s cs w old u p = record { more = []; extends = sym (append-nil w.passes); passes_placed = u.placed; placed = λ rest. tt; means = λ rest. refl }
 condition-hoists (Some c) s cs w old u p =
-    let h = hoisted w.regs 0 w.passes c in
+    let h = hoisting w.regs 0 w.passes c in
     let a = hoists c s cs w.regs old w.passes [] (kept-of s w.passes w.regs old u.holds) u.placed p in
     record {
       more = a.more;
@@ -185,11 +185,11 @@ condition-hoists (Some c) s cs w old u p =
 
 fields-count : (fields : List FieldBody) (regs : List ℕ) (n : ℕ) (passes : List PassTree) → length (hoisted_fields regs n passes fields).fields ≡ length fields
 fields-count [] regs n passes = refl
-fields-count (f ∷ fields) regs n passes = ap suc (fields-count fields regs n (hoisted regs n passes f.body).passes)
+fields-count (f ∷ fields) regs n passes = ap suc (fields-count fields regs n (hoisting regs n passes f.body).passes)
 
 item-count : (binds : List BindTree) (fields : List FieldBody) (regs : List ℕ) (n : ℕ) (passes : List PassTree) → length (hoisted_item regs n passes binds fields).fields ≡ length fields
 item-count [] fields regs n passes = fields-count fields regs n passes
-item-count (b ∷ binds) fields regs n passes = item-count binds fields regs (n + 1) (hoisted regs n passes b.position).passes
+item-count (b ∷ binds) fields regs n passes = item-count binds fields regs (n + 1) (hoisting regs n passes b.position).passes
 
 abbrev out_of : Result Bool PointFault → Result Item PointFault → Result (List Item) PointFault
 out_of c i = then_of c (λ b. cond b (then_of i (λ x. Ok (x ∷ []))) (Ok []))

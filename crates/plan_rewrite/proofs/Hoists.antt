@@ -18,9 +18,9 @@ use Rattle.std.proofs.lemmas.List.{length-map}
 use Rattle.plan_ir.specs.Placed.{span, spans, IsPlaced, PassesArePlaced}
 use Rattle.plan_ir.proofs.Registers.{registers_more}
 use Rattle.plan_ir.specs.Variables.{is_from, without}
-use Rattle.plan_rewrite.specs.Hoisting.{Hoisted, hoisted}
+use Rattle.plan_rewrite.specs.Hoisting.{Hoist, hoisting}
 use Rattle.plan_rewrite.proofs.Scopes.{Lie, lie-length, points-lie, flat-same}
-use Rattle.plan_rewrite.proofs.Settles.{position-same}
+use Rattle.plan_rewrite.proofs.Inlines.{position-same}
 use Rattle.plan_ir.proofs.FirstVariables.{both-true, without-means}
 use Rattle.plan_rewrite.proofs.Lifts.{without-placed, more-means, more-placed}
 
@@ -78,7 +78,7 @@ run-later s cs passes more scope t vars p =
 pub placed-later : (cs : ℕ → Option Signature) (passes more : List PassTree) (scope : List Interval) (t : Tree) → IsPlaced cs (length passes) scope t → IsPlaced cs (length (passes ++ more)) scope t
 placed-later cs passes more scope t p = more-placed t cs (length passes) (length (passes ++ more)) scope (omega (arith, length-append passes more)) p
 
-pub record Hoists (s : ℕ → ℕ → List ℤ → ℤ) (cs : ℕ → Option Signature) (old : List Outcome) (passes : List PassTree) (scope : List Interval) (t : Tree) (h : Hoisted) : Type 0 where
+pub record Hoists (s : ℕ → ℕ → List ℤ → ℤ) (cs : ℕ → Option Signature) (old : List Outcome) (passes : List PassTree) (scope : List Interval) (t : Tree) (h : Hoist) : Type 0 where
   pub more : List PassTree
   pub extends : h.passes ≡ passes ++ more
   pub passes_placed : PassesArePlaced cs 0 h.passes
@@ -89,7 +89,7 @@ under : (s : ℕ → ℕ → List ℤ → ℤ) (cs : ℕ → Option Signature) (
 under s cs old passes scope t h p t' m = record { more = []; extends = sym (append-nil passes); passes_placed = h; placed = p; means = λ vars e. m vars }
 
 -- one part after another: what the first one gave stays as it was
-pub record TwoHoist (s : ℕ → ℕ → List ℤ → ℤ) (cs : ℕ → Option Signature) (old : List Outcome) (passes : List PassTree) (inner outer : List Interval) (l r : Tree) (hl hr : Hoisted) : Type 0 where
+pub record TwoHoist (s : ℕ → ℕ → List ℤ → ℤ) (cs : ℕ → Option Signature) (old : List Outcome) (passes : List PassTree) (inner outer : List Interval) (l r : Tree) (hl hr : Hoist) : Type 0 where
   pub more : List PassTree
   pub extends : hr.passes ≡ passes ++ more
   pub passes_placed : PassesArePlaced cs 0 hr.passes
@@ -98,7 +98,7 @@ pub record TwoHoist (s : ℕ → ℕ → List ℤ → ℤ) (cs : ℕ → Option 
   pub left_means : (vars : List ℤ) → length vars ≡ length inner → run s (registers s hr.passes) hl.body vars ≡ run s old l vars
   pub right_means : (vars : List ℤ) → length vars ≡ length outer → run s (registers s hr.passes) hr.body vars ≡ run s old r vars
 
-pub two : (s : ℕ → ℕ → List ℤ → ℤ) (cs : ℕ → Option Signature) (old : List Outcome) (passes : List PassTree) (inner outer : List Interval) (l r : Tree) (hl hr : Hoisted) → Hoists s cs old passes inner l hl → Hoists s cs old hl.passes outer r hr → TwoHoist s cs old passes inner outer l r hl hr
+pub two : (s : ℕ → ℕ → List ℤ → ℤ) (cs : ℕ → Option Signature) (old : List Outcome) (passes : List PassTree) (inner outer : List Interval) (l r : Tree) (hl hr : Hoist) → Hoists s cs old passes inner l hl → Hoists s cs old hl.passes outer r hr → TwoHoist s cs old passes inner outer l r hl hr
 two s cs old passes inner outer l r hl hr a b = record {
   more = a.more ++ b.more;
   extends = b.extends ∙ ap (λ q. q ++ b.more) a.extends ∙ append_assoc passes a.more b.more;
@@ -149,7 +149,7 @@ pass-hoists true s cs old passes0 passes scope f t is more extends h p m =
           ∙ m vars e;
     }
 
-pub hoists : (t : Tree) (s : ℕ → ℕ → List ℤ → ℤ) (cs : ℕ → Option Signature) (regs : List ℕ) (old : List Outcome) (passes : List PassTree) (scope : List Interval) → Kept s regs old passes → PassesArePlaced cs 0 passes → IsPlaced cs (length old) scope t → Hoists s cs old passes scope t (hoisted regs (length scope) passes t)
+pub hoists : (t : Tree) (s : ℕ → ℕ → List ℤ → ℤ) (cs : ℕ → Option Signature) (regs : List ℕ) (old : List Outcome) (passes : List PassTree) (scope : List Interval) → Kept s regs old passes → PassesArePlaced cs 0 passes → IsPlaced cs (length old) scope t → Hoists s cs old passes scope t (hoisting regs (length scope) passes t)
 hoists (lit z) s cs regs old passes scope k h p = under s cs old passes scope (lit z) h tt (lit z) (λ vars. refl)
 hoists (var j) s cs regs old passes scope k h p = under s cs old passes scope (var j) h p (var j) (λ vars. refl)
 hoists (reg j) s cs regs old passes scope k h p = under s cs old passes scope (reg (get_or regs j 0)) h (k.below j p) (reg j) (λ vars. k.same j p)
@@ -157,29 +157,29 @@ hoists (op1 op e) s cs regs old passes scope k h p =
     let w = hoists e s cs regs old passes scope k h p in
     record { more = w.more; extends = w.extends; passes_placed = w.passes_placed; placed = w.placed; means = λ vars l. ap (operate1 op) (w.means vars l) }
 hoists (op2 op l r) s cs regs old passes scope k h p =
-    let hl = hoisted regs (length scope) passes l in
+    let hl = hoisting regs (length scope) passes l in
     let a = hoists l s cs regs old passes scope k h p.0 in
     let kl = subst (Kept s regs old) (sym a.extends) (kept-more s regs old passes a.more k) in
     let b = hoists r s cs regs old hl.passes scope kl a.passes_placed p.1 in
-    let w = two s cs old passes scope scope l r hl (hoisted regs (length scope) hl.passes r) a b in
+    let w = two s cs old passes scope scope l r hl (hoisting regs (length scope) hl.passes r) a b in
     record {
       more = w.more;
       extends = w.extends;
       passes_placed = w.passes_placed;
       placed = (w.left_placed, w.right_placed);
-      means = λ vars e. ap (λ o. operate2 op o (run s (registers s (hoisted regs (length scope) hl.passes r).passes) (hoisted regs (length scope) hl.passes r).body vars)) (w.left_means vars e)
+      means = λ vars e. ap (λ o. operate2 op o (run s (registers s (hoisting regs (length scope) hl.passes r).passes) (hoisting regs (length scope) hl.passes r).body vars)) (w.left_means vars e)
           ∙ ap (operate2 op (run s old l vars)) (w.right_means vars e);
     }
 hoists (read c f is) s cs regs old passes scope k h p = under s cs old passes scope (read c f is) h p (read c f is) (λ vars. refl)
 hoists (table box items is) s cs regs old passes scope k h p = under s cs old passes scope (table box items is) h p (table box items is) (λ vars. refl)
 hoists (bind i lo hi e) s cs regs old passes scope k h p =
     let one : List Interval = record { lo = lo; hi = hi } ∷ [] in
-    let hi' = hoisted regs (length scope) passes i in
+    let hi' = hoisting regs (length scope) passes i in
     let a = hoists i s cs regs old passes scope k h p.0 in
     let ki = subst (Kept s regs old) (sym a.extends) (kept-more s regs old passes a.more k) in
     let long : length (scope ++ one) ≡ length scope + 1 = length-append scope one in
-    let he = hoisted regs (length scope + 1) hi'.passes e in
-    let b = subst (λ n. Hoists s cs old hi'.passes (scope ++ one) e (hoisted regs n hi'.passes e)) long (hoists e s cs regs old hi'.passes (scope ++ one) ki a.passes_placed p.1) in
+    let he = hoisting regs (length scope + 1) hi'.passes e in
+    let b = subst (λ n. Hoists s cs old hi'.passes (scope ++ one) e (hoisting regs n hi'.passes e)) long (hoists e s cs regs old hi'.passes (scope ++ one) ki a.passes_placed p.1) in
     let w = two s cs old passes scope (scope ++ one) i e hi' he a b in
     record {
       more = w.more;
@@ -192,11 +192,11 @@ hoists (bind i lo hi e) s cs regs old passes scope k h p =
 hoists (fold op box c e) s cs regs old passes scope k h p =
     let n = length scope + length box in
     let long : length (scope ++ spans box) ≡ n = length-append scope (spans box) ∙ ap (λ m. length scope + m) (length-map box span) in
-    let hc = hoisted regs n passes c in
-    let a = subst (λ m. Hoists s cs old passes (scope ++ spans box) c (hoisted regs m passes c)) long (hoists c s cs regs old passes (scope ++ spans box) k h p.0) in
+    let hc = hoisting regs n passes c in
+    let a = subst (λ m. Hoists s cs old passes (scope ++ spans box) c (hoisting regs m passes c)) long (hoists c s cs regs old passes (scope ++ spans box) k h p.0) in
     let kc = subst (Kept s regs old) (sym a.extends) (kept-more s regs old passes a.more k) in
-    let he = hoisted regs n hc.passes e in
-    let b = subst (λ m. Hoists s cs old hc.passes (scope ++ spans box) e (hoisted regs m hc.passes e)) long (hoists e s cs regs old hc.passes (scope ++ spans box) kc a.passes_placed p.1) in
+    let he = hoisting regs n hc.passes e in
+    let b = subst (λ m. Hoists s cs old hc.passes (scope ++ spans box) e (hoisting regs m hc.passes e)) long (hoists e s cs regs old hc.passes (scope ++ spans box) kc a.passes_placed p.1) in
     let w = two s cs old passes (scope ++ spans box) (scope ++ spans box) c e hc he a b in
     let f : PassTree = record { op = op; domain = box; condition = hc.body; body = he.body } in
     pass-hoists (is_from (length scope) hc.body && is_from (length scope) he.body) s cs old passes he.passes scope f (fold op box c e) refl w.more w.extends w.passes_placed (w.left_placed, w.right_placed)

@@ -1,7 +1,8 @@
 pub mod Scopes
-pub mod Settles
-pub mod SettledPlans
-pub mod SettledPlaced
+pub mod Loops
+pub mod Inlines
+pub mod InlinedPlans
+pub mod InlinedPlaced
 pub mod Lowers
 pub mod LoweredItems
 pub mod LoweredSteps

@@ -18,7 +18,7 @@ use Rattle.plan_ir.proofs.FirstVariables.{both-true, behind-first}
 use Rattle.plan_ir.specs.Placed.{spans, LiesWithin, Indexes, HasCells, IsPlaced}
 use Rattle.plan_ir.specs.Variables.{index_from, is_from, index_without, without}
 use Rattle.plan_rewrite.proofs.Scopes.{Lie, points-lie, flat-same}
-use Rattle.plan_rewrite.proofs.Settles.{position-same}
+use Rattle.plan_rewrite.proofs.Inlines.{position-same}
 
 some-behind : {X : Type 0} (P : X → Type 0) (outer xs : List X) (j k : ℕ) → k ≡ length outer + j → IsSomeAnd (slice_get (outer ++ xs) k) P → IsSomeAnd (slice_get xs j) P
 some-behind P [] xs j k e s = let f : k ≡ j = omega (arith, e) in subst (λ i. IsSomeAnd (slice_get xs i) P) f s

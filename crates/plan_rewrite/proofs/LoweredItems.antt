@@ -22,7 +22,7 @@ use Rattle.plan_ir.specs.Planned.{coordinate, bound, field_cell, cells_at, item_
 use Rattle.plan_rewrite.specs.Lowering.{Setting, outermost, at_scalar, at_slice, lowered}
 use Rattle.plan_rewrite.specs.LoweredItems.{Chain, end, bracketed, sliced, chain_of, chain_tree, chain_binds, chain_fields, lowered_field, item_binds, lowered_item}
 use Rattle.plan_rewrite.proofs.Scopes.{Lie, lie-length, points-lie}
-use Rattle.plan_rewrite.proofs.SettledPlans.{map-same}
+use Rattle.plan_rewrite.proofs.InlinedPlans.{map-same}
 use Rattle.plan_rewrite.proofs.Lowers.{outer-means}
 
 -- the chain of a node has its trees

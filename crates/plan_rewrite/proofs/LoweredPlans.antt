@@ -26,11 +26,11 @@ use Rattle.plan_ir.specs.declared.body.Interval.{Interval}
 use Rattle.plan_ir.specs.Plans.{signature_of}
 use Rattle.plan_ir.specs.Placed.{spans, IsPlaced, ConditionIsPlaced, FieldsArePlaced, AreSteps}
 use Rattle.plan_ir.specs.Planned.{cells_of, steps_planned}
-use Rattle.plan_rewrite.specs.Settling.{variable}
+use Rattle.plan_rewrite.specs.Inlining.{variable}
 use Rattle.plan_rewrite.specs.Lowering.{Setting, outermost, at_scalar, at_iterators, at_slice, at_box, at_points, lowered}
 use Rattle.plan_rewrite.specs.LoweredItems.{lowered_field, boxed_scalar}
 use Rattle.plan_rewrite.specs.LoweredPlans.{lowered_tree}
-use Rattle.plan_rewrite.proofs.Settles.{position-same}
+use Rattle.plan_rewrite.proofs.Inlines.{position-same}
 use Rattle.plan_rewrite.proofs.Lowers.{outer-placed}
 use Rattle.plan_rewrite.proofs.LoweredSteps.{steps-mean, item-placed}
 

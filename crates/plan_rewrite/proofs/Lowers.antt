@@ -18,10 +18,10 @@ use Rattle.plan_ir.specs.declared.body.Index.TheVariants.{Const, Var}
 use Rattle.plan_ir.specs.declared.body.Interval.{Interval}
 use Rattle.plan_ir.specs.Run.{number_at, numbers_at, run}
 use Rattle.plan_ir.specs.Placed.{span, spans, LiesIn, Indexes, HasCells, IsPlaced}
-use Rattle.plan_rewrite.specs.Settling.{levels}
+use Rattle.plan_rewrite.specs.Inlining.{levels}
 use Rattle.plan_rewrite.specs.Lowering.{Setting, outermost, at_scalar, at_iterators, at_slice, at_box, at_points, lowered}
 use Rattle.plan_rewrite.proofs.Scopes.{Lie, lie-length, points-lie, flat-same, at-map, lies-wider, indexes-more, indexes-append, levels-lie, numbers-more, numbers-levels, numbers-with, indexes-under}
-use Rattle.plan_rewrite.proofs.Settles.{position-same, variable-means, variable-placed}
+use Rattle.plan_rewrite.proofs.Inlines.{position-same, variable-means, variable-placed}
 
 map-insert : {X Y : Type 0} (f : X → Y) (xs : List X) (k : ℕ) (x : X) → map f (insert xs k x) ≡ insert (map f xs) k (f x)
 map-insert f xs k x =

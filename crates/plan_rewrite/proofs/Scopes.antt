@@ -12,7 +12,7 @@ use Rattle.plan_ir.specs.declared.body.Index.TheVariants.{Const, Var}
 use Rattle.plan_ir.specs.declared.body.Interval.{Interval}
 use Rattle.plan_ir.specs.Run.{number_at, numbers_at}
 use Rattle.plan_ir.specs.Placed.{spans, LiesWithin, LiesIn, Indexes}
-use Rattle.plan_rewrite.specs.Settling.{levels}
+use Rattle.plan_rewrite.specs.Inlining.{levels}
 
 -- each number lies in its variable's interval, where that has numbers
 abbrev pub Lie : List Interval → List ℤ → Type 0

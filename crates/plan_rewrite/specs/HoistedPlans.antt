@@ -5,7 +5,7 @@ use Rattle.arr_core.specs.declared.domain.Axis.{Axis}
 use Rattle.plan_ir.specs.Bodies.{Tree}
 use Rattle.plan_ir.specs.Plans.{PassTree, BindTree, FieldBody, ItemTree, StepsTree, PlanTree}
 use Rattle.plan_rewrite.specs.Views.{pass_of}
-use Rattle.plan_rewrite.specs.Hoisting.{Hoisted, hoisted}
+use Rattle.plan_rewrite.specs.Hoisting.{Hoist, hoisting}
 
 -- the place of each old pass among all passes so far
 pub record Places : Type 0 where
@@ -13,14 +13,14 @@ pub record Places : Type 0 where
   pub passes : List PassTree
 
 -- a pass whose body has been hoisted goes to the end
-abbrev pub with_body : List ℕ → PassTree → Tree → Hoisted → Places
+abbrev pub with_body : List ℕ → PassTree → Tree → Hoist → Places
 with_body regs p c h = record { regs = regs ++ length h.passes ∷ []; passes = h.passes ++ pass_of p.op p.domain c h.body ∷ [] }
 
-abbrev pub with_condition : List ℕ → PassTree → Hoisted → Places
-with_condition regs p h = with_body regs p h.body (hoisted regs (length p.domain) h.passes p.body)
+abbrev pub with_condition : List ℕ → PassTree → Hoist → Places
+with_condition regs p h = with_body regs p h.body (hoisting regs (length p.domain) h.passes p.body)
 
 abbrev pub with_pass : Places → PassTree → Places
-with_pass w p = with_condition w.regs p (hoisted w.regs (length p.domain) w.passes p.condition)
+with_pass w p = with_condition w.regs p (hoisting w.regs (length p.domain) w.passes p.condition)
 
 abbrev pub with_passes : Places → List PassTree → Places
 with_passes w [] = w
@@ -31,25 +31,25 @@ pub record HoistedCondition : Type 0 where
   pub passes : List PassTree
   pub condition : Option Tree
 
-abbrev pub some_condition : Hoisted → HoistedCondition
+abbrev pub some_condition : Hoist → HoistedCondition
 some_condition h = record { passes = h.passes; condition = Some h.body }
 
 abbrev pub hoisted_condition : Places → Option Tree → HoistedCondition
 hoisted_condition w None = record { passes = w.passes; condition = None }
-hoisted_condition w (Some c) = some_condition (hoisted w.regs 0 w.passes c)
+hoisted_condition w (Some c) = some_condition (hoisting w.regs 0 w.passes c)
 
 -- all passes so far, and fields
 pub record HoistedFields : Type 0 where
   pub passes : List PassTree
   pub fields : List FieldBody
 
-abbrev pub before_fields : FieldBody → Hoisted → HoistedFields → HoistedFields
+abbrev pub before_fields : FieldBody → Hoist → HoistedFields → HoistedFields
 before_fields f h more = record { passes = more.passes; fields = record { boolean = f.boolean; body = h.body } ∷ more.fields }
 
 abbrev pub hoisted_fields : List ℕ → ℕ → List PassTree → List FieldBody → HoistedFields
 hoisted_fields regs n passes [] = record { passes = passes; fields = [] }
 hoisted_fields regs n passes (f ∷ fields) =
-    before_fields f (hoisted regs n passes f.body) (hoisted_fields regs n (hoisted regs n passes f.body).passes fields)
+    before_fields f (hoisting regs n passes f.body) (hoisted_fields regs n (hoisting regs n passes f.body).passes fields)
 
 -- all passes so far, binds and fields
 pub record HoistedItem : Type 0 where
@@ -60,13 +60,13 @@ pub record HoistedItem : Type 0 where
 abbrev pub without_binds : HoistedFields → HoistedItem
 without_binds h = record { passes = h.passes; binds = []; fields = h.fields }
 
-abbrev pub before_item : BindTree → Hoisted → HoistedItem → HoistedItem
+abbrev pub before_item : BindTree → Hoist → HoistedItem → HoistedItem
 before_item b h more = record { passes = more.passes; binds = record { position = h.body; lo = b.lo; hi = b.hi } ∷ more.binds; fields = more.fields }
 
 abbrev pub hoisted_item : List ℕ → ℕ → List PassTree → List BindTree → List FieldBody → HoistedItem
 hoisted_item regs n passes [] fields = without_binds (hoisted_fields regs n passes fields)
 hoisted_item regs n passes (b ∷ binds) fields =
-    before_item b (hoisted regs n passes b.position) (hoisted_item regs (n + 1) (hoisted regs n passes b.position).passes binds fields)
+    before_item b (hoisting regs n passes b.position) (hoisted_item regs (n + 1) (hoisting regs n passes b.position).passes binds fields)
 
 -- an item on that domain
 abbrev pub item_on : List Axis → HoistedItem → ItemTree

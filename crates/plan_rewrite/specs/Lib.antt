@@ -1,6 +1,6 @@
 pub mod Views
-pub mod Settling
-pub mod Settled
+pub mod Inlining
+pub mod InlinedPlans
 pub mod Everywhere
 pub mod Rewritten
 pub mod Lowering

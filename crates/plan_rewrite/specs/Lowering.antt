@@ -11,7 +11,7 @@ use Rattle.plan_ir.specs.declared.body.Interval.{Interval}
 use Rattle.plan_ir.specs.Bodies.{Tree, lit, op1, op2, read, table, bind, fold, always}
 use Rattle.plan_ir.specs.Placed.{spans}
 use Rattle.plan_rewrite.specs.declared.lowering.context.Context.{Context}
-use Rattle.plan_rewrite.specs.Settling.{variable, levels}
+use Rattle.plan_rewrite.specs.Inlining.{variable, levels}
 
 -- where a tree is lowered: the interval of each variable, the index of each iterator, outermost first, and the index of
 -- each coordinate of the point

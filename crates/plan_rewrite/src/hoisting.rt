@@ -4,4 +4,4 @@ mod closed;
 mod folds;
 mod passes;
 
-pub use passes::{hoist, hoist_all};
+pub use passes::{hoist, hoist_plan};

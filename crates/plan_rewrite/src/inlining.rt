@@ -1,6 +1,6 @@
-//! Binds that give way.
+//! Binds that are inlined.
 
 mod body;
 mod steps;
 
-pub use steps::{settle, settle_all};
+pub use steps::{inline, inline_plan};

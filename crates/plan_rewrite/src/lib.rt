@@ -1,4 +1,4 @@
-//! From typed queries to plans, and rewriting of plans: binds that give way, folds that become passes.
+//! From typed queries to plans, and rewriting of plans: binds that are inlined, folds that become passes.
 #![tactic(auto)]
 
 mod hoisting;
@@ -9,6 +9,6 @@ mod rewriting;
 mod variables;
 
 pub use hoisting::hoist;
-pub use inlining::settle;
+pub use inlining::inline;
 pub use lowering::{lower, lower_expression, lower_steps};
 pub use rewriting::rewrite;

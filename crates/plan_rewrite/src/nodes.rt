@@ -65,18 +65,6 @@ pub fn read_at(
     ensures { IfOk result (λ b. tree_in b ≡ read coverage field point.now) }
 {
     let indexes = point.to_vec(alloc)?;
-    read_body(alloc, coverage, field, indexes)
-}
-
-/// The cell of a field at a point.
-pub fn read_body(
-    alloc: Global,
-    coverage: usize,
-    field: usize,
-    indexes: Vec<Index>,
-) -> Result<Box<Body>, AllocError>
-    ensures { IfOk result (λ b. tree_in b ≡ read coverage field indexes.items) }
-{
     boxed(
         alloc,
         Body::Read {
@@ -87,7 +75,7 @@ pub fn read_body(
     )
 }
 
-/// The item of a list at a copy of a point.
+/// The item of a copy of a list at a copy of a point.
 pub fn table_at(
     alloc: Global,
     domain: &Domain,
@@ -97,18 +85,6 @@ pub fn table_at(
     ensures { IfOk result (λ b. tree_in b ≡ table domain.now items.now point.now) }
 {
     let indexes = point.to_vec(alloc)?;
-    table_body(alloc, domain, items, indexes)
-}
-
-/// The item of a list at a point.
-pub fn table_body(
-    alloc: Global,
-    domain: &Domain,
-    items: &[i64],
-    indexes: Vec<Index>,
-) -> Result<Box<Body>, AllocError>
-    ensures { IfOk result (λ b. tree_in b ≡ table domain.now items.now indexes.items) }
-{
     let domain = domain.copy(alloc)?;
     let items = items.to_vec(alloc)?;
     boxed(

@@ -4,7 +4,7 @@ ghost use Rattle.std.specs.Prelude.{◌≡◌, ◌++◌, [], ◌∷◌, pos, IfO
 ghost use Rattle.plan_ir.specs.declared.body.Index.{Index};
 ghost use Rattle.plan_ir.specs.Bodies.{body_view};
 ghost use Rattle.plan_ir.specs.Placed.{spans};
-ghost use Rattle.plan_rewrite.specs.Settling.{variable, levels};
+ghost use Rattle.plan_rewrite.specs.Inlining.{variable, levels};
 
 use arr_core::Axis;
 use plan_ir::{Body, Index, Interval};

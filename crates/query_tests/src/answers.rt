@@ -1,16 +1,13 @@
-//! What an answer says of a result, and the numbers of errors.
+//! What an answer says of a result, and the refusals of errors.
 
+use arr_core::Refusal;
 use csv_out::csv_text;
 use map_templates::ExpandError;
 use plan_ir::{Plan, run};
 use std::alloc::{AllocError, Global};
 use test_rows::Answer;
 use wcps_mean::{CellError, Cells, EvalError, Item, Outcome};
-use wcps_parse::ParseError;
-use wcps_text::LexError;
 use wcps_types::CheckError;
-
-pub const NO_MEMORY: u16 = 90;
 
 /// A text that was made for an answer.
 pub fn say_made(answer: &mut Answer, made: Result<String, AllocError>) {
@@ -24,7 +21,7 @@ pub fn say_made(answer: &mut Answer, made: Result<String, AllocError>) {
 pub fn say_outcome(answer: &mut Answer, outcome: Outcome) {
     match outcome {
         Outcome::Value(number) => answer.integer(number),
-        Outcome::Fault(fault) => answer.refusal(fault.number()),
+        Outcome::Fault(fault) => answer.refusal(fault.refusal().number()),
     }
 }
 
@@ -37,7 +34,7 @@ pub fn say_items(alloc: Global, answer: &mut Answer, items: &[Item]) {
 pub fn say_evaluated(alloc: Global, answer: &mut Answer, items: Result<Vec<Item>, EvalError>) {
     match items {
         Ok(items) => say_items(alloc, answer, &items),
-        Err(error) => answer.refusal(eval_number(error)),
+        Err(error) => answer.refusal(eval_refusal(error).number()),
     }
 }
 
@@ -47,47 +44,31 @@ pub fn say_run<C: Cells>(alloc: Global, answer: &mut Answer, cells: &mut C, plan
     say_evaluated(alloc, answer, items);
 }
 
-pub fn lex_number(error: &LexError) -> u16 {
+pub fn check_refusal(error: &CheckError) -> Refusal {
     match error {
-        LexError::BadToken => 30,
-        LexError::NumberTooLarge => 31,
-        LexError::NoMemory => NO_MEMORY,
+        CheckError::Refused(refusal) => refusal.refusal(),
+        CheckError::NoMemory => Refusal::NoMemory,
     }
 }
 
-pub fn parse_number(error: &ParseError) -> u16 {
+pub fn expand_refusal(error: &ExpandError) -> Refusal {
     match error {
-        ParseError::BadSyntax => 32,
-        ParseError::TooDeep => 33,
-        ParseError::NoMemory => NO_MEMORY,
+        ExpandError::Refused(refusal) => refusal.refusal(),
+        ExpandError::NoMemory => Refusal::NoMemory,
     }
 }
 
-pub fn check_number(error: &CheckError) -> u16 {
+pub fn cell_refusal(error: CellError) -> Refusal {
     match error {
-        CheckError::Refused(refusal) => refusal.number(),
-        CheckError::NoMemory => NO_MEMORY,
+        CellError::NoMemory => Refusal::NoMemory,
+        CellError::DiskFault => Refusal::DiskFault,
+        CellError::Damaged => Refusal::Damaged,
     }
 }
 
-pub fn expand_number(error: &ExpandError) -> u16 {
+fn eval_refusal(error: EvalError) -> Refusal {
     match error {
-        ExpandError::Refused(refusal) => refusal.number(),
-        ExpandError::NoMemory => NO_MEMORY,
-    }
-}
-
-pub fn cell_number(error: CellError) -> u16 {
-    match error {
-        CellError::NoMemory => NO_MEMORY,
-        CellError::DiskFault => 91,
-        CellError::Damaged => 93,
-    }
-}
-
-fn eval_number(error: EvalError) -> u16 {
-    match error {
-        EvalError::Fault(fault) => fault.number(),
-        EvalError::Cells(error) => cell_number(error),
+        EvalError::Fault(fault) => fault.refusal(),
+        EvalError::Cells(error) => cell_refusal(error),
     }
 }

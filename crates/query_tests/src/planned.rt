@@ -27,7 +27,7 @@ impl Coverages {
     pub fn say_planned(&mut self, alloc: Global, answer: &mut Answer, text: &str) -> Result<()> {
         match typed(alloc, &self.signatures, text) {
             Ok(query) => return self.say_ways(alloc, answer, &query),
-            Err(number) => answer.refusal(number),
+            Err(refusal) => answer.refusal(refusal.number()),
         }
         Ok(())
     }

@@ -1,6 +1,6 @@
 //! What queries give, and those of the templates of map algebra.
 
-use crate::answers::{cell_number, expand_number, say_evaluated, say_outcome};
+use crate::answers::{cell_refusal, expand_refusal, say_evaluated, say_outcome};
 use crate::coverages::Coverages;
 use crate::texts::typed;
 use anyhow::{Result, bail};
@@ -78,7 +78,7 @@ impl Coverages {
     pub fn say_query(&mut self, alloc: Global, answer: &mut Answer, text: &str) -> Result<()> {
         match typed(alloc, &self.signatures, text) {
             Ok(query) => return self.evaluate(alloc, answer, &query),
-            Err(number) => answer.refusal(number),
+            Err(refusal) => answer.refusal(refusal.number()),
         }
         Ok(())
     }
@@ -102,7 +102,7 @@ impl Coverages {
         let params = params(alloc, words)?;
         match expand(alloc, template, &params, &self.signatures) {
             Ok(query) => answer.say(query.as_str()),
-            Err(error) => answer.refusal(expand_number(&error)),
+            Err(error) => answer.refusal(expand_refusal(&error).number()),
         }
         Ok(())
     }
@@ -113,7 +113,7 @@ impl Coverages {
         let params = params(alloc, words)?;
         match expand(alloc, template, &params, &self.signatures) {
             Ok(query) => self.say_query(alloc, answer, query.as_str())?,
-            Err(error) => answer.refusal(expand_number(&error)),
+            Err(error) => answer.refusal(expand_refusal(&error).number()),
         }
         Ok(())
     }
@@ -131,7 +131,7 @@ impl Coverages {
         };
         match typed(alloc, &self.signatures, text) {
             Ok(query) => return self.say_value(alloc, answer, &query, &place),
-            Err(number) => answer.refusal(number),
+            Err(refusal) => answer.refusal(refusal.number()),
         }
         Ok(())
     }
@@ -150,7 +150,7 @@ impl Coverages {
         };
         match value_at(alloc, self, &part, &place.point) {
             Ok(outcome) => say_outcome(answer, outcome),
-            Err(error) => answer.refusal(cell_number(error)),
+            Err(error) => answer.refusal(cell_refusal(error).number()),
         }
         Ok(())
     }

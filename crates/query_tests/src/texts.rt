@@ -1,8 +1,8 @@
 //! Texts, their tokens, their trees and their types.
 
-use crate::answers::{NO_MEMORY, check_number, lex_number, parse_number, say_made};
+use crate::answers::{check_refusal, say_made};
 use anyhow::Result;
-use arr_core::Signature;
+use arr_core::{Refusal, Signature};
 use std::alloc::{AllocError, Global};
 use test_rows::{Answer, cut_at};
 use wcps_parse::parse;
@@ -10,18 +10,18 @@ use wcps_print::print;
 use wcps_text::{Query, Token, lex};
 use wcps_types::{TypedQuery, check, work};
 
-/// The query of a text, or the number of its refusal.
-fn read(alloc: Global, text: &str) -> Result<Query, u16> {
+/// The query of a text, or its refusal.
+fn read(alloc: Global, text: &str) -> Result<Query, Refusal> {
     match lex(alloc, text) {
-        Ok(tokens) => parse(alloc, &tokens).map_err(|error| parse_number(&error)),
-        Err(error) => Err(lex_number(&error)),
+        Ok(tokens) => parse(alloc, &tokens).map_err(|error| error.refusal()),
+        Err(error) => Err(error.refusal()),
     }
 }
 
-/// The typed query of a text, or the number of its refusal.
-pub fn typed(alloc: Global, signatures: &[Signature], text: &str) -> Result<TypedQuery, u16> {
+/// The typed query of a text, or its refusal.
+pub fn typed(alloc: Global, signatures: &[Signature], text: &str) -> Result<TypedQuery, Refusal> {
     let query = read(alloc, text)?;
-    check(alloc, signatures, query).map_err(|error| check_number(&error))
+    check(alloc, signatures, query).map_err(|error| check_refusal(&error))
 }
 
 /// The place and the bytes of a token, as `0:a`.
@@ -44,7 +44,7 @@ fn say_each(answer: &mut Answer, tokens: &[Token<'_>]) {
 pub fn say_tokens(alloc: Global, answer: &mut Answer, text: &str) {
     match lex(alloc, text) {
         Ok(tokens) => say_each(answer, &tokens),
-        Err(error) => answer.refusal(lex_number(&error)),
+        Err(error) => answer.refusal(error.refusal().number()),
     }
 }
 
@@ -52,7 +52,7 @@ pub fn say_tokens(alloc: Global, answer: &mut Answer, text: &str) {
 pub fn say_parsed(alloc: Global, answer: &mut Answer, text: &str) {
     match read(alloc, text) {
         Ok(_) => answer.say("ok"),
-        Err(number) => answer.refusal(number),
+        Err(refusal) => answer.refusal(refusal.number()),
     }
 }
 
@@ -66,7 +66,7 @@ fn returning(alloc: Global, expression: &str) -> Result<String, AllocError> {
 fn say_item(alloc: Global, answer: &mut Answer, text: &str) {
     match read(alloc, text) {
         Ok(query) => say_made(answer, format!(in alloc; "{:?}", query.item)),
-        Err(number) => answer.refusal(number),
+        Err(refusal) => answer.refusal(refusal.number()),
     }
 }
 
@@ -80,7 +80,7 @@ pub fn say_tree(alloc: Global, answer: &mut Answer, expression: &str) -> Result<
 fn say_query(alloc: Global, answer: &mut Answer, text: &str) {
     match read(alloc, text) {
         Ok(query) => say_made(answer, format!(in alloc; "{query:?}")),
-        Err(number) => answer.refusal(number),
+        Err(refusal) => answer.refusal(refusal.number()),
     }
 }
 
@@ -108,16 +108,16 @@ pub fn say_alike(alloc: Global, answer: &mut Answer, expressions: &str) -> Resul
 }
 
 /// The text that a query is printed as, or its refusal.
-fn printed(alloc: Global, text: &str) -> Result<String, u16> {
+fn printed(alloc: Global, text: &str) -> Result<String, Refusal> {
     let query = read(alloc, text)?;
-    print(alloc, &query).map_err(|_| NO_MEMORY)
+    print(alloc, &query).map_err(|_| Refusal::NoMemory)
 }
 
 /// Whether the text that a query is printed as is read as the same query.
 pub fn say_printed(alloc: Global, answer: &mut Answer, text: &str) {
     match printed(alloc, text) {
         Ok(printed) => compare(alloc, answer, text, printed.as_str()),
-        Err(number) => answer.refusal(number),
+        Err(refusal) => answer.refusal(refusal.number()),
     }
 }
 
@@ -125,6 +125,6 @@ pub fn say_printed(alloc: Global, answer: &mut Answer, text: &str) {
 pub fn say_work(alloc: Global, answer: &mut Answer, signatures: &[Signature], text: &str) {
     match typed(alloc, signatures, text) {
         Ok(query) => answer.count(work(&query)),
-        Err(number) => answer.refusal(number),
+        Err(refusal) => answer.refusal(refusal.number()),
     }
 }

@@ -1,3 +1,4 @@
+pub mod Spreads
 pub mod Totals
 pub mod Contents
 pub mod Distinct

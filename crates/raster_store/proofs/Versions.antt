@@ -18,7 +18,7 @@ use Rattle.raster_store.specs.declared.snapshot.Snapshot.{Snapshot}
 use Rattle.raster_store.specs.declared.reading.TileAt.{TileAt}
 use Rattle.raster_store.specs.declared.reading.TileKey.{TileKey}
 use Rattle.raster_store.specs.Views.{Index, coverage_in, listed_fields, listed_all}
-use Rattle.raster_store.specs.Fetches.{IsDecoded, ArePickedIn, AreTileCells, HasTile, HasRanks, IsSpelledAt}
+use Rattle.raster_store.specs.Fetches.{IsDecoded, ArePickedIn, AreTileCells, HasTile, HasRanks, IsSpelledAt, HasTileCount}
 use Rattle.raster_store.specs.Decoded.{Known, Kept, nothing, IsKept, NoneAdded, Adds}
 use Rattle.raster_store.specs.Holding.{coverages_of, indexes_of, IsWhole, IsHeld, Version, told_by, tile_in, IsTileIn, IsTileOf, Renews, AreOf, AddsOf, AreVersions, AreDecoded}
 use Rattle.raster_store.specs.Picking.{IsPicked}
@@ -316,6 +316,7 @@ pub record Alone (s : BlocksState) (held : List Held) (at : TileAt) (h : Held) :
   pub is_held : IsHeld s (h ∷ [])
   pub tile : HasTile (tile_in at.field at.tile) (coverages_of s.content (h ∷ []))
   pub ranks : (ranks : List ℕ) → HasRanks at ranks (coverages_of s.content held) → HasRanks (tile_in at.field at.tile) ranks (coverages_of s.content (h ∷ []))
+  pub count : (values : List ℤ) → HasTileCount at (coverages_of s.content held) values → HasTileCount (tile_in at.field at.tile) (coverages_of s.content (h ∷ [])) values
   pub there : (cells : List ℤ) → IsTileOf s h at.field at.tile cells → IsDecoded s (coverages_of s.content held) (indexes_of held) at cells
   pub picked : (ranks : List ℕ) (cells : List ℤ) → ArePickedIn s (coverages_of s.content (h ∷ [])) (indexes_of (h ∷ [])) (tile_in at.field at.tile) ranks cells → ArePickedIn s (coverages_of s.content held) (indexes_of held) at ranks cells
   pub spelled : IsSpelledAt at s.content (coverages_of s.content held) (indexes_of held) → IsSpelledAt (tile_in at.field at.tile) s.content (coverages_of s.content (h ∷ [])) (indexes_of (h ∷ []))
@@ -340,6 +341,7 @@ alone s held at h is has was =
       is_held = one_held s held at.coverage h is within was;
       tile = rw found at has;
       ranks = λ ranks within. rw found at within;
+      count = λ values size. rw found at size;
       picked = λ ranks cells t. record { counted = t.counted; values = λ sure. rw found (t.values sure); spelled = λ sure. rw (found, p.indexes) (t.spelled sure) };
       there = λ cells t. record { counted = rw found t.counted; values = λ sure. rw found (t.values sure); spelled = λ sure. rw (found, p.indexes) (t.spelled sure) };
       spelled = λ spelled. rw (found, p.indexes) at spelled;

@@ -1,7 +1,8 @@
 -- A store that is held, and what changes of its coverages and blocks do to it and to the tiles that are kept decoded.
-use Rattle.std.proofs.Common.{◌≡◌, ℕ, Bool, true, ◌&&◌, List, [], Contains, refl, sym, ap, ◌∙◌, subst, inl, inr, Vec, nat_eq, Result, Ok, Err, OnOk, OnErr, suc, ◌<◌, ◌∷◌, length, get_or, take, drop, map, IsTrue, arith, All, ◌≢◌, None, Option, set}
+use Rattle.std.proofs.Common.{◌≡◌, ℕ, Bool, true, ◌&&◌, List, [], Contains, refl, sym, ap, ◌∙◌, subst, inl, inr, nat_eq, Result, Ok, Err, OnOk, OnErr, suc, ◌<◌, ◌∷◌, length, get_or, take, drop, map, IsTrue, arith, All, ◌≢◌, None, Option, set}
 use Rattle.std.specs.Prelude.{ℤ, Some, IsTrue, replicate}
-use Rattle.std.specs.declared.alloc.Global.{Global}
+use Rattle.arr_core.specs.declared.runs.RunList.{RunList}
+use Rattle.arr_core.specs.Runs.{cells_of}
 use Rattle.std.specs.Map.{lookup}
 use Rattle.std.specs.List.{remove}
 use Rattle.std.proofs.lemmas.Bool.{eqb-true, and_parts, cases_eq}
@@ -40,33 +41,33 @@ same_tile a b e =
     same_place a.version b.version a.field b.field a.tile b.tile (eqb-true a.version b.version p.0) (eqb-true a.field b.field q.0) (eqb-true a.tile b.tile q.1)
 
 -- a tile that is looked up is kept
-pub looked_up : (at : TileKey) (es : List (TileKey × Vec ℤ Global)) (tile : Vec ℤ Global) → lookup (is_at at) es ≡ Some tile → Contains es (at, tile)
+pub looked_up : (at : TileKey) (es : List (TileKey × RunList)) (tile : RunList) → lookup (is_at at) es ≡ Some tile → Contains es (at, tile)
 looked_up at es tile h =
     let on = Contains-lookup (is_at at) es tile h in
     subst (λ (k : TileKey). Contains es (k, tile)) (sym (same_tile at on.0 on.2)) on.1
 
 -- with a tile at the front the same are kept
-pub promoted_kept : (at : TileKey) (es : List (TileKey × Vec ℤ Global)) (tested : List (Option TileKey)) → NoneAdded (record { tiles = es; tested = tested }) (record { tiles = promoted (is_at at) es; tested = tested })
+pub promoted_kept : (at : TileKey) (es : List (TileKey × RunList)) (tested : List (Option TileKey)) → NoneAdded (record { tiles = es; tested = tested }) (record { tiles = promoted (is_at at) es; tested = tested })
 promoted_kept at es tested j None kept = kept
 promoted_kept at es tested j (Some cells) kept = (kept.0, Contains-promoted (is_at at) es (j, kept.0) kept.1, kept.2)
 
-put_added : (old : LruCache TileKey (Vec ℤ Global)) (tested : List (Option TileKey)) (at : TileKey) (tile : Vec ℤ Global) (cells : List ℤ) → tile.items ≡ cells → Adds at (Some cells) (record { tiles = old.entries; tested = tested }) (record { tiles = put_entries is_at old at tile; tested = tested })
+put_added : (old : LruCache TileKey RunList) (tested : List (Option TileKey)) (at : TileKey) (tile : RunList) (cells : List ℤ) → cells_of tile ≡ cells → Adds at (Some cells) (record { tiles = old.entries; tested = tested }) (record { tiles = put_entries is_at old at tile; tested = tested })
 put_added old tested at tile cells is j None kept = inl kept
 put_added old tested at tile cells is j (Some others) kept = elim (Contains-put_entries is_at old at tile (j, kept.0) kept.1) [
   | inl was ↦ inl (kept.0, was, kept.2)
   | inr put ↦
       let key : j ≡ at = elim put.1 [ inl same ↦ same | inr was ↦ sym (same_tile at j was.2) ] in
-      inr (key, ap Some (sym kept.2 ∙ ap (λ (v : Vec ℤ Global). v.items) put.0 ∙ is))
+      inr (key, ap Some (sym kept.2 ∙ ap cells_of put.0 ∙ is))
 ]
 
 -- a tile that was put, or for which there was no memory
-pub put_kept : {T E : Type 0} (result : Result T E) (old new : LruCache TileKey (Vec ℤ Global)) (tested : List (Option TileKey)) (at : TileKey) (tile : Vec ℤ Global) (cells : List ℤ)
-    → OnOk result (new ≡ lru_cache (put_entries is_at old at tile) old.cap) → OnErr result (new ≡ old) → tile.items ≡ cells → Adds at (Some cells) (record { tiles = old.entries; tested = tested }) (record { tiles = new.entries; tested = tested })
+pub put_kept : {T E : Type 0} (result : Result T E) (old new : LruCache TileKey RunList) (tested : List (Option TileKey)) (at : TileKey) (tile : RunList) (cells : List ℤ)
+    → OnOk result (new ≡ lru_cache (put_entries is_at old at tile) old.cap) → OnErr result (new ≡ old) → cells_of tile ≡ cells → Adds at (Some cells) (record { tiles = old.entries; tested = tested }) (record { tiles = new.entries; tested = tested })
 put_kept (Ok put) old new tested at tile cells done refused is = rw done (put_added old tested at tile cells is)
 put_kept (Err left) old new tested at tile cells done refused is = rw refused (λ j known kept. inl kept)
 
 -- places without a mark
-pub marks_none : (tiles : List (TileKey × Vec ℤ Global)) (tested marks : List (Option TileKey)) (n : ℕ) → marks ≡ replicate n None → NoneAdded (record { tiles = tiles; tested = tested }) (record { tiles = tiles; tested = marks })
+pub marks_none : (tiles : List (TileKey × RunList)) (tested marks : List (Option TileKey)) (n : ℕ) → marks ≡ replicate n None → NoneAdded (record { tiles = tiles; tested = tested }) (record { tiles = tiles; tested = marks })
 marks_none tiles tested marks n is j None kept =
     let empty = λ (m : Option TileKey). m ≡ None in
     let all : All empty marks = subst (λ (l : List (Option TileKey)). All empty l) (sym is) (All-replicate empty n None refl) in
@@ -74,7 +75,7 @@ marks_none tiles tested marks n is j None kept =
 marks_none tiles tested marks n is j (Some cells) kept = kept
 
 -- a tile was marked at a place
-pub mark_kept : (tiles : List (TileKey × Vec ℤ Global)) (tested : List (Option TileKey)) (place : ℕ) (at : TileKey) → place < length tested → Adds at None (record { tiles = tiles; tested = tested }) (record { tiles = tiles; tested = set tested place (Some at) })
+pub mark_kept : (tiles : List (TileKey × RunList)) (tested : List (Option TileKey)) (place : ℕ) (at : TileKey) → place < length tested → Adds at None (record { tiles = tiles; tested = tested }) (record { tiles = tiles; tested = set tested place (Some at) })
 mark_kept tiles tested place at within j None kept = elim (cases_eq kept.0 place) [
   | inl same ↦
       let here : get_or (set tested place (Some at)) place (Some j) ≡ Some at = (let lt : place < length tested = within in rw get_or-set_same) in

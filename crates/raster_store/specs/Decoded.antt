@@ -1,7 +1,8 @@
 -- What a store keeps of tiles that were read, each by the version of its coverage: the cells of some, in row-major order,
 -- and of more that they were tested.
-use Rattle.std.specs.Prelude.{◌≡◌, ℤ, List, [], Option, Some, None, Vec, Contains, ◌⊎◌}
-use Rattle.std.specs.declared.alloc.Global.{Global}
+use Rattle.std.specs.Prelude.{◌≡◌, ℤ, List, [], Option, Some, None, Contains, ◌⊎◌}
+use Rattle.arr_core.specs.declared.runs.RunList.{RunList}
+use Rattle.arr_core.specs.Runs.{cells_of}
 use Rattle.lru.specs.LruCache.{LruCache}
 use Rattle.raster_store.specs.declared.reading.TileKey.{TileKey}
 
@@ -11,15 +12,15 @@ Known = Option (List ℤ)
 
 -- the tiles with their cells, and those that were tested, each at some place
 pub record Kept : Type 0 where
-  pub tiles : List (TileKey × Vec ℤ Global)
+  pub tiles : List (TileKey × RunList)
   pub tested : List (Option TileKey)
 
 -- the tiles of a cache that may be left out
-abbrev pub entries_of : Option (LruCache TileKey (Vec ℤ Global)) → List (TileKey × Vec ℤ Global)
+abbrev pub entries_of : Option (LruCache TileKey RunList) → List (TileKey × RunList)
 entries_of None = []
 entries_of (Some cache) = cache.entries
 
-abbrev pub kept_of : Option (LruCache TileKey (Vec ℤ Global)) → List (Option TileKey) → Kept
+abbrev pub kept_of : Option (LruCache TileKey RunList) → List (Option TileKey) → Kept
 kept_of cache tested = record { tiles = entries_of cache; tested = tested }
 
 -- nothing
@@ -29,7 +30,7 @@ nothing = record { tiles = []; tested = [] }
 -- this is kept of a tile
 abbrev pub IsKept : TileKey → Known → Kept → Type 0
 IsKept at None kept = Contains kept.tested (Some at)
-IsKept at (Some cells) kept = (tile : Vec ℤ Global) × Contains kept.tiles (at, tile) × (tile.items ≡ cells)
+IsKept at (Some cells) kept = (tile : RunList) × Contains kept.tiles (at, tile) × (cells_of tile ≡ cells)
 
 -- all that is kept was kept
 abbrev pub NoneAdded : Kept → Kept → Type 0

@@ -2,12 +2,16 @@
 use Rattle.std.specs.Prelude.{ℕ, List, [], ◌∷◌, ℤ, IsTrue}
 use Rattle.block_file.specs.State.{BlocksState}
 use Rattle.raster_store.specs.declared.fetching.TileOf.{TileOf}
-use Rattle.raster_store.specs.Fetches.{HasTile, HasRanks, ArePickedIn, IsSpelledAt}
+use Rattle.raster_store.specs.Fetches.{HasTile, HasTileCount, HasRanks, ArePickedIn, IsSpelledAt}
 use Rattle.raster_store.specs.Holding.{coverages_of, indexes_of, tile_in, IsTileOf, IsDamagedIn}
 
 -- the coverage has that field and that tile
 abbrev pub HasTileOf : BlocksState → TileOf → Type 0
 HasTileOf s t = HasTile (tile_in t.field t.tile) (coverages_of s.content (t.coverage.now ∷ []))
+
+-- there are as many values as the tile has points
+abbrev pub HasCountOf : BlocksState → TileOf → List ℤ → Type 0
+HasCountOf s t values = HasTileCount (tile_in t.field t.tile) (coverages_of s.content (t.coverage.now ∷ [])) values
 
 -- cells are those of the tile
 abbrev pub IsFetchedOf : BlocksState → TileOf → List ℤ → Type 0

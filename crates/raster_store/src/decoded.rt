@@ -1,9 +1,12 @@
 //! The tiles that are kept decoded.
 
-ghost use Rattle.std.specs.Prelude.{◌≡◌, ◌<◌, IsTrue, IfOk, None, Some, replicate};
+ghost use Rattle.std.specs.Prelude.{◌≡◌, ◌<◌, length, IsTrue, IfOk, None, Some, replicate};
+ghost use Rattle.arr_core.specs.Runs.{cells_of};
 ghost use Rattle.raster_store.specs.Decoded.{nothing, IsKept, NoneAdded, Adds};
 
+use crate::lists::{append_cells, copy_of, list_of, write_list};
 use crate::reading::TileKey;
+use arr_core::RunList;
 use lru::LruCache;
 use std::alloc::{AllocError, Global};
 use std::marker::Model;
@@ -21,13 +24,13 @@ const MARKS: usize = 65536;
 /// How far apart the places of tiles of one number are, of versions and of fields that follow one another.
 const STRIDE: u64 = 4099;
 
-/// The cells of tiles by the versions of their coverages, in the order of their last use, and marks of tiles that were
+/// The cells of tiles by the versions of their coverages, as they were read, in the order of their last use, and marks of tiles that were
 /// tested, which is to say read whole without a refusal. What finds no memory is left out: a tile, the marks, or the
 /// whole. A tile is kept where it was read lately, so that one pass over many tiles drives out none. Tiles of versions
 /// that no coverage has any more go as the least lately used.
 #[derive(Drop)]
 pub(crate) struct DecodedTiles {
-    kept: Option<LruCache<TileKey, Vec<i64>>>,
+    kept: Option<LruCache<TileKey, RunList>>,
     read: Vec<TileKey>,
     tested: Vec<Option<TileKey>>,
 }
@@ -54,15 +57,6 @@ fn place_of(at: TileKey) -> usize
     let first = at.version.wrapping_add(at.field as u64);
     let place = first.wrapping_mul(STRIDE).wrapping_add(at.tile) % MARKS as u64;
     place as usize
-}
-
-/// The same cells again.
-fn copy_of(alloc: Global, cells: &[i64]) -> Result<Vec<i64>, AllocError>
-    ensures { IfOk result (λ tile. tile.items ≡ cells.now) }
-{
-    let mut tile = Vec::with_capacity(alloc, cells.len())?;
-    tile.extend_from_slice(cells)?;
-    Ok(tile)
 }
 
 /// No tile, and the places for keys.
@@ -121,8 +115,24 @@ impl DecodedTiles {
             return Ok(false);
         };
         cells.clear();
-        cells.extend_from_slice(tile)?;
+        append_cells(tile, cells)?;
         Ok(true)
+    }
+
+    /// Makes a list that of the cells of a tile, where the tile is kept and the list has room for its values, which it
+    /// tells. The list keeps as many values as it has.
+    pub(crate) fn get_runs(&mut self, at: TileKey, runs: &mut RunList) -> Result<bool, AllocError>
+        ensures kept { IfOk result (λ found. IsTrue found → IsKept at (Some (cells_of runs.new)) self.old) }
+        ensures same { NoneAdded self.old self.new }
+        ensures room { length runs.new.values.items ≡ length runs.old.values.items }
+    {
+        let Some(kept) = &mut self.kept else {
+            return Ok(false);
+        };
+        let Some(tile) = kept.get(&at) else {
+            return Ok(false);
+        };
+        write_list(runs, tile)
     }
 
     /// Notes the key of a tile that was read, and tells whether it was noted already.
@@ -140,17 +150,24 @@ impl DecodedTiles {
         false
     }
 
-    /// Keeps the cells of a tile, where there is memory for them.
-    fn put(&mut self, alloc: Global, at: TileKey, cells: &[i64])
-        ensures { Adds at (Some cells.now) self.old self.new }
+    /// Keeps a tile, where there is memory for it.
+    fn put(&mut self, at: TileKey, tile: RunList)
+        ensures { Adds at (Some (cells_of tile)) self.old self.new }
     {
         let Some(kept) = &mut self.kept else {
             return;
         };
-        let Ok(tile) = copy_of(alloc, cells) else {
+        let _put = kept.put(at, tile);
+    }
+
+    /// Keeps cells one by one, where there is memory for them.
+    fn put_cells(&mut self, alloc: Global, at: TileKey, cells: &[i64])
+        ensures { Adds at (Some cells.now) self.old self.new }
+    {
+        let Ok(tile) = list_of(alloc, cells) else {
             return;
         };
-        let _put = kept.put(at, tile);
+        self.put(at, tile);
     }
 
     /// Keeps the cells of a tile that was read, where it was read lately before and there is memory for them.
@@ -158,9 +175,29 @@ impl DecodedTiles {
         ensures { Adds at (Some cells.now) self.old self.new }
     {
         if self.note(at) {
-            self.put(alloc, at, cells);
+            self.put_cells(alloc, at, cells);
         }
     }
+
+    /// Keeps cells as runs, where there is memory for them.
+    fn put_runs(&mut self, alloc: Global, at: TileKey, runs: &RunList)
+        ensures { Adds at (Some (cells_of runs.now)) self.old self.new }
+    {
+        let Ok(tile) = copy_of(alloc, runs) else {
+            return;
+        };
+        self.put(at, tile);
+    }
+
+    /// Keeps the cells of a tile that was read as runs, where it was read lately before and there is memory for them.
+    pub(crate) fn keep_runs(&mut self, alloc: Global, at: TileKey, runs: &RunList)
+        ensures { Adds at (Some (cells_of runs.now)) self.old self.new }
+    {
+        if self.note(at) {
+            self.put_runs(alloc, at, runs);
+        }
+    }
+
     /// Makes so many places for marks, where there are none and there is memory for them.
     fn make_places(&mut self, alloc: Global, count: usize)
         ensures { NoneAdded self.old self.new }

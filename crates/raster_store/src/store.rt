@@ -19,6 +19,8 @@ ghost use Rattle.raster_store.specs.Words.{Keeps, Attaches, Creates, LacksRoomTo
 ghost use Rattle.raster_store.specs.Snapshots.{AreNames, held_for, OnHeldFor, OnHeldAt, Holds, HoldsNone, KeepsSnapshots, Releases};
 ghost use Rattle.raster_store.specs.Words.{FetchesBox, WritesBox, FillsBox, RefusesBox, RefusesFill, Removes};
 
+mod runs;
+
 use crate::decoded::DecodedTiles;
 use crate::fault::WriteFault;
 use crate::fetching::{TileOf, fetch_of};

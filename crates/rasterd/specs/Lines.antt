@@ -1,12 +1,13 @@
 -- What the program says of errors.
 use Rattle.std.specs.Prelude.{ℕ, Bool, List, ◌++◌, codes, decimal}
-use Rattle.arr_core.specs.Refusals.{refusal_name}
+use Rattle.arr_core.specs.declared.refusal.Refusal.{Refusal}
+use Rattle.arr_core.specs.Refusals.{name_of, number_of}
 use Rattle.stream_face.specs.Faults.{Sent}
 use Rattle.stream_face.specs.Views.{SinkView}
 
--- why a store was not opened or not closed: the number of the fault and its name, as `not opened: 94 NotAStore`
-abbrev pub fault_line : List ℕ → ℕ → List ℕ
-fault_line what number = what ++ codes ": " ++ decimal number ++ codes " " ++ refusal_name number ++ codes "\n"
+-- why a store was not opened or not closed: the number of the refusal and its name, as `not opened: 94 NotAStore`
+abbrev pub fault_line : List ℕ → Refusal → List ℕ
+fault_line what refusal = what ++ codes ": " ++ decimal (number_of refusal) ++ codes " " ++ name_of refusal ++ codes "\n"
 
 -- the line went out, or a first part of it up to a fault
 abbrev pub Says : SinkView → SinkView → List ℕ → Type 0

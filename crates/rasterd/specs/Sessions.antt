@@ -2,7 +2,7 @@
 use Rattle.std.specs.Prelude.{◌≡◌, ◌≤◌, ℕ, List, Option, Some, None, Result, Ok, Err, codes, ⊤}
 use Rattle.disk_face.specs.declared.Disk.{Ghosts}
 use Rattle.stream_face.specs.Views.{SinkView}
-use Rattle.coverage_server.specs.Disk.{open_number, close_number}
+use Rattle.coverage_server.specs.Disk.{open_refusal, close_refusal}
 use Rattle.coverage_server.specs.Serves.{Ends}
 use Rattle.coverage_server.specs.Sessions.{IsSession}
 use Rattle.coverage_server.specs.declared.session.SessionFault.{SessionFault}
@@ -18,8 +18,8 @@ status_of (Err (NotClosed server fault)) = 4
 -- where the store was not opened or not closed a line on standard error says why
 abbrev pub SaysWhy : {D : Type 0} → SinkView → SinkView → Result D (SessionFault D) → Type 0
 SaysWhy old new (Ok after) = ⊤
-SaysWhy old new (Err (NotOpened left fault)) = Says old new (fault_line (codes "not opened") (open_number fault))
-SaysWhy old new (Err (NotClosed server fault)) = Says old new (fault_line (codes "not closed") (close_number fault))
+SaysWhy old new (Err (NotOpened left fault)) = Says old new (fault_line (codes "not opened") (open_refusal fault))
+SaysWhy old new (Err (NotClosed server fault)) = Says old new (fault_line (codes "not closed") (close_refusal fault))
 
 -- the disk that came back from a session: none where the store was not closed, since the server has it
 abbrev pub disk_back : {D : Type 0} → Result D (SessionFault D) → Option D

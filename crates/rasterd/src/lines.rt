@@ -1,7 +1,7 @@
 //! What the program says of errors, a line each.
 ghost use Rattle.rasterd.specs.Lines.{Says, SaysMore, fault_line};
 
-use arr_core::refusal_name;
+use arr_core::Refusal;
 use itoa::Buffer;
 use stream_face::{Sink, flush_if, send_all};
 
@@ -24,16 +24,16 @@ pub fn say<E: Sink>(errors: &mut E, line: &str)
 }
 
 /// Says on a line why a store was not opened or not closed, as `not opened: 94 NotAStore`.
-pub fn tell<E: Sink>(errors: &mut E, what: &str, number: u16)
-    ensures { Says (E.view errors.old) (E.view errors.new) (fault_line what.now number) }
+pub fn tell<E: Sink>(errors: &mut E, what: &str, refusal: Refusal)
+    ensures { Says (E.view errors.old) (E.view errors.new) (fault_line what.now refusal) }
 {
     let mut digits = Buffer::new();
-    let number_text = digits.format(number);
+    let number_text = digits.format(refusal.number());
     let ok = send_all(errors, what.as_bytes());
     let ok = put(errors, ok, ": ");
     let ok = put(errors, ok, number_text);
     let ok = put(errors, ok, " ");
-    let ok = put(errors, ok, refusal_name(number));
+    let ok = put(errors, ok, refusal.name());
     let ok = put(errors, ok, "\n");
     let _flushed = flush_if(errors, ok);
 }

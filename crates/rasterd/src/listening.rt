@@ -3,9 +3,9 @@
 use crate::lines::{say, tell};
 use crate::resumed::Resumed;
 use crate::session::{CLOSED, NOT_CLOSED, NOT_OPENED};
+use arr_core::Refusal;
 use coverage_server::Server;
 use disk_face::{Disk, FileDisk, MemDisk};
-use http_front::refusals::DISK_FAULT;
 use std::alloc::Global;
 use std::net::{Ipv4Addr, SocketAddrV4, TcpListener, TcpStream};
 use std::time::Duration;
@@ -43,7 +43,7 @@ fn serve_listener<D: Disk + Drop, E: Sink>(
     let mut server = match Server::open(alloc, disk) {
         Ok(server) => server,
         Err(refused) => {
-            tell(errors, "not opened", refused.fault.number());
+            tell(errors, "not opened", refused.fault.refusal());
             return NOT_OPENED;
         }
     };
@@ -56,7 +56,8 @@ fn serve_listener<D: Disk + Drop, E: Sink>(
     match server.close_with_retry() {
         Ok(_disk) => CLOSED,
         Err(refused) => {
-            tell(errors, "not closed", refused.fault.number());
+            tell(errors, "not closed", refused.fault.refusal());
+            drop(refused);
             NOT_CLOSED
         }
     }
@@ -77,7 +78,7 @@ pub fn listen<E: Sink>(rt: &HostRuntime, file: &str, port: u16, count: u32, erro
     match FileDisk::open(rt, file) {
         Ok(disk) => serve_listener(alloc, disk, &listener, count, errors),
         Err(_) => {
-            tell(errors, "not opened", DISK_FAULT);
+            tell(errors, "not opened", Refusal::DiskFault);
             NOT_OPENED
         }
     }

@@ -9,9 +9,9 @@ mod session;
 mod streams;
 mod words;
 
+use arr_core::Refusal;
 use commands::Command;
 use disk_face::{FileDisk, MemDisk};
-use http_front::refusals::{DISK_FAULT, NO_MEMORY};
 use lines::{say, tell};
 use listening::listen;
 use resumed::Resumed;
@@ -44,7 +44,7 @@ fn serve_file<R: Source, W: Sink, E: Sink>(
     match FileDisk::open(rt, file) {
         Ok(disk) => session_status(alloc, disk, connection, errors).0,
         Err(_) => {
-            tell(errors, "not opened", DISK_FAULT);
+            tell(errors, "not opened", Refusal::DiskFault);
             NOT_OPENED
         }
     }
@@ -86,7 +86,7 @@ fn main(rt: HostRuntime) -> ExitCode {
     let _null_streams = null_streams(&rt);
     let mut errors = Resumed::new(rt.stderr());
     let Some(words) = words_of(&rt) else {
-        tell(&mut errors, "not opened", NO_MEMORY);
+        tell(&mut errors, "not opened", Refusal::NoMemory);
         return ExitCode::from(NOT_OPENED);
     };
     let mut connection = [(Resumed::new(rt.stdin().lock()), Resumed::new(rt.stdout()))];

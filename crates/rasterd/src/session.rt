@@ -35,11 +35,12 @@ pub fn session_status<D: Disk + Drop, R: Source, W: Sink, E: Sink>(
     match serve_session(alloc, disk, streams) {
         Ok(disk) => (CLOSED, Some(disk)),
         Err(SessionFault::NotOpened(disk, fault)) => {
-            tell(errors, "not opened", fault.number());
+            tell(errors, "not opened", fault.refusal());
             (NOT_OPENED, Some(disk))
         }
-        Err(SessionFault::NotClosed(_server, fault)) => {
-            tell(errors, "not closed", fault.number());
+        Err(SessionFault::NotClosed(server, fault)) => {
+            tell(errors, "not closed", fault.refusal());
+            drop(server);
             (NOT_CLOSED, None)
         }
     }

@@ -4,3 +4,4 @@ pub mod Progress
 pub mod Pushes
 pub mod RawTiles
 pub mod Picks
+pub mod Lists

@@ -1,12 +1,15 @@
 //! Bytes to cells.
 
 ghost use Rattle.std.specs.Prelude.{◌≡◌, ◌≤◌, ◌<◌, ℤ, List, length, vec_capacity, IfOk, OnOk, IsErrOf, IsTrue, false};
+ghost use Rattle.arr_core.specs.Runs.{cells_of};
+ghost use Rattle.run_tile.specs.Listing.{counts_in};
 ghost use Rattle.run_tile.specs.Raw.{Spells, IsOfNone};
 
 use crate::error::DecodeError;
+use crate::listing::list_runs;
 use crate::raw::read_raw;
 use crate::reading::read_cells;
-use arr_core::FieldType;
+use arr_core::{FieldType, RunList};
 use file_bytes::Form;
 use std::alloc::Global;
 
@@ -62,4 +65,36 @@ pub fn decode(
     let mut cells = Vec::new(alloc);
     decode_into(kind, count, form, bytes, &mut cells)?;
     Ok(cells)
+}
+
+/// Makes a list that of the cells of a type that the bytes spell in a form, as many as it has values, which it keeps:
+/// their runs where they lie so, else the values one by one without counts. Refused as `decode_into`. A list that has
+/// room for as many counts as values takes no memory. After a refusal it stands for any cells.
+pub fn decode_runs(
+    kind: FieldType,
+    form: Form,
+    bytes: &[u8],
+    runs: &mut RunList,
+) -> Result<(), DecodeError>
+    ensures spelled { OnOk result (Spells form kind bytes.now (cells_of runs.new)) }
+    ensures counted { OnOk result (length (cells_of runs.new) ≡ length runs.old.values.items) }
+    ensures counts { OnOk result (length runs.new.counts.items ≡ counts_in form kind bytes.now) }
+    ensures damaged { IsErrOf result DecodeError.Damaged
+        → IsOfNone (length runs.old.values.items) form kind bytes.now }
+    ensures no_memory { IsErrOf result DecodeError.NoMemory
+        → vec_capacity runs.old.counts < length runs.old.values.items }
+    ensures capacity { vec_capacity runs.old.counts ≤ vec_capacity runs.new.counts }
+    ensures room { length runs.new.values.items ≡ length runs.old.values.items }
+{
+    match form {
+        Form::Runs => list_runs(kind, bytes, runs),
+        Form::Raw => {
+            runs.counts.clear();
+            if read_raw(kind, bytes, &mut runs.values) {
+                Ok(())
+            } else {
+                Err(DecodeError::Damaged)
+            }
+        }
+    }
 }

@@ -5,12 +5,13 @@
 mod decoding;
 mod encoding;
 mod error;
+mod listing;
 mod picking;
 mod raw;
 mod reading;
 mod run;
 
-pub use decoding::{decode, decode_into};
+pub use decoding::{decode, decode_into, decode_runs};
 pub use encoding::encode;
 pub use error::DecodeError;
 pub use picking::{pick_runs, raw_cell};

@@ -17,7 +17,7 @@ pub struct Progress {
 
 /// Whether the run before, if there was one, had the value of this one.
 #[inline(always)]
-fn repeats(before: Option<i64>, run: Run) -> bool
+pub(crate) fn repeats(before: Option<i64>, run: Run) -> bool
     ensures { IsTrue result ↔ before ≡ Some run.value }
 {
     before == Some(run.value)

@@ -1,2 +1,3 @@
+mod Ranked
 mod Room
 mod Taken

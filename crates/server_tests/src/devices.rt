@@ -39,10 +39,10 @@ fn say_replies(answer: &mut Answer, connections: &[Connection<'_>]) {
 /// Adds why a session gave no disk.
 fn say_fault(answer: &mut Answer, fault: &SessionFault<TestDisk>) {
     match fault {
-        SessionFault::NotOpened(_, fault) => answer.refusal(fault.number()),
+        SessionFault::NotOpened(_, fault) => answer.refusal(fault.refusal().number()),
         SessionFault::NotClosed(_, fault) => {
             answer.say("not closed: ");
-            answer.refusal(fault.number());
+            answer.refusal(fault.refusal().number());
         }
     }
 }

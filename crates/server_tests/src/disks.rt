@@ -1,5 +1,6 @@
 //! Servers that are opened on named files, and closed.
 
+use crate::growths::Script;
 use crate::storage::disks::TestDisk;
 use crate::storage::site;
 use anyhow::{Context, Result};
@@ -8,7 +9,7 @@ use std::alloc::Global;
 use test_rows::{cut, number, refusal, yes};
 
 /// What the rows of storage speak to, the server that the others speak to or the disk whose opening was refused, a
-/// request that tells the server's state, and sessions.
+/// request that tells the server's state, sessions, and a script.
 #[derive(Drop)]
 pub struct Site {
     pub storage: site::Site,
@@ -19,6 +20,7 @@ pub struct Site {
     /// The streams of a session on devices, and those of the session behind it.
     pub writes: String,
     pub later: String,
+    pub script: Script,
 }
 
 impl Site {
@@ -30,6 +32,7 @@ impl Site {
             probe: None,
             writes: String::new(alloc),
             later: String::new(alloc),
+            script: Script::new(alloc, Vec::new(alloc)),
         }
     }
 
@@ -45,7 +48,7 @@ impl Site {
             }
             Err(refused) => {
                 self.refused = Some(refused.disk);
-                Some(refused.fault.number())
+                Some(refused.fault.refusal().number())
             }
         }
     }
@@ -89,7 +92,7 @@ impl Site {
         match self.server.take()?.close() {
             Ok(disk) => Some(Ok(disk.into_bytes())),
             Err(refused) => {
-                let number = refused.fault.number();
+                let number = refused.fault.refusal().number();
                 self.server = Some(refused.server);
                 Some(Err(number))
             }

@@ -199,6 +199,9 @@ impl Layer for Site {
             "ask" => self.ask(alloc, &bytes(alloc, words)?),
             "looks" => looks(alloc, words),
             "devices" => self.on_devices(alloc, words),
+            "script" => self.begin_script(alloc, words),
+            "asks" => self.add_step(alloc, &text(alloc, words)?),
+            "growths" => self.play(rt, words),
             _ => self.storage.answer(rt, call),
         }
     }

@@ -6,6 +6,7 @@
 
 mod devices;
 mod disks;
+mod growths;
 mod layer;
 mod looks;
 mod messages;

@@ -30,7 +30,7 @@ fn answered(server: &mut Server<TestDisk>, request: Request) -> Reply {
 pub fn told(alloc: Global, server: &mut Server<TestDisk>, pairs: &[u8]) -> Result<String> {
     let reply = match read_request(alloc, pairs) {
         Ok(request) => answered(server, request),
-        Err(error) => Reply::Refused(error.number()),
+        Err(error) => Reply::Refused(error.refusal().number()),
     };
     body_of(alloc, &reply)
 }

@@ -79,10 +79,10 @@ impl Site {
     fn ending(&mut self, outcome: Result<TestDisk, SessionFault<TestDisk>>) -> Ending {
         match outcome {
             Ok(disk) => Ending::Closed(disk.into_bytes()),
-            Err(SessionFault::NotOpened(_, fault)) => Ending::NotOpened(fault.number()),
+            Err(SessionFault::NotOpened(_, fault)) => Ending::NotOpened(fault.refusal().number()),
             Err(SessionFault::NotClosed(server, fault)) => {
                 self.server = Some(server);
-                Ending::NotClosed(fault.number())
+                Ending::NotClosed(fault.refusal().number())
             }
         }
     }

@@ -8,6 +8,8 @@ mod domains;
 mod file_metadata;
 mod formats;
 mod indexes;
+mod lists;
+mod picks;
 pub mod site;
 mod stores;
 mod values;

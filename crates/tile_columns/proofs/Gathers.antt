@@ -132,9 +132,8 @@ whole_box envs is boxes n area e h =
     e ∙ ap points (sym o)
 
 -- the cells of a tile are those that the indexes give
-pub whole_cells : (envs : List (List ℤ)) (is : List Index) (box : List Axis) (s : List ℤ → ℤ) (cells : List ℤ) → cells ≡ map s (points box) → map (λ e. numbers_at e is) envs ≡ points box → map Value cells ≡ map (λ e. Value (s (numbers_at e is))) envs
-whole_cells envs is box s cells c w =
-    ap (map Value) (c ∙ ap (map s) (sym w) ∙ map_map s (λ e. numbers_at e is) envs) ∙ map_map Value (λ e. s (numbers_at e is)) envs
+pub whole_column : (envs : List (List ℤ)) (is : List Index) (box : List Axis) (s : List ℤ → ℤ) → map (λ e. numbers_at e is) envs ≡ points box → map (λ q. Value (s q)) (points box) ≡ map (λ e. Value (s (numbers_at e is))) envs
+whole_column envs is box s w = ap (map (λ q. Value (s q))) (sym w) ∙ map_map (λ q. Value (s q)) (λ e. numbers_at e is) envs
 
 pub whole_places : (envs : List (List ℤ)) (is : List Index) (box : List Axis) (n : ℕ) → map (λ e. numbers_at e is) envs ≡ points box → n ≡ count box → n ≡ length envs
 whole_places envs is box n w e = e ∙ sym (length-points box) ∙ ap length (sym w) ∙ length-map envs (λ e. numbers_at e is)

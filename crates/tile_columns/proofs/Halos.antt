@@ -96,14 +96,17 @@ rows_inside w c rows area envs v r h e =
     (inside_two h.first h.second x.first x.second (get_or envs k d) (omega (arith, ints, a1, b1, c1, d1)) (omega (arith, ints, a2, b2, c2, d2)) (omega (arith, ints, a3, b3, c3)) (omega (arith, ints, a4, b4, c4))
     (subst (λ box. IsInside box (get_or envs k d)) h.are (each k d lt)))
 
-pub rows_value : (cell : List ℤ → ℤ) (x : Extents) (area : List Axis) (envs : List (List ℤ)) (column : List Outcome) → HasExtents x area → envs ≡ points area → column ≡ map (λ e. Value (cell (numbers_at e (Var 0 ∷ Var 1 ∷ [])))) envs
-    → map value_of column ≡ map cell (cross (between x.rows.lo x.rows.hi) (between x.columns.lo x.columns.hi))
-rows_value cell x area envs column h e c =
+-- the values of cells that are read
+pub values_read : (go : List ℤ → ℤ) (envs : List (List ℤ)) (column : List Outcome) (old new : List ℤ) → new ≡ old ++ map value_of column → column ≡ map (λ e. Value (go e)) envs → new ≡ old ++ map go envs
+values_read go envs column old new n c = n ∙ ap (λ l. old ++ l) (ap (map value_of) c ∙ map_map value_of (λ e. Value (go e)) envs)
+
+pub rows_value : (cell : List ℤ → ℤ) (x : Extents) (area : List Axis) (envs : List (List ℤ)) → HasExtents x area → envs ≡ points area
+    → map (λ e. cell (numbers_at e (Var 0 ∷ Var 1 ∷ []))) envs ≡ map cell (cross (between x.rows.lo x.rows.hi) (between x.columns.lo x.columns.hi))
+rows_value cell x area envs h e =
     let go : List ℤ → ℤ = λ e. cell (numbers_at e (Var 0 ∷ Var 1 ∷ [])) in
     let rows = between x.rows.lo x.rows.hi in
     let columns = between x.columns.lo x.columns.hi in
-    ap (map value_of) c ∙ map_map value_of (λ e. Value (go e)) envs
-    ∙ ap (map go) (e ∙ extents_points x area h)
+    ap (map go) (e ∙ extents_points x area h)
     ∙ map_cross go rows columns ∙ sym (map_cross cell rows columns)
 
 pub rows_many : (x : Extents) (area : List Axis) → HasExtents x area → length (points area) ≡ extent x.rows * extent x.columns

@@ -7,7 +7,7 @@ use Rattle.wcps_mean.specs.declared.cell.Outcome.TheVariants.{Value}
 use Rattle.plan_ir.specs.Run.{numbers_at}
 use Rattle.plan_ir.specs.Units.{tile_number}
 use Rattle.tile_columns.specs.declared.gather.Reading.{Reading}
-use Rattle.tile_columns.specs.Sources.{SourceState, IsRead}
+use Rattle.tile_columns.specs.Sources.{SourceState, IsRead, box_in}
 use Rattle.tile_columns.specs.Locating.{AreInside, rank_in_tile}
 
 -- the source has the coverage, with that field and that domain
@@ -42,3 +42,7 @@ IsColumnRead s r envs column = s.intact → column ≡ map (λ e. Value (cell_re
 abbrev pub ReadsWhole : Reading → List (List ℤ) → ℕ → Type 0
 ReadsWhole r envs n =
     (0 < length envs) × (n < length (tile_boxes r.domain.now)) × (map (λ e. numbers_at e r.indexes.now) envs ≡ points (slice_index_or (tile_boxes r.domain.now) n []))
+
+-- a column has the values of the cells of a tile
+abbrev pub IsTileColumn : {K : Type 0} → SourceState K → Reading → ℕ → List Outcome → Type 0
+IsTileColumn s r n column = s.intact → column ≡ map (λ q. Value (s.cells r.coverage r.field q)) (points (box_in s r.coverage n))

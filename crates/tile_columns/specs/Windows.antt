@@ -22,7 +22,9 @@ use Rattle.tile_columns.specs.declared.windows.Sight.{Sight}
 use Rattle.tile_columns.specs.declared.windows.Pattern.{Pattern}
 use Rattle.tile_columns.specs.declared.windows.Window.{Window}
 use Rattle.tile_columns.specs.Reaching.{between, cross, extent, reached_by, IsReach, HasExtents}
+use Rattle.tile_columns.specs.declared.gather.Reading.{Reading}
 use Rattle.tile_columns.specs.Sources.{SourceState}
+use Rattle.tile_columns.specs.Readings.{cell_read}
 
 -- a body has these outcomes, whatever the cells and the registers are
 abbrev pub Means : Tree → (List ℤ → Outcome) → Type 0
@@ -144,6 +146,10 @@ field_cells s w = s.cells w.place w.pattern.field
 -- outcomes are those of the windows
 abbrev pub AreWindowsOf : {K : Type 0} → SourceState K → Window → List Outcome → Type 0
 AreWindowsOf s w column = s.intact → column ≡ windows_of (field_cells s w) w
+
+-- a list gets the cells that are read under variables at its end
+abbrev pub AddsRead : {K : Type 0} → SourceState K → Reading → List (List ℤ) → List ℤ → List ℤ → Type 0
+AddsRead s r envs old new = s.intact → new ≡ old ++ map (cell_read s r) envs
 
 -- the cells of so many rows of the halo, all of its columns
 abbrev pub halo_rows : {K : Type 0} → SourceState K → Window → Interval → List ℤ

@@ -106,6 +106,7 @@ pub fn evaluate<S: Tiles>(
             interval,
             body: inner,
         } => {
+            scratch.keep_runs(false);
             let positions = column_of(source, ground, position, frame, scratch)?;
             let bound = Bound {
                 ground: &*ground,
@@ -233,6 +234,7 @@ fn condense<S: Tiles>(
     ensures reports { Tells S.spelled result (S.state source.old) (S.state source.new) }
     ensures fetched { Fetches result ground.now (fold_view fold.now) frame.old (S.state source.old) (S.state source.new) }
 {
+    scratch.keep_runs(false);
     let found = window_of(scratch.alloc(), ground, fold, frame)?;
     match found {
         Some(window) => return condense_window(source, ground, &window, scratch, out),

@@ -1,10 +1,11 @@
 //! Reads at all places of a column: each tile that holds a cell of it is fetched once. Where the places read few tiles,
 //! one tile after the other is copied to all places that read it; else the places are put in the order of their tiles.
 
-ghost use Rattle.std.specs.Prelude.{◌≡◌, ◌≢◌, ◌<◌, ◌≤◌, pos, length, map, slice_index_or, IfSome, IfOk, OnOk};
-ghost use Rattle.wcps_mean.specs.declared.cell.Outcome.TheVariants.{Value};
-ghost use Rattle.tile_columns.specs.Sources.{OneMore, OnlyReads, Tells, FetchesOnce};
-ghost use Rattle.tile_columns.specs.Readings.{IsThere, ReadsInside, ReadsWhole, tiles_of, AreCellsRead, IsColumnRead};
+ghost use Rattle.std.specs.Prelude.{◌≡◌, ◌≢◌, ◌<◌, ◌≤◌, pos, length, slice_index_or, IfSome, IfOk, OnOk};
+ghost use Rattle.arr_core.specs.Domains.{count};
+ghost use Rattle.tile_columns.specs.Sources.{OneMore, OnlyReads, Tells, FetchesOnce, box_in};
+ghost use Rattle.tile_columns.specs.Readings.{IsThere, ReadsInside, ReadsWhole, IsTileColumn, tiles_of, AreCellsRead, IsColumnRead};
+ghost use Rattle.tile_columns.specs.Stretches.{IsTileRead};
 ghost use Rattle.tile_columns.specs.Gathering.{HasRanks, CopiesTile, IsLocated, AreListed, IsListed, KeepsGathered, WritesTile};
 
 use crate::different::list_tiles;
@@ -15,7 +16,7 @@ use crate::numbers::fill_list;
 use crate::scratch::Scratch;
 use crate::source::Tiles;
 use crate::stretches::{FEW, gather_stretches};
-use arr_core::Domain;
+use arr_core::{Domain, RunList};
 use plan_ir::Index;
 use std::alloc::AllocError;
 use tile_kernel::{Column, MAX_PLACES};
@@ -174,21 +175,77 @@ fn whole_tile(
     Ok(None)
 }
 
-/// Makes a column the values of cells: of a whole tile of 4,096 by an exchange of lists.
-fn put(cells: &mut Vec<i64>, out: &mut Column)
-    requires { length cells.old.items ≤ 4096 }
-    ensures { out.new ≡ map Value cells.old.items }
+/// Gives a list of runs as many values as a column has places at most.
+fn make_room(runs: &mut RunList) -> Result<(), AllocError>
+    ensures { OnOk result (length runs.new.values.items ≡ 4096) }
 {
-    if cells.len() == MAX_PLACES {
-        out.exchange(cells);
+    runs.values.resize(MAX_PLACES, 0)?;
+    Ok(())
+}
+
+/// Keeps each outcome of a column at its place, unless it may keep runs.
+fn spread_unless(keeps_runs: bool, column: &mut Column)
+    ensures { column.new ≡ column.old }
+{
+    if keeps_runs {
         return;
     }
-    out.write(cells);
+    column.spread();
+}
+
+/// Makes `out` the cells of a tile of 4,096 points by an exchange of lists: as they lie, as runs or one by one, or each at its
+/// place.
+fn read_runs<S: Tiles>(
+    source: &mut S,
+    reading: &Reading<'_>,
+    number: u64,
+    scratch: &mut Scratch,
+    out: &mut Column,
+) -> Result<(), CellError>
+    requires tile { IsTileRead (S.state source.old) reading.now number }
+    requires points { count (box_in (S.state source.old) reading.now.coverage number) ≡ 4096 }
+    ensures value { OnOk result (IsTileColumn (S.state source.old) reading.now number out.new) }
+    ensures places { OnOk result (length out.new ≡ 4096) }
+    ensures fetched { OnOk result (OneMore (S.state source.old).fetched (S.state source.new).fetched) }
+    ensures reads { OnlyReads (S.state source.old) (S.state source.new) }
+    ensures reports { Tells S.spelled result (S.state source.old) (S.state source.new) }
+{
+    make_room(&mut scratch.runs)?;
+    source.runs(reading.coverage, reading.field, number, &mut scratch.runs)?;
+    out.exchange_runs(&mut scratch.runs);
+    spread_unless(scratch.keeps_runs, out);
+    Ok(())
+}
+
+/// Makes `out` the cells of a tile, of so many points.
+fn read_tile<S: Tiles>(
+    source: &mut S,
+    reading: &Reading<'_>,
+    number: u64,
+    points: usize,
+    scratch: &mut Scratch,
+    out: &mut Column,
+) -> Result<(), CellError>
+    requires tile { IsTileRead (S.state source.old) reading.now number }
+    requires points { count (box_in (S.state source.old) reading.now.coverage number) ≡ points }
+    requires few { points ≤ 4096 }
+    ensures value { OnOk result (IsTileColumn (S.state source.old) reading.now number out.new) }
+    ensures places { OnOk result (length out.new ≡ points) }
+    ensures fetched { OnOk result (OneMore (S.state source.old).fetched (S.state source.new).fetched) }
+    ensures reads { OnlyReads (S.state source.old) (S.state source.new) }
+    ensures reports { Tells S.spelled result (S.state source.old) (S.state source.new) }
+{
+    if points == MAX_PLACES {
+        return read_runs(source, reading, number, scratch, out);
+    }
+    source.tile(reading.coverage, reading.field, number, &mut scratch.cells)?;
+    out.write(&scratch.cells);
+    Ok(())
 }
 
 /// Makes `out` the cells that are read at each place. Each tile that holds one of them is fetched once, whole or in part,
-/// and one tile is held at a time; where the indexes go over the box of a tile, its cells are the column. What the source
-/// reports passes through.
+/// and one tile is held at a time; where the indexes go over the box of a tile, its cells are the column, as runs where
+/// the tile lies so and the scratch keeps them. What the source reports passes through.
 pub fn read<S: Tiles>(
     source: &mut S,
     reading: &Reading<'_>,
@@ -204,14 +261,10 @@ pub fn read<S: Tiles>(
     ensures reports { Tells S.spelled result (S.state source.old) (S.state source.new) }
     ensures fetched { OnOk result (FetchesOnce (tiles_of reading.now frame.now) (S.state source.old) (S.state source.new)) }
 {
-    let _few = frame.places();
+    let places = frame.places();
     let found = whole_tile(reading, frame, scratch)?;
     match found {
-        Some(number) => {
-            source.tile(reading.coverage, reading.field, number, &mut scratch.cells)?;
-            put(&mut scratch.cells, out);
-            return Ok(());
-        }
+        Some(number) => return read_tile(source, reading, number, places, scratch, out),
         None => (),
     }
     gather(source, reading, frame, scratch)?;

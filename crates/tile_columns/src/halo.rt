@@ -1,8 +1,9 @@
 //! The cells around the places of windows, and what becomes of those within reach of each place.
 
 ghost use Rattle.std.specs.Prelude.{◌≡◌, ◌+◌, ◌*◌, ◌++◌, length, map, OnOk, IfOk};
-ghost use Rattle.tile_columns.specs.Sources.{OnlyReads, Tells, FetchesAtMost};
-ghost use Rattle.tile_columns.specs.Windows.{CanRead, IsReady, AreRowsOf, AreWindowsOf, AddsRows, HasHalo, halo_cells, row_cells, window_places, value_of};
+ghost use Rattle.tile_columns.specs.Sources.{OnlyReads, Tells, FetchesAtMost, FetchesOnce};
+ghost use Rattle.tile_columns.specs.Readings.{IsThere, ReadsInside, tiles_of};
+ghost use Rattle.tile_columns.specs.Windows.{CanRead, IsReady, AreRowsOf, AreWindowsOf, AddsRead, AddsRows, HasHalo, halo_cells, row_cells, window_places, value_of};
 
 use crate::frame::Frame;
 use crate::gather::{Reading, read};
@@ -33,6 +34,29 @@ fn push_values(column: &Column, cells: &mut Vec<i64>) -> Result<(), AllocError>
     for place in 0..column.len() {
         cells.push(value_of(column.at(place)))?;
     }
+    Ok(())
+}
+
+/// Puts the cells that are read at the places of a frame at the end of a list.
+fn push_cells<S: Tiles>(
+    source: &mut S,
+    reading: &Reading<'_>,
+    frame: &Frame,
+    scratch: &mut Scratch,
+    cells: &mut Vec<i64>,
+) -> Result<(), CellError>
+    requires there { IsThere (S.state source.old) reading.now }
+    requires inside { ReadsInside reading.now frame.now }
+    ensures value { OnOk result (AddsRead (S.state source.old) reading.now frame.now cells.old.items cells.new.items) }
+    ensures many { OnOk result (length cells.new.items ≡ length cells.old.items + length frame.now) }
+    ensures reads { OnlyReads (S.state source.old) (S.state source.new) }
+    ensures reports { Tells S.spelled result (S.state source.old) (S.state source.new) }
+    ensures fetched { OnOk result (FetchesOnce (tiles_of reading.now frame.now) (S.state source.old) (S.state source.new)) }
+{
+    let mut column = scratch.take_column()?;
+    read(source, reading, frame, scratch, &mut column)?;
+    push_values(&column, cells)?;
+    scratch.give_back(column);
     Ok(())
 }
 
@@ -69,10 +93,7 @@ fn read_rows<S: Tiles>(
         domain: &signature.domain,
         indexes: &[Index::Var(0), Index::Var(1)],
     };
-    let mut column = scratch.take_column()?;
-    read(source, &reading, &frame, scratch, &mut column)?;
-    push_values(&column, cells)?;
-    scratch.give_back(column);
+    push_cells(source, &reading, &frame, scratch, cells)?;
     Ok(())
 }
 

@@ -1,6 +1,9 @@
 //! Lists and columns that reads and operations write to, one after the other.
 
+ghost use Rattle.std.specs.Prelude.{◌≡◌};
+
 use crate::spots::Spot;
+use arr_core::RunList;
 use std::alloc::{AllocError, Global};
 use tile_kernel::Column;
 use wcps_mean::Outcome;
@@ -10,8 +13,10 @@ use wcps_mean::Outcome;
 #[derive(Drop)]
 pub struct Scratch {
     alloc: Global,
+    pub(crate) keeps_runs: bool,
     pub(crate) cells: Vec<i64>,
     pub(crate) tile: Vec<i64>,
+    pub(crate) runs: RunList,
     pub(crate) coordinates: Vec<i64>,
     pub(crate) numbers: Vec<u64>,
     pub(crate) ranks: Vec<u64>,
@@ -29,8 +34,13 @@ impl Scratch {
     pub fn new(alloc: Global) -> Scratch {
         Scratch {
             alloc,
+            keeps_runs: false,
             cells: Vec::new(alloc),
             tile: Vec::new(alloc),
+            runs: RunList {
+                values: Vec::new(alloc),
+                counts: Vec::new(alloc),
+            },
             coordinates: Vec::new(alloc),
             numbers: Vec::new(alloc),
             ranks: Vec::new(alloc),
@@ -42,6 +52,14 @@ impl Scratch {
             outcomes: Vec::new(alloc),
             spare: Vec::new(alloc),
         }
+    }
+
+    /// Whether a column may keep the cells of a whole tile as runs, where they lie so: for folds and operations it is to,
+    /// and not for what reads it place by place.
+    pub fn keep_runs(&mut self, keeps: bool)
+        ensures { self.new.keeps_runs ≡ keeps }
+    {
+        self.keeps_runs = keeps;
     }
 
     /// What makes further lists.

@@ -3,8 +3,10 @@
 ghost use Rattle.std.specs.Prelude.{◌≡◌, ◌<◌, slice_get, length, OnOk};
 ghost use Rattle.std.specs.List.{All};
 ghost use Rattle.arr_core.specs.Domains.{count};
+ghost use Rattle.arr_core.specs.Runs.{cells_of};
 ghost use Rattle.tile_columns.specs.Sources.{SourceState, OneMore, HasTile, box_in, AreOfTile, ArePicked, OnlyReads, Tells};
 
+use arr_core::RunList;
 use wcps_mean::CellError;
 
 /// What gives the cells of a plan's coverages, a tile or some cells of one at a time.
@@ -31,6 +33,25 @@ pub trait Tiles {
         requires { HasTile (slice_get (state self.old).coverages coverage) field tile }
         ensures value { OnOk result (AreOfTile (state self.old) coverage field tile buffer.new.items) }
         ensures places { OnOk result (length buffer.new.items ≡ count (box_in (state self.old) coverage tile)) }
+        ensures fetched { OnOk result (OneMore (state self.old).fetched (state self.new).fetched) }
+        ensures reads { OnlyReads (state self.old) (state self.new) }
+        ensures reports { Tells spelled result (state self.old) (state self.new) };
+
+    /// Makes `runs` the cells of a tile of 4,096 points, row-major: as runs where it lies so, else one by one. Refused as
+    /// `tile` is.
+    fn runs(
+        &mut self,
+        coverage: usize,
+        field: usize,
+        tile: u64,
+        runs: &mut RunList,
+    ) -> Result<(), CellError>
+        requires tile { HasTile (slice_get (state self.old).coverages coverage) field tile }
+        requires points { count (box_in (state self.old) coverage tile) ≡ 4096 }
+        requires room { length runs.old.values.items ≡ 4096 }
+        ensures value { OnOk result (AreOfTile (state self.old) coverage field tile (cells_of runs.new)) }
+        ensures places { OnOk result (length (cells_of runs.new) ≡ 4096) }
+        ensures room { OnOk result (length runs.new.values.items ≡ 4096) }
         ensures fetched { OnOk result (OneMore (state self.old).fetched (state self.new).fetched) }
         ensures reads { OnlyReads (state self.old) (state self.new) }
         ensures reports { Tells spelled result (state self.old) (state self.new) };

@@ -35,6 +35,7 @@ pub(crate) fn column_over<S: Tiles>(
 {
     let _axes = at.axes();
     let mut frame = Frame::of_box(memory.alloc, at)?;
+    memory.scratch.keep_runs(true);
     evaluate(source, ground, body, &mut frame, &mut memory.scratch, out)?;
     Ok(())
 }
@@ -59,6 +60,7 @@ pub(crate) fn columns_over<S: Tiles>(
 {
     let _axes = at.axes();
     let mut frame = Frame::of_box(memory.alloc, at)?;
+    memory.scratch.keep_runs(false);
     evaluate_fields(
         source,
         ground,

@@ -6,6 +6,7 @@ pub mod Orders
 pub mod Faults
 pub mod Merges
 pub mod Reductions
+pub mod Repeats
 pub mod Tellings
 pub mod Keys
 pub mod Pairs

@@ -109,12 +109,11 @@ same_there form n zs fs column o k f e room lt =
     let m = places_are form n zs fs column e room in
     ap (λ c. outcome_at c k) (sym e ∙ ap (λ g. seen g n zs fs) f) ∙ at_same o n k zs fs (Value (pos 0)) (omega arith)
 
-pub mixed_there : (form : Form) (n : ℕ) (zs : List ℤ) (fs : List (Option PointFault)) (column : List Outcome) (k : ℕ) (z : ℤ) (f : Option PointFault) (o : Outcome) → form ≡ Mixed → seen form n zs fs ≡ column → IsRoomy n zs fs → k < length column → z ≡ get_or zs k z → f ≡ get_or fs k f → o ≡ outcome_of z f → slice_get column k ≡ Some o
-mixed_there form n zs fs column k z f o g e room lt p q h =
+pub mixed_there : (form : Form) (n : ℕ) (zs : List ℤ) (fs : List (Option PointFault)) (column : List Outcome) (k : ℕ) (d : Option PointFault) (o : Outcome) → form ≡ Mixed → seen form n zs fs ≡ column → IsRoomy n zs fs → k < length column → o ≡ outcome_of (get_or zs k (pos 0)) (get_or fs k d) → slice_get column k ≡ Some o
+mixed_there form n zs fs column k d o g e room lt h =
     let m = places_are form n zs fs column e room in
     slice_get-get_or column k o lt ∙ ap Some (
-    ap (λ c. get_or c k o) (sym e ∙ ap (λ g. seen g n zs fs) g) ∙ at_mixed n k zs fs z f o (omega arith) room
-    ∙ ap (λ y. outcome_of y (get_or fs k f)) (sym p) ∙ ap (outcome_of z) (sym q) ∙ sym h)
+    ap (λ c. get_or c k o) (sym e ∙ ap (λ g. seen g n zs fs) g) ∙ at_mixed n k zs fs (pos 0) d o (omega arith) room ∙ sym h)
 
 pub outcome_there : (column : List Outcome) (k : ℕ) (o : Outcome) → slice_get column k ≡ Some o → outcome_at column k ≡ o
 outcome_there column k o h =

@@ -1,8 +1,10 @@
 -- What is kept of the values that count, one after the other.
-use Rattle.std.proofs.Common.{◌≡◌, ℕ, zero, suc, ◌+◌, ◌*◌, ◌/◌, ◌%◌, ◌^◌, ◌≤◌, arith, List, [], ◌∷◌, ◌++◌, length, refl, sym, ap, ◌∙◌, subst, ℤ, pos, negsuc, ◌+ℤ◌, SFits, w64, Bool, true, false, ◌&&◌, ◌||◌, cond, Some, None, inl, inr, nat_eq, nat_lt}
+use Rattle.std.proofs.Common.{◌≡◌, ℕ, zero, suc, ◌+◌, ◌*◌, ◌/◌, ◌%◌, ◌-◌, ◌^◌, ◌<◌, ◌≤◌, arith, List, [], ◌∷◌, ◌++◌, length, refl, sym, ap, ◌∙◌, subst, ℤ, pos, negsuc, ◌+ℤ◌, SFits, w64, Bool, true, false, ◌&&◌, ◌||◌, cond, Some, None, inl, inr, nat_eq, nat_lt}
 use Rattle.std.proofs.Common.{length-append}
 use Rattle.std.proofs.lemmas.Int.{ints}
-use Rattle.std.proofs.lemmas.List.{append-nil}
+use Rattle.std.specs.Prelude.{replicate}
+use Rattle.std.proofs.Math.Nat.{mul-le-mul_left}
+use Rattle.std.proofs.lemmas.List.{append-nil, append_assoc, length-replicate, replicate_more}
 use Rattle.std.proofs.lemmas.Bool.{cases_eq, eq-eqb, ne_eqb, lt-ltb}
 use Rattle.wcps_mean.specs.declared.product.Product.{Product}
 use Rattle.wcps_text.specs.declared.operator.Aggregate.{Aggregate}
@@ -13,7 +15,7 @@ use Rattle.wcps_mean.specs.Cells.{is_true}
 use Rattle.wcps_mean.specs.Condensers.{total, trues, every, any, larger, smaller, greatest, least}
 use Rattle.wcps_mean.specs.Best.{greatest_of, least_of}
 use Rattle.wcps_mean.specs.Products.{StandsFor}
-use Rattle.tile_kernel.specs.Selected.{selected}
+use Rattle.tile_kernel.specs.Selected.{selected, taken_in}
 
 total-push : (zs : List ℤ) (x : ℤ) → total (zs ++ x ∷ []) ≡ total zs +ℤ x
 total-push [] x = omega (arith, ints)
@@ -23,67 +25,86 @@ trues-push : (zs : List ℤ) (x : ℤ) → trues (zs ++ x ∷ []) ≡ trues zs +
 trues-push [] x = omega arith
 trues-push (z ∷ zs) x = let e = trues-push zs x in omega arith
 
+-- one more copy of a value
+pub one_more : (zs : List ℤ) (n : ℕ) (x : ℤ) → zs ++ replicate (suc n) x ≡ (zs ++ replicate n x) ++ x ∷ []
+one_more zs n x =
+    let e : n + 1 ≡ suc n = omega arith in
+    ap (λ k. zs ++ replicate k x) (sym e) ∙ ap (λ l. zs ++ l) (sym (replicate_more n x)) ∙ sym (append_assoc zs (replicate n x) (x ∷ []))
+
 -- ---- one more place
 
-pub selected_next : (P : ℕ → Bool) (v : ℕ → ℤ) (k : ℕ) → selected P v (k + 1) ≡ selected P v k ++ cond (P k) (v k ∷ []) []
-selected_next P v k = let e : k + 1 ≡ suc k = omega arith in ap (selected P v) e
+pub selected_next : (t : ℕ → ℕ) (v : ℕ → ℤ) (k : ℕ) → selected t v (k + 1) ≡ selected t v k ++ replicate (t k) (v k)
+selected_next t v k = let e : k + 1 ≡ suc k = omega arith in ap (selected t v) e
 
-length_step : (b : Bool) (zs : List ℤ) (x : ℤ) → length (zs ++ cond b (x ∷ []) []) ≡ length zs + cond b 1 0
-length_step true zs x = length-append zs (x ∷ [])
-length_step false zs x = ap length (append-nil zs) ∙ omega arith
+pub taken_in_next : (t : ℕ → ℕ) (k : ℕ) → taken_in t (k + 1) ≡ taken_in t k + t k
+taken_in_next t k = let e : k + 1 ≡ suc k = omega arith in ap (taken_in t) e
 
-total_step : (b : Bool) (zs : List ℤ) (x : ℤ) → total (zs ++ cond b (x ∷ []) []) ≡ total zs +ℤ cond b x (pos 0)
-total_step true zs x = total-push zs x
-total_step false zs x = ap total (append-nil zs) ∙ omega (arith, ints)
+taken_in_most : (t : ℕ → ℕ) (k m : ℕ) → k ≤ m → taken_in t k ≤ taken_in t m
+taken_in_most t k zero le = let e : k ≡ 0 = omega arith in let s = ap (taken_in t) e in omega (arith, s)
+taken_in_most t k (suc m) le = elim (cases_eq k (suc m)) [
+  | inl e ↦ (let s = ap (taken_in t) e in omega (arith, s))
+  | inr ne ↦ (let i = taken_in_most t k m (omega arith) in omega (arith, i))
+]
 
-trues_step : (b : Bool) (zs : List ℤ) (x : ℤ) → trues (zs ++ cond b (x ∷ []) []) ≡ trues zs + cond b (cond (is_true x) 1 0) 0
-trues_step true zs x = trues-push zs x
-trues_step false zs x = ap trues (append-nil zs) ∙ omega arith
+pub taken_in_before : (t : ℕ → ℕ) (k len : ℕ) → k < len → taken_in t k + t k ≤ taken_in t len
+taken_in_before t k len lt = taken_in_most t (suc k) len (omega arith)
 
-at_most_one : (b : Bool) → cond b 1 0 ≤ 1
-at_most_one true = omega arith
-at_most_one false = omega arith
+pub length-selected : (t : ℕ → ℕ) (v : ℕ → ℤ) (n : ℕ) → length (selected t v n) ≡ taken_in t n
+length-selected t v zero = refl
+length-selected t v (suc n) =
+    let e = length-selected t v n in
+    let a = length-append (selected t v n) (replicate (t n) (v n)) in
+    let b = length-replicate (t n) (v n) in
+    omega (arith, e, a, b)
 
-pub true_at_most_one : (b d : Bool) → cond b (cond d 1 0) 0 ≤ 1
-true_at_most_one true d = at_most_one d
-true_at_most_one false d = omega arith
+trues_step : (n : ℕ) (zs : List ℤ) (x : ℤ) → trues (zs ++ replicate n x) ≡ trues zs + n * cond (is_true x) 1 0
+trues_step zero zs x = ap trues (append-nil zs) ∙ omega arith
+trues_step (suc n) zs x =
+    let e = trues_step n zs x in
+    let p = ap trues (one_more zs n x) in
+    let q = trues-push (zs ++ replicate n x) x in
+    omega (arith, e, p, q)
 
-pub length_next : (P : ℕ → Bool) (v : ℕ → ℤ) (k : ℕ) → length (selected P v (k + 1)) ≡ length (selected P v k) + cond (P k) 1 0
-length_next P v k = ap length (selected_next P v k) ∙ length_step (P k) (selected P v k) (v k)
+pub trues_next : (t : ℕ → ℕ) (v : ℕ → ℤ) (k : ℕ) → trues (selected t v (k + 1)) ≡ trues (selected t v k) + t k * cond (is_true (v k)) 1 0
+trues_next t v k = ap trues (selected_next t v k) ∙ trues_step (t k) (selected t v k) (v k)
 
-pub trues_next : (P : ℕ → Bool) (v : ℕ → ℤ) (k : ℕ) → trues (selected P v (k + 1)) ≡ trues (selected P v k) + cond (P k) (cond (is_true (v k)) 1 0) 0
-trues_next P v k = ap trues (selected_next P v k) ∙ trues_step (P k) (selected P v k) (v k)
+-- the halves of a sum, with so many more copies of a value
+halves : (n : ℕ) (zs : List ℤ) (x : ℤ) (bits low high c : ℕ) → pos bits ≡ x +ℤ pos (2 ^ 63) → pos (low + 4294967296 * high) ≡ total zs +ℤ pos (c * 2 ^ 63)
+    → pos ((low + n * (bits % 4294967296)) + 4294967296 * (high + n * (bits / 4294967296))) ≡ total (zs ++ replicate n x) +ℤ pos ((c + n) * 2 ^ 63)
+halves zero zs x bits low high c e h = let p = ap total (append-nil zs) in omega (arith, ints)
+halves (suc n) zs x bits low high c e h =
+    let i = halves n zs x bits low high c e h in
+    let p = ap total (one_more zs n x) in
+    let q = total-push (zs ++ replicate n x) x in
+    omega (arith, ints)
 
-total_next : (P : ℕ → Bool) (v : ℕ → ℤ) (k : ℕ) → total (selected P v (k + 1)) ≡ total (selected P v k) +ℤ cond (P k) (v k) (pos 0)
-total_next P v k = ap total (selected_next P v k) ∙ total_step (P k) (selected P v k) (v k)
+pub length_next : (t : ℕ → ℕ) (v : ℕ → ℤ) (k : ℕ) → length (selected t v (k + 1)) ≡ length (selected t v k) + t k
+length_next t v k = length-selected t v (k + 1) ∙ taken_in_next t k ∙ ap (λ n. n + t k) (sym (length-selected t v k))
 
-halves : (b : Bool) (x t : ℤ) (bits low high n : ℕ) → pos bits ≡ x +ℤ pos (2 ^ 63) → pos (low + 4294967296 * high) ≡ t +ℤ pos (n * 2 ^ 63)
-    → pos (low + cond b (bits % 4294967296) 0 + 4294967296 * (high + cond b (bits / 4294967296) 0)) ≡ (t +ℤ cond b x (pos 0)) +ℤ pos ((n + cond b 1 0) * 2 ^ 63)
-halves true x t bits low high n e h = omega (arith, ints)
-halves false x t bits low high n e h = omega (arith, ints)
+-- what has been counted is at most what is counted in the end
+pub selected_before : (t : ℕ → ℕ) (v : ℕ → ℤ) (k len : ℕ) → k < len → length (selected t v k) + t k ≤ taken_in t len
+selected_before t v k len lt = subst (λ n. n + t k ≤ taken_in t len) (sym (length-selected t v k)) (taken_in_before t k len lt)
 
--- the halves of a sum
-pub sum_next : (P : ℕ → Bool) (v : ℕ → ℤ) (k bits low high : ℕ) → pos bits ≡ v k +ℤ pos (2 ^ 63)
-    → pos (low + 4294967296 * high) ≡ total (selected P v k) +ℤ pos (length (selected P v k) * 2 ^ 63)
-    → pos (low + cond (P k) (bits % 4294967296) 0 + 4294967296 * (high + cond (P k) (bits / 4294967296) 0)) ≡ total (selected P v (k + 1)) +ℤ pos (length (selected P v (k + 1)) * 2 ^ 63)
-sum_next P v k bits low high e h =
-    halves (P k) (v k) (total (selected P v k)) bits low high (length (selected P v k)) e h
-    ∙ ap (λ t. t +ℤ pos ((length (selected P v k) + cond (P k) 1 0) * 2 ^ 63)) (sym (total_next P v k))
-    ∙ ap (λ n. total (selected P v (k + 1)) +ℤ pos (n * 2 ^ 63)) (sym (length_next P v k))
+pub sum_next : (t : ℕ → ℕ) (v : ℕ → ℤ) (k bits low high : ℕ) → pos bits ≡ v k +ℤ pos (2 ^ 63)
+    → pos (low + 4294967296 * high) ≡ total (selected t v k) +ℤ pos (length (selected t v k) * 2 ^ 63)
+    → pos ((low + t k * (bits % 4294967296)) + 4294967296 * (high + t k * (bits / 4294967296))) ≡ total (selected t v (k + 1)) +ℤ pos (length (selected t v (k + 1)) * 2 ^ 63)
+sum_next t v k bits low high e h =
+    halves (t k) (selected t v k) (v k) bits low high (length (selected t v k)) e h
+    ∙ ap (λ zs. total zs +ℤ pos ((length (selected t v k) + t k) * 2 ^ 63)) (sym (selected_next t v k))
+    ∙ ap (λ n. total (selected t v (k + 1)) +ℤ pos (n * 2 ^ 63)) (sym (length_next t v k))
 
-pub few_selected : (P : ℕ → Bool) (v : ℕ → ℤ) (k : ℕ) → length (selected P v k) ≤ k
-few_selected P v zero = omega arith
-few_selected P v (suc k) = let n = length_step (P k) (selected P v k) (v k) in let h = few_selected P v k in let b = at_most_one (P k) in omega (arith, n, h, b)
+pub half_next : (t : ℕ → ℕ) (v : ℕ → ℤ) (k low h : ℕ) → h ≤ 4294967295 → low ≤ length (selected t v k) * 4294967295 → low + t k * h ≤ length (selected t v (k + 1)) * 4294967295
+half_next t v k low h a l =
+    let m = mul-le-mul_left (t k) a in
+    let n = length_next t v k in
+    omega (arith, m, n, l)
 
-half_step : (b : Bool) (n low h : ℕ) → h ≤ 4294967295 → low ≤ n * 4294967295 → low + cond b h 0 ≤ (n + cond b 1 0) * 4294967295
-half_step true n low h a l = omega arith
-half_step false n low h a l = omega arith
+pub product_next : (t : ℕ → ℕ) (v : ℕ → ℤ) (k : ℕ) (p q : Product) → ((zs : List ℤ) → StandsFor p zs → StandsFor q (zs ++ replicate (t k) (v k))) → StandsFor p (selected t v k) → StandsFor q (selected t v (k + 1))
+product_next t v k p q step h = subst (StandsFor q) (sym (selected_next t v k)) (step (selected t v k) h)
 
-pub half_next : (P : ℕ → Bool) (v : ℕ → ℤ) (k low h : ℕ) → h ≤ 4294967295 → low ≤ length (selected P v k) * 4294967295 → low + cond (P k) h 0 ≤ length (selected P v (k + 1)) * 4294967295
-half_next P v k low h a l = let n = length_next P v k in let s = half_step (P k) (length (selected P v k)) low h a l in omega (arith, n, s)
-
-pub product_next : (P : ℕ → Bool) (v : ℕ → ℤ) (k : ℕ) (p q : Product) → ((zs : List ℤ) → StandsFor p zs → StandsFor q (zs ++ cond (P k) (v k ∷ []) [])) → StandsFor p (selected P v k) → StandsFor q (selected P v (k + 1))
-product_next P v k p q step h = subst (StandsFor q) (sym (selected_next P v k)) (step (selected P v k) h)
+-- one more factor of so many
+pub product_more : (k : ℕ) (x : ℤ) (zs : List ℤ) (p : Product) → StandsFor p ((zs ++ replicate k x) ++ x ∷ []) → StandsFor p (zs ++ replicate (k + 1) x)
+product_more k x zs p h = let e : suc k ≡ k + 1 = omega arith in subst (λ n. StandsFor p (zs ++ replicate n x)) e (subst (StandsFor p) (sym (one_more zs k x)) h)
 
 -- ---- the greatest and the least
 
@@ -105,15 +126,39 @@ least-push : (m : ℤ) (zs : List ℤ) (x : ℤ) → least m (zs ++ x ∷ []) �
 least-push m [] x = refl
 least-push m (z ∷ zs) x = least-push (smaller m z) zs x
 
-top_step : (b : Bool) (m x t : ℤ) (zs : List ℤ) → larger m x ≡ x → IsTop m zs t → IsTop m (zs ++ cond b (x ∷ []) []) (cond b (larger t x) t)
-top_step true m x t [] h e = ap (λ t. larger t x) e ∙ h
-top_step true m x t (z ∷ zs) h e = ap (λ t. larger t x) e ∙ sym (greatest-push z zs x)
-top_step false m x t zs h e = subst (λ l. IsTop m l t) (sym (append-nil zs)) e
+top_one : (m x t : ℤ) (zs : List ℤ) → larger m x ≡ x → IsTop m zs t → IsTop m (zs ++ x ∷ []) (larger t x)
+top_one m x t [] h e = ap (λ t. larger t x) e ∙ h
+top_one m x t (z ∷ zs) h e = ap (λ t. larger t x) e ∙ sym (greatest-push z zs x)
 
-bottom_step : (b : Bool) (m x t : ℤ) (zs : List ℤ) → smaller m x ≡ x → IsBottom m zs t → IsBottom m (zs ++ cond b (x ∷ []) []) (cond b (smaller t x) t)
-bottom_step true m x t [] h e = ap (λ t. smaller t x) e ∙ h
-bottom_step true m x t (z ∷ zs) h e = ap (λ t. smaller t x) e ∙ sym (least-push z zs x)
-bottom_step false m x t zs h e = subst (λ l. IsBottom m l t) (sym (append-nil zs)) e
+bottom_one : (m x t : ℤ) (zs : List ℤ) → smaller m x ≡ x → IsBottom m zs t → IsBottom m (zs ++ x ∷ []) (smaller t x)
+bottom_one m x t [] h e = ap (λ t. smaller t x) e ∙ h
+bottom_one m x t (z ∷ zs) h e = ap (λ t. smaller t x) e ∙ sym (least-push z zs x)
+
+larger-again : (t x : ℤ) → larger (larger t x) x ≡ larger t x
+larger-again t x = grind (arith, ints)
+
+smaller-again : (t x : ℤ) → smaller (smaller t x) x ≡ smaller t x
+smaller-again t x = grind (arith, ints)
+
+top_copies : (n : ℕ) (m x t : ℤ) (zs : List ℤ) → larger m x ≡ x → IsTop m zs t → IsTop m (zs ++ replicate (suc n) x) (larger t x)
+top_copies zero m x t zs h e = top_one m x t zs h e
+top_copies (suc n) m x t zs h e =
+    subst (λ l. IsTop m l (larger t x)) (sym (one_more zs (suc n) x))
+    (subst (IsTop m ((zs ++ replicate (suc n) x) ++ x ∷ [])) (larger-again t x) (top_one m x (larger t x) (zs ++ replicate (suc n) x) h (top_copies n m x t zs h e)))
+
+bottom_copies : (n : ℕ) (m x t : ℤ) (zs : List ℤ) → smaller m x ≡ x → IsBottom m zs t → IsBottom m (zs ++ replicate (suc n) x) (smaller t x)
+bottom_copies zero m x t zs h e = bottom_one m x t zs h e
+bottom_copies (suc n) m x t zs h e =
+    subst (λ l. IsBottom m l (smaller t x)) (sym (one_more zs (suc n) x))
+    (subst (IsBottom m ((zs ++ replicate (suc n) x) ++ x ∷ [])) (smaller-again t x) (bottom_one m x (smaller t x) (zs ++ replicate (suc n) x) h (bottom_copies n m x t zs h e)))
+
+top_step : (n : ℕ) (m x t : ℤ) (zs : List ℤ) → larger m x ≡ x → IsTop m zs t → IsTop m (zs ++ replicate n x) (cond (nat_lt 0 n) (larger t x) t)
+top_step zero m x t zs h e = subst (λ l. IsTop m l t) (sym (append-nil zs)) e
+top_step (suc n) m x t zs h e = subst (λ b. IsTop m (zs ++ replicate (suc n) x) (cond b (larger t x) t)) (sym (lt-ltb 0 (suc n) (omega arith))) (top_copies n m x t zs h e)
+
+bottom_step : (n : ℕ) (m x t : ℤ) (zs : List ℤ) → smaller m x ≡ x → IsBottom m zs t → IsBottom m (zs ++ replicate n x) (cond (nat_lt 0 n) (smaller t x) t)
+bottom_step zero m x t zs h e = subst (λ l. IsBottom m l t) (sym (append-nil zs)) e
+bottom_step (suc n) m x t zs h e = subst (λ b. IsBottom m (zs ++ replicate (suc n) x) (cond b (smaller t x) t)) (sym (lt-ltb 0 (suc n) (omega arith))) (bottom_copies n m x t zs h e)
 
 above_least : (x : ℤ) → SFits w64 x → larger (negsuc 9223372036854775807) x ≡ x
 above_least x f = grind (arith, ints)
@@ -121,11 +166,11 @@ above_least x f = grind (arith, ints)
 below_greatest : (x : ℤ) → SFits w64 x → smaller (pos 9223372036854775807) x ≡ x
 below_greatest x f = grind (arith, ints)
 
-pub top_next : (P : ℕ → Bool) (v : ℕ → ℤ) (k : ℕ) (t : ℤ) → SFits w64 (v k) → IsTop (negsuc 9223372036854775807) (selected P v k) t → IsTop (negsuc 9223372036854775807) (selected P v (k + 1)) (cond (P k) (larger t (v k)) t)
-top_next P v k t f h = subst (λ l. IsTop (negsuc 9223372036854775807) l (cond (P k) (larger t (v k)) t)) (sym (selected_next P v k)) (top_step (P k) _ (v k) t (selected P v k) (above_least (v k) f) h)
+pub top_next : (n : ℕ → ℕ) (v : ℕ → ℤ) (k : ℕ) (t : ℤ) → SFits w64 (v k) → IsTop (negsuc 9223372036854775807) (selected n v k) t → IsTop (negsuc 9223372036854775807) (selected n v (k + 1)) (cond (nat_lt 0 (n k)) (larger t (v k)) t)
+top_next n v k t f h = subst (λ l. IsTop (negsuc 9223372036854775807) l (cond (nat_lt 0 (n k)) (larger t (v k)) t)) (sym (selected_next n v k)) (top_step (n k) _ (v k) t (selected n v k) (above_least (v k) f) h)
 
-pub bottom_next : (P : ℕ → Bool) (v : ℕ → ℤ) (k : ℕ) (t : ℤ) → SFits w64 (v k) → IsBottom (pos 9223372036854775807) (selected P v k) t → IsBottom (pos 9223372036854775807) (selected P v (k + 1)) (cond (P k) (smaller t (v k)) t)
-bottom_next P v k t f h = subst (λ l. IsBottom (pos 9223372036854775807) l (cond (P k) (smaller t (v k)) t)) (sym (selected_next P v k)) (bottom_step (P k) _ (v k) t (selected P v k) (below_greatest (v k) f) h)
+pub bottom_next : (n : ℕ → ℕ) (v : ℕ → ℤ) (k : ℕ) (t : ℤ) → SFits w64 (v k) → IsBottom (pos 9223372036854775807) (selected n v k) t → IsBottom (pos 9223372036854775807) (selected n v (k + 1)) (cond (nat_lt 0 (n k)) (smaller t (v k)) t)
+bottom_next n v k t f h = subst (λ l. IsBottom (pos 9223372036854775807) l (cond (nat_lt 0 (n k)) (smaller t (v k)) t)) (sym (selected_next n v k)) (bottom_step (n k) _ (v k) t (selected n v k) (below_greatest (v k) f) h)
 
 pub no_greatest : (zs : List ℤ) (n : ℕ) → n ≡ length zs → n ≡ 0 → None ≡ greatest_of zs
 no_greatest [] n e h = refl

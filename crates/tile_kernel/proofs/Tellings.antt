@@ -1,10 +1,9 @@
 -- Accumulators of columns.
 use Rattle.std.proofs.Common.{◌≡◌, ℕ, zero, suc, ◌+◌, ◌<◌, ◌≤◌, ◌≢◌, arith, List, [], ◌∷◌, ◌++◌, length, get_or, set, take, map, refl, sym, ap, ◌∙◌, subst, ℤ, pos, Option, Some, None, below_more, get_or-set_other, get_or-set_same}
-use Rattle.std.specs.Prelude.{slice_get, IfSome, replicate, Bool, true, false, cond}
+use Rattle.std.specs.Prelude.{slice_get, IfSome, replicate, sum, Bool, true, false, cond}
 use Rattle.std.specs.List.{All}
-use Rattle.std.proofs.lemmas.Option.{slice_get-get_or}
 use Rattle.std.proofs.Common.{length-append}
-use Rattle.std.proofs.lemmas.List.{take_more, append-nil, append_assoc, length-replicate, get_or-replicate}
+use Rattle.std.proofs.lemmas.List.{take_more, take_all, append-nil, append_assoc, map-append, length-map}
 use Rattle.std.proofs.lemmas.List.Elements.{All-cons, All-nil, All-append}
 use Rattle.wcps_mean.specs.declared.running.Running.{Running}
 use Rattle.wcps_text.specs.declared.operator.Aggregate.{Aggregate}
@@ -17,8 +16,10 @@ use Rattle.wcps_mean.specs.Feeding.{Keeps}
 use Rattle.tile_kernel.specs.declared.accumulator.Accumulator.{Accumulator}
 use Rattle.tile_kernel.specs.Columns.{outcome_at}
 use Rattle.tile_kernel.specs.Told.{Told, outcomes, told_at, demanded_of, demanded_at, IsValue, IsFirst}
-use Rattle.tile_kernel.specs.Selected.{selected, Chooses}
-use Rattle.tile_kernel.specs.Standing.{Stands, IsCondensed, IsCondensedWhere}
+use Rattle.tile_kernel.specs.Selected.{selected, taken_in, taken}
+use Rattle.tile_kernel.specs.Standing.{Stands, IsCondensed, StandsAnywhere, IsCondensedWhere}
+use Rattle.tile_kernel.specs.Repeated.{repeated}
+use Rattle.tile_kernel.proofs.Repeats.{sum-more}
 use Rattle.tile_kernel.proofs.Places.{outcome_there}
 
 -- ---- cells at their places
@@ -85,7 +86,7 @@ pub demanded_whole : (ps : List ℕ) (cs os : List Outcome) (k : ℕ) (a : Accum
 demanded_whole ps cs os k a h g le s =
     subst (Stands a) (ap (λ l. demanded_at l (take k cs) (take k os)) (whole k ps (omega arith)) ∙ ap (λ l. demanded_at ps l (take k os)) (whole k cs (omega arith)) ∙ ap (demanded_at ps cs) (whole k os le)) s
 
--- ---- places that count
+-- ---- outcomes, each as often as it counts
 
 outcomes-append : (a b : List Told) → outcomes (a ++ b) ≡ outcomes a ++ outcomes b
 outcomes-append [] b = refl
@@ -95,96 +96,228 @@ outcomes-same : (p : ℕ) (os : List Outcome) → outcomes (map (λ (d : Outcome
 outcomes-same p [] = refl
 outcomes-same p (o ∷ os) = ap (λ l. o ∷ l) (outcomes-same p os)
 
--- what a chosen value adds
-values_chosen : (b : Bool) (z : ℤ) → values (cond b (Value z ∷ []) []) ≡ cond b (z ∷ []) []
-values_chosen true z = refl
-values_chosen false z = refl
+pub outcomes-told_at : (ps : List ℕ) (os : List Outcome) → length ps ≡ length os → outcomes (told_at ps os) ≡ os
+outcomes-told_at [] [] h = refl
+outcomes-told_at [] (o ∷ os) h = absurd (omega arith)
+outcomes-told_at (p ∷ ps) [] h = absurd (omega arith)
+outcomes-told_at (p ∷ ps) (o ∷ os) h = ap (λ l. o ∷ l) (outcomes-told_at ps os (omega arith))
 
-length_chosen : (b : Bool) (z : ℤ) (p : ℕ) → length {A = Told} (map (λ (d : Outcome). (p, d)) (cond b (Value z ∷ []) [])) ≡ length (cond b (z ∷ []) [])
-length_chosen true z p = refl
-length_chosen false z p = refl
+-- the outcomes that a condition keeps, wherever their places are
+abbrev pub kept : List Outcome → List Outcome → List Outcome
+kept [] os = []
+kept (c ∷ cs) [] = []
+kept (c ∷ cs) (o ∷ os) = demanded c o ++ kept cs os
 
-faultless_chosen : (b : Bool) (z : ℤ) (p : ℕ) → All (λ (t : Told). IsValue t.1) (map (λ (d : Outcome). (p, d)) (cond b (Value z ∷ []) []))
-faultless_chosen true z p = All-cons (λ (t : Told). IsValue t.1) (p, Value z) [] tt (All-nil (λ (t : Told). IsValue t.1))
-faultless_chosen false z p = All-nil (λ (t : Told). IsValue t.1)
+pub outcomes-demanded_at : (ps : List ℕ) (cs os : List Outcome) → length ps ≡ length os → outcomes (demanded_at ps cs os) ≡ kept cs os
+outcomes-demanded_at [] [] os h = refl
+outcomes-demanded_at [] (c ∷ cs) [] h = refl
+outcomes-demanded_at [] (c ∷ cs) (o ∷ os) h = absurd (omega arith)
+outcomes-demanded_at (p ∷ ps) [] os h = refl
+outcomes-demanded_at (p ∷ ps) (c ∷ cs) [] h = refl
+outcomes-demanded_at (p ∷ ps) (c ∷ cs) (o ∷ os) h =
+    outcomes-append (demanded_of p c o) (demanded_at ps cs os)
+    ∙ ap (λ l. l ++ outcomes (demanded_at ps cs os)) (outcomes-same p (demanded c o))
+    ∙ ap (λ l. demanded c o ++ l) (outcomes-demanded_at ps cs os (omega arith))
 
--- the values of a column that count, at their places
-record IsChosen (told : List Told) (zs : List ℤ) : Type 0 where
-  counted : length told ≡ length zs
-  faultless : All (λ (t : Told). IsValue t.1) told
-  kept : values (outcomes told) ≡ zs
+pub taken-once : (os : List Outcome) → taken (λ k. 1) os ≡ os
+taken-once [] = refl
+taken-once (o ∷ os) = ap (λ l. o ∷ l) (taken-once os)
 
-chosen_step : (b : Bool) (z : ℤ) (p : ℕ) (more : List Outcome) (told : List Told) (zs : List ℤ) → more ≡ cond b (Value z ∷ []) [] → IsChosen told zs → IsChosen (told ++ map (λ (d : Outcome). (p, d)) more) (zs ++ cond b (z ∷ []) [])
-chosen_step b z p more told zs e h =
-    subst (λ (m : List Outcome). IsChosen (told ++ map (λ (d : Outcome). (p, d)) m) (zs ++ cond b (z ∷ []) [])) (sym e)
-    (record {
-      counted = length-append told (map (λ (d : Outcome). (p, d)) (cond b (Value z ∷ []) [])) ∙ ap (λ n. n + length {A = Told} (map (λ (d : Outcome). (p, d)) (cond b (Value z ∷ []) []))) h.counted ∙ ap (λ n. length zs + n) (length_chosen b z p) ∙ sym (length-append zs (cond b (z ∷ []) []));
-      faultless = All-append (λ (t : Told). IsValue t.1) told (map (λ (d : Outcome). (p, d)) (cond b (Value z ∷ []) [])) h.faultless (faultless_chosen b z p);
-      kept = ap values (outcomes-append told (map (λ (d : Outcome). (p, d)) (cond b (Value z ∷ []) [])) ∙ ap (λ l. outcomes told ++ l) (outcomes-same p (cond b (Value z ∷ []) []))) ∙ values-append (outcomes told) (cond b (Value z ∷ []) []) ∙ ap (λ l. l ++ values (cond b (Value z ∷ []) [])) h.kept ∙ ap (λ l. zs ++ l) (values_chosen b z);
-    })
+pub taken-counted : (os : List Outcome) (ns : List ℕ) → length os ≡ length ns → taken (λ k. get_or ns k 0) os ≡ repeated os ns
+taken-counted [] ns h = refl
+taken-counted (o ∷ os) [] h = absurd (omega arith)
+taken-counted (o ∷ os) (n ∷ ns) h = ap (λ l. replicate n o ++ l) (taken-counted os ns (omega arith))
 
-chosen_front : (P : ℕ → Bool) (v : ℕ → ℤ) (ps : List ℕ) (cs os : List Outcome) → length ps ≡ length os → length cs ≡ length os → Chooses P cs → ((k : ℕ) → k < length os → outcome_at os k ≡ Value (v k))
-    → (k : ℕ) → k ≤ length os → IsChosen (demanded_at (take k ps) (take k cs) (take k os)) (selected P v k)
-chosen_front P v ps cs os h g choose at zero le = record { counted = refl; faultless = All-nil (λ (t : Told). IsValue t.1); kept = refl }
-chosen_front P v ps cs os h g choose at (suc k) le =
-    let lt : k < length os = omega arith in
-    let c = outcome_at cs k in
-    let o = outcome_at os k in
-    let there : slice_get cs k ≡ Some c = slice_get-get_or cs k (Value (pos 0)) (omega arith) in
-    let here : slice_get os k ≡ Some o = slice_get-get_or os k (Value (pos 0)) lt in
-    let before = chosen_front P v ps cs os h g choose at k (omega arith) in
-    let step = chosen_step (P k) (v k) (get_or ps k 0) (demanded c o) (demanded_at (take k ps) (take k cs) (take k os)) (selected P v k)
-    (choose k o (omega arith) ∙ ap (λ o. cond (P k) (o ∷ []) []) (at k lt)) before in
-    subst (λ l. IsChosen l (selected P v (suc k))) (sym (demanded_suc ps cs os k (get_or ps k 0) c o h g lt refl there here)) step
+pub taken-none : (t : ℕ → ℕ) (os : List Outcome) → ((k : ℕ) → t k ≡ 0) → taken t os ≡ []
+taken-none t [] h = refl
+taken-none t (o ∷ os) h = ap (λ n. replicate n o ++ taken (λ k. t (suc k)) os) (h 0) ∙ taken-none (λ k. t (suc k)) os (λ k. h (suc k))
 
--- what is kept of the values that count stands for the places that count
-pub stands_chosen : (op : Aggregate) (r : Running) (P : ℕ → Bool) (v : ℕ → ℤ) (n : ℕ) (column : List Outcome) → n ≡ length column → ((k : ℕ) → k < length column → outcome_at column k ≡ Value (v k))
-    → r.op ≡ op → r.count ≡ length (selected P v n) → r.fault ≡ None → Keeps op r (selected P v n) → IsCondensed op P column (record { running = r; place = 0 })
-stands_chosen op r P v n column e at o m f k = λ places condition h g choose.
-    let told = demanded_at places condition column in
-    let whole_of : demanded_at (take n places) (take n condition) (take n column) ≡ told =
-    ap (λ l. demanded_at l (take n condition) (take n column)) (whole n places (omega arith)) ∙ ap (λ l. demanded_at places l (take n column)) (whole n condition (omega arith)) ∙ ap (demanded_at places condition) (whole n column (omega arith)) in
-    let chosen = subst (λ l. IsChosen l (selected P v n)) whole_of (chosen_front P v places condition column h g choose at n (omega arith)) in (
-      o,
-      record {
-        counted = m ∙ sym chosen.counted;
-        faulted = subst (λ f. IsFirst f 0 told) (sym f) chosen.faultless;
-        kept = subst (λ op. Keeps op r (values (outcomes told))) (sym o) (subst (Keeps op r) (sym chosen.kept) k);
-      },
-    )
+pub taken-alike : (t u : ℕ → ℕ) (os : List Outcome) → ((k : ℕ) → t k ≡ u k) → taken t os ≡ taken u os
+taken-alike t u [] h = refl
+taken-alike t u (o ∷ os) h = ap (λ n. replicate n o ++ taken (λ k. t (suc k)) os) (h 0) ∙ ap (λ l. replicate (u 0) o ++ l) (taken-alike (λ k. t (suc k)) (λ k. u (suc k)) os (λ k. h (suc k)))
 
-pub condensed_where : (r : Option Accumulator) (op : Aggregate) (P : ℕ → Bool) (condition column : List Outcome) → length condition ≡ length column → Chooses P condition
-    → IfSome r (λ a. IsCondensed op P column a) → IfSome r (λ a. IsCondensedWhere op condition column a)
-condensed_where None op P condition column h choose f = f
-condensed_where (Some a) op P condition column h choose f = λ places g. f places condition g h choose
+-- what a condition's value keeps of one outcome
+chosen_once : (b : Bool) (o : Outcome) → cond b (o ∷ []) [] ≡ replicate (cond b 1 0) o
+chosen_once true o = refl
+chosen_once false o = refl
+
+chosen_more : (b : Bool) (n : ℕ) (o : Outcome) (os : List Outcome) → cond b (o ∷ []) [] ++ (replicate (cond b n 0) o ++ os) ≡ replicate (cond b (suc n) 0) o ++ os
+chosen_more true n o os = refl
+chosen_more false n o os = refl
+
+chosen_none : (b : Bool) (o : Outcome) (os : List Outcome) → os ≡ replicate (cond b 0 0) o ++ os
+chosen_none true o os = refl
+chosen_none false o os = refl
+
+-- the same condition for each outcome of a run
+kept-same : (n : ℕ) (z : ℤ) (o : Outcome) (cs os : List Outcome) → kept (replicate n (Value z) ++ cs) (replicate n o ++ os) ≡ replicate (cond (is_true z) n 0) o ++ kept cs os
+kept-same zero z o cs os = chosen_none (is_true z) o (kept cs os)
+kept-same (suc n) z o cs os = ap (λ l. cond (is_true z) (o ∷ []) [] ++ l) (kept-same n z o cs os) ∙ chosen_more (is_true z) n o (kept cs os)
+
+pub kept-where : (cs os : List Outcome) (v : ℕ → ℤ) → length cs ≡ length os → ((k : ℕ) → k < length cs → outcome_at cs k ≡ Value (v k)) → kept cs os ≡ taken (λ k. cond (is_true (v k)) 1 0) os
+kept-where [] [] v h at = refl
+kept-where [] (o ∷ os) v h at = absurd (omega arith)
+kept-where (c ∷ cs) [] v h at = absurd (omega arith)
+kept-where (c ∷ cs) (o ∷ os) v h at =
+    ap (λ d. demanded d o ++ kept cs os) (at 0 (omega arith)) ∙ ap (λ l. l ++ kept cs os) (chosen_once (is_true (v 0)) o)
+    ∙ ap (λ l. replicate (cond (is_true (v 0)) 1 0) o ++ l) (kept-where cs os (λ k. v (suc k)) (omega arith) (λ k lt. at (suc k) (omega arith)))
+
+pub kept-counted : (cs os : List Outcome) (ns : List ℕ) (v : ℕ → ℤ) → length cs ≡ length ns → length os ≡ length ns → ((k : ℕ) → k < length cs → outcome_at cs k ≡ Value (v k))
+    → kept (repeated cs ns) (repeated os ns) ≡ taken (λ k. cond (is_true (v k)) (get_or ns k 0) 0) os
+kept-counted [] [] ns v h g at = refl
+kept-counted [] (o ∷ os) [] v h g at = absurd (omega arith)
+kept-counted [] (o ∷ os) (n ∷ ns) v h g at = absurd (omega arith)
+kept-counted (c ∷ cs) os [] v h g at = absurd (omega arith)
+kept-counted (c ∷ cs) [] (n ∷ ns) v h g at = absurd (omega arith)
+kept-counted (c ∷ cs) (o ∷ os) (n ∷ ns) v h g at =
+    ap (λ d. kept (replicate n d ++ repeated cs ns) (replicate n o ++ repeated os ns)) (at 0 (omega arith))
+    ∙ kept-same n (v 0) o (repeated cs ns) (repeated os ns)
+    ∙ ap (λ l. replicate (cond (is_true (v 0)) n 0) o ++ l) (kept-counted cs os ns (λ k. v (suc k)) (omega arith) (omega arith) (λ k lt. at (suc k) (omega arith)))
+
+-- the values that are selected, from the first one on
+selected-cons : (t : ℕ → ℕ) (v : ℕ → ℤ) (n : ℕ) → selected t v (suc n) ≡ replicate (t 0) (v 0) ++ selected (λ k. t (suc k)) (λ k. v (suc k)) n
+selected-cons t v zero = sym (append-nil (replicate (t 0) (v 0)))
+selected-cons t v (suc n) =
+    ap (λ l. l ++ replicate (t (suc n)) (v (suc n))) (selected-cons t v n)
+    ∙ append_assoc (replicate (t 0) (v 0)) (selected (λ k. t (suc k)) (λ k. v (suc k)) n) (replicate (t (suc n)) (v (suc n)))
+
+value-copies : (n : ℕ) (z : ℤ) → map Value (replicate n z) ≡ replicate n (Value z)
+value-copies zero z = refl
+value-copies (suc n) z = ap (λ l. Value z ∷ l) (value-copies n z)
+
+taken-values : (t : ℕ → ℕ) (v : ℕ → ℤ) (os : List Outcome) → ((k : ℕ) → k < length os → outcome_at os k ≡ Value (v k)) → taken t os ≡ map Value (selected t v (length os))
+taken-values t v [] at = refl
+taken-values t v (o ∷ os) at =
+    ap (λ d. replicate (t 0) d ++ taken (λ k. t (suc k)) os) (at 0 (omega arith))
+    ∙ ap (λ l. replicate (t 0) (Value (v 0)) ++ l) (taken-values (λ k. t (suc k)) (λ k. v (suc k)) os (λ k lt. at (suc k) (omega arith)))
+    ∙ ap (λ l. l ++ map Value (selected (λ k. t (suc k)) (λ k. v (suc k)) (length os))) (sym (value-copies (t 0) (v 0)))
+    ∙ sym (map-append Value (replicate (t 0) (v 0)) (selected (λ k. t (suc k)) (λ k. v (suc k)) (length os)))
+    ∙ ap (map Value) (sym (selected-cons t v (length os)))
+
+values-same : (zs : List ℤ) → values (map Value zs) ≡ zs
+values-same [] = refl
+values-same (z ∷ zs) = ap (λ l. z ∷ l) (values-same zs)
+
+value_is : (o : Outcome) (z : ℤ) → o ≡ Value z → IsValue o
+value_is o z e = subst IsValue (sym e) tt
+
+all_values : (told : List Told) (zs : List ℤ) → outcomes told ≡ map Value zs → All (λ (t : Told). IsValue t.1) told
+all_values [] zs e = All-nil (λ (t : Told). IsValue t.1)
+all_values (t ∷ told) [] e = absurd (cc)
+all_values (t ∷ told) (z ∷ zs) e =
+    let here : t.1 ≡ Value z = cc in
+    let rest : outcomes told ≡ map Value zs = cc in
+    All-cons (λ (t : Told). IsValue t.1) t told (value_is t.1 z here) (all_values told zs rest)
+
+length-outcomes : (told : List Told) → length (outcomes told) ≡ length told
+length-outcomes [] = refl
+length-outcomes (t ∷ told) = ap suc (length-outcomes told)
+
+-- what is kept of the values stands for the outcomes, each as often as it counts
+pub stands_taken : (r : Running) (t : ℕ → ℕ) (v : ℕ → ℤ) (n : ℕ) (heads : List Outcome) → n ≡ length heads → ((k : ℕ) → k < length heads → outcome_at heads k ≡ Value (v k))
+    → r.count ≡ length (selected t v n) → r.fault ≡ None → Keeps r.op r (selected t v n) → IsCondensed t heads (record { running = r; place = 0 })
+stands_taken r t v n heads e at m f k = λ told h.
+    let zs = selected t v n in
+    let all : outcomes told ≡ map Value zs = h ∙ taken-values t v heads at ∙ ap (λ n. map Value (selected t v n)) (sym e) in
+    let l : length (outcomes told) ≡ length (map Value zs) = ap length all in
+    let long = length-map zs Value in
+    let same = length-outcomes told in
+    let faultless = all_values told zs all in
+    record {
+      counted = omega arith;
+      faulted = subst (λ f. IsFirst f 0 told) (sym f) faultless;
+      kept = subst (Keeps r.op r) (sym (ap values all ∙ values-same zs)) k;
+    }
+
+pub told_none : (told : List Told) → outcomes told ≡ [] → told ≡ []
+told_none [] e = refl
+told_none (t ∷ told) e = absurd (cc)
+
+-- ---- how often places count
+
+pub at_most : (t u : ℕ → ℕ) (n : ℕ) → ((k : ℕ) → t k ≤ u k) → taken_in t n ≤ taken_in u n
+at_most t u zero h = omega arith
+at_most t u (suc n) h = let i = at_most t u n h in let j = h n in omega (arith, i, j)
+
+pub once_each : (n : ℕ) → taken_in (λ k. 1) n ≡ n
+once_each zero = refl
+once_each (suc n) = let i = once_each n in omega (arith, i)
+
+counted_before : (ns : List ℕ) (n : ℕ) → n ≤ length ns → taken_in (λ k. get_or ns k 0) n ≡ sum (take n ns)
+counted_before ns zero le = refl
+counted_before ns (suc n) le =
+    let i = counted_before ns n (omega arith) in
+    let e : n + 1 ≡ suc n = omega arith in
+    let s = sum-more ns n (omega arith) in
+    let m = ap (λ k. sum (take k ns)) e in
+    omega (arith, i, s, m)
+
+pub counted_all : (ns : List ℕ) (n : ℕ) → n ≡ length ns → taken_in (λ k. get_or ns k 0) n ≡ sum ns
+counted_all ns n e = counted_before ns n (omega arith) ∙ ap sum (take_all n ns (omega arith))
+
+pub chosen_at_most : (b : Bool) (n : ℕ) → cond b n 0 ≤ n
+chosen_at_most true n = omega arith
+chosen_at_most false n = omega arith
+
+-- ---- what is condensed, at whatever places
+
+pub each_anywhere : (r : Option Accumulator) (column : List Outcome) → IfSome r (IsCondensed (λ k. 1) column) → IfSome r (λ a. StandsAnywhere a column)
+each_anywhere None column f = f
+each_anywhere (Some a) column f = λ places h. f (told_at places column) (outcomes-told_at places column h ∙ sym (taken-once column))
+
+pub runs_anywhere : (r : Option Accumulator) (heads : List Outcome) (ns : List ℕ) → length heads ≡ length ns → IfSome r (IsCondensed (λ k. get_or ns k 0) heads) → IfSome r (λ a. StandsAnywhere a (repeated heads ns))
+runs_anywhere None heads ns l f = f
+runs_anywhere (Some a) heads ns l f = λ places h. f (told_at places (repeated heads ns)) (outcomes-told_at places (repeated heads ns) h ∙ sym (taken-counted heads ns l))
+
+pub each_where : (r : Option Accumulator) (op : Aggregate) (cs os : List Outcome) (v : ℕ → ℤ) → length cs ≡ length os → ((k : ℕ) → k < length cs → outcome_at cs k ≡ Value (v k))
+    → IfSome r (IsCondensed (λ k. cond (is_true (v k)) 1 0) os) → IfSome r (λ a. a.running.op ≡ op) → IfSome r (IsCondensedWhere op cs os)
+each_where None op cs os v h at f o = f
+each_where (Some a) op cs os v h at f o = λ places g. (o, f (demanded_at places cs os) (outcomes-demanded_at places cs os g ∙ kept-where cs os v h at))
+
+pub runs_where : (r : Option Accumulator) (op : Aggregate) (cs os : List Outcome) (ns : List ℕ) (v : ℕ → ℤ) → length cs ≡ length ns → length os ≡ length ns → ((k : ℕ) → k < length cs → outcome_at cs k ≡ Value (v k))
+    → IfSome r (IsCondensed (λ k. cond (is_true (v k)) (get_or ns k 0) 0) os) → IfSome r (λ a. a.running.op ≡ op) → IfSome r (IsCondensedWhere op (repeated cs ns) (repeated os ns))
+runs_where None op cs os ns v h l at f o = f
+runs_where (Some a) op cs os ns v h l at f o = λ places g. (o, f (demanded_at places (repeated cs ns) (repeated os ns)) (outcomes-demanded_at places (repeated cs ns) (repeated os ns) g ∙ kept-counted cs os ns v h l at))
 
 -- a condition that is true everywhere
-all_demanded : (ps : List ℕ) (os : List Outcome) → demanded_at ps (replicate (length os) (Value (pos 1))) os ≡ told_at ps os
-all_demanded [] os = refl
-all_demanded (p ∷ ps) [] = refl
-all_demanded (p ∷ ps) (o ∷ os) = ap (λ l. (p, o) ∷ l) (all_demanded ps os)
+all_demanded : (ps : List ℕ) (cs os : List Outcome) (x : ℤ) → length cs ≡ length os → ((k : ℕ) → k < length cs → outcome_at cs k ≡ Value x) → is_true x ≡ true → demanded_at ps cs os ≡ told_at ps os
+all_demanded [] cs os x h at t = refl
+all_demanded (p ∷ ps) [] [] x h at t = refl
+all_demanded (p ∷ ps) [] (o ∷ os) x h at t = absurd (omega arith)
+all_demanded (p ∷ ps) (c ∷ cs) [] x h at t = absurd (omega arith)
+all_demanded (p ∷ ps) (c ∷ cs) (o ∷ os) x h at t =
+    ap (λ d. map (λ (e : Outcome). (p, e)) (demanded d o) ++ demanded_at ps cs os) (at 0 (omega arith))
+    ∙ ap (λ b. map (λ (e : Outcome). (p, e)) (cond b (o ∷ []) []) ++ demanded_at ps cs os) t
+    ∙ ap (λ l. (p, o) ∷ l) (all_demanded ps cs os x (omega arith) (λ k lt. at (suc k) (omega arith)) t)
 
-pub chooses_same : (n : ℕ) (x : ℤ) (P : ℕ → Bool) → ((k : ℕ) → P k ≡ is_true x) → Chooses P (replicate n (Value x))
-chooses_same n x P h = λ k o lt.
-    ap (λ c. demanded c o) (get_or-replicate n k (Value x) (Value (pos 0)) (omega (arith, length-replicate n (Value x)))) ∙ ap (λ b. cond b (o ∷ []) []) (sym (h k))
+pub each_where_true : (r : Option Accumulator) (op : Aggregate) (cs os : List Outcome) (x : ℤ) → length cs ≡ length os → ((k : ℕ) → k < length cs → outcome_at cs k ≡ Value x) → is_true x ≡ true
+    → IfSome r (λ a. StandsAnywhere a os) → IfSome r (λ a. a.running.op ≡ op) → IfSome r (IsCondensedWhere op cs os)
+each_where_true None op cs os x h at t f o = f
+each_where_true (Some a) op cs os x h at t f o = λ places g. (o, subst (Stands a) (sym (all_demanded places cs os x h at t)) (f places g))
 
--- every cell counts
-pub stands_all : (op : Aggregate) (column : List Outcome) (a : Accumulator) (places : List ℕ) → length places ≡ length column → IsCondensed op (λ k. true) column a → (a.running.op ≡ op) × Stands a (told_at places column)
-stands_all op column a places h f =
-    let n = length-replicate (length column) (Value (pos 1)) in
-    let s = f places (replicate (length column) (Value (pos 1))) h n (chooses_same (length column) (pos 1) (λ k. true) (λ k. refl)) in
-    (s.0, subst (Stands a) (all_demanded places column) s.1)
+pub runs_where_true : (r : Option Accumulator) (op : Aggregate) (cs os : List Outcome) (ns : List ℕ) (x : ℤ) → length cs ≡ length ns → length os ≡ length ns → ((k : ℕ) → k < length cs → outcome_at cs k ≡ Value x) → is_true x ≡ true
+    → IfSome r (IsCondensed (λ k. get_or ns k 0) os) → IfSome r (λ a. a.running.op ≡ op) → IfSome r (IsCondensedWhere op (repeated cs ns) (repeated os ns))
+runs_where_true None op cs os ns x h l at t f o = f
+runs_where_true (Some a) op cs os ns x h l at t f o = λ places g. (
+  o,
+  f (demanded_at places (repeated cs ns) (repeated os ns)) (outcomes-demanded_at places (repeated cs ns) (repeated os ns) g ∙ kept-counted cs os ns (λ k. x) h l at
+      ∙ taken-alike (λ k. cond (is_true x) (get_or ns k 0) 0) (λ k. get_or ns k 0) os (λ k. ap (λ b. cond b (get_or ns k 0) 0) t)),
+)
 
 -- a condition that is false everywhere
-none_demanded : (x : ℤ) (ps : List ℕ) (os : List Outcome) → is_true x ≡ false → demanded_at ps (replicate (length os) (Value x)) os ≡ []
-none_demanded x [] os h = refl
-none_demanded x (p ∷ ps) [] h = refl
-none_demanded x (p ∷ ps) (o ∷ os) h = ap (λ b. map (λ (d : Outcome). (p, d)) (cond b (o ∷ []) []) ++ demanded_at ps (replicate (length os) (Value x)) os) h ∙ none_demanded x ps os h
+pub each_where_false : (a : Accumulator) (op : Aggregate) (cs os : List Outcome) (x : ℤ) → length cs ≡ length os → ((k : ℕ) → k < length cs → outcome_at cs k ≡ Value x) → is_true x ≡ false
+    → a.running.op ≡ op → Stands a [] → IsCondensedWhere op cs os a
+each_where_false a op cs os x h at t o s = λ places g.
+    let none : outcomes (demanded_at places cs os) ≡ [] = outcomes-demanded_at places cs os g ∙ kept-where cs os (λ k. x) h at ∙ taken-none (λ k. cond (is_true x) 1 0) os (λ k. ap (λ b. cond b 1 0) t) in
+    (o, subst (Stands a) (sym (told_none (demanded_at places cs os) none)) s)
 
-pub condensed_none : (op : Aggregate) (condition column : List Outcome) (x : ℤ) (n : ℕ) (a : Accumulator) → replicate n (Value x) ≡ condition → length condition ≡ length column → is_true x ≡ false → a.running.op ≡ op → Stands a [] → IsCondensedWhere op condition column a
-condensed_none op condition column x n a e h f o s = λ places g.
-    let m : n ≡ length column = sym (length-replicate n (Value x)) ∙ ap length e ∙ h in
-    (o, subst (Stands a) (sym (ap (λ c. demanded_at places c column) (sym e ∙ ap (λ k. replicate k (Value x)) m) ∙ none_demanded x places column f)) s)
+pub runs_where_false : (a : Accumulator) (op : Aggregate) (cs os : List Outcome) (ns : List ℕ) (x : ℤ) → length cs ≡ length ns → length os ≡ length ns → ((k : ℕ) → k < length cs → outcome_at cs k ≡ Value x) → is_true x ≡ false
+    → a.running.op ≡ op → Stands a [] → IsCondensedWhere op (repeated cs ns) (repeated os ns) a
+runs_where_false a op cs os ns x h l at t o s = λ places g.
+    let told = demanded_at places (repeated cs ns) (repeated os ns) in
+    let none : outcomes told ≡ [] = outcomes-demanded_at places (repeated cs ns) (repeated os ns) g ∙ kept-counted cs os ns (λ k. x) h l at
+    ∙ taken-none (λ k. cond (is_true x) (get_or ns k 0) 0) os (λ k. ap (λ b. cond b (get_or ns k 0) 0) t) in
+    (o, subst (Stands a) (sym (told_none told none)) s)
 
 few_chosen : (b : Bool) (p : ℕ) (o : Outcome) (told : List Told) (n : ℕ) → length told ≤ n → length {A = Told} (map (λ (d : Outcome). (p, d)) (cond b (o ∷ []) []) ++ told) ≤ suc n
 few_chosen true p o told n h = omega arith

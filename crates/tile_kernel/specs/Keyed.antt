@@ -25,6 +25,10 @@ told_by_key numbers place key o k = demanded_of place (operate2 Equal key (Value
 abbrev pub told_by_keys : List ℤ → List ℕ → List Outcome → List Outcome → ℕ → List Told
 told_by_keys numbers places keys column k = demanded_at places (having keys (number_at numbers k)) column
 
+-- each takes in the cells of a column by their keys
+abbrev pub TakeCells : List ℤ → List ℕ → List Outcome → List Outcome → List Accumulator → List Accumulator → Type 0
+TakeCells numbers places keys column before after = EachTakesIn before after (told_by_keys numbers places keys column)
+
 -- the first n cells of a column have these values
 abbrev pub HasValues : ℕ → (ℕ → ℤ) → List Outcome → Type 0
 HasValues n value column = (length column ≡ n) × ((k : ℕ) → k < n → outcome_at column k ≡ Value (value k))

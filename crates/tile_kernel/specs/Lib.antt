@@ -1,4 +1,5 @@
 pub mod Columns
+pub mod Repeated
 pub mod Selected
 pub mod Told
 pub mod Joins

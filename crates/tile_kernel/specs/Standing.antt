@@ -1,12 +1,12 @@
 -- What an accumulator stands for.
-use Rattle.std.specs.Prelude.{◌≡◌, ℕ, ◌<◌, ◌≤◌, List, ◌++◌, length, slice_index_or, Bool}
+use Rattle.std.specs.Prelude.{◌≡◌, ℕ, ◌<◌, ◌≤◌, List, ◌++◌, length, slice_index_or}
 use Rattle.std.specs.List.{All}
 use Rattle.wcps_text.specs.declared.operator.Aggregate.{Aggregate}
 use Rattle.wcps_mean.specs.declared.cell.Outcome.{Outcome}
 use Rattle.wcps_mean.specs.Condensers.{values}
 use Rattle.wcps_mean.specs.Feeding.{Keeps}
 use Rattle.tile_kernel.specs.declared.accumulator.Accumulator.{Accumulator}
-use Rattle.tile_kernel.specs.Selected.{Chooses}
+use Rattle.tile_kernel.specs.Selected.{taken}
 use Rattle.tile_kernel.specs.Told.{Told, outcomes, told_at, demanded_at, IsFirst}
 
 -- it stands for these points, told in any order
@@ -35,10 +35,9 @@ AreOf op folds = All (λ (a : Accumulator). a.running.op ≡ op) folds
 abbrev pub HaveAtMost : ℕ → List Accumulator → Type 0
 HaveAtMost n folds = All (λ (a : Accumulator). a.running.count ≤ n) folds
 
--- it stands for the cells of a column under any condition that is true where a place counts
-abbrev pub IsCondensed : Aggregate → (ℕ → Bool) → List Outcome → Accumulator → Type 0
-IsCondensed op counts column a = (places : List ℕ) (condition : List Outcome) → length places ≡ length column → length condition ≡ length column
-    → Chooses counts condition → (a.running.op ≡ op) × Stands a (demanded_at places condition column)
+-- it stands for outcomes, each as often as it counts, at whatever places
+abbrev pub IsCondensed : (ℕ → ℕ) → List Outcome → Accumulator → Type 0
+IsCondensed times heads a = (told : List Told) → outcomes told ≡ taken times heads → Stands a told
 
 -- it stands for the cells of a column, whatever places they have
 abbrev pub StandsAnywhere : Accumulator → List Outcome → Type 0

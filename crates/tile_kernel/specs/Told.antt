@@ -31,6 +31,10 @@ told_at [] os = []
 told_at (p ∷ ps) [] = []
 told_at (p ∷ ps) (o ∷ os) = (p, o) ∷ told_at ps os
 
+-- what each cell of a column adds at one place
+abbrev pub told_from : ℕ → List Outcome → ℕ → List Told
+told_from p os k = (p, outcome_at os k) ∷ []
+
 -- what a place adds under a condition: the condition's fault, or nothing, or the value's outcome
 abbrev pub demanded_of : ℕ → Outcome → Outcome → List Told
 demanded_of p c o = map (λ (d : Outcome). (p, d)) (demanded c o)

@@ -1,50 +1,88 @@
-//! Which places of a column count.
+//! How often a condenser takes in the value at a place.
 
-ghost use Rattle.std.specs.Prelude.{◌≡◌, ℕ, pos, ◌<◌, length, slice_index_or, Bool, true};
+ghost use Rattle.std.specs.Prelude.{◌≡◌, ℕ, pos, ◌<◌, ◌≤◌, length, slice_index, slice_index_or, cond};
 ghost use Rattle.wcps_mean.specs.Cells.{is_true};
 
 use wcps_mean::is_set;
 
-/// Which places a condenser takes in.
+/// How often a condenser takes in the value at each place.
 pub(crate) trait Choice {
-    ghost counts: { Self → ℕ → Bool };
+    ghost times: { Self → ℕ → ℕ };
 
     ghost places: { Self → ℕ };
 
-    /// Whether a place counts.
-    fn counts(&self, place: usize) -> bool
+    /// How often the value at a place is taken in.
+    fn times(&self, place: usize) -> u64
         requires { place < places self.now }
-        ensures { result ≡ counts self.now place };
+        ensures { result ≡ times self.now place };
 }
 
-/// Each of so many places counts.
+/// Each of so many places counts once.
 #[derive(Clone, Copy, Drop)]
 pub(crate) struct Always {
     pub len: usize,
 }
 
 impl Choice for Always {
-    ghost counts = { λ s k. true };
+    ghost times = { λ s k. 1 };
 
     ghost places = { λ s. s.len };
 
-    fn counts(&self, _: usize) -> bool {
-        true
+    fn times(&self, _: usize) -> u64 {
+        1
     }
 }
 
-/// The places count where the condition is true.
+/// The places count once where the condition is true.
 #[derive(Clone, Copy, Drop)]
 pub(crate) struct Where<'a> {
     pub condition: &'a [i64],
 }
 
 impl Choice for Where<'_> {
-    ghost counts = { λ s k. is_true (slice_index_or s.condition.now k (pos 0)) };
+    ghost times = { λ s k. cond (is_true (slice_index_or s.condition.now k (pos 0))) 1 0 };
 
     ghost places = { λ s. length s.condition.now };
 
-    fn counts(&self, place: usize) -> bool {
-        is_set(self.condition[place])
+    fn times(&self, place: usize) -> u64 {
+        if is_set(self.condition[place]) { 1 } else { 0 }
+    }
+}
+
+/// Each place counts as often as its run goes on.
+#[derive(Clone, Copy, Drop)]
+pub(crate) struct Counted<'a> {
+    pub counts: &'a [u32],
+}
+
+impl Choice for Counted<'_> {
+    ghost times = { λ s k. slice_index s.counts.now k };
+
+    ghost places = { λ s. length s.counts.now };
+
+    fn times(&self, place: usize) -> u64 {
+        self.counts[place] as u64
+    }
+}
+
+/// The places count as often as their runs go on, where the condition is true.
+#[derive(Clone, Copy, Drop)]
+pub(crate) struct CountedWhere<'a> {
+    pub condition: &'a [i64],
+    pub counts: &'a [u32],
+    ghost room: { length counts.now ≤ length condition.now },
+}
+
+impl Choice for CountedWhere<'_> {
+    ghost times = { λ s k. cond (is_true (slice_index_or s.condition.now k (pos 0))) (slice_index s.counts.now k) 0 };
+
+    ghost places = { λ s. length s.counts.now };
+
+    fn times(&self, place: usize) -> u64 {
+        if is_set(self.condition[place]) {
+            self.counts[place] as u64
+        } else {
+            0
+        }
     }
 }

@@ -1,11 +1,16 @@
 //! Columns: the outcomes at the places of a tile.
 
-ghost use Rattle.std.specs.Prelude.{◌≡◌, ◌<◌, ◌≤◌, [], length, map, replicate, slice_get, Some, IfOk};
-ghost use Rattle.std.specs.Prelude.{take};
+ghost use Rattle.std.specs.Prelude.{◌≡◌, ◌<◌, ◌≤◌, [], length, map, replicate, slice_get, sum, take, Some, IfOk, IsTrue};
+ghost use Rattle.arr_core.specs.Runs.{cells_of};
 ghost use Rattle.wcps_mean.specs.declared.cell.Outcome.TheVariants.{Value};
-ghost use Rattle.tile_kernel.specs.Columns.{outcome_of, outcome_at, AreOutcomes};
+ghost use Rattle.tile_kernel.specs.Columns.{outcome_at, AreOutcomes};
+ghost use Rattle.tile_kernel.specs.Repeated.{shown, RepeatsIf};
 
 use crate::form::Form;
+use crate::runs::spread_over;
+use crate::seen::{Runs, Seen};
+use crate::view::{View, parts};
+use arr_core::RunList;
 use std::alloc::{AllocError, Global};
 use std::marker::Model;
 use std::mem;
@@ -15,14 +20,17 @@ use wcps_mean::{Outcome, PointFault};
 pub const MAX_PLACES: usize = 4096;
 
 /// The outcomes at the places of a tile, at most `MAX_PLACES` of them. It is made once with room for all of them, and
-/// then written again and again without taking memory. One outcome at every place is kept once, and a column without a
-/// fault keeps no faults.
+/// then written again and again without taking memory, but for the counts of runs. One outcome at every place is kept
+/// once, values that come as runs are kept once a run, and a column without a fault keeps no faults.
 #[derive(Drop)]
 pub struct Column {
     pub(crate) len: usize,
     pub(crate) form: Form,
+    /// How many of the values stand for runs; none where each stands for a place.
+    pub(crate) runs: Option<usize>,
     pub(crate) values: Vec<i64>,
     pub(crate) faults: Vec<Option<PointFault>>,
+    pub(crate) counts: Vec<u32>,
 }
 
 impl Model for Column {
@@ -31,31 +39,11 @@ impl Model for Column {
 
     ghost Value = { List Outcome };
 
-    ghost use Rattle.tile_kernel.specs.Columns.{seen, IsRoomy};
+    ghost use Rattle.tile_kernel.specs.Repeated.{column_of, IsColumn};
 
-    ghost view = { λ c. seen c.form c.len c.values.items c.faults.items };
+    ghost view = { λ c. column_of c.runs c.form c.len c.values.items c.faults.items c.counts.items };
 
-    ghost invariant = { λ c. IsRoomy c.len c.values.items c.faults.items };
-}
-
-/// An outcome by its value and its fault.
-fn outcome(value: i64, fault: Option<PointFault>) -> Outcome
-    ensures { result ≡ outcome_of value fault }
-{
-    match fault {
-        None => Outcome::Value(value),
-        Some(f) => Outcome::Fault(f),
-    }
-}
-
-/// The value and the fault that stand for an outcome.
-pub(crate) fn parts(o: Outcome) -> (i64, Option<PointFault>)
-    ensures { outcome_of result.0 result.1 ≡ o }
-{
-    match o {
-        Outcome::Value(x) => (x, None),
-        Outcome::Fault(f) => (0, Some(f)),
-    }
+    ghost invariant = { λ c. IsColumn c.runs c.len c.values.items c.faults.items c.counts.items };
 }
 
 impl Column {
@@ -70,8 +58,10 @@ impl Column {
         Ok(Column {
             len: 0,
             form: Form::Values,
+            runs: None,
             values,
             faults,
+            counts: Vec::new(alloc),
         })
     }
 
@@ -83,15 +73,40 @@ impl Column {
         self.len
     }
 
-    /// The outcome at a place.
+    /// What it keeps, lent.
+    pub(crate) fn seen(&self) -> Seen<'_>
+        ensures value { shown result ≡ self.now }
+        ensures few { length self.now ≤ 4096 }
+    {
+        match self.runs {
+            None => {
+                return Seen::Each(View {
+                    len: self.len,
+                    form: self.form,
+                    values: self.values.as_slice(),
+                    faults: self.faults.as_slice(),
+                });
+            }
+            Some(runs) => {
+                return Seen::Runs(Runs {
+                    len: self.len,
+                    values: self.values.as_slice(),
+                    faults: self.faults.as_slice(),
+                    counts: &self.counts[..runs],
+                });
+            }
+        }
+    }
+
+    /// The outcome at a place. Where values are kept as runs it is looked for from the first one on: `spread` first where
+    /// many places are read.
     pub fn at(&self, place: usize) -> Outcome
         requires { place < length self.now }
         ensures { slice_get self.now place ≡ Some result }
     {
-        match self.form {
-            Form::Same(o) => return o,
-            Form::Values => return Outcome::Value(self.values[place]),
-            Form::Mixed => return outcome(self.values[place], self.faults[place]),
+        match self.seen() {
+            Seen::Each(view) => return view.at(place),
+            Seen::Runs(runs) => return runs.at(place),
         }
     }
 
@@ -102,6 +117,7 @@ impl Column {
     {
         self.len = len;
         self.form = Form::Same(o);
+        self.runs = None;
     }
 
     /// Makes it the values of these cells.
@@ -112,6 +128,7 @@ impl Column {
         copy_in(&mut self.values, cells);
         self.len = cells.len();
         self.form = Form::Values;
+        self.runs = None;
     }
 
     /// Makes it the values of as many cells as it has places at most, and gives what it held for their list.
@@ -123,6 +140,36 @@ impl Column {
         mem::swap(&mut self.values, cells);
         self.len = MAX_PLACES;
         self.form = Form::Values;
+        self.runs = None;
+    }
+
+    /// Makes it the values of as many cells as it has places at most, which come as runs, and gives what it held for
+    /// their values. Without memory for their counts the cells are written place by place.
+    pub fn exchange_runs(&mut self, cells: &mut RunList)
+        requires room { length cells.old.values.items ≡ 4096 }
+        requires places { length (cells_of cells.old) ≡ 4096 }
+        ensures value { self.new ≡ map Value (cells_of cells.old) }
+        ensures room { length cells.new.values.items ≡ 4096 }
+    {
+        self.len = MAX_PLACES;
+        self.form = Form::Values;
+        let runs = cells.counts.len().min(MAX_PLACES);
+        if runs == 0 {
+            mem::swap(&mut self.values, &mut cells.values);
+            self.runs = None;
+            return;
+        }
+        if copy_counts(&mut self.counts, &cells.counts[..runs]) {
+            mem::swap(&mut self.values, &mut cells.values);
+            self.runs = Some(runs);
+            return;
+        }
+        spread_over(
+            &cells.values,
+            &cells.counts[..runs],
+            self.values.as_mut_slice(),
+        );
+        self.runs = None;
     }
 
     /// Makes it these outcomes.
@@ -133,7 +180,67 @@ impl Column {
         copy_outcomes(&mut self.values, &mut self.faults, outcomes);
         self.len = outcomes.len();
         self.form = Form::Mixed;
+        self.runs = None;
     }
+
+    /// Makes each of its outcomes stand as often as its count says, over `len` places in all, if all are values and there
+    /// is memory for the counts; tells whether it did.
+    pub(crate) fn repeat(&mut self, counts: &[u32], len: usize) -> bool
+        requires even { length counts.now ≡ length self.old }
+        requires total { sum counts.now ≡ len }
+        requires few { len ≤ 4096 }
+        ensures { RepeatsIf result counts.now self.old self.new }
+    {
+        match self.runs {
+            Some(_) => return false,
+            None => match self.form {
+                Form::Values => {
+                    if !copy_counts(&mut self.counts, counts) {
+                        return false;
+                    }
+                    self.len = len;
+                    self.runs = Some(counts.len());
+                    return true;
+                }
+                _ => return false,
+            },
+        }
+    }
+
+    /// Keeps each outcome at its place, so that reading one takes the same time at all places.
+    #[inline(never)]
+    pub fn spread(&mut self)
+        ensures { self.new ≡ self.old }
+    {
+        match self.runs {
+            None => return,
+            Some(runs) => {
+                let mut room = [0i64; MAX_PLACES];
+                copy_heads(&mut room, self.values.as_slice());
+                spread_over(&room, &self.counts[..runs], self.values.as_mut_slice());
+                self.runs = None;
+                self.form = Form::Values;
+            }
+        }
+    }
+}
+
+/// Copies values to others.
+fn copy_heads(heads: &mut [i64], values: &[i64])
+    requires { length values.now ≤ length heads.old }
+    ensures { take (length values.now) heads.new ≡ values.now }
+{
+    for k in 0..values.len() {
+        heads[k] = values[k];
+    }
+}
+
+/// Makes counts the same as others, if there is memory for them; tells whether it did.
+fn copy_counts(all: &mut Vec<u32>, counts: &[u32]) -> bool
+    ensures { IsTrue result → all.new.items ≡ counts.now }
+{
+    all.clear();
+    all.extend_from_slice(counts).is_ok()
 }
 
 /// Puts the values and the faults that stand for outcomes to the front of lists.

@@ -4,12 +4,15 @@ ghost use Rattle.std.specs.Prelude.{◌≡◌, ◌+◌, ◌<◌, ◌≤◌, ◌^
 ghost use Rattle.std.specs.List.{All};
 ghost use Rattle.wcps_text.specs.declared.operator.Aggregate.{Aggregate};
 ghost use Rattle.tile_kernel.specs.Columns.{outcome_at};
-ghost use Rattle.tile_kernel.specs.Told.{Told, told_at, ComesTo};
+ghost use Rattle.tile_kernel.specs.Repeated.{runs_shown};
+ghost use Rattle.tile_kernel.specs.Told.{Told, told_at, told_from, ComesTo};
 ghost use Rattle.tile_kernel.specs.Condensing.{IsUnordered, StandsForBoth, ComesToBoth, EachIsTold};
 
 use crate::accumulator::{Accumulator, Placed, least_fault};
-use crate::column::Column;
+use crate::column::{Column, MAX_PLACES};
+use crate::seen::{Runs, Seen};
 use crate::summary::Summary;
+use crate::view::View;
 use wcps_mean::Outcome;
 
 /// What a condenser keeps of points of one box, at most 2^24 of them, each told by its place in the row-major list of the
@@ -140,6 +143,29 @@ pub fn condense<C: Condenser>(column: &Column, places: &[u64]) -> C
     ensures stands { C.stands result (told_at places.now column.now) }
     ensures counted { C.counted result ≤ length column.now }
 {
+    match column.seen() {
+        Seen::Each(view) => return condense_view::<C>(&view, places),
+        Seen::Runs(runs) => return condense_runs::<C>(&runs, places),
+    }
+}
+
+/// The condenser of outcomes that are kept as runs.
+#[inline(never)]
+fn condense_runs<C: Condenser>(column: &Runs<'_>, places: &[u64]) -> C
+    requires { length places.now ≡ length (runs_shown column.now) }
+    ensures stands { C.stands result (told_at places.now (runs_shown column.now)) }
+    ensures counted { C.counted result ≤ length (runs_shown column.now) }
+{
+    let mut room = [0i64; MAX_PLACES];
+    condense_view::<C>(&column.spread(&mut room), places)
+}
+
+/// The condenser of outcomes at each place.
+fn condense_view<C: Condenser>(column: &View<'_>, places: &[u64]) -> C
+    requires { length places.now ≡ length column.now }
+    ensures stands { C.stands result (told_at places.now column.now) }
+    ensures counted { C.counted result ≤ length column.now }
+{
     let mut all = C::empty();
     for k in 0..column.len() {
         all = all.merge(C::one(places[k], column.at(k)));
@@ -150,6 +176,35 @@ pub fn condense<C: Condenser>(column: &Column, places: &[u64]) -> C
 /// Each condenser is told of one more point, that with this place in the box of all of them: the k-th of the outcome at
 /// the k-th place of the column.
 pub fn tell_each<C: Condenser>(condensers: &mut [C], place: u64, column: &Column)
+    requires length { length condensers.old ≡ length column.now }
+    requires room { All (λ c. C.counted c ≤ place) condensers.old }
+    requires few { place < 2 ^ 24 }
+    ensures stands { EachIsTold C.stands condensers.old condensers.new (λ k. (place, outcome_at column.now k) ∷ []) }
+    ensures room { All (λ c. C.counted c ≤ place + 1) condensers.new }
+    ensures length { length condensers.new ≡ length condensers.old }
+{
+    match column.seen() {
+        Seen::Each(view) => tell_view::<C>(condensers, place, &view),
+        Seen::Runs(runs) => tell_runs::<C>(condensers, place, &runs),
+    }
+}
+
+/// The same of outcomes that are kept as runs.
+#[inline(never)]
+fn tell_runs<C: Condenser>(condensers: &mut [C], place: u64, column: &Runs<'_>)
+    requires length { length condensers.old ≡ length (runs_shown column.now) }
+    requires room { All (λ c. C.counted c ≤ place) condensers.old }
+    requires few { place < 2 ^ 24 }
+    ensures stands { EachIsTold C.stands condensers.old condensers.new (told_from place (runs_shown column.now)) }
+    ensures room { All (λ c. C.counted c ≤ place + 1) condensers.new }
+    ensures length { length condensers.new ≡ length condensers.old }
+{
+    let mut room = [0i64; MAX_PLACES];
+    tell_view::<C>(condensers, place, &column.spread(&mut room));
+}
+
+/// The same of outcomes at each place.
+fn tell_view<C: Condenser>(condensers: &mut [C], place: u64, column: &View<'_>)
     requires length { length condensers.old ≡ length column.now }
     requires room { All (λ c. C.counted c ≤ place) condensers.old }
     requires few { place < 2 ^ 24 }

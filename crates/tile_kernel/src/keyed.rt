@@ -2,13 +2,16 @@
 
 ghost use Rattle.std.specs.Prelude.{◌≡◌, ◌-◌, ◌+◌, ◌<◌, ◌≤◌, ◌^◌, ℕ, ℤ, List, [], ◌∷◌, length, slice_index_or, IfSome};
 ghost use Rattle.wcps_text.specs.declared.operator.Aggregate.{Aggregate};
+ghost use Rattle.tile_kernel.specs.Repeated.{shown};
 ghost use Rattle.tile_kernel.specs.Standing.{AreOf, HaveAtMost, EachTakesIn};
-ghost use Rattle.tile_kernel.specs.Keyed.{told_by_key, told_by_keys, TakeInValue, TakeInValues, IsPlaceOf};
+ghost use Rattle.tile_kernel.specs.Keyed.{told_by_key, told_by_keys, TakeCells, TakeInValue, TakeInValues, IsPlaceOf};
 
 use crate::accumulator::Accumulator;
-use crate::column::Column;
+use crate::column::{Column, MAX_PLACES};
 use crate::form::Form;
 use crate::operand::{Each, Operand, Same};
+use crate::seen::Seen;
+use crate::view::View;
 use wcps_mean::Outcome;
 
 /// Different numbers, each at a place of its own.
@@ -62,8 +65,8 @@ fn tell_keyed<N: Numbers>(
 fn tell_cells<N: Numbers>(
     folds: &mut [Accumulator],
     numbers: &N,
-    keys: &Column,
-    column: &Column,
+    keys: &View<'_>,
+    column: &View<'_>,
     places: &[u64],
 )
     requires folds { length folds.old ≡ length (N.numbers numbers.now) }
@@ -139,18 +142,94 @@ pub fn add_keyed<N: Numbers>(
     ensures op { (op : Aggregate) → AreOf op folds.old → AreOf op folds.new }
     ensures length { length folds.new ≡ length folds.old }
 {
+    let own = keys.seen();
+    let cells = column.seen();
+    add_seen(folds, numbers, &own, &cells, places);
+}
+
+/// The same of what two columns keep.
+fn add_seen<N: Numbers>(
+    folds: &mut [Accumulator],
+    numbers: &N,
+    keys: &Seen<'_>,
+    column: &Seen<'_>,
+    places: &[u64],
+)
+    requires folds { length folds.old ≡ length (N.numbers numbers.now) }
+    requires keys { length (shown keys.now) ≡ length (shown column.now) }
+    requires places { length places.now ≡ length (shown column.now) }
+    requires room { HaveAtMost (2 ^ 24 - length (shown column.now)) folds.old }
+    requires few { length (shown column.now) ≤ 4096 }
+    ensures stands { TakeCells (N.numbers numbers.now) places.now (shown keys.now) (shown column.now) folds.old folds.new }
+    ensures room { (n : ℕ) → HaveAtMost n folds.old → HaveAtMost (n + length (shown column.now)) folds.new }
+    ensures op { (op : Aggregate) → AreOf op folds.old → AreOf op folds.new }
+    ensures length { length folds.new ≡ length folds.old }
+{
+    if let Seen::Each(own) = keys {
+        if let Seen::Each(cells) = column {
+            add_views(folds, numbers, own, cells, places);
+            return;
+        }
+    }
+    add_spread(folds, numbers, keys, column, places);
+}
+
+/// The same place by place, where one of them is kept as runs.
+#[inline(never)]
+fn add_spread<N: Numbers>(
+    folds: &mut [Accumulator],
+    numbers: &N,
+    keys: &Seen<'_>,
+    column: &Seen<'_>,
+    places: &[u64],
+)
+    requires folds { length folds.old ≡ length (N.numbers numbers.now) }
+    requires keys { length (shown keys.now) ≡ length (shown column.now) }
+    requires places { length places.now ≡ length (shown column.now) }
+    requires room { HaveAtMost (2 ^ 24 - length (shown column.now)) folds.old }
+    requires few { length (shown column.now) ≤ 4096 }
+    ensures stands { TakeCells (N.numbers numbers.now) places.now (shown keys.now) (shown column.now) folds.old folds.new }
+    ensures room { (n : ℕ) → HaveAtMost n folds.old → HaveAtMost (n + length (shown column.now)) folds.new }
+    ensures op { (op : Aggregate) → AreOf op folds.old → AreOf op folds.new }
+    ensures length { length folds.new ≡ length folds.old }
+{
+    let mut first = [0i64; MAX_PLACES];
+    let mut second = [0i64; MAX_PLACES];
+    let own = keys.spread(&mut first);
+    let cells = column.spread(&mut second);
+    add_views(folds, numbers, &own, &cells, places);
+}
+
+/// The same of outcomes at each place.
+fn add_views<N: Numbers>(
+    folds: &mut [Accumulator],
+    numbers: &N,
+    keys: &View<'_>,
+    column: &View<'_>,
+    places: &[u64],
+)
+    requires folds { length folds.old ≡ length (N.numbers numbers.now) }
+    requires keys { length keys.now ≡ length column.now }
+    requires places { length places.now ≡ length column.now }
+    requires room { HaveAtMost (2 ^ 24 - length column.now) folds.old }
+    requires few { length column.now ≤ 4096 }
+    ensures stands { EachTakesIn folds.old folds.new (told_by_keys (N.numbers numbers.now) places.now keys.now column.now) }
+    ensures room { (n : ℕ) → HaveAtMost n folds.old → HaveAtMost (n + length column.now) folds.new }
+    ensures op { (op : Aggregate) → AreOf op folds.old → AreOf op folds.new }
+    ensures length { length folds.new ≡ length folds.old }
+{
     match keys.form {
         Form::Values => match column.form {
             Form::Values => {
                 let values = Each {
-                    values: column.values.as_slice(),
+                    values: column.values,
                 };
-                tell_values(folds, numbers, keys.values.as_slice(), &values, column.len);
+                tell_values(folds, numbers, keys.values, &values, column.len);
             }
             Form::Same(o) => match o {
                 Outcome::Value(value) => {
                     let values = Same { value };
-                    tell_values(folds, numbers, keys.values.as_slice(), &values, column.len);
+                    tell_values(folds, numbers, keys.values, &values, column.len);
                 }
                 Outcome::Fault(_) => tell_cells(folds, numbers, keys, column, places),
             },

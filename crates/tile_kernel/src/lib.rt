@@ -17,11 +17,16 @@ mod operand;
 mod operate;
 mod operate_one;
 mod operations;
+mod pair;
+mod paired;
 mod reduce;
+mod runs;
+mod seen;
 mod slots;
 mod summaries;
 mod summary;
 mod trial;
+mod view;
 mod windows;
 
 pub use accumulator::Accumulator;

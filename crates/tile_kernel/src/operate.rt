@@ -4,8 +4,9 @@ ghost use Rattle.std.specs.Prelude.{◌≡◌, ◌≤◌, length, IsTrue};
 ghost use Rattle.wcps_mean.specs.Cells.{exact2};
 ghost use Rattle.wcps_text.specs.declared.operator.BinaryOperator.TheVariants.{Multiply, Divide};
 ghost use Rattle.tile_kernel.specs.Columns.{operate_all, each2, each_with, AreValues, AreOutcomes};
+ghost use Rattle.tile_kernel.specs.Repeated.{shown};
 
-use crate::column::{Column, parts};
+use crate::column::{Column, MAX_PLACES};
 use crate::form::Form;
 use crate::lanes::try_lanes;
 use crate::loops::try_places;
@@ -14,17 +15,77 @@ use crate::operations::{
     BitSet, Both, Difference, Either, IsAtLeast, IsAtMost, IsEqual, IsGreater, IsLess, IsOther,
     NarrowProduct, OneOnly, Product, Quotient, Sum,
 };
+use crate::paired::paired;
+use crate::seen::Seen;
+use crate::view::{View, parts};
 use wcps_mean::{Outcome, PointFault, operate_both};
 use wcps_text::BinaryOperator;
 
 /// Makes `out` the operation at each place: the left operand's fault, else the right one's, else the exact result,
-/// tested. It takes no memory. Operands without faults are tried in one loop; only where some result there is no value
-/// is each place taken by itself.
+/// tested. Operands without faults are tried in one loop; only where some result there is no value is each place taken by
+/// itself. Operands over the same runs are taken run by run where each result is a value: then alone it takes memory, for
+/// their counts, and does without where there is none.
 pub fn operate_columns(op: BinaryOperator, left: &Column, right: &Column, out: &mut Column)
     requires { length left.now ≡ length right.now }
     ensures { out.new ≡ operate_all op left.now right.now }
 {
+    let l = left.seen();
+    let r = right.seen();
+    operate_seen(op, &l, &r, out);
+}
+
+/// The operation on what two columns keep.
+fn operate_seen(op: BinaryOperator, left: &Seen<'_>, right: &Seen<'_>, out: &mut Column)
+    requires { length (shown left.now) ≡ length (shown right.now) }
+    ensures { out.new ≡ operate_all op (shown left.now) (shown right.now) }
+{
+    if let Seen::Each(l) = left {
+        if let Seen::Each(r) = right {
+            operate_views(op, l, r, out);
+            return;
+        }
+    }
+    if operate_runs(op, left, right, out) {
+        return;
+    }
+    operate_spread(op, left, right, out);
+}
+
+/// Makes `out` the operation run by run, where both go over the same runs and each result is a value; tells whether it
+/// did.
+fn operate_runs(op: BinaryOperator, left: &Seen<'_>, right: &Seen<'_>, out: &mut Column) -> bool
+    requires { length (shown left.now) ≡ length (shown right.now) }
+    ensures { IsTrue result → out.new ≡ operate_all op (shown left.now) (shown right.now) }
+{
+    match paired(left, right) {
+        Some(pair) => {
+            operate_views(op, &pair.left, &pair.right, out);
+            return out.repeat(pair.counts, pair.len);
+        }
+        None => return false,
+    }
+}
+
+/// The operation place by place, where an operand is kept as runs.
+#[inline(never)]
+fn operate_spread(op: BinaryOperator, left: &Seen<'_>, right: &Seen<'_>, out: &mut Column)
+    requires { length (shown left.now) ≡ length (shown right.now) }
+    ensures { out.new ≡ operate_all op (shown left.now) (shown right.now) }
+{
+    let mut first = [0i64; MAX_PLACES];
+    let mut second = [0i64; MAX_PLACES];
+    let l = left.spread(&mut first);
+    let r = right.spread(&mut second);
+    operate_views(op, &l, &r, out);
+}
+
+/// The operation on outcomes at each place.
+fn operate_views(op: BinaryOperator, left: &View<'_>, right: &View<'_>, out: &mut Column)
+    requires { length left.now ≡ length right.now }
+    ensures { out.new ≡ operate_all op left.now right.now }
+{
     out.len = left.len;
+    out.runs = None;
     if let Form::Same(l) = left.form {
         if let Form::Same(r) = right.form {
             out.form = Form::Same(operate_both(op, l, r));
@@ -40,7 +101,7 @@ pub fn operate_columns(op: BinaryOperator, left: &Column, right: &Column, out: &
 }
 
 /// Tries an operation where no operand has a fault; tells whether each result is its outcome.
-fn try_columns(op: BinaryOperator, left: &Column, right: &Column, out: &mut Vec<i64>) -> bool
+fn try_columns(op: BinaryOperator, left: &View<'_>, right: &View<'_>, out: &mut Vec<i64>) -> bool
     requires same { length left.now ≡ length right.now }
     requires room { length out.old.items ≡ 4096 }
     ensures value { IsTrue result → AreValues (length left.now) (each2 op left.now right.now) out.new.items }
@@ -50,7 +111,7 @@ fn try_columns(op: BinaryOperator, left: &Column, right: &Column, out: &mut Vec<
     match left.form {
         Form::Values => {
             let each = Each {
-                values: left.values.as_slice(),
+                values: left.values,
             };
             return try_right(op, left.len, &each, right, cells);
         }
@@ -67,7 +128,7 @@ fn try_right<L: Operand>(
     op: BinaryOperator,
     len: usize,
     left: &L,
-    right: &Column,
+    right: &View<'_>,
     out: &mut [i64],
 ) -> bool
     requires left { len ≤ L.places left.now }
@@ -78,7 +139,7 @@ fn try_right<L: Operand>(
     match right.form {
         Form::Values => {
             let each = Each {
-                values: right.values.as_slice(),
+                values: right.values,
             };
             return try_operation(op, len, left, &each, out);
         }
@@ -176,8 +237,8 @@ fn try_product<L: Operand, R: Operand>(len: usize, left: &L, right: &R, out: &mu
 /// The operation place by place.
 fn operate_each(
     op: BinaryOperator,
-    left: &Column,
-    right: &Column,
+    left: &View<'_>,
+    right: &View<'_>,
     values: &mut Vec<i64>,
     faults: &mut Vec<Option<PointFault>>,
 )

@@ -3,20 +3,56 @@
 ghost use Rattle.std.specs.Prelude.{◌≡◌, pos, ◌≤◌, length, map, slice_index_or, IsTrue};
 ghost use Rattle.wcps_mean.specs.Cells.{exact1, operate1};
 ghost use Rattle.tile_kernel.specs.Columns.{each1, AreValues, AreOutcomes};
+ghost use Rattle.tile_kernel.specs.Repeated.{runs_shown};
 
-use crate::column::{Column, parts};
+use crate::column::{Column, MAX_PLACES};
 use crate::form::Form;
 use crate::loops::try_places;
 use crate::operand::{Each, Same};
 use crate::operations::{Itself, Magnitude, Negative, Opposite};
+use crate::seen::{Runs, Seen};
+use crate::view::{View, parts};
 use wcps_mean::{PointFault, operate};
 use wcps_text::UnaryOperator;
 
-/// Makes `out` the operation at each place: the operand's fault, else the exact result, tested. It takes no memory.
+/// Makes `out` the operation at each place: the operand's fault, else the exact result, tested. An operand that is kept as
+/// runs is taken run by run where each result is a value: then alone it takes memory, for their counts, and does without
+/// where there is none.
 pub fn operate_column(op: UnaryOperator, operand: &Column, out: &mut Column)
     ensures { out.new ≡ map (operate1 op) operand.now }
 {
+    match operand.seen() {
+        Seen::Each(view) => operate_view(op, &view, out),
+        Seen::Runs(runs) => operate_runs(op, &runs, out),
+    }
+}
+
+/// The operation run by run; place by place where some result is a fault.
+fn operate_runs(op: UnaryOperator, operand: &Runs<'_>, out: &mut Column)
+    ensures { out.new ≡ map (operate1 op) (runs_shown operand.now) }
+{
+    operate_view(op, &operand.heads(), out);
+    if out.repeat(operand.counts, operand.len) {
+        return;
+    }
+    operate_spread(op, operand, out);
+}
+
+/// The operation place by place.
+#[inline(never)]
+fn operate_spread(op: UnaryOperator, operand: &Runs<'_>, out: &mut Column)
+    ensures { out.new ≡ map (operate1 op) (runs_shown operand.now) }
+{
+    let mut room = [0i64; MAX_PLACES];
+    operate_view(op, &operand.spread(&mut room), out);
+}
+
+/// The operation on outcomes at each place.
+fn operate_view(op: UnaryOperator, operand: &View<'_>, out: &mut Column)
+    ensures { out.new ≡ map (operate1 op) operand.now }
+{
     out.len = operand.len;
+    out.runs = None;
     if let Form::Same(o) = operand.form {
         out.form = Form::Same(operate(op, o));
         return;
@@ -30,7 +66,7 @@ pub fn operate_column(op: UnaryOperator, operand: &Column, out: &mut Column)
 }
 
 /// Tries an operation where the operand has no fault; tells whether each result is its outcome.
-fn try_column(op: UnaryOperator, operand: &Column, out: &mut Vec<i64>) -> bool
+fn try_column(op: UnaryOperator, operand: &View<'_>, out: &mut Vec<i64>) -> bool
     requires { length out.old.items ≡ 4096 }
     ensures value { IsTrue result → AreValues (length operand.now) (each1 op operand.now) out.new.items }
     ensures room { length out.new.items ≡ 4096 }
@@ -39,7 +75,7 @@ fn try_column(op: UnaryOperator, operand: &Column, out: &mut Vec<i64>) -> bool
     match operand.form {
         Form::Values => {
             let each = Each {
-                values: operand.values.as_slice(),
+                values: operand.values,
             };
             return try_one(op, operand.len, &each, cells);
         }
@@ -69,7 +105,7 @@ fn try_one(op: UnaryOperator, len: usize, operand: &Each<'_>, out: &mut [i64]) -
 /// The operation place by place.
 fn operate_each_one(
     op: UnaryOperator,
-    operand: &Column,
+    operand: &View<'_>,
     values: &mut Vec<i64>,
     faults: &mut Vec<Option<PointFault>>,
 )

@@ -1,13 +1,13 @@
 //! What a condenser keeps of a column's values.
 
 ghost use Rattle.std.specs.Prelude.{◌≡◌, ◌+◌, ◌*◌, ◌≤◌, ◌^◌, ℤ, pos, neg_ℤ, ◌+ℤ◌, ◌≤ℤ◌, List, ◌++◌, ◌∷◌, []};
-ghost use Rattle.std.specs.Prelude.{length, None, cond};
+ghost use Rattle.std.specs.Prelude.{length, replicate, None, cond, nat_lt};
 ghost use Rattle.wcps_mean.specs.Cells.{is_true};
 ghost use Rattle.wcps_mean.specs.Condensers.{total, trues, larger, smaller};
 ghost use Rattle.wcps_mean.specs.Best.{greatest_of, least_of};
 ghost use Rattle.wcps_mean.specs.Products.{StandsFor};
 ghost use Rattle.wcps_mean.specs.Feeding.{Keeps};
-ghost use Rattle.tile_kernel.specs.Selected.{selected};
+ghost use Rattle.tile_kernel.specs.Selected.{selected, taken_in};
 
 use crate::choice::Choice;
 use crate::joined::{larger, smaller};
@@ -15,19 +15,19 @@ use crate::operand::Operand;
 use wcps_mean::{Product, Running, is_set};
 use wcps_text::Aggregate;
 
-/// What a condenser keeps of the values at those of the first `len` places that count.
+/// What a condenser keeps of the values at the first `len` places, each as often as it counts.
 pub(crate) fn condense_values<V: Operand, C: Choice>(
     op: Aggregate,
     len: usize,
     values: &V,
     choice: &C,
 ) -> Running
-    requires few { len ≤ 4096 }
+    requires few { taken_in (C.times choice.now) len ≤ 4096 }
     requires values { len ≤ V.places values.now }
     requires choice { len ≤ C.places choice.now }
-    ensures kept { Keeps op result (selected (C.counts choice.now) (V.value values.now) len) }
+    ensures kept { Keeps op result (selected (C.times choice.now) (V.value values.now) len) }
     ensures op { result.op ≡ op }
-    ensures count { result.count ≡ length (selected (C.counts choice.now) (V.value values.now) len) }
+    ensures count { result.count ≡ length (selected (C.times choice.now) (V.value values.now) len) }
     ensures fault { result.fault ≡ None }
 {
     let mut running = Running::new(op);
@@ -69,22 +69,16 @@ pub(crate) fn condense_values<V: Operand, C: Choice>(
     }
 }
 
-/// The number where a place counts, else 0.
-fn weighted(counts: bool, x: u64) -> u64
-    ensures { result ≡ cond counts x 0 }
-{
-    if counts { x } else { 0 }
-}
-
-/// How many of the first `len` places count.
+/// How often the first `len` places count.
 fn places_over<V: Operand, C: Choice>(len: usize, values: &V, choice: &C) -> u64
-    requires { len ≤ C.places choice.now }
-    ensures value { result ≡ length (selected (C.counts choice.now) (V.value values.now) len) }
-    ensures few { result ≤ len }
+    requires few { taken_in (C.times choice.now) len ≤ 4096 }
+    requires choice { len ≤ C.places choice.now }
+    ensures value { result ≡ length (selected (C.times choice.now) (V.value values.now) len) }
+    ensures few { result ≤ 4096 }
 {
     let mut count: u64 = 0;
     for place in 0..len {
-        count += weighted(choice.counts(place), 1);
+        count += choice.times(place);
     }
     count
 }
@@ -98,60 +92,61 @@ fn raised(x: i64) -> u64
 
 /// The exact sum of so many values: the low and the high halves of the raised values are summed apart.
 fn sum_over<V: Operand, C: Choice>(len: usize, values: &V, choice: &C, count: u64) -> i128
-    requires few { len ≤ 4096 }
+    requires few { taken_in (C.times choice.now) len ≤ 4096 }
     requires values { len ≤ V.places values.now }
     requires choice { len ≤ C.places choice.now }
-    requires count { count ≡ length (selected (C.counts choice.now) (V.value values.now) len) }
-    ensures value { result ≡ total (selected (C.counts choice.now) (V.value values.now) len) }
+    requires count { count ≡ length (selected (C.times choice.now) (V.value values.now) len) }
+    ensures value { result ≡ total (selected (C.times choice.now) (V.value values.now) len) }
     ensures from_below { neg_ℤ (pos (count * 2 ^ 63)) ≤ℤ result }
     ensures from_above { (result +ℤ pos count) ≤ℤ pos (count * 2 ^ 63) }
 {
     let mut low: u64 = 0;
     let mut high: u64 = 0;
     for place in 0..len {
-        let counts = choice.counts(place);
+        let times = choice.times(place);
         let bits = raised(values.value(place));
-        low += weighted(counts, bits % 4_294_967_296);
-        high += weighted(counts, bits / 4_294_967_296);
+        low += times * (bits % 4_294_967_296);
+        high += times * (bits / 4_294_967_296);
     }
     low as i128 + high as i128 * 4_294_967_296 - count as i128 * 9_223_372_036_854_775_808
 }
 
-/// The product with one more factor, where it counts.
-fn times_if(counts: bool, product: Product, x: i64) -> Product
-    ensures { (zs : List ℤ) → StandsFor product zs → StandsFor result (zs ++ cond counts (x ∷ []) []) }
+/// The product with one more factor, as often as it counts.
+fn times_by(times: u64, product: Product, x: i64) -> Product
+    ensures { (zs : List ℤ) → StandsFor product zs → StandsFor result (zs ++ replicate times x) }
 {
-    if counts {
-        return product.times(x);
+    let mut all = product;
+    for _copy in 0..times {
+        all = all.times(x);
     }
-    product
+    all
 }
 
 /// The product.
 fn product_over<V: Operand, C: Choice>(len: usize, values: &V, choice: &C) -> Product
     requires values { len ≤ V.places values.now }
     requires choice { len ≤ C.places choice.now }
-    ensures { StandsFor result (selected (C.counts choice.now) (V.value values.now) len) }
+    ensures { StandsFor result (selected (C.times choice.now) (V.value values.now) len) }
 {
     let mut product = Product::new();
     for place in 0..len {
-        product = times_if(choice.counts(place), product, values.value(place));
+        product = times_by(choice.times(place), product, values.value(place));
     }
     product
 }
 
 /// The larger of two values where the second one counts, else the first one.
-fn larger_if(counts: bool, best: i64, x: i64) -> i64
-    ensures { result ≡ cond counts (larger best x) best }
+fn larger_if(times: u64, best: i64, x: i64) -> i64
+    ensures { result ≡ cond (nat_lt 0 times) (larger best x) best }
 {
-    if counts { larger(best, x) } else { best }
+    if times > 0 { larger(best, x) } else { best }
 }
 
 /// The smaller of two values where the second one counts, else the first one.
-fn smaller_if(counts: bool, best: i64, x: i64) -> i64
-    ensures { result ≡ cond counts (smaller best x) best }
+fn smaller_if(times: u64, best: i64, x: i64) -> i64
+    ensures { result ≡ cond (nat_lt 0 times) (smaller best x) best }
 {
-    if counts { smaller(best, x) } else { best }
+    if times > 0 { smaller(best, x) } else { best }
 }
 
 /// The greatest of so many values, if there are any.
@@ -163,12 +158,12 @@ fn greatest_over<V: Operand, C: Choice>(
 ) -> Option<i64>
     requires values { len ≤ V.places values.now }
     requires choice { len ≤ C.places choice.now }
-    requires count { count ≡ length (selected (C.counts choice.now) (V.value values.now) len) }
-    ensures { result ≡ greatest_of (selected (C.counts choice.now) (V.value values.now) len) }
+    requires count { count ≡ length (selected (C.times choice.now) (V.value values.now) len) }
+    ensures { result ≡ greatest_of (selected (C.times choice.now) (V.value values.now) len) }
 {
     let mut best = i64::MIN;
     for place in 0..len {
-        best = larger_if(choice.counts(place), best, values.value(place));
+        best = larger_if(choice.times(place), best, values.value(place));
     }
     if count == 0 {
         return None;
@@ -180,12 +175,12 @@ fn greatest_over<V: Operand, C: Choice>(
 fn least_over<V: Operand, C: Choice>(len: usize, values: &V, choice: &C, count: u64) -> Option<i64>
     requires values { len ≤ V.places values.now }
     requires choice { len ≤ C.places choice.now }
-    requires count { count ≡ length (selected (C.counts choice.now) (V.value values.now) len) }
-    ensures { result ≡ least_of (selected (C.counts choice.now) (V.value values.now) len) }
+    requires count { count ≡ length (selected (C.times choice.now) (V.value values.now) len) }
+    ensures { result ≡ least_of (selected (C.times choice.now) (V.value values.now) len) }
 {
     let mut best = i64::MAX;
     for place in 0..len {
-        best = smaller_if(choice.counts(place), best, values.value(place));
+        best = smaller_if(choice.times(place), best, values.value(place));
     }
     if count == 0 {
         return None;
@@ -195,15 +190,18 @@ fn least_over<V: Operand, C: Choice>(len: usize, values: &V, choice: &C, count: 
 
 /// How many of the values are true.
 fn trues_over<V: Operand, C: Choice>(len: usize, values: &V, choice: &C) -> u64
+    requires few { taken_in (C.times choice.now) len ≤ 4096 }
     requires values { len ≤ V.places values.now }
     requires choice { len ≤ C.places choice.now }
-    ensures value { result ≡ trues (selected (C.counts choice.now) (V.value values.now) len) }
-    ensures few { result ≤ len }
-    ensures some { result ≤ length (selected (C.counts choice.now) (V.value values.now) len) }
+    ensures value { result ≡ trues (selected (C.times choice.now) (V.value values.now) len) }
+    ensures few { result ≤ 4096 }
+    ensures some { result ≤ length (selected (C.times choice.now) (V.value values.now) len) }
 {
     let mut count: u64 = 0;
     for place in 0..len {
-        count += weighted(choice.counts(place), weight(values.value(place)));
+        let times = choice.times(place);
+        let one = weight(values.value(place));
+        count += times * one;
     }
     count
 }

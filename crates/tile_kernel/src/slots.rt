@@ -1,9 +1,12 @@
 //! Different numbers of a short range, each at a place of its own.
 
 ghost use Rattle.std.specs.Prelude.{◌≡◌, ℕ, ◌+◌, ◌-◌, ◌<◌, ◌≤◌, ◌^◌, ◌+ℤ◌, pos, [], length, slice_set, IfOk, OnOk, IfSome, IfNone};
+ghost use Rattle.tile_kernel.specs.Repeated.{runs_shown};
 
-use crate::column::Column;
+use crate::column::{Column, MAX_PLACES};
 use crate::keyed::Numbers;
+use crate::seen::{Runs, Seen};
+use crate::view::View;
 use std::alloc::{AllocError, Global};
 use std::marker::Model;
 use wcps_mean::Outcome;
@@ -47,6 +50,25 @@ impl Slots {
     pub fn of(alloc: Global, column: &Column) -> Result<Slots, AllocError>
         ensures { IfOk result (λ s. length s ≤ length column.now) }
     {
+        match column.seen() {
+            Seen::Each(view) => Slots::of_view(alloc, &view),
+            Seen::Runs(runs) => Slots::of_runs(alloc, &runs),
+        }
+    }
+
+    /// The same of outcomes that are kept as runs.
+    #[inline(never)]
+    fn of_runs(alloc: Global, column: &Runs<'_>) -> Result<Slots, AllocError>
+        ensures { IfOk result (λ s. length s ≤ length (runs_shown column.now)) }
+    {
+        let mut room = [0i64; MAX_PLACES];
+        Slots::of_view(alloc, &column.spread(&mut room))
+    }
+
+    /// The same of outcomes at each place.
+    fn of_view(alloc: Global, column: &View<'_>) -> Result<Slots, AllocError>
+        ensures { IfOk result (λ s. length s ≤ length column.now) }
+    {
         let (low, high) = bounds(column);
         let mut slots = Slots::new(alloc, low, span(low, high))?;
         slots.add_values(column)?;
@@ -61,7 +83,7 @@ impl Slots {
     }
 
     /// Puts the values of a column behind the numbers, those that lie in the range, each once.
-    fn add_values(&mut self, column: &Column) -> Result<(), AllocError>
+    fn add_values(&mut self, column: &View<'_>) -> Result<(), AllocError>
         requires { length self.old < 2 ^ 16 }
         ensures { OnOk result (length self.new ≤ length self.old + length column.now) }
     {
@@ -110,7 +132,7 @@ fn put(list: &mut Vec<u32>, i: usize, x: u32)
 }
 
 /// The least and the greatest value of a column; where it has none, the second is below the first.
-fn bounds(column: &Column) -> (i64, i64) {
+fn bounds(column: &View<'_>) -> (i64, i64) {
     let mut low = i64::MAX;
     let mut high = i64::MIN;
     for place in 0..column.len() {

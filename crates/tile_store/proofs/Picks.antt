@@ -7,7 +7,7 @@ use Rattle.arr_core.specs.declared.cell.FieldType.TheVariants as kind
 use Rattle.arr_core.specs.declared.domain.Axis.{Axis}
 use Rattle.arr_core.specs.Domains.{points, count, rank_of, point_at, AreOrdered, IsDomain, IsInside}
 use Rattle.arr_core.specs.Tiles.{tile_boxes, grid, edge_of}
-use Rattle.arr_core.proofs.Boxes.{IsDomain-box}
+use Rattle.arr_core.proofs.Boxes.{IsDomain-box, tile-small}
 use Rattle.arr_core.proofs.Grids.{ordered-grid, edge-some, length-tile_boxes, get_or-tile_boxes}
 use Rattle.arr_core.proofs.Points.{at_place, length-points, point-inside, rank-point}
 use Rattle.file_bytes.specs.declared.form.Form.{Form}
@@ -173,13 +173,22 @@ entry_in f s tile e index sound some = record {
   whole = λ honest k listed. sound.whole honest k (omega (arith, listed, found_times f.index.now tile (Some e) some k));
 }
 
-tile_ordered : (domain : List Axis) (n : ℕ) → IsDomain domain → n < length (tile_boxes domain) → AreOrdered (tile_box domain n)
+pub tile_ordered : (domain : List Axis) (n : ℕ) → IsDomain domain → n < length (tile_boxes domain) → AreOrdered (tile_box domain n)
 tile_ordered domain n d h =
     let e = edge_of (length domain) in
     let below : n < count (grid e domain) = omega (arith, h, length-tile_boxes domain) in
     let at = point_at (grid e domain) n in
     let inside : IsInside (grid e domain) at = point-inside (grid e domain) n below (ordered-grid e domain) in
     rw (get_or-tile_boxes domain n [] below) (IsDomain-box e domain at (edge-some (length domain)) d inside).ordered
+
+-- a tile has few points
+pub tile_few : (domain : List Axis) (n : ℕ) → IsDomain domain → n < length (tile_boxes domain) → count (tile_box domain n) ≤ 4096
+tile_few domain n d h =
+    let e = edge_of (length domain) in
+    let below : n < count (grid e domain) = omega (arith, h, length-tile_boxes domain) in
+    let at = point_at (grid e domain) n in
+    let inside : IsInside (grid e domain) at = point-inside (grid e domain) n below (ordered-grid e domain) in
+    rw (get_or-tile_boxes domain n [] below) (tile-small domain at (edge-some (length domain)) d inside)
 
 -- the number at a rank is the tile's cell there
 number_ranked : (f : FieldTiles) (s : BlocksState) (tile r : ℕ) → IsDomain f.domain.now → tile < length (tile_boxes f.domain.now) → r < count (tile_box f.domain.now tile)

@@ -9,6 +9,7 @@ mod numbers;
 mod overlay;
 mod picking;
 mod reserve;
+mod runs;
 mod tile;
 mod update;
 
@@ -18,3 +19,4 @@ pub use field::{
 };
 pub use numbers::{Numbers, Patch};
 pub use picking::pick_tile_into;
+pub use runs::read_runs_into;

@@ -1,11 +1,13 @@
--- The numbers of the point faults.
-use Rattle.std.specs.Prelude.{ℕ}
+-- The refusals of points that have no value.
+use Rattle.arr_core.specs.declared.refusal.Refusal.{Refusal}
+use Rattle.arr_core.specs.declared.refusal.Refusal.TheVariants as refusals
 use Rattle.wcps_mean.specs.declared.cell.PointFault.{PointFault}
-use Rattle.wcps_mean.specs.declared.cell.PointFault.TheVariants.{Overflow, DivideByZero, OutOfDomain, EmptyCondense, BadBit}
+use Rattle.wcps_mean.specs.declared.cell.PointFault.TheVariants as faults
 
-abbrev pub number_of : PointFault → ℕ
-number_of Overflow = 60
-number_of DivideByZero = 61
-number_of OutOfDomain = 62
-number_of EmptyCondense = 63
-number_of BadBit = 64
+-- the refusal that a reply gives
+abbrev pub refusal_of : PointFault → Refusal
+refusal_of faults.Overflow = refusals.Overflow
+refusal_of faults.DivideByZero = refusals.DivideByZero
+refusal_of faults.OutOfDomain = refusals.OutOfDomain
+refusal_of faults.EmptyCondense = refusals.EmptyCondense
+refusal_of faults.BadBit = refusals.BadBit

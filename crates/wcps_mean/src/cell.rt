@@ -7,6 +7,7 @@ ghost use Rattle.std.specs.Prelude.{◌≡◌, ℤ, ◌+ℤ◌, ◌-ℤ◌, ◌*
 ghost use Rattle.std.specs.Int.{w64};
 ghost use Rattle.wcps_mean.specs.Cells.{ranged, truth, is_true, quotient, bit, int_eq, exact1, exact2, operate1, operate2};
 
+use arr_core::Refusal;
 use wcps_text::{BinaryOperator, UnaryOperator};
 
 /// Why a point has no value.
@@ -25,18 +26,18 @@ pub enum PointFault {
 }
 
 impl PointFault {
-    ghost use Rattle.wcps_mean.specs.Faults.{number_of};
+    ghost use Rattle.wcps_mean.specs.Faults.{refusal_of};
 
-    /// Its refusal number: 60 to 64.
-    pub fn number(self) -> u16
-        ensures { result ≡ number_of self }
+    /// The refusal that a reply gives for it.
+    pub fn refusal(self) -> Refusal
+        ensures { result ≡ refusal_of self }
     {
         match self {
-            PointFault::Overflow => 60,
-            PointFault::DivideByZero => 61,
-            PointFault::OutOfDomain => 62,
-            PointFault::EmptyCondense => 63,
-            PointFault::BadBit => 64,
+            PointFault::Overflow => Refusal::Overflow,
+            PointFault::DivideByZero => Refusal::DivideByZero,
+            PointFault::OutOfDomain => Refusal::OutOfDomain,
+            PointFault::EmptyCondense => Refusal::EmptyCondense,
+            PointFault::BadBit => Refusal::BadBit,
         }
     }
 }

@@ -1,8 +1,8 @@
 -- What is spelled is read.
 use Rattle.std.proofs.Common.{◌≡◌, ℕ, zero, suc, ◌-◌, ◌≤◌, Bool, true, false, List, [], ◌∷◌, Some, None, refl, sym, ap, subst, ◌∙◌, arith}
 use Rattle.wcps_text.specs.declared.token.Symbol.TheVariants as signs
-use Rattle.wcps_text.specs.declared.token.Keyword.{Keyword}
-use Rattle.wcps_text.specs.declared.token.Keyword.TheVariants as words
+use Rattle.arr_core.specs.declared.keyword.Keyword.{Keyword}
+use Rattle.arr_core.specs.declared.keyword.Keyword.TheVariants as words
 use Rattle.wcps_text.specs.declared.operator.UnaryOperator.{UnaryOperator}
 use Rattle.wcps_text.specs.declared.operator.UnaryOperator.TheVariants as unaries
 use Rattle.wcps_text.specs.declared.operator.BinaryOperator.{BinaryOperator}

@@ -7,13 +7,14 @@ use Rattle.std.proofs.lemmas.Bool.Decides.{nat_tests}
 use Rattle.std.proofs.lemmas.Slice.Eq.{bytes_eq-Decides}
 use Rattle.std.proofs.lemmas.List.{take_at}
 use Rattle.wcps_text.specs.declared.token.Symbol.{Symbol}
-use Rattle.wcps_text.specs.declared.token.Keyword.{Keyword}
-use Rattle.wcps_text.specs.declared.token.Keyword.TheVariants as words
+use Rattle.arr_core.specs.declared.keyword.Keyword.{Keyword}
 use Rattle.wcps_text.specs.declared.error.LexError.{LexError}
 use Rattle.wcps_text.specs.declared.error.LexError.TheVariants as errors
 use Rattle.wcps_text.specs.Token.{Tok, number, name, dollar, quoted, word, sign}
-use Rattle.wcps_text.specs.Limits.{max_name}
-use Rattle.wcps_text.specs.Lexing.{is_space, begins_name, decimal, keyword_text, single, double, is_word, is_digits, Reads, numeral, large_numeral, plain, reserved, long_plain, marked, long_marked, text_between, one_byte, two_bytes, IsLongest, Piece, Lexed, at_end, past_space, past_token, Refused, behind_space, behind_token, no_token, no_form}
+use Rattle.arr_core.specs.Limits.{max_name}
+use Rattle.arr_core.specs.Keywords.{all_keywords}
+use Rattle.arr_core.proofs.Keywords.{keyword_in, found-written, none-found}
+use Rattle.wcps_text.specs.Lexing.{is_space, begins_name, decimal, single, double, is_word, is_digits, Reads, numeral, large_numeral, plain, reserved, long_plain, marked, long_marked, text_between, one_byte, two_bytes, IsLongest, Piece, Lexed, at_end, past_space, past_token, Refused, behind_space, behind_token, no_token, no_form}
 use Rattle.wcps_text.proofs.Fronts.{ahead, behind, true_false}
 
 -- ---- what bytes of the form of a token are
@@ -58,59 +59,6 @@ at-most n m a b h = grind (arith, nat_tests)
 above : {A : Type 0} (n m : ℕ) (a b : A) → m < n → cond (nat_le n m) a b ≡ b
 above n m a b h = grind (arith, nat_tests)
 
-abbrev all_words : List Keyword
-all_words = words.For ∷ words.In ∷ words.Where ∷ words.Return ∷ words.Encode ∷ words.Csv ∷ words.Coverage ∷ words.Over ∷ words.Values ∷ words.Value ∷ words.List ∷ words.Condense ∷ words.Using ∷ words.And ∷ words.Or ∷ words.Xor ∷ words.Not ∷ words.Abs ∷ words.Bit ∷ words.True ∷ words.False ∷ words.Count ∷ words.Some ∷ words.All ∷ words.Add ∷ words.Avg ∷ words.Min ∷ words.Max ∷ words.ImageCrsDomain ∷ []
-
-abbrev lower : Keyword → List ℕ
-lower k = map to_ascii_lowercase (keyword_text k)
-
--- the first word that is written so in small letters
-abbrev keyword_in : List Keyword → List ℕ → Option Keyword
-keyword_in [] w = None
-keyword_in (k ∷ ks) w = cond (bytes_eq w (lower k)) (Some k) (keyword_in ks w)
-
-own-word : (k : Keyword) → keyword_in all_words (lower k) ≡ Some k
-own-word words.For = refl
-own-word words.In = refl
-own-word words.Where = refl
-own-word words.Return = refl
-own-word words.Encode = refl
-own-word words.Csv = refl
-own-word words.Coverage = refl
-own-word words.Over = refl
-own-word words.Values = refl
-own-word words.Value = refl
-own-word words.List = refl
-own-word words.Condense = refl
-own-word words.Using = refl
-own-word words.And = refl
-own-word words.Or = refl
-own-word words.Xor = refl
-own-word words.Not = refl
-own-word words.Abs = refl
-own-word words.Bit = refl
-own-word words.True = refl
-own-word words.False = refl
-own-word words.Count = refl
-own-word words.Some = refl
-own-word words.All = refl
-own-word words.Add = refl
-own-word words.Avg = refl
-own-word words.Min = refl
-own-word words.Max = refl
-own-word words.ImageCrsDomain = refl
-
-skip-word : (b : Bool) (k : Keyword) (o : Option Keyword) → (b ≡ true → ⊥) → o ≡ None → cond b (Some k) o ≡ None
-skip-word true k o h e = absurd (h refl)
-skip-word false k o h e = e
-
-no-word : (ks : List Keyword) (w : List ℕ) → ((k : Keyword) → w ≡ lower k → ⊥) → keyword_in ks w ≡ None
-no-word [] w h = refl
-no-word (k ∷ ks) w h = skip-word (bytes_eq w (lower k)) k (keyword_in ks w) (λ e. h k (equal w (lower k) e)) (no-word ks w h)
-  where
-    equal : (xs ys : List ℕ) → bytes_eq xs ys ≡ true → xs ≡ ys
-    equal xs ys e = grind (arith, bytes_eq-Decides xs ys)
-
 abbrev named : List ℕ → Option Keyword → Result Tok LexError
 named w None = Ok (name w)
 named w (Some k) = Ok (word k)
@@ -127,7 +75,7 @@ symbol_at (b ∷ c ∷ cs) = symbol_of (double b)
 -- what bytes of a kind are
 abbrev meant : ℕ → List ℕ → Result Tok LexError
 meant zero w = cond (nat_lt (decimal w) (2 ^ 63)) (Ok (number (decimal w))) (Err errors.NumberTooLarge)
-meant (suc zero) w = cond (nat_le (length w) max_name) (named w (keyword_in all_words (map to_ascii_lowercase w))) (Err errors.BadToken)
+meant (suc zero) w = cond (nat_le (length w) max_name) (named w (keyword_in all_keywords (map to_ascii_lowercase w))) (Err errors.BadToken)
 meant (suc (suc zero)) w = cond (nat_le (length w) max_name) (Ok (dollar w)) (Err errors.BadToken)
 meant (suc (suc (suc zero))) w = Ok (quoted w)
 meant (suc (suc (suc (suc k)))) w = symbol_at w
@@ -145,9 +93,9 @@ reads-meant w r (numeral (is_digits {d} {ds} begin more) small) =
 reads-meant w r (large_numeral (is_digits {d} {ds} begin more) large) =
     meant-as (d ∷ ds) 0 _ (digit-kind d begin) (not-below (decimal (d ∷ ds)) (2 ^ 63) _ _ large)
 reads-meant w r (plain (is_word {c} {cs} begin more) short free) =
-    meant-as (c ∷ cs) 1 _ (letter-kind c begin) (at-most (length (c ∷ cs)) max_name _ _ short ∙ ap (named (c ∷ cs)) (no-word all_words (map to_ascii_lowercase (c ∷ cs)) free))
+    meant-as (c ∷ cs) 1 _ (letter-kind c begin) (at-most (length (c ∷ cs)) max_name _ _ short ∙ ap (named (c ∷ cs)) (none-found (c ∷ cs) free))
 reads-meant w r (reserved {k} (is_word {c} {cs} begin more) short same) =
-    meant-as (c ∷ cs) 1 _ (letter-kind c begin) (at-most (length (c ∷ cs)) max_name _ _ short ∙ ap (named (c ∷ cs)) (ap (keyword_in all_words) same ∙ own-word k))
+    meant-as (c ∷ cs) 1 _ (letter-kind c begin) (at-most (length (c ∷ cs)) max_name _ _ short ∙ ap (named (c ∷ cs)) (found-written k (c ∷ cs) same))
 reads-meant w r (long_plain (is_word {c} {cs} begin more) long) =
     meant-as (c ∷ cs) 1 _ (letter-kind c begin) (above (length (c ∷ cs)) max_name _ _ long)
 reads-meant w r (marked {w = v} is short) = meant-as (36 ∷ v) 2 _ refl (at-most (length (36 ∷ v)) max_name _ _ (omega (arith, short)))

@@ -4,11 +4,11 @@ use Rattle.std.specs.Str.{bytes_eq}
 use Rattle.std.specs.Char.{to_ascii_lowercase}
 use denote.Enum.Bare.{sameb}
 use Rattle.wcps_text.specs.contracts.token.Symbol as symbol
-use Rattle.wcps_text.specs.contracts.token.Keyword as keyword
+use Rattle.arr_core.specs.contracts.keyword.Keyword as keyword
 use Rattle.wcps_text.specs.declared.token.Symbol.{Symbol}
 use Rattle.wcps_text.specs.declared.token.Symbol.TheVariants as signs
-use Rattle.wcps_text.specs.declared.token.Keyword.{Keyword}
-use Rattle.wcps_text.specs.declared.token.Keyword.TheVariants as words
+use Rattle.arr_core.specs.declared.keyword.Keyword.{Keyword}
+use Rattle.arr_core.specs.declared.keyword.Keyword.TheVariants as words
 use Rattle.wcps_text.specs.declared.operator.UnaryOperator.{UnaryOperator}
 use Rattle.wcps_text.specs.declared.operator.UnaryOperator.TheVariants as unaries
 use Rattle.wcps_text.specs.declared.operator.BinaryOperator.{BinaryOperator}

@@ -7,3 +7,4 @@ pub mod Fit
 pub mod Views
 pub mod Kinds
 pub mod Outcome
+pub mod Refusals

@@ -1,6 +1,6 @@
 -- The tokens that the limits count.
 use Rattle.wcps_text.specs.declared.token.Symbol.TheVariants as signs
-use Rattle.wcps_text.specs.declared.token.Keyword.TheVariants as words
+use Rattle.arr_core.specs.declared.keyword.Keyword.TheVariants as words
 use Rattle.wcps_text.specs.declared.token.Kind.{Kind}
 use Rattle.wcps_text.specs.declared.token.Kind.TheVariants as kinds
 

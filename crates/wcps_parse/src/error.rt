@@ -1,8 +1,10 @@
 //! Why tokens are no query.
 
 ghost use Rattle.std.specs.Prelude.{◌≡◌};
+ghost use Rattle.wcps_parse.specs.Refusals.{refusal_of};
 ghost use Rattle.wcps_parse.specs.declared.error.ParseError.TheVariants.{NoMemory};
 
+use arr_core::Refusal;
 use std::alloc::{AllocError, AllocFailed};
 
 /// Why tokens were not parsed.
@@ -17,6 +19,19 @@ pub enum ParseError {
     /// Memory ran out. It says nothing of the tokens.
     #[error("out of memory")]
     NoMemory,
+}
+
+impl ParseError {
+    /// The refusal that a reply gives for it.
+    pub fn refusal(&self) -> Refusal
+        ensures { result ≡ refusal_of self.now }
+    {
+        match self {
+            ParseError::BadSyntax => Refusal::BadSyntax,
+            ParseError::TooDeep => Refusal::TooDeep,
+            ParseError::NoMemory => Refusal::NoMemory,
+        }
+    }
 }
 
 impl From<AllocError> for ParseError {

@@ -15,10 +15,11 @@ use crate::front::{
 };
 use crate::grown;
 use crate::grown::Grown;
+use arr_core::Keyword;
 use std::alloc::{AllocError, Global};
 use wcps_text::{
-    Aggregate, BinaryOperator, Expr, Interval, Iter, Keyword, ListItem, Part, Place, QueryName,
-    Sub, Symbol, Token, UnaryOperator,
+    Aggregate, BinaryOperator, Expr, Interval, Iter, ListItem, Part, Place, QueryName, Sub, Symbol,
+    Token, UnaryOperator,
 };
 
 /// The rank of the loosest operators.

@@ -7,9 +7,9 @@ ghost use Rattle.wcps_text.specs.Tree.{view_interval};
 ghost use Rattle.wcps_text.specs.Limits.{interval_height};
 ghost use Rattle.wcps_parse.specs.Front.{sign_at, word_at, name_at, variable_at, literal_at, int_at, bounds_at, item_at, prefix_at, operator, binary_at, condenser_at, postfix_at, begin_of, start_at, is_csv, format_at};
 
+use arr_core::Keyword;
 use wcps_text::{
-    Aggregate, BinaryOperator, Interval, Keyword, Kind, ListItem, Literal, Symbol, Token,
-    UnaryOperator,
+    Aggregate, BinaryOperator, Interval, Kind, ListItem, Literal, Symbol, Token, UnaryOperator,
 };
 
 /// How an expression without an operator before it begins.

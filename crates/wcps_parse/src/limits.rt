@@ -6,7 +6,8 @@ ghost use Rattle.wcps_text.specs.Token.{toks};
 ghost use Rattle.wcps_text.specs.Limits.{max_depth, max_forms, deepest, forms};
 ghost use Rattle.wcps_parse.specs.Marks.{Opens, Closes, BeginsForm};
 
-use wcps_text::{Keyword, Kind, Symbol, Token};
+use arr_core::Keyword;
+use wcps_text::{Kind, Symbol, Token};
 
 /// The most brackets that may be open at once: `max_depth`.
 const MAX_DEPTH: u16 = 512;

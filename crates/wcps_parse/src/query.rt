@@ -19,8 +19,9 @@ use crate::front::{format_at, name_at, sign_at, variable_at, word_at};
 use crate::grown;
 use crate::grown::Grown;
 use crate::limits::is_too_deep;
+use arr_core::Keyword;
 use std::alloc::Global;
-use wcps_text::{Binding, Item, Keyword, Query, QueryName, Symbol, Token};
+use wcps_text::{Binding, Item, Query, QueryName, Symbol, Token};
 
 /// The query that the tokens spell, all of them.
 ///

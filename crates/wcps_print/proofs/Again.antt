@@ -3,8 +3,8 @@ use Rattle.std.proofs.Common.{◌≡◌, ℕ, zero, suc, ◌-◌, ◌^◌, ◌<�
 use Rattle.std.proofs.lemmas.Bool.Decides.{nat_tests}
 use Rattle.std.specs.Char.{to_ascii_lowercase}
 use Rattle.wcps_text.specs.declared.token.Symbol.TheVariants as signs
-use Rattle.wcps_text.specs.declared.token.Keyword.{Keyword}
-use Rattle.wcps_text.specs.declared.token.Keyword.TheVariants as words
+use Rattle.arr_core.specs.declared.keyword.Keyword.{Keyword}
+use Rattle.arr_core.specs.declared.keyword.Keyword.TheVariants as words
 use Rattle.wcps_text.specs.declared.operator.UnaryOperator.{UnaryOperator}
 use Rattle.wcps_text.specs.declared.operator.UnaryOperator.TheVariants as unaries
 use Rattle.wcps_text.specs.declared.operator.BinaryOperator.{BinaryOperator}
@@ -16,7 +16,9 @@ use Rattle.wcps_text.specs.declared.tree.ListItem.TheVariants as list_items
 use Rattle.wcps_text.specs.Token.{Tok, number, name, word, sign}
 use Rattle.wcps_text.specs.Tree as tree
 use Rattle.wcps_text.specs.Tree.{Tree, Parts, no_parts, part, Subs, no_subs, sub, PlaceTree, trim, at, IntervalTree, bounds, domain, Iters, no_iters, iter, Condition, always, only, BindingTree, ItemTree, encode, plain, QueryTree}
-use Rattle.wcps_text.specs.Lexing.{keyword_text, IsWritten, is_word, plain as plain_form}
+use Rattle.arr_core.specs.Keywords.{keyword_text, IsWritten, is_keyword}
+use Rattle.arr_core.proofs.Keywords.{unwritten}
+use Rattle.wcps_text.specs.Lexing.{is_word, plain as plain_form}
 use Rattle.wcps_text.specs.Grammar.{Prefixes, negate, plus, not, binary_token, truth_word, Reduces, to_count, to_any, to_every, to_sum, to_average, to_least, to_greatest, Condenses, by_sum, by_product, by_greatest, by_least, by_every, by_any, rank_of, max_rank, Openness, closed, open_ended, SpellsInt, unsigned, positive, negative, SpellsItem, int_item, truth_item, SpellsItems, last_item, more_items, SpellsVariable, plain_name, dollar_name, Spells, post, coverage, condense, unary, tighter, binary, SpellsInParens, parens, SpellsPost, literal, truth, variable, grouped, abs, bit, reduce, parts, value_list, field, brackets, named, SpellsParts, last_part, more_parts, of_axis, SpellsSubs, last_sub, more_subs, SpellsPlace, trimmed, position, SpellsInterval, between, domain_of, iterator, SpellsIters, last_iter, more_iters, SpellsCondition, unconditional, conditional, SpellsNames, last_name, more_names, stands_for, SpellsBindings, last_binding, more_bindings, csv_word, SpellsReturn, encoded, unencoded, SpellsEnd, for_all, for_some, IsSpelled, query}
 use Rattle.wcps_text.proofs.Ranks.{rank_most, rank_suc, raised}
 use Rattle.wcps_print.specs.Printing.{name_token, int_tokens, unary_token, between_tokens, reduce_token, condense_token, items_tokens, expr_tokens, parts_tokens, subs_tokens, place_tokens, interval_tokens, iters_tokens, condition_tokens, names_tokens, bindings_tokens, item_tokens, query_tokens}
@@ -93,39 +95,12 @@ reduce_same to_average = refl
 reduce_same to_least = refl
 reduce_same to_greatest = refl
 
+free : is_keyword (codes "c") ≡ false
+unfolding is_keyword
+free = refl
+
 no_keyword : (k : Keyword) → IsWritten k (codes "c") → ⊥
-no_keyword k same = short k (ap length same)
-  where
-    short : (k : Keyword) → 1 ≡ length (map to_ascii_lowercase (keyword_text k)) → ⊥
-    short words.For e = omega arith
-    short words.In e = omega arith
-    short words.Where e = omega arith
-    short words.Return e = omega arith
-    short words.Encode e = omega arith
-    short words.Csv e = omega arith
-    short words.Coverage e = omega arith
-    short words.Over e = omega arith
-    short words.Values e = omega arith
-    short words.Value e = omega arith
-    short words.List e = omega arith
-    short words.Condense e = omega arith
-    short words.Using e = omega arith
-    short words.And e = omega arith
-    short words.Or e = omega arith
-    short words.Xor e = omega arith
-    short words.Not e = omega arith
-    short words.Abs e = omega arith
-    short words.Bit e = omega arith
-    short words.True e = omega arith
-    short words.False e = omega arith
-    short words.Count e = omega arith
-    short words.Some e = omega arith
-    short words.All e = omega arith
-    short words.Add e = omega arith
-    short words.Avg e = omega arith
-    short words.Min e = omega arith
-    short words.Max e = omega arith
-    short words.ImageCrsDomain e = omega arith
+no_keyword = unwritten (codes "c") free
 
 any_name : Written (name (codes "c"))
 any_name = plain_form (is_word refl tt) (omega arith) no_keyword

@@ -7,12 +7,13 @@ use Rattle.std.proofs.lemmas.Fmt.{decimal_by_steps}
 use Rattle.std.specs.Char.{is_ascii_digit}
 use Rattle.wcps_text.specs.declared.token.Symbol.{Symbol}
 use Rattle.wcps_text.specs.declared.token.Symbol.TheVariants as signs
-use Rattle.wcps_text.specs.declared.token.Keyword.{Keyword}
-use Rattle.wcps_text.specs.declared.token.Keyword.TheVariants as words
+use Rattle.arr_core.specs.declared.keyword.Keyword.{Keyword}
+use Rattle.arr_core.specs.declared.keyword.Keyword.TheVariants as words
 use Rattle.wcps_text.specs.declared.error.LexError.{LexError}
 use Rattle.wcps_text.specs.Token.{Tok, number, name, dollar, quoted, word, sign}
-use Rattle.wcps_text.specs.Limits.{max_name}
-use Rattle.wcps_text.specs.Lexing.{begins_name, continues_name, Every, decimal, decimal_from, keyword_text, symbol_text, single, double, IsWord, is_word, IsDigits, is_digits, Reads, numeral, large_numeral, plain, reserved, long_plain, marked, long_marked, text_between, one_byte, two_bytes, IsLongest, Piece, Lexed, at_end, past_space, past_token, tokens_of}
+use Rattle.arr_core.specs.Limits.{max_name}
+use Rattle.arr_core.specs.Keywords.{keyword_text}
+use Rattle.wcps_text.specs.Lexing.{begins_name, continues_name, Every, decimal, decimal_from, symbol_text, single, double, IsWord, is_word, IsDigits, is_digits, Reads, numeral, large_numeral, plain, reserved, long_plain, marked, long_marked, text_between, one_byte, two_bytes, IsLongest, Piece, Lexed, at_end, past_space, past_token, tokens_of}
 use Rattle.wcps_text.proofs.Fronts.{ahead, behind, digit_low, letter_low}
 use Rattle.wcps_print.specs.Printing.{bytes_of, text_of}
 use Rattle.wcps_print.proofs.Written.{Written, Each}

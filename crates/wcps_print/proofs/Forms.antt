@@ -1,6 +1,6 @@
 -- All tokens that spell a query have as many words `condense` and `coverage` as its tree has such forms.
 use Rattle.std.proofs.Common.{◌≡◌, ℕ, ◌+◌, Bool, true, false, List, refl, arith, ℤ}
-use Rattle.wcps_text.specs.declared.token.Keyword.{Keyword}
+use Rattle.arr_core.specs.declared.keyword.Keyword.{Keyword}
 use Rattle.wcps_text.specs.declared.operator.UnaryOperator.{UnaryOperator}
 use Rattle.wcps_text.specs.declared.operator.BinaryOperator.{BinaryOperator}
 use Rattle.wcps_text.specs.declared.operator.BinaryOperator.TheVariants as binaries

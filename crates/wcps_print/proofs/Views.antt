@@ -5,7 +5,7 @@ use denote.Enum.Bare.{sameb, same_true}
 use Rattle.wcps_text.specs.contracts.operator.BinaryOperator as binary_operator
 use Rattle.wcps_text.specs.declared.token.Literal.{Literal}
 use Rattle.wcps_text.specs.declared.token.Symbol.TheVariants as signs
-use Rattle.wcps_text.specs.declared.token.Keyword.TheVariants as words
+use Rattle.arr_core.specs.declared.keyword.Keyword.TheVariants as words
 use Rattle.wcps_text.specs.declared.operator.UnaryOperator.{UnaryOperator}
 use Rattle.wcps_text.specs.declared.operator.BinaryOperator.{BinaryOperator}
 use Rattle.wcps_text.specs.declared.operator.BinaryOperator.TheVariants as binaries

@@ -9,10 +9,11 @@ use crate::words::{
     put_any_name, put_binary, put_condense, put_int, put_name, put_number, put_reduce,
     put_separator, put_symbol, put_truth, put_unary_op, put_word,
 };
+use arr_core::Keyword;
 use std::alloc::AllocError;
 use wcps_text::{
-    Aggregate, BinaryOperator, Expr, Interval, Iter, Keyword, ListItem, Part, Place, QueryName,
-    Sub, Symbol, UnaryOperator,
+    Aggregate, BinaryOperator, Expr, Interval, Iter, ListItem, Part, Place, QueryName, Sub, Symbol,
+    UnaryOperator,
 };
 
 /// An expression.

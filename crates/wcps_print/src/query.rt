@@ -7,8 +7,9 @@ ghost use Rattle.wcps_print.specs.Printing.{bindings_tokens, encoded_tokens, ite
 
 use crate::expression::{put_condition, put_expr};
 use crate::words::{put_name, put_separator, put_symbol, put_word};
+use arr_core::Keyword;
 use std::alloc::{AllocError, Global};
-use wcps_text::{Binding, Expr, Item, Keyword, Query, QueryName, Symbol};
+use wcps_text::{Binding, Expr, Item, Query, QueryName, Symbol};
 
 /// The query as text, every operand in parentheses.
 ///

@@ -6,9 +6,10 @@ ghost use Rattle.wcps_text.specs.Token as tokens;
 ghost use Rattle.wcps_text.specs.Token.{sign, word};
 ghost use Rattle.wcps_print.specs.Printing.{int_tokens, name_token, separator, unary_token, reduce_token, condense_token, Adds};
 
+use arr_core::Keyword;
 use itoa::Buffer;
 use std::alloc::AllocError;
-use wcps_text::{Aggregate, BinaryOperator, Keyword, QueryName, Symbol, UnaryOperator};
+use wcps_text::{Aggregate, BinaryOperator, QueryName, Symbol, UnaryOperator};
 
 fn put(out: &mut String, text: &str) -> Result<(), AllocError>
     ensures { OnOk result (string_bytes out.new ≡ string_bytes out.old ++ text.now ++ 32 ∷ []) }

@@ -1,8 +1,8 @@
 -- Which tokens spell which query. Each family says of `ts` and `rest` that the tokens of `ts` before `rest` spell the thing.
 use Rattle.std.specs.Prelude.{◌≡◌, ℕ, suc, ℤ, pos, ◌-ℤ◌, List, [], ◌∷◌, Bool, true, false, codes, map}
 use Rattle.wcps_text.specs.declared.token.Symbol.TheVariants as signs
-use Rattle.wcps_text.specs.declared.token.Keyword.{Keyword}
-use Rattle.wcps_text.specs.declared.token.Keyword.TheVariants as words
+use Rattle.arr_core.specs.declared.keyword.Keyword.{Keyword}
+use Rattle.arr_core.specs.declared.keyword.Keyword.TheVariants as words
 use Rattle.wcps_text.specs.declared.operator.UnaryOperator.{UnaryOperator}
 use Rattle.wcps_text.specs.declared.operator.UnaryOperator.TheVariants as unaries
 use Rattle.wcps_text.specs.declared.operator.BinaryOperator.{BinaryOperator}

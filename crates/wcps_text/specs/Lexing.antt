@@ -1,15 +1,15 @@
 -- The tokens of a text.
 use Rattle.std.specs.Prelude.{◌≡◌, ℕ, ◌+◌, ◌-◌, ◌*◌, ◌^◌, ◌<◌, ◌≤◌, Bool, cond, ◌&&◌, ◌||◌, not, IsTrue, List, [], ◌∷◌, ◌++◌, length, map, Option, Some, None, Result, Ok, Err, codes, nat_le, ◌==◌}
-use Rattle.std.specs.Char.{to_ascii_lowercase, is_ascii_digit, is_ascii_alphabetic, is_ascii_alphanumeric}
+use Rattle.std.specs.Char.{is_ascii_digit, is_ascii_alphabetic, is_ascii_alphanumeric}
 use Rattle.wcps_text.specs.declared.token.Symbol.{Symbol}
 use Rattle.wcps_text.specs.declared.token.Symbol.TheVariants as signs
-use Rattle.wcps_text.specs.declared.token.Keyword.{Keyword}
-use Rattle.wcps_text.specs.declared.token.Keyword.TheVariants as words
+use Rattle.arr_core.specs.declared.keyword.Keyword.{Keyword}
+use Rattle.arr_core.specs.Keywords.{IsWritten}
 use Rattle.wcps_text.specs.declared.token.Token.{Token}
 use Rattle.wcps_text.specs.declared.error.LexError.{LexError}
 use Rattle.wcps_text.specs.declared.error.LexError.TheVariants as errors
 use Rattle.wcps_text.specs.Token.{Tok, number, name, dollar, quoted, word, sign, tok}
-use Rattle.wcps_text.specs.Limits.{max_name}
+use Rattle.arr_core.specs.Limits.{max_name}
 
 -- space, tab, CR and LF
 abbrev pub is_space : ℕ → Bool
@@ -39,42 +39,6 @@ decimal_from n (d ∷ ds) = decimal_from (n * 10 + (d - 48)) ds
 
 abbrev pub decimal : List ℕ → ℕ
 decimal ds = decimal_from 0 ds
-
--- how a word of the language is usually written
-abbrev pub keyword_text : Keyword → List ℕ
-keyword_text words.For = codes "for"
-keyword_text words.In = codes "in"
-keyword_text words.Where = codes "where"
-keyword_text words.Return = codes "return"
-keyword_text words.Encode = codes "encode"
-keyword_text words.Csv = codes "csv"
-keyword_text words.Coverage = codes "coverage"
-keyword_text words.Over = codes "over"
-keyword_text words.Values = codes "values"
-keyword_text words.Value = codes "value"
-keyword_text words.List = codes "list"
-keyword_text words.Condense = codes "condense"
-keyword_text words.Using = codes "using"
-keyword_text words.And = codes "and"
-keyword_text words.Or = codes "or"
-keyword_text words.Xor = codes "xor"
-keyword_text words.Not = codes "not"
-keyword_text words.Abs = codes "abs"
-keyword_text words.Bit = codes "bit"
-keyword_text words.True = codes "true"
-keyword_text words.False = codes "false"
-keyword_text words.Count = codes "count"
-keyword_text words.Some = codes "some"
-keyword_text words.All = codes "all"
-keyword_text words.Add = codes "add"
-keyword_text words.Avg = codes "avg"
-keyword_text words.Min = codes "min"
-keyword_text words.Max = codes "max"
-keyword_text words.ImageCrsDomain = codes "imageCrsDomain"
-
--- the bytes are the word, in any ASCII case
-abbrev pub IsWritten : Keyword → List ℕ → Type 0
-IsWritten k w = map to_ascii_lowercase w ≡ map to_ascii_lowercase (keyword_text k)
 
 -- the symbol that a byte is alone: ( ) [ ] { } , ; : . < > = + - * /
 abbrev pub single : ℕ → Option Symbol
@@ -121,7 +85,7 @@ pub data Reads : List ℕ → Result Tok LexError → Type 0 where
   plain : {w : List ℕ} → IsWord w → length w ≤ max_name → ((k : Keyword) → IsWritten k w → ⊥) → Reads w (Ok (name w))
   reserved : {w : List ℕ} {k : Keyword} → IsWord w → length w ≤ max_name → IsWritten k w → Reads w (Ok (word k))
   long_plain : {w : List ℕ} → IsWord w → max_name < length w → Reads w (Err errors.BadToken)
-  -- the `$` counts
+  -- the `$` counts among the bytes of a name
   marked : {w : List ℕ} → IsWord w → length w < max_name → Reads (36 ∷ w) (Ok (dollar (36 ∷ w)))
   long_marked : {w : List ℕ} → IsWord w → max_name ≤ length w → Reads (36 ∷ w) (Err errors.BadToken)
   text_between : {w : List ℕ} (cs : List ℕ) → Every is_quotable cs → w ≡ 34 ∷ (cs ++ 34 ∷ []) → Reads w (Ok (quoted w))

@@ -5,3 +5,4 @@ pub mod Limits
 pub mod Lexing
 pub mod Runs
 pub mod Fronts
+pub mod Refusals

@@ -1,15 +1,11 @@
--- The limits of a query's text, and what they limit: names, how deep brackets stand, how many forms may nest, and how high a
+-- The limits of a query's text, and what they limit: how deep brackets stand, how many forms may nest, and how high a
 -- tree is.
 use Rattle.std.specs.Prelude.{ℕ, ◌+◌, ◌-◌, max, List, [], ◌∷◌}
 use Rattle.wcps_text.specs.declared.token.Symbol.TheVariants as signs
-use Rattle.wcps_text.specs.declared.token.Keyword.TheVariants as words
+use Rattle.arr_core.specs.declared.keyword.Keyword.TheVariants as words
 use Rattle.wcps_text.specs.Token.{Tok, word, sign}
 use Rattle.wcps_text.specs.Tree as tree
 use Rattle.wcps_text.specs.Tree.{Tree, Parts, no_parts, part, Subs, no_subs, sub, PlaceTree, trim, at, IntervalTree, bounds, domain, Iters, no_iters, iter, Condition, always, only, ItemTree, encode, plain, QueryTree}
-
--- the greatest length of a name in bytes; the `$` of a variable counts
-abbrev pub max_name : ℕ
-max_name = 64
 
 -- the most brackets that may be open at once
 abbrev pub max_depth : ℕ

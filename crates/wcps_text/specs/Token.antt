@@ -1,7 +1,7 @@
 -- A token without where it stands: a number, a name, a name with `$`, a string, a word of the language, or a symbol.
 use Rattle.std.specs.Prelude.{ℕ, List, map}
 use Rattle.wcps_text.specs.declared.token.Symbol.{Symbol}
-use Rattle.wcps_text.specs.declared.token.Keyword.{Keyword}
+use Rattle.arr_core.specs.declared.keyword.Keyword.{Keyword}
 use Rattle.wcps_text.specs.declared.token.Kind.{Kind}
 use Rattle.wcps_text.specs.declared.token.Kind.TheVariants as kinds
 use Rattle.wcps_text.specs.declared.token.Token.{Token}

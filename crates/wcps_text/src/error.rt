@@ -1,8 +1,10 @@
 //! Why a text has no tokens.
 
 ghost use Rattle.std.specs.Prelude.{◌≡◌};
+ghost use Rattle.wcps_text.specs.Refusals.{refusal_of};
 ghost use Rattle.wcps_text.specs.declared.error.LexError.TheVariants.{NoMemory};
 
+use arr_core::Refusal;
 use std::alloc::{AllocError, AllocFailed};
 
 /// Why a text was not cut into tokens.
@@ -17,6 +19,19 @@ pub enum LexError {
     /// Memory ran out. It says nothing of the text.
     #[error("out of memory")]
     NoMemory,
+}
+
+impl LexError {
+    /// The refusal that a reply gives for it.
+    pub fn refusal(&self) -> Refusal
+        ensures { result ≡ refusal_of self.now }
+    {
+        match self {
+            LexError::BadToken => Refusal::BadToken,
+            LexError::NumberTooLarge => Refusal::NumberTooLarge,
+            LexError::NoMemory => Refusal::NoMemory,
+        }
+    }
 }
 
 impl From<AllocError> for LexError {

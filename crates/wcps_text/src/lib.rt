@@ -4,7 +4,6 @@
 #![tactic(auto)]
 
 mod error;
-mod keyword;
 mod lexer;
 mod name;
 mod number;
@@ -19,5 +18,5 @@ pub use error::LexError;
 pub use lexer::lex;
 pub use name::QueryName;
 pub use operator::{Aggregate, BinaryOperator, UnaryOperator};
-pub use token::{Keyword, Kind, Literal, Symbol, Token};
+pub use token::{Kind, Literal, Symbol, Token};
 pub use tree::{Binding, Expr, Interval, Item, Iter, ListItem, Part, Place, Query, Sub};

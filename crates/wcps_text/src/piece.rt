@@ -7,14 +7,11 @@ ghost use Rattle.wcps_text.specs.Lexing.{begins_name, double, is_space, Refused}
 ghost use Rattle.wcps_text.specs.Runs.{Stops};
 
 use crate::error::LexError;
-use crate::keyword::keyword_of;
 use crate::number::decimal;
 use crate::runs::{Class, run};
 use crate::symbol::{double, single};
 use crate::token::{Kind, Symbol};
-
-/// The greatest length of a name in bytes, its `$` among them: `max_name`.
-const MAX_NAME: usize = 64;
+use arr_core::{MAX_NAME, keyword_of};
 
 /// The token at the front.
 pub fn front(bytes: &[u8]) -> Result<(usize, Kind), LexError>

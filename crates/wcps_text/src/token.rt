@@ -2,6 +2,8 @@
 
 ghost use Rattle.std.specs.Prelude.{◌<◌, ◌^◌};
 
+use arr_core::Keyword;
+
 /// A mark of one or two characters.
 #[derive(Clone, Copy, PartialEq, Eq)]
 pub enum Symbol {
@@ -27,40 +29,6 @@ pub enum Symbol {
     Slash,
 }
 
-/// A word of the language. It is written in any ASCII case, and is no name.
-#[derive(Clone, Copy, PartialEq, Eq)]
-pub enum Keyword {
-    For,
-    In,
-    Where,
-    Return,
-    Encode,
-    Csv,
-    Coverage,
-    Over,
-    Values,
-    Value,
-    List,
-    Condense,
-    Using,
-    And,
-    Or,
-    Xor,
-    Not,
-    Abs,
-    Bit,
-    True,
-    False,
-    Count,
-    Some,
-    All,
-    Add,
-    Avg,
-    Min,
-    Max,
-    ImageCrsDomain,
-}
-
 /// A number as a query writes it, without a sign: at most 9223372036854775807.
 #[derive(Clone, Copy, Debug, PartialEq, Eq)]
 pub struct Literal {
@@ -72,7 +40,7 @@ pub struct Literal {
 #[derive(Clone, Copy, PartialEq, Eq)]
 pub enum Kind {
     Number(Literal),
-    /// A name without `$` that is no word of the language.
+    /// A name without `$` that is no keyword.
     Name,
     /// A name with `$`.
     Variable,

@@ -1,7 +1,8 @@
 -- Worked queries, computed: what `typ_query` answers, and how much work they are.
 use Rattle.std.proofs.Common.{◌≡◌, ℕ, List, [], ◌∷◌, refl, true}
 use Rattle.std.specs.Prelude.{ℤ, pos, negsuc, Ok, Err, codes, replicate}
-use Rattle.arr_core.specs.Names.{is_name, is_keyword}
+use Rattle.arr_core.specs.Keywords.{is_keyword}
+use Rattle.arr_core.specs.Names.{is_name}
 use Rattle.arr_core.specs.declared.signature.Signature.{Signature}
 use Rattle.arr_core.specs.declared.cell.FieldType.TheVariants as kinds
 use Rattle.wcps_text.specs.declared.operator.UnaryOperator.TheVariants as unaries

@@ -35,9 +35,13 @@ cut_view c = record { axis = c.axis; position = boxed_tree c.position }
 abbrev pub bracket_view : Bracket → BracketTree
 bracket_view b = record { domain = b.domain; named = b.named.items; cuts = map cut_view b.cuts.items }
 
+-- the greatest bound of an axis; the least one is below its negation by 1
+abbrev pub max_bound : ℕ
+max_bound = 2147483647
+
 -- bounds as they are written: not the lower one above the upper one, and both of 32 bits
 abbrev pub written_bounds : ℤ → ℤ → Answer BoundsOf
-written_bounds lo hi = cond (int_le lo hi && (int_le (negsuc 2147483647) lo && int_le hi (pos 2147483647))) (Ok (record { lo = lo; hi = hi })) (Err BadInterval)
+written_bounds lo hi = cond (int_le lo hi && (int_le (negsuc max_bound) lo && int_le hi (pos max_bound))) (Ok (record { lo = lo; hi = hi })) (Err BadInterval)
 
 abbrev pub bounds_of : Axis → BoundsOf
 bounds_of a = record { lo = a.lo; hi = a.hi }

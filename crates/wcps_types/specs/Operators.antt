@@ -58,11 +58,18 @@ pub record OperandTrees : Type 0 where
 abbrev pub operands_view : Operands → OperandTrees
 operands_view o = record { domain = o.domain; left = boxed_tree o.left; right = boxed_tree o.right }
 
+-- a scalar on the left of an operand with axes, and on its right
+abbrev pub scalar_first : Typed → FieldOf → OperandTrees
+scalar_first s other = record { domain = other.domain; left = typed.scalar s; right = other.tree }
+
+abbrev pub scalar_last : FieldOf → Typed → OperandTrees
+scalar_last other s = record { domain = other.domain; left = other.tree; right = typed.scalar s }
+
 -- a scalar goes with every point of an operand with axes; two operands with axes have the same domain
 abbrev pub joined : FieldOf → FieldOf → Answer OperandTrees
 joined l r =
-    cond (is_scalar l.domain && not (is_scalar r.domain)) (Ok (record { domain = r.domain; left = typed.scalar l.tree; right = r.tree }))
-    (cond (is_scalar r.domain && not (is_scalar l.domain)) (Ok (record { domain = l.domain; left = l.tree; right = typed.scalar r.tree }))
+    cond (is_scalar l.domain && not (is_scalar r.domain)) (Ok (scalar_first l.tree r))
+    (cond (is_scalar r.domain && not (is_scalar l.domain)) (Ok (scalar_last l r.tree))
     (cond (are_same l.domain r.domain) (Ok (record { domain = l.domain; left = l.tree; right = r.tree })) (Err DomainMismatch)))
 
 abbrev pub binary_shape : BinaryOperator → Bool → OperandTrees → Answer ShapeTree

@@ -1,26 +1,27 @@
--- The numbers of the refusals in replies.
-use Rattle.std.specs.Prelude.{ℕ}
+-- The refusals of queries that have no type.
+use Rattle.arr_core.specs.declared.refusal.Refusal.{Refusal}
+use Rattle.arr_core.specs.declared.refusal.Refusal.TheVariants as refusals
 use Rattle.wcps_types.specs.declared.refusal.TypeRefusal.{TypeRefusal}
-use Rattle.wcps_types.specs.declared.refusal.TypeRefusal.TheVariants as refusals
+use Rattle.wcps_types.specs.declared.refusal.TypeRefusal.TheVariants as types
 
--- the number of a refusal
-abbrev pub number_of : TypeRefusal → ℕ
-number_of refusals.NoSuchCoverage = 20
-number_of refusals.BadSyntax = 32
-number_of refusals.UnknownName = 40
-number_of refusals.NameTaken = 41
-number_of refusals.NoSuchField = 42
-number_of refusals.NoSuchAxis = 43
-number_of refusals.AxisTwice = 44
-number_of refusals.DomainMismatch = 45
-number_of refusals.TrimOutside = 46
-number_of refusals.NeedsScalar = 47
-number_of refusals.NeedsBoolean = 48
-number_of refusals.NeedsInteger = 49
-number_of refusals.NeedsOneField = 50
-number_of refusals.ListLength = 51
-number_of refusals.MustEncode = 52
-number_of refusals.BadInterval = 53
-number_of refusals.TooMuchWork = 54
-number_of refusals.ResultTooLarge = 55
-number_of refusals.TooManyCombinations = 56
+-- the refusal that a reply gives
+abbrev pub refusal_of : TypeRefusal → Refusal
+refusal_of types.NoSuchCoverage = refusals.NoSuchCoverage
+refusal_of types.BadSyntax = refusals.BadSyntax
+refusal_of types.UnknownName = refusals.UnknownName
+refusal_of types.NameTaken = refusals.NameTaken
+refusal_of types.NoSuchField = refusals.NoSuchField
+refusal_of types.NoSuchAxis = refusals.NoSuchAxis
+refusal_of types.AxisTwice = refusals.AxisTwice
+refusal_of types.DomainMismatch = refusals.DomainMismatch
+refusal_of types.TrimOutside = refusals.TrimOutside
+refusal_of types.NeedsScalar = refusals.NeedsScalar
+refusal_of types.NeedsBoolean = refusals.NeedsBoolean
+refusal_of types.NeedsInteger = refusals.NeedsInteger
+refusal_of types.NeedsOneField = refusals.NeedsOneField
+refusal_of types.ListLength = refusals.ListLength
+refusal_of types.MustEncode = refusals.MustEncode
+refusal_of types.BadInterval = refusals.BadInterval
+refusal_of types.TooMuchWork = refusals.TooMuchWork
+refusal_of types.ResultTooLarge = refusals.ResultTooLarge
+refusal_of types.TooManyCombinations = refusals.TooManyCombinations

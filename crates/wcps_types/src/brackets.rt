@@ -18,6 +18,9 @@ use arr_core::{Axis, Domain};
 use std::alloc::{AllocError, Global};
 use wcps_text::QueryName;
 
+/// The greatest bound of an axis; the least one is below `-MAX_BOUND` by 1.
+const MAX_BOUND: i64 = 2_147_483_647;
+
 /// An axis that is taken out, and where.
 #[derive(Drop)]
 pub struct Cut {
@@ -29,7 +32,7 @@ pub struct Cut {
 pub fn written_bounds(lo: i64, hi: i64) -> Result<Bounds, CheckError>
     ensures { Says bounds_view result (written_bounds lo hi) }
 {
-    if lo <= hi && -2_147_483_648 <= lo && hi <= 2_147_483_647 {
+    if lo <= hi && -MAX_BOUND - 1 <= lo && hi <= MAX_BOUND {
         return Ok(Bounds {
             lo: lo as i32,
             hi: hi as i32,

@@ -3,7 +3,7 @@
 ghost use Rattle.std.specs.Prelude.{[], Ok};
 ghost use Rattle.std.specs.Option.{option_map};
 ghost use Rattle.wcps_text.specs.Tree as tree;
-ghost use Rattle.wcps_text.specs.Tree.{view, view_place, view_interval, parts_of, subs_of, iters_of, condition_of};
+ghost use Rattle.wcps_text.specs.Tree.{condense, view, view_place, view_interval, parts_of, subs_of, iters_of, condition_of};
 ghost use Rattle.wcps_types.specs.Typed.{boxed_tree, number};
 ghost use Rattle.wcps_types.specs.Shapes.{Says, then_of, shape_view, unnamed};
 ghost use Rattle.wcps_types.specs.Brackets.{bounds_view, bracket_view, opened};
@@ -62,30 +62,13 @@ pub fn expression<'a>(context: &Context<'_, 'a>, e: &Expr) -> Result<Shape<'a>, 
             let a = expression(context, a)?;
             bracketed(context, a, subs)
         }
-        Expr::Coverage { iterators, body } => {
-            let over = iterator_list(context, iterators)?;
-            let over = opened_box(over)?;
-            let body = body_over(context, &over, body)?;
-            array(context.alloc, over.domain, body)
-        }
+        Expr::Coverage { iterators, body } => array_over(context, iterators, body),
         Expr::Condense {
             op,
             iterators,
             condition,
             body,
-        } => {
-            let over = iterator_list(context, iterators)?;
-            let over = opened_box(over)?;
-            let condition = condition_over(context, &over, condition)?;
-            let body = body_over(context, &over, body)?;
-            condensed(
-                context.alloc,
-                *op,
-                over.domain,
-                condition,
-                only_scalar(body)?,
-            )
-        }
+        } => condensed_over(context, *op, iterators, condition, body),
     }
 }
 
@@ -193,6 +176,47 @@ fn bracketed<'a>(
         node,
     };
     Ok(closed_bracket(context.alloc, shape, cuts)?)
+}
+
+/// The values of a body over a box.
+#[cycle(expression)]
+#[inline(never)]
+fn array_over<'a>(
+    context: &Context<'_, 'a>,
+    list: &[Iter],
+    body: &Expr,
+) -> Result<Shape<'a>, CheckError>
+    ensures { TypesTo context.now (tree.coverage (iters_of list.now) (view body.now)) result }
+{
+    let over = iterator_list(context, list)?;
+    let over = opened_box(over)?;
+    let body = body_over(context, &over, body)?;
+    array(context.alloc, over.domain, body)
+}
+
+/// A condenser of a body over a box.
+#[cycle(expression)]
+#[inline(never)]
+fn condensed_over<'a>(
+    context: &Context<'_, 'a>,
+    op: Aggregate,
+    list: &[Iter],
+    condition: &Option<Box<Expr>>,
+    body: &Expr,
+) -> Result<Shape<'a>, CheckError>
+    ensures { TypesTo context.now (condense op (iters_of list.now) (condition_of condition.now) (view body.now)) result }
+{
+    let over = iterator_list(context, list)?;
+    let over = opened_box(over)?;
+    let condition = condition_over(context, &over, condition)?;
+    let body = body_over(context, &over, body)?;
+    condensed(
+        context.alloc,
+        op,
+        over.domain,
+        condition,
+        only_scalar(body)?,
+    )
 }
 
 /// A body in the scope of further iterators.

@@ -77,7 +77,7 @@ pub fn is_name_of(own: &Option<QueryName>, name: &QueryName) -> bool
 }
 
 /// What may be the name of a coverage, a field or an axis is just what a text has as one token that is a name without
-/// `$`: so the two tables of keywords are one.
+/// `$`.
 pub fn names_are_tokens()
     ensures { (w : List ℕ) → IsName w ↔ Reads w (Ok (token.name w)) }
 {}

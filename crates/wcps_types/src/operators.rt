@@ -1,10 +1,10 @@
 //! The checks of operators and reductions on operands whose shapes are known, and what they make of them.
 
-ghost use Rattle.std.specs.Prelude.{◌≡◌, IfOk, map};
-ghost use Rattle.wcps_types.specs.Typed.{only_tree};
+ghost use Rattle.std.specs.Prelude.{◌≡◌, IfOk, Ok, [], map};
+ghost use Rattle.wcps_types.specs.Typed.{boxed_tree, reduce};
 ghost use Rattle.wcps_types.specs.Labels.{label_of};
-ghost use Rattle.wcps_types.specs.Shapes.{Says, shape_view, slot_of, labels_view, field_of_view};
-ghost use Rattle.wcps_types.specs.Operators.{one_selected, selected, unary, are_same, is_same_axis, operands_view, joined, numeric, logical, binary, reduction};
+ghost use Rattle.wcps_types.specs.Shapes.{Says, shape_view, slot_of, labels_view, field_of_view, unnamed};
+ghost use Rattle.wcps_types.specs.Operators.{one_selected, selected, unary, are_same, is_same_axis, operands_view, scalar_first, scalar_last, joined, numeric, logical, binary, reduction};
 
 use crate::extent::Extent;
 use crate::labels::{Label, Labels};
@@ -158,46 +158,68 @@ pub fn are_same(a: &[Axis], b: &[Axis]) -> bool
     }
 }
 
+/// A scalar on the left of an operand with axes: it is taken at each point.
+fn scalar_first<'a>(
+    alloc: Global,
+    scalar: Box<Node>,
+    other: OneField<'a>,
+) -> Result<Operands<'a>, CheckError>
+    ensures { Says operands_view result (Ok (scalar_first (boxed_tree scalar) (field_of_view other.entry))) }
+{
+    let OneField {
+        domain,
+        boolean: _,
+        node: right,
+    } = other;
+    let left = boxed(alloc, Node::Scalar(scalar))?;
+    Ok(Operands {
+        domain,
+        left,
+        right,
+    })
+}
+
+/// A scalar on the right of an operand with axes: it is taken at each point.
+fn scalar_last<'a>(
+    alloc: Global,
+    other: OneField<'a>,
+    scalar: Box<Node>,
+) -> Result<Operands<'a>, CheckError>
+    ensures { Says operands_view result (Ok (scalar_last (field_of_view other.entry) (boxed_tree scalar))) }
+{
+    let OneField {
+        domain,
+        boolean: _,
+        node: left,
+    } = other;
+    let right = boxed(alloc, Node::Scalar(scalar))?;
+    Ok(Operands {
+        domain,
+        left,
+        right,
+    })
+}
+
 /// Two operands with the same domain, or of which one is a scalar.
 fn joined<'a>(alloc: Global, l: OneField<'a>, r: OneField<'a>) -> Result<Operands<'a>, CheckError>
     ensures { Says operands_view result (joined (field_of_view l.entry) (field_of_view r.entry)) }
 {
-    let OneField {
-        domain: first,
-        boolean: _,
-        node: left,
-    } = l;
-    let OneField {
-        domain: second,
-        boolean: _,
-        node: right,
-    } = r;
-    let left_is_scalar = is_scalar(first.axes());
-    let right_is_scalar = is_scalar(second.axes());
+    let left_is_scalar = is_scalar(l.domain.axes());
+    let right_is_scalar = is_scalar(r.domain.axes());
     if left_is_scalar && !right_is_scalar {
-        let left = boxed(alloc, Node::Scalar(left))?;
-        return Ok(Operands {
-            domain: second,
-            left,
-            right,
-        });
+        return scalar_first(alloc, l.node, r);
     }
     if right_is_scalar && !left_is_scalar {
-        let right = boxed(alloc, Node::Scalar(right))?;
-        return Ok(Operands {
-            domain: first,
-            left,
-            right,
-        });
+        return scalar_last(alloc, l, r.node);
     }
-    if are_same(first.axes(), second.axes()) {
-        return Ok(Operands {
-            domain: first,
-            left,
-            right,
-        });
+    if !are_same(l.domain.axes(), r.domain.axes()) {
+        return Err(CheckError::Refused(TypeRefusal::DomainMismatch));
     }
-    Err(CheckError::Refused(TypeRefusal::DomainMismatch))
+    Ok(Operands {
+        domain: l.domain,
+        left: l.node,
+        right: r.node,
+    })
 }
 
 /// An operation on two numbers, where a Boolean counts as 0 or 1.
@@ -271,6 +293,20 @@ pub fn binary<'a>(
     }
 }
 
+/// The scalar that a reduction of a field gives.
+fn reduced<'a>(
+    alloc: Global,
+    op: Aggregate,
+    gives_boolean: bool,
+    domain: Extent<'a>,
+    node: Box<Node>,
+) -> Result<Shape<'a>, CheckError>
+    ensures { Says shape_view result (Ok (unnamed [] gives_boolean (reduce op domain.entry (boxed_tree node)))) }
+{
+    let node = reduce_node(alloc, op, domain.into_domain(alloc)?, node)?;
+    Ok(unnamed_scalar(alloc, gives_boolean, node))
+}
+
 /// A reduction.
 pub fn reduction<'a>(
     alloc: Global,
@@ -293,22 +329,19 @@ pub fn reduction<'a>(
             if boolean {
                 return Err(CheckError::Refused(TypeRefusal::NeedsInteger));
             }
-            let node = reduce_node(alloc, op, domain.into_domain(alloc)?, node)?;
-            Ok(unnamed_scalar(alloc, false, node))
+            reduced(alloc, op, false, domain, node)
         }
         Aggregate::Every | Aggregate::Any => {
             if !boolean {
                 return Err(CheckError::Refused(TypeRefusal::NeedsBoolean));
             }
-            let node = reduce_node(alloc, op, domain.into_domain(alloc)?, node)?;
-            Ok(unnamed_scalar(alloc, true, node))
+            reduced(alloc, op, true, domain, node)
         }
         Aggregate::Count => {
             if !boolean {
                 return Err(CheckError::Refused(TypeRefusal::NeedsBoolean));
             }
-            let node = reduce_node(alloc, op, domain.into_domain(alloc)?, node)?;
-            Ok(unnamed_scalar(alloc, false, node))
+            reduced(alloc, op, false, domain, node)
         }
     }
 }

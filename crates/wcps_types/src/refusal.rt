@@ -1,5 +1,6 @@
 //! Why a query has no type.
 
+use arr_core::Refusal;
 use std::alloc::{AllocError, AllocFailed};
 use thiserror::Error;
 
@@ -49,32 +50,32 @@ pub enum TypeRefusal {
 
 impl TypeRefusal {
     ghost use Rattle.std.specs.Prelude.{◌≡◌};
-    ghost use Rattle.wcps_types.specs.Refusals.{number_of};
+    ghost use Rattle.wcps_types.specs.Refusals.{refusal_of};
 
-    /// The refusal's number in replies.
-    pub fn number(self) -> u16
-        ensures { result ≡ number_of self }
+    /// The refusal that a reply gives for it.
+    pub fn refusal(self) -> Refusal
+        ensures { result ≡ refusal_of self }
     {
         match self {
-            TypeRefusal::NoSuchCoverage => 20,
-            TypeRefusal::BadSyntax => 32,
-            TypeRefusal::UnknownName => 40,
-            TypeRefusal::NameTaken => 41,
-            TypeRefusal::NoSuchField => 42,
-            TypeRefusal::NoSuchAxis => 43,
-            TypeRefusal::AxisTwice => 44,
-            TypeRefusal::DomainMismatch => 45,
-            TypeRefusal::TrimOutside => 46,
-            TypeRefusal::NeedsScalar => 47,
-            TypeRefusal::NeedsBoolean => 48,
-            TypeRefusal::NeedsInteger => 49,
-            TypeRefusal::NeedsOneField => 50,
-            TypeRefusal::ListLength => 51,
-            TypeRefusal::MustEncode => 52,
-            TypeRefusal::BadInterval => 53,
-            TypeRefusal::TooMuchWork => 54,
-            TypeRefusal::ResultTooLarge => 55,
-            TypeRefusal::TooManyCombinations => 56,
+            TypeRefusal::NoSuchCoverage => Refusal::NoSuchCoverage,
+            TypeRefusal::BadSyntax => Refusal::BadSyntax,
+            TypeRefusal::UnknownName => Refusal::UnknownName,
+            TypeRefusal::NameTaken => Refusal::NameTaken,
+            TypeRefusal::NoSuchField => Refusal::NoSuchField,
+            TypeRefusal::NoSuchAxis => Refusal::NoSuchAxis,
+            TypeRefusal::AxisTwice => Refusal::AxisTwice,
+            TypeRefusal::DomainMismatch => Refusal::DomainMismatch,
+            TypeRefusal::TrimOutside => Refusal::TrimOutside,
+            TypeRefusal::NeedsScalar => Refusal::NeedsScalar,
+            TypeRefusal::NeedsBoolean => Refusal::NeedsBoolean,
+            TypeRefusal::NeedsInteger => Refusal::NeedsInteger,
+            TypeRefusal::NeedsOneField => Refusal::NeedsOneField,
+            TypeRefusal::ListLength => Refusal::ListLength,
+            TypeRefusal::MustEncode => Refusal::MustEncode,
+            TypeRefusal::BadInterval => Refusal::BadInterval,
+            TypeRefusal::TooMuchWork => Refusal::TooMuchWork,
+            TypeRefusal::ResultTooLarge => Refusal::ResultTooLarge,
+            TypeRefusal::TooManyCombinations => Refusal::TooManyCombinations,
         }
     }
 }

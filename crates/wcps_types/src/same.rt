@@ -48,6 +48,23 @@ fn is_same(a: &Node, b: &Node) -> bool
             Node::Record(others) => are_same(parts, others),
             _ => false,
         },
+        Node::Select(_, _)
+        | Node::Bracket(_)
+        | Node::Slice { .. }
+        | Node::Array(_)
+        | Node::List { .. } => is_same_value(a, b),
+        Node::Condense { .. } | Node::CondenseWhere { .. } | Node::Reduce { .. } => {
+            is_same_fold(a, b)
+        }
+    }
+}
+
+/// The same, said only of selections, brackets, slices, arrays and lists: nodes that make or narrow a value.
+#[cycle(is_same)]
+fn is_same_value(a: &Node, b: &Node) -> bool
+    ensures { IsTrue result → (f : ℕ) → field_tree a.now f ≡ field_tree b.now f }
+{
+    match a {
         Node::Select(e, own) => match b {
             Node::Select(d, other) => own == other && is_same(e, d),
             _ => false,
@@ -89,6 +106,16 @@ fn is_same(a: &Node, b: &Node) -> bool
             } => domain.is_same(other) && are_same_numbers(items, others),
             _ => false,
         },
+        _ => false,
+    }
+}
+
+/// The same, said only of condensers and reductions.
+#[cycle(is_same)]
+fn is_same_fold(a: &Node, b: &Node) -> bool
+    ensures { IsTrue result → (f : ℕ) → field_tree a.now f ≡ field_tree b.now f }
+{
+    match a {
         Node::Condense { op, domain, body } => match b {
             Node::Condense {
                 op: other,
@@ -124,6 +151,7 @@ fn is_same(a: &Node, b: &Node) -> bool
             } => op == other && domain.is_same(other_domain) && is_same(body, other_body),
             _ => false,
         },
+        _ => false,
     }
 }
 

@@ -1,117 +1,67 @@
 //! Closed folds, which use no variable from outside them, and the passes that they become.
 
-ghost use Rattle.std.specs.Prelude.{◌≡◌, IfOk, map};
-ghost use Rattle.plan_ir.specs.Bodies.{body_view, read, table};
+ghost use Rattle.std.specs.Prelude.{◌≡◌, map};
+ghost use Rattle.plan_ir.specs.Bodies.{body_view};
 ghost use Rattle.plan_ir.specs.Plans.{pass_view};
 ghost use Rattle.plan_ir.specs.Variables.{index_without, without};
 ghost use Rattle.plan_rewrite.specs.Hoisting.{pass_without};
-ghost use Rattle.plan_rewrite.specs.Views.{tree_in, pass_in};
 
-use crate::nodes::{
-    bind_body, boxed, conditional_fold, fold_body, op1_body, op2_body, plain_fold, read_body,
-    table_body,
-};
-use arr_core::Domain;
 use plan_ir::{Body, Fold, Index};
-use std::alloc::{AllocError, Global};
 
-/// A body without its first `n` variables, of which it uses none.
-#[cycle(without)]
-fn without(alloc: Global, n: usize, e: &Body) -> Result<Box<Body>, AllocError>
-    ensures { IfOk result (λ b. tree_in b ≡ without n (body_view e.now)) }
+/// Takes away the first `n` variables of a body, of which it uses none.
+#[cycle(shift)]
+fn shift(n: usize, e: &mut Body)
+    ensures { body_view e.new ≡ without n (body_view e.old) }
 {
     match e {
-        Body::Lit(z) => boxed(alloc, Body::Lit(*z)),
-        Body::Var(k) => boxed(alloc, Body::Var(k.saturating_sub(n))),
-        Body::Reg(k) => boxed(alloc, Body::Reg(*k)),
-        Body::Op1(op, e) => {
-            let x = without(alloc, n, e)?;
-            op1_body(alloc, *op, x)
-        }
-        Body::Op2(op, l, r) => {
-            let x = without(alloc, n, l)?;
-            let y = without(alloc, n, r)?;
-            op2_body(alloc, *op, x, y)
+        Body::Lit(_) | Body::Reg(_) => {}
+        Body::Var(k) => *k = k.saturating_sub(n),
+        Body::Op1(_, e) => shift(n, e),
+        Body::Op2(_, l, r) => {
+            shift(n, l);
+            shift(n, r);
         }
         Body::Read {
-            coverage,
-            field,
+            coverage: _,
+            field: _,
             indexes,
-        } => read_without(alloc, n, *coverage, *field, indexes),
+        } => shift_indexes(n, indexes),
         Body::Table {
-            domain,
-            items,
+            domain: _,
+            items: _,
             indexes,
-        } => table_without(alloc, n, domain, items, indexes),
+        } => shift_indexes(n, indexes),
         Body::Bind {
             position,
-            interval,
+            interval: _,
             body,
         } => {
-            let p = without(alloc, n, position)?;
-            let b = without(alloc, n, body)?;
-            bind_body(alloc, p, *interval, b)
+            shift(n, position);
+            shift(n, body);
         }
-        Body::Fold(f) => {
-            let fold = fold_without(alloc, n, f)?;
-            let b = fold_body(alloc, fold)?;
-            Ok(b)
-        }
+        Body::Fold(f) => shift_fold(n, f),
     }
 }
 
-/// A fold without the first `n` variables.
-#[cycle(without)]
-pub fn fold_without(alloc: Global, n: usize, f: &Fold) -> Result<Box<Fold>, AllocError>
-    ensures { IfOk result (λ g. pass_in g ≡ pass_without n (pass_view f.now)) }
+/// The same of a fold.
+#[cycle(shift)]
+pub fn shift_fold(n: usize, f: &mut Fold)
+    ensures { pass_view f.new ≡ pass_without n (pass_view f.old) }
 {
-    let body = without(alloc, n, &f.body)?;
-    match &f.condition {
-        None => plain_fold(alloc, f.op, &f.domain, body),
-        Some(c) => {
-            let c = without(alloc, n, c)?;
-            conditional_fold(alloc, f.op, &f.domain, c, body)
-        }
+    if let Some(c) = &mut f.condition {
+        shift(n, c);
     }
+    shift(n, &mut f.body);
 }
 
-/// The cell of a field at a point without the first `n` variables.
-fn read_without(
-    alloc: Global,
-    n: usize,
-    coverage: usize,
-    field: usize,
-    indexes: &[Index],
-) -> Result<Box<Body>, AllocError>
-    ensures { IfOk result (λ b. tree_in b ≡ read coverage field (map (index_without n) indexes.now)) }
+/// The same of indexes.
+#[tactic(auto, using(crate::proofs::Loops::mapped_more))]
+fn shift_indexes(n: usize, indexes: &mut [Index])
+    ensures { indexes.new ≡ map (index_without n) indexes.old }
 {
-    let indexes = indexes_without(alloc, n, indexes)?;
-    read_body(alloc, coverage, field, indexes)
-}
-
-/// The item of a list at a point without the first `n` variables.
-fn table_without(
-    alloc: Global,
-    n: usize,
-    domain: &Domain,
-    items: &[i64],
-    indexes: &[Index],
-) -> Result<Box<Body>, AllocError>
-    ensures { IfOk result (λ b. tree_in b ≡ table domain.now items.now (map (index_without n) indexes.now)) }
-{
-    let indexes = indexes_without(alloc, n, indexes)?;
-    table_body(alloc, domain, items, indexes)
-}
-
-/// Indexes without the first `n` variables.
-fn indexes_without(alloc: Global, n: usize, indexes: &[Index]) -> Result<Vec<Index>, AllocError>
-    ensures { IfOk result (λ v. v.items ≡ map (index_without n) indexes.now) }
-{
-    let mut list = Vec::new(alloc);
-    for index in indexes {
-        list.push(index_without(n, *index))?;
+    for index in indexes.iter_mut() {
+        *index = index_without(n, *index);
     }
-    Ok(list)
 }
 
 /// An index without the first `n` variables.

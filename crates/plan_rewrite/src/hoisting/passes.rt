@@ -4,17 +4,17 @@ ghost use Rattle.std.specs.Prelude.{◌≡◌, ◌++◌, [], ◌∷◌, IfOk, On
 ghost use Rattle.plan_ir.specs.Plans.{item_view, steps_view, plan_view};
 ghost use Rattle.plan_ir.specs.Placed.{IsPlan};
 ghost use Rattle.plan_rewrite.specs.HoistedPlans.{item_on, hoisted_steps, hoisted_plan};
-ghost use Rattle.plan_rewrite.specs.HoistedParts.{pass_hoisted, passes_hoisted, condition_hoisted, fields_hoisted, rest_hoisted, item_hoisted};
+ghost use Rattle.plan_rewrite.specs.HoistedParts.{HasBinds, HasFields, with_last, pass_hoisted, passes_hoisted, condition_hoisted, fields_hoisted, rest_hoisted, item_hoisted};
 ghost use Rattle.plan_rewrite.specs.Everywhere.{Everywhere};
 ghost use Rattle.plan_rewrite.specs.Rewritten.{MeansSame, NoFoldIsClosed};
-ghost use Rattle.plan_rewrite.specs.Views.{tree_in, passes_in, fields_in, condition_in, GainsBinds, GainsFields};
+ghost use Rattle.plan_rewrite.specs.Views.{passes_in, condition_in, GainsFields};
 
-use crate::hoisting::folds::{
-    Around, count, hoisted, inner_fold, one_deeper, outer_scope, push_pass,
-};
-use crate::nodes::push_bind;
-use plan_ir::{Bind, Body, Field, Fold, Interval, Item, Plan, Steps};
+use crate::hoisting::folds::{Around, hoist_body, hoist_fold};
+use crate::variables::{with_interval, with_spans};
+use plan_ir::{Bind, Body, Field, Fold, Item, Plan, Steps};
 use std::alloc::{AllocError, Global};
+use std::mem;
+use std::vec::IntoIter;
 
 /// The plan with each fold that uses no variable from outside it as a pass, the innermost first, whose register stands in
 /// its place. A well-formed plan gives what it gave, faults included, and stays well-formed.
@@ -23,176 +23,138 @@ pub fn hoist(alloc: Global, plan: Plan) -> Result<Plan, AllocError>
     ensures placed { IfOk result (λ r. IsPlan (plan_view plan) → IsPlan (plan_view r)) }
     ensures open { IfOk result (λ r. Everywhere NoFoldIsClosed (plan_view r)) }
 {
-    let r = hoist_all(alloc, plan)?;
+    let mut r = plan;
+    hoist_plan(alloc, &mut r)?;
     Ok(r)
 }
 
-/// The hoisted plan.
-pub fn hoist_all(alloc: Global, plan: Plan) -> Result<Plan, AllocError>
-    ensures { IfOk result (λ r. plan_view r ≡ hoisted_plan (plan_view plan)) }
+/// Hoists the closed folds of a plan.
+pub fn hoist_plan(alloc: Global, plan: &mut Plan) -> Result<(), AllocError>
+    ensures { OnOk result (plan_view plan.new ≡ hoisted_plan (plan_view plan.old)) }
 {
-    let Plan {
-        coverages,
-        steps,
-        combinations,
-    } = plan;
-    let steps = all_hoisted(alloc, &steps)?;
-    Ok(Plan {
-        coverages,
-        steps,
-        combinations,
-    })
+    hoist_all(alloc, &mut plan.steps)
 }
 
-/// All steps, hoisted.
-fn all_hoisted(alloc: Global, all: &[Steps]) -> Result<Vec<Steps>, AllocError>
-    ensures { IfOk result (λ v. map steps_view v.items ≡ map hoisted_steps (map steps_view all.now)) }
+/// Hoists the closed folds of all steps.
+#[tactic(auto, using(crate::proofs::Loops::viewed_more))]
+fn hoist_all(alloc: Global, all: &mut [Steps]) -> Result<(), AllocError>
+    ensures { OnOk result (map steps_view all.new ≡ map hoisted_steps (map steps_view all.old)) }
 {
-    let mut list = Vec::new(alloc);
-    for steps in all {
-        list.push(steps_hoisted(alloc, steps)?)?;
+    for steps in all.iter_mut() {
+        hoist_steps(alloc, steps)?;
     }
-    Ok(list)
+    Ok(())
 }
 
-/// Steps, hoisted: the passes, then the condition, then the item.
-fn steps_hoisted(alloc: Global, steps: &Steps) -> Result<Steps, AllocError>
-    ensures { IfOk result (λ t. steps_view t ≡ hoisted_steps (steps_view steps.now)) }
+/// Hoists the closed folds of steps: of the passes, then of the condition, then of the item.
+fn hoist_steps(alloc: Global, steps: &mut Steps) -> Result<(), AllocError>
+    ensures { OnOk result (steps_view steps.new ≡ hoisted_steps (steps_view steps.old)) }
 {
+    let mut old = mem::replace(&mut steps.passes, Vec::new(alloc)).into_iter();
     let mut regs = Vec::new(alloc);
-    let mut passes = Vec::new(alloc);
-    hoist_passes(alloc, &steps.passes, &mut regs, &mut passes)?;
-    let condition = condition_hoisted(alloc, &regs, &steps.condition, &mut passes)?;
-    let item = item_hoisted(alloc, &regs, &steps.item, &mut passes)?;
-    Ok(Steps {
-        passes,
-        condition,
-        item,
-    })
-}
-
-/// An item, hoisted.
-fn item_hoisted(
-    alloc: Global,
-    regs: &[usize],
-    item: &Item,
-    passes: &mut Vec<Fold>,
-) -> Result<Item, AllocError>
-    ensures item { IfOk result (λ i. item_view i ≡ item_on item.now.domain (item_hoisted regs.now passes.old item.now)) }
-    ensures passes { OnOk result (passes_in passes.new ≡ (item_hoisted regs.now passes.old item.now).passes) }
-{
-    let domain = item.domain.copy(alloc)?;
-    let scope = outer_scope(alloc, &item.domain)?;
-    let at = Around {
-        regs,
-        scope: &scope,
-    };
-    let mut binds = Vec::new(alloc);
-    let fields = hoist_binds(alloc, &at, &item.binds, &item.fields, passes, &mut binds)?;
-    Ok(Item {
-        domain,
-        binds,
-        fields,
-    })
+    hoist_passes(alloc, &mut old, &mut regs, &mut steps.passes)?;
+    hoist_condition(alloc, &regs, &mut steps.condition, &mut steps.passes)?;
+    hoist_item(alloc, &regs, &mut steps.item, &mut steps.passes)
 }
 
 /// Puts passes at the end of those so far, each behind what its own closed folds become; `regs` gets their places.
 fn hoist_passes(
     alloc: Global,
-    old: &[Fold],
+    old: &mut IntoIter<Fold>,
     regs: &mut Vec<usize>,
     passes: &mut Vec<Fold>,
 ) -> Result<(), AllocError>
-    ensures regs { OnOk result (regs.new.items ≡ (passes_hoisted regs.old passes.old old.now).regs) }
-    ensures passes { OnOk result (passes_in passes.new ≡ (passes_hoisted regs.old passes.old old.now).passes) }
+    ensures regs { OnOk result (regs.new.items ≡ (passes_hoisted regs.old passes.old old.old).regs) }
+    ensures passes { OnOk result (passes_in passes.new ≡ (passes_hoisted regs.old passes.old old.old).passes) }
 {
-    match old {
-        [] => Ok(()),
-        [pass, rest @ ..] => {
-            hoist_pass(alloc, pass, regs, passes)?;
-            hoist_passes(alloc, rest, regs, passes)
+    match old.next() {
+        None => Ok(()),
+        Some(mut pass) => {
+            hoist_pass(alloc, &mut pass, regs, passes)?;
+            passes.push(pass)?;
+            hoist_passes(alloc, old, regs, passes)
         }
     }
 }
 
-/// Puts a pass at the end of those so far, behind what its own closed folds become.
+/// Hoists the closed folds of a pass, which is to come next: `regs` gets its place.
 fn hoist_pass(
     alloc: Global,
-    pass: &Fold,
+    pass: &mut Fold,
     regs: &mut Vec<usize>,
     passes: &mut Vec<Fold>,
 ) -> Result<(), AllocError>
-    ensures regs { OnOk result (regs.new.items ≡ (pass_hoisted regs.old passes.old pass.now).regs) }
-    ensures passes { OnOk result (passes_in passes.new ≡ (pass_hoisted regs.old passes.old pass.now).passes) }
+    ensures regs { OnOk result (regs.new.items ≡ (pass_hoisted regs.old passes.old pass.old).regs) }
+    ensures passes { OnOk result (with_last passes.new pass.new ≡ (pass_hoisted regs.old passes.old pass.old).passes) }
 {
-    let scope = outer_scope(alloc, &pass.domain)?;
+    let at = Around { regs, scope: &[] };
+    hoist_fold(alloc, &at, pass, passes)?;
+    regs.push(passes.len())?;
+    Ok(())
+}
+
+/// Hoists the closed folds of a condition, if there is one.
+fn hoist_condition(
+    alloc: Global,
+    regs: &[usize],
+    c: &mut Option<Body>,
+    passes: &mut Vec<Fold>,
+) -> Result<(), AllocError>
+    ensures value { OnOk result (condition_in c.new ≡ (condition_hoisted regs.now passes.old c.old).condition) }
+    ensures passes { OnOk result (passes_in passes.new ≡ (condition_hoisted regs.now passes.old c.old).passes) }
+{
+    match c {
+        None => Ok(()),
+        Some(body) => hoist_body(alloc, &Around { regs, scope: &[] }, body, passes),
+    }
+}
+
+/// Hoists the closed folds of an item.
+fn hoist_item(
+    alloc: Global,
+    regs: &[usize],
+    item: &mut Item,
+    passes: &mut Vec<Fold>,
+) -> Result<(), AllocError>
+    ensures item { OnOk result (item_view item.new ≡ item_on item.old.domain (item_hoisted regs.now passes.old item.old)) }
+    ensures passes { OnOk result (passes_in passes.new ≡ (item_hoisted regs.now passes.old item.old).passes) }
+{
+    let scope = with_spans(alloc, &[], item.domain.axes())?;
     let at = Around {
         regs,
         scope: &scope,
     };
-    let fold = inner_fold(alloc, &at, pass, passes)?;
-    let place = count(passes);
-    push_place(regs, place)?;
-    push_pass(passes, fold)?;
-    Ok(())
+    let mut binds = mem::replace(&mut item.binds, Vec::new(alloc)).into_iter();
+    let mut fields = mem::replace(&mut item.fields, Vec::new(alloc)).into_iter();
+    hoist_binds(alloc, &at, &mut binds, &mut fields, passes, item)
 }
 
-/// Puts the place of a pass at the end.
-fn push_place(regs: &mut Vec<usize>, place: usize) -> Result<(), AllocError>
-    ensures { OnOk result (regs.new.items ≡ regs.old.items ++ place ∷ []) }
-{
-    regs.push(place)?;
-    Ok(())
-}
-
-/// A condition, if there is one.
-fn condition_hoisted(
-    alloc: Global,
-    regs: &[usize],
-    condition: &Option<Body>,
-    passes: &mut Vec<Fold>,
-) -> Result<Option<Body>, AllocError>
-    ensures value { IfOk result (λ c. condition_in c ≡ (condition_hoisted regs.now passes.old condition.now).condition) }
-    ensures passes { OnOk result (passes_in passes.new ≡ (condition_hoisted regs.now passes.old condition.now).passes) }
-{
-    match condition {
-        None => Ok(None),
-        Some(c) => {
-            let at = Around { regs, scope: &[] };
-            let c = hoisted(alloc, &at, c, passes)?;
-            Ok(Some(Box::into_inner(c)))
-        }
-    }
-}
-
-/// The fields behind binds, which go to the end of a list.
+/// Puts binds and the fields behind them at the ends of those of an item.
 fn hoist_binds(
     alloc: Global,
     at: &Around,
-    binds: &[Bind],
-    fields: &[Field],
+    binds: &mut IntoIter<Bind>,
+    fields: &mut IntoIter<Field>,
     passes: &mut Vec<Fold>,
-    list: &mut Vec<Bind>,
-) -> Result<Vec<Field>, AllocError>
-    ensures fields { IfOk result (λ v. fields_in v ≡ (rest_hoisted at.now passes.old binds.now fields.now).fields) }
-    ensures binds { OnOk result (GainsBinds list.old list.new (rest_hoisted at.now passes.old binds.now fields.now).binds) }
-    ensures passes { OnOk result (passes_in passes.new ≡ (rest_hoisted at.now passes.old binds.now fields.now).passes) }
+    item: &mut Item,
+) -> Result<(), AllocError>
+    ensures domain { OnOk result (item.new.domain ≡ item.old.domain) }
+    ensures binds { OnOk result (HasBinds item.old item.new (rest_hoisted at.now passes.old binds.old fields.old)) }
+    ensures fields { OnOk result (HasFields item.old item.new (rest_hoisted at.now passes.old binds.old fields.old)) }
+    ensures passes { OnOk result (passes_in passes.new ≡ (rest_hoisted at.now passes.old binds.old fields.old).passes) }
 {
-    match binds {
-        [] => {
-            let mut kept = Vec::new(alloc);
-            hoist_fields(alloc, at, fields, passes, &mut kept)?;
-            Ok(kept)
-        }
-        [bind, rest @ ..] => {
-            let position = hoisted(alloc, at, &bind.position, passes)?;
-            push_bind(list, position, bind.interval)?;
-            let scope = one_deeper(alloc, at.scope, bind.interval)?;
+    match binds.next() {
+        None => hoist_fields(alloc, at, fields, passes, &mut item.fields),
+        Some(mut bind) => {
+            let interval = bind.interval;
+            hoist_body(alloc, at, &mut bind.position, passes)?;
+            item.binds.push(bind)?;
+            let scope = with_interval(alloc, at.scope, interval)?;
             let inner = Around {
                 regs: at.regs,
                 scope: &scope,
             };
-            hoist_binds(alloc, &inner, rest, fields, passes, list)
+            hoist_binds(alloc, &inner, binds, fields, passes, item)
         }
     }
 }
@@ -201,30 +163,19 @@ fn hoist_binds(
 fn hoist_fields(
     alloc: Global,
     at: &Around,
-    fields: &[Field],
+    fields: &mut IntoIter<Field>,
     passes: &mut Vec<Fold>,
     list: &mut Vec<Field>,
 ) -> Result<(), AllocError>
-    ensures fields { OnOk result (GainsFields list.old list.new (fields_hoisted at.now passes.old fields.now).fields) }
-    ensures passes { OnOk result (passes_in passes.new ≡ (fields_hoisted at.now passes.old fields.now).passes) }
+    ensures fields { OnOk result (GainsFields list.old list.new (fields_hoisted at.now passes.old fields.old).fields) }
+    ensures passes { OnOk result (passes_in passes.new ≡ (fields_hoisted at.now passes.old fields.old).passes) }
 {
-    match fields {
-        [] => Ok(()),
-        [field, rest @ ..] => {
-            let body = hoisted(alloc, at, &field.body, passes)?;
-            push_field(list, field.boolean, body)?;
-            hoist_fields(alloc, at, rest, passes, list)
+    match fields.next() {
+        None => Ok(()),
+        Some(mut field) => {
+            hoist_body(alloc, at, &mut field.body, passes)?;
+            list.push(field)?;
+            hoist_fields(alloc, at, fields, passes, list)
         }
     }
-}
-
-/// Puts a field at the end of a list.
-fn push_field(list: &mut Vec<Field>, boolean: bool, body: Box<Body>) -> Result<(), AllocError>
-    ensures { OnOk result (GainsFields list.old list.new (record { boolean = boolean; body = tree_in body } ∷ [])) }
-{
-    list.push(Field {
-        boolean,
-        body: Box::into_inner(body),
-    })?;
-    Ok(())
 }

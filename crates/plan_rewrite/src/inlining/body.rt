@@ -1,167 +1,138 @@
-//! Binds that give way: one of a literal inside its interval to a constant, one of a variable whose own interval lies
-//! inside to that variable.
+//! Bodies whose binds are inlined where they can be: a literal inside the interval as a constant, a variable whose own
+//! interval lies inside as that variable. A body is rewritten in its place.
 
-ghost use Rattle.std.specs.Prelude.{◌≡◌, ◌++◌, [], ◌∷◌, IfOk, map};
+ghost use Rattle.std.specs.Prelude.{◌≡◌, ◌++◌, [], ◌∷◌, IfOk, OnOk, map};
 ghost use Rattle.std.specs.Option.{option_copied};
-ghost use Rattle.plan_ir.specs.Bodies.{body_view, read, table};
-ghost use Rattle.plan_rewrite.specs.Settling.{moved, literal, constant_in, variable_in, stand_in, settled, settled_under, settled_bind};
+ghost use Rattle.plan_ir.specs.Bodies.{body_view};
 ghost use Rattle.plan_ir.specs.Plans.{pass_view};
-ghost use Rattle.plan_rewrite.specs.Views.{tree_in, pass_in};
+ghost use Rattle.plan_rewrite.specs.Inlining.{index_for, literal, constant_in, variable_in, stand_in, inlining, inlined_fold};
 
-use crate::nodes::{
-    bind_body, boxed, conditional_fold, fold_body, op1_body, op2_body, plain_fold, read_body,
-    table_body,
-};
 use crate::variables::{index_at, variable, with_interval, with_levels, with_spans};
-use arr_core::Domain;
 use plan_ir::{Body, Fold, Index, Interval};
 use std::alloc::{AllocError, Global};
+use std::mem;
 use wcps_mean::{Outcome, operate};
 
-/// A body under the variables of `scope`, each by its interval; `env` has an index for each variable of the old one.
-#[cycle(settle)]
-pub fn settled(
+/// Inlines the binds of a body, which gets the variables of `scope`, each by its interval; `env` has an index for each
+/// variable of the old one.
+#[cycle(inline)]
+pub fn inline_body(
     alloc: Global,
     env: &[Index],
     scope: &[Interval],
-    e: &Body,
-) -> Result<Box<Body>, AllocError>
-    ensures { IfOk result (λ b. tree_in b ≡ settled env.now scope.now (body_view e.now)) }
+    e: &mut Body,
+) -> Result<(), AllocError>
+    ensures { OnOk result (body_view e.new ≡ inlining env.now scope.now (body_view e.old)) }
 {
     match e {
-        Body::Lit(z) => boxed(alloc, Body::Lit(*z)),
-        Body::Var(k) => boxed(alloc, variable(index_at(env, *k))),
-        Body::Reg(k) => boxed(alloc, Body::Reg(*k)),
-        Body::Op1(op, e) => {
-            let x = settled(alloc, env, scope, e)?;
-            op1_body(alloc, *op, x)
+        Body::Lit(_) | Body::Reg(_) => Ok(()),
+        Body::Var(k) => {
+            let inlined = variable(index_at(env, *k));
+            put(e, inlined);
+            Ok(())
         }
-        Body::Op2(op, l, r) => {
-            let x = settled(alloc, env, scope, l)?;
-            let y = settled(alloc, env, scope, r)?;
-            op2_body(alloc, *op, x, y)
+        Body::Op1(_, e) => inline_body(alloc, env, scope, e),
+        Body::Op2(_, l, r) => {
+            inline_body(alloc, env, scope, l)?;
+            inline_body(alloc, env, scope, r)
         }
         Body::Read {
-            coverage,
-            field,
+            coverage: _,
+            field: _,
             indexes,
-        } => read_moved(alloc, env, *coverage, *field, indexes),
+        } => {
+            move_indexes(env, indexes);
+            Ok(())
+        }
         Body::Table {
-            domain,
-            items,
+            domain: _,
+            items: _,
             indexes,
-        } => table_moved(alloc, env, domain, items, indexes),
+        } => {
+            move_indexes(env, indexes);
+            Ok(())
+        }
         Body::Bind {
             position,
             interval,
             body,
         } => {
-            let p = settled(alloc, env, scope, position)?;
-            settled_bind(alloc, env, scope, body, p, *interval)
+            inline_body(alloc, env, scope, position)?;
+            match stand_in(scope, *interval, position) {
+                Some(i) => {
+                    inline_under(alloc, env, i, scope, body)?;
+                    let inlined = mem::replace(&mut **body, Body::Lit(0));
+                    put(e, inlined);
+                    Ok(())
+                }
+                None => {
+                    let inner = with_interval(alloc, scope, *interval)?;
+                    inline_under(alloc, env, Index::Var(scope.len()), &inner, body)
+                }
+            }
         }
-        Body::Fold(f) => {
-            let fold = settled_fold(alloc, env, scope, f)?;
-            let b = fold_body(alloc, fold)?;
-            Ok(b)
-        }
+        Body::Fold(f) => inline_fold(alloc, env, scope, f),
     }
 }
 
-/// A body under a position, or where that gives way without it.
-#[cycle(settle)]
-fn settled_bind(
+/// The same of a body under one old variable more, for which an index stands.
+#[cycle(inline)]
+fn inline_under(
     alloc: Global,
     env: &[Index],
+    i: Index,
     scope: &[Interval],
-    e: &Body,
-    position: Box<Body>,
-    interval: Interval,
-) -> Result<Box<Body>, AllocError>
-    ensures { IfOk result (λ b. tree_in b ≡ settled_bind env.now scope.now interval (tree_in position) (body_view e.now)) }
+    e: &mut Body,
+) -> Result<(), AllocError>
+    ensures { OnOk result (body_view e.new ≡ inlining (env.now ++ i ∷ []) scope.now (body_view e.old)) }
 {
-    match stand_in(scope, interval, &position) {
-        Some(i) => {
-            let inner = with_index(alloc, env, i)?;
-            settled(alloc, &inner, scope, e)
-        }
-        None => {
-            let inner = with_index(alloc, env, Index::Var(scope.len()))?;
-            let more = with_interval(alloc, scope, interval)?;
-            let body = settled(alloc, &inner, &more, e)?;
-            bind_body(alloc, position, interval, body)
-        }
-    }
+    let inner = with_index(alloc, env, i)?;
+    inline_body(alloc, &inner, scope, e)
 }
 
-/// A fold under the variables of `scope`.
-#[cycle(settle)]
-pub fn settled_fold(
+/// Puts a body in the place of another.
+fn put(e: &mut Body, body: Body)
+    ensures { body_view e.new ≡ body_view body }
+{
+    *e = body;
+}
+
+/// The same of a fold under the variables of `scope`.
+#[cycle(inline)]
+pub fn inline_fold(
     alloc: Global,
     env: &[Index],
     scope: &[Interval],
-    f: &Fold,
-) -> Result<Box<Fold>, AllocError>
-    ensures { IfOk result (λ r. pass_in r ≡ settled_under env.now scope.now (pass_view f.now)) }
+    f: &mut Fold,
+) -> Result<(), AllocError>
+    ensures { OnOk result (pass_view f.new ≡ inlined_fold env.now scope.now (pass_view f.old)) }
 {
     let inner = with_levels(alloc, env, scope, f.domain.axes())?;
     let more = with_spans(alloc, scope, f.domain.axes())?;
-    let body = settled(alloc, &inner, &more, &f.body)?;
-    match &f.condition {
-        None => plain_fold(alloc, f.op, &f.domain, body),
-        Some(c) => {
-            let c = settled(alloc, &inner, &more, c)?;
-            conditional_fold(alloc, f.op, &f.domain, c, body)
-        }
+    if let Some(c) = &mut f.condition {
+        inline_body(alloc, &inner, &more, c)?;
+    }
+    inline_body(alloc, &inner, &more, &mut f.body)
+}
+
+/// Puts in the place of each index the one that stands for it.
+#[tactic(auto, using(crate::proofs::Loops::mapped_more))]
+fn move_indexes(env: &[Index], indexes: &mut [Index])
+    ensures { indexes.new ≡ map (index_for env.now) indexes.old }
+{
+    for index in indexes.iter_mut() {
+        *index = index_for(env, *index);
     }
 }
 
-/// The cell of a field at the indexes that stand for indexes.
-fn read_moved(
-    alloc: Global,
-    env: &[Index],
-    coverage: usize,
-    field: usize,
-    indexes: &[Index],
-) -> Result<Box<Body>, AllocError>
-    ensures { IfOk result (λ b. tree_in b ≡ read coverage field (map (moved env.now) indexes.now)) }
-{
-    let indexes = all_moved(alloc, env, indexes)?;
-    read_body(alloc, coverage, field, indexes)
-}
-
-/// The item of a list at the indexes that stand for indexes.
-fn table_moved(
-    alloc: Global,
-    env: &[Index],
-    domain: &Domain,
-    items: &[i64],
-    indexes: &[Index],
-) -> Result<Box<Body>, AllocError>
-    ensures { IfOk result (λ b. tree_in b ≡ table domain.now items.now (map (moved env.now) indexes.now)) }
-{
-    let indexes = all_moved(alloc, env, indexes)?;
-    table_body(alloc, domain, items, indexes)
-}
-
 /// The index that stands for an index.
-fn moved(env: &[Index], i: Index) -> Index
-    ensures { result ≡ moved env.now i }
+fn index_for(env: &[Index], i: Index) -> Index
+    ensures { result ≡ index_for env.now i }
 {
     match i {
         Index::Const(z) => Index::Const(z),
         Index::Var(k) => index_at(env, k),
     }
-}
-
-/// The indexes that stand for indexes.
-fn all_moved(alloc: Global, env: &[Index], indexes: &[Index]) -> Result<Vec<Index>, AllocError>
-    ensures { IfOk result (λ v. v.items ≡ map (moved env.now) indexes.now) }
-{
-    let mut list = Vec::new(alloc);
-    for index in indexes {
-        list.push(moved(env, *index))?;
-    }
-    Ok(list)
 }
 
 /// The number of a literal, which may have signs.
@@ -213,7 +184,7 @@ fn variable_in(interval: Interval, k: usize, own: Option<&Interval>) -> Option<I
     }
 }
 
-/// What a position gives way to.
+/// What a position is inlined as.
 pub fn stand_in(scope: &[Interval], interval: Interval, position: &Body) -> Option<Index>
     ensures { result ≡ stand_in scope.now interval.lo interval.hi (body_view position.now) }
 {
@@ -226,7 +197,7 @@ pub fn stand_in(scope: &[Interval], interval: Interval, position: &Body) -> Opti
 }
 
 /// One index more.
-pub fn with_index(alloc: Global, env: &[Index], i: Index) -> Result<Vec<Index>, AllocError>
+fn with_index(alloc: Global, env: &[Index], i: Index) -> Result<Vec<Index>, AllocError>
     ensures { IfOk result (λ v. v.items ≡ env.now ++ i ∷ []) }
 {
     let mut list = env.to_vec(alloc)?;

@@ -1,174 +1,129 @@
-//! Plans whose binds give way where they can.
+//! Plans whose binds are inlined where they can be.
 
-ghost use Rattle.std.specs.Prelude.{◌≡◌, ◌++◌, [], ◌∷◌, IfOk, OnOk, map};
-ghost use Rattle.plan_ir.specs.Plans.{pass_view, bind_view, field_view, item_view, steps_view, plan_view};
+ghost use Rattle.std.specs.Prelude.{◌≡◌, IfOk, OnOk, map};
+ghost use Rattle.plan_ir.specs.Plans.{pass_view, field_view, item_view, steps_view, plan_view};
 ghost use Rattle.plan_ir.specs.Placed.{IsPlan};
 ghost use Rattle.plan_rewrite.specs.Everywhere.{Everywhere};
-ghost use Rattle.plan_rewrite.specs.Rewritten.{MeansSame, NoBindGivesWay};
-ghost use Rattle.plan_rewrite.specs.Settled.{ground, binds_kept, settled_pass, settled_fields, settled_item, settled_steps, settled_plan};
-ghost use Rattle.plan_rewrite.specs.Views.{passes_in, fields_in, GainsBinds};
+ghost use Rattle.plan_rewrite.specs.Rewritten.{MeansSame, NoInlinableBind};
+ghost use Rattle.plan_rewrite.specs.InlinedPlans.{variables_behind, binds_kept, inlined_pass, inlined_fields, inlined_item, inlined_steps, inlined_plan};
+ghost use Rattle.plan_rewrite.specs.Views.{GainsBinds};
 
-use crate::inlining::body::{settled, settled_fold, stand_in};
-use crate::nodes::push_bind;
+use crate::inlining::body::{inline_body, inline_fold, stand_in};
 use crate::variables::{with_levels, with_spans};
-use plan_ir::{Bind, Body, Field, Fold, Index, Interval, Item, Plan, Steps};
+use plan_ir::{Bind, Field, Fold, Index, Interval, Item, Plan, Steps};
 use std::alloc::{AllocError, Global};
+use std::mem;
+use std::vec::IntoIter;
 
 /// The plan without each bind whose position is a literal inside its interval, or a variable whose own interval lies
 /// inside: the constant or the variable stands in its place. It gives what the plan gives, faults included.
-pub fn settle(alloc: Global, plan: Plan) -> Result<Plan, AllocError>
+pub fn inline(alloc: Global, plan: Plan) -> Result<Plan, AllocError>
     ensures planned { IfOk result (λ r. MeansSame (plan_view plan) (plan_view r)) }
     ensures placed { IfOk result (λ r. IsPlan (plan_view plan) → IsPlan (plan_view r)) }
-    ensures reduced { IfOk result (λ r. Everywhere NoBindGivesWay (plan_view r)) }
+    ensures reduced { IfOk result (λ r. Everywhere NoInlinableBind (plan_view r)) }
 {
-    let r = settle_all(alloc, plan)?;
+    let mut r = plan;
+    inline_plan(alloc, &mut r)?;
     Ok(r)
 }
 
-/// The settled plan.
-pub fn settle_all(alloc: Global, plan: Plan) -> Result<Plan, AllocError>
-    ensures { IfOk result (λ r. plan_view r ≡ settled_plan (plan_view plan)) }
+/// Inlines the binds of a plan.
+pub fn inline_plan(alloc: Global, plan: &mut Plan) -> Result<(), AllocError>
+    ensures { OnOk result (plan_view plan.new ≡ inlined_plan (plan_view plan.old)) }
 {
-    let Plan {
-        coverages,
-        steps,
-        combinations,
-    } = plan;
-    let steps = all_settled(alloc, &steps)?;
-    Ok(Plan {
-        coverages,
-        steps,
-        combinations,
-    })
+    inline_all(alloc, &mut plan.steps)
 }
 
-/// All steps, settled.
-fn all_settled(alloc: Global, all: &[Steps]) -> Result<Vec<Steps>, AllocError>
-    ensures { IfOk result (λ v. map steps_view v.items ≡ map settled_steps (map steps_view all.now)) }
+/// Inlines the binds of all steps.
+#[tactic(auto, using(crate::proofs::Loops::viewed_more))]
+fn inline_all(alloc: Global, all: &mut [Steps]) -> Result<(), AllocError>
+    ensures { OnOk result (map steps_view all.new ≡ map inlined_steps (map steps_view all.old)) }
 {
-    let mut list = Vec::new(alloc);
-    for steps in all {
-        list.push(steps_settled(alloc, steps)?)?;
+    for steps in all.iter_mut() {
+        inline_steps(alloc, steps)?;
     }
-    Ok(list)
+    Ok(())
 }
 
-/// Steps, settled.
-fn steps_settled(alloc: Global, steps: &Steps) -> Result<Steps, AllocError>
-    ensures { IfOk result (λ t. steps_view t ≡ settled_steps (steps_view steps.now)) }
+/// Inlines the binds of steps.
+fn inline_steps(alloc: Global, steps: &mut Steps) -> Result<(), AllocError>
+    ensures { OnOk result (steps_view steps.new ≡ inlined_steps (steps_view steps.old)) }
 {
-    let passes = passes_settled(alloc, &steps.passes)?;
-    let item = item_settled(alloc, &steps.item)?;
-    match &steps.condition {
-        None => Ok(Steps {
-            passes,
-            condition: None,
-            item,
-        }),
-        Some(c) => {
-            let c = settled(alloc, &[], &[], c)?;
-            Ok(Steps {
-                passes,
-                condition: Some(Box::into_inner(c)),
-                item,
-            })
-        }
+    inline_passes(alloc, &mut steps.passes)?;
+    if let Some(c) = &mut steps.condition {
+        inline_body(alloc, &[], &[], c)?;
     }
+    inline_item(alloc, &mut steps.item)
 }
 
-/// Passes, settled.
-fn passes_settled(alloc: Global, passes: &[Fold]) -> Result<Vec<Fold>, AllocError>
-    ensures { IfOk result (λ v. passes_in v ≡ map settled_pass (map pass_view passes.now)) }
+/// Inlines the binds of passes.
+#[tactic(auto, using(crate::proofs::Loops::viewed_more))]
+fn inline_passes(alloc: Global, passes: &mut [Fold]) -> Result<(), AllocError>
+    ensures { OnOk result (map pass_view passes.new ≡ map inlined_pass (map pass_view passes.old)) }
 {
-    let mut list = Vec::new(alloc);
-    for pass in passes {
-        let pass = settled_fold(alloc, &[], &[], pass)?;
-        list.push(Box::into_inner(pass))?;
+    for pass in passes.iter_mut() {
+        inline_fold(alloc, &[], &[], pass)?;
     }
-    Ok(list)
+    Ok(())
 }
 
-/// An item, settled.
-fn item_settled(alloc: Global, item: &Item) -> Result<Item, AllocError>
-    ensures { IfOk result (λ t. item_view t ≡ settled_item (item_view item.now)) }
+/// Inlines the binds of an item.
+fn inline_item(alloc: Global, item: &mut Item) -> Result<(), AllocError>
+    ensures { OnOk result (item_view item.new ≡ inlined_item (item_view item.old)) }
 {
-    let domain = item.domain.copy(alloc)?;
     let mut env = with_levels(alloc, &[], &[], item.domain.axes())?;
     let mut scope = with_spans(alloc, &[], item.domain.axes())?;
-    let mut binds = Vec::new(alloc);
-    settle_binds(alloc, &item.binds, &mut env, &mut scope, &mut binds)?;
-    let fields = fields_settled(alloc, &env, &scope, &item.fields)?;
-    Ok(Item {
-        domain,
-        binds,
-        fields,
-    })
+    let mut binds = mem::replace(&mut item.binds, Vec::new(alloc)).into_iter();
+    inline_binds(alloc, &mut binds, &mut env, &mut scope, &mut item.binds)?;
+    inline_fields(alloc, &env, &scope, &mut item.fields)
 }
 
 /// Puts the binds that stay at the end of a list, and adds to the variables what the binds add.
-fn settle_binds(
+fn inline_binds(
     alloc: Global,
-    binds: &[Bind],
+    binds: &mut IntoIter<Bind>,
     env: &mut Vec<Index>,
     scope: &mut Vec<Interval>,
     list: &mut Vec<Bind>,
 ) -> Result<(), AllocError>
-    ensures env { OnOk result (env.new.items ≡ (ground env.old.items scope.old.items (map bind_view binds.now)).env) }
-    ensures scope { OnOk result (scope.new.items ≡ (ground env.old.items scope.old.items (map bind_view binds.now)).scope) }
-    ensures kept { OnOk result (GainsBinds list.old list.new (binds_kept env.old scope.old binds.now)) }
+    ensures env { OnOk result (env.new.items ≡ (variables_behind env.old scope.old binds.old).env) }
+    ensures scope { OnOk result (scope.new.items ≡ (variables_behind env.old scope.old binds.old).scope) }
+    ensures kept { OnOk result (GainsBinds list.old list.new (binds_kept env.old scope.old binds.old)) }
 {
-    match binds {
-        [] => Ok(()),
-        [bind, rest @ ..] => {
-            let position = settled(alloc, env, scope, &bind.position)?;
-            match stand_in(scope, bind.interval, &position) {
+    match binds.next() {
+        None => Ok(()),
+        Some(mut bind) => {
+            inline_body(alloc, env, scope, &mut bind.position)?;
+            match stand_in(scope, bind.interval, &bind.position) {
                 Some(i) => {
-                    push_index(env, i)?;
-                    settle_binds(alloc, rest, env, scope, list)
+                    drop(bind);
+                    env.push(i)?;
+                    inline_binds(alloc, binds, env, scope, list)
                 }
                 None => {
-                    push_index(env, Index::Var(scope.len()))?;
-                    push_interval(scope, bind.interval)?;
-                    push_bind(list, position, bind.interval)?;
-                    settle_binds(alloc, rest, env, scope, list)
+                    let interval = bind.interval;
+                    list.push(bind)?;
+                    env.push(Index::Var(scope.len()))?;
+                    scope.push(interval)?;
+                    inline_binds(alloc, binds, env, scope, list)
                 }
             }
         }
     }
 }
 
-/// Puts an index at the end of a list.
-fn push_index(env: &mut Vec<Index>, i: Index) -> Result<(), AllocError>
-    ensures { OnOk result (env.new.items ≡ env.old.items ++ i ∷ []) }
-{
-    env.push(i)?;
-    Ok(())
-}
-
-/// Puts an interval at the end of a list.
-fn push_interval(scope: &mut Vec<Interval>, interval: Interval) -> Result<(), AllocError>
-    ensures { OnOk result (scope.new.items ≡ scope.old.items ++ interval ∷ []) }
-{
-    scope.push(interval)?;
-    Ok(())
-}
-
-/// Fields, settled.
-fn fields_settled(
+/// Inlines the binds of fields.
+#[tactic(auto, using(crate::proofs::Loops::viewed_more))]
+fn inline_fields(
     alloc: Global,
     env: &[Index],
     scope: &[Interval],
-    fields: &[Field],
-) -> Result<Vec<Field>, AllocError>
-    ensures { IfOk result (λ v. fields_in v ≡ settled_fields env.now scope.now (map field_view fields.now)) }
+    fields: &mut [Field],
+) -> Result<(), AllocError>
+    ensures { OnOk result (map field_view fields.new ≡ inlined_fields env.now scope.now (map field_view fields.old)) }
 {
-    let mut list = Vec::new(alloc);
-    for field in fields {
-        let body = settled(alloc, env, scope, &field.body)?;
-        list.push(Field {
-            boolean: field.boolean,
-            body: Box::into_inner(body),
-        })?;
+    for field in fields.iter_mut() {
+        inline_body(alloc, env, scope, &mut field.body)?;
     }
-    Ok(list)
+    Ok(())
 }

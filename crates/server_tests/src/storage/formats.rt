@@ -3,11 +3,11 @@
 ghost use Rattle.std.specs.Prelude.{All, IsTrue};
 ghost use Rattle.arr_core.specs.Cells.{Fits};
 
-use crate::storage::words::{DAMAGED, NO_MEMORY, form_of, say_form, say_list};
+use crate::storage::words::{DAMAGED, NO_MEMORY, form_of, say_form, say_list, say_runs};
 use anyhow::{Result, bail};
-use arr_core::FieldType;
+use arr_core::{FieldType, RunList};
 use file_bytes::{Reader, push_i32, push_u32};
-use run_tile::{DecodeError, decode, decode_into, encode};
+use run_tile::{DecodeError, decode, decode_into, decode_runs, encode};
 use std::alloc::Global;
 use test_rows::{Answer, Files, coordinate, cut, cut_at, kind, number, numbers, text};
 
@@ -100,6 +100,22 @@ fn decoded_into(alloc: Global, answer: &mut Answer, words: &str, bytes: &[u8]) -
     Ok(())
 }
 
+/// The same cells as runs, in a list that held two.
+fn decoded_runs(alloc: Global, answer: &mut Answer, words: &str, bytes: &[u8]) -> Result<()> {
+    let (form, words) = form_of(words);
+    let (type_name, count) = cut_at(words, ':');
+    let kind = kind(type_name)?;
+    let mut runs = RunList {
+        values: vec![in alloc; 9i64; number(count) as usize]?,
+        counts: vec![in alloc; 3u32; 2]?,
+    };
+    match decode_runs(kind, form, bytes, &mut runs) {
+        Ok(()) => say_runs(alloc, answer, &runs),
+        Err(error) => answer.refusal(refused(error)),
+    }
+    Ok(())
+}
+
 /// A call on bytes.
 fn on_bytes(
     alloc: Global,
@@ -111,6 +127,7 @@ fn on_bytes(
     match verb {
         "decode" => decoded(alloc, answer, words, bytes),
         "decode_into" => decoded_into(alloc, answer, words, bytes),
+        "decode_runs" => decoded_runs(alloc, answer, words, bytes),
         "read_numbers" => read_numbers(answer, words, bytes),
         _ => write_numbers(alloc, answer, words, bytes),
     }

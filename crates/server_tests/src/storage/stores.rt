@@ -5,10 +5,12 @@ ghost use Rattle.arr_core.specs.Domains.{IsBoxOf, IsInside};
 ghost use Rattle.arr_core.specs.Stores.{found};
 ghost use Rattle.raster_store.specs.Calls.{HasField};
 ghost use Rattle.raster_store.specs.Fetches.{HasTile, HasTileNumber};
-ghost use Rattle.raster_store.specs.Snapshots.{held_view};
+ghost use Rattle.raster_store.specs.Snapshots.{held_for, held_view};
 
 use crate::storage::blocks::Volume;
 use crate::storage::disks::TestDisk;
+use crate::storage::lists::list;
+use crate::storage::picks::pick;
 use crate::storage::words::{
     DAMAGED, DISK_FAULT, NO_MEMORY, NO_ROOM, cells, say_list, say_signature, signature,
 };
@@ -75,7 +77,7 @@ fn has_tile(store: &Store, name: &Name, tile: u64) -> bool
     }
 }
 
-fn refused(fault: Fault) -> u16 {
+pub fn refused(fault: Fault) -> u16 {
     match fault {
         Fault::NoMemory => NO_MEMORY,
         Fault::DiskFault => DISK_FAULT,
@@ -102,7 +104,7 @@ fn say_written(answer: &mut Answer, outcome: Result<(), WriteFault>) {
 }
 
 /// The cells of a tile that was read into a buffer, or the refusal of the read.
-fn say_cells(alloc: Global, answer: &mut Answer, outcome: Result<(), Fault>, cells: &[i64]) {
+pub fn say_cells(alloc: Global, answer: &mut Answer, outcome: Result<(), Fault>, cells: &[i64]) {
     match outcome {
         Ok(()) => say_list(alloc, answer, cells),
         Err(fault) => answer.refusal(refused(fault)),
@@ -371,11 +373,12 @@ fn release(answer: &mut Answer, store: &mut Store, job: u64) {
 }
 
 /// Whether there is a tile, by its number, of a field of the coverage with a name that a number reads.
-fn is_readable(store: &Store, job: u64, name: &Name, field: usize, tile: u64) -> bool
+pub fn is_readable(store: &Store, job: u64, name: &Name, field: usize, tile: u64) -> bool
     ensures field { IsTrue result
         → IsSomeAnd (held_view job store.now) (λ v. HasField name.now field v.coverages) }
     ensures tile { IsTrue result
         → IsSomeAnd (held_view job store.now) (λ v. HasTileNumber name.now tile v.coverages) }
+    ensures held { IsTrue result → held_for job store.now.snapshots ≡ None → job ≡ 0 }
 {
     if job != 0 && !store.holds(job) {
         return false;
@@ -421,6 +424,8 @@ pub fn call(
         "hold" => hold(alloc, answer, store, words)?,
         "release" => release(answer, store, number(words)),
         "held" => read_held(alloc, answer, store, words)?,
+        "pick" => pick(alloc, answer, store, words)?,
+        "runs" => list(alloc, answer, store, words)?,
         _ => of_field(alloc, answer, store, bytes, verb, words)?,
     }
     Ok(())

@@ -37,7 +37,7 @@ impl Values {
             "catalogue" => catalogues::call(alloc, answer, &mut self.catalogue, files, verb, words),
             "metadata" => file_metadata::call(alloc, answer, files, verb, words),
             "encode" => formats::encoded(alloc, answer, rest),
-            "decode" | "decode_into" | "read_numbers" | "write_numbers" => {
+            "decode" | "decode_into" | "decode_runs" | "read_numbers" | "write_numbers" => {
                 formats::call(alloc, answer, files, object, rest)
             }
             _ => domains::call(alloc, answer, object, rest),

@@ -1,7 +1,7 @@
 //! What the words of a row stand for, and what calls give as text.
 
 use anyhow::Result;
-use arr_core::{Cell, Field, FieldType, Name, Signature};
+use arr_core::{Cell, Field, FieldType, Name, RunList, Signature};
 use file_bytes::Form;
 use std::alloc::{AllocError, Global};
 use std::fmt::Display;
@@ -50,6 +50,19 @@ pub fn say_list<T: Display>(alloc: Global, answer: &mut Answer, numbers: &[T]) {
             answer.say(",");
         }
         say_number(alloc, answer, &numbers[k]);
+    }
+}
+
+/// Runs of equal cells, as `7*2,8*1`; where there are no counts, each cell.
+pub fn say_runs(alloc: Global, answer: &mut Answer, runs: &RunList) {
+    if runs.counts.is_empty() {
+        return say_list(alloc, answer, &runs.values);
+    }
+    for (place, (value, count)) in runs.values.iter().zip(&runs.counts).enumerate() {
+        answer.say(if place > 0 { "," } else { "" });
+        answer.integer(*value);
+        answer.say("*");
+        answer.count(u64::from(*count));
     }
 }
 

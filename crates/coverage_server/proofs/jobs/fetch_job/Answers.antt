@@ -1,5 +1,6 @@
 -- A finished job tells the text or the fault that is its answer, and a fetch is refused for the desk's reason.
-use Rattle.std.proofs.Common.{inl, inr, subst}
+use Rattle.std.proofs.Common.{ap, inl, inr, subst}
+use Rattle.arr_core.specs.Refusals.{number_of}
 use Rattle.job_desk.specs.Desks.{IsFetched}
 use Rattle.coverage_server.proofs.HoldingLemmas.{holding_done}
 use Rattle.coverage_server.proofs.JobLemmas.{fetched_text, fetched_fault, fetch_refused_as}
@@ -12,7 +13,7 @@ returns-in-Text-clause-answered c =
 pub returns-in-Refused-clause-answered : goal.returns-in-Refused-clause-answered
 returns-in-Refused-clause-answered c =
     λ v.
-    rw c.number.ensures
+    rw c.refusal.ensures
     (fetched_fault v c.args.desk.now c.fetch.new.self c.args.number c.in-Refused.fault (subst (λ a. IsFetched c.args.number a c.args.desk.now c.fetch.new.self) c.in-Refused.is c.in-Ok.ensures.fetched))
 
 pub returns-in-Err-clause-answered : goal.returns-in-Err-clause-answered
@@ -27,7 +28,7 @@ returns-in-Refused-clause-holding c = λ held was. let x = c.in-Ok.ensures.fetch
 
 pub returns-in-Refused-clause-jobs : goal.returns-in-Refused-clause-jobs
 returns-in-Refused-clause-jobs c =
-    inr (c.in-Refused.fault, c.number.ensures, subst (λ a. IsFetched c.args.number a c.args.desk.now c.fetch.new.self) c.in-Refused.is c.in-Ok.ensures.fetched)
+    inr (c.in-Refused.fault, ap number_of c.refusal.ensures, subst (λ a. IsFetched c.args.number a c.args.desk.now c.fetch.new.self) c.in-Refused.is c.in-Ok.ensures.fetched)
 
 pub returns-in-Err-clause-jobs : goal.returns-in-Err-clause-jobs
 returns-in-Err-clause-jobs c = inl c.in-Err.ensures.unchanged

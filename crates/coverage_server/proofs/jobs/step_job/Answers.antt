@@ -4,12 +4,12 @@ use Rattle.std.specs.Prelude.{string_bytes, codes, decimal, ℕ}
 use Rattle.job_desk.specs.Desks.{job_of}
 use Rattle.job_desk.specs.Steps.{Ends}
 use Rattle.coverage_server.specs.Holding.{ReleasesFor}
-use Rattle.coverage_server.specs.Tiles.{asked_state}
+use Rattle.coverage_server.specs.Tiles.{AskedKept, ReadsSpelled, asked_state}
 use Rattle.coverage_server.specs.Views.{ServerView, still_of}
 use Rattle.coverage_server.proofs.FaultLemmas.{any_err}
 use Rattle.coverage_server.proofs.FetchingLemmas.{refused_units, units_fetched, unless_any}
 use Rattle.coverage_server.proofs.PlacedLemmas.{ends_lay}
-use Rattle.coverage_server.proofs.StepLemmas.{absent_left, step_absent, job_told, is_asked, asked_signatures, step_done, ends_as, step_ok, step_err, step_leaves}
+use Rattle.coverage_server.proofs.StepLemmas.{absent_left, step_absent, job_told, is_asked, asked_signatures, step_done, ends_as, step_ok, step_err, refused_reads, step_leaves}
 use Rattle.coverage_server.proofs.jobs.step_job.Goals as goal
 
 pub returns-in_default-clause-answered : goal.returns-in_default-clause-answered
@@ -78,6 +78,14 @@ returns-in-Err-clause-holding g c =
     (step_err c.args.cells.now.coverages c.ask.new.self.coverages c.args.desk.now c.step.new.self c.args.number c.args.units c.in-Some.left c.in-Some-coverages.coverages.now c.ask.new.self.places.items
     c.ask.new.self.job c.in_ok-ask.ensures.coverages c.in_ok-ask.ensures.job c.in_ok-ask.ensures.read c.in-Some-coverages.ensures.desk c.requires.holding c.in-Some.ensures c.in-Some-coverages.ensures.coverages c.if-left-eq0.false
     x.read.coverages (ap (λ (k : ServerView × ℕ × List ℕ). k.0) x.reads.kept) c.step.new.source.coverages c.in-Err.error c.step_refusal.result w c.step_refusal.ensures c.in-Err.ensures.refused (asked_state x.read.job x.read.places.items x.read.coverages) refl x.reports).1
+
+pub returns-in-Err-clause-reads : goal.returns-in-Err-clause-reads
+returns-in-Err-clause-reads g c =
+    let x = c.in-Err.ensures.source in
+    let w : c.step.new.source.coverages ≡ x.read.coverages = rw x.ends refl in
+    refused_reads c.in-Err.error (λ (k : AskedKept). ReadsSpelled k.0 k.1 k.2) c.args.cells.now.coverages c.ask.new.self.coverages x.read.coverages c.step.new.source.coverages
+    (asked_state c.ask.new.self.job c.ask.new.self.places.items c.ask.new.self.coverages) (asked_state x.read.job x.read.places.items x.read.coverages)
+    c.in_ok-ask.ensures.coverages (ap (λ (k : ServerView × ℕ × List ℕ). k.0) x.reads.kept) w refl refl x.reports
 
 pub returns-in-Err-clause-jobs : goal.returns-in-Err-clause-jobs
 returns-in-Err-clause-jobs g c =

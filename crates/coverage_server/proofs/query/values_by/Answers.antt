@@ -76,4 +76,4 @@ returns-in-Refused-clause-values g c = λ sure.
     let cells = asked_cells v s.coverages 0 s.job asked s.places.items is.coverages is.job is.read ∙ ap (λ (store : Store). cells_of store asked) (reads_store v c.requires.unheld) in
     let answer = c.in_ok-text.ensures (cells_of v.store asked) (subst (λ f. StandsFor f exec) cells stands) in
     fault_given v.store (typed_view c.args.typed.now) (plan_in c.args.exec.now) (plan_in exec) c.requires.plan run.plan asked c.coverages.ensures c.in-Refused.fault
-    (subst (IsAnswer (planned (cells_of v.store asked) (plan_in exec))) c.in-Refused.is answer) ∙ ap Err (sym c.number.ensures)
+    (subst (IsAnswer (planned (cells_of v.store asked) (plan_in exec))) c.in-Refused.is answer) ∙ ap Err (sym c.refusal.ensures)

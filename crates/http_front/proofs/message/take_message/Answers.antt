@@ -2,6 +2,7 @@
 use Rattle.std.proofs.Common.{◌≡◌, ◌||◌, [], true, Ok, Err, refl, sym, ap, ◌∙◌, subst, inl, inr}
 use Rattle.std.specs.Prelude.{◌==◌}
 use Rattle.std.proofs.KnownBytes.{Consumes-nil}
+use Rattle.arr_core.specs.declared.refusal.Refusal.TheVariants.{BadHead}
 use Rattle.http_front.specs.Head.{framing, asked_by, asked_at, is_bare}
 use Rattle.http_front.specs.Stream.{bad_head, item_of, refusal_item, Shows}
 use Rattle.http_front.proofs.BodyLemmas.{some_bytes, noted_bare, whole_body, whole_refused, cut_short, found_as, told_as, framing_within, within_limits, part_of_body, held_within}
@@ -10,10 +11,10 @@ use Rattle.http_front.proofs.message.take_message.Goals as goal
 pub returns-in-Err-clause-found : goal.returns-in-Err-clause-found
 returns-in-Err-clause-found g c =
     let x = c.requires in
-    let framed : framing x.h ≡ Err c.in-Err.code = sym x.framed ∙ c.in-Err.is in
+    let framed : framing x.h ≡ Err c.in-Err.refusal = sym x.framed ∙ c.in-Err.is in
     let whole = whole_refused x [] _ _ _ c.held.ensures.fits framed c.discard.ensures refl in
-    let item = refusal_item c.in-Err.code (is_bare x.h) in
-    ([], Consumes-nil _, (item, inl whole, inl refl, refl, x.bare), held_within _ c.held.ensures.fits)
+    let item = refusal_item c.in-Err.refusal (is_bare x.h) in
+    ([], Consumes-nil _, (item, inl whole, (c.in-Err.refusal, c.number.ensures.number, inl refl), refl, x.bare), held_within _ c.held.ensures.fits)
 
 pub returns-in-Short-clause-found : goal.returns-in-Short-clause-found
 returns-in-Short-clause-found g c =
@@ -23,7 +24,7 @@ returns-in-Short-clause-found g c =
     let none = cut_short x t.0 _ _ framed c.discard-2.ensures t.3 in
     let cut = inr (inr (refl, some_bytes x t.0, t.2, none, noted_bare x t.0 c.held.ensures.fits)) in
     let few = within_limits _ t.0 _ c.held.ensures.fits (framing_within x.h _ framed) (part_of_body _ t.0 _ t.3) in
-    (t.0, t.1, (bad_head c.args.head.bare, cut, inl refl, refl, refl), few)
+    (t.0, t.1, (bad_head c.args.head.bare, cut, (BadHead, c.number-in-Short.ensures.number, inl refl), refl, refl), few)
 
 pub returns-in-Cut-clause-found : goal.returns-in-Cut-clause-found
 returns-in-Cut-clause-found g c =

@@ -1,15 +1,15 @@
--- The settled and then hoisted plan gives the same, stays well-formed, and has no more units and points of folds.
+-- The inlined and then hoisted plan gives the same, stays well-formed, and has no more units and points of folds.
 use Rattle.std.proofs.Common.{◌≤◌, ◌∙◌, ap, sym, subst, map}
 use Rattle.plan_ir.specs.Plans.{PlanTree, plan_view}
 use Rattle.plan_ir.specs.Planned.{planned}
 use Rattle.plan_ir.specs.Placed.{IsPlan}
-use Rattle.plan_rewrite.specs.Settled.{settled_steps, settled_plan}
+use Rattle.plan_rewrite.specs.InlinedPlans.{inlined_steps, inlined_plan}
 use Rattle.plan_rewrite.specs.HoistedPlans.{hoisted_steps}
 use Rattle.plan_rewrite.specs.Everywhere.{Everywhere}
-use Rattle.plan_rewrite.specs.Rewritten.{NoBindGivesWay, NoFoldIsClosed}
+use Rattle.plan_rewrite.specs.Rewritten.{NoInlinableBind, NoFoldIsClosed}
 use Rattle.plan_rewrite.specs.FoldPoints.{unit_bound}
-use Rattle.plan_rewrite.proofs.SettledPlans.{settled-planned}
-use Rattle.plan_rewrite.proofs.SettledPlaced.{plan-placed, steps-reduced}
+use Rattle.plan_rewrite.proofs.InlinedPlans.{inlined-planned}
+use Rattle.plan_rewrite.proofs.InlinedPlaced.{plan-placed, steps-reduced}
 use Rattle.plan_rewrite.proofs.HoistedPlans.{hoisted-planned, hoisted-placed, steps-open}
 use Rattle.plan_rewrite.proofs.HoistedReduced.{steps-stay-reduced}
 use Rattle.plan_rewrite.proofs.OpenFolds.{open-everywhere}
@@ -19,21 +19,21 @@ use Rattle.plan_rewrite.proofs.rewriting.rewrite.Goals as goal
 pub returns-clause-planned : goal.returns-clause-planned
 returns-clause-planned c h s =
     let p = plan_view c.args.plan in
-    ap (planned s) c.in_ok-r.ensures ∙ hoisted-planned (settled_plan p) s (plan-placed p h) ∙ settled-planned p s
+    ap (planned s) c.in_ok-r.ensures ∙ hoisted-planned (inlined_plan p) s (plan-placed p h) ∙ inlined-planned p s
 
 pub returns-clause-placed : goal.returns-clause-placed
 returns-clause-placed c h =
     let p = plan_view c.args.plan in
-    subst IsPlan (sym c.in_ok-r.ensures) (hoisted-placed (settled_plan p) (plan-placed p h))
+    subst IsPlan (sym c.in_ok-r.ensures) (hoisted-placed (inlined_plan p) (plan-placed p h))
 
 pub returns-clause-reduced : goal.returns-clause-reduced
 returns-clause-reduced c =
     let all = (plan_view c.args.plan).steps in
-    subst (Everywhere NoBindGivesWay) (sym c.in_ok-r.ensures) (steps-stay-reduced (map settled_steps all) (steps-reduced all))
+    subst (Everywhere NoInlinableBind) (sym c.in_ok-r.ensures) (steps-stay-reduced (map inlined_steps all) (steps-reduced all))
 
 pub returns-clause-open : goal.returns-clause-open
 returns-clause-open c =
-    let all = map settled_steps (plan_view c.args.plan).steps in
+    let all = map inlined_steps (plan_view c.args.plan).steps in
     subst (Everywhere NoFoldIsClosed) (sym c.in_ok-r.ensures) (open-everywhere (map hoisted_steps all) (steps-open all))
 
 pub returns-clause-units : goal.returns-clause-units

@@ -2,7 +2,7 @@
 use Rattle.std.proofs.Common.{◌≡◌, ◌+◌, ◌∙◌, ap, sym, arith, [], ◌∷◌, ◌++◌, append_assoc, length, take, suc}
 use Rattle.plan_ir.specs.declared.body.Index.TheVariants.{Var}
 use Rattle.plan_ir.specs.Placed.{spans}
-use Rattle.plan_rewrite.specs.Settling.{levels}
+use Rattle.plan_rewrite.specs.Inlining.{levels}
 use Rattle.plan_rewrite.proofs.Scopes.{levels-more}
 use Rattle.plan_rewrite.proofs.variables.with_levels.Goals as goal
 

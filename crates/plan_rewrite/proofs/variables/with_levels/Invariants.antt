@@ -1,6 +1,6 @@
 use Rattle.std.proofs.Common.{◌≡◌, ◌+◌, ◌++◌, length, take}
 use Rattle.plan_ir.specs.Placed.{spans}
-use Rattle.plan_rewrite.specs.Settling.{levels}
+use Rattle.plan_rewrite.specs.Inlining.{levels}
 use Rattle.plan_rewrite.proofs.variables.with_levels.Given as goal
 
 abbrev pub invariant-loop-axis : goal.invariant-loop-axis

@@ -1,9 +1,9 @@
 -- What was condensed in one loop stands for all cells of the column.
 use Rattle.std.proofs.Common.{◌∙◌}
-use Rattle.tile_kernel.proofs.Tellings.{stands_all, length-told_at}
+use Rattle.tile_kernel.proofs.Tellings.{length-told_at}
 use Rattle.tile_kernel.proofs.folds.fold_column.Goals as goal
 
 pub returns-in-Some : goal.returns-in-Some
 returns-in-Some c =
-    let s = stands_all c.args.op c.args.column.now c.in-Some.accumulator c.args.places.now c.requires c.in-Some.ensures in
-    record { stands = s.1; op = s.0; count = s.1.counted ∙ length-told_at c.args.places.now c.args.column.now c.requires }
+    let s = c.in-Some.ensures.stands c.args.places.now c.requires in
+    record { stands = s; op = c.in-Some.ensures.op; count = s.counted ∙ length-told_at c.args.places.now c.args.column.now c.requires }

@@ -1,5 +1,5 @@
 -- Where the left operand is values, a trial that succeeds has written the operation's value at each place.
-use Rattle.std.proofs.Common.{◌≡◌, ◌∙◌, ap, arith, sym, length, get_or, pos}
+use Rattle.std.proofs.Common.{refl, ◌≡◌, ◌∙◌, ap, arith, sym, length, get_or, pos}
 use Rattle.wcps_mean.specs.declared.cell.Outcome.TheVariants.{Value}
 use Rattle.wcps_mean.specs.Cells.{operate2}
 use Rattle.tile_kernel.specs.Columns.{outcome_at}
@@ -9,6 +9,6 @@ use Rattle.tile_kernel.proofs.operate.try_columns.Goals as goal
 pub returns-in-Values-clause-value : goal.returns-in-Values-clause-value
 returns-in-Values-clause-value c = λ t k lt.
     let n : c.left.inside.len ≡ length c.args.left.now = places_are _ _ _ _ _ c.left.view_is c.left.invariant in
-    ap (λ o. operate2 c.args.op o (outcome_at c.args.right.now k)) (value_there _ _ _ _ _ _ k c.in-Values.is c.left.view_is c.left.invariant c.as_slice.ensures.value lt)
+    ap (λ o. operate2 c.args.op o (outcome_at c.args.right.now k)) (value_there _ _ _ _ _ _ k c.in-Values.is c.left.view_is c.left.invariant refl lt)
     ∙ c.try_right.ensures t k (omega arith)
     ∙ ap (λ l. Value (get_or l k (pos 0))) (sym (written_back c.args.out.now.len c.try_right.new.out _ (omega (arith, c.args.out.now.ok.0))))

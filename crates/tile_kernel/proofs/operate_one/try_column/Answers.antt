@@ -1,5 +1,5 @@
 -- Where the operand is values, a trial that succeeds has written the operation's value at each place.
-use Rattle.std.proofs.Common.{◌≡◌, ◌∙◌, ap, arith, sym, length, get_or, pos}
+use Rattle.std.proofs.Common.{refl, ◌≡◌, ◌∙◌, ap, arith, sym, length, get_or, pos}
 use Rattle.wcps_mean.specs.declared.cell.Outcome.TheVariants.{Value}
 use Rattle.wcps_mean.specs.Cells.{operate1}
 use Rattle.tile_kernel.proofs.Places.{value_there, places_are, written_back}
@@ -8,6 +8,6 @@ use Rattle.tile_kernel.proofs.operate_one.try_column.Goals as goal
 pub returns-in-Values-clause-value : goal.returns-in-Values-clause-value
 returns-in-Values-clause-value c = λ t k lt.
     let n : c.operand.inside.len ≡ length c.args.operand.now = places_are _ _ _ _ _ c.operand.view_is c.operand.invariant in
-    ap (operate1 c.args.op) (value_there _ _ _ _ _ _ k c.in-Values.is c.operand.view_is c.operand.invariant c.as_slice.ensures.value lt)
+    ap (operate1 c.args.op) (value_there _ _ _ _ _ _ k c.in-Values.is c.operand.view_is c.operand.invariant refl lt)
     ∙ c.try_one.ensures t k (omega arith)
     ∙ ap (λ l. Value (get_or l k (pos 0))) (sym (written_back c.args.out.now.len c.try_one.new.out _ (omega (arith, c.args.out.now.ok.0))))

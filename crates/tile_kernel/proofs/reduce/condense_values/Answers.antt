@@ -7,10 +7,10 @@ use Rattle.tile_kernel.proofs.reduce.condense_values.Goals as goal
 
 pub returns-in-Every-clause-kept : goal.returns-in-Every-clause-kept
 returns-in-Every-clause-kept g c =
-    let zs = selected (g.C.Choice.counts c.args.choice.now) (g.V.Operand.value c.args.values.now) c.args.len in
+    let zs = selected (g.C.Choice.times c.args.choice.now) (g.V.Operand.value c.args.values.now) c.args.len in
     keeps_every c.args.op _ zs c.in-Every.is (ap (λ t. nat_eq t c.places_over-count.result) c.trues_over.ensures.value ∙ ap (nat_eq (trues zs)) c.places_over-count.ensures.value ∙ sym (every_trues zs))
 
 pub returns-in-Any-clause-kept : goal.returns-in-Any-clause-kept
 returns-in-Any-clause-kept g c =
-    let zs = selected (g.C.Choice.counts c.args.choice.now) (g.V.Operand.value c.args.values.now) c.args.len in
+    let zs = selected (g.C.Choice.times c.args.choice.now) (g.V.Operand.value c.args.values.now) c.args.len in
     keeps_any c.args.op _ zs c.in-Any.is (ap (nat_lt 0) c.trues_over-in-Any.ensures.value ∙ sym (any_trues zs))

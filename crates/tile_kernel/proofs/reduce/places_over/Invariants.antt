@@ -1,9 +1,6 @@
-use Rattle.std.proofs.Common.{◌≡◌, ◌≤◌, length}
+use Rattle.std.proofs.Common.{◌≡◌, length}
 use Rattle.tile_kernel.specs.Selected.{selected}
 use Rattle.tile_kernel.proofs.reduce.places_over.Given as goal
 
 abbrev pub invariant-loop-place : goal.invariant-loop-place
-invariant-loop-place g l = record {
-  value : l.count ≡ length (selected (g.C.Choice.counts l.choice) (g.V.Operand.value l.values) l.place);
-  few : l.count ≤ l.place;
-}
+invariant-loop-place g l = l.count ≡ length (selected (g.C.Choice.times l.choice) (g.V.Operand.value l.values) l.place)

@@ -1,26 +1,63 @@
--- One more value is in the sums of the halves if it counts, and both stay below their bounds.
-use Rattle.std.proofs.Common.{◌≡◌, ◌+◌, ◌*◌, ◌/◌, ◌%◌, ◌≤◌, ◌∙◌, ap, sym, subst, arith, rules, SFits, w64, pos, ◌+ℤ◌, ◌^◌, cond, length, Fits}
+-- One more value is in the sums of the halves as often as it counts, and both stay below their bounds.
+use Rattle.std.proofs.Common.{◌≡◌, ◌+◌, ◌*◌, ◌/◌, ◌%◌, ◌≤◌, ◌∙◌, ap, sym, subst, arith, rules, SFits, w64, pos, ◌+ℤ◌, ◌^◌, Fits, length}
+use Rattle.std.proofs.Math.Nat.{mul-le-mul_left}
 use Rattle.std.proofs.lemmas.Int.{to_z-of_z}
+use Rattle.wcps_mean.specs.Condensers.{total}
 use Rattle.tile_kernel.specs.Selected.{selected}
-use Rattle.tile_kernel.proofs.Reductions.{sum_next, half_next, few_selected}
+use Rattle.tile_kernel.proofs.Reductions.{sum_next, half_next, selected_before}
 use Rattle.tile_kernel.proofs.reduce.sum_over.Goals as goal
+
+pub overflow_mul-low : goal.overflow_mul-low
+overflow_mul-low g c =
+    let t = g.C.Choice.times c.args.choice.now in
+    let v = g.V.Operand.value c.args.values.now in
+    let m = selected_before t v c.loop-place.place c.args.len (omega arith) in
+    let half : c.raised-bits.result % 4294967296 ≤ 4294967295 = omega arith in
+    let p = mul-le-mul_left c.times-times.result half in
+    omega (arith, m, p, c.times-times.ensures)
+
+pub overflow_mul-high : goal.overflow_mul-high
+overflow_mul-high g c =
+    let t = g.C.Choice.times c.args.choice.now in
+    let v = g.V.Operand.value c.args.values.now in
+    let m = selected_before t v c.loop-place.place c.args.len (omega arith) in
+    let few : Fits w64 c.raised-bits.result = search rules in
+    let half : c.raised-bits.result / 4294967296 ≤ 4294967295 = omega (arith, few) in
+    let p = mul-le-mul_left c.times-times.result half in
+    omega (arith, m, p, c.times-times.ensures)
+
+pub overflow_add-low : goal.overflow_add-low
+overflow_add-low g c =
+    let t = g.C.Choice.times c.args.choice.now in
+    let v = g.V.Operand.value c.args.values.now in
+    let m = selected_before t v c.loop-place.place c.args.len (omega arith) in
+    let half : c.raised-bits.result % 4294967296 ≤ 4294967295 = omega arith in
+    let p = mul-le-mul_left c.times-times.result half in
+    omega (arith, m, p, c.times-times.ensures, c.loop-place.invariant.low)
+
+pub overflow_add-high : goal.overflow_add-high
+overflow_add-high g c =
+    let t = g.C.Choice.times c.args.choice.now in
+    let v = g.V.Operand.value c.args.values.now in
+    let m = selected_before t v c.loop-place.place c.args.len (omega arith) in
+    let few : Fits w64 c.raised-bits.result = search rules in
+    let half : c.raised-bits.result / 4294967296 ≤ 4294967295 = omega (arith, few) in
+    let p = mul-le-mul_left c.times-times.result half in
+    omega (arith, m, p, c.times-times.ensures, c.loop-place.invariant.high)
 
 pub loop-place-preserved : goal.loop-place-preserved
 loop-place-preserved g c =
-    let P = g.C.Choice.counts c.args.choice.now in
+    let t = g.C.Choice.times c.args.choice.now in
     let v = g.V.Operand.value c.args.values.now in
     let k = c.loop-place.place in
     let bits = c.raised-bits.result in
     let fits : SFits w64 c.value.result = search rules in
     let few : Fits w64 c.raised-bits.result = search rules in
     let raised : pos bits ≡ v k +ℤ pos (2 ^ 63) = c.raised-bits.ensures ∙ ap (λ x. x +ℤ pos (2 ^ 63)) (to_z-of_z w64 c.value.result fits ∙ c.value.ensures) in
-    let low : c.weighted-low.result ≡ cond (P k) (bits % 4294967296) 0 = c.weighted-low.ensures ∙ ap (λ b. cond b (bits % 4294967296) 0) c.counts-counts.ensures in
-    let high : c.weighted-high.result ≡ cond (P k) (bits / 4294967296) 0 = c.weighted-high.ensures ∙ ap (λ b. cond b (bits / 4294967296) 0) c.counts-counts.ensures in
+    let times : t k ≡ c.times-times.result = sym c.times-times.ensures in
     record {
-      sum = ap (λ n. pos (c.loop-place.low + n + 4294967296 * (c.loop-place.high + c.weighted-high.result))) low
-          ∙ ap (λ n. pos (c.loop-place.low + cond (P k) (bits % 4294967296) 0 + 4294967296 * (c.loop-place.high + n))) high
-          ∙ sum_next P v k bits c.loop-place.low c.loop-place.high raised c.loop-place.invariant.sum;
-      low = subst (λ n. c.loop-place.low + n ≤ length (selected P v (k + 1)) * 4294967295) (sym low) (half_next P v k c.loop-place.low (bits % 4294967296) (omega arith) c.loop-place.invariant.low);
-      high = subst (λ n. c.loop-place.high + n ≤ length (selected P v (k + 1)) * 4294967295) (sym high) (half_next P v k c.loop-place.high (bits / 4294967296) (omega (arith, few)) c.loop-place.invariant.high);
-      few = few_selected P v (k + 1);
+      sum = subst (λ n. pos ((c.loop-place.low + n * (bits % 4294967296)) + 4294967296 * (c.loop-place.high + n * (bits / 4294967296))) ≡ total (selected t v (k + 1)) +ℤ pos (length (selected t v (k + 1)) * 2 ^ 63)) times
+          (sum_next t v k bits c.loop-place.low c.loop-place.high raised c.loop-place.invariant.sum);
+      low = subst (λ n. c.loop-place.low + n * (bits % 4294967296) ≤ length (selected t v (k + 1)) * 4294967295) times (half_next t v k c.loop-place.low (bits % 4294967296) (omega arith) c.loop-place.invariant.low);
+      high = subst (λ n. c.loop-place.high + n * (bits / 4294967296) ≤ length (selected t v (k + 1)) * 4294967295) times (half_next t v k c.loop-place.high (bits / 4294967296) (omega (arith, few)) c.loop-place.invariant.high);
     }

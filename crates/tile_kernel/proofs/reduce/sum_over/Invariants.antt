@@ -5,8 +5,7 @@ use Rattle.tile_kernel.proofs.reduce.sum_over.Given as goal
 
 abbrev pub invariant-loop-place : goal.invariant-loop-place
 invariant-loop-place g l = record {
-  sum : pos (l.low + 4294967296 * l.high) ≡ total (selected (g.C.Choice.counts l.choice) (g.V.Operand.value l.values) l.place) +ℤ pos (length (selected (g.C.Choice.counts l.choice) (g.V.Operand.value l.values) l.place) * 2 ^ 63);
-  low : l.low ≤ length (selected (g.C.Choice.counts l.choice) (g.V.Operand.value l.values) l.place) * 4294967295;
-  high : l.high ≤ length (selected (g.C.Choice.counts l.choice) (g.V.Operand.value l.values) l.place) * 4294967295;
-  few : length (selected (g.C.Choice.counts l.choice) (g.V.Operand.value l.values) l.place) ≤ l.place;
+  sum : pos (l.low + 4294967296 * l.high) ≡ total (selected (g.C.Choice.times l.choice) (g.V.Operand.value l.values) l.place) +ℤ pos (length (selected (g.C.Choice.times l.choice) (g.V.Operand.value l.values) l.place) * 2 ^ 63);
+  low : l.low ≤ length (selected (g.C.Choice.times l.choice) (g.V.Operand.value l.values) l.place) * 4294967295;
+  high : l.high ≤ length (selected (g.C.Choice.times l.choice) (g.V.Operand.value l.values) l.place) * 4294967295;
 }

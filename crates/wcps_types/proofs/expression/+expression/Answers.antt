@@ -28,53 +28,13 @@ expression-returns-in_ok-a-in-Brackets t c =
     let shown : view c.args.e.now ≡ tree.brackets (view c.in-Brackets.a.value) (subs_of c.in-Brackets.subs.items) = ap (λ (x : Expr). view x) c.in-Brackets.is ∙ view-Brackets c.in-Brackets.a c.in-Brackets.subs in
     rw shown (search rules)
 
-pub expression-returns-in_err-over-in-Coverage : goal.expression-returns-in_err-over-in-Coverage
-expression-returns-in_err-over-in-Coverage t c =
+pub expression-returns-in-Coverage : goal.expression-returns-in-Coverage
+expression-returns-in-Coverage t c =
     let shown : view c.args.e.now ≡ tree.coverage (iters_of c.in-Coverage.iterators.items) (view c.in-Coverage.body.value) = ap (λ (x : Expr). view x) c.in-Coverage.is ∙ view-Coverage c.in-Coverage.iterators c.in-Coverage.body in
     rw shown (search rules)
 
-pub expression-returns-in_err-over-in-Coverage-2 : goal.expression-returns-in_err-over-in-Coverage-2
-expression-returns-in_err-over-in-Coverage-2 t c =
-    let shown : view c.args.e.now ≡ tree.coverage (iters_of c.in-Coverage.iterators.items) (view c.in-Coverage.body.value) = ap (λ (x : Expr). view x) c.in-Coverage.is ∙ view-Coverage c.in-Coverage.iterators c.in-Coverage.body in
-    rw shown (search rules)
-
-pub expression-returns-in_err-body-in-Coverage : goal.expression-returns-in_err-body-in-Coverage
-expression-returns-in_err-body-in-Coverage t c =
-    let shown : view c.args.e.now ≡ tree.coverage (iters_of c.in-Coverage.iterators.items) (view c.in-Coverage.body.value) = ap (λ (x : Expr). view x) c.in-Coverage.is ∙ view-Coverage c.in-Coverage.iterators c.in-Coverage.body in
-    rw shown (search rules)
-
-pub expression-returns-in_ok-body-in-Coverage : goal.expression-returns-in_ok-body-in-Coverage
-expression-returns-in_ok-body-in-Coverage t c =
-    let shown : view c.args.e.now ≡ tree.coverage (iters_of c.in-Coverage.iterators.items) (view c.in-Coverage.body.value) = ap (λ (x : Expr). view x) c.in-Coverage.is ∙ view-Coverage c.in-Coverage.iterators c.in-Coverage.body in
-    rw shown (search rules)
-
-pub expression-returns-in_err-over-in-Condense : goal.expression-returns-in_err-over-in-Condense
-expression-returns-in_err-over-in-Condense t c =
-    let shown : view c.args.e.now ≡ tree.condense c.in-Condense.op (iters_of c.in-Condense.iterators.items) (condition_of c.in-Condense.condition) (view c.in-Condense.body.value) = ap (λ (x : Expr). view x) c.in-Condense.is ∙ view-Condense c.in-Condense.op c.in-Condense.iterators c.in-Condense.condition c.in-Condense.body in
-    rw shown (search rules)
-
-pub expression-returns-in_err-over-in-Condense-2 : goal.expression-returns-in_err-over-in-Condense-2
-expression-returns-in_err-over-in-Condense-2 t c =
-    let shown : view c.args.e.now ≡ tree.condense c.in-Condense.op (iters_of c.in-Condense.iterators.items) (condition_of c.in-Condense.condition) (view c.in-Condense.body.value) = ap (λ (x : Expr). view x) c.in-Condense.is ∙ view-Condense c.in-Condense.op c.in-Condense.iterators c.in-Condense.condition c.in-Condense.body in
-    rw shown (search rules)
-
-pub expression-returns-in_err-condition-in-Condense : goal.expression-returns-in_err-condition-in-Condense
-expression-returns-in_err-condition-in-Condense t c =
-    let shown : view c.args.e.now ≡ tree.condense c.in-Condense.op (iters_of c.in-Condense.iterators.items) (condition_of c.in-Condense.condition) (view c.in-Condense.body.value) = ap (λ (x : Expr). view x) c.in-Condense.is ∙ view-Condense c.in-Condense.op c.in-Condense.iterators c.in-Condense.condition c.in-Condense.body in
-    rw shown (search rules)
-
-pub expression-returns-in_err-body-in-Condense : goal.expression-returns-in_err-body-in-Condense
-expression-returns-in_err-body-in-Condense t c =
-    let shown : view c.args.e.now ≡ tree.condense c.in-Condense.op (iters_of c.in-Condense.iterators.items) (condition_of c.in-Condense.condition) (view c.in-Condense.body.value) = ap (λ (x : Expr). view x) c.in-Condense.is ∙ view-Condense c.in-Condense.op c.in-Condense.iterators c.in-Condense.condition c.in-Condense.body in
-    rw shown (search rules)
-
-pub expression-returns-in_err-only_scalar-in-Condense : goal.expression-returns-in_err-only_scalar-in-Condense
-expression-returns-in_err-only_scalar-in-Condense t c =
-    let shown : view c.args.e.now ≡ tree.condense c.in-Condense.op (iters_of c.in-Condense.iterators.items) (condition_of c.in-Condense.condition) (view c.in-Condense.body.value) = ap (λ (x : Expr). view x) c.in-Condense.is ∙ view-Condense c.in-Condense.op c.in-Condense.iterators c.in-Condense.condition c.in-Condense.body in
-    rw shown (search rules)
-
-pub expression-returns-in_ok-only_scalar-in-Condense : goal.expression-returns-in_ok-only_scalar-in-Condense
-expression-returns-in_ok-only_scalar-in-Condense t c =
+pub expression-returns-in-Condense : goal.expression-returns-in-Condense
+expression-returns-in-Condense t c =
     let shown : view c.args.e.now ≡ tree.condense c.in-Condense.op (iters_of c.in-Condense.iterators.items) (condition_of c.in-Condense.condition) (view c.in-Condense.body.value) = ap (λ (x : Expr). view x) c.in-Condense.is ∙ view-Condense c.in-Condense.op c.in-Condense.iterators c.in-Condense.condition c.in-Condense.body in
     rw shown (search rules)
 

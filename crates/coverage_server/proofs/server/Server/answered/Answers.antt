@@ -2,8 +2,9 @@
 use Rattle.std.proofs.Common.{rules, ◌≡◌, ℕ, List, refl, ap, subst}
 use Rattle.std.specs.Prelude.{◌⊎◌, string_bytes}
 use Rattle.kvp_front.specs.Contents.{content_view}
+use Rattle.kvp_front.specs.Requests.{submit_query}
 use Rattle.kvp_front.specs.Templates.{template_view}
-use Rattle.coverage_server.specs.Answered.{Answered}
+use Rattle.coverage_server.specs.Answered.{Answered, AnswersJob}
 use Rattle.coverage_server.specs.Damage.{SpoilsText}
 use Rattle.coverage_server.specs.Fetching.{FetchesNone, FetchesText, UnlessFails}
 use Rattle.coverage_server.specs.Layouts.{LaysHeld, layout_of}
@@ -59,6 +60,18 @@ returns-in-ProcessTemplate-clause-answered g c =
     rw (← c.self.view_is, c.in-ProcessTemplate.is)
     (lifted c.self.inside.desk v w (AnswersTemplate (template_view c.in-ProcessTemplate.template)) (λ honest. ap (λ (u : ServerView). u.held) c.process_template.ensures.still) _ _ c.process_template.result
     (any_err c.process_template.result _ (still_unchanged v w c.process_template.ensures.still)) c.process_template.ensures.answered)
+
+pub returns-in-SubmitQuery-clause-answered : goal.returns-in-SubmitQuery-clause-answered
+returns-in-SubmitQuery-clause-answered g c =
+    let v = c.self.inside.cells.coverages in
+    let w = c.submit_query.new.cells.coverages in
+    let is : c.as_str-in-SubmitQuery.result.now ≡ string_bytes c.in-SubmitQuery.query = search rules in
+    rw (← c.self.view_is, c.in-SubmitQuery.is)
+    (subst (λ (q : List ℕ). AnswersJob (submit_query q) v c.self.inside.desk w c.submit_query.new.desk c.submit_query.result) is
+    c.submit_query.ensures.answered)
+
+pub returns-in-CancelJob-clause-answered : goal.returns-in-CancelJob-clause-answered
+returns-in-CancelJob-clause-answered g c = rw (← c.self.view_is, c.in-CancelJob.is) c.cancel_job.ensures.answered
 
 pub returns-in-StepJob-clause-answered : goal.returns-in-StepJob-clause-answered
 returns-in-StepJob-clause-answered g c = rw (← c.self.view_is, c.in-StepJob.is) c.step_job.ensures.answered

@@ -2,6 +2,7 @@
 use Rattle.std.proofs.Common.{◌≡◌, ◌≢◌, ◌≤◌, ◌+◌, ◌++◌, [], false, length, refl, ap, ◌∙◌, subst, inl, inr, arith, append_assoc}
 use Rattle.std.proofs.KnownBytes.{Consumes-trans}
 use Rattle.httparse.specs.Grammar.{HasNoRequest}
+use Rattle.arr_core.specs.declared.refusal.Refusal.TheVariants.{BadHead}
 use Rattle.http_front.specs.Stream.{bad_head, NeverHasHead, Finds}
 use Rattle.http_front.proofs.StreamLemmas.{no_head_yet, not_bare}
 use Rattle.http_front.proofs.conn.Conn.next.Goals as goal
@@ -26,7 +27,7 @@ returns-in-Bad-clause-found g c =
     let some = subst (λ l. l ≢ []) a.2 a.4.0 in
     let never = subst NeverHasHead a.2 a.4.1 in
     let few : length (c.self.inside.buffer ++ a.0) ≤ 16384 + 1048576 = omega (arith, a.3, ap length a.2) in
-    rw (← c.self.view_is) (λ e. (a.0, a.1, (bad_head false, inr (inl (refl, some, never)), inl refl, refl, refl), few))
+    rw (← c.self.view_is) (λ e. (a.0, a.1, (bad_head false, inr (inl (refl, some, never)), (BadHead, c.number.ensures.number, inl refl), refl, refl), few))
 
 pub returns-in-Cut-clause-found : goal.returns-in-Cut-clause-found
 returns-in-Cut-clause-found g c =
@@ -36,4 +37,4 @@ returns-in-Cut-clause-found g c =
     let none : HasNoRequest known = subst HasNoRequest a.2 a.4.2 in
     let few : length known ≤ 16384 + 1048576 = omega (arith, a.3, ap length a.2) in
     let cut = inr (inr (refl, some, a.4.1, no_head_yet known none, not_bare known none)) in
-    rw (← c.self.view_is) (λ e. (a.0, a.1, (bad_head false, cut, inl refl, refl, refl), few))
+    rw (← c.self.view_is) (λ e. (a.0, a.1, (bad_head false, cut, (BadHead, c.number-in-Cut.ensures.number, inl refl), refl, refl), few))

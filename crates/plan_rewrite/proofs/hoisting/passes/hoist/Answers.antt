@@ -11,12 +11,12 @@ use Rattle.plan_rewrite.proofs.HoistedPlans.{hoisted-planned, hoisted-placed, st
 use Rattle.plan_rewrite.proofs.hoisting.passes.hoist.Goals as goal
 
 pub returns-clause-planned : goal.returns-clause-planned
-returns-clause-planned c h s = ap (planned s) c.in_ok-r.ensures ∙ hoisted-planned (plan_view c.args.plan) s h
+returns-clause-planned c h s = ap (planned s) c.in_ok-hoist_plan.ensures ∙ hoisted-planned (plan_view c.args.plan) s h
 
 pub returns-clause-placed : goal.returns-clause-placed
-returns-clause-placed c h = subst IsPlan (sym c.in_ok-r.ensures) (hoisted-placed (plan_view c.args.plan) h)
+returns-clause-placed c h = subst IsPlan (sym c.in_ok-hoist_plan.ensures) (hoisted-placed (plan_view c.args.plan) h)
 
 pub returns-clause-open : goal.returns-clause-open
 returns-clause-open c =
     let steps = (plan_view c.args.plan).steps in
-    subst (Everywhere NoFoldIsClosed) (sym c.in_ok-r.ensures) (open-everywhere (map hoisted_steps steps) (steps-open steps))
+    subst (Everywhere NoFoldIsClosed) (sym c.in_ok-hoist_plan.ensures) (open-everywhere (map hoisted_steps steps) (steps-open steps))

@@ -3,7 +3,7 @@ use Rattle.std.proofs.Common.{inl}
 use Rattle.raster_store.proofs.decoded.DecodedTiles.keep.Goals as goal
 
 pub returns-then-note : goal.returns-then-note
-returns-then-note c = rw c.note.ensures at c.put.ensures
+returns-then-note c = rw c.note.ensures at c.put_cells.ensures
 
 pub returns-else-note : goal.returns-else-note
 returns-else-note c = rw c.note.ensures (λ j others kept. inl kept)

@@ -1,6 +1,7 @@
 -- The number of places that is kept is how many outcomes the column has.
-use Rattle.tile_kernel.proofs.Places.{places_are}
+use Rattle.std.proofs.Common.{◌∙◌, sym, ap, length}
+use Rattle.tile_kernel.proofs.Repeats.{length-column}
 use Rattle.tile_kernel.proofs.column.Column.len.Goals as goal
 
 pub returns-clause-places : goal.returns-clause-places
-returns-clause-places c = places_are _ _ _ _ _ c.self.view_is c.self.invariant
+returns-clause-places c = sym (length-column c.self.inside.runs c.self.inside.form c.self.inside.len c.self.inside.values.items c.self.inside.faults.items c.self.inside.counts.items c.self.invariant) ∙ ap length c.self.view_is

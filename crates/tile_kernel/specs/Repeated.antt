@@ -1,0 +1,68 @@
+-- Outcomes that stand for runs.
+use Rattle.std.specs.Prelude.{◌≡◌, ℕ, suc, ◌+◌, ◌<◌, ◌≤◌, ℤ, List, [], ◌∷◌, ◌++◌, map, length, take, replicate, sum, slice_index, Bool, true, false, Option, Some, None}
+use Rattle.wcps_mean.specs.declared.cell.PointFault.{PointFault}
+use Rattle.wcps_mean.specs.declared.cell.Outcome.{Outcome}
+use Rattle.wcps_mean.specs.declared.cell.Outcome.TheVariants.{Value}
+use Rattle.tile_kernel.specs.declared.form.Form.{Form}
+use Rattle.tile_kernel.specs.declared.form.Form.TheVariants.{Values}
+use Rattle.tile_kernel.specs.declared.pair.Pair.{Pair}
+use Rattle.tile_kernel.specs.declared.seen.Runs.{Runs}
+use Rattle.tile_kernel.specs.declared.seen.Seen.{Seen}
+use Rattle.tile_kernel.specs.declared.seen.Seen.TheVariants as kept
+use Rattle.tile_kernel.specs.Columns.{seen, IsRoomy}
+
+-- each outcome as often as its count says
+abbrev pub repeated : List Outcome → List ℕ → List Outcome
+repeated (o ∷ os) (n ∷ ns) = replicate n o ++ repeated os ns
+repeated _ _ = []
+
+-- the outcomes of a column: those at its places, or those of its runs
+abbrev pub column_of : Option ℕ → Form → ℕ → List ℤ → List (Option PointFault) → List ℕ → List Outcome
+column_of None form n zs fs ns = seen form n zs fs
+column_of (Some r) form n zs fs ns = repeated (map Value (take r zs)) (take r ns)
+
+-- the runs, if there are some, cover all places
+abbrev pub AreRuns : Option ℕ → ℕ → List ℕ → Type 0
+AreRuns None n ns = Unit {0}
+AreRuns (Some r) n ns = (r ≤ 4096) × (r ≤ length ns) × (sum (take r ns) ≡ n)
+
+-- a column has at most 4,096 places, room for as many, and runs that cover its places
+pub record IsColumn (runs : Option ℕ) (n : ℕ) (zs : List ℤ) (fs : List (Option PointFault)) (ns : List ℕ) : Type 0 where
+  pub roomy : IsRoomy n zs fs
+  pub covered : AreRuns runs n ns
+
+-- the outcomes that are lent
+abbrev pub runs_shown : Runs → List Outcome
+runs_shown r = repeated (map Value (take (length r.counts.now) r.values.now)) r.counts.now
+
+abbrev pub shown : Seen → List Outcome
+shown (kept.Each view) = view
+shown (kept.Runs runs) = runs_shown runs
+
+-- a place lies in this run
+pub record StandsIn (counts : List ℕ) (place run : ℕ) : Type 0 where
+  pub within : run < length counts
+  pub from : sum (take run counts) ≤ place
+  pub below : place < sum (take run counts) + slice_index counts run
+
+-- if this is told, each outcome now stands as often as its count says
+abbrev pub RepeatsIf : Bool → List ℕ → List Outcome → List Outcome → Type 0
+RepeatsIf true ns before after = after ≡ repeated before ns
+RepeatsIf false ns before after = Unit {0}
+
+-- there is one outcome for each count, and each stands as often as its count says
+pub record StandsOver (ns : List ℕ) (column heads : List Outcome) : Type 0 where
+  pub even : length heads ≡ length ns
+  pub same : column ≡ repeated heads ns
+
+-- two columns by what they have for each of the same runs
+pub record ArePaired (left right : List Outcome) (pair : Pair) : Type 0 where
+  pub left_is : left ≡ repeated pair.left pair.counts.now
+  pub right_is : right ≡ repeated pair.right pair.counts.now
+
+-- the columns that they are
+abbrev pub left_of : Pair → List Outcome
+left_of pair = repeated pair.left pair.counts.now
+
+abbrev pub right_of : Pair → List Outcome
+right_of pair = repeated pair.right pair.counts.now

@@ -1,0 +1,29 @@
+//! What a column keeps, lent: an outcome for each place, or runs.
+
+ghost use Rattle.std.specs.Prelude.{◌≡◌, ◌≤◌, length, sum};
+
+use crate::view::View;
+use wcps_mean::PointFault;
+
+/// Values that stand for runs: the k-th as often as the k-th count says, over `len` places in all.
+#[derive(Drop)]
+pub(crate) struct Runs<'a> {
+    pub len: usize,
+    pub values: &'a [i64],
+    pub faults: &'a [Option<PointFault>],
+    pub counts: &'a [u32],
+    ghost total: { sum counts.now ≡ len },
+    ghost few: { len ≤ 4096 },
+    ghost values_room: { length values.now ≡ 4096 },
+    ghost faults_room: { length faults.now ≡ 4096 },
+    ghost counted: { length counts.now ≤ 4096 },
+}
+
+/// What a column keeps.
+#[derive(Drop)]
+pub(crate) enum Seen<'a> {
+    /// Each place has its own outcome, or all have one.
+    Each(View<'a>),
+    /// The places are runs of one value.
+    Runs(Runs<'a>),
+}
