@@ -1,13 +1,14 @@
 //! Condensers that are told of cells by their keys.
 
-ghost use Rattle.std.specs.Prelude.{◌≡◌, ℕ, ◌<◌, ◌+ℤ◌, pos, IfSome, IfNone};
+ghost use Rattle.std.specs.Prelude.{◌≡◌, ℕ, ◌+◌, ◌<◌, ◌≤◌, ◌^◌, ◌+ℤ◌, pos, IfSome, IfNone, IsTrue};
 
 use crate::columns::column;
-use crate::folds::{empties, finished, have_room, places_from};
+use crate::folds::{empties, finished, places_from};
 use crate::words::aggregate;
 use anyhow::{Context, Result, bail};
 use std::alloc::Global;
-use tile_kernel::{Accumulator, Column, Numbers, add_keyed};
+use tile_kernel::{Accumulator, Column, Numbers, condense_keyed};
+use wcps_text::Aggregate;
 
 /// Three numbers, one after the other.
 #[derive(Clone, Copy, Drop)]
@@ -32,29 +33,51 @@ impl Numbers for Three {
 
     ghost numbers = { λ s. s.first ∷ (s.first +ℤ pos 1) ∷ (s.first +ℤ pos 2) ∷ [] };
 
+    fn len(&self) -> usize {
+        3
+    }
+
     fn place_of(&self, z: i64) -> Option<usize> {
         above(self.first, z)
     }
 }
 
-/// Tells three accumulators of the cells of a column whose places begin with this one.
-fn tell(
+/// Three accumulators, each of those cells of a column whose key is its number; the places of the cells begin with this
+/// one.
+fn condensed(
     alloc: Global,
-    folds: &mut [Accumulator],
+    op: Aggregate,
     numbers: &Three,
     first: u64,
     keys: &Column,
     cells: &Column,
-) -> Result<()> {
+) -> Result<Vec<Accumulator>> {
     let places = places_from(alloc, first, cells.len())?;
-    let room = 16_777_216 - cells.len() as u64;
-    if folds.len() != 3 || places.len() != cells.len() || keys.len() != cells.len() {
+    if places.len() != cells.len() || keys.len() != cells.len() {
         bail!("columns of two lengths");
     }
-    if !have_room(folds, room) {
-        bail!("no room");
+    Ok(condense_keyed(alloc, op, numbers, keys, cells, &places)?)
+}
+
+/// Whether an accumulator can take in the points of another one.
+fn has_room(a: &Accumulator, more: &Accumulator) -> bool
+    ensures op { IsTrue result → a.now.running.op ≡ more.now.running.op }
+    ensures room { IsTrue result → a.now.running.count + more.now.running.count ≤ 2 ^ 24 }
+{
+    a.running.op == more.running.op && a.running.count <= 10_000_000 && more.running.count <= 4096
+}
+
+/// Each accumulator takes in the points of another one.
+fn take_over(folds: &mut [Accumulator], more: &[Accumulator]) -> Result<()> {
+    if folds.len() != more.len() {
+        bail!("accumulators of another number");
     }
-    add_keyed(folds, numbers, keys, cells, &places);
+    for k in 0..folds.len() {
+        if !has_room(&folds[k], &more[k]) {
+            bail!("no room");
+        }
+        folds[k].take_over(&more[k]);
+    }
     Ok(())
 }
 
@@ -66,21 +89,16 @@ pub fn keyed(alloc: Global, words: &str) -> Result<String> {
     let (len, parts) = rest.split_once(' ').context("no column")?;
     let first = number.parse::<i64>()?;
     let len = len.parse::<usize>()?;
-    let mut folds = empties(alloc, aggregate(op)?, 3)?;
+    let op = aggregate(op)?;
+    let mut folds = empties(alloc, op, 3)?;
     for part in parts.split(' ') {
         let (place, rest) = part.split_once(':').context("no place")?;
         let (keys, cells) = rest.split_once(':').context("no keys")?;
         let place = place.parse::<u64>()?;
         let keys = column(alloc, len, keys)?;
         let cells = column(alloc, len, cells)?;
-        tell(
-            alloc,
-            folds.as_mut_slice(),
-            &Three { first },
-            place,
-            &keys,
-            &cells,
-        )?;
+        let more = condensed(alloc, op, &Three { first }, place, &keys, &cells)?;
+        take_over(folds.as_mut_slice(), &more)?;
     }
     finished(alloc, folds)
 }

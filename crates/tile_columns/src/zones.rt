@@ -16,7 +16,7 @@ ghost use Rattle.tile_columns.specs.Condensing.{HasRoomAt};
 ghost use Rattle.tile_columns.specs.Zones.{compared, HasKey, HasZones, AreZonesOf, IsWhole, HasBlanks, IsSharable, AreKeyed, AreCounted, AreShared, TakesInKey, added_with, added_for};
 
 use crate::blanks::{count_all_zeros, skips_zeros};
-use crate::folds::{empty_folds, merge_at};
+use crate::folds::merge_at;
 use crate::frame::Frame;
 use crate::scratch::Scratch;
 use crate::shapes::{Shape, are_zeros, join, join_same};
@@ -24,7 +24,8 @@ use arr_core::Domain;
 use plan_ir::{Body, Fold, is_below, is_from};
 use std::alloc::{AllocError, Global};
 use tile_kernel::{
-    Accumulator, Column, Numbers, Slots, add_keyed, fold_column, fold_column_where, operate_columns,
+    Accumulator, Column, Numbers, Slots, condense_keyed, fold_column, fold_column_where,
+    operate_columns,
 };
 use wcps_mean::Outcome;
 use wcps_text::{Aggregate, BinaryOperator};
@@ -272,10 +273,7 @@ fn keyed_folds(
     requires ranks { length ranks.now ≡ length column.now }
     ensures { IfOk result (λ v. AreKeyed op slots.now ranks.now own.now column.now v.items) }
 {
-    let _few = column.len();
-    let mut folds = empty_folds(alloc, op, slots.len())?;
-    add_keyed(&mut folds, slots, own, column, ranks);
-    Ok(folds)
+    condense_keyed(alloc, op, slots, own, column, ranks)
 }
 
 /// The accumulators of different numbers, each told of the points of a part that have its number, and of those that have

@@ -1,7 +1,7 @@
 -- What condensers keep, in whatever order points are told.
-use Rattle.std.proofs.Common.{◌≡◌, ℕ, ◌+◌, ℤ, ◌+ℤ◌, List, [], ◌∷◌, ◌++◌, length, map, length-append, refl, sym, ap, ◌∙◌, subst, Option, Some, None, Bool}
+use Rattle.std.proofs.Common.{◌≡◌, ℕ, ◌+◌, ◌<◌, ℤ, ◌+ℤ◌, arith, below_more, get_or, List, [], ◌∷◌, ◌++◌, length, map, length-append, refl, sym, ap, ◌∙◌, subst, Option, Some, None, Bool}
 use Rattle.std.specs.List.Sorted.{IsPermutation}
-use Rattle.std.proofs.lemmas.List.{map-append, length-map}
+use Rattle.std.proofs.lemmas.List.{map-append, length-map, get_or_append_left, get_or_push}
 use Rattle.std.proofs.lemmas.List.Elements.{All-nil}
 use Rattle.std.proofs.lemmas.List.Sorted.{All-permutation, Contains-permutation, IsPermutation-refl, IsPermutation-trans, IsPermutation-append, IsPermutation-append_comm}
 use Rattle.wcps_text.specs.declared.operator.Aggregate.{Aggregate}
@@ -140,3 +140,18 @@ finished_value keeps op s place o end told h = λ ordered a.
 pub in_any_order : {C : Type 0} (op : Aggregate) (stands : C → List Told → Type 0) (a b c : C) (o : Outcome) → StandsForBoth stands a b c → ((told : List Told) → stands c told → ComesTo op told o) → ComesToBoth op stands a b o
 in_any_order op stands a b c o both end told more all h g p = λ ordered q.
     end (told ++ more) (both told more h g) ordered (record { same = IsPermutation-trans (told ++ more) all ordered p q.same; rising = q.rising })
+
+-- ---- a list that is made item by item
+
+-- one more item behind others
+pub each_pushed : {X : Type 0} (xs : List X) (x : X) (n : ℕ) (P : ℕ → X → Type 0) → length xs ≡ n → ((k : ℕ) (d : X) → k < n → P k (get_or xs k d)) → P n x → (k : ℕ) (d : X) → k < n + 1 → P k (get_or (xs ++ x ∷ []) k d)
+each_pushed {X} xs x n P e before here k d l =
+    below_more (λ k. (d : X) → P k (get_or (xs ++ x ∷ []) k d)) n
+    (λ k l d. subst (P k) (sym (get_or_append_left xs (x ∷ []) d k (omega (arith, l, e)))) (before k d l))
+    (λ d. subst (P n) (sym (get_or_push xs x d n e)) here)
+    k l d
+
+-- a list with a place has an item
+pub by_some_item : {X P : Type 0} (xs : List X) (k : ℕ) → k < length xs → (X → P) → P
+by_some_item [] k l f = absurd (omega (arith, l))
+by_some_item (x ∷ xs) k l f = f x

@@ -1,7 +1,7 @@
 -- Cells that are told by their keys.
 use Rattle.std.proofs.Common.{◌≡◌, ◌≢◌, ⊎_elim, ℕ, zero, suc, length-append, ◌+◌, ◌<◌, ◌≤◌, ℤ, ◌≤ℤ◌, ◌+ℤ◌, ◌-◌, int_le, pos, take_all, length-set, List, [], ◌∷◌, ◌++◌, length, get_or, set, take, refl, sym, ap, ◌∙◌, subst, arith, append_assoc, get_or-set_other, get_or-set_same, Some, None, Bool, true, false, cond}
-use Rattle.std.specs.Prelude.{slice_get}
-use Rattle.std.proofs.lemmas.List.{append-nil, get_or-map, length-map}
+use Rattle.std.specs.Prelude.{slice_get, replicate}
+use Rattle.std.proofs.lemmas.List.{append-nil, get_or-map, length-map, get_or-replicate, length-replicate}
 use Rattle.std.proofs.lemmas.Option.{slice_get-get_or}
 use Rattle.std.proofs.lemmas.Bool.Decides.{eqb_tells, Decides-like, Decides-and}
 use Rattle.std.specs.Bool.{Decides}
@@ -11,13 +11,14 @@ use Rattle.wcps_mean.specs.declared.cell.Outcome.{Outcome}
 use Rattle.wcps_mean.specs.declared.cell.Outcome.TheVariants.{Value}
 use Rattle.wcps_mean.specs.Cells.{operate2, number, int_eq}
 use Rattle.tile_kernel.specs.declared.accumulator.Accumulator.{Accumulator}
-use Rattle.tile_kernel.specs.Told.{demanded_of, demanded_at}
-use Rattle.tile_kernel.specs.Standing.{Stands, TakesIn, EachTakesIn}
-use Rattle.tile_kernel.specs.Keyed.{having, number_at, IsPlaceOf, AreSlots}
+use Rattle.tile_kernel.specs.Told.{Told, demanded_of, demanded_at}
+use Rattle.tile_kernel.specs.Condensing.{EachStandsFor, EachIsTold, EachCountsMore}
+use Rattle.tile_kernel.specs.Standing.{HaveAtMost}
+use Rattle.tile_kernel.specs.Keyed.{having, number_at, told_by_key, told_by_keys, TakeCells, StandByKeys, IsPlaceOf, AreSlots}
 use Rattle.tile_kernel.proofs.Places.{outcome_there}
-use Rattle.tile_kernel.proofs.Tellings.{demanded_suc}
+use Rattle.tile_kernel.proofs.Tellings.{demanded_suc, few_demanded}
 
--- what a cell adds to the accumulator of a number
+-- what a cell adds for a number
 told_if : (b : Bool) (p : ℕ) (o : Outcome) → demanded_of p (Value (number b)) o ≡ cond b ((p, o) ∷ []) []
 told_if true p o = refl
 told_if false p o = refl
@@ -48,44 +49,58 @@ unequal_told z n p o ne =
     untrue true f = absurd (f refl)
     untrue false f = refl
 
--- one accumulator has taken in a cell with its number
-pub set_told : (folds : List Accumulator) (numbers : List ℤ) (z : ℤ) (p : ℕ) (o : Outcome) (k : ℕ) (m : Accumulator) → k < length folds → length folds ≡ length numbers → IsPlaceOf z numbers (Some k)
-    → ((d : Accumulator) → TakesIn (get_or folds k d) m ((p, o) ∷ [])) → EachTakesIn folds (set folds k m) (λ j. demanded_of p (operate2 Equal (Value z) (Value (number_at numbers j))) o)
-set_told folds numbers z p o k m lt e place more told s j d l =
+-- one condenser has taken in a cell with its number
+pub set_told : {C : Type 0} (stands : C → List Told → Type 0) (folds : List C) (numbers : List ℤ) (z : ℤ) (p : ℕ) (o : Outcome) (k : ℕ) (m : C) → k < length folds → length folds ≡ length numbers → IsPlaceOf z numbers (Some k)
+    → ((d : C) (told : List Told) → stands (get_or folds k d) told → stands m (told ++ (p, o) ∷ [])) → EachIsTold stands folds (set folds k m) (told_by_key numbers p (Value z) o)
+set_told {C} stands folds numbers z p o k m lt e place more told s j d l =
     ⊎_elim
     (λ (h : (_ × (j ≡ k))). same j d l h.1)
     (λ (h : (_ × (j ≢ k))). other j d l h.1)
     (eqb_tells j k)
   where
-    same : (j : ℕ) (d : Accumulator) → j < length (set folds k m) → j ≡ k → Stands (get_or (set folds k m) j d) (told j ++ demanded_of p (operate2 Equal (Value z) (Value (number_at numbers j))) o)
+    same : (j : ℕ) (d : C) → j < length (set folds k m) → j ≡ k → stands (get_or (set folds k m) j d) (told j ++ told_by_key numbers p (Value z) o j)
     same j d l h =
-        let here : number_at numbers j ≡ z = (place j (omega (arith, length-set {A = Accumulator}))).1 (ap Some (sym h)) in
+        let here : number_at numbers j ≡ z = (place j (omega (arith, length-set {A = C}))).1 (ap Some (sym h)) in
         let taken = more d (told k) (s k d lt) in
         let at : get_or (set folds k m) j d ≡ m = ap (λ i. get_or (set folds k m) i d) h ∙ get_or-set_same folds k m d lt in
-        subst (λ l. Stands (get_or (set folds k m) j d) (told j ++ l)) (sym (equal_told z (number_at numbers j) p o here))
-        (subst (λ a. Stands a (told j ++ (p, o) ∷ [])) (sym at) (subst (λ i. Stands m (told i ++ (p, o) ∷ [])) (sym h) taken))
+        subst (λ l. stands (get_or (set folds k m) j d) (told j ++ l)) (sym (equal_told z (number_at numbers j) p o here))
+        (subst (λ a. stands a (told j ++ (p, o) ∷ [])) (sym at) (subst (λ i. stands m (told i ++ (p, o) ∷ [])) (sym h) taken))
 
-    other : (j : ℕ) (d : Accumulator) → j < length (set folds k m) → j ≢ k → Stands (get_or (set folds k m) j d) (told j ++ demanded_of p (operate2 Equal (Value z) (Value (number_at numbers j))) o)
+    other : (j : ℕ) (d : C) → j < length (set folds k m) → j ≢ k → stands (get_or (set folds k m) j d) (told j ++ told_by_key numbers p (Value z) o j)
     other j d l h =
-        let ne : number_at numbers j ≢ z = λ q. h (let w : Some k ≡ Some j = (place j (omega (arith, length-set {A = Accumulator}))).0 q in cc) in
+        let ne : number_at numbers j ≢ z = λ q. h (let w : Some k ≡ Some j = (place j (omega (arith, length-set {A = C}))).0 q in cc) in
         let at : get_or (set folds k m) j d ≡ get_or folds j d = get_or-set_other folds k j m d h in
-        subst (λ l. Stands (get_or (set folds k m) j d) (told j ++ l)) (sym (unequal_told z (number_at numbers j) p o ne))
-        (subst (λ l. Stands (get_or (set folds k m) j d) l) (sym (append-nil (told j))) (subst (λ a. Stands a (told j)) (sym at) (s j d (omega (arith, length-set {A = Accumulator})))))
+        subst (λ l. stands (get_or (set folds k m) j d) (told j ++ l)) (sym (unequal_told z (number_at numbers j) p o ne))
+        (subst (λ l. stands (get_or (set folds k m) j d) l) (sym (append-nil (told j))) (subst (λ a. stands a (told j)) (sym at) (s j d (omega (arith, length-set {A = C})))))
 
--- no accumulator has a number that is none of theirs
-pub none_told : (folds : List Accumulator) (numbers : List ℤ) (z : ℤ) (p : ℕ) (o : Outcome) → length folds ≡ length numbers → IsPlaceOf z numbers None
-    → EachTakesIn folds folds (λ j. demanded_of p (operate2 Equal (Value z) (Value (number_at numbers j))) o)
-none_told folds numbers z p o e place told s j d l =
+-- and counts at most one value more
+pub set_counted : {C : Type 0} (counted : C → ℕ) (folds : List C) (k : ℕ) (m : C) → k < length folds → ((d : C) → counted m ≤ counted (get_or folds k d) + 1) → EachCountsMore counted 1 folds (set folds k m)
+set_counted counted folds k m lt more j d l =
+    ⊎_elim
+    (λ (h : (_ × (j ≡ k))).
+    let at : get_or (set folds k m) j d ≡ m = ap (λ i. get_or (set folds k m) i d) h.1 ∙ get_or-set_same folds k m d lt in
+    let from : get_or folds j d ≡ get_or folds k d = ap (λ i. get_or folds i d) h.1 in
+    let few = more d in
+    omega (arith, ap counted at, ap counted from, few))
+    (λ (h : (_ × (j ≢ k))).
+    let at : get_or (set folds k m) j d ≡ get_or folds j d = get_or-set_other folds k j m d h.1 in
+    omega (arith, ap counted at))
+    (eqb_tells j k)
+
+-- no condenser has a number that is none of theirs
+pub none_told : {C : Type 0} (stands : C → List Told → Type 0) (folds : List C) (numbers : List ℤ) (z : ℤ) (p : ℕ) (o : Outcome) → length folds ≡ length numbers → IsPlaceOf z numbers None
+    → EachIsTold stands folds folds (told_by_key numbers p (Value z) o)
+none_told stands folds numbers z p o e place told s j d l =
     let ne : number_at numbers j ≢ z = λ q. (let w : None ≡ Some j = (place j (omega arith)).0 q in cc) in
-    subst (Stands (get_or folds j d)) (sym (ap (λ l. told j ++ l) (unequal_told z (number_at numbers j) p o ne) ∙ append-nil (told j))) (s j d l)
+    subst (stands (get_or folds j d)) (sym (ap (λ l. told j ++ l) (unequal_told z (number_at numbers j) p o ne) ∙ append-nil (told j))) (s j d l)
 
 -- one more cell
-pub keyed_more : (before folds after : List Accumulator) (numbers : List ℤ) (ps : List ℕ) (keys os : List Outcome) (j p : ℕ) (key o : Outcome) → length ps ≡ length os → length keys ≡ length os → j < length os
+pub keyed_more : {C : Type 0} (stands : C → List Told → Type 0) (before folds after : List C) (numbers : List ℤ) (ps : List ℕ) (keys os : List Outcome) (j p : ℕ) (key o : Outcome) → length ps ≡ length os → length keys ≡ length os → j < length os
     → p ≡ get_or ps j 0 → slice_get keys j ≡ Some key → slice_get os j ≡ Some o → length folds ≡ length before
-    → EachTakesIn before folds (λ k. demanded_at (take j ps) (take j (having keys (number_at numbers k))) (take j os))
-    → EachTakesIn folds after (λ k. demanded_of p (operate2 Equal key (Value (number_at numbers k))) o)
-    → EachTakesIn before after (λ k. demanded_at (take (j + 1) ps) (take (j + 1) (having keys (number_at numbers k))) (take (j + 1) os))
-keyed_more before folds after numbers ps keys os j p key o h g lt e f i len first second told s k d l =
+    → EachIsTold stands before folds (λ k. demanded_at (take j ps) (take j (having keys (number_at numbers k))) (take j os))
+    → EachIsTold stands folds after (told_by_key numbers p key o)
+    → EachIsTold stands before after (λ k. demanded_at (take (j + 1) ps) (take (j + 1) (having keys (number_at numbers k))) (take (j + 1) os))
+keyed_more stands before folds after numbers ps keys os j p key o h g lt e f i len first second told s k d l =
     let cs = having keys (number_at numbers k) in
     let c = operate2 Equal key (Value (number_at numbers k)) in
     let there : slice_get cs j ≡ Some c =
@@ -95,19 +110,34 @@ keyed_more before folds after numbers ps keys os j p key o h g lt e f i len firs
     let split = demanded_suc ps cs os j p c o h long lt e there i in
     let n : suc j ≡ j + 1 = omega arith in
     let both = second (λ k. told k ++ demanded_at (take j ps) (take j (having keys (number_at numbers k))) (take j os)) (first told s) k d l in
-    subst (λ l. Stands (get_or after k d) (told k ++ l)) (sym split ∙ ap (λ m. demanded_at (take m ps) (take m cs) (take m os)) n)
-    (subst (Stands (get_or after k d)) (append_assoc (told k) (demanded_at (take j ps) (take j cs) (take j os)) (demanded_of p c o)) both)
+    subst (λ l. stands (get_or after k d) (told k ++ l)) (sym split ∙ ap (λ m. demanded_at (take m ps) (take m cs) (take m os)) n)
+    (subst (stands (get_or after k d)) (append_assoc (told k) (demanded_at (take j ps) (take j cs) (take j os)) (demanded_of p c o)) both)
 
 -- in the end all cells
-pub keyed_whole : (before after : List Accumulator) (numbers : List ℤ) (ps : List ℕ) (keys os : List Outcome) (j : ℕ) → length ps ≡ length os → length keys ≡ length os → length os ≤ j
-    → EachTakesIn before after (λ k. demanded_at (take j ps) (take j (having keys (number_at numbers k))) (take j os))
-    → EachTakesIn before after (λ k. demanded_at ps (having keys (number_at numbers k)) os)
-keyed_whole before after numbers ps keys os j h g le f told s k d l =
+pub keyed_whole : {C : Type 0} (stands : C → List Told → Type 0) (before after : List C) (numbers : List ℤ) (ps : List ℕ) (keys os : List Outcome) (j : ℕ) → length ps ≡ length os → length keys ≡ length os → length os ≤ j
+    → EachIsTold stands before after (λ k. demanded_at (take j ps) (take j (having keys (number_at numbers k))) (take j os))
+    → TakeCells stands before after numbers ps keys os
+keyed_whole stands before after numbers ps keys os j h g le f told s k d l =
     let cs = having keys (number_at numbers k) in
     let long : length cs ≡ length os = length-map keys (λ (o : Outcome). operate2 Equal o (Value (number_at numbers k))) ∙ g in
     let all : demanded_at (take j ps) (take j cs) (take j os) ≡ demanded_at ps cs os =
     ap (λ l. demanded_at l (take j cs) (take j os)) (take_all j ps (omega arith)) ∙ ap (λ l. demanded_at ps l (take j os)) (take_all j cs (omega arith)) ∙ ap (demanded_at ps cs) (take_all j os le) in
-    subst (λ l. Stands (get_or after k d) (told k ++ l)) all (f told s k d l)
+    subst (λ l. stands (get_or after k d) (told k ++ l)) all (f told s k d l)
+
+-- condensers that stood for nothing stand for the cells
+pub told_from_none : {C : Type 0} (stands : C → List Told → Type 0) (n : ℕ) (empty : C) (before after : List C) (numbers : List ℤ) (ps : List ℕ) (keys os : List Outcome) → before ≡ replicate n empty → stands empty []
+    → TakeCells stands before after numbers ps keys os → EachStandsFor stands after (told_by_keys numbers ps keys os)
+told_from_none stands n empty before after numbers ps keys os e none taken =
+    taken (λ k. []) (λ k d l.
+    let lt : k < n = omega (arith, l, ap length e, length-replicate n empty) in
+    subst (λ c. stands c []) (sym (ap (λ cs. get_or cs k d) e ∙ get_or-replicate n k empty d lt)) none)
+
+-- accumulators stand for no more cells than there are
+pub few_by_keys : (numbers : List ℤ) (ps : List ℕ) (keys os : List Outcome) (folds : List Accumulator) → StandByKeys numbers ps keys os folds → HaveAtMost (length os) folds
+few_by_keys numbers ps keys os folds h k d l =
+    let n = (h k d l).counted in
+    let few = few_demanded ps (having keys (number_at numbers k)) os in
+    omega (arith, n, few)
 
 -- ---- numbers by a table
 

@@ -1,5 +1,5 @@
 -- Condensers of points of one box.
-use Rattle.std.specs.Prelude.{◌≡◌, ℕ, ◌<◌, length, slice_index_or, ℤ, List, ◌++◌, Option}
+use Rattle.std.specs.Prelude.{◌≡◌, ℕ, ◌+◌, ◌<◌, ◌≤◌, length, slice_index_or, ℤ, List, ◌++◌, Option}
 use Rattle.std.specs.List.Sorted.{IsPermutation}
 use Rattle.wcps_mean.specs.declared.cell.PointFault.{PointFault}
 use Rattle.wcps_mean.specs.declared.cell.Outcome.{Outcome}
@@ -7,7 +7,7 @@ use Rattle.wcps_mean.specs.Condensers.{values, combined}
 use Rattle.wcps_text.specs.declared.operator.Aggregate.{Aggregate}
 use Rattle.tile_kernel.specs.declared.accumulator.Accumulator.{Accumulator}
 use Rattle.tile_kernel.specs.Told.{Told, outcomes, IsFirst, ComesTo}
-use Rattle.tile_kernel.specs.Standing.{Stands}
+use Rattle.tile_kernel.specs.Standing.{Stands, EachStands}
 
 -- what stands for points stands for them in whatever order they are told
 abbrev pub IsUnordered : {C : Type 0} → (C → List Told → Type 0) → Type 0
@@ -45,3 +45,11 @@ EachStandsFor stands condensers told = (k : ℕ) (d : _) → k < length condense
 -- each takes in points of its own
 abbrev pub EachIsTold : {C : Type 0} → (C → List Told → Type 0) → List C → List C → (ℕ → List Told) → Type 0
 EachIsTold stands before after more = (told : ℕ → List Told) → EachStandsFor stands before told → EachStandsFor stands after (λ k. told k ++ more k)
+
+-- each counts at most n values more
+abbrev pub EachCountsMore : {C : Type 0} → (C → ℕ) → ℕ → List C → List C → Type 0
+EachCountsMore counted n before after = (k : ℕ) (d : _) → k < length before → counted (slice_index_or after k d) ≤ counted (slice_index_or before k d) + n
+
+-- accumulators stand for what these condensers stand for
+abbrev pub StandForSame : {C : Type 0} → (C → List Told → Type 0) → List C → List Accumulator → Type 0
+StandForSame stands condensers folds = (told : ℕ → List Told) → EachStandsFor stands condensers told → EachStands folds told

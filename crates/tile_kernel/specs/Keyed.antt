@@ -7,7 +7,8 @@ use Rattle.wcps_mean.specs.Cells.{operate2}
 use Rattle.tile_kernel.specs.declared.accumulator.Accumulator.{Accumulator}
 use Rattle.tile_kernel.specs.Columns.{outcome_at}
 use Rattle.tile_kernel.specs.Told.{Told, demanded_of, demanded_at}
-use Rattle.tile_kernel.specs.Standing.{EachTakesIn}
+use Rattle.tile_kernel.specs.Standing.{EachStands}
+use Rattle.tile_kernel.specs.Condensing.{EachIsTold}
 
 -- the condition that a key is this number, at each place
 abbrev pub having : List Outcome → ℤ → List Outcome
@@ -25,22 +26,22 @@ told_by_key numbers place key o k = demanded_of place (operate2 Equal key (Value
 abbrev pub told_by_keys : List ℤ → List ℕ → List Outcome → List Outcome → ℕ → List Told
 told_by_keys numbers places keys column k = demanded_at places (having keys (number_at numbers k)) column
 
--- each takes in the cells of a column by their keys
-abbrev pub TakeCells : List ℤ → List ℕ → List Outcome → List Outcome → List Accumulator → List Accumulator → Type 0
-TakeCells numbers places keys column before after = EachTakesIn before after (told_by_keys numbers places keys column)
+-- condensers take in the cells of a column, each those with its number, at these places
+abbrev pub TakeCells : {C : Type 0} → (C → List Told → Type 0) → List C → List C → List ℤ → List ℕ → List Outcome → List Outcome → Type 0
+TakeCells stands before after numbers places keys column = EachIsTold stands before after (told_by_keys numbers places keys column)
+
+-- accumulators stand for the cells of a column, each for those with its number
+abbrev pub StandByKeys : List ℤ → List ℕ → List Outcome → List Outcome → List Accumulator → Type 0
+StandByKeys numbers places keys column folds = EachStands folds (told_by_keys numbers places keys column)
 
 -- the first n cells of a column have these values
 abbrev pub HasValues : ℕ → (ℕ → ℤ) → List Outcome → Type 0
 HasValues n value column = (length column ≡ n) × ((k : ℕ) → k < n → outcome_at column k ≡ Value (value k))
 
--- each takes in a value by its key, whatever place that has
-abbrev pub TakeInValue : List ℤ → ℤ → ℤ → List Accumulator → List Accumulator → Type 0
-TakeInValue numbers key x before after = (place : ℕ) → EachTakesIn before after (told_by_key numbers place (Value key) (Value x))
-
--- each takes in n values by their keys, whatever places these have
-abbrev pub TakeInValues : List ℤ → ℕ → List ℤ → (ℕ → ℤ) → List Accumulator → List Accumulator → Type 0
-TakeInValues numbers n keys value before after = (places : List ℕ) (own column : List Outcome) → length places ≡ n → HasValues n (number_at keys) own → HasValues n value column
-    → EachTakesIn before after (told_by_keys numbers places own column)
+-- condensers take in values, each those with its number, at these places
+abbrev pub TakeIn : {C : Type 0} → (C → List Told → Type 0) → List C → List C → List ℤ → List ℕ → List ℤ → (ℕ → ℤ) → Type 0
+TakeIn stands before after numbers places keys value =
+    (own column : List Outcome) → HasValues (length places) (number_at keys) own → HasValues (length places) value column → TakeCells stands before after numbers places own column
 
 -- this is the place of a number in a list in which no other place has it, or there is none
 abbrev pub IsPlaceOf : ℤ → List ℤ → Option ℕ → Type 0

@@ -1,7 +1,6 @@
 //! What is kept of the points that a condenser has been told of, in whatever order.
 
 ghost use Rattle.std.specs.Prelude.{◌≡◌, ℕ, ◌+◌, ◌<◌, ◌≤◌, ◌^◌, List, [], ◌∷◌};
-ghost use Rattle.wcps_mean.specs.declared.cell.Outcome.TheVariants.{Value};
 ghost use Rattle.tile_kernel.specs.Told.{Told, IsFirst};
 ghost use Rattle.tile_kernel.specs.Joins.{HoldsOfBoth};
 
@@ -80,16 +79,6 @@ impl Accumulator {
         self.place = first.place;
     }
 
-    /// Takes in one value; which place it has does not matter.
-    pub(crate) fn add_value(&mut self, x: i64)
-        requires { self.old.running.count < 2 ^ 24 }
-        ensures stands { (place : ℕ) → TakesIn self.old self.new ((place, Value x) ∷ []) }
-        ensures op { self.new.running.op ≡ self.old.running.op }
-        ensures count { self.new.running.count ≡ self.old.running.count + 1 }
-    {
-        self.running.add(Outcome::Value(x));
-    }
-
     /// Takes in one point.
     pub fn add(&mut self, place: u64, o: Outcome)
         requires { self.old.running.count < 2 ^ 24 }
@@ -98,7 +87,7 @@ impl Accumulator {
         ensures count { self.new.running.count ≡ self.old.running.count + 1 }
     {
         match o {
-            Outcome::Value(x) => self.add_value(x),
+            Outcome::Value(x) => self.running.add(Outcome::Value(x)),
             Outcome::Fault(_) => self.merge(Accumulator::one(self.running.op, place, o)),
         }
     }
@@ -145,10 +134,10 @@ pub(crate) struct Placed {
 pub(crate) fn least_fault(a: Placed, b: Placed) -> Placed
     ensures { HoldsOfBoth (IsFirst a.fault a.place) (IsFirst b.fault b.place) (IsFirst result.fault result.place) }
 {
-    match a.fault {
-        None => return b,
-        Some(_) => match b.fault {
-            None => return a,
+    match b.fault {
+        None => return a,
+        Some(_) => match a.fault {
+            None => return b,
             Some(_) => {
                 if a.place <= b.place {
                     return a;

@@ -1,13 +1,13 @@
 //! Condensers that are told of the cells of a column by the keys of these: one pass over the column for all keys.
 
-ghost use Rattle.std.specs.Prelude.{◌≡◌, ◌-◌, ◌+◌, ◌<◌, ◌≤◌, ◌^◌, ℕ, ℤ, List, [], ◌∷◌, length, slice_index_or, IfSome};
-ghost use Rattle.wcps_text.specs.declared.operator.Aggregate.{Aggregate};
-ghost use Rattle.tile_kernel.specs.Repeated.{shown};
-ghost use Rattle.tile_kernel.specs.Standing.{AreOf, HaveAtMost, EachTakesIn};
-ghost use Rattle.tile_kernel.specs.Keyed.{told_by_key, told_by_keys, TakeCells, TakeInValue, TakeInValues, IsPlaceOf};
+ghost use Rattle.std.specs.Prelude.{◌≡◌, ◌+◌, ◌<◌, ◌≤◌, ◌^◌, ℤ, List, [], ◌∷◌, length, IfSome};
+ghost use Rattle.std.specs.List.{All};
+ghost use Rattle.wcps_mean.specs.declared.cell.Outcome.TheVariants.{Value};
+ghost use Rattle.tile_kernel.specs.Condensing.{EachIsTold, EachCountsMore};
+ghost use Rattle.tile_kernel.specs.Keyed.{number_at, told_by_key, TakeCells, TakeIn, IsPlaceOf};
 
-use crate::accumulator::Accumulator;
 use crate::column::{Column, MAX_PLACES};
+use crate::condenser::Condenser;
 use crate::form::Form;
 use crate::operand::{Each, Operand, Same};
 use crate::seen::Seen;
@@ -18,52 +18,71 @@ use wcps_mean::Outcome;
 pub trait Numbers {
     ghost numbers: { Self → List ℤ };
 
+    /// How many numbers there are.
+    fn len(&self) -> usize
+        ensures { result ≡ length (numbers self.now) };
+
     /// The place of a number, if it is one of them.
     fn place_of(&self, z: i64) -> Option<usize>
         ensures within { IfSome result (λ k. k < length (numbers self.now)) }
         ensures place { IsPlaceOf z (numbers self.now) result };
 }
 
-/// Each accumulator is told of one more point.
-fn tell_each(folds: &mut [Accumulator], place: u64, o: Outcome)
-    requires room { HaveAtMost (2 ^ 24 - 1) folds.old }
-    ensures stands { EachTakesIn folds.old folds.new (λ _. (place, o) ∷ []) }
-    ensures room { (n : ℕ) → HaveAtMost n folds.old → HaveAtMost (n + 1) folds.new }
-    ensures op { (op : Aggregate) → AreOf op folds.old → AreOf op folds.new }
+/// Each condenser is told of one more point.
+fn tell_all<C: Condenser>(folds: &mut [C], place: u64, o: Outcome)
+    requires room { All (λ c. C.counted c < 2 ^ 24) folds.old }
+    ensures stands { EachIsTold C.stands folds.old folds.new (λ _. (place, o) ∷ []) }
+    ensures room { EachCountsMore C.counted 1 folds.old folds.new }
     ensures length { length folds.new ≡ length folds.old }
 {
     for k in 0..folds.len() {
-        folds[k].add(place, o);
+        folds[k] = folds[k].merge(C::one(place, o));
     }
 }
 
-/// The accumulator of a key's number is told of a cell; of a key's fault all are told.
-fn tell_keyed<N: Numbers>(
-    folds: &mut [Accumulator],
+/// The condenser of a number, if it is one of them, is told of a cell that has it for its key.
+fn tell_number<C: Condenser, N: Numbers>(
+    folds: &mut [C],
+    numbers: &N,
+    place: u64,
+    key: i64,
+    o: Outcome,
+)
+    requires folds { length folds.old ≡ length (N.numbers numbers.now) }
+    requires room { All (λ c. C.counted c < 2 ^ 24) folds.old }
+    ensures stands { EachIsTold C.stands folds.old folds.new (told_by_key (N.numbers numbers.now) place (Value key) o) }
+    ensures room { EachCountsMore C.counted 1 folds.old folds.new }
+    ensures length { length folds.new ≡ length folds.old }
+{
+    match numbers.place_of(key) {
+        Some(k) => folds[k] = folds[k].merge(C::one(place, o)),
+        None => (),
+    }
+}
+
+/// The condenser of a key's number is told of a cell; of a key's fault all are told.
+fn tell_keyed<C: Condenser, N: Numbers>(
+    folds: &mut [C],
     numbers: &N,
     place: u64,
     key: Outcome,
     o: Outcome,
 )
     requires folds { length folds.old ≡ length (N.numbers numbers.now) }
-    requires room { HaveAtMost (2 ^ 24 - 1) folds.old }
-    ensures stands { EachTakesIn folds.old folds.new (told_by_key (N.numbers numbers.now) place key o) }
-    ensures room { (n : ℕ) → HaveAtMost n folds.old → HaveAtMost (n + 1) folds.new }
-    ensures op { (op : Aggregate) → AreOf op folds.old → AreOf op folds.new }
+    requires room { All (λ c. C.counted c < 2 ^ 24) folds.old }
+    ensures stands { EachIsTold C.stands folds.old folds.new (told_by_key (N.numbers numbers.now) place key o) }
+    ensures room { EachCountsMore C.counted 1 folds.old folds.new }
     ensures length { length folds.new ≡ length folds.old }
 {
     match key {
-        Outcome::Fault(f) => tell_each(folds, place, Outcome::Fault(f)),
-        Outcome::Value(z) => match numbers.place_of(z) {
-            Some(k) => folds[k].add(place, o),
-            None => (),
-        },
+        Outcome::Fault(f) => tell_all(folds, place, Outcome::Fault(f)),
+        Outcome::Value(z) => tell_number(folds, numbers, place, z, o),
     }
 }
 
-/// Each accumulator is told of those cells of a column whose key is its number, cell by cell.
-fn tell_cells<N: Numbers>(
-    folds: &mut [Accumulator],
+/// Each condenser is told of those cells of a column whose key is its number, cell by cell.
+fn tell_cells<C: Condenser, N: Numbers>(
+    folds: &mut [C],
     numbers: &N,
     keys: &View<'_>,
     column: &View<'_>,
@@ -72,11 +91,9 @@ fn tell_cells<N: Numbers>(
     requires folds { length folds.old ≡ length (N.numbers numbers.now) }
     requires keys { length keys.now ≡ length column.now }
     requires places { length places.now ≡ length column.now }
-    requires room { HaveAtMost (2 ^ 24 - length column.now) folds.old }
-    requires few { length column.now ≤ 4096 }
-    ensures stands { EachTakesIn folds.old folds.new (told_by_keys (N.numbers numbers.now) places.now keys.now column.now) }
-    ensures room { (n : ℕ) → HaveAtMost n folds.old → HaveAtMost (n + length column.now) folds.new }
-    ensures op { (op : Aggregate) → AreOf op folds.old → AreOf op folds.new }
+    requires room { All (λ c. C.counted c + length column.now ≤ 2 ^ 24) folds.old }
+    ensures stands { TakeCells C.stands folds.old folds.new (N.numbers numbers.now) places.now keys.now column.now }
+    ensures room { EachCountsMore C.counted (length column.now) folds.old folds.new }
     ensures length { length folds.new ≡ length folds.old }
 {
     for j in 0..column.len() {
@@ -84,49 +101,33 @@ fn tell_cells<N: Numbers>(
     }
 }
 
-/// The accumulator of a key's number is told of a value, whatever place that has.
-fn tell_value<N: Numbers>(folds: &mut [Accumulator], numbers: &N, key: i64, x: i64)
-    requires folds { length folds.old ≡ length (N.numbers numbers.now) }
-    requires room { HaveAtMost (2 ^ 24 - 1) folds.old }
-    ensures stands { TakeInValue (N.numbers numbers.now) key x folds.old folds.new }
-    ensures room { (n : ℕ) → HaveAtMost n folds.old → HaveAtMost (n + 1) folds.new }
-    ensures op { (op : Aggregate) → AreOf op folds.old → AreOf op folds.new }
-    ensures length { length folds.new ≡ length folds.old }
-{
-    match numbers.place_of(key) {
-        Some(k) => folds[k].add_value(x),
-        None => return,
-    }
-}
-
-/// Each accumulator is told of those values whose key is its number, whatever places they have.
-fn tell_values<N: Numbers, V: Operand>(
-    folds: &mut [Accumulator],
+/// Each condenser is told of those values whose key is its number, as many as there are places.
+fn tell_values<C: Condenser, N: Numbers, V: Operand>(
+    folds: &mut [C],
     numbers: &N,
     keys: &[i64],
     values: &V,
-    len: usize,
+    places: &[u64],
 )
     requires folds { length folds.old ≡ length (N.numbers numbers.now) }
-    requires keys { len ≤ length keys.now }
-    requires values { len ≤ V.places values.now }
-    requires room { HaveAtMost (2 ^ 24 - len) folds.old }
-    requires few { len ≤ 4096 }
-    ensures stands { TakeInValues (N.numbers numbers.now) len keys.now (V.value values.now) folds.old folds.new }
-    ensures room { (n : ℕ) → HaveAtMost n folds.old → HaveAtMost (n + len) folds.new }
-    ensures op { (op : Aggregate) → AreOf op folds.old → AreOf op folds.new }
+    requires keys { length places.now ≤ length keys.now }
+    requires values { length places.now ≤ V.places values.now }
+    requires room { All (λ c. C.counted c + length places.now ≤ 2 ^ 24) folds.old }
+    ensures stands { TakeIn C.stands folds.old folds.new (N.numbers numbers.now) places.now keys.now (V.value values.now) }
+    ensures room { EachCountsMore C.counted (length places.now) folds.old folds.new }
     ensures length { length folds.new ≡ length folds.old }
 {
-    for j in 0..len {
-        tell_value(folds, numbers, keys[j], values.value(j));
+    for j in 0..places.len() {
+        let value = Outcome::Value(values.value(j));
+        tell_number(folds, numbers, places[j], keys[j], value);
     }
 }
 
-/// Each accumulator is told of those cells of a column whose key is its number, at their places in the box: in one pass
+/// Each condenser is told of those cells of a column whose key is its number, at their places in the box: in one pass
 /// what a fold under the condition that the key is the number tells each of them. Keys and cells without faults are taken
 /// in one loop over their values.
-pub fn add_keyed<N: Numbers>(
-    folds: &mut [Accumulator],
+pub fn add_keyed<C: Condenser, N: Numbers>(
+    folds: &mut [C],
     numbers: &N,
     keys: &Column,
     column: &Column,
@@ -135,39 +136,14 @@ pub fn add_keyed<N: Numbers>(
     requires folds { length folds.old ≡ length (N.numbers numbers.now) }
     requires keys { length keys.now ≡ length column.now }
     requires places { length places.now ≡ length column.now }
-    requires room { HaveAtMost (2 ^ 24 - length column.now) folds.old }
-    requires few { length column.now ≤ 4096 }
-    ensures stands { EachTakesIn folds.old folds.new (told_by_keys (N.numbers numbers.now) places.now keys.now column.now) }
-    ensures room { (n : ℕ) → HaveAtMost n folds.old → HaveAtMost (n + length column.now) folds.new }
-    ensures op { (op : Aggregate) → AreOf op folds.old → AreOf op folds.new }
+    requires room { All (λ c. C.counted c + length column.now ≤ 2 ^ 24) folds.old }
+    ensures stands { TakeCells C.stands folds.old folds.new (N.numbers numbers.now) places.now keys.now column.now }
+    ensures room { EachCountsMore C.counted (length column.now) folds.old folds.new }
     ensures length { length folds.new ≡ length folds.old }
 {
-    let own = keys.seen();
-    let cells = column.seen();
-    add_seen(folds, numbers, &own, &cells, places);
-}
-
-/// The same of what two columns keep.
-fn add_seen<N: Numbers>(
-    folds: &mut [Accumulator],
-    numbers: &N,
-    keys: &Seen<'_>,
-    column: &Seen<'_>,
-    places: &[u64],
-)
-    requires folds { length folds.old ≡ length (N.numbers numbers.now) }
-    requires keys { length (shown keys.now) ≡ length (shown column.now) }
-    requires places { length places.now ≡ length (shown column.now) }
-    requires room { HaveAtMost (2 ^ 24 - length (shown column.now)) folds.old }
-    requires few { length (shown column.now) ≤ 4096 }
-    ensures stands { TakeCells (N.numbers numbers.now) places.now (shown keys.now) (shown column.now) folds.old folds.new }
-    ensures room { (n : ℕ) → HaveAtMost n folds.old → HaveAtMost (n + length (shown column.now)) folds.new }
-    ensures op { (op : Aggregate) → AreOf op folds.old → AreOf op folds.new }
-    ensures length { length folds.new ≡ length folds.old }
-{
-    if let Seen::Each(own) = keys {
-        if let Seen::Each(cells) = column {
-            add_views(folds, numbers, own, cells, places);
+    if let Seen::Each(own) = keys.seen() {
+        if let Seen::Each(cells) = column.seen() {
+            add_views(folds, numbers, &own, &cells, places);
             return;
         }
     }
@@ -176,33 +152,33 @@ fn add_seen<N: Numbers>(
 
 /// The same place by place, where one of them is kept as runs.
 #[inline(never)]
-fn add_spread<N: Numbers>(
-    folds: &mut [Accumulator],
+fn add_spread<C: Condenser, N: Numbers>(
+    folds: &mut [C],
     numbers: &N,
-    keys: &Seen<'_>,
-    column: &Seen<'_>,
+    keys: &Column,
+    column: &Column,
     places: &[u64],
 )
     requires folds { length folds.old ≡ length (N.numbers numbers.now) }
-    requires keys { length (shown keys.now) ≡ length (shown column.now) }
-    requires places { length places.now ≡ length (shown column.now) }
-    requires room { HaveAtMost (2 ^ 24 - length (shown column.now)) folds.old }
-    requires few { length (shown column.now) ≤ 4096 }
-    ensures stands { TakeCells (N.numbers numbers.now) places.now (shown keys.now) (shown column.now) folds.old folds.new }
-    ensures room { (n : ℕ) → HaveAtMost n folds.old → HaveAtMost (n + length (shown column.now)) folds.new }
-    ensures op { (op : Aggregate) → AreOf op folds.old → AreOf op folds.new }
+    requires keys { length keys.now ≡ length column.now }
+    requires places { length places.now ≡ length column.now }
+    requires room { All (λ c. C.counted c + length column.now ≤ 2 ^ 24) folds.old }
+    ensures stands { TakeCells C.stands folds.old folds.new (N.numbers numbers.now) places.now keys.now column.now }
+    ensures room { EachCountsMore C.counted (length column.now) folds.old folds.new }
     ensures length { length folds.new ≡ length folds.old }
 {
     let mut first = [0i64; MAX_PLACES];
     let mut second = [0i64; MAX_PLACES];
-    let own = keys.spread(&mut first);
-    let cells = column.spread(&mut second);
+    let keys_seen = keys.seen();
+    let column_seen = column.seen();
+    let own = keys_seen.spread(&mut first);
+    let cells = column_seen.spread(&mut second);
     add_views(folds, numbers, &own, &cells, places);
 }
 
 /// The same of outcomes at each place.
-fn add_views<N: Numbers>(
-    folds: &mut [Accumulator],
+fn add_views<C: Condenser, N: Numbers>(
+    folds: &mut [C],
     numbers: &N,
     keys: &View<'_>,
     column: &View<'_>,
@@ -211,11 +187,9 @@ fn add_views<N: Numbers>(
     requires folds { length folds.old ≡ length (N.numbers numbers.now) }
     requires keys { length keys.now ≡ length column.now }
     requires places { length places.now ≡ length column.now }
-    requires room { HaveAtMost (2 ^ 24 - length column.now) folds.old }
-    requires few { length column.now ≤ 4096 }
-    ensures stands { EachTakesIn folds.old folds.new (told_by_keys (N.numbers numbers.now) places.now keys.now column.now) }
-    ensures room { (n : ℕ) → HaveAtMost n folds.old → HaveAtMost (n + length column.now) folds.new }
-    ensures op { (op : Aggregate) → AreOf op folds.old → AreOf op folds.new }
+    requires room { All (λ c. C.counted c + length column.now ≤ 2 ^ 24) folds.old }
+    ensures stands { TakeCells C.stands folds.old folds.new (N.numbers numbers.now) places.now keys.now column.now }
+    ensures room { EachCountsMore C.counted (length column.now) folds.old folds.new }
     ensures length { length folds.new ≡ length folds.old }
 {
     match keys.form {
@@ -224,12 +198,12 @@ fn add_views<N: Numbers>(
                 let values = Each {
                     values: column.values,
                 };
-                tell_values(folds, numbers, keys.values, &values, column.len);
+                tell_values(folds, numbers, keys.values, &values, places);
             }
             Form::Same(o) => match o {
                 Outcome::Value(value) => {
                     let values = Same { value };
-                    tell_values(folds, numbers, keys.values, &values, column.len);
+                    tell_values(folds, numbers, keys.values, &values, places);
                 }
                 Outcome::Fault(_) => tell_cells(folds, numbers, keys, column, places),
             },

@@ -3,6 +3,7 @@
 #![tactic(auto)]
 
 mod accumulator;
+mod by_keys;
 mod choice;
 mod column;
 mod condenser;
@@ -25,11 +26,13 @@ mod seen;
 mod slots;
 mod summaries;
 mod summary;
+mod tallied;
 mod trial;
 mod view;
 mod windows;
 
 pub use accumulator::Accumulator;
+pub use by_keys::condense_keyed;
 pub use column::{Column, MAX_PLACES};
 pub use condenser::{Condensed, Condenser, condense, finish_both, tell_each};
 pub use folds::{

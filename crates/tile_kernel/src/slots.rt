@@ -75,13 +75,6 @@ impl Slots {
         Ok(slots)
     }
 
-    /// How many numbers there are.
-    pub fn len(&self) -> usize
-        ensures { result ≡ length self.now }
-    {
-        self.numbers.len()
-    }
-
     /// Puts the values of a column behind the numbers, those that lie in the range, each once.
     fn add_values(&mut self, column: &View<'_>) -> Result<(), AllocError>
         requires { length self.old < 2 ^ 16 }
@@ -175,6 +168,10 @@ fn above(low: i64, z: i64, span: usize) -> Option<usize>
 
 impl Numbers for Slots {
     ghost numbers = { λ s. s };
+
+    fn len(&self) -> usize {
+        self.numbers.len()
+    }
 
     fn place_of(&self, z: i64) -> Option<usize> {
         match above(self.low, z, self.table.len()) {

@@ -1,5 +1,5 @@
 -- Where each place has a value, or all places have one, the values are those of the columns.
-use Rattle.std.proofs.Common.{refl, ◌≡◌, ◌∙◌, ◌<◌, ◌≤◌, ◌+◌, length, sym, ap, arith, rules, SFits, w64, to_z, of_z}
+use Rattle.std.proofs.Common.{refl, ◌≡◌, ◌∙◌, length, sym, ap, arith, rules, SFits, w64}
 use Rattle.std.proofs.lemmas.Int.{to_z-of_z}
 use Rattle.wcps_mean.specs.declared.cell.Outcome.TheVariants.{Value}
 use Rattle.tile_kernel.proofs.Places.{places_are, value_there, same_there}
@@ -8,26 +8,14 @@ use Rattle.tile_kernel.proofs.keyed.add_views.Goals as goal
 pub returns-in-Values-form-clause-stands : goal.returns-in-Values-form-clause-stands
 returns-in-Values-form-clause-stands g c =
     let n : c.column.inside.len ≡ length c.args.column.now = places_are _ _ _ _ _ c.column.view_is c.column.invariant in
-    c.tell_values.ensures.stands c.args.places.now c.args.keys.now c.args.column.now (c.requires.places ∙ sym n)
-    (c.requires.keys ∙ sym n, λ k lt. value_there _ _ _ _ _ _ k c.in-Values.is c.keys.view_is c.keys.invariant refl (omega (arith, lt, n, c.requires.keys)))
-    (sym n, λ k lt. value_there _ _ _ _ _ _ k c.in-Values-form.is c.column.view_is c.column.invariant refl (omega (arith, lt, n)))
-
-pub returns-in-Values-form-clause-room : goal.returns-in-Values-form-clause-room
-returns-in-Values-form-clause-room g c = λ m h k d l.
-    let n : c.column.inside.len ≡ length c.args.column.now = places_are _ _ _ _ _ c.column.view_is c.column.invariant in
-    let r = c.tell_values.ensures.room m h k d l in
-    omega (arith, n, r)
+    c.tell_values.ensures.stands c.args.keys.now c.args.column.now
+    (c.requires.keys ∙ sym c.requires.places, λ k lt. value_there _ _ _ _ _ _ k c.in-Values.is c.keys.view_is c.keys.invariant refl (omega (arith, lt, c.requires.places, c.requires.keys)))
+    (sym c.requires.places, λ k lt. value_there _ _ _ _ _ _ k c.in-Values-form.is c.column.view_is c.column.invariant refl (omega (arith, lt, n, c.requires.places)))
 
 pub returns-in-Value-clause-stands : goal.returns-in-Value-clause-stands
 returns-in-Value-clause-stands g c =
     let n : c.column.inside.len ≡ length c.args.column.now = places_are _ _ _ _ _ c.column.view_is c.column.invariant in
     let fits : SFits w64 c.in-Value.value = search rules in
-    c.tell_values-in-Value.ensures.stands c.args.places.now c.args.keys.now c.args.column.now (c.requires.places ∙ sym n)
-    (c.requires.keys ∙ sym n, λ k lt. value_there _ _ _ _ _ _ k c.in-Values.is c.keys.view_is c.keys.invariant refl (omega (arith, lt, n, c.requires.keys)))
-    (sym n, λ k lt. same_there _ _ _ _ _ _ k c.in-Same.is c.column.view_is c.column.invariant (omega (arith, lt, n)) ∙ c.in-Value.is ∙ ap Value (sym (to_z-of_z w64 c.in-Value.value fits)))
-
-pub returns-in-Value-clause-room : goal.returns-in-Value-clause-room
-returns-in-Value-clause-room g c = λ m h k d l.
-    let n : c.column.inside.len ≡ length c.args.column.now = places_are _ _ _ _ _ c.column.view_is c.column.invariant in
-    let r = c.tell_values-in-Value.ensures.room m h k d l in
-    omega (arith, n, r)
+    c.tell_values-in-Value.ensures.stands c.args.keys.now c.args.column.now
+    (c.requires.keys ∙ sym c.requires.places, λ k lt. value_there _ _ _ _ _ _ k c.in-Values.is c.keys.view_is c.keys.invariant refl (omega (arith, lt, c.requires.places, c.requires.keys)))
+    (sym c.requires.places, λ k lt. same_there _ _ _ _ _ _ k c.in-Same.is c.column.view_is c.column.invariant (omega (arith, lt, n, c.requires.places)) ∙ c.in-Value.is ∙ ap Value (sym (to_z-of_z w64 c.in-Value.value fits)))
