@@ -7,6 +7,7 @@ use Rattle.tile_columns.specs.declared.bodies.Bound.{Bound}
 use Rattle.tile_columns.specs.Frames.{extended}
 use Rattle.tile_columns.specs.Binding.{coordinate_or_lo, at_positions, with_coordinate}
 use Rattle.tile_columns.specs.Evaluating.{HasPlaceUnder}
+use Rattle.tile_columns.specs.declared.source.Tiles.{Ghosts}
 use Rattle.tile_columns.specs.Sources.{SourceState}
 use Rattle.tile_columns.specs.Meaning.{chosen, meaning, IsColumnOf, Fetches}
 
@@ -26,5 +27,5 @@ IsColumnUnder s b e envs column =
     IsColumnOf s b.ground.now (body_view e) (extended envs (map (coordinate_or_lo b.interval.lo b.interval.hi) b.positions.now)) column
 
 -- no more tiles are fetched than the body asks for
-abbrev pub FetchesBehind : {A E K : Type 0} → Result A E → Bound → Body → List (List ℤ) → SourceState K → SourceState K → Type 0
-FetchesBehind result b e envs old new = Fetches result b.ground.now (body_view e) envs old new
+abbrev pub FetchesBehind : {S A E : Type 0} → Result A E → Bound → Body → List (List ℤ) → Ghosts S → S → S → Type 0
+FetchesBehind result b e envs t old new = Fetches result b.ground.now (body_view e) envs t old new

@@ -5,7 +5,8 @@ use Rattle.plan_ir.specs.Run.{numbers_at}
 use Rattle.plan_ir.specs.Units.{tile_number, domain_of}
 use Rattle.tile_columns.specs.declared.ground.Ground.{Ground}
 use Rattle.tile_columns.specs.declared.ground.BodyRead.{BodyRead}
-use Rattle.tile_columns.specs.Sources.{SourceState, FetchesOnce}
+use Rattle.tile_columns.specs.declared.source.Tiles.{Ghosts}
+use Rattle.tile_columns.specs.Calling.{FetchesOnce}
 use Rattle.tile_columns.specs.Meaning.{chosen}
 
 -- a read as a tree
@@ -13,5 +14,5 @@ abbrev pub read_view : BodyRead → Tree
 read_view r = read r.coverage r.field r.indexes.now
 
 -- each tile that a read needs at the places of a frame is fetched once at most
-abbrev pub FetchesTilesOf : {K : Type 0} → Ground → BodyRead → List (List ℤ) → SourceState K → SourceState K → Type 0
-FetchesTilesOf g r envs old new = FetchesOnce (map (λ e. tile_number (domain_of (chosen old g r.coverage)) (numbers_at e r.indexes.now)) envs) old new
+abbrev pub FetchesTilesOf : {S : Type 0} → Ground → BodyRead → List (List ℤ) → Ghosts S → S → S → Type 0
+FetchesTilesOf g r envs t old new = FetchesOnce (map (λ e. tile_number (domain_of (chosen (t.state old) g r.coverage)) (numbers_at e r.indexes.now)) envs) t old new

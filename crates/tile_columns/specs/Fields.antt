@@ -16,6 +16,7 @@ use Rattle.tile_kernel.specs.Columns.{outcome_at}
 use Rattle.tile_columns.specs.Binding.{at_positions}
 use Rattle.tile_columns.specs.declared.ground.Ground.{Ground}
 use Rattle.tile_columns.specs.Evaluating.{AreWithin, fetches}
+use Rattle.tile_columns.specs.declared.source.Tiles.{Ghosts}
 use Rattle.tile_columns.specs.Sources.{SourceState, FetchesAtMost}
 use Rattle.tile_columns.specs.Meaning.{chosen}
 
@@ -60,7 +61,7 @@ AreColumnsOf s g binds fields envs columns =
     s.intact → columns ≡ columns_behind (cells_of s.cells g.coverages.now) g.registers.now (map bind_view binds) (map field_view fields) envs
 
 -- a call that was done fetched no more tiles than the positions of binds and the bodies of fields ask for
-abbrev pub FetchAll : {A E K : Type 0} → Result A E → Ground → List Bind → List Field → List (List ℤ) → SourceState K → SourceState K → Type 0
-FetchAll result g binds fields envs old new =
+abbrev pub FetchAll : {S A E : Type 0} → Result A E → Ground → List Bind → List Field → List (List ℤ) → Ghosts S → S → S → Type 0
+FetchAll result g binds fields envs t old new =
     OnOk result ((n : ℕ) → All (λ (e : List ℤ). n ≤ length e) envs
-    → FetchesAtMost (sum_by (fetches (chosen old g) n envs) (bodies_behind (map bind_view binds) (map field_view fields))) old new)
+    → FetchesAtMost (sum_by (fetches (chosen (t.state old) g) n envs) (bodies_behind (map bind_view binds) (map field_view fields))) (t.state old) (t.state new))

@@ -19,18 +19,19 @@ use Rattle.tile_columns.specs.declared.bodies.Zoned.{Zoned}
 use Rattle.tile_columns.specs.declared.shapes.Shape.{Shape}
 use Rattle.tile_columns.specs.declared.shapes.ShapeSide.{ShapeSide}
 use Rattle.tile_columns.specs.Condensing.{told_of, under_vars, told_ranked}
+use Rattle.tile_columns.specs.declared.source.Tiles.{Ghosts}
 use Rattle.tile_columns.specs.Sources.{SourceState, FetchesAtMost}
-use Rattle.tile_columns.specs.Meaning.{meaning, HasPlaceOver, IsColumnOf, Fetches}
+use Rattle.tile_columns.specs.Meaning.{IsGroundOf, meaning, HasPlaceOver, IsColumnOf, Fetches}
 use Rattle.tile_columns.specs.Zones.{side, key_of, own_of, other_of, inner, beside}
 
 -- a fold has its place over a source under the variables of a frame
 pub record FoldHasPlace {K : Type 0} (s : SourceState K) (g : Ground) (f : Fold) (envs : List (List ℤ)) : Type 0 where
-  pub signatures : g.signatures.now ≡ s.coverages
+  pub signatures : IsGroundOf s g
   pub place : HasPlaceOver s g (fold_view f) envs
 
 -- its condition and its body have theirs, where the last variables are a point of its box
 pub record BodiesHavePlace {K : Type 0} (s : SourceState K) (g : Ground) (f : Fold) (envs : List (List ℤ)) : Type 0 where
-  pub signatures : g.signatures.now ≡ s.coverages
+  pub signatures : IsGroundOf s g
   pub condition : HasPlaceOver s g (condition_view f.condition) envs
   pub body : HasPlaceOver s g (body_view f.body) envs
 
@@ -86,19 +87,19 @@ abbrev pub GrowBy : Fold → Part → List (List ℤ) → List Accumulator → L
 GrowBy f p envs old new = (n : ℕ) → AreOfFold f envs n old → AreOfFold f envs (n + length (points p.area)) new
 
 -- at most so many tiles are fetched as a fold's condition and body ask for at so many points
-abbrev pub FetchesPoints : {K : Type 0} → Fold → ℕ → SourceState K → SourceState K → Type 0
-FetchesPoints f n old new =
-    FetchesAtMost (bound_times n (condition_view f.condition) + bound_times n (body_view f.body)) old new
+abbrev pub FetchesPoints : {S : Type 0} → Fold → ℕ → Ghosts S → S → S → Type 0
+FetchesPoints f n t old new =
+    FetchesAtMost (bound_times n (condition_view f.condition) + bound_times n (body_view f.body)) (t.state old) (t.state new)
 
 -- at a point of each place of a frame; at all points of a part at each place; at all points of the box
-abbrev pub FetchesPoint : {K : Type 0} → Fold → List (List ℤ) → SourceState K → SourceState K → Type 0
-FetchesPoint f envs old new = FetchesPoints f (length envs) old new
+abbrev pub FetchesPoint : {S : Type 0} → Fold → List (List ℤ) → Ghosts S → S → S → Type 0
+FetchesPoint f envs t old new = FetchesPoints f (length envs) t old new
 
-abbrev pub FetchesPart : {K : Type 0} → Fold → Part → Around → SourceState K → SourceState K → Type 0
-FetchesPart f p a old new = FetchesPoints f (length a.frame.now * count p.area) old new
+abbrev pub FetchesPart : {S : Type 0} → Fold → Part → Around → Ghosts S → S → S → Type 0
+FetchesPart f p a t old new = FetchesPoints f (length a.frame.now * count p.area) t old new
 
-abbrev pub FetchesFold : {K : Type 0} → Fold → List (List ℤ) → SourceState K → SourceState K → Type 0
-FetchesFold f envs old new = FetchesPoints f (length envs * count f.domain) old new
+abbrev pub FetchesFold : {S : Type 0} → Fold → List (List ℤ) → Ghosts S → S → S → Type 0
+FetchesFold f envs t old new = FetchesPoints f (length envs * count f.domain) t old new
 
 -- a column has what a side of the equation of a fold of zones gives at the places of a frame, or its other body
 abbrev pub IsColumnOfSide : {K : Type 0} → SourceState K → Zoning → Bool → Fold → List (List ℤ) → List Outcome → Type 0
@@ -108,17 +109,17 @@ abbrev pub IsColumnOfOther : {K : Type 0} → SourceState K → Zoning → Fold 
 IsColumnOfOther s z f envs column = IsColumnOf s z.ground.now (other_of f z.zones) envs column
 
 -- and no more tiles are fetched than these ask for there
-abbrev pub FetchesSide : {A E K : Type 0} → Result A E → Zoning → Bool → Fold → List (List ℤ) → SourceState K → SourceState K → Type 0
-FetchesSide result z left f envs old new = Fetches result z.ground.now (side z.zones left f) envs old new
+abbrev pub FetchesSide : {S A E : Type 0} → Result A E → Zoning → Bool → Fold → List (List ℤ) → Ghosts S → S → S → Type 0
+FetchesSide result z left f envs t old new = Fetches result z.ground.now (side z.zones left f) envs t old new
 
-abbrev pub FetchesOther : {A E K : Type 0} → Result A E → Zoning → Fold → List (List ℤ) → SourceState K → SourceState K → Type 0
-FetchesOther result z f envs old new = Fetches result z.ground.now (other_of f z.zones) envs old new
+abbrev pub FetchesOther : {S A E : Type 0} → Result A E → Zoning → Fold → List (List ℤ) → Ghosts S → S → S → Type 0
+FetchesOther result z f envs t old new = Fetches result z.ground.now (other_of f z.zones) envs t old new
 
-abbrev pub FetchesInner : {A E K : Type 0} → Result A E → Ground → ShapeSide → Body → List (List ℤ) → SourceState K → SourceState K → Type 0
-FetchesInner result g at b envs old new = Fetches result g (inner at.shape at.left b) envs old new
+abbrev pub FetchesInner : {S A E : Type 0} → Result A E → Ground → ShapeSide → Body → List (List ℤ) → Ghosts S → S → S → Type 0
+FetchesInner result g at b envs t old new = Fetches result g (inner at.shape at.left b) envs t old new
 
-abbrev pub FetchesBeside : {A E K : Type 0} → Result A E → Ground → Shape → Body → List (List ℤ) → SourceState K → SourceState K → Type 0
-FetchesBeside result g shape b envs old new = Fetches result g (beside shape b) envs old new
+abbrev pub FetchesBeside : {S A E : Type 0} → Result A E → Ground → Shape → Body → List (List ℤ) → Ghosts S → S → S → Type 0
+FetchesBeside result g shape b envs t old new = Fetches result g (beside shape b) envs t old new
 
 -- keys are those of the places of a frame
 abbrev pub AreKeysOf : {K : Type 0} → SourceState K → Zoned → Fold → Type 0
@@ -133,11 +134,11 @@ TakeInZone s z f p old new =
     AreKeysOf s z f → s.intact → EachTakesIn old new (λ k. added_by s z.zoning.ground.now f (points p.area) (slice_index_or z.frame.now k []))
 
 -- at most so many tiles are fetched as the bodies of a fold of zones ask for at so many points of its box
-abbrev pub FetchesOwn : {K : Type 0} → Zoned → Fold → ℕ → SourceState K → SourceState K → Type 0
-FetchesOwn z f n old new = FetchesAtMost (bound_times n (own_of f z.zoning.zones) + bound_times n (other_of f z.zoning.zones)) old new
+abbrev pub FetchesOwn : {S : Type 0} → Zoned → Fold → ℕ → Ghosts S → S → S → Type 0
+FetchesOwn z f n t old new = FetchesAtMost (bound_times n (own_of f z.zoning.zones) + bound_times n (other_of f z.zoning.zones)) (t.state old) (t.state new)
 
-abbrev pub FetchesZones : {K : Type 0} → Zoned → Fold → SourceState K → SourceState K → Type 0
-FetchesZones z f old new = FetchesOwn z f (count f.domain) old new
+abbrev pub FetchesZones : {S : Type 0} → Zoned → Fold → Ghosts S → S → S → Type 0
+FetchesZones z f t old new = FetchesOwn z f (count f.domain) t old new
 
-abbrev pub FetchesZonePart : {K : Type 0} → Zoned → Fold → Part → SourceState K → SourceState K → Type 0
-FetchesZonePart z f p old new = FetchesOwn z f (count p.area) old new
+abbrev pub FetchesZonePart : {S : Type 0} → Zoned → Fold → Part → Ghosts S → S → S → Type 0
+FetchesZonePart z f p t old new = FetchesOwn z f (count p.area) t old new

@@ -1,5 +1,6 @@
 pub mod Frames
 pub mod Sources
+pub mod Calling
 pub mod Locating
 pub mod Readings
 pub mod Spots

@@ -9,7 +9,12 @@ use Rattle.plan_ir.specs.Plans.{signature_of}
 use Rattle.plan_ir.specs.Planned.{cells_of}
 use Rattle.tile_columns.specs.declared.ground.Ground.{Ground}
 use Rattle.tile_columns.specs.Evaluating.{HasPlace, fetches}
+use Rattle.tile_columns.specs.declared.source.Tiles.{Ghosts}
 use Rattle.tile_columns.specs.Sources.{SourceState, FetchesAtMost}
+
+-- a ground is of a source: it has the signatures of its coverages
+abbrev pub IsGroundOf : {K : Type 0} → SourceState K → Ground → Type 0
+IsGroundOf s g = g.signatures.now ≡ s.coverages
 
 -- the signatures of the coverages that a combination chooses, by their places there
 abbrev pub chosen : {K : Type 0} → SourceState K → Ground → ℕ → Option Signature
@@ -28,6 +33,6 @@ abbrev pub IsColumnOf : {K : Type 0} → SourceState K → Ground → Tree → L
 IsColumnOf s g body envs column = s.intact → column ≡ map (meaning s g body) envs
 
 -- a call that was done fetched no more tiles than a body asks for at the places of a frame, as `fetches` counts them
-abbrev pub Fetches : {A E K : Type 0} → Result A E → Ground → Tree → List (List ℤ) → SourceState K → SourceState K → Type 0
-Fetches result g body envs old new =
-    OnOk result ((n : ℕ) → All (λ (e : List ℤ). n ≤ length e) envs → FetchesAtMost (fetches (chosen old g) n envs body) old new)
+abbrev pub Fetches : {S A E : Type 0} → Result A E → Ground → Tree → List (List ℤ) → Ghosts S → S → S → Type 0
+Fetches result g body envs t old new =
+    OnOk result ((n : ℕ) → All (λ (e : List ℤ). n ≤ length e) envs → FetchesAtMost (fetches (chosen (t.state old) g) n envs body) (t.state old) (t.state new))

@@ -6,7 +6,6 @@ use Rattle.arr_core.specs.Domains.{points}
 use Rattle.arr_core.specs.Tiles.{tile_boxes}
 use Rattle.wcps_mean.specs.declared.cells.CellError.{CellError}
 use Rattle.wcps_mean.specs.Reports.{Reports}
-use Rattle.plan_ir.specs.Units.{distinct}
 
 -- a count in a `u64`, which stays at its last value, after one more
 abbrev pub OneMore : ℕ → ℕ → Type 0
@@ -55,10 +54,6 @@ Tells spelled result old new = Reports result (spelled old.kept) old.failures ne
 -- so many tiles were fetched at most
 abbrev pub FetchesAtMost : {K : Type 0} → ℕ → SourceState K → SourceState K → Type 0
 FetchesAtMost n old new = new.fetched ≤ old.fetched + n
-
--- tiles with these numbers were fetched, each once at most
-abbrev pub FetchesOnce : {K : Type 0} → List ℕ → SourceState K → SourceState K → Type 0
-FetchesOnce numbers old new = FetchesAtMost (length (distinct numbers)) old new
 
 -- the box of a tile of a source
 abbrev pub box_in : {K : Type 0} → SourceState K → ℕ → ℕ → List Axis

@@ -4,8 +4,8 @@ ghost use Rattle.std.specs.Prelude.{◌≡◌, ◌+◌, ◌-◌, ◌<◌, ◌≤
 ghost use Rattle.arr_core.specs.Domains.{points};
 ghost use Rattle.plan_ir.specs.Bodies.{body_view, fold_view};
 ghost use Rattle.tile_kernel.specs.Standing.{AreOf};
-ghost use Rattle.tile_columns.specs.Sources.{OnlyReads, Tells};
-ghost use Rattle.tile_columns.specs.Meaning.{HasPlaceOver, IsColumnOf, Fetches};
+ghost use Rattle.tile_columns.specs.Calling.{Reads};
+ghost use Rattle.tile_columns.specs.Meaning.{IsGroundOf, HasPlaceOver, IsColumnOf, Fetches};
 ghost use Rattle.tile_columns.specs.Binds.{HasPlaceBehind, IsColumnBehind, IsColumnUnder, FetchesBehind};
 ghost use Rattle.tile_columns.specs.TileOrder.{IsPart};
 ghost use Rattle.tile_columns.specs.Zones.{branch, inner, beside, side, other_of, AreZonesOf};
@@ -44,14 +44,13 @@ pub fn evaluate<S: Tiles>(
     scratch: &mut Scratch,
     out: &mut Column,
 ) -> Result<(), CellError>
-    requires signatures { ground.now.signatures.now ≡ (S.state source.old).coverages }
+    requires signatures { IsGroundOf (S.state source.old) ground.now }
     requires place { HasPlaceOver (S.state source.old) ground.now (body_view body.now) frame.old }
     ensures value { OnOk result (IsColumnOf (S.state source.old) ground.now (body_view body.now) frame.old out.new) }
     ensures places { OnOk result (length out.new ≡ length frame.old) }
     ensures frame { OnOk result (frame.new ≡ frame.old) }
-    ensures reads { OnlyReads (S.state source.old) (S.state source.new) }
-    ensures reports { Tells S.spelled result (S.state source.old) (S.state source.new) }
-    ensures fetched { Fetches result ground.now (body_view body.now) frame.old (S.state source.old) (S.state source.new) }
+    ensures reads { Reads S.Tiles result source.old source.new }
+    ensures fetched { Fetches result ground.now (body_view body.now) frame.old S.Tiles source.old source.new }
 {
     let places = frame.places();
     match body {
@@ -130,14 +129,13 @@ fn column_of<S: Tiles>(
     frame: &mut Frame,
     scratch: &mut Scratch,
 ) -> Result<Column, CellError>
-    requires signatures { ground.now.signatures.now ≡ (S.state source.old).coverages }
+    requires signatures { IsGroundOf (S.state source.old) ground.now }
     requires place { HasPlaceOver (S.state source.old) ground.now (body_view body.now) frame.old }
     ensures value { IfOk result (IsColumnOf (S.state source.old) ground.now (body_view body.now) frame.old) }
     ensures places { IfOk result (λ c. length c ≡ length frame.old) }
     ensures frame { OnOk result (frame.new ≡ frame.old) }
-    ensures reads { OnlyReads (S.state source.old) (S.state source.new) }
-    ensures reports { Tells S.spelled result (S.state source.old) (S.state source.new) }
-    ensures fetched { Fetches result ground.now (body_view body.now) frame.old (S.state source.old) (S.state source.new) }
+    ensures reads { Reads S.Tiles result source.old source.new }
+    ensures fetched { Fetches result ground.now (body_view body.now) frame.old S.Tiles source.old source.new }
 {
     let mut out = scratch.take_column()?;
     evaluate(source, ground, body, frame, scratch, &mut out)?;
@@ -163,15 +161,14 @@ fn bind<S: Tiles>(
     scratch: &mut Scratch,
     out: &mut Column,
 ) -> Result<(), CellError>
-    requires signatures { bound.now.ground.now.signatures.now ≡ (S.state source.old).coverages }
+    requires signatures { IsGroundOf (S.state source.old) bound.now.ground.now }
     requires positions { length bound.now.positions.now ≡ length frame.old }
     requires place { HasPlaceBehind (S.state source.old) bound.now body.now frame.old }
     ensures value { OnOk result (IsColumnBehind (S.state source.old) bound.now body.now frame.old out.new) }
     ensures places { OnOk result (length out.new ≡ length frame.old) }
     ensures frame { OnOk result (frame.new ≡ frame.old) }
-    ensures reads { OnlyReads (S.state source.old) (S.state source.new) }
-    ensures reports { Tells S.spelled result (S.state source.old) (S.state source.new) }
-    ensures fetched { FetchesBehind result bound.now body.now frame.old (S.state source.old) (S.state source.new) }
+    ensures reads { Reads S.Tiles result source.old source.new }
+    ensures fetched { FetchesBehind result bound.now body.now frame.old S.Tiles source.old source.new }
 {
     let interval = bound.interval;
     if interval.hi < interval.lo {
@@ -195,16 +192,15 @@ fn at_coordinates<S: Tiles>(
     scratch: &mut Scratch,
     out: &mut Column,
 ) -> Result<(), CellError>
-    requires signatures { bound.now.ground.now.signatures.now ≡ (S.state source.old).coverages }
+    requires signatures { IsGroundOf (S.state source.old) bound.now.ground.now }
     requires positions { length bound.now.positions.now ≡ length frame.old }
     requires ordered { bound.now.interval.lo ≤ℤ bound.now.interval.hi }
     requires place { HasPlaceBehind (S.state source.old) bound.now body.now frame.old }
     ensures value { OnOk result (IsColumnUnder (S.state source.old) bound.now body.now frame.old out.new) }
     ensures places { OnOk result (length out.new ≡ length frame.old) }
     ensures frame { OnOk result (frame.new ≡ frame.old) }
-    ensures reads { OnlyReads (S.state source.old) (S.state source.new) }
-    ensures reports { Tells S.spelled result (S.state source.old) (S.state source.new) }
-    ensures fetched { FetchesBehind result bound.now body.now frame.old (S.state source.old) (S.state source.new) }
+    ensures reads { Reads S.Tiles result source.old source.new }
+    ensures fetched { FetchesBehind result bound.now body.now frame.old S.Tiles source.old source.new }
 {
     let depth = frame.depth();
     let numbers = coordinates(scratch.alloc(), bound.positions, bound.interval)?;
@@ -225,14 +221,13 @@ fn condense<S: Tiles>(
     scratch: &mut Scratch,
     out: &mut Column,
 ) -> Result<(), CellError>
-    requires signatures { ground.now.signatures.now ≡ (S.state source.old).coverages }
+    requires signatures { IsGroundOf (S.state source.old) ground.now }
     requires place { HasPlaceOver (S.state source.old) ground.now (fold_view fold.now) frame.old }
     ensures value { OnOk result (IsColumnOf (S.state source.old) ground.now (fold_view fold.now) frame.old out.new) }
     ensures places { OnOk result (length out.new ≡ length frame.old) }
     ensures frame { OnOk result (frame.new ≡ frame.old) }
-    ensures reads { OnlyReads (S.state source.old) (S.state source.new) }
-    ensures reports { Tells S.spelled result (S.state source.old) (S.state source.new) }
-    ensures fetched { Fetches result ground.now (fold_view fold.now) frame.old (S.state source.old) (S.state source.new) }
+    ensures reads { Reads S.Tiles result source.old source.new }
+    ensures fetched { Fetches result ground.now (fold_view fold.now) frame.old S.Tiles source.old source.new }
 {
     scratch.keep_runs(false);
     let found = window_of(scratch.alloc(), ground, fold, frame)?;
@@ -263,9 +258,8 @@ fn tell_all<S: Tiles>(
     ensures told { OnOk result (TakeInFold (S.state source.old) ground.now fold.now frame.old folds.old folds.new) }
     ensures op { OnOk result (AreOf fold.now.op folds.new) }
     ensures frame { OnOk result (frame.new ≡ frame.old) }
-    ensures reads { OnlyReads (S.state source.old) (S.state source.new) }
-    ensures reports { Tells S.spelled result (S.state source.old) (S.state source.new) }
-    ensures fetched { OnOk result (FetchesFold fold.now frame.old (S.state source.old) (S.state source.new)) }
+    ensures reads { Reads S.Tiles result source.old source.new }
+    ensures fetched { OnOk result (FetchesFold fold.now frame.old S.Tiles source.old source.new) }
 {
     match zones_of(fold, frame) {
         Some(zones) => {
@@ -307,9 +301,8 @@ fn tell_zones<S: Tiles>(
     ensures told { OnOk result (TakeInFold (S.state source.old) on.now.ground.now fold.now frame.old folds.old folds.new) }
     ensures op { OnOk result (AreOf fold.now.op folds.new) }
     ensures frame { OnOk result (frame.new ≡ frame.old) }
-    ensures reads { OnlyReads (S.state source.old) (S.state source.new) }
-    ensures reports { Tells S.spelled result (S.state source.old) (S.state source.new) }
-    ensures fetched { OnOk result (FetchesFold fold.now frame.old (S.state source.old) (S.state source.new)) }
+    ensures reads { Reads S.Tiles result source.old source.new }
+    ensures fetched { OnOk result (FetchesFold fold.now frame.old S.Tiles source.old source.new) }
 {
     let column = side_of(source, on, fold, on.zones.key_first, frame, scratch)?;
     let keys = keys_of(scratch.alloc(), column)?;
@@ -347,9 +340,8 @@ fn tell_zone_tiles<S: Tiles>(
     requires folds { AreOfFold fold.now zoned.now.frame.now 0 folds.old }
     ensures told { OnOk result (TakeInZones (S.state source.old) zoned.now fold.now folds.old folds.new) }
     ensures op { OnOk result (AreOf fold.now.op folds.new) }
-    ensures reads { OnlyReads (S.state source.old) (S.state source.new) }
-    ensures reports { Tells S.spelled result (S.state source.old) (S.state source.new) }
-    ensures fetched { OnOk result (FetchesZones zoned.now fold.now (S.state source.old) (S.state source.new)) }
+    ensures reads { Reads S.Tiles result source.old source.new }
+    ensures fetched { OnOk result (FetchesZones zoned.now fold.now S.Tiles source.old source.new) }
 {
     let area = &fold.domain;
     let _axes = area.axes();
@@ -378,9 +370,8 @@ fn tell_zone_part<S: Tiles>(
     requires folds { AreOfFold fold.now zoned.now.frame.now (2 ^ 24 - length (points part.now.area)) folds.old }
     ensures told { OnOk result (TakeInZone (S.state source.old) zoned.now fold.now part.now folds.old folds.new) }
     ensures folds { OnOk result (GrowBy fold.now part.now zoned.now.frame.now folds.old folds.new) }
-    ensures reads { OnlyReads (S.state source.old) (S.state source.new) }
-    ensures reports { Tells S.spelled result (S.state source.old) (S.state source.new) }
-    ensures fetched { OnOk result (FetchesZonePart zoned.now fold.now part.now (S.state source.old) (S.state source.new)) }
+    ensures reads { Reads S.Tiles result source.old source.new }
+    ensures fetched { OnOk result (FetchesZonePart zoned.now fold.now part.now S.Tiles source.old source.new) }
 {
     let on = &zoned.zoning;
     let key_first = on.zones.key_first;
@@ -410,14 +401,13 @@ fn other_of<S: Tiles>(
     frame: &mut Frame,
     scratch: &mut Scratch,
 ) -> Result<Column, CellError>
-    requires signatures { on.now.ground.now.signatures.now ≡ (S.state source.old).coverages }
+    requires signatures { IsGroundOf (S.state source.old) on.now.ground.now }
     requires place { HasPlaceOver (S.state source.old) on.now.ground.now (other_of fold.now on.now.zones) frame.old }
     ensures value { IfOk result (IsColumnOfOther (S.state source.old) on.now fold.now frame.old) }
     ensures places { IfOk result (λ c. length c ≡ length frame.old) }
     ensures frame { OnOk result (frame.new ≡ frame.old) }
-    ensures reads { OnlyReads (S.state source.old) (S.state source.new) }
-    ensures reports { Tells S.spelled result (S.state source.old) (S.state source.new) }
-    ensures fetched { FetchesOther result on.now fold.now frame.old (S.state source.old) (S.state source.new) }
+    ensures reads { Reads S.Tiles result source.old source.new }
+    ensures fetched { FetchesOther result on.now fold.now frame.old S.Tiles source.old source.new }
 {
     match on.zones.role {
         Role::Condition => column_of(source, on.ground, &fold.body, frame, scratch),
@@ -436,14 +426,13 @@ fn beside<S: Tiles>(
     frame: &mut Frame,
     scratch: &mut Scratch,
 ) -> Result<Column, CellError>
-    requires signatures { ground.now.signatures.now ≡ (S.state source.old).coverages }
+    requires signatures { IsGroundOf (S.state source.old) ground.now }
     requires place { HasPlaceOver (S.state source.old) ground.now (beside shape body.now) frame.old }
     ensures value { IfOk result (IsColumnOf (S.state source.old) ground.now (beside shape body.now) frame.old) }
     ensures places { IfOk result (λ c. length c ≡ length frame.old) }
     ensures frame { OnOk result (frame.new ≡ frame.old) }
-    ensures reads { OnlyReads (S.state source.old) (S.state source.new) }
-    ensures reports { Tells S.spelled result (S.state source.old) (S.state source.new) }
-    ensures fetched { FetchesBeside result ground.now shape body.now frame.old (S.state source.old) (S.state source.new) }
+    ensures reads { Reads S.Tiles result source.old source.new }
+    ensures fetched { FetchesBeside result ground.now shape body.now frame.old S.Tiles source.old source.new }
 {
     match body {
         Body::Op2(_, l, r) => match shape {
@@ -466,14 +455,13 @@ fn side_of<S: Tiles>(
     frame: &mut Frame,
     scratch: &mut Scratch,
 ) -> Result<Column, CellError>
-    requires signatures { on.now.ground.now.signatures.now ≡ (S.state source.old).coverages }
+    requires signatures { IsGroundOf (S.state source.old) on.now.ground.now }
     requires place { HasPlaceOver (S.state source.old) on.now.ground.now (side on.now.zones left fold.now) frame.old }
     ensures value { IfOk result (IsColumnOfSide (S.state source.old) on.now left fold.now frame.old) }
     ensures places { IfOk result (λ c. length c ≡ length frame.old) }
     ensures frame { OnOk result (frame.new ≡ frame.old) }
-    ensures reads { OnlyReads (S.state source.old) (S.state source.new) }
-    ensures reports { Tells S.spelled result (S.state source.old) (S.state source.new) }
-    ensures fetched { FetchesSide result on.now left fold.now frame.old (S.state source.old) (S.state source.new) }
+    ensures reads { Reads S.Tiles result source.old source.new }
+    ensures fetched { FetchesSide result on.now left fold.now frame.old S.Tiles source.old source.new }
 {
     match on.zones.role {
         Role::Condition => match &fold.condition {
@@ -497,14 +485,13 @@ fn inner_of<S: Tiles>(
     frame: &mut Frame,
     scratch: &mut Scratch,
 ) -> Result<Column, CellError>
-    requires signatures { ground.now.signatures.now ≡ (S.state source.old).coverages }
+    requires signatures { IsGroundOf (S.state source.old) ground.now }
     requires place { HasPlaceOver (S.state source.old) ground.now (inner at.shape at.left body.now) frame.old }
     ensures value { IfOk result (IsColumnOf (S.state source.old) ground.now (inner at.shape at.left body.now) frame.old) }
     ensures places { IfOk result (λ c. length c ≡ length frame.old) }
     ensures frame { OnOk result (frame.new ≡ frame.old) }
-    ensures reads { OnlyReads (S.state source.old) (S.state source.new) }
-    ensures reports { Tells S.spelled result (S.state source.old) (S.state source.new) }
-    ensures fetched { FetchesInner result ground.now at body.now frame.old (S.state source.old) (S.state source.new) }
+    ensures reads { Reads S.Tiles result source.old source.new }
+    ensures fetched { FetchesInner result ground.now at body.now frame.old S.Tiles source.old source.new }
 {
     match body {
         Body::Op2(_, l, r) => match at.shape {
@@ -526,14 +513,13 @@ fn operand_of<S: Tiles>(
     frame: &mut Frame,
     scratch: &mut Scratch,
 ) -> Result<Column, CellError>
-    requires signatures { ground.now.signatures.now ≡ (S.state source.old).coverages }
+    requires signatures { IsGroundOf (S.state source.old) ground.now }
     requires place { HasPlaceOver (S.state source.old) ground.now (branch left body.now) frame.old }
     ensures value { IfOk result (IsColumnOf (S.state source.old) ground.now (branch left body.now) frame.old) }
     ensures places { IfOk result (λ c. length c ≡ length frame.old) }
     ensures frame { OnOk result (frame.new ≡ frame.old) }
-    ensures reads { OnlyReads (S.state source.old) (S.state source.new) }
-    ensures reports { Tells S.spelled result (S.state source.old) (S.state source.new) }
-    ensures fetched { Fetches result ground.now (branch left body.now) frame.old (S.state source.old) (S.state source.new) }
+    ensures reads { Reads S.Tiles result source.old source.new }
+    ensures fetched { Fetches result ground.now (branch left body.now) frame.old S.Tiles source.old source.new }
 {
     match body {
         Body::Op2(_, l, r) => {
@@ -562,9 +548,8 @@ fn tell_points<S: Tiles>(
     ensures told { OnOk result (TakeInFold (S.state source.old) ground.now fold.now frame.old folds.old folds.new) }
     ensures op { OnOk result (AreOf fold.now.op folds.new) }
     ensures frame { OnOk result (frame.new ≡ frame.old) }
-    ensures reads { OnlyReads (S.state source.old) (S.state source.new) }
-    ensures reports { Tells S.spelled result (S.state source.old) (S.state source.new) }
-    ensures fetched { OnOk result (FetchesFold fold.now frame.old (S.state source.old) (S.state source.new)) }
+    ensures reads { Reads S.Tiles result source.old source.new }
+    ensures fetched { OnOk result (FetchesFold fold.now frame.old S.Tiles source.old source.new) }
 {
     for place in 0..fold.domain.points() {
         let point = Point {
@@ -599,9 +584,8 @@ fn tell_point<S: Tiles>(
     ensures told { OnOk result (TakeInPoint (S.state source.old) point.now fold.now frame.old folds.old folds.new) }
     ensures folds { OnOk result (AreOfFold fold.now frame.old (point.now.place + 1) folds.new) }
     ensures frame { OnOk result (frame.new ≡ frame.old) }
-    ensures reads { OnlyReads (S.state source.old) (S.state source.new) }
-    ensures reports { Tells S.spelled result (S.state source.old) (S.state source.new) }
-    ensures fetched { OnOk result (FetchesPoint fold.now frame.old (S.state source.old) (S.state source.new)) }
+    ensures reads { Reads S.Tiles result source.old source.new }
+    ensures fetched { OnOk result (FetchesPoint fold.now frame.old S.Tiles source.old source.new) }
 {
     let area = &fold.domain;
     let _few = area.points();
@@ -628,9 +612,8 @@ fn tell<S: Tiles>(
     ensures told { OnOk result (TakeInLast (S.state source.old) point.now fold.now frame.old folds.old folds.new) }
     ensures folds { OnOk result (AreOfFold fold.now frame.old (point.now.place + 1) folds.new) }
     ensures frame { OnOk result (frame.new ≡ frame.old) }
-    ensures reads { OnlyReads (S.state source.old) (S.state source.new) }
-    ensures reports { Tells S.spelled result (S.state source.old) (S.state source.new) }
-    ensures fetched { OnOk result (FetchesPoint fold.now frame.old (S.state source.old) (S.state source.new)) }
+    ensures reads { Reads S.Tiles result source.old source.new }
+    ensures fetched { OnOk result (FetchesPoint fold.now frame.old S.Tiles source.old source.new) }
 {
     match &fold.condition {
         None => {
@@ -664,9 +647,8 @@ fn tell_tiles<S: Tiles>(
     requires folds { AreOfFold fold.now frame.now 0 folds.old }
     ensures told { OnOk result (TakeInFold (S.state source.old) ground.now fold.now frame.now folds.old folds.new) }
     ensures op { OnOk result (AreOf fold.now.op folds.new) }
-    ensures reads { OnlyReads (S.state source.old) (S.state source.new) }
-    ensures reports { Tells S.spelled result (S.state source.old) (S.state source.new) }
-    ensures fetched { OnOk result (FetchesFold fold.now frame.now (S.state source.old) (S.state source.new)) }
+    ensures reads { Reads S.Tiles result source.old source.new }
+    ensures fetched { OnOk result (FetchesFold fold.now frame.now S.Tiles source.old source.new) }
 {
     let area = &fold.domain;
     let _axes = area.axes();
@@ -703,9 +685,8 @@ fn tell_part<S: Tiles>(
     requires folds { AreOfFold fold.now around.now.frame.now (2 ^ 24 - length (points part.now.area)) folds.old }
     ensures told { OnOk result (TakeInBox (S.state source.old) around.now fold.now part.now folds.old folds.new) }
     ensures folds { OnOk result (GrowBy fold.now part.now around.now.frame.now folds.old folds.new) }
-    ensures reads { OnlyReads (S.state source.old) (S.state source.new) }
-    ensures reports { Tells S.spelled result (S.state source.old) (S.state source.new) }
-    ensures fetched { OnOk result (FetchesPart fold.now part.now around.now (S.state source.old) (S.state source.new)) }
+    ensures reads { Reads S.Tiles result source.old source.new }
+    ensures fetched { OnOk result (FetchesPart fold.now part.now around.now S.Tiles source.old source.new) }
 {
     for place in 0..around.frame.places() {
         let mut own = part_frame(scratch.alloc(), around.frame, place, &part.area)?;
@@ -731,9 +712,8 @@ fn fold_frame<S: Tiles>(
     ensures stands { IfOk result (StandsFor (S.state source.old) ground.now fold.now ranks.now frame.old) }
     ensures op { IfOk result (λ a. a.running.op ≡ fold.now.op) }
     ensures count { IfOk result (λ a. a.running.count ≤ length frame.old) }
-    ensures reads { OnlyReads (S.state source.old) (S.state source.new) }
-    ensures reports { Tells S.spelled result (S.state source.old) (S.state source.new) }
-    ensures fetched { OnOk result (FetchesPoint fold.now frame.old (S.state source.old) (S.state source.new)) }
+    ensures reads { Reads S.Tiles result source.old source.new }
+    ensures fetched { OnOk result (FetchesPoint fold.now frame.old S.Tiles source.old source.new) }
 {
     match &fold.condition {
         None => {

@@ -1,7 +1,8 @@
 //! Fields behind binds, at all places of a frame.
 
 ghost use Rattle.std.specs.Prelude.{◌≡◌, List, [], ◌∷◌, ◌++◌, length, map, replicate, OnOk, IfOk};
-ghost use Rattle.tile_columns.specs.Sources.{OnlyReads, Tells};
+ghost use Rattle.tile_columns.specs.Calling.{Reads};
+ghost use Rattle.tile_columns.specs.Meaning.{IsGroundOf};
 ghost use Rattle.tile_columns.specs.Fields.{HavePlaces, HavePlaceOver, AreColumnsOf, FetchAll, settled_by, blank_by};
 
 use crate::binds::{coordinates, settle};
@@ -27,15 +28,14 @@ pub fn evaluate_fields<S: Tiles>(
     frame: &mut Frame,
     scratch: &mut Scratch,
 ) -> Result<Vec<Column>, CellError>
-    requires signatures { ground.now.signatures.now ≡ (S.state source.old).coverages }
+    requires signatures { IsGroundOf (S.state source.old) ground.now }
     requires place { HavePlaceOver (S.state source.old) ground.now binds.now fields.now frame.old }
     ensures value { IfOk result (λ v. AreColumnsOf (S.state source.old) ground.now binds.now fields.now frame.old v.items) }
     ensures fields { IfOk result (λ v. length v.items ≡ length fields.now) }
     ensures places { IfOk result (λ v. HavePlaces (length frame.old) v.items) }
     ensures frame { OnOk result (frame.new ≡ frame.old) }
-    ensures reads { OnlyReads (S.state source.old) (S.state source.new) }
-    ensures reports { Tells S.spelled result (S.state source.old) (S.state source.new) }
-    ensures fetched { FetchAll result ground.now binds.now fields.now frame.old (S.state source.old) (S.state source.new) }
+    ensures reads { Reads S.Tiles result source.old source.new }
+    ensures fetched { FetchAll result ground.now binds.now fields.now frame.old S.Tiles source.old source.new }
 {
     match binds {
         [] => field_columns(source, ground, fields, frame, scratch),
@@ -74,15 +74,14 @@ fn field_columns<S: Tiles>(
     frame: &mut Frame,
     scratch: &mut Scratch,
 ) -> Result<Vec<Column>, CellError>
-    requires signatures { ground.now.signatures.now ≡ (S.state source.old).coverages }
+    requires signatures { IsGroundOf (S.state source.old) ground.now }
     requires place { HavePlaceOver (S.state source.old) ground.now [] fields.now frame.old }
     ensures value { IfOk result (λ v. AreColumnsOf (S.state source.old) ground.now [] fields.now frame.old v.items) }
     ensures fields { IfOk result (λ v. length v.items ≡ length fields.now) }
     ensures places { IfOk result (λ v. HavePlaces (length frame.old) v.items) }
     ensures frame { OnOk result (frame.new ≡ frame.old) }
-    ensures reads { OnlyReads (S.state source.old) (S.state source.new) }
-    ensures reports { Tells S.spelled result (S.state source.old) (S.state source.new) }
-    ensures fetched { FetchAll result ground.now [] fields.now frame.old (S.state source.old) (S.state source.new) }
+    ensures reads { Reads S.Tiles result source.old source.new }
+    ensures fetched { FetchAll result ground.now [] fields.now frame.old S.Tiles source.old source.new }
 {
     let mut columns = Vec::new(scratch.alloc());
     for field in fields {

@@ -3,7 +3,8 @@
 
 ghost use Rattle.std.specs.Prelude.{◌≡◌, ◌≢◌, ◌<◌, ◌≤◌, pos, length, slice_index_or, IfSome, IfOk, OnOk};
 ghost use Rattle.arr_core.specs.Domains.{count};
-ghost use Rattle.tile_columns.specs.Sources.{OneMore, OnlyReads, Tells, FetchesOnce, box_in};
+ghost use Rattle.tile_columns.specs.Sources.{OneMore, box_in};
+ghost use Rattle.tile_columns.specs.Calling.{Reads, FetchesOnce};
 ghost use Rattle.tile_columns.specs.Readings.{IsThere, ReadsInside, ReadsWhole, IsTileColumn, tiles_of, AreCellsRead, IsColumnRead};
 ghost use Rattle.tile_columns.specs.Stretches.{IsTileRead};
 ghost use Rattle.tile_columns.specs.Gathering.{HasRanks, CopiesTile, IsLocated, AreListed, IsListed, KeepsGathered, WritesTile};
@@ -79,8 +80,7 @@ fn fetch_listed<S: Tiles>(
     ensures located { OnOk result (IsLocated reading.now frame.now scratch.new) }
     ensures listed { OnOk result (scratch.new.seen.items ≡ scratch.old.seen.items) }
     ensures fetched { OnOk result (OneMore (S.state source.old).fetched (S.state source.new).fetched) }
-    ensures reads { OnlyReads (S.state source.old) (S.state source.new) }
-    ensures reports { Tells S.spelled result (S.state source.old) (S.state source.new) }
+    ensures reads { Reads S.Tiles result source.old source.new }
 {
     let number = scratch.seen[k];
     source.tile(reading.coverage, reading.field, number, &mut scratch.tile)?;
@@ -117,9 +117,8 @@ fn gather_listed<S: Tiles>(
     requires listed { AreListed reading.now frame.now scratch.old }
     ensures value { OnOk result (AreCellsRead (S.state source.old) reading.now frame.now scratch.new.cells.items) }
     ensures places { OnOk result (length scratch.new.cells.items ≡ length frame.now) }
-    ensures reads { OnlyReads (S.state source.old) (S.state source.new) }
-    ensures reports { Tells S.spelled result (S.state source.old) (S.state source.new) }
-    ensures fetched { OnOk result (FetchesOnce (tiles_of reading.now frame.now) (S.state source.old) (S.state source.new)) }
+    ensures reads { Reads S.Tiles result source.old source.new }
+    ensures fetched { OnOk result (FetchesOnce (tiles_of reading.now frame.now) S.Tiles source.old source.new) }
 {
     let tiles = scratch.seen.len();
     for k in 0..tiles {
@@ -139,9 +138,8 @@ fn gather<S: Tiles>(
     requires inside { ReadsInside reading.now frame.now }
     ensures value { OnOk result (AreCellsRead (S.state source.old) reading.now frame.now scratch.new.cells.items) }
     ensures places { OnOk result (length scratch.new.cells.items ≡ length frame.now) }
-    ensures reads { OnlyReads (S.state source.old) (S.state source.new) }
-    ensures reports { Tells S.spelled result (S.state source.old) (S.state source.new) }
-    ensures fetched { OnOk result (FetchesOnce (tiles_of reading.now frame.now) (S.state source.old) (S.state source.new)) }
+    ensures reads { Reads S.Tiles result source.old source.new }
+    ensures fetched { OnOk result (FetchesOnce (tiles_of reading.now frame.now) S.Tiles source.old source.new) }
 {
     locate(reading, frame, scratch)?;
     fill_list(frame.places(), 0, &mut scratch.cells)?;
@@ -207,8 +205,7 @@ fn read_runs<S: Tiles>(
     ensures value { OnOk result (IsTileColumn (S.state source.old) reading.now number out.new) }
     ensures places { OnOk result (length out.new ≡ 4096) }
     ensures fetched { OnOk result (OneMore (S.state source.old).fetched (S.state source.new).fetched) }
-    ensures reads { OnlyReads (S.state source.old) (S.state source.new) }
-    ensures reports { Tells S.spelled result (S.state source.old) (S.state source.new) }
+    ensures reads { Reads S.Tiles result source.old source.new }
 {
     make_room(&mut scratch.runs)?;
     source.runs(reading.coverage, reading.field, number, &mut scratch.runs)?;
@@ -232,8 +229,7 @@ fn read_tile<S: Tiles>(
     ensures value { OnOk result (IsTileColumn (S.state source.old) reading.now number out.new) }
     ensures places { OnOk result (length out.new ≡ points) }
     ensures fetched { OnOk result (OneMore (S.state source.old).fetched (S.state source.new).fetched) }
-    ensures reads { OnlyReads (S.state source.old) (S.state source.new) }
-    ensures reports { Tells S.spelled result (S.state source.old) (S.state source.new) }
+    ensures reads { Reads S.Tiles result source.old source.new }
 {
     if points == MAX_PLACES {
         return read_runs(source, reading, number, scratch, out);
@@ -257,9 +253,8 @@ pub fn read<S: Tiles>(
     requires inside { ReadsInside reading.now frame.now }
     ensures value { OnOk result (IsColumnRead (S.state source.old) reading.now frame.now out.new) }
     ensures places { OnOk result (length out.new ≡ length frame.now) }
-    ensures reads { OnlyReads (S.state source.old) (S.state source.new) }
-    ensures reports { Tells S.spelled result (S.state source.old) (S.state source.new) }
-    ensures fetched { OnOk result (FetchesOnce (tiles_of reading.now frame.now) (S.state source.old) (S.state source.new)) }
+    ensures reads { Reads S.Tiles result source.old source.new }
+    ensures fetched { OnOk result (FetchesOnce (tiles_of reading.now frame.now) S.Tiles source.old source.new) }
 {
     let places = frame.places();
     let found = whole_tile(reading, frame, scratch)?;

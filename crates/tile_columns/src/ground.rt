@@ -2,8 +2,8 @@
 
 ghost use Rattle.std.specs.Prelude.{◌≡◌, pos, length, slice_index_or, OnOk};
 ghost use Rattle.wcps_mean.specs.declared.cell.Outcome.TheVariants.{Value};
-ghost use Rattle.tile_columns.specs.Sources.{OnlyReads, Tells};
-ghost use Rattle.tile_columns.specs.Meaning.{HasPlaceOver, IsColumnOf};
+ghost use Rattle.tile_columns.specs.Calling.{Reads};
+ghost use Rattle.tile_columns.specs.Meaning.{IsGroundOf, HasPlaceOver, IsColumnOf};
 ghost use Rattle.tile_columns.specs.BodyReads.{read_view, FetchesTilesOf};
 
 use crate::frame::Frame;
@@ -61,13 +61,12 @@ pub(crate) fn read_cells<S: Tiles>(
     scratch: &mut Scratch,
     out: &mut Column,
 ) -> Result<(), CellError>
-    requires signatures { ground.now.signatures.now ≡ (S.state source.old).coverages }
+    requires signatures { IsGroundOf (S.state source.old) ground.now }
     requires place { HasPlaceOver (S.state source.old) ground.now (read_view what.now) frame.now }
     ensures value { OnOk result (IsColumnOf (S.state source.old) ground.now (read_view what.now) frame.now out.new) }
     ensures places { OnOk result (length out.new ≡ length frame.now) }
-    ensures reads { OnlyReads (S.state source.old) (S.state source.new) }
-    ensures reports { Tells S.spelled result (S.state source.old) (S.state source.new) }
-    ensures fetched { OnOk result (FetchesTilesOf ground.now what.now frame.now (S.state source.old) (S.state source.new)) }
+    ensures reads { Reads S.Tiles result source.old source.new }
+    ensures fetched { OnOk result (FetchesTilesOf ground.now what.now frame.now S.Tiles source.old source.new) }
 {
     let place = coverage_at(ground.coverages, what.coverage);
     let reading = Reading {

@@ -1,7 +1,9 @@
 //! The cells around the places of windows, and what becomes of those within reach of each place.
 
 ghost use Rattle.std.specs.Prelude.{◌≡◌, ◌+◌, ◌*◌, ◌++◌, length, map, OnOk, IfOk};
-ghost use Rattle.tile_columns.specs.Sources.{OnlyReads, Tells, FetchesAtMost, FetchesOnce};
+ghost use Rattle.tile_columns.specs.Sources.{FetchesAtMost};
+ghost use Rattle.tile_columns.specs.Calling.{Reads, FetchesOnce};
+ghost use Rattle.tile_columns.specs.Meaning.{IsGroundOf};
 ghost use Rattle.tile_columns.specs.Readings.{IsThere, ReadsInside, tiles_of};
 ghost use Rattle.tile_columns.specs.Windows.{CanRead, IsReady, AreRowsOf, AreWindowsOf, AddsRead, AddsRows, HasHalo, halo_cells, row_cells, window_places, value_of};
 
@@ -49,9 +51,8 @@ fn push_cells<S: Tiles>(
     requires inside { ReadsInside reading.now frame.now }
     ensures value { OnOk result (AddsRead (S.state source.old) reading.now frame.now cells.old.items cells.new.items) }
     ensures many { OnOk result (length cells.new.items ≡ length cells.old.items + length frame.now) }
-    ensures reads { OnlyReads (S.state source.old) (S.state source.new) }
-    ensures reports { Tells S.spelled result (S.state source.old) (S.state source.new) }
-    ensures fetched { OnOk result (FetchesOnce (tiles_of reading.now frame.now) (S.state source.old) (S.state source.new)) }
+    ensures reads { Reads S.Tiles result source.old source.new }
+    ensures fetched { OnOk result (FetchesOnce (tiles_of reading.now frame.now) S.Tiles source.old source.new) }
 {
     let mut column = scratch.take_column()?;
     read(source, reading, frame, scratch, &mut column)?;
@@ -69,13 +70,12 @@ fn read_rows<S: Tiles>(
     scratch: &mut Scratch,
     cells: &mut Vec<i64>,
 ) -> Result<(), CellError>
-    requires signatures { ground.now.signatures.now ≡ (S.state source.old).coverages }
+    requires signatures { IsGroundOf (S.state source.old) ground.now }
     requires there { CanRead ground.now window.now }
     requires rows { AreRowsOf window.now rows }
     ensures value { OnOk result (AddsRows (S.state source.old) window.now rows cells.old.items cells.new.items) }
     ensures many { OnOk result (length cells.new.items ≡ length cells.old.items + row_cells window.now rows) }
-    ensures reads { OnlyReads (S.state source.old) (S.state source.new) }
-    ensures reports { Tells S.spelled result (S.state source.old) (S.state source.new) }
+    ensures reads { Reads S.Tiles result source.old source.new }
     ensures fetched { OnOk result (FetchesAtMost (row_cells window.now rows) (S.state source.old) (S.state source.new)) }
 {
     let extents = Extents {
@@ -104,12 +104,11 @@ fn cells_of<S: Tiles>(
     window: &Window,
     scratch: &mut Scratch,
 ) -> Result<Vec<i64>, CellError>
-    requires signatures { ground.now.signatures.now ≡ (S.state source.old).coverages }
+    requires signatures { IsGroundOf (S.state source.old) ground.now }
     requires ready { IsReady ground.now window.now }
     ensures value { IfOk result (λ v. HasHalo (S.state source.old) window.now v.items) }
     ensures many { IfOk result (λ v. length v.items ≡ halo_cells window.now) }
-    ensures reads { OnlyReads (S.state source.old) (S.state source.new) }
-    ensures reports { Tells S.spelled result (S.state source.old) (S.state source.new) }
+    ensures reads { Reads S.Tiles result source.old source.new }
     ensures fetched { OnOk result (FetchesAtMost (halo_cells window.now) (S.state source.old) (S.state source.new)) }
 {
     let halo = window.rows.halo;
@@ -137,12 +136,11 @@ pub(crate) fn condense_window<S: Tiles>(
     scratch: &mut Scratch,
     out: &mut Column,
 ) -> Result<(), CellError>
-    requires signatures { ground.now.signatures.now ≡ (S.state source.old).coverages }
+    requires signatures { IsGroundOf (S.state source.old) ground.now }
     requires ready { IsReady ground.now window.now }
     ensures value { OnOk result (AreWindowsOf (S.state source.old) window.now out.new) }
     ensures places { OnOk result (length out.new ≡ window_places window.now) }
-    ensures reads { OnlyReads (S.state source.old) (S.state source.new) }
-    ensures reports { Tells S.spelled result (S.state source.old) (S.state source.new) }
+    ensures reads { Reads S.Tiles result source.old source.new }
     ensures fetched { OnOk result (FetchesAtMost (halo_cells window.now) (S.state source.old) (S.state source.new)) }
 {
     let cells = cells_of(source, ground, window, scratch)?;

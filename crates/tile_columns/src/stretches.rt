@@ -1,7 +1,8 @@
 //! Reads of places in the order of their tiles: those of one tile stand side by side, and are read together.
 
 ghost use Rattle.std.specs.Prelude.{◌≡◌, ◌<◌, length, IfOk, OnOk};
-ghost use Rattle.tile_columns.specs.Sources.{OneMore, OnlyReads, Tells, FetchesOnce};
+ghost use Rattle.tile_columns.specs.Sources.{OneMore};
+ghost use Rattle.tile_columns.specs.Calling.{Reads, FetchesOnce};
 ghost use Rattle.tile_columns.specs.Readings.{IsThere, ReadsInside, tiles_of, AreCellsRead};
 ghost use Rattle.tile_columns.specs.Gathering.{IsLocated};
 ghost use Rattle.tile_columns.specs.Spots.{IsStretch};
@@ -30,8 +31,7 @@ fn fetch_cells<S: Tiles>(
     ensures ranks { OnOk result (length scratch.new.picked.items ≡ length scratch.old.wanted.items) }
     ensures places { KeepsPlaces scratch.old scratch.new }
     ensures fetched { OnOk result (OneMore (S.state source.old).fetched (S.state source.new).fetched) }
-    ensures reads { OnlyReads (S.state source.old) (S.state source.new) }
-    ensures reports { Tells S.spelled result (S.state source.old) (S.state source.new) }
+    ensures reads { Reads S.Tiles result source.old source.new }
 {
     if scratch.wanted.len() <= FEW {
         source.pick(
@@ -65,8 +65,7 @@ fn fetch_stretch<S: Tiles>(
     ensures value { IfOk result (KeepsRead (S.state source.old) reading.now frame.now scratch.old scratch.new from) }
     ensures spots { OnOk result (KeepsSpots scratch.old scratch.new) }
     ensures fetched { OnOk result (OneMore (S.state source.old).fetched (S.state source.new).fetched) }
-    ensures reads { OnlyReads (S.state source.old) (S.state source.new) }
-    ensures reports { Tells S.spelled result (S.state source.old) (S.state source.new) }
+    ensures reads { Reads S.Tiles result source.old source.new }
 {
     let to = end_of(&scratch.spots, from);
     let tile = scratch.spots[from].tile;
@@ -92,9 +91,8 @@ pub(crate) fn gather_stretches<S: Tiles>(
     requires located { IsLocated reading.now frame.now scratch.old }
     ensures value { OnOk result (AreCellsRead (S.state source.old) reading.now frame.now scratch.new.cells.items) }
     ensures places { OnOk result (length scratch.new.cells.items ≡ length frame.now) }
-    ensures reads { OnlyReads (S.state source.old) (S.state source.new) }
-    ensures reports { Tells S.spelled result (S.state source.old) (S.state source.new) }
-    ensures fetched { OnOk result (FetchesOnce (tiles_of reading.now frame.now) (S.state source.old) (S.state source.new)) }
+    ensures reads { Reads S.Tiles result source.old source.new }
+    ensures fetched { OnOk result (FetchesOnce (tiles_of reading.now frame.now) S.Tiles source.old source.new) }
 {
     order_places(&scratch.numbers, &scratch.ranks, &mut scratch.spots)?;
     let mut from = 0;

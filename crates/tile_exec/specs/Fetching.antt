@@ -12,6 +12,7 @@ use Rattle.plan_ir.specs.Bodies.{body_view}
 use Rattle.plan_ir.specs.Plans.{pass_view, item_view}
 use Rattle.plan_ir.specs.Units.{bound_of}
 use Rattle.tile_columns.specs.declared.ground.Ground.{Ground}
+use Rattle.tile_columns.specs.declared.source.Tiles.{Ghosts}
 use Rattle.tile_columns.specs.Sources.{SourceState, FetchesAtMost}
 use Rattle.tile_columns.specs.Meaning.{chosen}
 use Rattle.tile_columns.specs.Fields.{HavePlaceOver, AreColumnsOf}
@@ -47,12 +48,12 @@ abbrev pub AreItemColumns : {K : Type 0} → SourceState K → Ground → Item �
 AreItemColumns s g i box columns = AreColumnsOf s g i.binds.items i.fields.items (points box) columns
 
 -- no more tiles are fetched than the bound of a body over a box
-abbrev pub FetchesBody : {A K : Type 0} → Result A CellError → Ground → List Axis → Body → SourceState K → SourceState K → Type 0
-FetchesBody result g box body old new = OnOk result (FetchesAtMost (bound_of (chosen old g) box (body_view body)) old new)
+abbrev pub FetchesBody : {S A : Type 0} → Result A CellError → Ground → List Axis → Body → Ghosts S → S → S → Type 0
+FetchesBody result g box body t old new = OnOk result (FetchesAtMost (bound_of (chosen (t.state old) g) box (body_view body)) (t.state old) (t.state new))
 
 -- no more tiles are fetched than the bounds of a part's bodies over a box, or over one of its tiles
-abbrev pub FetchesOver : {A K : Type 0} → Result A CellError → Ground → List Axis → SourceState K → SourceState K → PartTree → Type 0
-FetchesOver result g box old new p = OnOk result (FetchesAtMost (sum_by (bound_of (chosen old g) box) (bodies_of p)) old new)
+abbrev pub FetchesOver : {S A : Type 0} → Result A CellError → Ground → List Axis → Ghosts S → S → S → PartTree → Type 0
+FetchesOver result g box t old new p = OnOk result (FetchesAtMost (sum_by (bound_of (chosen (t.state old) g) box) (bodies_of p)) (t.state old) (t.state new))
 
-abbrev pub FetchesTile : {A K : Type 0} → Result A CellError → Ground → ℕ → SourceState K → SourceState K → PartTree → Type 0
-FetchesTile result g tile old new p = FetchesOver result g (tile_of (area_of p) tile) old new p
+abbrev pub FetchesTile : {S A : Type 0} → Result A CellError → Ground → ℕ → Ghosts S → S → S → PartTree → Type 0
+FetchesTile result g tile t old new p = FetchesOver result g (tile_of (area_of p) tile) t old new p

@@ -3,9 +3,9 @@
 ghost use Rattle.std.specs.Prelude.{◌≡◌, ◌≤◌, length, IfOk, OnOk};
 ghost use Rattle.arr_core.specs.Domains.{points, count};
 ghost use Rattle.plan_ir.specs.Bodies.{body_view};
-ghost use Rattle.tile_columns.specs.Sources.{OnlyReads, Tells};
+ghost use Rattle.tile_columns.specs.Calling.{Reads};
 ghost use Rattle.tile_columns.specs.Fields.{HavePlaces};
-ghost use Rattle.tile_columns.specs.Meaning.{HasPlaceOver, IsColumnOf};
+ghost use Rattle.tile_columns.specs.Meaning.{IsGroundOf, HasPlaceOver, IsColumnOf};
 ghost use Rattle.tile_exec.specs.Fetching.{as_item, ItemHasPlace, AreItemColumns, FetchesBody, FetchesOver};
 
 use crate::workspace::Memory;
@@ -24,14 +24,13 @@ pub(crate) fn column_over<S: Tiles>(
     body: &Body,
     out: &mut Column,
 ) -> Result<(), CellError>
-    requires signatures { ground.now.signatures.now ≡ (S.state source.old).coverages }
+    requires signatures { IsGroundOf (S.state source.old) ground.now }
     requires place { HasPlaceOver (S.state source.old) ground.now (body_view body.now) (points at.now) }
     requires few { count at.now ≤ 4096 }
     ensures value { OnOk result (IsColumnOf (S.state source.old) ground.now (body_view body.now) (points at.now) out.new) }
     ensures places { OnOk result (length out.new ≡ length (points at.now)) }
-    ensures reads { OnlyReads (S.state source.old) (S.state source.new) }
-    ensures reports { Tells S.spelled result (S.state source.old) (S.state source.new) }
-    ensures fetched { FetchesBody result ground.now at.now body.now (S.state source.old) (S.state source.new) }
+    ensures reads { Reads S.Tiles result source.old source.new }
+    ensures fetched { FetchesBody result ground.now at.now body.now S.Tiles source.old source.new }
 {
     let _axes = at.axes();
     let mut frame = Frame::of_box(memory.alloc, at)?;
@@ -48,15 +47,14 @@ pub(crate) fn columns_over<S: Tiles>(
     item: &Item,
     at: &Domain,
 ) -> Result<Vec<Column>, CellError>
-    requires signatures { ground.now.signatures.now ≡ (S.state source.old).coverages }
+    requires signatures { IsGroundOf (S.state source.old) ground.now }
     requires place { ItemHasPlace (S.state source.old) ground.now item.now at.now }
     requires few { count at.now ≤ 4096 }
     ensures value { IfOk result (λ v. AreItemColumns (S.state source.old) ground.now item.now at.now v.items) }
     ensures fields { IfOk result (λ v. length v.items ≡ length item.now.fields.items) }
     ensures places { IfOk result (λ v. HavePlaces (length (points at.now)) v.items) }
-    ensures reads { OnlyReads (S.state source.old) (S.state source.new) }
-    ensures reports { Tells S.spelled result (S.state source.old) (S.state source.new) }
-    ensures fetched { FetchesOver result ground.now at.now (S.state source.old) (S.state source.new) (as_item item.now) }
+    ensures reads { Reads S.Tiles result source.old source.new }
+    ensures fetched { FetchesOver result ground.now at.now S.Tiles source.old source.new (as_item item.now) }
 {
     let _axes = at.axes();
     let mut frame = Frame::of_box(memory.alloc, at)?;

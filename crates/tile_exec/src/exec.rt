@@ -3,7 +3,7 @@
 ghost use Rattle.std.specs.Prelude.{◌≡◌, ◌-◌, ◌<◌, IfOk, IfSome, OnOk, OnErr, MatchOption, MatchResult, Ok, Err};
 ghost use Rattle.plan_ir.specs.Plans.{plan_view};
 ghost use Rattle.plan_ir.specs.Placed.{IsPlan};
-ghost use Rattle.tile_columns.specs.Sources.{OnlyReads, Tells};
+ghost use Rattle.tile_columns.specs.Calling.{Reads};
 ghost use Rattle.tile_exec.specs.Standing.{IsBegun, StandsOn, Answers, plan_of, left_of, MovesOn, HasFetched};
 
 use crate::begin::begun;
@@ -76,9 +76,8 @@ impl Exec {
         ensures stands { OnOk result (StandsOn (S.state source.old) self.old self.new) }
         ensures failed { OnErr result (self.new ≡ self.old) }
         ensures place { IfOk result (λ i. MovesOn self.old self.new i.fetched) }
-        ensures reads { OnlyReads (S.state source.old) (S.state source.new) }
+        ensures reads { Reads S.Tiles result source.old source.new }
         ensures fetched { IfOk result (λ i. HasFetched i.fetched (S.state source.old) (S.state source.new)) }
-        ensures reports { Tells S.spelled result (S.state source.old) (S.state source.new) }
     {
         let before = source.count();
         if self.state.left == 0 {

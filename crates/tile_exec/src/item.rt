@@ -6,7 +6,8 @@ ghost use Rattle.arr_core.specs.Tiles.{tile_boxes};
 ghost use Rattle.wcps_mean.specs.Answer.{field_count};
 ghost use Rattle.plan_ir.specs.declared.plan.Field.{Field};
 ghost use Rattle.plan_ir.specs.Plans.{item_view};
-ghost use Rattle.tile_columns.specs.Sources.{OnlyReads, Tells};
+ghost use Rattle.tile_columns.specs.Calling.{Reads};
+ghost use Rattle.tile_columns.specs.Meaning.{IsGroundOf};
 ghost use Rattle.tile_exec.specs.declared.found.Found.{Found};
 ghost use Rattle.tile_exec.specs.declared.task.Status.TheVariants.{Giving};
 ghost use Rattle.tile_exec.specs.Units.{FitsItem, IsFound};
@@ -34,14 +35,13 @@ pub(crate) fn item_tile<S: Tiles>(
     item: &Item,
     tile: u64,
 ) -> Result<ItemTile, CellError>
-    requires signatures { ground.now.signatures.now ≡ (S.state source.old).coverages }
+    requires signatures { IsGroundOf (S.state source.old) ground.now }
     requires placed { IsPartOver (S.state source.old) ground.now (as_item item.now) }
     requires tile { tile < length (tile_boxes item.now.domain) }
     ensures fits { IfOk result (λ x. FitsItem (item_view item.now) tile Giving x) }
     ensures tells { IfOk result (λ x. IsFound (S.state source.old) ground.now tile (Found.Item x) (as_item item.now)) }
-    ensures fetched { FetchesTile result ground.now tile (S.state source.old) (S.state source.new) (as_item item.now) }
-    ensures reads { OnlyReads (S.state source.old) (S.state source.new) }
-    ensures reports { Tells S.spelled result (S.state source.old) (S.state source.new) }
+    ensures fetched { FetchesTile result ground.now tile S.Tiles source.old source.new (as_item item.now) }
+    ensures reads { Reads S.Tiles result source.old source.new }
 {
     if item.fields.len() >= FIELDS_END {
         return Err(CellError::NoMemory);

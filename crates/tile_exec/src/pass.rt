@@ -5,7 +5,8 @@ ghost use Rattle.arr_core.specs.Domains.{points, IsBoxOf};
 ghost use Rattle.arr_core.specs.Tiles.{tile_boxes};
 ghost use Rattle.tile_kernel.specs.Told.{told_at, demanded_at};
 ghost use Rattle.tile_kernel.specs.Standing.{Stands};
-ghost use Rattle.tile_columns.specs.Sources.{OnlyReads, Tells};
+ghost use Rattle.tile_columns.specs.Calling.{Reads};
+ghost use Rattle.tile_columns.specs.Meaning.{IsGroundOf};
 ghost use Rattle.tile_columns.specs.TileOrder.{tile_of};
 ghost use Rattle.tile_exec.specs.declared.found.Found.TheVariants.{Pass, Condition};
 ghost use Rattle.tile_exec.specs.Passes.{ranks_in};
@@ -81,15 +82,14 @@ pub(crate) fn pass_tile<S: Tiles>(
     pass: &Fold,
     tile: u64,
 ) -> Result<Accumulator, CellError>
-    requires signatures { ground.now.signatures.now ≡ (S.state source.old).coverages }
+    requires signatures { IsGroundOf (S.state source.old) ground.now }
     requires placed { IsPartOver (S.state source.old) ground.now (as_pass pass.now) }
     requires tile { tile < length (tile_boxes pass.now.domain) }
     ensures op { IfOk result (λ a. a.running.op ≡ pass.now.op) }
     ensures count { IfOk result (λ a. a.running.count ≤ length (points (tile_of pass.now.domain tile))) }
     ensures stands { IfOk result (λ a. IsFound (S.state source.old) ground.now tile (Pass a) (as_pass pass.now)) }
-    ensures reads { OnlyReads (S.state source.old) (S.state source.new) }
-    ensures reports { Tells S.spelled result (S.state source.old) (S.state source.new) }
-    ensures fetched { FetchesTile result ground.now tile (S.state source.old) (S.state source.new) (as_pass pass.now) }
+    ensures reads { Reads S.Tiles result source.old source.new }
+    ensures fetched { FetchesTile result ground.now tile S.Tiles source.old source.new (as_pass pass.now) }
 {
     let area = &pass.domain;
     let part = area.tile_box(workspace.memory.alloc, tile)?;
@@ -150,12 +150,11 @@ pub(crate) fn condition_of<S: Tiles>(
     ground: &Ground<'_>,
     test: &Body,
 ) -> Result<Outcome, CellError>
-    requires signatures { ground.now.signatures.now ≡ (S.state source.old).coverages }
+    requires signatures { IsGroundOf (S.state source.old) ground.now }
     requires placed { IsPartOver (S.state source.old) ground.now (as_condition test.now) }
     ensures value { IfOk result (λ o. IsFound (S.state source.old) ground.now 0 (Condition o) (as_condition test.now)) }
-    ensures reads { OnlyReads (S.state source.old) (S.state source.new) }
-    ensures reports { Tells S.spelled result (S.state source.old) (S.state source.new) }
-    ensures fetched { FetchesBody result ground.now [] test.now (S.state source.old) (S.state source.new) }
+    ensures reads { Reads S.Tiles result source.old source.new }
+    ensures fetched { FetchesBody result ground.now [] test.now S.Tiles source.old source.new }
 {
     match Domain::new(Vec::new(workspace.memory.alloc)) {
         Err(_) => Err(CellError::NoMemory),

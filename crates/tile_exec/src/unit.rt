@@ -2,7 +2,9 @@
 
 ghost use Rattle.std.specs.Prelude.{◌≡◌, ◌+◌, ◌<◌, ◌≤◌, IfOk, OnOk, length, slice_get, option_copied, take, drop};
 ghost use Rattle.arr_core.specs.Tiles.{tile_boxes};
-ghost use Rattle.tile_columns.specs.Sources.{OnlyReads, Tells, FetchesAtMost};
+ghost use Rattle.tile_columns.specs.Sources.{FetchesAtMost};
+ghost use Rattle.tile_columns.specs.Calling.{Reads};
+ghost use Rattle.tile_columns.specs.Meaning.{IsGroundOf};
 ghost use Rattle.tile_exec.specs.Standing.{IsSound, plan_of, tasks_left};
 ghost use Rattle.tile_exec.specs.Units.{IsLast, Fits, FitsUnit, IsFound, IsNextFound, IfPart, unit_bound};
 ghost use Rattle.tile_exec.specs.Fetching.{IsReady, FetchesTile};
@@ -57,13 +59,12 @@ fn unit_of<S: Tiles>(
     ground: &Ground<'_>,
     at: &AtHand<'_>,
 ) -> Result<Unit, CellError>
-    requires signatures { ground.now.signatures.now ≡ (S.state source.old).coverages }
+    requires signatures { IsGroundOf (S.state source.old) ground.now }
     requires part { IsReady (S.state source.old) ground.now at.now }
     ensures fits { IfOk result (λ u. IfPart at.now (λ p. FitsUnit at.now.tile at.now.status p u.last u.found)) }
     ensures tells { IfOk result (λ u. IfPart at.now (IsFound (S.state source.old) ground.now at.now.tile u.found)) }
-    ensures fetched { IfPart at.now (FetchesTile result ground.now at.now.tile (S.state source.old) (S.state source.new)) }
-    ensures reads { OnlyReads (S.state source.old) (S.state source.new) }
-    ensures reports { Tells S.spelled result (S.state source.old) (S.state source.new) }
+    ensures fetched { IfPart at.now (FetchesTile result ground.now at.now.tile S.Tiles source.old source.new) }
+    ensures reads { Reads S.Tiles result source.old source.new }
 {
     match at.task.part {
         Part::Pass => match pass_at(&at.steps.passes, at.task.count) {
@@ -118,8 +119,7 @@ impl State {
         ensures fits { IfOk result (λ u. Fits self.old (tasks_left self.old) u.last u.found) }
         ensures tells { IfOk result (λ u. IsNextFound (S.state source.old) self.old u.found) }
         ensures fetched { OnOk result (FetchesAtMost (unit_bound self.old) (S.state source.old) (S.state source.new)) }
-        ensures reads { OnlyReads (S.state source.old) (S.state source.new) }
-        ensures reports { Tells S.spelled result (S.state source.old) (S.state source.new) }
+        ensures reads { Reads S.Tiles result source.old source.new }
     {
         match task_at(&self.tasks, self.at) {
             None => Ok(Unit {

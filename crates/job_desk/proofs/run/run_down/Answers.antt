@@ -26,6 +26,6 @@ loop-exec-preserved g c =
       asked = omega (arith, s.left.0, h.asked);
       rest = λ few. search rules;
       fetched = fetched_more was is new n (g.S.Tiles.state c.args.source.now).fetched (g.S.Tiles.state c.loop-exec.source).fetched (g.S.Tiles.state c.step.new.source).fetched h.run.plan h.run.boxes h.run.fewer some s.left.0 s.place s.fetched h.fetched;
-      reads = reads_on h.reads c.step.ensures.reads;
+      reads = reads_on h.reads c.step.ensures.reads.only;
       failures = search rules;
     }

@@ -162,8 +162,8 @@ evaluate-returns-in_ok-operand-in-Op1-clause-value g t c = λ i.
 pub evaluate-returns-in_ok-right-in-Op2-clause-value : goal.evaluate-returns-in_ok-right-in-Op2-clause-value
 evaluate-returns-in_ok-right-in-Op2-clause-value g t c = λ i.
     let x = c.in_ok-left-in-Op2.ensures.value i ∙ ap (λ b. map (meaning (g.S.Tiles.state c.args.source.now) c.args.ground.now (body_view b)) c.args.frame.now) c.deref-in-Op2.ensures in
-    let y = c.in_ok-right-in-Op2.ensures.value (c.column_of-in-Op2.ensures.reads.intact i)
-    ∙ ap (λ s. map (run (cells_of s c.args.ground.now.coverages.now) c.args.ground.now.registers.now (body_view c.deref-in-Op2-2.result.now)) c.column_of-in-Op2.new.frame) c.column_of-in-Op2.ensures.reads.cells ∙ ap (λ f. map (meaning (g.S.Tiles.state c.args.source.now) c.args.ground.now (body_view c.deref-in-Op2-2.result.now)) f) c.in_ok-left-in-Op2.ensures.frame
+    let y = c.in_ok-right-in-Op2.ensures.value (c.column_of-in-Op2.ensures.reads.only.intact i)
+    ∙ ap (λ s. map (run (cells_of s c.args.ground.now.coverages.now) c.args.ground.now.registers.now (body_view c.deref-in-Op2-2.result.now)) c.column_of-in-Op2.new.frame) c.column_of-in-Op2.ensures.reads.only.cells ∙ ap (λ f. map (meaning (g.S.Tiles.state c.args.source.now) c.args.ground.now (body_view c.deref-in-Op2-2.result.now)) f) c.in_ok-left-in-Op2.ensures.frame
     ∙ ap (λ b. map (meaning (g.S.Tiles.state c.args.source.now) c.args.ground.now (body_view b)) c.args.frame.now) c.deref-in-Op2-2.ensures in
     c.operate_columns.ensures
     ∙ ap (λ l. operate_all c.in-Op2.op l c.in_ok-right-in-Op2.right) x
@@ -185,8 +185,8 @@ evaluate-returns-in-Read-clause-value g t c =
 pub evaluate-returns-in_ok-bind-in-Bind-clause-value : goal.evaluate-returns-in_ok-bind-in-Bind-clause-value
 evaluate-returns-in_ok-bind-in-Bind-clause-value g t c = λ i.
     let at = c.in_ok-positions-in-Bind.ensures.value i ∙ ap (λ b. map (meaning (g.S.Tiles.state c.args.source.now) c.args.ground.now (body_view b)) c.args.frame.now) c.deref-in-Bind.ensures in
-    c.in_ok-bind-in-Bind.ensures.value (c.column_of-in-Bind.ensures.reads.intact i)
-    ∙ ap (λ s. at_positions c.in_ok-positions-in-Bind.positions c.in-Bind.interval.lo c.in-Bind.interval.hi (with_coordinate (run (cells_of s c.args.ground.now.coverages.now) c.args.ground.now.registers.now (body_view c.deref-in-Bind-2.result.now)) c.column_of-in-Bind.new.frame)) c.column_of-in-Bind.ensures.reads.cells
+    c.in_ok-bind-in-Bind.ensures.value (c.column_of-in-Bind.ensures.reads.only.intact i)
+    ∙ ap (λ s. at_positions c.in_ok-positions-in-Bind.positions c.in-Bind.interval.lo c.in-Bind.interval.hi (with_coordinate (run (cells_of s c.args.ground.now.coverages.now) c.args.ground.now.registers.now (body_view c.deref-in-Bind-2.result.now)) c.column_of-in-Bind.new.frame)) c.column_of-in-Bind.ensures.reads.only.cells
     ∙ ap (λ f. at_positions c.in_ok-positions-in-Bind.positions c.in-Bind.interval.lo c.in-Bind.interval.hi (with_coordinate (meaning (g.S.Tiles.state c.args.source.now) c.args.ground.now (body_view c.deref-in-Bind-2.result.now)) f)) c.in_ok-positions-in-Bind.ensures.frame
     ∙ ap (λ b. at_positions c.in_ok-positions-in-Bind.positions c.in-Bind.interval.lo c.in-Bind.interval.hi (with_coordinate (meaning (g.S.Tiles.state c.args.source.now) c.args.ground.now (body_view b)) c.args.frame.now)) c.deref-in-Bind-2.ensures
     ∙ bound_all (meaning (g.S.Tiles.state c.args.source.now) c.args.ground.now (body_view c.in-Bind.inner.value)) (meaning (g.S.Tiles.state c.args.source.now) c.args.ground.now (body_view c.in-Bind.position.value)) c.in_ok-positions-in-Bind.positions c.in-Bind.interval.lo c.in-Bind.interval.hi c.args.frame.now at
@@ -209,7 +209,7 @@ tell-returns-in_ok-column-in-None-clause-folds g t c =
 
 pub tell-returns-in_ok-column-in-Some-clause-told : goal.tell-returns-in_ok-column-in-Some-clause-told
 tell-returns-in_ok-column-in-Some-clause-told g t c = λ i.
-    let y = c.in_ok-column-in-Some.ensures.value (c.column_of-in-Some.ensures.reads.intact i) ∙ ap (λ s. map (run (cells_of s c.args.point.now.ground.now.coverages.now) c.args.point.now.ground.now.registers.now (body_view c.args.fold.now.body)) c.column_of-in-Some.new.frame) c.column_of-in-Some.ensures.reads.cells ∙ ap (λ f. map (meaning (g.S.Tiles.state c.args.source.now) c.args.point.now.ground.now (body_view c.args.fold.now.body)) f) c.in_ok-chosen-in-Some.ensures.frame in
+    let y = c.in_ok-column-in-Some.ensures.value (c.column_of-in-Some.ensures.reads.only.intact i) ∙ ap (λ s. map (run (cells_of s c.args.point.now.ground.now.coverages.now) c.args.point.now.ground.now.registers.now (body_view c.args.fold.now.body)) c.column_of-in-Some.new.frame) c.column_of-in-Some.ensures.reads.only.cells ∙ ap (λ f. map (meaning (g.S.Tiles.state c.args.source.now) c.args.point.now.ground.now (body_view c.args.fold.now.body)) f) c.in_ok-chosen-in-Some.ensures.frame in
     subst (λ (o : Option _). EachTakesIn c.args.folds.now c.add_column_where.new.folds (λ k. demanded_of c.args.point.now.place (meaning (g.S.Tiles.state c.args.source.now) c.args.point.now.ground.now (condition_view o) (get_or c.args.frame.now k [])) (meaning (g.S.Tiles.state c.args.source.now) c.args.point.now.ground.now (body_view c.args.fold.now.body) (get_or c.args.frame.now k []))))
     (sym c.in-Some.is)
     (told_where (meaning (g.S.Tiles.state c.args.source.now) c.args.point.now.ground.now (body_view c.in-Some.condition)) (meaning (g.S.Tiles.state c.args.source.now) c.args.point.now.ground.now (body_view c.args.fold.now.body)) c.args.frame.now c.in_ok-chosen-in-Some.chosen c.in_ok-column-in-Some.column c.args.point.now.place c.args.folds.now c.add_column_where.new.folds (c.add_column_where.auto.folds ∙ c.requires.folds.many)
@@ -266,12 +266,12 @@ tell_points-loop-place-preserved g t c =
       folds = subst (λ f. AreOfFold c.args.fold.now f (c.loop-place.place + 1) c.tell_point.new.folds) inv.frame c.in_ok-tell_point.ensures.folds;
       frame = c.in_ok-tell_point.ensures.frame ∙ inv.frame;
       fetched =
-          let step = subst (λ f. FetchesPoint c.args.fold.now f (g.S.Tiles.state c.loop-place.source) (g.S.Tiles.state c.tell_point.new.source)) inv.frame c.in_ok-tell_point.ensures.fetched in
+          let step = subst (λ f. FetchesPoint c.args.fold.now f g.S.Tiles c.loop-place.source c.tell_point.new.source) inv.frame c.in_ok-tell_point.ensures.fetched in
           let x = times_more (length c.args.frame.now) c.loop-place.place (condition_view c.args.fold.now.condition) in
           let y = times_more (length c.args.frame.now) c.loop-place.place (body_view c.args.fold.now.body) in
           omega (arith, step, inv.fetched, x, y);
-      reads = reads_on inv.reads c.tell_point.ensures.reads;
-      failures = c.in_ok-tell_point.ensures.reports ∙ inv.failures;
+      reads = reads_on inv.reads c.tell_point.ensures.reads.only;
+      failures = c.in_ok-tell_point.ensures.reads.tells ∙ inv.failures;
     }
 
 pub evaluate-returns-in_ok-operand-in-Op1-clause-fetched : goal.evaluate-returns-in_ok-operand-in-Op1-clause-fetched
@@ -287,7 +287,7 @@ evaluate-returns-in_ok-right-in-Op2-clause-fetched g t c = λ n h.
     let b = c.in_ok-right-in-Op2.ensures.fetched n (subst (All (λ (e : List ℤ). n ≤ length e)) (sym c.in_ok-left-in-Op2.ensures.frame) h) in
     let d : fetches (chosen (g.S.Tiles.state c.args.source.now) c.args.ground.now) n c.args.frame.now (body_view c.deref-in-Op2.result.now) ≡ fetches (chosen (g.S.Tiles.state c.args.source.now) c.args.ground.now) n c.args.frame.now (body_view c.in-Op2.l.value) = ap (λ b. fetches (chosen (g.S.Tiles.state c.args.source.now) c.args.ground.now) n c.args.frame.now (body_view b)) c.deref-in-Op2.ensures in
     let e : fetches (chosen (g.S.Tiles.state c.column_of-in-Op2.new.source) c.args.ground.now) n c.column_of-in-Op2.new.frame (body_view c.deref-in-Op2-2.result.now) ≡ fetches (chosen (g.S.Tiles.state c.args.source.now) c.args.ground.now) n c.args.frame.now (body_view c.in-Op2.r.value) =
-    ap (λ all. fetches (signature_of all c.args.ground.now.coverages.now) n c.column_of-in-Op2.new.frame (body_view c.deref-in-Op2-2.result.now)) c.column_of-in-Op2.ensures.reads.coverages ∙ ap (λ f. fetches (chosen (g.S.Tiles.state c.args.source.now) c.args.ground.now) n f (body_view c.deref-in-Op2-2.result.now)) c.in_ok-left-in-Op2.ensures.frame ∙ ap (λ b. fetches (chosen (g.S.Tiles.state c.args.source.now) c.args.ground.now) n c.args.frame.now (body_view b)) c.deref-in-Op2-2.ensures in
+    ap (λ all. fetches (signature_of all c.args.ground.now.coverages.now) n c.column_of-in-Op2.new.frame (body_view c.deref-in-Op2-2.result.now)) c.column_of-in-Op2.ensures.reads.only.coverages ∙ ap (λ f. fetches (chosen (g.S.Tiles.state c.args.source.now) c.args.ground.now) n f (body_view c.deref-in-Op2-2.result.now)) c.in_ok-left-in-Op2.ensures.frame ∙ ap (λ b. fetches (chosen (g.S.Tiles.state c.args.source.now) c.args.ground.now) n c.args.frame.now (body_view b)) c.deref-in-Op2-2.ensures in
     let i : fetches (chosen (g.S.Tiles.state c.args.source.now) c.args.ground.now) n c.args.frame.now (body_view c.args.body.now) ≡ fetches (chosen (g.S.Tiles.state c.args.source.now) c.args.ground.now) n c.args.frame.now (body_view c.in-Op2.l.value) + fetches (chosen (g.S.Tiles.state c.args.source.now) c.args.ground.now) n c.args.frame.now (body_view c.in-Op2.r.value) = ap (λ b. fetches (chosen (g.S.Tiles.state c.args.source.now) c.args.ground.now) n c.args.frame.now (body_view b)) c.in-Op2.is in
     omega (arith, a, b, d, e, i)
 
@@ -297,7 +297,7 @@ evaluate-returns-in_ok-bind-in-Bind-clause-fetched g t c = λ n h.
     let b = c.in_ok-bind-in-Bind.ensures.fetched n (subst (All (λ (e : List ℤ). n ≤ length e)) (sym c.in_ok-positions-in-Bind.ensures.frame) h) in
     let d : fetches (chosen (g.S.Tiles.state c.args.source.now) c.args.ground.now) n c.args.frame.now (body_view c.deref-in-Bind.result.now) ≡ fetches (chosen (g.S.Tiles.state c.args.source.now) c.args.ground.now) n c.args.frame.now (body_view c.in-Bind.position.value) = ap (λ b. fetches (chosen (g.S.Tiles.state c.args.source.now) c.args.ground.now) n c.args.frame.now (body_view b)) c.deref-in-Bind.ensures in
     let e : fetches (chosen (g.S.Tiles.state c.column_of-in-Bind.new.source) c.args.ground.now) n c.column_of-in-Bind.new.frame (body_view c.deref-in-Bind-2.result.now) ≡ fetches (chosen (g.S.Tiles.state c.args.source.now) c.args.ground.now) n c.args.frame.now (body_view c.in-Bind.inner.value) =
-    ap (λ all. fetches (signature_of all c.args.ground.now.coverages.now) n c.column_of-in-Bind.new.frame (body_view c.deref-in-Bind-2.result.now)) c.column_of-in-Bind.ensures.reads.coverages ∙ ap (λ f. fetches (chosen (g.S.Tiles.state c.args.source.now) c.args.ground.now) n f (body_view c.deref-in-Bind-2.result.now)) c.in_ok-positions-in-Bind.ensures.frame ∙ ap (λ b. fetches (chosen (g.S.Tiles.state c.args.source.now) c.args.ground.now) n c.args.frame.now (body_view b)) c.deref-in-Bind-2.ensures in
+    ap (λ all. fetches (signature_of all c.args.ground.now.coverages.now) n c.column_of-in-Bind.new.frame (body_view c.deref-in-Bind-2.result.now)) c.column_of-in-Bind.ensures.reads.only.coverages ∙ ap (λ f. fetches (chosen (g.S.Tiles.state c.args.source.now) c.args.ground.now) n f (body_view c.deref-in-Bind-2.result.now)) c.in_ok-positions-in-Bind.ensures.frame ∙ ap (λ b. fetches (chosen (g.S.Tiles.state c.args.source.now) c.args.ground.now) n c.args.frame.now (body_view b)) c.deref-in-Bind-2.ensures in
     let i : fetches (chosen (g.S.Tiles.state c.args.source.now) c.args.ground.now) n c.args.frame.now (body_view c.args.body.now) ≡ fetches (chosen (g.S.Tiles.state c.args.source.now) c.args.ground.now) n c.args.frame.now (body_view c.in-Bind.position.value) + fetches (chosen (g.S.Tiles.state c.args.source.now) c.args.ground.now) n c.args.frame.now (body_view c.in-Bind.inner.value) = ap (λ b. fetches (chosen (g.S.Tiles.state c.args.source.now) c.args.ground.now) n c.args.frame.now (body_view b)) c.in-Bind.is in
     omega (arith, a, b, d, e, i)
 
@@ -326,11 +326,11 @@ condense-returns-clause-fetched g t c = λ n h. c.in_ok-tell_all.ensures.fetched
 pub tell_points-returns-clause-fetched : goal.tell_points-returns-clause-fetched
 tell_points-returns-clause-fetched g t c =
     let e : c.loop-place.place ≡ count c.args.fold.now.domain = omega (arith, c.loop-place-test.false, c.loop-place.auto.place-end, c.points-place-end.ensures.count) in
-    subst (λ k. FetchesPoints c.args.fold.now (length c.args.frame.now * k) (g.S.Tiles.state c.args.source.now) (g.S.Tiles.state c.loop-place.source)) e c.loop-place.invariant.fetched
+    subst (λ k. FetchesPoints c.args.fold.now (length c.args.frame.now * k) g.S.Tiles c.args.source.now c.loop-place.source) e c.loop-place.invariant.fetched
 
 pub tell_point-returns-clause-fetched : goal.tell_point-returns-clause-fetched
 tell_point-returns-clause-fetched g t c =
-    subst (λ k. FetchesPoints c.args.fold.now k (g.S.Tiles.state c.args.source.now) (g.S.Tiles.state c.tell.new.source))
+    subst (λ k. FetchesPoints c.args.fold.now k g.S.Tiles c.args.source.now c.tell.new.source)
     (ap length c.in_ok-push_place.ensures.frame ∙ length-map c.args.frame.now (λ e. e ++ (get_or (points c.args.fold.now.domain) c.args.point.now.place []))) c.in_ok-tell.ensures.fetched
 
 pub tell-returns-in_ok-column-in-None-clause-fetched : goal.tell-returns-in_ok-column-in-None-clause-fetched
@@ -346,7 +346,7 @@ tell-returns-in_ok-column-in-Some-clause-fetched g t c =
     let x = times_few (chosen (g.S.Tiles.state c.args.source.now) c.args.point.now.ground.now) 0 c.args.frame.now (body_view c.in-Some.condition) in
     let y = times_few (chosen (g.S.Tiles.state c.args.source.now) c.args.point.now.ground.now) 0 c.args.frame.now (body_view c.args.fold.now.body) in
     let e : fetches (chosen (g.S.Tiles.state c.column_of-in-Some.new.source) c.args.point.now.ground.now) 0 c.column_of-in-Some.new.frame (body_view c.args.fold.now.body) ≡ fetches (chosen (g.S.Tiles.state c.args.source.now) c.args.point.now.ground.now) 0 c.args.frame.now (body_view c.args.fold.now.body) =
-    ap (λ all. fetches (signature_of all c.args.point.now.ground.now.coverages.now) 0 c.column_of-in-Some.new.frame (body_view c.args.fold.now.body)) c.column_of-in-Some.ensures.reads.coverages ∙ ap (λ f. fetches (chosen (g.S.Tiles.state c.args.source.now) c.args.point.now.ground.now) 0 f (body_view c.args.fold.now.body)) c.in_ok-chosen-in-Some.ensures.frame in
+    ap (λ all. fetches (signature_of all c.args.point.now.ground.now.coverages.now) 0 c.column_of-in-Some.new.frame (body_view c.args.fold.now.body)) c.column_of-in-Some.ensures.reads.only.coverages ∙ ap (λ f. fetches (chosen (g.S.Tiles.state c.args.source.now) c.args.point.now.ground.now) 0 f (body_view c.args.fold.now.body)) c.in_ok-chosen-in-Some.ensures.frame in
     let i : bound_times (length c.args.frame.now) (condition_view c.args.fold.now.condition) ≡ bound_times (length c.args.frame.now) (body_view c.in-Some.condition) = ap (λ (o : Option _). bound_times (length c.args.frame.now) (condition_view o)) c.in-Some.is in
     omega (arith, a, b, x, y, e, i)
 
@@ -392,8 +392,8 @@ tell_tiles-loop-tile-preserved g t c =
           let x = times_tile (length c.args.frame.now) dom part c.loop-tile.tile (condition_view c.args.fold.now.condition) lt is in
           let y = times_tile (length c.args.frame.now) dom part c.loop-tile.tile (body_view c.args.fold.now.body) lt is in
           omega (arith, c.in_ok-tell_part.ensures.fetched, inv.fetched, x, y);
-      reads = reads_on inv.reads c.tell_part.ensures.reads;
-      failures = c.in_ok-tell_part.ensures.reports ∙ inv.failures;
+      reads = reads_on inv.reads c.tell_part.ensures.reads.only;
+      failures = c.in_ok-tell_part.ensures.reads.tells ∙ inv.failures;
     }
 
 pub tell_tiles-returns-clause-told : goal.tell_tiles-returns-clause-told
@@ -405,7 +405,7 @@ pub tell_tiles-returns-clause-fetched : goal.tell_tiles-returns-clause-fetched
 tell_tiles-returns-clause-fetched g t c =
     let whole : c.loop-tile.tile ≡ length (tile_boxes c.args.fold.now.domain) = omega (arith, c.loop-tile-test.false, c.loop-tile.auto.tile-end, c.tiles-tile-end.ensures.value) in
     let n : length (points_to c.args.fold.now.domain c.loop-tile.tile) ≡ count c.args.fold.now.domain = ap (λ n. length (points_to c.args.fold.now.domain n)) whole ∙ points_whole c.args.fold.now.domain c.axes-axes.ensures.domain.ordered in
-    subst (λ k. FetchesPoints c.args.fold.now (length c.args.frame.now * k) (g.S.Tiles.state c.args.source.now) (g.S.Tiles.state c.loop-tile.source)) n c.loop-tile.invariant.fetched
+    subst (λ k. FetchesPoints c.args.fold.now (length c.args.frame.now * k) g.S.Tiles c.args.source.now c.loop-tile.source) n c.loop-tile.invariant.fetched
 
 pub tell_part-loop-place-init : goal.tell_part-loop-place-init
 tell_part-loop-place-init g t c = record {
@@ -479,8 +479,8 @@ tell_part-loop-place-preserved g t c =
           let u = ap (λ m. bound_times m (condition_view c.args.fold.now.condition)) (long ∙ length-points part) in
           let v = ap (λ m. bound_times m (body_view c.args.fold.now.body)) (long ∙ length-points part) in
           omega (arith, c.in_ok-found.ensures.fetched, inv.fetched, x, y, u, v);
-      reads = reads_on inv.reads c.fold_frame.ensures.reads;
-      failures = c.in_ok-found.ensures.reports ∙ inv.failures;
+      reads = reads_on inv.reads c.fold_frame.ensures.reads.only;
+      failures = c.in_ok-found.ensures.reads.tells ∙ inv.failures;
     }
 
 pub tell_part-returns-clause-told : goal.tell_part-returns-clause-told
@@ -507,7 +507,7 @@ pub tell_part-returns-clause-fetched : goal.tell_part-returns-clause-fetched
 tell_part-returns-clause-fetched g t c =
     let e : c.loop-place.place ≡ length c.args.around.now.frame.now = omega (arith, c.loop-place-test.false, c.loop-place.auto.place-end, c.places-place-end.ensures.value) in
     let n : count c.args.part.now.area * c.loop-place.place ≡ length c.args.around.now.frame.now * count c.args.part.now.area = ap (λ k. count c.args.part.now.area * k) e ∙ mul_comm (count c.args.part.now.area) (length c.args.around.now.frame.now) in
-    subst (λ k. FetchesPoints c.args.fold.now k (g.S.Tiles.state c.args.source.now) (g.S.Tiles.state c.loop-place.source)) n c.loop-place.invariant.fetched
+    subst (λ k. FetchesPoints c.args.fold.now k g.S.Tiles c.args.source.now c.loop-place.source) n c.loop-place.invariant.fetched
 
 pub fold_frame-returns-in_ok-column-in-None-clause-stands : goal.fold_frame-returns-in_ok-column-in-None-clause-stands
 fold_frame-returns-in_ok-column-in-None-clause-stands g t c = λ i.
@@ -538,7 +538,7 @@ fold_frame-returns-then-is_never-clause-fetched g t c =
 
 pub fold_frame-returns-in_ok-column-in-Some-clause-stands : goal.fold_frame-returns-in_ok-column-in-Some-clause-stands
 fold_frame-returns-in_ok-column-in-Some-clause-stands g t c = λ i.
-    let y = c.in_ok-column-in-Some.ensures.value (c.column_of-in-Some.ensures.reads.intact i) ∙ ap (λ s. map (run (cells_of s c.args.ground.now.coverages.now) c.args.ground.now.registers.now (body_view c.args.fold.now.body)) c.column_of-in-Some.new.frame) c.column_of-in-Some.ensures.reads.cells ∙ ap (λ f. map (meaning (g.S.Tiles.state c.args.source.now) c.args.ground.now (body_view c.args.fold.now.body)) f) c.in_ok-chosen-in-Some.ensures.frame in
+    let y = c.in_ok-column-in-Some.ensures.value (c.column_of-in-Some.ensures.reads.only.intact i) ∙ ap (λ s. map (run (cells_of s c.args.ground.now.coverages.now) c.args.ground.now.registers.now (body_view c.args.fold.now.body)) c.column_of-in-Some.new.frame) c.column_of-in-Some.ensures.reads.only.cells ∙ ap (λ f. map (meaning (g.S.Tiles.state c.args.source.now) c.args.ground.now (body_view c.args.fold.now.body)) f) c.in_ok-chosen-in-Some.ensures.frame in
     subst (λ (o : Option _). Stands c.fold_column_where-found.result (demanded_at c.args.ranks.now (map (meaning (g.S.Tiles.state c.args.source.now) c.args.ground.now (condition_view o)) c.args.frame.now) (map (meaning (g.S.Tiles.state c.args.source.now) c.args.ground.now (body_view c.args.fold.now.body)) c.args.frame.now)))
     (sym c.in-Some.is)
     (subst (Stands c.fold_column_where-found.result)
@@ -551,16 +551,16 @@ fold_frame-returns-in_ok-column-in-Some-clause-fetched g t c =
     let x = times_few (chosen (g.S.Tiles.state c.args.source.now) c.args.ground.now) 0 c.args.frame.now (body_view c.in-Some.condition) in
     let y = times_few (chosen (g.S.Tiles.state c.args.source.now) c.args.ground.now) 0 c.args.frame.now (body_view c.args.fold.now.body) in
     let e : fetches (chosen (g.S.Tiles.state c.column_of-in-Some.new.source) c.args.ground.now) 0 c.column_of-in-Some.new.frame (body_view c.args.fold.now.body) ≡ fetches (chosen (g.S.Tiles.state c.args.source.now) c.args.ground.now) 0 c.args.frame.now (body_view c.args.fold.now.body) =
-    ap (λ all. fetches (signature_of all c.args.ground.now.coverages.now) 0 c.column_of-in-Some.new.frame (body_view c.args.fold.now.body)) c.column_of-in-Some.ensures.reads.coverages ∙ ap (λ f. fetches (chosen (g.S.Tiles.state c.args.source.now) c.args.ground.now) 0 f (body_view c.args.fold.now.body)) c.in_ok-chosen-in-Some.ensures.frame in
+    ap (λ all. fetches (signature_of all c.args.ground.now.coverages.now) 0 c.column_of-in-Some.new.frame (body_view c.args.fold.now.body)) c.column_of-in-Some.ensures.reads.only.coverages ∙ ap (λ f. fetches (chosen (g.S.Tiles.state c.args.source.now) c.args.ground.now) 0 f (body_view c.args.fold.now.body)) c.in_ok-chosen-in-Some.ensures.frame in
     let i : bound_times (length c.args.frame.now) (condition_view c.args.fold.now.condition) ≡ bound_times (length c.args.frame.now) (body_view c.in-Some.condition) = ap (λ (o : Option _). bound_times (length c.args.frame.now) (condition_view o)) c.in-Some.is in
     omega (arith, a, b, x, y, e, i)
 
-pub tell_part-returns-in_err-found-clause-reports : goal.tell_part-returns-in_err-found-clause-reports
-tell_part-returns-in_err-found-clause-reports g t c =
+pub tell_part-returns-in_err-found-clause-reads : goal.tell_part-returns-in_err-found-clause-reads
+tell_part-returns-in_err-found-clause-reads g t c =
     let inv = c.loop-place.invariant in
-    let e = c.in_err-found.ensures.reports in
+    let e = c.in_err-found.ensures.reads.tells in
     let i = inv.reads.intact in
-    search (rules, inv.failures, e, i)
+    record { only = reads_on inv.reads c.fold_frame.ensures.reads.only; tells = search (rules, inv.failures, e, i) }
 
 -- ---- folds of zones
 
@@ -601,7 +601,7 @@ side_of-returns-in-Within-clause-value g t c =
 
 pub side_of-returns-in-Within-clause-fetched : goal.side_of-returns-in-Within-clause-fetched
 side_of-returns-in-Within-clause-fetched g t c =
-    subst (λ b. Fetches c.inner_of.result c.args.on.now.ground.now b c.args.frame.now (g.S.Tiles.state c.args.source.now) (g.S.Tiles.state c.inner_of.new.source))
+    subst (λ b. Fetches c.inner_of.result c.args.on.now.ground.now b c.args.frame.now g.S.Tiles c.args.source.now c.inner_of.new.source)
     (ap (λ r. operand c.args.left (equation_in r (condition_view c.args.fold.now.condition) (body_view c.args.fold.now.body))) (sym c.in-Within.is)) c.inner_of.ensures.fetched
 
 pub beside-returns-in_ok-always_true-in-Alone-clause-value : goal.beside-returns-in_ok-always_true-in-Alone-clause-value
@@ -617,7 +617,7 @@ other_of-returns-in-Condition-clause-value g t c =
 
 pub other_of-returns-in-Condition-clause-fetched : goal.other_of-returns-in-Condition-clause-fetched
 other_of-returns-in-Condition-clause-fetched g t c =
-    subst (λ b. Fetches c.column_of.result c.args.on.now.ground.now b c.args.frame.now (g.S.Tiles.state c.args.source.now) (g.S.Tiles.state c.column_of.new.source))
+    subst (λ b. Fetches c.column_of.result c.args.on.now.ground.now b c.args.frame.now g.S.Tiles c.args.source.now c.column_of.new.source)
     (ap (λ r. other_in r (body_view c.args.fold.now.body)) (sym c.in-Condition.is)) c.column_of.ensures.fetched
 
 pub other_of-returns-in-Within-clause-value : goal.other_of-returns-in-Within-clause-value
@@ -627,7 +627,7 @@ other_of-returns-in-Within-clause-value g t c =
 
 pub other_of-returns-in-Within-clause-fetched : goal.other_of-returns-in-Within-clause-fetched
 other_of-returns-in-Within-clause-fetched g t c =
-    subst (λ b. Fetches c.beside.result c.args.on.now.ground.now b c.args.frame.now (g.S.Tiles.state c.args.source.now) (g.S.Tiles.state c.beside.new.source))
+    subst (λ b. Fetches c.beside.result c.args.on.now.ground.now b c.args.frame.now g.S.Tiles c.args.source.now c.beside.new.source)
     (ap (λ r. other_in r (body_view c.args.fold.now.body)) (sym c.in-Within.is)) c.beside.ensures.fetched
 
 pub tell_zone_tiles-loop-number-init : goal.tell_zone_tiles-loop-number-init
@@ -672,8 +672,8 @@ tell_zone_tiles-loop-number-preserved g t c =
           let x = times_next dom part c.loop-number.number (own_of c.args.fold.now c.args.zoned.now.zoning.zones) lt is in
           let y = times_next dom part c.loop-number.number (other_of c.args.fold.now c.args.zoned.now.zoning.zones) lt is in
           omega (arith, c.in_ok-tell_zone_part.ensures.fetched, inv.fetched, x, y);
-      reads = reads_on inv.reads c.tell_zone_part.ensures.reads;
-      failures = c.in_ok-tell_zone_part.ensures.reports ∙ inv.failures;
+      reads = reads_on inv.reads c.tell_zone_part.ensures.reads.only;
+      failures = c.in_ok-tell_zone_part.ensures.reads.tells ∙ inv.failures;
     }
 
 pub tell_zone_tiles-returns-clause-told : goal.tell_zone_tiles-returns-clause-told
@@ -685,7 +685,7 @@ pub tell_zone_tiles-returns-clause-fetched : goal.tell_zone_tiles-returns-clause
 tell_zone_tiles-returns-clause-fetched g t c =
     let whole : c.loop-number.number ≡ length (tile_boxes c.args.fold.now.domain) = omega (arith, c.loop-number-test.false, c.loop-number.auto.number-end, c.tiles-number-end.ensures.value) in
     let n : length (points_to c.args.fold.now.domain c.loop-number.number) ≡ count c.args.fold.now.domain = ap (λ n. length (points_to c.args.fold.now.domain n)) whole ∙ points_whole c.args.fold.now.domain c.axes-axes.ensures.domain.ordered in
-    subst (λ k. FetchesOwn c.args.zoned.now c.args.fold.now k (g.S.Tiles.state c.args.source.now) (g.S.Tiles.state c.loop-number.source)) n c.loop-number.invariant.fetched
+    subst (λ k. FetchesOwn c.args.zoned.now c.args.fold.now k g.S.Tiles c.args.source.now c.loop-number.source) n c.loop-number.invariant.fetched
 
 pub tell_zone_part-side_of-requires : goal.tell_zone_part-side_of-requires
 tell_zone_part-side_of-requires g t c =
@@ -702,10 +702,10 @@ pub tell_zone_part-other_of-requires : goal.tell_zone_part-other_of-requires
 tell_zone_part-other_of-requires g t c =
     let one = one_place (fold_view c.args.fold.now) c.args.zoned.now.frame.now 0 c.requires.zones.some c.requires.place.place in
     let both = folded_place c.args.fold.now.op c.args.fold.now.domain (condition_view c.args.fold.now.condition) (body_view c.args.fold.now.body) (get_or c.args.zoned.now.frame.now 0 [] ∷ []) one in
-    let signatures : c.args.zoned.now.zoning.ground.now.signatures.now ≡ (g.S.Tiles.state c.side_of.new.source).coverages = c.requires.place.signatures ∙ sym c.side_of.ensures.reads.coverages in
+    let signatures : c.args.zoned.now.zoning.ground.now.signatures.now ≡ (g.S.Tiles.state c.side_of.new.source).coverages = c.requires.place.signatures ∙ sym c.side_of.ensures.reads.only.coverages in
     let there : HasPlaceOver (g.S.Tiles.state c.side_of.new.source) c.args.zoned.now.zoning.ground.now (other_of c.args.fold.now c.args.zoned.now.zoning.zones) c.side_of.new.frame =
     subst (HasPlaceOver (g.S.Tiles.state c.side_of.new.source) c.args.zoned.now.zoning.ground.now (other_of c.args.fold.now c.args.zoned.now.zoning.zones)) (sym (c.in_ok-own.ensures.frame ∙ c.in_ok-inner.ensures))
-    (subst (λ all. HasPlace (signature_of all c.args.zoned.now.zoning.ground.now.coverages.now) (length c.args.zoned.now.zoning.ground.now.registers.now) (other_of c.args.fold.now c.args.zoned.now.zoning.zones) (map (λ p. get_or c.args.zoned.now.frame.now 0 [] ++ p) (points c.args.part.now.area))) (sym c.side_of.ensures.reads.coverages)
+    (subst (λ all. HasPlace (signature_of all c.args.zoned.now.zoning.ground.now.coverages.now) (length c.args.zoned.now.zoning.ground.now.registers.now) (other_of c.args.fold.now c.args.zoned.now.zoning.zones) (map (λ p. get_or c.args.zoned.now.frame.now 0 [] ++ p) (points c.args.part.now.area))) (sym c.side_of.ensures.reads.only.coverages)
     (other_place c.args.zoned.now.zoning.zones.role (condition_view c.args.fold.now.condition) (body_view c.args.fold.now.body) (own_of c.args.fold.now c.args.zoned.now.zoning.zones) (key_of c.args.fold.now c.args.zoned.now.zoning.zones) c.args.zoned.now.zoning.zones.key_first c.requires.zones.depth (map (λ p. get_or c.args.zoned.now.frame.now 0 [] ++ p) (points c.args.part.now.area)) c.requires.zones.zoned
     (place_in_part c.args.fold.now.domain c.args.part.now.area (body_view c.args.fold.now.body) (get_or c.args.zoned.now.frame.now 0 []) both.1 c.requires.part.inside c.requires.part.ordered))) in
     search (rules, signatures, there)
@@ -726,7 +726,7 @@ tell_zone_part-tell_seen-requires g t c =
 
 pub tell_zone_part-returns-clause-told : goal.tell_zone_part-returns-clause-told
 tell_zone_part-returns-clause-told g t c = λ h i.
-    let column = c.in_ok-column.ensures.value (c.side_of.ensures.reads.intact i) ∙ ap (λ s. map (run (cells_of s c.args.zoned.now.zoning.ground.now.coverages.now) c.args.zoned.now.zoning.ground.now.registers.now (other_of c.args.fold.now c.args.zoned.now.zoning.zones)) c.side_of.new.frame) c.side_of.ensures.reads.cells ∙ ap (map (meaning (g.S.Tiles.state c.args.source.now) c.args.zoned.now.zoning.ground.now (other_of c.args.fold.now c.args.zoned.now.zoning.zones))) c.in_ok-own.ensures.frame in
+    let column = c.in_ok-column.ensures.value (c.side_of.ensures.reads.only.intact i) ∙ ap (λ s. map (run (cells_of s c.args.zoned.now.zoning.ground.now.coverages.now) c.args.zoned.now.zoning.ground.now.registers.now (other_of c.args.fold.now c.args.zoned.now.zoning.zones)) c.side_of.new.frame) c.side_of.ensures.reads.only.cells ∙ ap (map (meaning (g.S.Tiles.state c.args.source.now) c.args.zoned.now.zoning.ground.now (other_of c.args.fold.now c.args.zoned.now.zoning.zones))) c.in_ok-own.ensures.frame in
     zone_told (cells_of (g.S.Tiles.state c.args.source.now).cells c.args.zoned.now.zoning.ground.now.coverages.now) c.args.zoned.now.zoning.ground.now.registers.now c.args.fold.now.domain c.args.zoned.now.zoning.zones.role (condition_view c.args.fold.now.condition) (body_view c.args.fold.now.body) (own_of c.args.fold.now c.args.zoned.now.zoning.zones) (key_of c.args.fold.now c.args.zoned.now.zoning.zones) c.args.zoned.now.zoning.zones.key_first
     c.args.zoned.now.frame.now (points c.args.part.now.area) c.in_ok-inner.inner c.args.zoned.now.keys.now.column c.in_ok-own.own c.in_ok-column.column c.deref.result.now c.args.folds.now c.tell_seen.new.folds
     c.requires.zones (c.tell_seen.auto.folds ∙ c.requires.folds.many) c.in_ok-inner.ensures (c.deref.ensures.value ∙ c.requires.part.ranks) (h i) (c.in_ok-own.ensures.value i) column c.in_ok-tell_seen.ensures.told
@@ -750,7 +750,7 @@ tell_zone_part-returns-clause-fetched g t c =
     let x = times_few (chosen (g.S.Tiles.state c.args.source.now) c.args.zoned.now.zoning.ground.now) 0 c.in_ok-inner.inner (own_of c.args.fold.now c.args.zoned.now.zoning.zones) in
     let y = times_few (chosen (g.S.Tiles.state c.args.source.now) c.args.zoned.now.zoning.ground.now) 0 c.in_ok-inner.inner (other_of c.args.fold.now c.args.zoned.now.zoning.zones) in
     let e : fetches (chosen (g.S.Tiles.state c.side_of.new.source) c.args.zoned.now.zoning.ground.now) 0 c.side_of.new.frame (other_of c.args.fold.now c.args.zoned.now.zoning.zones) ≡ fetches (chosen (g.S.Tiles.state c.args.source.now) c.args.zoned.now.zoning.ground.now) 0 c.in_ok-inner.inner (other_of c.args.fold.now c.args.zoned.now.zoning.zones) =
-    ap (λ all. fetches (signature_of all c.args.zoned.now.zoning.ground.now.coverages.now) 0 c.side_of.new.frame (other_of c.args.fold.now c.args.zoned.now.zoning.zones)) c.side_of.ensures.reads.coverages ∙ ap (λ f. fetches (chosen (g.S.Tiles.state c.args.source.now) c.args.zoned.now.zoning.ground.now) 0 f (other_of c.args.fold.now c.args.zoned.now.zoning.zones)) c.in_ok-own.ensures.frame in
+    ap (λ all. fetches (signature_of all c.args.zoned.now.zoning.ground.now.coverages.now) 0 c.side_of.new.frame (other_of c.args.fold.now c.args.zoned.now.zoning.zones)) c.side_of.ensures.reads.only.coverages ∙ ap (λ f. fetches (chosen (g.S.Tiles.state c.args.source.now) c.args.zoned.now.zoning.ground.now) 0 f (other_of c.args.fold.now c.args.zoned.now.zoning.zones)) c.in_ok-own.ensures.frame in
     let n : length c.in_ok-inner.inner ≡ count area = ap length c.in_ok-inner.ensures ∙ length-map (points area) (λ p. get_or c.args.zoned.now.frame.now 0 [] ++ p) ∙ length-points area in
     let u = ap (λ m. bound_times m (own_of c.args.fold.now c.args.zoned.now.zoning.zones)) n in
     let v = ap (λ m. bound_times m (other_of c.args.fold.now c.args.zoned.now.zoning.zones)) n in
@@ -765,7 +765,7 @@ tell_zones-side_of-requires g t c =
 pub tell_zones-tell_zone_tiles-requires : goal.tell_zones-tell_zone_tiles-requires
 tell_zones-tell_zone_tiles-requires g t c =
     let frame = c.in_ok-column.ensures.frame in
-    let place = subst (FoldHasPlace (g.S.Tiles.state c.side_of.new.source) c.args.on.now.ground.now c.args.fold.now) (sym frame) (fold_later c.args.on.now.ground.now c.args.fold.now c.args.frame.now c.side_of.ensures.reads c.requires.place) in
+    let place = subst (FoldHasPlace (g.S.Tiles.state c.side_of.new.source) c.args.on.now.ground.now c.args.fold.now) (sym frame) (fold_later c.args.on.now.ground.now c.args.fold.now c.args.frame.now c.side_of.ensures.reads.only c.requires.place) in
     let zones = subst (λ f. AreZonesOf c.args.fold.now f c.args.on.now.zones) (sym frame) c.requires.zones in
     let keys : length c.in_ok-keys.keys.column ≡ length c.side_of.new.frame = ap length c.in_ok-keys.ensures ∙ c.in_ok-column.ensures.places ∙ ap length (sym frame) in
     let folds = subst (λ f. AreOfFold c.args.fold.now f 0 c.args.folds.now) (sym frame) c.requires.folds in
@@ -773,14 +773,14 @@ tell_zones-tell_zone_tiles-requires g t c =
 
 pub tell_zones-returns-clause-told : goal.tell_zones-returns-clause-told
 tell_zones-returns-clause-told g t c = λ i.
-    let same = c.side_of.ensures.reads.cells in
+    let same = c.side_of.ensures.reads.only.cells in
     let frame = c.in_ok-column.ensures.frame in
     let keys : c.in_ok-keys.keys.column ≡ map (meaning (g.S.Tiles.state c.side_of.new.source) c.args.on.now.ground.now (key_of c.args.fold.now c.args.on.now.zones)) c.side_of.new.frame =
     c.in_ok-keys.ensures ∙ c.in_ok-column.ensures.value i
     ∙ ap (λ s. map (run (cells_of s c.args.on.now.ground.now.coverages.now) c.args.on.now.ground.now.registers.now (key_of c.args.fold.now c.args.on.now.zones)) c.args.frame.now) (sym same) ∙ ap (map (meaning (g.S.Tiles.state c.side_of.new.source) c.args.on.now.ground.now (key_of c.args.fold.now c.args.on.now.zones))) (sym frame) in
     subst (λ s. EachTakesIn c.args.folds.now c.tell_zone_tiles.new.folds (λ k. told_of (under_vars (run (cells_of s c.args.on.now.ground.now.coverages.now) c.args.on.now.ground.now.registers.now (condition_view c.args.fold.now.condition)) (get_or c.args.frame.now k [])) (under_vars (run (cells_of s c.args.on.now.ground.now.coverages.now) c.args.on.now.ground.now.registers.now (body_view c.args.fold.now.body)) (get_or c.args.frame.now k [])) 0 (points c.args.fold.now.domain))) same
     (subst (λ f. EachTakesIn c.args.folds.now c.tell_zone_tiles.new.folds (λ k. told_of (under_vars (meaning (g.S.Tiles.state c.side_of.new.source) c.args.on.now.ground.now (condition_view c.args.fold.now.condition)) (get_or f k [])) (under_vars (meaning (g.S.Tiles.state c.side_of.new.source) c.args.on.now.ground.now (body_view c.args.fold.now.body)) (get_or f k [])) 0 (points c.args.fold.now.domain))) frame
-    (c.in_ok-tell_zone_tiles.ensures.told (λ _. keys) (c.side_of.ensures.reads.intact i)))
+    (c.in_ok-tell_zone_tiles.ensures.told (λ _. keys) (c.side_of.ensures.reads.only.intact i)))
 
 pub tell_zones-returns-clause-fetched : goal.tell_zones-returns-clause-fetched
 tell_zones-returns-clause-fetched g t c =

@@ -12,7 +12,7 @@ invariant-tell_points-loop-place g l = record {
   told : (g.S.Tiles.state l.fn.source).intact → EachTakesIn l.fn.folds l.folds (λ k. listed (g.S.Tiles.state l.fn.source) l.ground l.fold (take l.place (points l.fold.domain)) (get_or l.fn.frame k []));
   folds : AreOfFold l.fold l.fn.frame l.place l.folds;
   frame : l.frame ≡ l.fn.frame;
-  fetched : FetchesPoints l.fold (length l.fn.frame * l.place) (g.S.Tiles.state l.fn.source) (g.S.Tiles.state l.source);
+  fetched : FetchesPoints l.fold (length l.fn.frame * l.place) g.S.Tiles l.fn.source l.source;
   reads : OnlyReads (g.S.Tiles.state l.fn.source) (g.S.Tiles.state l.source);
   failures : (g.S.Tiles.state l.source).failures ≡ (g.S.Tiles.state l.fn.source).failures;
 }
@@ -21,7 +21,7 @@ abbrev pub invariant-tell_tiles-loop-tile : goal.invariant-tell_tiles-loop-tile
 invariant-tell_tiles-loop-tile g l = record {
   told : (g.S.Tiles.state l.fn.source).intact → EachTakesIn l.fn.folds l.folds (λ k. added_by (g.S.Tiles.state l.fn.source) l.ground l.fold (points_to l.fold.domain l.tile) (get_or l.frame k []));
   folds : AreOfFold l.fold l.frame (length (points_to l.fold.domain l.tile)) l.folds;
-  fetched : FetchesPoints l.fold (length l.frame * length (points_to l.fold.domain l.tile)) (g.S.Tiles.state l.fn.source) (g.S.Tiles.state l.source);
+  fetched : FetchesPoints l.fold (length l.frame * length (points_to l.fold.domain l.tile)) g.S.Tiles l.fn.source l.source;
   reads : OnlyReads (g.S.Tiles.state l.fn.source) (g.S.Tiles.state l.source);
   failures : (g.S.Tiles.state l.source).failures ≡ (g.S.Tiles.state l.fn.source).failures;
 }
@@ -32,7 +32,7 @@ invariant-tell_part-loop-place g l = record {
   counted : (k : ℕ) (d : Accumulator) → k < l.place → (get_or l.folds k d).running.count ≤ (get_or l.fn.folds k d).running.count + length (points l.part.area);
   rest : (k : ℕ) (d : Accumulator) → l.place ≤ k → get_or l.folds k d ≡ get_or l.fn.folds k d;
   op : AreOf l.fold.op l.folds;
-  fetched : FetchesPoints l.fold (count l.part.area * l.place) (g.S.Tiles.state l.fn.source) (g.S.Tiles.state l.source);
+  fetched : FetchesPoints l.fold (count l.part.area * l.place) g.S.Tiles l.fn.source l.source;
   reads : OnlyReads (g.S.Tiles.state l.fn.source) (g.S.Tiles.state l.source);
   failures : (g.S.Tiles.state l.source).failures ≡ (g.S.Tiles.state l.fn.source).failures;
 }
@@ -41,7 +41,7 @@ abbrev pub invariant-tell_zone_tiles-loop-number : goal.invariant-tell_zone_tile
 invariant-tell_zone_tiles-loop-number g l = record {
   told : AreKeysOf (g.S.Tiles.state l.fn.source) l.zoned l.fold → (g.S.Tiles.state l.fn.source).intact → EachTakesIn l.fn.folds l.folds (λ k. added_by (g.S.Tiles.state l.fn.source) l.zoned.zoning.ground.now l.fold (points_to l.fold.domain l.number) (get_or l.zoned.frame.now k []));
   folds : AreOfFold l.fold l.zoned.frame.now (length (points_to l.fold.domain l.number)) l.folds;
-  fetched : FetchesOwn l.zoned l.fold (length (points_to l.fold.domain l.number)) (g.S.Tiles.state l.fn.source) (g.S.Tiles.state l.source);
+  fetched : FetchesOwn l.zoned l.fold (length (points_to l.fold.domain l.number)) g.S.Tiles l.fn.source l.source;
   reads : OnlyReads (g.S.Tiles.state l.fn.source) (g.S.Tiles.state l.source);
   failures : (g.S.Tiles.state l.source).failures ≡ (g.S.Tiles.state l.fn.source).failures;
 }

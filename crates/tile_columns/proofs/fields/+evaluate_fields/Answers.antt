@@ -66,12 +66,12 @@ evaluate_fields-requires g t c κs within =
     let hi : SFits w32 c.bind-item.result.interval.hi = search rules in
     let some = not_below_of _ _ b.interval.hi b.interval.lo (to_z-of_z w32 b.interval.hi hi) (to_z-of_z w32 b.interval.lo lo) c.if-bind.false in
     let place : FieldsHavePlace (signature_of (g.S.Tiles.state c.evaluate.new.source).coverages cov) regs (map bind_view rest) fields c.push_column.new.self =
-    subst (λ all. FieldsHavePlace (signature_of all cov) regs (map bind_view rest) fields c.push_column.new.self) (sym c.evaluate.ensures.reads.coverages)
+    subst (λ all. FieldsHavePlace (signature_of all cov) regs (map bind_view rest) fields c.push_column.new.self) (sym c.evaluate.ensures.reads.only.coverages)
     (subst (FieldsHavePlace (signature_of (g.S.Tiles.state c.args.source.now).coverages cov) regs (map bind_view rest) fields) (sym frame)
     (behind_extended (signature_of (g.S.Tiles.state c.args.source.now).coverages cov) regs b.interval (body_view b.position) (map bind_view rest) fields c.args.frame.now c.evaluate.new.out
     (subst (λ l. FieldsHavePlace (signature_of (g.S.Tiles.state c.args.source.now).coverages cov) regs (map bind_view l) fields c.args.frame.now) binds c.requires.place)
     some c.in_ok-evaluate-in-len1-up.ensures.places)) in
-    let same : c.args.ground.now.signatures.now ≡ (g.S.Tiles.state c.evaluate.new.source).coverages = c.requires.signatures ∙ sym c.evaluate.ensures.reads.coverages in
+    let same : c.args.ground.now.signatures.now ≡ (g.S.Tiles.state c.evaluate.new.source).coverages = c.requires.signatures ∙ sym c.evaluate.ensures.reads.only.coverages in
     let less : length rest < length c.args.binds.now = (let e = ap length binds in omega (arith, e)) in
     search (rules, place, same, less)
 
@@ -102,8 +102,8 @@ returns-in_ok-settle_columns-in-len1-up-clause-value g t c = λ i.
     c.in_ok-push_column-in-len1-up.ensures ∙ ap (λ f. extended f c.in_ok-numbers-in-len1-up.numbers.items) at.frame ∙ ap (extended c.args.frame.now) c.in_ok-numbers-in-len1-up.ensures in
     c.in_ok-settle_columns-in-len1-up.ensures
     ∙ ap (map (settled_by positions b.interval.lo b.interval.hi))
-    (c.in_ok-columns-in-len1-up-2.ensures.value (at.reads.intact i)
-    ∙ ap (λ f. columns_behind (cells_of f cov) regs rest fields c.push_column.new.self) at.reads.cells
+    (c.in_ok-columns-in-len1-up-2.ensures.value (at.reads.only.intact i)
+    ∙ ap (λ f. columns_behind (cells_of f cov) regs rest fields c.push_column.new.self) at.reads.only.cells
     ∙ ap (columns_behind s regs rest fields) frame)
     ∙ settled_fields s regs (bind_view b) rest fields positions c.args.frame.now (at.value i)
     ∙ ap (λ l. columns_behind s regs (map bind_view l) fields c.args.frame.now) (sym binds)
@@ -137,7 +137,7 @@ returns-in_ok-settle_columns-in-len1-up-clause-fetched g t c = λ n h.
     let few = at.fetched n h in
     let more = c.in_ok-columns-in-len1-up-2.ensures.fetched n long in
     let e : sum_by (fetches (signature_of (g.S.Tiles.state c.evaluate.new.source).coverages cov) n c.push_column.new.self) (bodies_behind (map bind_view rest) fields) ≡ sum_by f (bodies_behind (map bind_view rest) fields) =
-    ap (λ all. sum_by (fetches (signature_of all cov) n c.push_column.new.self) (bodies_behind (map bind_view rest) fields)) at.reads.coverages
+    ap (λ all. sum_by (fetches (signature_of all cov) n c.push_column.new.self) (bodies_behind (map bind_view rest) fields)) at.reads.only.coverages
     ∙ ap (λ l. sum_by (fetches cs n l) (bodies_behind (map bind_view rest) fields)) frame
     ∙ fetched_behind cs n c.args.frame.now c.in_ok-numbers-in-len1-up.numbers.items (bodies_behind (map bind_view rest) fields) h in
     let all = fetched_more f c.args.binds.now b rest fields (cut c.args.binds.now b c.in-len1-up.len_at_least c.bind-item.is) in

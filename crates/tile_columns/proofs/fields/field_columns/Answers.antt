@@ -23,12 +23,12 @@ evaluate-requires-clause-place g c =
     (subst (λ all. HasPlace (signature_of all c.args.ground.now.coverages.now) regs body c.args.frame.now) (sym inv.reads.coverages)
     (field_at (signature_of (g.S.Tiles.state c.args.source.now).coverages c.args.ground.now.coverages.now) regs c.args.fields.now c.args.frame.now c.loop-field.field-index c.field-item.result c.requires.place (omega (arith, c.loop-field-test.true)) c.field-item.is))
 
-pub returns-in_err-evaluate-clause-reports : goal.returns-in_err-evaluate-clause-reports
-returns-in_err-evaluate-clause-reports g c =
+pub returns-in_err-evaluate-clause-reads : goal.returns-in_err-evaluate-clause-reads
+returns-in_err-evaluate-clause-reads g c =
     let inv = c.loop-field.invariant in
-    let e = c.in_err-evaluate.ensures.reports in
+    let e = c.in_err-evaluate.ensures.reads.tells in
     let i = inv.reads.intact in
-    search (rules, inv.failures, e, i)
+    record { only = reads_on inv.reads c.evaluate.ensures.reads.only; tells = search (rules, inv.failures, e, i) }
 
 pub loop-field-preserved : goal.loop-field-preserved
 loop-field-preserved g c =
@@ -57,8 +57,8 @@ loop-field-preserved g c =
           let m = bodies_more (fetches (signature_of (g.S.Tiles.state c.args.source.now).coverages cov) n c.args.frame.now) c.args.fields.now k x lt c.field-item.is in
           let before = inv.fetched n h in
           omega (arith, step, e, m, before);
-      reads = reads_on inv.reads ens.reads;
-      failures = ens.reports ∙ inv.failures;
+      reads = reads_on inv.reads ens.reads.only;
+      failures = ens.reads.tells ∙ inv.failures;
     }
 
 pub returns-clause-fetched : goal.returns-clause-fetched

@@ -11,11 +11,14 @@ use Rattle.tile_columns.proofs.Calls.{reads_on}
 use Rattle.tile_columns.proofs.Gathers.{Gathered, all_gathered}
 use Rattle.tile_columns.proofs.gather.gather_listed.Goals as goal
 
-pub returns-in_err-fetch_listed-clause-reports : goal.returns-in_err-fetch_listed-clause-reports
-returns-in_err-fetch_listed-clause-reports g c =
+pub returns-in_err-fetch_listed-clause-reads : goal.returns-in_err-fetch_listed-clause-reads
+returns-in_err-fetch_listed-clause-reads g c =
     let inv = c.loop-k.invariant in
     let p = err_from_is_err_and c.from_residual.result c.from_residual.ensures.1 in
-    rw (p.1, p.2) (tells-from _ _ _ _ (subst g.S.Tiles.spelled (sym inv.reads.kept)) inv.failures c.in_err-fetch_listed.ensures.reports)
+    record {
+      only = reads_on inv.reads c.fetch_listed.ensures.reads.only;
+      tells = rw (p.1, p.2) (tells-from _ _ _ _ (subst g.S.Tiles.spelled (sym inv.reads.kept)) inv.failures c.in_err-fetch_listed.ensures.reads.tells);
+    }
 
 pub loop-k-preserved : goal.loop-k-preserved
 loop-k-preserved g c =
@@ -30,8 +33,8 @@ loop-k-preserved g c =
           subst (λ cells. gathered (c.loop-k.k + 1) cells c.fetch_listed.new.scratch) inv.reads.cells
           (next.value (inv.reads.intact i) (subst (λ cells. gathered c.loop-k.k cells c.loop-k.scratch) (sym inv.reads.cells) (inv.value i)));
       fetched = omega (arith, next.fetched, inv.fetched);
-      reads = reads_on inv.reads c.fetch_listed.ensures.reads;
-      failures = next.reports ∙ inv.failures;
+      reads = reads_on inv.reads c.fetch_listed.ensures.reads.only;
+      failures = next.reads.tells ∙ inv.failures;
     }
 
 pub returns-clause-value : goal.returns-clause-value

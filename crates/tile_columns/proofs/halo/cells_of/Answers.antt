@@ -44,8 +44,8 @@ loop-done-preserved g c =
       many = omega (arith, next.many, inv.many, area, sum);
       inside = omega (arith, c.min-count.ensures, c.loop-done-test.true);
       fetched = omega (arith, next.fetched, inv.fetched, area, sum);
-      reads = reads_on inv.reads c.read_rows.ensures.reads;
-      failures = next.reports ∙ inv.failures;
+      reads = reads_on inv.reads c.read_rows.ensures.reads.only;
+      failures = next.reads.tells ∙ inv.failures;
     }
 
 pub returns-clause-value : goal.returns-clause-value

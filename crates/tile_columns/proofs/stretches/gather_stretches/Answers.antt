@@ -31,8 +31,8 @@ loop-from-preserved g c =
           subst (λ cells. stand cells c.fetch_stretch.new.scratch.spots.items c.fetch_stretch.new.scratch.cells.items c.in_ok-from.from) inv.reads.cells
           (next.value (inv.reads.intact i) (subst (λ cells. stand cells spots c.loop-from.scratch.cells.items c.loop-from.from) (sym inv.reads.cells) (inv.value i)));
       fetched = subst (λ (l : List Spot). (g.S.Tiles.state c.fetch_stretch.new.source).fetched ≤ (g.S.Tiles.state c.args.source.now).fetched + length (distinct (take c.in_ok-from.from (tiles_in l)))) same (omega (arith, next.fetched, inv.fetched, more));
-      reads = reads_on inv.reads c.fetch_stretch.ensures.reads;
-      failures = next.reports ∙ inv.failures;
+      reads = reads_on inv.reads c.fetch_stretch.ensures.reads.only;
+      failures = next.reads.tells ∙ inv.failures;
     }
 
 pub returns-clause-value : goal.returns-clause-value

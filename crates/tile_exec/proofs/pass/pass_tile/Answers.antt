@@ -38,7 +38,7 @@ column_over-requires-in-Some-2-clause-place g c =
     let part = c.in_ok-part.part in
     let body = body_view c.args.pass.now.body in
     let here = placed_within (signature_of (g.S.Tiles.state c.args.source.now).coverages cov) regs area part body c.requires.placed.2 c.in_ok-part.ensures.inside c.axes-axes.ensures.domain.ordered in
-    subst (λ a. HasPlace (signature_of a cov) regs body (points part)) (sym c.in_ok-column_over-in-Some.ensures.reads.coverages) here
+    subst (λ a. HasPlace (signature_of a cov) regs body (points part)) (sym c.in_ok-column_over-in-Some.ensures.reads.only.coverages) here
 
 pub returns-in-None-clause-count : goal.returns-in-None-clause-count
 returns-in-None-clause-count g c =
@@ -79,7 +79,7 @@ returns-clause-stands g c = λ intact.
     let first = c.in_ok-column_over-in-Some.ensures in
     let tree : condition_view c.args.pass.now.condition ≡ body_view c.in-Some.condition = ap condition_view c.in-Some.is in
     let chosen = first.value intact ∙ ap (λ t. map (run s regs t) (points part)) (sym tree) in
-    let column = c.in_ok-column_over-in-Some-2.ensures.value (first.reads.intact intact) ∙ ap (λ f. map (run (cells_of f cov) regs p.body) (points part)) first.reads.cells in
+    let column = c.in_ok-column_over-in-Some-2.ensures.value (first.reads.only.intact intact) ∙ ap (λ f. map (run (cells_of f cov) regs p.body) (points part)) first.reads.only.cells in
     subst (Stands c.in_ok-told-in-Some.told)
     (ap (λ l. demanded_at (map (rank_of p.domain) (points part)) l c.column_over-in-Some-2.new.out) chosen ∙ ap (demanded_at (map (rank_of p.domain) (points part)) (map (run s regs p.condition) (points part))) column ∙ told_where s regs p (points part) ∙ ap (λ b. flat_map (told_to_pass s regs p) (points b)) (sym is))
     c.in_ok-told-in-Some.ensures.stands
@@ -93,4 +93,4 @@ returns-clause-fetched g c =
     let f = first.fetched in
     let h = c.in_ok-column_over-in-Some-2.ensures.fetched in
     let tree : condition_view c.args.pass.now.condition ≡ body_view c.in-Some.condition = ap condition_view c.in-Some.is in
-    omega (arith, f, h, ap (λ b. bound_of cs b (body_view c.args.pass.now.body)) is, ap (λ b. bound_of cs b (condition_view c.args.pass.now.condition)) is, ap (bound_of cs c.in_ok-part.part) tree, ap (λ a. bound_of (signature_of a cov) c.in_ok-part.part (body_view c.args.pass.now.body)) first.reads.coverages)
+    omega (arith, f, h, ap (λ b. bound_of cs b (body_view c.args.pass.now.body)) is, ap (λ b. bound_of cs b (condition_view c.args.pass.now.condition)) is, ap (bound_of cs c.in_ok-part.part) tree, ap (λ a. bound_of (signature_of a cov) c.in_ok-part.part (body_view c.args.pass.now.body)) first.reads.only.coverages)
