@@ -7,7 +7,7 @@ The number, the name and the status of a refusal, a keyword, the name and the ki
 the code and once in the definitions, in the files that HOMES names; a limit stands where its constant does, which
 docs/LIMITS.md names. All else says these facts by their names. This reads `src` and `specs` of the crates that hold code,
 without comments, and prints every line that says one of them again, and every definition and every body of a function that
-stands letter for letter in two crates. `scripts/check.py` fails where there are more of these than LEFT counts.
+stands letter for letter in two crates. `scripts/check.py` fails where there is one.
 """
 
 import functools
@@ -30,40 +30,6 @@ HOMES = {
     "the name of a field type": {"arr_core/src/cell.rt", "arr_core/specs/Cells.antt"},
     "the kind of a field type": {"arr_core/src/cell.rt", "arr_core/specs/Cells.antt"},
     "a limit": set(),
-}
-
-# How many lines still say a fact a second time, by fact and crate; where a limit has no constant of its own, by its row.
-LEFT = {
-    ("a definition", "two crates"): 10,
-    ("a keyword", "map_templates"): 4,
-    ("a limit", "a port"): 1,
-    ("a limit", "arr_core"): 1,
-    ("a limit", "bounds of an axis"): 1,
-    ("a limit", "bytes of a body"): 1,
-    ("a limit", "bytes of a head"): 1,
-    ("a limit", "bytes of a query's text"): 1,
-    ("a limit", "bytes of a tile"): 1,
-    ("a limit", "calls of a stream that a signal interrupts in turn"): 1,
-    ("a limit", "cells of a tile, and of a run"): 1,
-    ("a limit", "connections of one run"): 1,
-    ("a limit", "coverage_server"): 2,
-    ("a limit", "fields of a coverage"): 1,
-    ("a limit", "fields of a head"): 1,
-    ("a limit", "messages of a connection"): 1,
-    ("a limit", "neighbouring blocks that are read at once"): 1,
-    ("a limit", "plan_ir"): 1,
-    ("a limit", "radius of a focal template"): 1,
-    ("a limit", "seconds that a connection is silent, or takes nothing"): 1,
-    ("a limit", "tile_columns"): 12,
-    ("a limit", "tile_exec"): 3,
-    ("a limit", "tile_kernel"): 40,
-    ("a limit", "tile_store"): 10,
-    ("a limit", "units of one StepJob"): 1,
-    ("a limit", "wcps_mean"): 5,
-    ("a limit", "wcps_types"): 2,
-    ("the body of a function", "two crates"): 8,
-    ("the kind of a field type", "wcps_types"): 10,
-    ("the status of a refusal", "http_front"): 3,
 }
 
 # Words that are spelled as keywords and mean something else: the keys of requests, and the values of cells.
@@ -92,7 +58,7 @@ TYPE_NAME = re.compile(r'FieldType::\w+ => "(\w+)",')
 KEYWORD = re.compile(r'Keyword::\w+ => "(\w+)",')
 
 # A number that is two limits, the cells of a tile and the bytes of a block, and the ends of the types of integers.
-SHARED = {4096} | {2**bits - less for bits in (8, 31, 32, 63, 64) for less in (0, 1)} | {2**16 - 1}
+SHARED = {4096} | {2**bits - less for bits in (8, 15, 31, 32, 63, 64) for less in (0, 1)} | {2**16 - 1}
 
 
 def read(path):
@@ -219,7 +185,7 @@ def pieces(crate):
 
 
 def copies():
-    """What stands letter for letter in two crates, by what it is."""
+    """What stands letter for letter in two crates."""
     there = {}
     for crate in crates():
         for what, where, words in pieces(crate):
@@ -228,42 +194,26 @@ def copies():
         if len({it.split("/")[0] for it in places}) > 1:
             for it in places:
                 other = next(place for place in places if place != it)
-                yield what, f"{it}: {what}, as in {other}: {words[:60]}"
+                yield f"{it}: {what}, as in {other}: {words[:60]}"
 
 
-@functools.cache
-def seconds():
-    """What is said a second time: by fact, and by the crate that says it or the limit."""
-    found, defined = {("a limit", what): [f"docs/LIMITS.md: {what}: {told}"] for what, told in unnamed()}, {}
+def faults():
+    """What is said a second time."""
+    yield from (f"docs/LIMITS.md: {what}: {told}" for what, told in unnamed())
+    defined = {}
     for crate in crates():
         for path, number, text in lines(crate):
             if limit := DEFINED.match(text):
                 defined.setdefault(limit[1], []).append(f"{path}:{number}")
             for fact, says in SAYS.items():
                 if path not in HOMES[fact] and says(path, text):
-                    found.setdefault((fact, crate), []).append(f"{path}:{number}: {fact}: {text.strip()}")
+                    yield f"{path}:{number}: {fact}: {text.strip()}"
     for name, places in defined.items():
         if len(places) > 1:
-            found["a limit", name] = [f"{it}: {name} is defined {len(places)} times" for it in places]
-    for what, told in copies():
-        found.setdefault((what, "two crates"), []).append(told)
-    return found
-
-
-def faults():
-    """What is said a second time beyond what is left."""
-    told = []
-    for at, found in seconds().items():
-        if len(found) > LEFT.get(at, 0):
-            told += [
-                *found,
-                f"{', '.join(at)}: these are {len(found)}, and LEFT of scripts/homes.py has {LEFT.get(at, 0)}",
-            ]
-    return told
+            yield from (f"{it}: {name} is defined {len(places)} times" for it in places)
+    yield from copies()
 
 
 if __name__ == "__main__":
-    for told in seconds().values():
-        print(*told, sep="\n")
-    for (fact, where), told in seconds().items():
-        print(f"{len(told):4}  {fact}, {where}; {LEFT.get((fact, where), 0)} are known")
+    for told in faults():
+        print(told)

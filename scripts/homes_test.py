@@ -37,6 +37,8 @@ LINES = [
     ("crates/csv_out/src/cells.rt", "const MOST_POINTS: u64 = 16_777_216;"),
     ("crates/plan_rewrite/specs/Lowering.antt", "max_work = 4294967296"),
     ("crates/wcps_print/specs/Printed.antt", "max_points = 16777216"),
+    ("crates/coverage_server/specs/Machine.antt", "    (Unless (length old < 1024) TooManyCoverages"),
+    ("crates/coverage_server/specs/Asking.antt", "AreFew text = length text ≤ 65536"),
     (
         "crates/page_pool/src/page.rt",
         "fn known(blocks: &[u32]) -> u64 {\n    blocks.iter().map(|block| BLOCK_BYTES as u64 * *block as u64).sum()\n}",
@@ -86,6 +88,12 @@ CHANGES = [
         "`MAX_HEIGHT` in",
         "`MAX_HEIGHT` in `csv_out/cells.rt`, `MAX_HEIGHT` in",
         "docs/LIMITS.md: height of a tree: 2 constants",
+    ),
+    (
+        "docs/LIMITS.md",
+        "`MAX_UNITS` in",
+        "`MOST_UNITS` in",
+        "docs/LIMITS.md: units of one StepJob: MOST_UNITS does not begin with MAX_",
     ),
 ]
 

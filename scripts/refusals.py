@@ -16,7 +16,8 @@ PAGE = "docs/REFUSALS.md"
 HOME = ("arr_core", "refusal")
 OF_DEVICE = {90, 91, 92, 93, 94, 95}
 NUMBER = re.compile(r"^ +Refusal::(\w+) => (\d+),", re.M)
-STATUS = re.compile(r"((?:Refusal::\w+[\s|]*)+|_ )=> (?:Some\((\d+)\)|None),")
+STATUS = re.compile(r"((?:Refusal::\w+[\s|]*)+|_ )=> (?:Some\((\w+)\)|None),")
+NAMED_STATUS = re.compile(r"^const (\w+): u16 = (\d+);", re.M)
 ROW = re.compile(r"^\| (\d+) (\w+) \| (\d*) ?\|", re.M)
 MENTION = re.compile(r"(?<![\w.,-])(\d{1,2}) ([A-Z]\w+)")
 FOLDERS = ("docs", "oracle", "clients", "web", "faults", "examples", "deploy", "bench")
@@ -38,10 +39,11 @@ def names():
 def statuses():
     """The status of each refusal that has one."""
     arms = STATUS.findall(source(*HOME).partition("pub fn status")[2])
+    named = dict(NAMED_STATUS.findall(source(*HOME)))
     given = {name: status for heads, status in arms for name in re.findall(r"Refusal::(\w+)", heads)}
     (rest,) = [status for heads, status in arms if heads == "_ "]
     found = {number: given.get(name, rest) for number, name in names().items()}
-    return {number: int(status) for number, status in found.items() if status}
+    return {number: int(named.get(status, status)) for number, status in found.items() if status}
 
 
 def differing(where, what, told, there):

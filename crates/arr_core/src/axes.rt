@@ -3,6 +3,7 @@
 
 ghost use Rattle.std.specs.Prelude.{◌≡◌, ℕ, ◌+◌, ◌*◌, ◌<◌, ◌≤◌, ◌^◌, List, [], length};
 ghost use Rattle.arr_core.specs.Domains.{gap, size_of, count, AreOrdered, rank_of};
+ghost use Rattle.arr_core.specs.Limits.{max_points};
 
 use crate::domain::Axis;
 
@@ -27,9 +28,9 @@ impl Axis {
 /// How many points the axes have.
 pub fn count_points(axes: &[Axis]) -> u64
     requires ordered { AreOrdered axes.now }
-    requires few { count axes.now ≤ 2 ^ 24 }
+    requires few { count axes.now ≤ max_points }
     ensures count { result ≡ count axes.now }
-    ensures small { result ≤ 2 ^ 24 }
+    ensures small { result ≤ max_points }
 {
     match axes {
         [] => 1,
@@ -41,7 +42,7 @@ pub fn count_points(axes: &[Axis]) -> u64
 /// to have.
 pub fn rank_of(axes: &[Axis], point: &[i32]) -> u64
     requires ordered { AreOrdered axes.now }
-    requires few { count axes.now ≤ 2 ^ 24 }
+    requires few { count axes.now ≤ max_points }
     requires few_axes { length axes.now ≤ 6 }
     ensures rank { result ≡ rank_of axes.now point.now }
     ensures below { result ≤ length axes.now * 2 ^ 56 }

@@ -7,6 +7,7 @@ use Rattle.file_bytes.specs.declared.form.Version.TheVariants.{One, Two}
 use Rattle.block_file.specs.State.{block_at}
 use Rattle.block_file.specs.declared.header.State.{State}
 use Rattle.block_file.specs.declared.header.State.TheVariants.{Open, Closed}
+use Rattle.block_file.specs.Limits.{max_blocks}
 
 -- the number in the n bytes from place `at` on, the lowest first
 unfoldable pub number_at : ℕ → ℕ → List ℕ → ℕ
@@ -91,7 +92,7 @@ first_of content = number_at 20 4 content
 pub record IsClosed (content metadata : List ℕ) : Type 0 where
   pub header : IsHeader content Closed (length content / 4096) (first_of content) (length metadata)
   pub whole : 4096 * (length content / 4096) ≡ length content
-  pub few : length content / 4096 ≤ 1048576
+  pub few : length content / 4096 ≤ max_blocks
   pub chain : IsChain (block_at content) (first_of content) metadata
 
 -- a store file that is not open, and that is not closed with any metadata of at most 15,000,000 bytes: its header or its
@@ -110,7 +111,7 @@ pub record HeaderWritten (state : State) (first size : ℕ) (old new : List ℕ)
   pub fewest : length new / 4096 ≡ max 1 ((length old + 4095) / 4096)
   pub kept : (i : ℕ) → 4096 ≤ i → i < length old → slice_index new i ≡ slice_index old i
   pub filled : (i : ℕ) → 4096 ≤ i → length old ≤ i → slice_index new i ≡ 0
-  pub few : length new / 4096 ≤ 1048576
+  pub few : length new / 4096 ≤ max_blocks
   pub inside : (k : ℕ) → length (block_at old k) ≡ 4096 → k < length new / 4096
 
 -- However the write of a header ended: no byte behind the header has changed, and no block was begun but the header.

@@ -4,3 +4,4 @@ pub mod Format
 pub mod Uses
 pub mod View
 pub mod Links
+pub mod Limits

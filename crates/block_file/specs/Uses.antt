@@ -3,6 +3,7 @@
 use Rattle.std.specs.Prelude.{◌≡◌, ◌≢◌, ℕ, zero, suc, ◌+◌, ◌<◌, ◌≤◌, nat_lt, if◌then◌else◌, List, length, slice_index}
 use Rattle.block_file.specs.State.{free_up_to, times}
 use Rattle.block_file.specs.Format.{link, chain_blocks}
+use Rattle.block_file.specs.Limits.{max_blocks}
 
 -- how often a block with this mark is in use
 abbrev pub use_count : ℕ → ℕ
@@ -62,6 +63,6 @@ pub record NoneFreeBelow (lowest : ℕ) (marks : List ℕ) : Type 0 where
 -- block below `lowest` is free.
 pub record AreMarks (marks : List ℕ) (free lowest : ℕ) : Type 0 where
   pub header : slice_index marks 0 ≡ 1
-  pub few : length marks ≤ 1048576
+  pub few : length marks ≤ max_blocks
   pub counted : free ≡ free_up_to 1048575 (uses_of marks)
   pub below : NoneFreeBelow lowest marks

@@ -7,6 +7,7 @@ use Rattle.block_file.specs.declared.fault.OpenFault.TheVariants.{NoMemory, Disk
 use Rattle.block_file.specs.State.{BlocksState, block_at, overreads_of}
 use Rattle.block_file.specs.Format.{number_at, first_of, TellsVersion, IsStoreFile, IsClosed, IsDamaged}
 use Rattle.block_file.specs.Uses.{uses_of, MarksChain}
+use Rattle.block_file.specs.Limits.{max_blocks}
 
 -- The file's bytes and those that are synced, a mark for each of its blocks, and what is known of the disk.
 -- A mark is how often the block is in use, or 4294967295 for a free block that holds metadata and may not be claimed.
@@ -24,7 +25,7 @@ state_of file = record {
   content = file.content;
   synced = file.synced;
   uses = uses_of file.marks;
-  size = 1048576;
+  size = max_blocks;
   failures = file.failures;
   overreads = file.overreads;
   honest = file.honest;
@@ -70,5 +71,5 @@ IsRefused Damaged content = IsDamaged content
 -- there is a mark, and not too many, and an honest disk has no bytes past the last block
 pub record IsWithin (content : List ℕ) (honest : Bool) (marks : List ℕ) : Type 0 where
   pub some : 0 < length marks
-  pub few : length marks ≤ 1048576
+  pub few : length marks ≤ max_blocks
   pub bytes : IsTrue honest → length content ≤ 4096 * length marks

@@ -1,6 +1,7 @@
 //! A store file in a disk.
 ghost use Rattle.std.specs.Prelude.{◌≡◌, ◌≤◌, ◌<◌, ◌*◌, length, IfOk, IfErr, IsErr, OnOk, OnErr, IsErrOf, IsTrue};
 ghost use Rattle.disk_face.specs.Disk.{Tells, OnlyRead};
+ghost use Rattle.block_file.specs.Limits.{max_blocks};
 ghost use Rattle.block_file.specs.State.{times, none, overreads_of};
 ghost use Rattle.block_file.specs.Words.{Recounts};
 ghost use Rattle.block_file.specs.Format.{Filled, Extends};
@@ -196,7 +197,7 @@ impl<D: Disk> Blocks for BlockFile<D> {
 
 /// Fills a last block that is cut short with zeros. Gives the number of blocks, the header counted.
 fn fill_last_block<D: Disk>(disk: &mut D) -> Result<u32, DiskFault>
-    requires { IsTrue (D.honest disk.old) → length (D.content disk.old) ≤ 4096 * 1048576 }
+    requires { IsTrue (D.honest disk.old) → length (D.content disk.old) ≤ 4096 * max_blocks }
     ensures filled { IfOk result (λ n.
         IsTrue (D.honest disk.old) → Filled (D.content disk.old) (D.content disk.new) n) }
     ensures extends { IsTrue (D.honest disk.old) → Extends (D.content disk.old) (D.content disk.new) }
@@ -220,7 +221,7 @@ fn read_layout<D: Disk>(alloc: Global, disk: &mut D) -> Result<Layout, OpenFault
     ensures version { IfOk result (λ it. IsTrue (D.honest disk.old) → IsOfVersion it.version (D.content disk.old)) }
     ensures fresh { IfOk result (λ it. IsFresh it.marks) }
     ensures some { IfOk result (λ it. 0 < length it.marks) }
-    ensures few { IfOk result (λ it. length it.marks ≤ 1048576) }
+    ensures few { IfOk result (λ it. length it.marks ≤ max_blocks) }
     ensures refused { IfErr result (λ fault. IsTrue (D.honest disk.old) → IsRefused fault (D.content disk.old)) }
     ensures same { OnlyRead D.content D.synced D.honest D.overreads disk.old disk.new }
     ensures told { Tells (IsErrOf result OpenFault.DiskFault) (D.failures disk.old) (D.failures disk.new) }
@@ -242,7 +243,7 @@ fn read_header<D: Disk>(disk: &mut D) -> Result<Header, OpenFault>
     requires { IsTrue (D.honest disk.old) → 0 < length (D.content disk.old) }
     ensures header { IfOk result (λ header. IsTrue (D.honest disk.old) → IsClosedHeader header (D.content disk.old)) }
     ensures some { IfOk result (λ header. 0 < header.blocks) }
-    ensures few { IfOk result (λ header. header.blocks ≤ 1048576) }
+    ensures few { IfOk result (λ header. header.blocks ≤ max_blocks) }
     ensures short { IfOk result (λ header. header.length ≤ 15000000) }
     ensures refused { IfErr result (λ fault. IsTrue (D.honest disk.old) → IsRefused fault (D.content disk.old)) }
     ensures same { OnlyRead D.content D.synced D.honest D.overreads disk.old disk.new }

@@ -1,6 +1,7 @@
 //! The chain of metadata blocks: how it is read and how it is written.
 ghost use Rattle.std.specs.Prelude.{◌≡◌, ◌≤◌, ◌<◌, ◌+◌, ◌*◌, ℕ, length, slice_index, IsTrue, IsErr, IfOk, IfErr, OnOk, IsErrOf};
 ghost use Rattle.disk_face.specs.Disk.{Tells, OnlyRead};
+ghost use Rattle.block_file.specs.Limits.{max_blocks};
 ghost use Rattle.block_file.specs.State.{free_of, times, none};
 ghost use Rattle.block_file.specs.Words.{Moves, HoldsChain};
 ghost use Rattle.block_file.specs.Format.{number_at, chain_blocks};
@@ -40,7 +41,7 @@ pub(crate) fn read_chain<D: Disk>(
     header: Header,
 ) -> Result<Layout, OpenFault>
     requires some { 0 < header.blocks }
-    requires few { header.blocks ≤ 1048576 }
+    requires few { header.blocks ≤ max_blocks }
     requires whole { IsTrue (D.honest disk.old) → length (D.content disk.old) ≡ 4096 * header.blocks }
     ensures read { IfOk result (λ layout. IsTrue (D.honest disk.old) → ReadsChain (D.content disk.old) header layout) }
     ensures layout { IfOk result (λ layout. IsLayoutOf header layout) }

@@ -1,6 +1,7 @@
 //! How often each block of a file is in use.
 ghost use Rattle.std.specs.Prelude.{◌≡◌, ◌≤◌, ◌<◌, ◌+◌, ◌-◌, ◌↔◌, [], ℕ, length, slice_index, slice_set, vec_capacity, IsTrue, IfOk, OnOk, OnErr};
 ghost use Rattle.std.specs.Bool.{OnTrue, OnFalse};
+ghost use Rattle.block_file.specs.Limits.{max_blocks};
 ghost use Rattle.block_file.specs.State.{free_up_to, one, times};
 ghost use Rattle.block_file.specs.Uses.{use_count, uses_of, CanClaim, Claims, NoneFreeBelow, Raises, TakesLowest};
 
@@ -35,7 +36,7 @@ impl Marks {
     /// Marks for so many blocks, of which none is in use.
     pub(crate) fn blank(alloc: Global, blocks: usize) -> Result<Marks, AllocError>
         requires some { 0 < blocks }
-        requires few { blocks ≤ 1048576 }
+        requires few { blocks ≤ max_blocks }
         ensures len { IfOk result (λ marks. length marks ≡ blocks) }
         ensures unmarked { IfOk result (λ marks. (k : ℕ) → 0 < k → slice_index marks k ≡ 0) }
     {
@@ -51,7 +52,7 @@ impl Marks {
     /// How many blocks have a mark.
     pub(crate) fn len(&self) -> usize
         ensures len { result ≡ length self.now }
-        ensures few { result ≤ 1048576 }
+        ensures few { result ≤ max_blocks }
         ensures header { slice_index self.now 0 ≡ 1 }
     {
         self.marks.len()
@@ -103,7 +104,7 @@ impl Marks {
         ensures uses { (k : ℕ) → uses_of self.new k ≡ uses_of self.old k }
         ensures no_shorter { length self.old ≤ length self.new }
         ensures enough { OnOk result (n ≤ free_up_to (length self.new - 1) (uses_of self.new)) }
-        ensures few { length self.new ≤ 1048576 }
+        ensures few { length self.new ≤ max_blocks }
         ensures refused { OnErr result (self.new ≡ self.old) }
     {
         let inside = self.free - (MAX_BLOCKS - self.marks.len());
@@ -234,7 +235,7 @@ fn is_free(mark: u32) -> bool
 /// what it gives none is then. Takes no memory.
 fn pick(marks: &mut [u32], from: usize, ks: &mut Vec<u32>, n: usize) -> usize
     requires below { NoneFreeBelow from marks.old }
-    requires few { length marks.old ≤ 1048576 }
+    requires few { length marks.old ≤ max_blocks }
     requires enough { n ≤ free_up_to (length marks.old - 1) (uses_of marks.old) }
     requires room { n ≤ vec_capacity ks.old }
     requires empty { ks.old.items ≡ [] }

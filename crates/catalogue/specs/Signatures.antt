@@ -8,6 +8,7 @@ use Rattle.arr_core.specs.declared.signature.Signature.{Signature}
 use Rattle.arr_core.specs.Names.{IsName, AreDistinct}
 use Rattle.arr_core.specs.Domains.{IsDomain}
 use Rattle.arr_core.specs.Fields.{AreFields}
+use Rattle.arr_core.specs.Limits.{max_coverages}
 use Rattle.file_bytes.specs.declared.form.Version.{Version}
 use Rattle.file_bytes.specs.declared.form.Version.TheVariants.{One, Two}
 use Rattle.catalogue.specs.declared.error.InsertError.{InsertError}
@@ -46,7 +47,7 @@ names_of signatures = map (λ (s : Signature). s.name) signatures
 
 -- a catalogue: at most 1,024 signatures, each with a name of its own
 pub record IsCatalogue (signatures : List Signature) : Type 0 where
-  pub few : length signatures ≤ 1024
+  pub few : length signatures ≤ max_coverages
   pub each : All IsSignature signatures
   pub distinct : AreDistinct (names_of signatures)
 
@@ -69,7 +70,7 @@ pub record MayInsert (held : List Signature) (s : Signature) : Type 0 where
   pub fresh : ¬ Contains (names_of held) s.name
   pub axes : 1 ≤ length s.domain
   pub fields : AreFields s.fields
-  pub room : length held < 1024
+  pub room : length held < max_coverages
 
 -- why a signature is refused: the first that is not met of what an insertion asks. Want of memory is
 -- told only where all of it is met.
@@ -78,5 +79,5 @@ IsRefused held s CoverageExists = Contains (names_of held) s.name
 IsRefused held s BadDomain = (¬ Contains (names_of held) s.name) × (s.domain ≡ [])
 IsRefused held s BadField = (¬ Contains (names_of held) s.name) × (1 ≤ length s.domain) × (¬ AreFields s.fields)
 IsRefused held s TooManyCoverages =
-    (¬ Contains (names_of held) s.name) × (1 ≤ length s.domain) × AreFields s.fields × (1024 ≤ length held)
+    (¬ Contains (names_of held) s.name) × (1 ≤ length s.domain) × AreFields s.fields × (max_coverages ≤ length held)
 IsRefused held s NoMemory = MayInsert held s

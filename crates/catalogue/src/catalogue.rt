@@ -7,13 +7,10 @@ ghost use Rattle.catalogue.specs.Bytes.{catalogue_bytes};
 
 use crate::error::{InsertError, NoSuchCoverage};
 use crate::lengths::signature_len;
-use arr_core::{Name, Signature};
+use arr_core::{MAX_COVERAGES, Name, Signature};
 use indexmap::IndexMap;
 use std::alloc::{AllocError, Global};
 use std::marker::Model;
-
-/// How many coverages may be held.
-pub const MAX_COVERAGES: usize = 1024;
 
 /// A list of signatures in the order of their insertion, each with a name of its own.
 #[derive(Drop)]

@@ -3,22 +3,22 @@
 ghost use Rattle.std.specs.Prelude.{◌≡◌, ◌≢◌, ◌≤◌, ◌<◌, ◌↔◌, ℕ, List, length, flat_map, All, IfOk, OnOk, IsErrOf, IsTrue, MatchOption};
 ghost use Rattle.arr_core.specs.declared.cell.FieldType.{FieldType};
 ghost use Rattle.arr_core.specs.declared.signature.Signature.{Signature};
+ghost use Rattle.arr_core.specs.Limits.{max_coverages};
 ghost use Rattle.arr_core.specs.Names.{IsName};
 ghost use Rattle.file_bytes.specs.Codes.{IsRead, NoneIsRead};
 ghost use Rattle.catalogue.specs.Signatures.{IsAxis, IsCoverageDomain, IsField, AreCoverageFields, IsSignature, IsCatalogue, HaveAxesOf};
 ghost use Rattle.catalogue.specs.Bytes.{name_bytes, type_number, axis_bytes, domain_bytes, field_bytes, fields_bytes, signature_bytes, catalogue_bytes};
 ghost use Rattle.catalogue.specs.Reading.{AreMany, AreManyRead, IsCatalogueOf, AreOfNoCatalogue, AreOfNoOther};
 
-use crate::catalogue::{Catalogue, MAX_COVERAGES};
+use crate::catalogue::Catalogue;
 use crate::error::ReadError;
 use arr_core::domain::MAX_AXES;
-use arr_core::{Axis, Domain, Field, FieldType, Fields, Name, NameError, Signature};
+use arr_core::{
+    Axis, Domain, Field, FieldType, Fields, MAX_COVERAGES, MAX_FIELDS, Name, NameError, Signature,
+};
 use file_bytes::{Reader, Version};
 use std::alloc::Global;
 use std::str::from_utf8;
-
-/// The most fields that a coverage has.
-const MAX_FIELDS: u8 = 16;
 
 /// The most axes that a domain has in a file of version 1.
 const MAX_AXES_OF_ONE: usize = 4;
@@ -166,7 +166,7 @@ fn read_fields(alloc: Global, bytes: &mut Reader) -> Result<Fields, ReadError>
     let Some(count) = bytes.read_u8() else {
         return Err(ReadError::Damaged);
     };
-    if count > MAX_FIELDS {
+    if usize::from(count) > MAX_FIELDS {
         return Err(ReadError::Damaged);
     }
     let list = read_list(alloc, bytes, u32::from(count))?;
@@ -197,7 +197,7 @@ impl Readable for Signature {
 
 /// The catalogue of signatures.
 fn catalogue_of(alloc: Global, signatures: Vec<Signature>) -> Result<Catalogue, ReadError>
-    requires few { length signatures.items ≤ 1024 }
+    requires few { length signatures.items ≤ max_coverages }
     requires each { All IsSignature signatures.items }
     ensures same { IfOk result (λ held. held ≡ signatures.items) }
     ensures catalogue { IfOk result (λ held. IsCatalogue held) }

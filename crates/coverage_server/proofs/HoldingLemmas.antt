@@ -6,7 +6,8 @@ use Rattle.std.proofs.lemmas.Bool.{eqb-true, lt-ltb}
 use Rattle.std.proofs.lemmas.List.{map-append}
 use Rattle.std.proofs.lemmas.List.Elements.{All-head, All-tail, All-cons, All-nil, All-push, All-weaker, filter-append}
 use Rattle.job_desk.specs.declared.job.Job.{Job as Held}
-use Rattle.job_desk.specs.Desks.{DeskView, IsDesk, IsSubmitted, job_of, replaced, without, taken_out, number_after}
+use Rattle.arr_core.specs.Numbers.{number_after}
+use Rattle.job_desk.specs.Desks.{DeskView, IsDesk, IsSubmitted, job_of, replaced, without, taken_out}
 use Rattle.plan_ir.specs.Plans.{PlanTree}
 use Rattle.raster_store.specs.Snapshots.{held_for, without_job, AreSameSnapshots}
 use Rattle.raster_store.specs.Views.{SnapshotView}

@@ -12,7 +12,8 @@ use Rattle.raster_store.specs.Snapshots.{held_for, without_job, distinct, AreNam
 use Rattle.raster_store.specs.Views.{SnapshotView}
 use Rattle.job_desk.specs.declared.job.Job.{Job as Held}
 use Rattle.job_desk.specs.declared.answer.Answer.TheVariants as given
-use Rattle.job_desk.specs.Desks.{DeskView, IsDesk, IsJob, IsFull, IsSubmitted, IsFetched, IsAnswer, replaced, number_after as next_number}
+use Rattle.arr_core.specs.Numbers.{number_after}
+use Rattle.job_desk.specs.Desks.{DeskView, IsDesk, IsJob, IsFull, IsSubmitted, IsFetched, IsAnswer, replaced}
 use Rattle.job_desk.specs.Desks as desks
 use Rattle.job_desk.specs.Steps.{IsRefusedFetch, IsRefusedSubmit}
 use Rattle.job_desk.specs.declared.error.FetchError.{FetchError}
@@ -34,7 +35,7 @@ use Rattle.coverage_server.specs.declared.error.AnswerError.{AnswerError}
 use Rattle.coverage_server.specs.declared.error.AnswerError.TheVariants.{Named, NoMemory, DiskFault, NoRoom, Damaged}
 use Rattle.coverage_server.specs.Answered.{AnsweredIn, Moves, Never}
 use Rattle.coverage_server.specs.Asking.{QueryAnswer, cells_of, items_answer, evaluated, TextTyped}
-use Rattle.coverage_server.specs.Machine.{Job, State, job_of, with_left, without, with_jobs, number_after, Refuses, Unless, Adds, Tells, Submits, Fetches, Cancels}
+use Rattle.coverage_server.specs.Machine.{Job, State, job_of, with_left, without, with_jobs, Refuses, Unless, Adds, Tells, Submits, Fetches, Cancels}
 use Rattle.coverage_server.specs.Holding.{AreHeldOnce, HoldsFor, ReleasesFor, IsHolding}
 use Rattle.coverage_server.specs.Represents.{IsReading, StandsAs, AreJobs, Represents}
 use Rattle.coverage_server.specs.Stages.{GivesText, IsTypedText, submit_refusal, fetch_refusal}

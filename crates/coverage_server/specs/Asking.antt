@@ -5,6 +5,7 @@ use Rattle.arr_core.specs.declared.refusal.Refusal.TheVariants.{BadSyntax, BadVa
 use Rattle.arr_core.specs.declared.signature.Signature.{Signature}
 use Rattle.arr_core.specs.Domains.{is_inside}
 use Rattle.arr_core.specs.Stores.{Coverage, Store, found, value_at}
+use Rattle.kvp_front.specs.Spelling.{max_query}
 use Rattle.wcps_text.specs.declared.error.LexError.{LexError}
 use Rattle.wcps_text.specs.Refusals.{refusal_of as token_refusal}
 use Rattle.wcps_text.specs.Token.{Tok}
@@ -66,12 +67,12 @@ pub data TokensTyped : Store → List Tok → TypedAnswer → Type 0 where
   no_query : {store : Store} {ts : List Tok} → IsWithinLimits ts → ((q : QueryTree) → ¬ (IsSpelled ts q)) → TokensTyped store ts (Err BadSyntax)
   query : {store : Store} {ts : List Tok} (q : QueryTree) → IsWithinLimits ts → IsSpelled ts q → TokensTyped store ts (tree_typed store q)
 
--- What a text is, before any cell is read: a text of more than 65,536 bytes is a bad value, else it has no tokens and is
+-- What a text is, before any cell is read: a text that is too long is a bad value, else it has no tokens and is
 -- refused as its first bytes that are none are, else it has tokens.
 pub data TextTyped : Store → List ℕ → TypedAnswer → Type 0 where
-  too_long : {store : Store} {text : List ℕ} → 65536 < length text → TextTyped store text (Err BadValue)
-  no_tokens : {store : Store} {text : List ℕ} (e : LexError) → length text ≤ 65536 → Refused text e → TextTyped store text (Err (token_refusal e))
-  lexed : {store : Store} {text : List ℕ} {r : TypedAnswer} (pieces : List Piece) → length text ≤ 65536 → Lexed 0 text pieces
+  too_long : {store : Store} {text : List ℕ} → max_query < length text → TextTyped store text (Err BadValue)
+  no_tokens : {store : Store} {text : List ℕ} (e : LexError) → length text ≤ max_query → Refused text e → TextTyped store text (Err (token_refusal e))
+  lexed : {store : Store} {text : List ℕ} {r : TypedAnswer} (pieces : List Piece) → length text ≤ max_query → Lexed 0 text pieces
       → TokensTyped store (tokens_of pieces) r → TextTyped store text r
 
 -- a typed query's value over the store's cells; a refusal stays

@@ -1,6 +1,6 @@
 -- The machine: its state is a store of coverages, and jobs, each with the answer that its query had when it was submitted. A request
 -- leads to a reply and a next state; the refusals come in the order in which they stand here, and leave the state as it was.
-use Rattle.std.specs.Prelude.{◌≡◌, ℕ, ◌+◌, ◌-◌, ◌*◌, ◌^◌, ◌<◌, ◌≤◌, ◌⊎◌, nat_lt, nat_eq, cond, ℤ, List, [], ◌∷◌, ◌++◌, length, map, replicate, slice_get, All, Option, Some, None, Ok, Err, MatchOption, codes, string_bytes, FitsSigned}
+use Rattle.std.specs.Prelude.{◌≡◌, ℕ, ◌+◌, ◌-◌, ◌*◌, ◌<◌, ◌≤◌, ◌⊎◌, nat_eq, cond, ℤ, List, [], ◌∷◌, ◌++◌, length, map, replicate, slice_get, All, Option, Some, None, Ok, Err, MatchOption, codes, string_bytes, FitsSigned}
 use Rattle.std.specs.Fmt.{decimal}
 use Rattle.std.specs.Int.{w32}
 use Rattle.std.specs.List.{find, flat_map}
@@ -14,6 +14,8 @@ use Rattle.arr_core.specs.declared.signature.Signature.{Signature}
 use Rattle.arr_core.specs.Cells.{stored, Holds}
 use Rattle.arr_core.specs.Domains.{count, IsDomain, IsBoxOf}
 use Rattle.arr_core.specs.Fields.{AreFields, place_of as field_place}
+use Rattle.arr_core.specs.Limits.{max_coverages}
+use Rattle.arr_core.specs.Numbers.{number_after}
 use Rattle.arr_core.specs.Stores.{Coverage, Store, found, inserted, deleted, updated}
 use Rattle.kvp_front.specs.Contents.{Cells, fill, values}
 use Rattle.kvp_front.specs.Requests.{Asks, insert_coverage, update_coverage, delete_coverage, list_coverages, describe_coverage, process_coverages, submit_query, step_job, fetch_job, cancel_job, expand_template, process_template}
@@ -83,13 +85,13 @@ abbrev pub SpellWhole : List Interval → Type 0
 SpellWhole intervals = SpellDomain intervals × (0 < length intervals)
 
 -- InsertCoverage: CoverageExists for a name that is there, BadDomain for what is no domain, BadField for what are no fields,
--- TooManyCoverages where 1,024 are held
+-- TooManyCoverages where as many are held as may be
 abbrev pub Inserts : List ℕ → List Interval → List Field → Store → Reply → Store → Type 0
 Inserts name intervals fields old reply new =
     MatchOption (found name old)
     (Unless (SpellWhole intervals) BadDomain
     (Unless (AreFields fields) BadField
-    (Unless (length old < 1024) TooManyCoverages (λ before. Does (inserted name (axes_of intervals) fields before)))) old reply new)
+    (Unless (length old < max_coverages) TooManyCoverages (λ before. Does (inserted name (axes_of intervals) fields before)))) old reply new)
     (λ c. Refuses CoverageExists old reply new)
 
 -- the new numbers stand in the box
@@ -184,10 +186,6 @@ with_left number left (j ∷ jobs) = cond (nat_eq j.number number) (record j { l
 abbrev pub without : ℕ → List Job → List Job
 without number [] = []
 without number (j ∷ jobs) = cond (nat_eq j.number number) jobs (j ∷ without number jobs)
-
--- the number after one, within 64 bits
-abbrev pub number_after : ℕ → Option ℕ
-number_after n = cond (nat_lt n (2 ^ 64 - 1)) (Some (n + 1)) None
 
 -- the state with other jobs
 abbrev pub with_jobs : State → List Job → State

@@ -10,6 +10,7 @@ use Rattle.wcps_types.specs.Refusals.{refusal_of as type_refusal}
 use Rattle.wcps_types.specs.Queries.{typ_query}
 use Rattle.http_front.specs.declared.reply.Reply.{Reply}
 use Rattle.http_front.specs.declared.reply.Reply.TheVariants.{Refused}
+use Rattle.kvp_front.specs.Spelling.{max_query}
 use Rattle.kvp_front.specs.Templates.{Template}
 use Rattle.map_templates.specs.Expansion.{Operation, asked, text_of}
 use Rattle.map_templates.specs.Meaning.{Cells, AreIntegers, array_of}
@@ -36,7 +37,7 @@ pub record IsRefusedQuery (store : Store) (o : Operation) (reply : Reply) : Type
 abbrev pub RepliesArray : Store → Operation → Reply → Type 0
 RepliesArray store o reply =
     Tells (items_answer (array_of (layers_of store) o)) reply ⊎ IsRefusedQuery store o reply
-    ⊎ ((65536 < length (text_of o)) × (reply ≡ Refused (number_of BadValue)))
+    ⊎ ((max_query < length (text_of o)) × (reply ≡ Refused (number_of BadValue)))
 
 -- where a template asks for an operation, over coverages whose numbers have 64 bits, its answer is that of the operation
 abbrev pub TemplatesAreTomlins : Type 0

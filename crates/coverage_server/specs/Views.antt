@@ -2,6 +2,7 @@
 use Rattle.std.specs.Prelude.{◌≡◌, ℕ, ◌+◌, ◌≤◌, Bool, IsTrue, IsSomeAnd, List, [], map, length}
 use Rattle.arr_core.specs.declared.signature.Signature.{Signature}
 use Rattle.arr_core.specs.Stores.{Store, found}
+use Rattle.block_file.specs.Limits.{max_blocks}
 use Rattle.block_file.specs.State.{BlocksState, free_up_to}
 use Rattle.catalogue.specs.Bytes.{catalogue_bytes}
 use Rattle.job_desk.specs.Desks.{DeskView}
@@ -72,7 +73,7 @@ blocks_of v = record {
   content = v.content;
   synced = v.content;
   uses = uses_in v.indexes v.held;
-  size = 1048576;
+  size = max_blocks;
   failures = v.failures;
   overreads = 0;
   honest = v.honest;

@@ -6,7 +6,7 @@ ghost use Rattle.coverage_server.specs.Machine.{FitBounds, SpellDomain, axis_of,
 ghost use Rattle.coverage_server.specs.Writing.{GivesAxes, IsRefusedFor};
 
 use crate::error::AnswerError;
-use arr_core::{Axis, Domain, Field, Fields, Refusal};
+use arr_core::{Axis, Domain, Field, Fields, MAX_BOUND, Refusal};
 use kvp_front::Interval;
 use std::alloc::{AllocError, Global};
 
@@ -14,7 +14,7 @@ use std::alloc::{AllocError, Global};
 fn bound(number: i64) -> Option<i32>
     ensures { SomeIff result (FitsSigned w32 number) number }
 {
-    if -2147483648 <= number && number <= 2147483647 {
+    if -MAX_BOUND - 1 <= number && number <= MAX_BOUND {
         Some(number as i32)
     } else {
         None

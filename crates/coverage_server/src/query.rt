@@ -21,6 +21,7 @@ use arr_core::{Name, Refusal, Signature};
 use disk_face::Disk;
 use http_front::Reply;
 use job_desk::{Answer, answer_of, run_down};
+use kvp_front::MAX_QUERY;
 use plan_ir::Plan;
 use plan_rewrite::{lower, rewrite};
 use std::alloc::{AllocError, Global};
@@ -29,9 +30,6 @@ use wcps_mean::CellError;
 use wcps_parse::{ParseError, parse};
 use wcps_text::{LexError, Query, Token, lex};
 use wcps_types::{CheckError, TypedQuery, check};
-
-/// The most bytes of a query.
-const MAX_QUERY: usize = 65_536;
 
 /// The tokens of a query.
 fn tokens_of(alloc: Global, text: &str) -> Result<Vec<Token<'_>>, AnswerError>

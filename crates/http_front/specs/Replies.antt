@@ -1,13 +1,9 @@
 -- The bytes of a reply (RFC 9112): a status line, the type and the length of the body, whether the connection ends, and the body.
-use Rattle.std.specs.Prelude.{ℕ, Bool, List, [], ◌++◌, length, codes, decimal, if◌then◌else◌, option_and_then, unwrap_or, string_bytes}
+use Rattle.std.specs.Prelude.{ℕ, Bool, List, [], ◌++◌, length, codes, decimal, if◌then◌else◌, unwrap_or, string_bytes}
 use Rattle.http.specs.StatusCode.{reason_phrase}
-use Rattle.arr_core.specs.Refusals.{numbered, refusal_name, status_of as refusal_status}
+use Rattle.arr_core.specs.Refusals.{refusal_name, refusal_status}
 use Rattle.http_front.specs.declared.reply.Reply.{Reply}
 use Rattle.http_front.specs.declared.reply.Reply.TheVariants.{Text, Csv, Refused}
-
--- the status of a refusal by its number: 400 where no refusal with a status has it
-abbrev pub status_of : ℕ → ℕ
-status_of code = unwrap_or (option_and_then refusal_status (numbered code)) 400
 
 -- the phrase of a status
 unfoldable pub phrase_of : ℕ → List ℕ
@@ -37,4 +33,4 @@ framed status kind body last bare = opening status kind (length body) last ++ bo
 abbrev pub reply_bytes : Bool → Bool → Reply → List ℕ
 reply_bytes last bare (Text text) = framed 200 (codes "text/plain") (string_bytes text) last bare
 reply_bytes last bare (Csv text) = framed 200 (codes "text/csv") (string_bytes text) last bare
-reply_bytes last bare (Refused code) = framed (status_of code) (codes "text/plain") (refusal_body code) last bare
+reply_bytes last bare (Refused code) = framed (refusal_status code) (codes "text/plain") (refusal_body code) last bare

@@ -1,7 +1,7 @@
 //! What comes next on a stream: a whole head, or none.
 ghost use Rattle.http_front.specs.Connection.{LooksAhead, TellsAhead};
 
-use crate::buffer::{Buffer, Filled, HEAD_LIMIT};
+use crate::buffer::{Buffer, Filled, MAX_HEAD};
 use crate::head::{Front, WholeHead, front_of};
 use stream_face::Source;
 
@@ -30,10 +30,10 @@ pub fn look_ahead<S: Source>(buffer: &mut Buffer, source: &mut S) -> Ahead
             Front::Partial => {}
         }
         seen = buffer.len();
-        if seen >= HEAD_LIMIT {
+        if seen >= MAX_HEAD {
             return Ahead::Bad;
         }
-        match buffer.fill(source, HEAD_LIMIT) {
+        match buffer.fill(source, MAX_HEAD) {
             Filled::More => {}
             Filled::End => {
                 if seen == 0 {

@@ -6,7 +6,7 @@ use std::marker::Model;
 use stream_face::Source;
 
 /// The most bytes that a head may have.
-pub const HEAD_LIMIT: usize = 16384;
+pub const MAX_HEAD: usize = 16384;
 
 /// What one read did: bytes came, the stream is at its end, or the read failed.
 #[derive(Clone, Copy, Debug, PartialEq, Eq)]
@@ -19,7 +19,7 @@ pub enum Filled {
 /// The bytes that came and are not used, at most as many as a head may have. Making one takes no memory.
 #[derive(Drop)]
 pub struct Buffer {
-    bytes: [u8; HEAD_LIMIT],
+    bytes: [u8; MAX_HEAD],
     start: usize,
     end: usize,
 }
@@ -39,7 +39,7 @@ impl Buffer {
         ensures { result ≡ [] }
     {
         Buffer {
-            bytes: [0; HEAD_LIMIT],
+            bytes: [0; MAX_HEAD],
             start: 0,
             end: 0,
         }
@@ -69,7 +69,7 @@ impl Buffer {
         self.bytes.copy_within(self.start..self.end, 0);
         self.end -= self.start;
         self.start = 0;
-        let room = most.min(HEAD_LIMIT - self.end);
+        let room = most.min(MAX_HEAD - self.end);
         match source.read_some(&mut self.bytes[self.end..self.end + room]) {
             Ok(0) => Filled::End,
             Ok(count) => {

@@ -12,10 +12,10 @@ use httparse::Status;
 use httparse::spans::{EMPTY_HEADER_SPAN, HeaderSpan, Span, parse_request};
 
 /// The most fields that a head may have.
-pub const FIELD_LIMIT: usize = 64;
+pub const MAX_HEAD_FIELDS: usize = 64;
 
 /// The most bytes that a body may have.
-pub const BODY_LIMIT: u64 = 1048576;
+pub const MAX_BODY: u64 = 1048576;
 
 /// What a message asks: the pairs of its query part, those of its body, or nothing but a refusal.
 #[derive(Clone, Copy, Drop)]
@@ -100,7 +100,7 @@ fn framing_of(coding: TransferEncoding, length: ContentLength) -> Result<u64, Re
         TransferEncoding::Absent => match length {
             ContentLength::Absent => Ok(0),
             ContentLength::Value(len) => {
-                if len <= BODY_LIMIT {
+                if len <= MAX_BODY {
                     Ok(len)
                 } else {
                     Err(Refusal::BodyTooLong)
@@ -157,7 +157,7 @@ fn parsed_front(bytes: &[u8]) -> Front
     requires { 0 < length bytes.now }
     ensures { FrontOf bytes.now result }
 {
-    let mut headers = [EMPTY_HEADER_SPAN; FIELD_LIMIT];
+    let mut headers = [EMPTY_HEADER_SPAN; MAX_HEAD_FIELDS];
     match parse_request(bytes, &mut headers) {
         Ok(Status::Complete(spans)) => {
             let method = spans.method.of(bytes);

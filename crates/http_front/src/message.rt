@@ -13,8 +13,8 @@ use arr_core::Refusal;
 use std::alloc::Global;
 use stream_face::Source;
 
-/// The number of the last message of a connection, from 0.
-const LAST_MESSAGE: usize = 999;
+/// How many messages a connection may have.
+const MAX_MESSAGES: usize = 1000;
 
 /// What came of a message, and whether the connection ends with its reply.
 #[derive(Drop)]
@@ -49,7 +49,7 @@ pub fn take_message<S: Source>(
     };
     buffer.discard(head.len);
     let keep = is_body(head.asked);
-    let over = either(head.last, number == LAST_MESSAGE);
+    let over = either(head.last, number == MAX_MESSAGES - 1);
     match take_body(buffer, alloc, source, len, keep) {
         Body::Short => Taken {
             next: Next::Refused(Refusal::BadHead.number()),

@@ -4,10 +4,10 @@ ghost use Rattle.http.specs.StatusCode.{IsStatusCode};
 ghost use Rattle.stream_face.specs.Waiting.{IsFlushed};
 ghost use Rattle.http_front.specs.Sending.{IsUnderWay, Sends};
 ghost use Rattle.http_front.specs.declared.reply.Reply.TheVariants.{Refused};
-ghost use Rattle.http_front.specs.Replies.{status_of, phrase_of, opening, framed, reply_bytes};
+ghost use Rattle.http_front.specs.Replies.{phrase_of, opening, framed, reply_bytes};
 
 use crate::letter::Letter;
-use arr_core::{Refusal, refusal_name};
+use arr_core::{refusal_name, refusal_status};
 use http::StatusCode;
 use itoa::Buffer;
 use stream_face::{Sink, flush_if};
@@ -25,17 +25,6 @@ pub enum Reply {
 #[derive(Clone, Copy, Debug, PartialEq, Eq, Error)]
 #[error("the reply was not written")]
 pub struct WriteFault;
-
-/// The status of a refusal by its number: 400 where no refusal with a status has it.
-fn status_of(code: u16) -> u16
-    ensures status { result ≡ status_of code }
-    ensures valid { IsStatusCode result }
-{
-    match Refusal::from_number(code) {
-        Some(refusal) => refusal.status().unwrap_or(400),
-        None => 400,
-    }
-}
 
 /// The phrase of a status.
 fn phrase_of(status: u16) -> &'static str
@@ -115,7 +104,14 @@ fn add_refusal<K: Sink>(
     let number = digits.format(code);
     let name = refusal_name(code);
     let length = b"refused ".len() + number.len() + 1 + name.len() + 1;
-    let ok = add_opening(letter, sink, status_of(code), "text/plain", length, last);
+    let ok = add_opening(
+        letter,
+        sink,
+        refusal_status(code),
+        "text/plain",
+        length,
+        last,
+    );
     if bare {
         return ok;
     }

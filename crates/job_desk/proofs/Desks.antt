@@ -6,7 +6,8 @@ use Rattle.std.proofs.lemmas.List.Quantifiers.{all_pairs_push, all_pairs_remove}
 use Rattle.std.proofs.lemmas.List.Edits.{length-remove}
 use Rattle.job_desk.specs.declared.job.Job.{Job}
 use Rattle.std.proofs.lemmas.Option.{slice_get_read}
-use Rattle.job_desk.specs.Desks.{IsDesk, IsJob, job_of, replaced, number_after}
+use Rattle.arr_core.specs.Numbers.{number_after}
+use Rattle.job_desk.specs.Desks.{IsDesk, IsJob, job_of, replaced}
 use Rattle.job_desk.specs.Steps.{IsChanged}
 use Rattle.job_desk.specs.Places.{IsPlace}
 

@@ -1,6 +1,7 @@
 -- The desk: the jobs that are held, in the order of their numbers, and the number that the next one gets.
-use Rattle.std.specs.Prelude.{◌≡◌, ℕ, ◌+◌, ◌-◌, ◌^◌, ◌<◌, ◌≤◌, nat_lt, nat_eq, cond, ◌⊎◌, List, [], ◌∷◌, ◌++◌, length, Option, Some, None, Result, Ok, Err, string_bytes}
+use Rattle.std.specs.Prelude.{◌≡◌, ℕ, ◌<◌, ◌≤◌, nat_eq, cond, ◌⊎◌, List, [], ◌∷◌, ◌++◌, length, Option, Some, None, Result, Ok, Err, string_bytes}
 use Rattle.std.specs.List.{find, All, AllPairs}
+use Rattle.arr_core.specs.Numbers.{number_after}
 use Rattle.wcps_mean.specs.declared.cell.PointFault.{PointFault}
 use Rattle.wcps_mean.specs.declared.item.Item.{Item}
 use Rattle.csv_out.specs.Csv.{csv}
@@ -35,10 +36,6 @@ without n (j ∷ jobs) = cond (nat_eq j.number n) jobs (j ∷ without n jobs)
 -- the desk without the job with a number
 abbrev pub taken_out : ℕ → DeskView → DeskView
 taken_out n desk = record { jobs = without n desk.jobs; next = desk.next }
-
--- the number after one
-abbrev pub number_after : ℕ → Option ℕ
-number_after n = cond (nat_lt n (2 ^ 64 - 1)) (Some (n + 1)) None
 
 -- no job is taken: 64 are held, or no number is left
 abbrev pub IsFull : DeskView → Type 0

@@ -5,7 +5,8 @@ ghost use Rattle.std.specs.Int.NonZero.{non_zero_u64_get};
 ghost use Rattle.std.specs.List.{remove};
 ghost use Rattle.plan_ir.specs.Plans.{plan_view};
 ghost use Rattle.plan_ir.specs.Placed.{IsPlan};
-ghost use Rattle.job_desk.specs.Desks.{job_of, taken_out, number_after, IsSubmitted, IsTakenIn, IsFetched, IsDesk};
+ghost use Rattle.arr_core.specs.Numbers.{number_after};
+ghost use Rattle.job_desk.specs.Desks.{job_of, taken_out, IsSubmitted, IsTakenIn, IsFetched, IsDesk};
 ghost use Rattle.job_desk.specs.Steps.{coverages_of, HasCoverages, IsLowered, IsChanged, IsRefusedStep, StepsSource, IsRefusedFetch, IsRefusedSubmit};
 
 use crate::answer::{Answer, answer_of};

@@ -99,6 +99,10 @@ each_in read (piece ∷ pieces) = and_then (λ x. and_then (λ xs. Ok (x ∷ xs)
 abbrev pub list_in : {X : Type 0} → (List ℕ → Result X RequestError) → List ℕ → Result (List X) RequestError
 list_in read text = each_in read (pieces_of text)
 
--- the text of a query: at most 65,536 bytes
+-- the most bytes of the text of a query
+abbrev pub max_query : ℕ
+max_query = 65536
+
+-- the text of a query
 abbrev pub query_in : List ℕ → Result (List ℕ) RequestError
-query_in text = if nat_le (length text) 65536 then Ok text else Err BadValue
+query_in text = if nat_le (length text) max_query then Ok text else Err BadValue

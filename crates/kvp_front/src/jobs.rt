@@ -10,7 +10,7 @@ use crate::spelling::read_signed;
 use std::alloc::Global;
 
 /// The most units that one request may ask for.
-const MOST_UNITS: i64 = 1000;
+const MAX_UNITS: i64 = 1000;
 
 /// The number of a job: digits alone, within 64 bits.
 fn read_job(text: &str) -> Result<u64, RequestError>
@@ -31,7 +31,7 @@ fn read_units(text: &str) -> Result<u64, RequestError>
     ensures { Gives same (units_in text.now) result }
 {
     let number = read_signed(text)?;
-    if number < 1 || number > MOST_UNITS {
+    if number < 1 || number > MAX_UNITS {
         return Err(RequestError::BadValue);
     }
     Ok(number as u64)

@@ -16,3 +16,4 @@ pub use reading::read_request;
 pub use request::{
     Insertion, Interval, JobUnits, Request, RequestError, RequestedLayer, TemplateRequest, Update,
 };
+pub use spelling::MAX_QUERY;

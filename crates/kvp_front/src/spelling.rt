@@ -9,7 +9,7 @@ use arr_core::{Cell, Field, FieldType, Name, NameError};
 use std::alloc::Global;
 
 /// The most bytes that the text of a query may have.
-const QUERY_LIMIT: usize = 65536;
+pub const MAX_QUERY: usize = 65536;
 
 /// A signed number: an optional sign and digits, within 64 bits.
 pub fn read_signed(text: &str) -> Result<i64, RequestError>
@@ -106,7 +106,7 @@ pub fn query_under(alloc: Global, pairs: &[Pair<'_>]) -> Result<String, RequestE
     ensures { Gives string_bytes (read_under query_in (codes "query") (map pair_view pairs.now)) result }
 {
     let text = value_under(alloc, pairs, "query")?;
-    if text.len() > QUERY_LIMIT {
+    if text.len() > MAX_QUERY {
         return Err(RequestError::BadValue);
     }
     Ok(text)

@@ -1,5 +1,5 @@
 -- What is known of the layers of an operation that is asked.
-use Rattle.std.proofs.Common.{◌≡◌, ℕ, suc, ◌≤◌, ℤ, ◌≤ℤ◌, pos, negsuc, Bool, true, false, cond, List, [], ◌∷◌, get_or, All, Option, Some, None, Result, Ok, Err, IfOk, refl, sym, ap, ◌∙◌, subst, arith}
+use Rattle.std.proofs.Common.{◌≡◌, ℕ, suc, ◌≤◌, ℤ, ◌≤ℤ◌, pos, negsuc, Bool, true, false, cond, List, [], ◌∷◌, get_or, All, Option, Some, None, Result, Ok, Err, ok_or, IfOk, refl, sym, ap, ◌∙◌, subst, arith}
 use Rattle.std.specs.Str.{bytes_eq}
 use Rattle.std.proofs.lemmas.Int.{ints}
 use Rattle.std.proofs.lemmas.List.Quantifiers.{position-Some}
@@ -13,15 +13,16 @@ use Rattle.arr_core.specs.Fields.{place_of}
 use Rattle.arr_core.specs.Names.{IsName}
 use Rattle.wcps_types.specs.Names.{coverage_place}
 use Rattle.wcps_types.specs.Bindings.{signature_at}
+use Rattle.wcps_types.specs.Shapes.{then_of}
 use Rattle.wcps_types.specs.Operators.{are_same}
 use Rattle.map_templates.specs.declared.params.Layer.{Layer}
 use Rattle.map_templates.specs.declared.params.Params.{Params}
 use Rattle.map_templates.specs.declared.refusal.ExpandError.{ExpandError}
-use Rattle.map_templates.specs.declared.refusal.ExpandRefusal.TheVariants.{BadParameter}
+use Rattle.map_templates.specs.declared.refusal.ExpandRefusal.TheVariants.{NoSuchCoverage, BadParameter}
 use Rattle.map_templates.specs.declared.template.LocalOperation.{LocalOperation}
 use Rattle.map_templates.specs.declared.template.Summary.{Summary}
-use Rattle.map_templates.specs.Refusals.{Answer, then_of, Says}
-use Rattle.map_templates.specs.Expansion.{Operation, local_on, focal_on, zonal_on, known_signature, coverage_of, field_found, field_at, field_of, second_of, radius_of, local_operation, on_plane, focal_operation, zonal_operation, text_of, as_text}
+use Rattle.map_templates.specs.Refusals.{Answer, Says}
+use Rattle.map_templates.specs.Expansion.{Operation, local_on, focal_on, zonal_on, coverage_of, field_found, field_at, field_of, second_of, radius_of, local_operation, on_plane, focal_operation, zonal_operation, text_of, as_text}
 use Rattle.map_templates.specs.Queries.{IsAxis, IsField, IsCoverage}
 use Rattle.map_templates.proofs.Written.{IsLayer, IsFieldName, AreAxes}
 use Rattle.map_templates.proofs.Same.{Decides-same}
@@ -57,7 +58,7 @@ pub record IsFound (signatures : List Signature) (layer : Layer) (s : Signature)
   pub found : signature_at (coverage_place layer.coverage signatures) signatures ≡ Some s
   pub field : field_of layer s ≡ Ok f
 
-is_found : (o : Option Signature) (s : Signature) → known_signature o ≡ Ok s → o ≡ Some s
+is_found : (o : Option Signature) (s : Signature) → ok_or o NoSuchCoverage ≡ Ok s → o ≡ Some s
 is_found None s e = no_answer e
 is_found (Some t) s e = ap (λ (x : Signature). Some x) (same_answer e)
 

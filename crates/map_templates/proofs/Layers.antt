@@ -17,7 +17,8 @@ use Rattle.wcps_types.specs.declared.refusal.TypeRefusal.TheVariants.{DomainMism
 use Rattle.wcps_text.specs.declared.operator.BinaryOperator.{BinaryOperator}
 use Rattle.wcps_types.specs.Typed.{Typed, cell, select, binary, TypedTree, CombinationTree}
 use Rattle.wcps_types.specs.Shapes.{ShapeTree, Answer, then_of, unnamed, is_scalar}
-use Rattle.wcps_types.specs.Variables.{is_boolean, cells_from, variable}
+use Rattle.arr_core.specs.Cells.{is_bool}
+use Rattle.wcps_types.specs.Variables.{cells_from, variable}
 use Rattle.wcps_types.specs.Operators.{selected, numeric, are_same}
 use Rattle.wcps_types.specs.Typing.{typ}
 use Rattle.wcps_types.specs.Names.{coverage_place}
@@ -54,7 +55,7 @@ selected_at : (name : List ℕ) (axes : List Axis) (c k : ℕ) (fields : List Fi
 selected_at name axes c k [] f d lt at before = absurd (omega arith)
 selected_at name axes c k (x ∷ fields) zero d lt at before =
     let same : k ≡ k + zero = omega arith in
-    record { name = Some x.name; boolean = is_boolean x.kind; is = subst (λ (j : ℕ). selected name axes (cells_from c k (x ∷ fields)) ≡ Ok (one axes (Some x.name) (is_boolean x.kind) (select (cell c j)))) same (rw at refl) }
+    record { name = Some x.name; boolean = is_bool x.kind; is = subst (λ (j : ℕ). selected name axes (cells_from c k (x ∷ fields)) ≡ Ok (one axes (Some x.name) (is_bool x.kind) (select (cell c j)))) same (rw at refl) }
 selected_at name axes c k (x ∷ fields) (suc f) d lt at before =
     let more = selected_at name axes c (k + 1) fields f d (omega arith) at (λ i small. before (suc i) (omega arith)) in
     let same : (k + 1) + f ≡ k + suc f = omega arith in
@@ -69,7 +70,7 @@ field_selected name axes c (d ∷ fields) f e =
 
 only_field_at : (axes : List Axis) (c : ℕ) (fields : List Field) (f : ℕ) → field_at None fields ≡ Ok f → IsOne (Ok (record { domain = axes; fields = cells_from c 0 fields })) axes (cell c f)
 only_field_at axes c [] f e = no_answer e
-only_field_at axes c (d ∷ []) f e = record { name = Some d.name; boolean = is_boolean d.kind; is = ap (λ (j : ℕ). Ok (one axes (Some d.name) (is_boolean d.kind) (cell c j))) (same_answer e) }
+only_field_at axes c (d ∷ []) f e = record { name = Some d.name; boolean = is_bool d.kind; is = ap (λ (j : ℕ). Ok (one axes (Some d.name) (is_bool d.kind) (cell c j))) (same_answer e) }
 only_field_at axes c (d ∷ b ∷ fields) f e = absurd (many (nat_eq (length (d ∷ b ∷ fields)) 1) refl e)
   where
     many : (t : Bool) → nat_eq (length (d ∷ b ∷ fields)) 1 ≡ t → cond {A = Asked ℕ} t (Ok 0) (Err BadParameter) ≡ Ok f → ⊥

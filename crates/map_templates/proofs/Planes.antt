@@ -5,7 +5,8 @@ use Rattle.arr_core.specs.declared.signature.Signature.{Signature}
 use Rattle.map_templates.specs.declared.params.Layer.{Layer}
 use Rattle.map_templates.specs.declared.params.Params.{Params}
 use Rattle.map_templates.specs.declared.template.Summary.{Summary}
-use Rattle.map_templates.specs.Refusals.{Answer, then_of}
+use Rattle.wcps_types.specs.Shapes.{then_of}
+use Rattle.map_templates.specs.Refusals.{Answer}
 use Rattle.map_templates.specs.Texts.{focal_text}
 use Rattle.map_templates.specs.Expansion.{Operation, focal_on, on_plane, coverage_of, field_of, radius_of, focal_operation, as_text}
 

@@ -1,11 +1,12 @@
 -- What a template is expanded to, or its first refusal.
-use Rattle.std.specs.Prelude.{ℕ, ℤ, pos, List, [], ◌∷◌, length, nat_eq, int_le, unsigned_abs, cond, ◌&&◌, Option, Some, None, Ok, Err}
+use Rattle.std.specs.Prelude.{ℕ, ℤ, pos, List, [], ◌∷◌, length, nat_eq, int_le, unsigned_abs, cond, ◌&&◌, Option, Some, None, Ok, Err, ok_or}
 use Rattle.arr_core.specs.declared.domain.Axis.{Axis}
 use Rattle.arr_core.specs.declared.field.Field.{Field}
 use Rattle.arr_core.specs.declared.signature.Signature.{Signature}
 use Rattle.arr_core.specs.Fields.{place_of}
 use Rattle.wcps_types.specs.Names.{coverage_place}
 use Rattle.wcps_types.specs.Bindings.{signature_at}
+use Rattle.wcps_types.specs.Shapes.{then_of}
 use Rattle.wcps_types.specs.Operators.{are_same}
 use Rattle.map_templates.specs.declared.params.Layer.{Layer}
 use Rattle.map_templates.specs.declared.params.Params.{Params}
@@ -14,17 +15,13 @@ use Rattle.map_templates.specs.declared.template.Summary.{Summary}
 use Rattle.map_templates.specs.declared.template.Template.{Template}
 use Rattle.map_templates.specs.declared.template.Template.TheVariants.{Local, Focal, Zonal}
 use Rattle.map_templates.specs.declared.refusal.ExpandRefusal.TheVariants.{NoSuchTemplate, NoSuchCoverage, BadParameter}
-use Rattle.map_templates.specs.Refusals.{Answer, then_of}
+use Rattle.map_templates.specs.Refusals.{Answer}
 use Rattle.map_templates.specs.Templates.{template_named}
 use Rattle.map_templates.specs.Texts.{local_text, focal_text, zonal_text}
 
-abbrev pub known_signature : Option Signature → Answer Signature
-known_signature None = Err NoSuchCoverage
-known_signature (Some s) = Ok s
-
 -- the coverage of a layer
 abbrev pub coverage_of : Layer → List Signature → Answer Signature
-coverage_of layer signatures = known_signature (signature_at (coverage_place layer.coverage signatures) signatures)
+coverage_of layer signatures = ok_or (signature_at (coverage_place layer.coverage signatures) signatures) NoSuchCoverage
 
 abbrev pub field_found : Option ℕ → Answer ℕ
 field_found None = Err BadParameter
@@ -43,10 +40,14 @@ abbrev pub second_of : Option Layer → Answer Layer
 second_of None = Err BadParameter
 second_of (Some layer) = Ok layer
 
--- 1 to 8
+-- the greatest radius
+abbrev pub max_radius : ℕ
+max_radius = 8
+
+-- 1 to that
 abbrev pub radius_of : Option ℤ → Answer ℕ
 radius_of None = Err BadParameter
-radius_of (Some z) = cond (int_le (pos 1) z && int_le z (pos 8)) (Ok (unsigned_abs z)) (Err BadParameter)
+radius_of (Some z) = cond (int_le (pos 1) z && int_le z (pos max_radius)) (Ok (unsigned_abs z)) (Err BadParameter)
 
 -- what is asked: an operation, its layers each with the place of its field, and the domain or the two axes of the first layer
 pub data Operation : Type 0 where

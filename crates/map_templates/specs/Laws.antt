@@ -9,7 +9,7 @@ use Rattle.wcps_mean.specs.Meaning.{val}
 use Rattle.wcps_mean.specs.Answer.{answer}
 use Rattle.map_templates.specs.Tomlin.{Raster}
 use Rattle.map_templates.specs.Refusals.{Answer}
-use Rattle.map_templates.specs.Expansion.{Operation, local_on, focal_on, zonal_on}
+use Rattle.map_templates.specs.Expansion.{Operation, local_on, focal_on, zonal_on, max_radius}
 use Rattle.map_templates.specs.Meaning.{Cells, AreIntegers, array_of}
 use Rattle.map_templates.specs.TypedTrees.{single, tree_of, domain_of}
 
@@ -31,10 +31,10 @@ ReadsLayers s cells (zonal_on op layer f zones g axes) a b = Reads s a (cells la
 abbrev pub IsSmall : Axis → Type 0
 IsSmall a = (negsuc 2147483647 ≤ℤ a.lo) × (a.hi ≤ℤ pos 2147483647)
 
--- a radius of at most 8, and bounds of 32 bits
+-- a radius of no more than is allowed, and bounds of 32 bits
 abbrev pub IsBounded : Operation → Type 0
 IsBounded (local_on op first f second g axes) = Unit {0}
-IsBounded (focal_on op layer f x y radius) = (radius ≤ 8) × IsSmall x × IsSmall y
+IsBounded (focal_on op layer f x y radius) = (radius ≤ max_radius) × IsSmall x × IsSmall y
 IsBounded (zonal_on op layer f zones g axes) = Unit {0}
 
 -- over whatever cells, the answer of its typed tree is the array that Tomlin's operation gives, or Overflow where a value

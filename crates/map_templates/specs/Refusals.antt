@@ -17,11 +17,6 @@ refusal_of BadParameter = refusals.BadParameter
 abbrev pub Answer : Type 0 → Type 0
 Answer A = Result A ExpandRefusal
 
--- a check after another one, which is made only where the first one gave something
-abbrev pub then_of : {A B : Type 0} → Answer A → (A → Answer B) → Answer B
-then_of (Err f) go = Err f
-then_of (Ok a) go = go a
-
 -- what a call gave is this answer, save where no memory was left
 abbrev pub Says : {T A : Type 0} → (T → A) → Result T ExpandError → Answer A → Type 0
 Says view (Ok t) a = a ≡ Ok (view t)

@@ -1,6 +1,8 @@
 -- The templates by their names.
 use Rattle.std.specs.Prelude.{ℕ, List, codes, Option, Some, None, if◌then◌else◌}
 use Rattle.std.specs.Str.{bytes_eq}
+use Rattle.arr_core.specs.declared.keyword.Keyword.TheVariants as words
+use Rattle.arr_core.specs.Keywords.{keyword_text}
 use Rattle.map_templates.specs.declared.template.LocalOperation.TheVariants as locals
 use Rattle.map_templates.specs.declared.template.Summary.{Summary}
 use Rattle.map_templates.specs.declared.template.Summary.TheVariants as summaries
@@ -25,5 +27,5 @@ template_named name =
 -- what joins the values of a condenser, as a query writes it
 abbrev pub summary_text : Summary → List ℕ
 summary_text summaries.Sum = codes "+"
-summary_text summaries.Maximum = codes "max"
-summary_text summaries.Minimum = codes "min"
+summary_text summaries.Maximum = keyword_text words.Max
+summary_text summaries.Minimum = keyword_text words.Min

@@ -19,6 +19,9 @@ use crate::zonal::zonal_text;
 use arr_core::{Domain, Signature};
 use std::alloc::Global;
 
+/// The greatest radius of a focal operation.
+const MAX_RADIUS: i64 = 8;
+
 /// The query of a template, as a text of one line.
 ///
 /// `NoSuchTemplate` where no template has that name; else `NoSuchCoverage` where a layer that the template uses is none of
@@ -156,13 +159,13 @@ fn field_of(layer: &Layer, signature: &Signature) -> Result<usize, ExpandError>
     }
 }
 
-/// The radius of a focal operation, 1 to 8.
+/// The radius of a focal operation, 1 to `MAX_RADIUS`.
 fn radius_of(radius: Option<i64>) -> Result<u64, ExpandError>
     ensures { Says (λ r. r) result (radius_of radius) }
 {
     match radius {
         Some(radius) => {
-            if 1 <= radius && radius <= 8 {
+            if 1 <= radius && radius <= MAX_RADIUS {
                 return Ok(radius.unsigned_abs());
             }
             Err(ExpandError::Refused(ExpandRefusal::BadParameter))

@@ -3,6 +3,8 @@
 ghost use Rattle.std.specs.Prelude.{◌≡◌};
 ghost use Rattle.map_templates.specs.Templates.{template_named, summary_text};
 
+use arr_core::Keyword;
+
 /// What a local operation makes of the two values at a location.
 #[derive(Clone, Copy, PartialEq, Eq, Debug)]
 pub enum LocalOperation {
@@ -59,8 +61,8 @@ impl Summary {
     {
         match self {
             Summary::Sum => "+",
-            Summary::Maximum => "max",
-            Summary::Minimum => "min",
+            Summary::Maximum => Keyword::Max.text(),
+            Summary::Minimum => Keyword::Min.text(),
         }
     }
 }

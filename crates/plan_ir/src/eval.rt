@@ -1,6 +1,7 @@
 //! Evaluation of bodies at one point.
 
 ghost use Rattle.std.specs.Prelude.{◌≡◌, ℕ, ◌+◌, ◌<◌, ◌≤◌, ◌^◌, ℤ, pos, List, [], ◌∷◌, ◌++◌, slice_index_or, IfOk, OnOk};
+ghost use Rattle.arr_core.specs.Limits.{max_points};
 ghost use Rattle.wcps_mean.specs.declared.cell.Outcome.{Outcome};
 ghost use Rattle.wcps_mean.specs.Reading.{Leaves, Returns};
 ghost use Rattle.wcps_mean.specs.Reports.{Reports};
@@ -13,7 +14,7 @@ use crate::body::{Body, Fold, Index, Interval};
 use arr_core::rank_of;
 use std::alloc::{AllocError, Global};
 use wcps_mean::{
-    CellError, Cells, Outcome, PointFault, Running, operate, operate_both, push_point,
+    CellError, Cells, Outcome, PointFault, Running, item_at, operate, operate_both, push_point,
 };
 
 /// What bodies of one combination stand over: its coverages, by their places in the plan, and the outcomes of its passes.
@@ -147,7 +148,7 @@ fn feed<C: Cells>(
     vars: &mut Vec<i32>,
     running: &mut Running,
 ) -> Result<(), CellError>
-    requires { running.old.count < 2 ^ 24 }
+    requires { running.old.count < max_points }
     ensures fed { TakesIn C.Cells cells.old result (demanded_in frame.now f.now vars.old.items) running.old running.new }
     ensures count { OnOk result (running.new.count ≤ running.old.count + 1) }
     ensures op { OnOk result (running.new.op ≡ running.old.op) }
@@ -216,7 +217,7 @@ fn variable(vars: &[i32], k: usize) -> i64
 }
 
 /// What a register holds.
-fn register(registers: &[Outcome], k: usize) -> Outcome
+pub fn register(registers: &[Outcome], k: usize) -> Outcome
     ensures { result ≡ slice_index_or registers.now k (Outcome.Value (pos 0)) }
 {
     match registers.get(k) {
@@ -231,16 +232,6 @@ fn coverage_at(coverages: &[usize], k: usize) -> usize
 {
     match coverages.get(k) {
         Some(c) => *c,
-        None => 0,
-    }
-}
-
-/// The item at a place.
-fn item_at(items: &[i64], place: u64) -> i64
-    ensures { result ≡ slice_index_or items.now place (pos 0) }
-{
-    match items.get(place as usize) {
-        Some(z) => *z,
         None => 0,
     }
 }

@@ -9,6 +9,7 @@ mod plan;
 mod variables;
 
 pub use body::{Body, Fold, Index, Interval};
+pub use eval::register;
 pub use items::run;
 pub use plan::{Bind, Combination, Field, Item, Plan, Steps};
 pub use variables::{fold_is_from, is_below, is_from};

@@ -15,12 +15,12 @@ use stream_face::Sink;
 const NO_SOCKET: u8 = 5;
 
 /// How long a connection may stay silent, or take nothing, in seconds.
-const PATIENCE: u64 = 60;
+const MAX_SILENCE: u64 = 60;
 
 /// Has a read or a write of a connection that waits for too long fail.
 fn set_patience(stream: &TcpStream) {
-    let _reads = stream.set_read_timeout(Some(Duration::from_secs(PATIENCE)));
-    let _writes = stream.set_write_timeout(Some(Duration::from_secs(PATIENCE)));
+    let _reads = stream.set_read_timeout(Some(Duration::from_secs(MAX_SILENCE)));
+    let _writes = stream.set_write_timeout(Some(Duration::from_secs(MAX_SILENCE)));
     let _small = stream.set_nodelay(true);
 }
 

@@ -11,7 +11,7 @@ use std::io::{Error, ErrorKind};
 use stream_face::{Sink, Source};
 
 /// How often a call is made at most.
-const MOST_TRIES: u32 = 1000;
+const MAX_TRIES: u32 = 1000;
 
 /// A reader or a writer whose interrupted calls are made again, and whether a call on it has failed. The system interrupts a
 /// call where the program is stopped and continued, by a signal or a debugger, or the machine is suspended.
@@ -47,14 +47,14 @@ fn is_interrupted(error: &Error) -> bool
     error.kind() == ErrorKind::Interrupted
 }
 
-/// One read, made again as long as it is interrupted, at most `MOST_TRIES` times in all.
+/// One read, made again as long as it is interrupted, at most `MAX_TRIES` times in all.
 fn read_again<R: Source>(reader: &mut R, buf: &mut [u8]) -> io::Result<usize>
     ensures bound { ReadsAtMost result buf.new }
     ensures bytes { ReadConsumes (R.view reader.old).remaining (R.view reader.new).remaining result buf.new }
     ensures fault { OnErr result ((R.view reader.new).failed ≡ fault_told (R.view reader.old).failed) }
     ensures resumed { IfErr result (λ e. error_kind e ≢ ErrorKind.Interrupted) }
 {
-    let mut left = MOST_TRIES;
+    let mut left = MAX_TRIES;
     'reading: while left > 0 {
         match reader.read_some(buf) {
             Ok(count) => return Ok(count),
@@ -69,7 +69,7 @@ fn read_again<R: Source>(reader: &mut R, buf: &mut [u8]) -> io::Result<usize>
     Err(too_often())
 }
 
-/// One write, made again as long as it is interrupted, at most `MOST_TRIES` times in all.
+/// One write, made again as long as it is interrupted, at most `MAX_TRIES` times in all.
 fn write_again<W: Sink>(writer: &mut W, bytes: &[u8]) -> io::Result<usize>
     ensures bound { WritesAtMost result bytes.now }
     ensures bytes { WriteAppends (W.view writer.old).contents (W.view writer.new).contents result bytes.now }
@@ -77,7 +77,7 @@ fn write_again<W: Sink>(writer: &mut W, bytes: &[u8]) -> io::Result<usize>
     ensures fault { OnErr result ((W.view writer.new).failed ≡ fault_told (W.view writer.old).failed) }
     ensures resumed { IfErr result (λ e. error_kind e ≢ ErrorKind.Interrupted) }
 {
-    let mut left = MOST_TRIES;
+    let mut left = MAX_TRIES;
     'writing: while left > 0 {
         match writer.write_some(bytes) {
             Ok(count) => return Ok(count),
@@ -92,14 +92,14 @@ fn write_again<W: Sink>(writer: &mut W, bytes: &[u8]) -> io::Result<usize>
     Err(too_often())
 }
 
-/// Hands on what was written, again as long as it is interrupted, at most `MOST_TRIES` times in all.
+/// Hands on what was written, again as long as it is interrupted, at most `MAX_TRIES` times in all.
 fn hand_on_again<W: Sink>(writer: &mut W) -> io::Result<()>
     ensures bytes { Keeps (W.view writer.old).contents (W.view writer.new).contents }
     ensures waits { WaitsAfterFlush (W.view writer.old).waiting (W.view writer.new).waiting result }
     ensures fault { OnErr result ((W.view writer.new).failed ≡ fault_told (W.view writer.old).failed) }
     ensures resumed { IfErr result (λ e. error_kind e ≢ ErrorKind.Interrupted) }
 {
-    let mut left = MOST_TRIES;
+    let mut left = MAX_TRIES;
     'handing: while left > 0 {
         match writer.hand_on() {
             Ok(()) => return Ok(()),

@@ -5,10 +5,11 @@ ghost use Rattle.rasterd.specs.declared.commands.Command.{Command as Asked};
 
 use crate::commands::Command;
 
-/// The greatest port, and the most connections of a session.
-const MOST_PORT: u32 = 65_535;
+/// The greatest port.
+const MAX_PORT: u32 = 65_535;
 
-const MOST_CONNECTIONS: u32 = 1_000_000;
+/// The most connections of a session.
+const MAX_CONNECTIONS: u32 = 1_000_000;
 
 /// The number that decimal digits alone write, where it is from 1 to `most`.
 fn number_up_to(text: &str, most: u32) -> Option<u32>
@@ -39,17 +40,17 @@ fn listening<'a>(file: &'a str, verb: &str, port: &str, count: &str) -> Option<C
     if verb != "listen" {
         return None;
     }
-    let Some(port) = number_up_to(port, MOST_PORT) else {
+    let Some(port) = number_up_to(port, MAX_PORT) else {
         return None;
     };
-    let Some(count) = number_up_to(count, MOST_CONNECTIONS) else {
+    let Some(count) = number_up_to(count, MAX_CONNECTIONS) else {
         return None;
     };
     Some(Command::Listen(file, port as u16, count))
 }
 
 /// The command that the words after the program's name are: `FILE run`, or `FILE listen PORT COUNT` with a port from 1 to
-/// 65535 and a count from 1 to 1000000, in decimal digits alone.
+/// `MAX_PORT` and a count from 1 to `MAX_CONNECTIONS`, in decimal digits alone.
 pub fn command(words: &[String]) -> Option<Command<'_>>
     ensures some { IfSome result (Asks (map string_bytes words.now)) }
     ensures none { result ≡ None → (c : Asked) → Asks (map string_bytes words.now) c → ⊥ }

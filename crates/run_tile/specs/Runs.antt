@@ -5,6 +5,7 @@ use Rattle.std.specs.List.{range_with_len}
 use Rattle.byteorder.specs.Endian.{little_number}
 use Rattle.arr_core.specs.declared.cell.FieldType.{FieldType}
 use Rattle.arr_core.specs.Cells.{Fits}
+use Rattle.arr_core.specs.Limits.{max_tile}
 use Rattle.run_tile.specs.Types.{width_of, value_of}
 use Rattle.run_tile.specs.declared.run.Run.{Run}
 
@@ -33,9 +34,9 @@ first_runs kind bytes n = map (run_at kind bytes) (range_with_len 0 n)
 unfoldable pub cells_of : List Run → List ℤ
 cells_of runs = flat_map (λ (r : Run). replicate r.count r.value) runs
 
--- a run has 1 to 4096 cells, of the type
+-- a run has at least one cell and no more than a tile, of the type
 abbrev pub IsRun : FieldType → Run → Type 0
-IsRun kind r = (1 ≤ r.count) × (r.count ≤ 4096) × Fits kind r.value
+IsRun kind r = (1 ≤ r.count) × (r.count ≤ max_tile) × Fits kind r.value
 
 -- The bytes spell the cells: they are runs and nothing else, neighbouring runs have unlike values
 -- (so each run is as long as it can be), and the cells are those of the runs.

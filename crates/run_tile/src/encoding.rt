@@ -2,6 +2,7 @@
 
 ghost use Rattle.std.specs.Prelude.{◌≡◌, ◌≢◌, ◌+◌, ◌*◌, ◌<◌, ◌≤◌, ℕ, ℤ, List, length, ◌++◌, All, IfOk, OnOk, IsTrue, get_or, slice_index_or, pos};
 ghost use Rattle.arr_core.specs.Cells.{Fits};
+ghost use Rattle.arr_core.specs.Limits.{max_tile};
 ghost use Rattle.run_tile.specs.Runs.{IsSpelling, IsRun, runs_in, run_size};
 ghost use Rattle.run_tile.specs.Bytes.{run_bytes};
 ghost use Rattle.run_tile.specs.Raw.{Spells, IsTile, AreRunsUpTo, form_of, raw_size, runs_size, tile_size};
@@ -51,7 +52,7 @@ fn encode_runs(
     cells: &[i64],
     most: usize,
 ) -> Result<Option<Vec<u8>>, AllocError>
-    requires few { length cells.now ≤ 4096 }
+    requires few { length cells.now ≤ max_tile }
     requires short { most ≤ 32768 }
     requires of_type { All (Fits kind) cells.now }
     ensures runs { IfOk result (AreRunsUpTo kind cells.now most) }
@@ -79,7 +80,7 @@ const FIRST: usize = 64;
 /// Whether raw is shorter than runs, where it is so of the first cells too. Noise is found here, before its runs would be
 /// written.
 fn is_noise(kind: FieldType, cells: &[i64]) -> bool
-    requires few { length cells.now ≤ 4096 }
+    requires few { length cells.now ≤ max_tile }
     ensures { IsTrue result → raw_size kind cells.now < runs_size kind cells.now }
 {
     let first = cells.len().min(FIRST);
@@ -91,7 +92,7 @@ fn is_noise(kind: FieldType, cells: &[i64]) -> bool
 
 /// The raw bytes of cells whose runs take more.
 fn raw_tile(alloc: Global, kind: FieldType, cells: &[i64]) -> Result<(Form, Vec<u8>), AllocError>
-    requires few { length cells.now ≤ 4096 }
+    requires few { length cells.now ≤ max_tile }
     requires of_type { All (Fits kind) cells.now }
     requires shorter { raw_size kind cells.now < runs_size kind cells.now }
     ensures { IfOk result (λ it. IsTile kind cells.now it.0 it.1.items) }
@@ -104,7 +105,7 @@ fn raw_tile(alloc: Global, kind: FieldType, cells: &[i64]) -> Result<(Form, Vec<
 /// runs, else runs, each as long as it can be. 1 to 32,768 bytes.
 pub fn encode(alloc: Global, kind: FieldType, cells: &[i64]) -> Result<(Form, Vec<u8>), AllocError>
     requires some { 1 ≤ length cells.now }
-    requires few { length cells.now ≤ 4096 }
+    requires few { length cells.now ≤ max_tile }
     requires of_type { All (Fits kind) cells.now }
     ensures spelled { IfOk result (λ it. Spells it.0 kind it.1.items cells.now) }
     ensures form { IfOk result (λ it. it.0 ≡ form_of kind cells.now) }

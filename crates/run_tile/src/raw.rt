@@ -5,6 +5,7 @@ ghost use Rattle.std.specs.Int.{w64};
 ghost use Rattle.std.specs.Ordering.{int_eq};
 ghost use Rattle.byteorder.specs.Endian.{little_bytes, low_bytes};
 ghost use Rattle.arr_core.specs.Cells.{Fits};
+ghost use Rattle.arr_core.specs.Limits.{max_tile};
 ghost use Rattle.run_tile.specs.Types.{width_of};
 ghost use Rattle.run_tile.specs.Runs.{runs_in};
 ghost use Rattle.run_tile.specs.Raw.{raw_at, raw_cells, raw_size, runs_size, IsRawSpelling, IsNoRawSpelling};
@@ -164,7 +165,7 @@ pub(crate) fn encode_raw(
     kind: FieldType,
     cells: &[i64],
 ) -> Result<Vec<u8>, AllocError>
-    requires few { length cells.now ≤ 4096 }
+    requires few { length cells.now ≤ max_tile }
     requires of_type { All (Fits kind) cells.now }
     ensures whole { IfOk result (λ bytes. length bytes.items ≡ raw_size kind cells.now) }
     ensures read { IfOk result (λ bytes. cells.now ≡ raw_cells kind bytes.items) }

@@ -5,11 +5,8 @@ ghost use Rattle.run_tile.specs.Types.{width_of, value_of};
 ghost use Rattle.run_tile.specs.Runs.{run_size, run_of, run_at, run_count, IsRun};
 ghost use Rattle.byteorder.specs.Endian.{little_number};
 
-use arr_core::FieldType;
+use arr_core::{FieldType, MAX_TILE};
 use byteorder::{ByteOrder, LittleEndian};
-
-/// How many cells a run may have.
-pub const MAX_COUNT: u16 = 4096;
 
 /// A run: `count` cells of one value.
 #[derive(Clone, Copy, PartialEq, Eq, Debug)]
@@ -66,11 +63,11 @@ impl Run {
         Run::read(kind, &bytes[place * size..])
     }
 
-    /// Whether it has 1 to 4,096 cells, of a type.
+    /// Whether it has 1 to `MAX_TILE` cells, of a type.
     #[inline(always)]
     pub fn is_run(self, kind: FieldType) -> bool
         ensures { IsTrue result ↔ IsRun kind self }
     {
-        1 <= self.count && self.count <= MAX_COUNT && kind.fits(self.value)
+        1 <= self.count && u64::from(self.count) <= MAX_TILE && kind.fits(self.value)
     }
 }

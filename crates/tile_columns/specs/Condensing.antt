@@ -1,8 +1,9 @@
 -- What a fold lists at a place.
-use Rattle.std.specs.Prelude.{◌≡◌, ◌≢◌, ℕ, suc, ◌+◌, ◌^◌, ◌<◌, ◌≤◌, ℤ, List, [], ◌∷◌, ◌++◌, map, length, slice_index_or, Bool, true}
+use Rattle.std.specs.Prelude.{◌≡◌, ◌≢◌, ℕ, suc, ◌+◌, ◌<◌, ◌≤◌, ℤ, List, [], ◌∷◌, ◌++◌, map, length, slice_index_or, Bool, true}
 use Rattle.std.specs.List.{range_with_len}
 use Rattle.arr_core.specs.declared.domain.Axis.{Axis}
 use Rattle.arr_core.specs.Domains.{rank_of}
+use Rattle.arr_core.specs.Limits.{max_points}
 use Rattle.wcps_text.specs.declared.operator.Aggregate.{Aggregate}
 use Rattle.wcps_mean.specs.declared.cell.Outcome.{Outcome}
 use Rattle.wcps_mean.specs.declared.cell.Outcome.TheVariants.{Value, Fault}
@@ -39,7 +40,7 @@ pub record MergesAt (place : ℕ) (found : Accumulator) (before after : List Acc
 
 -- the accumulator at a place may be told of so many points more
 abbrev pub HasRoomAt : ℕ → ℕ → List Accumulator → Type 0
-HasRoomAt place n folds = (d : Accumulator) → (slice_index_or folds place d).running.count + n ≤ 2 ^ 24
+HasRoomAt place n folds = (d : Accumulator) → (slice_index_or folds place d).running.count + n ≤ max_points
 
 -- outcomes are what a condenser makes of the points that each accumulator stands for, in the order of their places
 abbrev pub AreOutcomesOf : List Accumulator → List Outcome → Type 0

@@ -1,8 +1,9 @@
 -- Where the points of indexes stand at the places of a frame: the numbers of their tiles, and their ranks in these.
-use Rattle.std.specs.Prelude.{◌≡◌, ℕ, ◌+◌, ◌-◌, ◌*◌, ◌/◌, ◌<◌, ◌≤◌, ◌^◌, ◌≤ℤ◌, min, ℤ, pos, List, [], ◌∷◌, length, slice_index_or}
+use Rattle.std.specs.Prelude.{◌≡◌, ℕ, ◌+◌, ◌-◌, ◌*◌, ◌/◌, ◌<◌, ◌≤◌, ◌≤ℤ◌, min, ℤ, pos, List, [], ◌∷◌, length, slice_index_or}
 use Rattle.std.specs.List.{All}
 use Rattle.arr_core.specs.declared.domain.Axis.{Axis}
 use Rattle.arr_core.specs.Domains.{gap, rank_of, IsInside}
+use Rattle.arr_core.specs.Limits.{max_points}
 use Rattle.arr_core.specs.Tiles.{edge_of, box_at}
 use Rattle.arr_core.specs.Meeting.{tile_at}
 use Rattle.plan_ir.specs.declared.body.Index.{Index}
@@ -54,7 +55,7 @@ CountedOn xs d next old new = (k : ℕ) → k < length xs → slice_index_or new
 
 -- no count taken on in this way is large
 abbrev pub CountsFew : {X : Type 0} → List X → X → (X → ℕ → ℕ) → List ℕ → Type 0
-CountsFew xs d next old = (k : ℕ) → k < length xs → next (slice_index_or xs k d) (slice_index_or old k 0) < 2 ^ 24
+CountsFew xs d next old = (k : ℕ) → k < length xs → next (slice_index_or xs k d) (slice_index_or old k 0) < max_points
 
 -- there are n numbers of tiles, and n ranks
 abbrev pub HaveLength : ℕ → List ℕ → List ℕ → Type 0

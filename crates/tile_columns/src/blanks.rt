@@ -1,6 +1,7 @@
 //! Points whose value is 0: what many condensers keep of them is their number.
 
-ghost use Rattle.std.specs.Prelude.{◌≡◌, ◌≤◌, ◌^◌, length, IsTrue};
+ghost use Rattle.std.specs.Prelude.{◌≡◌, ◌≤◌, length, IsTrue};
+ghost use Rattle.arr_core.specs.Limits.{max_points};
 ghost use Rattle.wcps_text.specs.declared.operator.Aggregate.{Aggregate};
 ghost use Rattle.tile_kernel.specs.Standing.{AreOf, HaveAtMost};
 ghost use Rattle.tile_columns.specs.Blanks.{skips_zeros, SkipZeros, CountsZeros, EachCountsZeros};
@@ -28,7 +29,7 @@ pub(crate) fn skips_zeros(op: Aggregate) -> bool
 fn count_zeros(a: &mut Accumulator, count: u32)
     requires op { IsTrue (skips_zeros a.old.running.op) }
     requires room { a.old.running.count ≤ count }
-    requires few { count ≤ 2 ^ 24 }
+    requires few { count ≤ max_points }
     ensures stands { CountsZeros count a.old a.new }
     ensures op { a.new.running.op ≡ a.old.running.op }
     ensures count { a.new.running.count ≡ count }
@@ -40,7 +41,7 @@ fn count_zeros(a: &mut Accumulator, count: u32)
 pub(crate) fn count_all_zeros(folds: &mut [Accumulator], count: u32)
     requires op { SkipZeros folds.old }
     requires room { HaveAtMost count folds.old }
-    requires few { count ≤ 2 ^ 24 }
+    requires few { count ≤ max_points }
     ensures stands { EachCountsZeros count folds.old folds.new }
     ensures room { HaveAtMost count folds.new }
     ensures op { (op : Aggregate) → AreOf op folds.old → AreOf op folds.new }

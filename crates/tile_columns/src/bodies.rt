@@ -1,7 +1,8 @@
 //! Bodies at all places of a frame.
 
-ghost use Rattle.std.specs.Prelude.{◌≡◌, ◌+◌, ◌-◌, ◌<◌, ◌≤◌, ◌^◌, ◌≤ℤ◌, length, OnOk, IfOk};
+ghost use Rattle.std.specs.Prelude.{◌≡◌, ◌+◌, ◌-◌, ◌<◌, ◌≤◌, ◌≤ℤ◌, length, OnOk, IfOk};
 ghost use Rattle.arr_core.specs.Domains.{points};
+ghost use Rattle.arr_core.specs.Limits.{max_points};
 ghost use Rattle.plan_ir.specs.Bodies.{body_view, fold_view};
 ghost use Rattle.tile_kernel.specs.Standing.{AreOf};
 ghost use Rattle.tile_columns.specs.Calling.{Reads};
@@ -17,7 +18,7 @@ use crate::folds::{
     empty_folds, finish_folds, goes_by_tiles, is_never, merge_at, part_frame, push_place,
 };
 use crate::frame::Frame;
-use crate::ground::{BodyRead, Ground, read_cells, register};
+use crate::ground::{BodyRead, Ground, read_cells};
 use crate::halo::condense_window;
 use crate::lookup::{fill_variable, look_up};
 use crate::part::{Part, part_at};
@@ -26,7 +27,7 @@ use crate::shapes::{Shape, ShapeSide, always_true};
 use crate::source::Tiles;
 use crate::windows::window_of;
 use crate::zones::{Keys, Role, Seen, Zones, keys_of, tell_seen, zones_of};
-use plan_ir::{Body, Fold, Interval};
+use plan_ir::{Body, Fold, Interval, register};
 use tile_kernel::{
     Accumulator, Column, add_column, add_column_where, fold_column, fold_column_where,
     operate_column, operate_columns,
@@ -367,7 +368,7 @@ fn tell_zone_part<S: Tiles>(
     requires zones { AreZonesOf fold.now zoned.now.frame.now zoned.now.zoning.zones }
     requires keys { length zoned.now.keys.now.column ≡ length zoned.now.frame.now }
     requires part { IsPart fold.now.domain part.now }
-    requires folds { AreOfFold fold.now zoned.now.frame.now (2 ^ 24 - length (points part.now.area)) folds.old }
+    requires folds { AreOfFold fold.now zoned.now.frame.now (max_points - length (points part.now.area)) folds.old }
     ensures told { OnOk result (TakeInZone (S.state source.old) zoned.now fold.now part.now folds.old folds.new) }
     ensures folds { OnOk result (GrowBy fold.now part.now zoned.now.frame.now folds.old folds.new) }
     ensures reads { Reads S.Tiles result source.old source.new }
@@ -607,7 +608,7 @@ fn tell<S: Tiles>(
     folds: &mut [Accumulator],
 ) -> Result<(), CellError>
     requires place { BodiesHavePlace (S.state source.old) point.now.ground.now fold.now frame.old }
-    requires point { point.now.place < 2 ^ 24 }
+    requires point { point.now.place < max_points }
     requires folds { AreOfFold fold.now frame.old point.now.place folds.old }
     ensures told { OnOk result (TakeInLast (S.state source.old) point.now fold.now frame.old folds.old folds.new) }
     ensures folds { OnOk result (AreOfFold fold.now frame.old (point.now.place + 1) folds.new) }
@@ -682,7 +683,7 @@ fn tell_part<S: Tiles>(
 ) -> Result<(), CellError>
     requires place { FoldHasPlace (S.state source.old) around.now.ground.now fold.now around.now.frame.now }
     requires part { IsPart fold.now.domain part.now }
-    requires folds { AreOfFold fold.now around.now.frame.now (2 ^ 24 - length (points part.now.area)) folds.old }
+    requires folds { AreOfFold fold.now around.now.frame.now (max_points - length (points part.now.area)) folds.old }
     ensures told { OnOk result (TakeInBox (S.state source.old) around.now fold.now part.now folds.old folds.new) }
     ensures folds { OnOk result (GrowBy fold.now part.now around.now.frame.now folds.old folds.new) }
     ensures reads { Reads S.Tiles result source.old source.new }

@@ -1,7 +1,6 @@
 //! What bodies stand over.
 
-ghost use Rattle.std.specs.Prelude.{◌≡◌, pos, length, slice_index_or, OnOk};
-ghost use Rattle.wcps_mean.specs.declared.cell.Outcome.TheVariants.{Value};
+ghost use Rattle.std.specs.Prelude.{◌≡◌, length, slice_index_or, OnOk};
 ghost use Rattle.tile_columns.specs.Calling.{Reads};
 ghost use Rattle.tile_columns.specs.Meaning.{IsGroundOf, HasPlaceOver, IsColumnOf};
 ghost use Rattle.tile_columns.specs.BodyReads.{read_view, FetchesTilesOf};
@@ -31,16 +30,6 @@ fn coverage_at(coverages: &[usize], k: usize) -> usize
     match coverages.get(k) {
         Some(c) => *c,
         None => 0,
-    }
-}
-
-/// What a register holds.
-pub(crate) fn register(registers: &[Outcome], k: usize) -> Outcome
-    ensures { result ≡ slice_index_or registers.now k (Value (pos 0)) }
-{
-    match registers.get(k) {
-        Some(o) => *o,
-        None => Outcome::Value(0),
     }
 }
 

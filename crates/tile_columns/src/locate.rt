@@ -2,6 +2,7 @@
 
 ghost use Rattle.std.specs.Prelude.{◌≡◌, ◌<◌, ◌≤◌, ◌^◌, ◌≤ℤ◌, pos, length, replicate, OnOk};
 ghost use Rattle.arr_core.specs.Domains.{gap};
+ghost use Rattle.arr_core.specs.Limits.{max_points};
 ghost use Rattle.tile_columns.specs.Readings.{ReadsInside, tiles_of, ranks_of};
 ghost use Rattle.tile_columns.specs.Locating.{AreInside, tile_along, rank_along, LieAlong, CountedOn, CountsFew, HaveLength, CountedFrom, CountsFewFrom};
 
@@ -32,8 +33,8 @@ fn located_along(at: Located, along: Along, x: i64) -> Located
     requires edge { 0 < along.edge }
     requires last { (along.last < 2 ^ 32) × (along.edge ≤ 4096) }
     requires inside { (along.lo ≤ℤ x) × (gap along.lo x ≤ along.last) }
-    requires tile { tile_along along x at.tile < 2 ^ 24 }
-    requires rank { rank_along along x at.rank < 2 ^ 24 }
+    requires tile { tile_along along x at.tile < max_points }
+    requires rank { rank_along along x at.rank < max_points }
     ensures tile { result.tile ≡ tile_along along x at.tile }
     ensures rank { result.rank ≡ rank_along along x at.rank }
 {

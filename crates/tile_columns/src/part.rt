@@ -3,6 +3,7 @@
 ghost use Rattle.std.specs.Prelude.{◌≡◌, ◌+◌, ◌<◌, ◌≤◌, ◌^◌, ◌≤ℤ◌, List, ◌++◌, length, map, IfOk, OnOk};
 ghost use Rattle.std.specs.List.{range_with_len};
 ghost use Rattle.arr_core.specs.Domains.{gap, size_of, points, count, AreOrdered, IsBoxOf, rank_of};
+ghost use Rattle.arr_core.specs.Limits.{max_points};
 ghost use Rattle.arr_core.specs.Tiles.{tile_boxes};
 ghost use Rattle.tile_columns.specs.TileOrder.{tile_of, IsPart};
 
@@ -47,7 +48,7 @@ fn push_places(
     requires inside { IsBoxOf area.now part.now }
     requires ordered { AreOrdered area.now }
     requires part_ordered { AreOrdered part.now }
-    requires few { first + count area.now ≤ 2 ^ 24 }
+    requires few { first + count area.now ≤ max_points }
     ensures { OnOk result (list.new.items ≡ list.old.items ++ map (λ p. first + rank_of area.now p) (points part.now)) }
 {
     match area {

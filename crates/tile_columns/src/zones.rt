@@ -2,8 +2,9 @@
 //! equals a key of the places around it. It is the fold's condition, or stands in its body, as a factor does. One pass over
 //! the box tells the accumulators of all places.
 
-ghost use Rattle.std.specs.Prelude.{◌≡◌, ℕ, ◌+◌, ◌-◌, ◌*◌, ◌<◌, ◌≤◌, ◌^◌, [], length, map, IfSome, IfOk, OnOk, IsTrue, nat_le};
+ghost use Rattle.std.specs.Prelude.{◌≡◌, ℕ, ◌+◌, ◌-◌, ◌*◌, ◌<◌, ◌≤◌, [], length, map, IfSome, IfOk, OnOk, IsTrue, nat_le};
 ghost use Rattle.arr_core.specs.Domains.{count};
+ghost use Rattle.arr_core.specs.Limits.{max_points};
 ghost use Rattle.wcps_text.specs.declared.operator.BinaryOperator.TheVariants.{Equal};
 ghost use Rattle.wcps_mean.specs.declared.cell.Outcome.TheVariants.{Value};
 ghost use Rattle.plan_ir.specs.Bodies.{body_view, always, op2};
@@ -407,7 +408,7 @@ fn tell_places(folds: &mut [Accumulator], pool: &Pooled<'_>, work: &mut Work)
     requires shared { AreShared pool.now.op pool.now.slots.now pool.now.seen.now pool.now.shared.now }
     requires op { AreOf pool.now.op folds.old }
     requires few { length pool.now.seen.now.column.now ≤ 4096 }
-    requires room { HaveAtMost (2 ^ 24 - length pool.now.seen.now.column.now) folds.old }
+    requires room { HaveAtMost (max_points - length pool.now.seen.now.column.now) folds.old }
     ensures told { EachTakesIn folds.old folds.new (added_for pool.now) }
     ensures room { (n : ℕ) → HaveAtMost n folds.old → HaveAtMost (n + length pool.now.seen.now.column.now) folds.new }
     ensures op { AreOf pool.now.op folds.new }
@@ -428,7 +429,7 @@ pub(crate) fn tell_seen(
     requires seen { IsWhole seen.now }
     requires keys { length folds.old ≡ length keys.now.column }
     requires op { AreOf op folds.old }
-    requires room { HaveAtMost (2 ^ 24 - length seen.now.column.now) folds.old }
+    requires room { HaveAtMost (max_points - length seen.now.column.now) folds.old }
     ensures told { OnOk result (EachTakesIn folds.old folds.new (λ k. added_with seen.now (outcome_at keys.now.column k))) }
     ensures room { OnOk result ((n : ℕ) → HaveAtMost n folds.old → HaveAtMost (n + length seen.now.column.now) folds.new) }
     ensures op { OnOk result (AreOf op folds.new) }

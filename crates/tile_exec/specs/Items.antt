@@ -1,27 +1,22 @@
 -- The cells of an item that is done a tile at a time.
-use Rattle.std.specs.Prelude.{◌≡◌, ℕ, ◌*◌, ℤ, pos, List, ◌++◌, map, length, slice_get, Some}
+use Rattle.std.specs.Prelude.{◌≡◌, ℕ, ◌*◌, ℤ, List, ◌++◌, map, length, slice_get, Some}
 use Rattle.std.specs.List.{All, flat_map, enumerate_from, range_with_len}
 use Rattle.arr_core.specs.declared.cell.Cell.{Cell}
 use Rattle.arr_core.specs.Domains.{count, points, rank_of}
 use Rattle.wcps_mean.specs.declared.cell.Outcome.{Outcome}
-use Rattle.wcps_mean.specs.declared.cell.Outcome.TheVariants.{Value, Fault}
 use Rattle.wcps_mean.specs.Answer.{cell_of}
 use Rattle.plan_ir.specs.Plans.{FieldBody, ItemTree}
 use Rattle.plan_ir.specs.Run.{run}
 use Rattle.tile_kernel.specs.Told.{Told, IsFirst}
 use Rattle.tile_columns.specs.Fields.{behind}
 use Rattle.tile_columns.specs.TileOrder.{points_to}
+pub use Rattle.tile_columns.specs.Windows.{value_of}
 use Rattle.tile_exec.specs.declared.task.First.{First}
 use Rattle.tile_exec.specs.Tasks.{Cells}
 
 -- the outcomes of all fields at a point
 abbrev pub row : Cells → List Outcome → ItemTree → List ℤ → List Outcome
 row s regs i q = map (λ (f : FieldBody). run s regs (behind i.binds f.body) q) i.fields
-
--- the value, or 0 at a fault
-abbrev pub value_of : Outcome → ℤ
-value_of (Value z) = z
-value_of (Fault f) = pos 0
 
 -- the cells of all fields at a point; at a fault they mean nothing
 abbrev pub row_cells : Cells → List Outcome → ItemTree → List ℤ → List Cell

@@ -3,6 +3,7 @@ use Rattle.std.specs.Prelude.{◌≡◌, ℕ, ◌+◌, ◌^◌, ◌<◌, ◌≤�
 use Rattle.std.specs.List.{All, flat_map}
 use Rattle.arr_core.specs.declared.cell.Cell.{Cell}
 use Rattle.arr_core.specs.Domains.{points}
+use Rattle.arr_core.specs.Limits.{max_points}
 use Rattle.arr_core.specs.Tiles.{tile_boxes}
 use Rattle.wcps_mean.specs.declared.cell.PointFault.{PointFault}
 use Rattle.wcps_mean.specs.declared.cell.Outcome.{Outcome}
@@ -50,7 +51,7 @@ pub record FitsItem (i : ItemTree) (tile : ℕ) (status : Status) (x : ItemTile)
   pub giving : status ≡ Giving
   pub columns : length x.columns.items ≡ length x.booleans.items
   pub there : HavePlaces (length x.places.items) x.columns.items
-  pub small : All (λ (r : ℕ). r < 2 ^ 24) x.places.items
+  pub small : All (λ (r : ℕ). r < max_points) x.places.items
   pub few : length x.booleans.items < 2 ^ 32
   pub below : All (λ (w : ℕ × Cell). w.0 < cell_count i) (cells_placed x)
   pub fresh : tile ≡ 0 → length x.fresh.items ≡ cell_count i

@@ -2,6 +2,7 @@
 
 ghost use Rattle.std.specs.Prelude.{◌≡◌, ℕ, ◌+◌, ◌<◌, ◌^◌, List, [], ◌∷◌, All, length, slice_set};
 ghost use Rattle.std.specs.List.{enumerate_from};
+ghost use Rattle.arr_core.specs.Limits.{max_points};
 ghost use Rattle.wcps_mean.specs.declared.cell.Outcome.{Outcome};
 ghost use Rattle.wcps_mean.specs.Answer.{cell_of};
 ghost use Rattle.tile_columns.specs.Fields.{HavePlaces};
@@ -55,7 +56,7 @@ fn tell_point(columns: &[Column], k: usize, place: u64, first: &mut First)
 /// Finds the first fault of the points of columns, one for each field, which have these places in the item's domain.
 pub(crate) fn first_fault(ranks: &[u64], columns: &[Column]) -> First
     requires there { HavePlaces (length ranks.now) columns.now }
-    requires ranks { All (λ (r : ℕ). r < 2 ^ 24) ranks.now }
+    requires ranks { All (λ (r : ℕ). r < max_points) ranks.now }
     requires few { length columns.now < 2 ^ 32 }
     ensures { IsFirstOf result (all_rows_told ranks.now (length columns.now) columns.now) }
 {
@@ -104,7 +105,7 @@ pub(crate) fn write_points(
 )
     requires columns { length columns.now ≡ length booleans.now }
     requires there { HavePlaces (length ranks.now) columns.now }
-    requires ranks { All (λ (r : ℕ). r < 2 ^ 24) ranks.now }
+    requires ranks { All (λ (r : ℕ). r < max_points) ranks.now }
     requires few { length booleans.now < 2 ^ 32 }
     requires below { LieBelow (length cells.old.items) (all_cells_told ranks.now booleans.now columns.now) }
     ensures length { length cells.new.items ≡ length cells.old.items }

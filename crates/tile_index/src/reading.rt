@@ -15,13 +15,19 @@ use std::alloc::Global;
 /// What a number that tells a form and a length has besides the length for raw cells: its highest bit.
 pub(crate) const RAW: u32 = 2_147_483_648;
 
-/// The most bytes that a tile may have: 4,096 runs of 10 bytes, or 4,096 cells of 8.
+/// The most bytes that a tile of runs may have: 4,096 runs of 10 bytes.
+const MAX_RUN_BYTES: u32 = 40_960;
+
+/// The most bytes that a tile of raw cells may have: 4,096 cells of 8 bytes.
+const MAX_RAW_BYTES: u32 = 32_768;
+
+/// The most bytes that a tile of a form may have.
 fn most_bytes(form: Form) -> u32
     ensures { result ≡ most_bytes form }
 {
     match form {
-        Form::Runs => 40_960,
-        Form::Raw => 32_768,
+        Form::Runs => MAX_RUN_BYTES,
+        Form::Raw => MAX_RAW_BYTES,
     }
 }
 

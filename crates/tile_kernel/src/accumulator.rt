@@ -1,6 +1,7 @@
 //! What is kept of the points that a condenser has been told of, in whatever order.
 
-ghost use Rattle.std.specs.Prelude.{◌≡◌, ℕ, ◌+◌, ◌<◌, ◌≤◌, ◌^◌, List, [], ◌∷◌};
+ghost use Rattle.std.specs.Prelude.{◌≡◌, ℕ, ◌+◌, ◌<◌, ◌≤◌, List, [], ◌∷◌};
+ghost use Rattle.arr_core.specs.Limits.{max_points};
 ghost use Rattle.tile_kernel.specs.Told.{Told, IsFirst};
 ghost use Rattle.tile_kernel.specs.Joins.{HoldsOfBoth};
 
@@ -58,7 +59,7 @@ impl Accumulator {
     /// Takes in the points of another accumulator of the same kind.
     pub fn merge(&mut self, other: Accumulator)
         requires op { self.old.running.op ≡ other.running.op }
-        requires room { self.old.running.count + other.running.count ≤ 2 ^ 24 }
+        requires room { self.old.running.count + other.running.count ≤ max_points }
         ensures stands { (more : List Told) → Stands other more → TakesIn self.old self.new more }
         ensures op { self.new.running.op ≡ self.old.running.op }
         ensures count { self.new.running.count ≡ self.old.running.count + other.running.count }
@@ -69,7 +70,7 @@ impl Accumulator {
     /// Takes in the points that another accumulator of the same kind was told, which keeps them.
     pub fn take_over(&mut self, other: &Accumulator)
         requires op { self.old.running.op ≡ other.now.running.op }
-        requires room { self.old.running.count + other.now.running.count ≤ 2 ^ 24 }
+        requires room { self.old.running.count + other.now.running.count ≤ max_points }
         ensures stands { (more : List Told) → Stands other.now more → TakesIn self.old self.new more }
         ensures op { self.new.running.op ≡ self.old.running.op }
         ensures count { self.new.running.count ≡ self.old.running.count + other.now.running.count }
@@ -81,7 +82,7 @@ impl Accumulator {
 
     /// Takes in one point.
     pub fn add(&mut self, place: u64, o: Outcome)
-        requires { self.old.running.count < 2 ^ 24 }
+        requires { self.old.running.count < max_points }
         ensures stands { TakesIn self.old self.new ((place, o) ∷ []) }
         ensures op { self.new.running.op ≡ self.old.running.op }
         ensures count { self.new.running.count ≡ self.old.running.count + 1 }
@@ -94,7 +95,7 @@ impl Accumulator {
 
     /// Takes in one point under a condition: the condition's fault, or nothing where it is false, else the point.
     pub fn add_where(&mut self, place: u64, condition: Outcome, o: Outcome)
-        requires { self.old.running.count < 2 ^ 24 }
+        requires { self.old.running.count < max_points }
         ensures stands { TakesIn self.old self.new (demanded_of place condition o) }
         ensures op { self.new.running.op ≡ self.old.running.op }
         ensures count { self.new.running.count ≤ self.old.running.count + 1 }

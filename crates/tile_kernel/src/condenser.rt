@@ -1,7 +1,8 @@
 //! Condensers of points of one box, told in parts and in any order.
 
-ghost use Rattle.std.specs.Prelude.{◌≡◌, ◌+◌, ◌<◌, ◌≤◌, ◌^◌, ℕ, List, [], ◌∷◌, length};
+ghost use Rattle.std.specs.Prelude.{◌≡◌, ◌+◌, ◌<◌, ◌≤◌, ℕ, List, [], ◌∷◌, length};
 ghost use Rattle.std.specs.List.{All};
+ghost use Rattle.arr_core.specs.Limits.{max_points};
 ghost use Rattle.wcps_text.specs.declared.operator.Aggregate.{Aggregate};
 ghost use Rattle.tile_kernel.specs.Columns.{outcome_at};
 ghost use Rattle.tile_kernel.specs.Repeated.{runs_shown};
@@ -40,7 +41,7 @@ pub trait Condenser: Copy {
 
     /// Of the points of both.
     fn merge(self, other: Self) -> Self
-        requires { counted self + counted other ≤ 2 ^ 24 }
+        requires { counted self + counted other ≤ max_points }
         ensures stands { StandsForBoth stands self other result }
         ensures turned { StandsForBoth stands other self result }
         ensures counted { counted result ≡ counted self + counted other };
@@ -125,7 +126,7 @@ impl<S: Summary> Condensed<S> {
     /// An accumulator of the same points, as many as are named.
     pub(crate) fn accumulator(self, count: u32) -> Accumulator
         requires counted { S.counted self.summary ≤ count }
-        requires few { count ≤ 2 ^ 24 }
+        requires few { count ≤ max_points }
         ensures stands { StandsForAll count (IsKeptOf S.keeps self.summary self.first.fault self.first.place) result }
         ensures op { result.running.op ≡ S.op }
         ensures count { result.running.count ≡ count }
@@ -178,7 +179,7 @@ fn condense_view<C: Condenser>(column: &View<'_>, places: &[u64]) -> C
 pub fn tell_each<C: Condenser>(condensers: &mut [C], place: u64, column: &Column)
     requires length { length condensers.old ≡ length column.now }
     requires room { All (λ c. C.counted c ≤ place) condensers.old }
-    requires few { place < 2 ^ 24 }
+    requires few { place < max_points }
     ensures stands { EachIsTold C.stands condensers.old condensers.new (λ k. (place, outcome_at column.now k) ∷ []) }
     ensures room { All (λ c. C.counted c ≤ place + 1) condensers.new }
     ensures length { length condensers.new ≡ length condensers.old }
@@ -194,7 +195,7 @@ pub fn tell_each<C: Condenser>(condensers: &mut [C], place: u64, column: &Column
 fn tell_runs<C: Condenser>(condensers: &mut [C], place: u64, column: &Runs<'_>)
     requires length { length condensers.old ≡ length (runs_shown column.now) }
     requires room { All (λ c. C.counted c ≤ place) condensers.old }
-    requires few { place < 2 ^ 24 }
+    requires few { place < max_points }
     ensures stands { EachIsTold C.stands condensers.old condensers.new (told_from place (runs_shown column.now)) }
     ensures room { All (λ c. C.counted c ≤ place + 1) condensers.new }
     ensures length { length condensers.new ≡ length condensers.old }
@@ -207,7 +208,7 @@ fn tell_runs<C: Condenser>(condensers: &mut [C], place: u64, column: &Runs<'_>)
 fn tell_view<C: Condenser>(condensers: &mut [C], place: u64, column: &View<'_>)
     requires length { length condensers.old ≡ length column.now }
     requires room { All (λ c. C.counted c ≤ place) condensers.old }
-    requires few { place < 2 ^ 24 }
+    requires few { place < max_points }
     ensures stands { EachIsTold C.stands condensers.old condensers.new (λ k. (place, outcome_at column.now k) ∷ []) }
     ensures room { All (λ c. C.counted c ≤ place + 1) condensers.new }
     ensures length { length condensers.new ≡ length condensers.old }
@@ -221,7 +222,7 @@ fn tell_view<C: Condenser>(condensers: &mut [C], place: u64, column: &View<'_>)
 /// The outcome of two parts of a box, in whatever order their points were told: the condenser of all points in row-major
 /// order.
 pub fn finish_both<C: Condenser>(a: C, b: C) -> Outcome
-    requires { C.counted a + C.counted b ≤ 2 ^ 24 }
+    requires { C.counted a + C.counted b ≤ max_points }
     ensures { ComesToBoth C.op C.stands a b result }
 {
     a.merge(b).finish()

@@ -1,6 +1,7 @@
 //! Condensers over columns.
 
-ghost use Rattle.std.specs.Prelude.{◌≡◌, ℕ, ◌+◌, ◌<◌, ◌≤◌, ◌^◌, [], ◌∷◌, length, sum, IfSome};
+ghost use Rattle.std.specs.Prelude.{◌≡◌, ℕ, ◌+◌, ◌<◌, ◌≤◌, [], ◌∷◌, length, sum, IfSome};
+ghost use Rattle.arr_core.specs.Limits.{max_points};
 ghost use Rattle.wcps_text.specs.declared.operator.Aggregate.{Aggregate};
 ghost use Rattle.tile_kernel.specs.Columns.{outcome_at};
 ghost use Rattle.tile_kernel.specs.Repeated.{shown, runs_shown, repeated, left_of, right_of};
@@ -155,7 +156,7 @@ fn fold_by<S: Summary>(column: &Column, places: &[u64]) -> Accumulator
 pub fn add_column(folds: &mut [Accumulator], place: u64, column: &Column)
     requires length { length folds.old ≡ length column.now }
     requires room { HaveAtMost place folds.old }
-    requires few { place < 2 ^ 24 }
+    requires few { place < max_points }
     ensures stands { EachTakesIn folds.old folds.new (λ k. (place, outcome_at column.now k) ∷ []) }
     ensures room { HaveAtMost (place + 1) folds.new }
     ensures op { (op : Aggregate) → AreOf op folds.old → AreOf op folds.new }
@@ -171,7 +172,7 @@ pub fn add_column(folds: &mut [Accumulator], place: u64, column: &Column)
 fn add_runs(folds: &mut [Accumulator], place: u64, column: &Runs<'_>)
     requires length { length folds.old ≡ length (runs_shown column.now) }
     requires room { HaveAtMost place folds.old }
-    requires few { place < 2 ^ 24 }
+    requires few { place < max_points }
     ensures stands { EachTakesIn folds.old folds.new (λ k. (place, outcome_at (runs_shown column.now) k) ∷ []) }
     ensures room { HaveAtMost (place + 1) folds.new }
     ensures op { (op : Aggregate) → AreOf op folds.old → AreOf op folds.new }
@@ -184,7 +185,7 @@ fn add_runs(folds: &mut [Accumulator], place: u64, column: &Runs<'_>)
 fn add_view(folds: &mut [Accumulator], place: u64, column: &View<'_>)
     requires length { length folds.old ≡ length column.now }
     requires room { HaveAtMost place folds.old }
-    requires few { place < 2 ^ 24 }
+    requires few { place < max_points }
     ensures stands { EachTakesIn folds.old folds.new (λ k. (place, outcome_at column.now k) ∷ []) }
     ensures room { HaveAtMost (place + 1) folds.new }
     ensures op { (op : Aggregate) → AreOf op folds.old → AreOf op folds.new }
@@ -415,7 +416,7 @@ pub fn add_column_where(folds: &mut [Accumulator], place: u64, condition: &Colum
     requires length { length folds.old ≡ length column.now }
     requires condition { length condition.now ≡ length column.now }
     requires room { HaveAtMost place folds.old }
-    requires few { place < 2 ^ 24 }
+    requires few { place < max_points }
     ensures stands { EachTakesIn folds.old folds.new (demanded_from place condition.now column.now) }
     ensures room { HaveAtMost (place + 1) folds.new }
     ensures op { (op : Aggregate) → AreOf op folds.old → AreOf op folds.new }
@@ -430,7 +431,7 @@ fn add_seen_where(folds: &mut [Accumulator], place: u64, condition: &Seen<'_>, c
     requires length { length folds.old ≡ length (shown column.now) }
     requires condition { length (shown condition.now) ≡ length (shown column.now) }
     requires room { HaveAtMost place folds.old }
-    requires few { place < 2 ^ 24 }
+    requires few { place < max_points }
     ensures stands { EachTakesIn folds.old folds.new (demanded_from place (shown condition.now) (shown column.now)) }
     ensures room { HaveAtMost (place + 1) folds.new }
     ensures op { (op : Aggregate) → AreOf op folds.old → AreOf op folds.new }
@@ -450,7 +451,7 @@ fn add_spread_where(folds: &mut [Accumulator], place: u64, condition: &Seen<'_>,
     requires length { length folds.old ≡ length (shown column.now) }
     requires condition { length (shown condition.now) ≡ length (shown column.now) }
     requires room { HaveAtMost place folds.old }
-    requires few { place < 2 ^ 24 }
+    requires few { place < max_points }
     ensures stands { EachTakesIn folds.old folds.new (demanded_from place (shown condition.now) (shown column.now)) }
     ensures room { HaveAtMost (place + 1) folds.new }
     ensures op { (op : Aggregate) → AreOf op folds.old → AreOf op folds.new }
@@ -467,7 +468,7 @@ fn add_views_where(folds: &mut [Accumulator], place: u64, condition: &View<'_>, 
     requires length { length folds.old ≡ length column.now }
     requires condition { length condition.now ≡ length column.now }
     requires room { HaveAtMost place folds.old }
-    requires few { place < 2 ^ 24 }
+    requires few { place < max_points }
     ensures stands { EachTakesIn folds.old folds.new (demanded_from place condition.now column.now) }
     ensures room { HaveAtMost (place + 1) folds.new }
     ensures op { (op : Aggregate) → AreOf op folds.old → AreOf op folds.new }

@@ -1,6 +1,7 @@
 //! What is kept of two lists of values at once.
 
 ghost use Rattle.std.specs.Prelude.{◌≡◌, ◌+◌, ◌*◌, ◌<◌, ◌≤◌, ◌^◌, ◌&&◌, ◌||◌};
+ghost use Rattle.arr_core.specs.Limits.{max_points};
 ghost use Rattle.wcps_mean.specs.Cells.{differ};
 ghost use Rattle.wcps_mean.specs.Condensers.{larger, smaller};
 ghost use Rattle.wcps_mean.specs.Magnitudes.{cap};
@@ -14,7 +15,7 @@ use wcps_text::Aggregate;
 /// What two condensers of one kind keep together, and the fault that stands for both.
 pub(crate) fn joined(a: &Running, b: &Running, fault: Option<PointFault>) -> Running
     requires op { a.now.op ≡ b.now.op }
-    requires room { a.now.count + b.now.count ≤ 2 ^ 24 }
+    requires room { a.now.count + b.now.count ≤ max_points }
     ensures kept { HoldsOfBoth (Keeps a.now.op a.now) (Keeps a.now.op b.now) (Keeps a.now.op result) }
     ensures op { result.op ≡ a.now.op }
     ensures count { result.count ≡ a.now.count + b.now.count }

@@ -1,7 +1,8 @@
 //! Condensers that are told of the cells of a column by the keys of these: one pass over the column for all keys.
 
-ghost use Rattle.std.specs.Prelude.{◌≡◌, ◌+◌, ◌<◌, ◌≤◌, ◌^◌, ℤ, List, [], ◌∷◌, length, IfSome};
+ghost use Rattle.std.specs.Prelude.{◌≡◌, ◌+◌, ◌<◌, ◌≤◌, ℤ, List, [], ◌∷◌, length, IfSome};
 ghost use Rattle.std.specs.List.{All};
+ghost use Rattle.arr_core.specs.Limits.{max_points};
 ghost use Rattle.wcps_mean.specs.declared.cell.Outcome.TheVariants.{Value};
 ghost use Rattle.tile_kernel.specs.Condensing.{EachIsTold, EachCountsMore};
 ghost use Rattle.tile_kernel.specs.Keyed.{number_at, told_by_key, TakeCells, TakeIn, IsPlaceOf};
@@ -30,7 +31,7 @@ pub trait Numbers {
 
 /// Each condenser is told of one more point.
 fn tell_all<C: Condenser>(folds: &mut [C], place: u64, o: Outcome)
-    requires room { All (λ c. C.counted c < 2 ^ 24) folds.old }
+    requires room { All (λ c. C.counted c < max_points) folds.old }
     ensures stands { EachIsTold C.stands folds.old folds.new (λ _. (place, o) ∷ []) }
     ensures room { EachCountsMore C.counted 1 folds.old folds.new }
     ensures length { length folds.new ≡ length folds.old }
@@ -49,7 +50,7 @@ fn tell_number<C: Condenser, N: Numbers>(
     o: Outcome,
 )
     requires folds { length folds.old ≡ length (N.numbers numbers.now) }
-    requires room { All (λ c. C.counted c < 2 ^ 24) folds.old }
+    requires room { All (λ c. C.counted c < max_points) folds.old }
     ensures stands { EachIsTold C.stands folds.old folds.new (told_by_key (N.numbers numbers.now) place (Value key) o) }
     ensures room { EachCountsMore C.counted 1 folds.old folds.new }
     ensures length { length folds.new ≡ length folds.old }
@@ -69,7 +70,7 @@ fn tell_keyed<C: Condenser, N: Numbers>(
     o: Outcome,
 )
     requires folds { length folds.old ≡ length (N.numbers numbers.now) }
-    requires room { All (λ c. C.counted c < 2 ^ 24) folds.old }
+    requires room { All (λ c. C.counted c < max_points) folds.old }
     ensures stands { EachIsTold C.stands folds.old folds.new (told_by_key (N.numbers numbers.now) place key o) }
     ensures room { EachCountsMore C.counted 1 folds.old folds.new }
     ensures length { length folds.new ≡ length folds.old }
@@ -91,7 +92,7 @@ fn tell_cells<C: Condenser, N: Numbers>(
     requires folds { length folds.old ≡ length (N.numbers numbers.now) }
     requires keys { length keys.now ≡ length column.now }
     requires places { length places.now ≡ length column.now }
-    requires room { All (λ c. C.counted c + length column.now ≤ 2 ^ 24) folds.old }
+    requires room { All (λ c. C.counted c + length column.now ≤ max_points) folds.old }
     ensures stands { TakeCells C.stands folds.old folds.new (N.numbers numbers.now) places.now keys.now column.now }
     ensures room { EachCountsMore C.counted (length column.now) folds.old folds.new }
     ensures length { length folds.new ≡ length folds.old }
@@ -112,7 +113,7 @@ fn tell_values<C: Condenser, N: Numbers, V: Operand>(
     requires folds { length folds.old ≡ length (N.numbers numbers.now) }
     requires keys { length places.now ≤ length keys.now }
     requires values { length places.now ≤ V.places values.now }
-    requires room { All (λ c. C.counted c + length places.now ≤ 2 ^ 24) folds.old }
+    requires room { All (λ c. C.counted c + length places.now ≤ max_points) folds.old }
     ensures stands { TakeIn C.stands folds.old folds.new (N.numbers numbers.now) places.now keys.now (V.value values.now) }
     ensures room { EachCountsMore C.counted (length places.now) folds.old folds.new }
     ensures length { length folds.new ≡ length folds.old }
@@ -136,7 +137,7 @@ pub fn add_keyed<C: Condenser, N: Numbers>(
     requires folds { length folds.old ≡ length (N.numbers numbers.now) }
     requires keys { length keys.now ≡ length column.now }
     requires places { length places.now ≡ length column.now }
-    requires room { All (λ c. C.counted c + length column.now ≤ 2 ^ 24) folds.old }
+    requires room { All (λ c. C.counted c + length column.now ≤ max_points) folds.old }
     ensures stands { TakeCells C.stands folds.old folds.new (N.numbers numbers.now) places.now keys.now column.now }
     ensures room { EachCountsMore C.counted (length column.now) folds.old folds.new }
     ensures length { length folds.new ≡ length folds.old }
@@ -162,7 +163,7 @@ fn add_spread<C: Condenser, N: Numbers>(
     requires folds { length folds.old ≡ length (N.numbers numbers.now) }
     requires keys { length keys.now ≡ length column.now }
     requires places { length places.now ≡ length column.now }
-    requires room { All (λ c. C.counted c + length column.now ≤ 2 ^ 24) folds.old }
+    requires room { All (λ c. C.counted c + length column.now ≤ max_points) folds.old }
     ensures stands { TakeCells C.stands folds.old folds.new (N.numbers numbers.now) places.now keys.now column.now }
     ensures room { EachCountsMore C.counted (length column.now) folds.old folds.new }
     ensures length { length folds.new ≡ length folds.old }
@@ -187,7 +188,7 @@ fn add_views<C: Condenser, N: Numbers>(
     requires folds { length folds.old ≡ length (N.numbers numbers.now) }
     requires keys { length keys.now ≡ length column.now }
     requires places { length places.now ≡ length column.now }
-    requires room { All (λ c. C.counted c + length column.now ≤ 2 ^ 24) folds.old }
+    requires room { All (λ c. C.counted c + length column.now ≤ max_points) folds.old }
     ensures stands { TakeCells C.stands folds.old folds.new (N.numbers numbers.now) places.now keys.now column.now }
     ensures room { EachCountsMore C.counted (length column.now) folds.old folds.new }
     ensures length { length folds.new ≡ length folds.old }

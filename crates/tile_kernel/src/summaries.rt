@@ -2,6 +2,7 @@
 
 ghost use Rattle.std.specs.Prelude.{◌≡◌, ◌+◌, ◌*◌, ◌≤◌, ◌^◌, ℤ, pos, neg_ℤ, ◌+ℤ◌, ◌≤ℤ◌, List, length};
 ghost use Rattle.std.specs.Prelude.{None, cond};
+ghost use Rattle.arr_core.specs.Limits.{max_points};
 ghost use Rattle.wcps_mean.specs.Best.{greatest_of, least_of};
 ghost use Rattle.wcps_mean.specs.Cells.{truth, is_true};
 ghost use Rattle.wcps_mean.specs.Condensers.{combined, total, every, any, trues};
@@ -9,7 +10,7 @@ ghost use Rattle.wcps_text.specs.declared.operator.Aggregate.TheVariants as kind
 
 use crate::joined::{best_of, both, either, product_of};
 use crate::summary::Summary;
-use wcps_mean::{Outcome, PointFault, Product, Running, is_set};
+use wcps_mean::{Outcome, PointFault, Product, Running, is_set, value_or_empty};
 use wcps_text::Aggregate;
 
 /// Of a sum: the exact sum of so many values.
@@ -17,7 +18,7 @@ use wcps_text::Aggregate;
 pub struct Total {
     sum: i128,
     count: u32,
-    ghost few: { count ≤ 2 ^ 24 },
+    ghost few: { count ≤ max_points },
     ghost from_below: { neg_ℤ (pos (count * 2 ^ 63)) ≤ℤ sum },
     ghost from_above: { (sum +ℤ pos count) ≤ℤ pos (count * 2 ^ 63) },
 }
@@ -62,7 +63,7 @@ pub struct SomeTrue {
 #[derive(Clone, Copy, Debug)]
 pub struct Trues {
     trues: u32,
-    ghost few: { trues ≤ 2 ^ 24 },
+    ghost few: { trues ≤ max_points },
 }
 
 /// A truth value as a number: 1 or 0.
@@ -78,17 +79,6 @@ fn weight(x: i64) -> u32
     ensures small { result ≤ 1 }
 {
     if is_set(x) { 1 } else { 0 }
-}
-
-/// The value, or the fault of a greatest or a least of nothing.
-fn best_or_empty(best: Option<i64>) -> Outcome
-    ensures greatest { (zs : List ℤ) → best ≡ greatest_of zs → result ≡ combined kind.Greatest zs }
-    ensures least { (zs : List ℤ) → best ≡ least_of zs → result ≡ combined kind.Least zs }
-{
-    match best {
-        Some(m) => Outcome::Value(m),
-        None => Outcome::Fault(PointFault::EmptyCondense),
-    }
 }
 
 impl Summary for Total {
@@ -237,7 +227,7 @@ impl Summary for Greatest {
     }
 
     fn outcome(self) -> Outcome {
-        best_or_empty(self.best)
+        value_or_empty(self.best)
     }
 }
 
@@ -271,7 +261,7 @@ impl Summary for Least {
     }
 
     fn outcome(self) -> Outcome {
-        best_or_empty(self.best)
+        value_or_empty(self.best)
     }
 }
 

@@ -1,6 +1,7 @@
 //! What a condenser keeps of values.
 
-ghost use Rattle.std.specs.Prelude.{◌≡◌, ◌+◌, ◌≤◌, ◌^◌, ℕ, ℤ, List, [], ◌∷◌};
+ghost use Rattle.std.specs.Prelude.{◌≡◌, ◌+◌, ◌≤◌, ℕ, ℤ, List, [], ◌∷◌};
+ghost use Rattle.arr_core.specs.Limits.{max_points};
 ghost use Rattle.wcps_text.specs.declared.operator.Aggregate.{Aggregate};
 ghost use Rattle.wcps_mean.specs.Feeding.{Keeps};
 ghost use Rattle.tile_kernel.specs.Joins.{HoldsOfBoth};
@@ -31,14 +32,14 @@ pub trait Summary: Copy {
 
     /// Of the values of both.
     fn with(self, other: Self) -> Self
-        requires { counted self + counted other ≤ 2 ^ 24 }
+        requires { counted self + counted other ≤ max_points }
         ensures keeps { HoldsOfBoth (keeps self) (keeps other) (keeps result) }
         ensures counted { counted result ≡ counted self + counted other };
 
     /// A running condenser that keeps them, of so many points and with the first fault, if there is one.
     fn running(self, count: u32, fault: Option<PointFault>) -> Running
         requires counted { counted self ≤ count }
-        requires few { count ≤ 2 ^ 24 }
+        requires few { count ≤ max_points }
         ensures kept { (zs : List ℤ) → keeps self zs → Keeps op result zs }
         ensures op { result.op ≡ op }
         ensures count { result.count ≡ count }

@@ -1,6 +1,7 @@
 //! Condensers that count their points.
 
-ghost use Rattle.std.specs.Prelude.{◌≡◌, ◌≤◌, ◌^◌, List, length};
+ghost use Rattle.std.specs.Prelude.{◌≡◌, ◌≤◌, List, length};
+ghost use Rattle.arr_core.specs.Limits.{max_points};
 ghost use Rattle.tile_kernel.specs.Told.{Told};
 ghost use Rattle.tile_kernel.specs.Standing.{Stands};
 ghost use Rattle.tile_kernel.specs.Condensing.{IsKeptOf};
@@ -17,7 +18,7 @@ pub(crate) struct Tallied<S: Summary> {
     condensed: Condensed<S>,
     count: u32,
     ghost counted: { S.counted condensed.summary ≤ count },
-    ghost few: { count ≤ 2 ^ 24 },
+    ghost few: { count ≤ max_points },
 }
 
 impl<S: Summary> Clone for Tallied<S> {

@@ -1,8 +1,9 @@
 //! Condensers over windows: what is combined of the cells round each place of a box. Each row of cells is condensed once
 //! for each span of columns, and of these a window puts its rows together.
 
-ghost use Rattle.std.specs.Prelude.{◌≡◌, ℕ, ◌+◌, ◌*◌, ◌<◌, ◌≤◌, ◌^◌, ◌++◌, length, slice_index_or, IfOk, OnOk};
+ghost use Rattle.std.specs.Prelude.{◌≡◌, ℕ, ◌+◌, ◌*◌, ◌<◌, ◌≤◌, ◌++◌, length, slice_index_or, IfOk, OnOk};
 ghost use Rattle.std.specs.List.{All};
+ghost use Rattle.arr_core.specs.Limits.{max_points};
 ghost use Rattle.wcps_mean.specs.Condensers.{combined};
 ghost use Rattle.tile_kernel.specs.Windows.{cells_across, window, windows_of_rows, windows, KeepsAcross};
 
@@ -46,7 +47,7 @@ fn reach(down: &[Span]) -> usize
 fn summary_across<S: Summary>(grid: &Grid<'_>, row: usize, across: Span) -> S
     requires row { (row + 1) * grid.now.width ≤ length grid.now.cells.now }
     requires across { across.to ≤ grid.now.width }
-    requires few { length grid.now.cells.now ≤ 2 ^ 24 }
+    requires few { length grid.now.cells.now ≤ max_points }
     ensures kept { S.keeps result (cells_across grid.now across row) }
     ensures few { S.counted result ≤ grid.now.width }
 {
@@ -62,7 +63,7 @@ fn summary_across<S: Summary>(grid: &Grid<'_>, row: usize, across: Span) -> S
 fn add_row<S: Summary>(kept: &mut [S], grid: &Grid<'_>, row: usize, across: &[Span])
     requires row { (row + 1) * grid.now.width ≤ length grid.now.cells.now }
     requires across { All (λ a. a.to ≤ grid.now.width) across.now }
-    requires few { length grid.now.cells.now ≤ 2 ^ 24 }
+    requires few { length grid.now.cells.now ≤ max_points }
     requires room { (row + 1) * length across.now ≤ length kept.old }
     requires before { KeepsAcross S.keeps S.counted grid.now across.now (row * length across.now) kept.old }
     ensures { KeepsAcross S.keeps S.counted grid.now across.now ((row + 1) * length across.now) kept.new }
@@ -77,7 +78,7 @@ fn add_row<S: Summary>(kept: &mut [S], grid: &Grid<'_>, row: usize, across: &[Sp
 fn add_rows<S: Summary>(kept: &mut [S], grid: &Grid<'_>, rows: usize, across: &[Span])
     requires rows { rows * grid.now.width ≤ length grid.now.cells.now }
     requires across { All (λ a. a.to ≤ grid.now.width) across.now }
-    requires few { length grid.now.cells.now ≤ 2 ^ 24 }
+    requires few { length grid.now.cells.now ≤ max_points }
     requires room { rows * length across.now ≤ length kept.old }
     ensures { KeepsAcross S.keeps S.counted grid.now across.now (rows * length across.now) kept.new }
 {
@@ -95,7 +96,7 @@ fn rows_across<S: Summary>(
 ) -> Result<Vec<S>, AllocError>
     requires rows { rows * grid.now.width ≤ length grid.now.cells.now }
     requires across { All (λ a. a.to ≤ grid.now.width) across.now }
-    requires few { length grid.now.cells.now ≤ 2 ^ 24 }
+    requires few { length grid.now.cells.now ≤ max_points }
     ensures kept { IfOk result (λ v. KeepsAcross S.keeps S.counted grid.now across.now (rows * length across.now) v.items) }
     ensures length { IfOk result (λ v. length v.items ≡ rows * length across.now) }
 {
@@ -115,7 +116,7 @@ fn window_outcome<S: Summary>(
 ) -> Outcome
     requires place { place < length across.now }
     requires down { down.to * length across.now ≤ length kept.now }
-    requires rows { down.to * grid.now.width ≤ 2 ^ 24 }
+    requires rows { down.to * grid.now.width ≤ max_points }
     requires kept { KeepsAcross S.keeps S.counted grid.now across.now (down.to * length across.now) kept.now }
     ensures { result ≡ combined S.op (window grid.now down (slice_index_or across.now place down)) }
 {
@@ -136,7 +137,7 @@ fn push_row<S: Summary>(
     across: &[Span],
 ) -> Result<(), AllocError>
     requires down { down.to * length across.now ≤ length kept.now }
-    requires rows { down.to * grid.now.width ≤ 2 ^ 24 }
+    requires rows { down.to * grid.now.width ≤ max_points }
     requires kept { KeepsAcross S.keeps S.counted grid.now across.now (down.to * length across.now) kept.now }
     ensures { OnOk result (outcomes.new.items ≡ outcomes.old.items ++ windows_of_rows S.op grid.now across.now down) }
 {
@@ -156,7 +157,7 @@ fn condense_by<S: Summary>(
 ) -> Result<(), AllocError>
     requires down { All (λ d. d.to * grid.now.width ≤ length grid.now.cells.now) down.now }
     requires across { All (λ a. a.to ≤ grid.now.width) across.now }
-    requires few { length grid.now.cells.now ≤ 2 ^ 24 }
+    requires few { length grid.now.cells.now ≤ max_points }
     ensures { OnOk result (outcomes.new.items ≡ windows S.op grid.now down.now across.now) }
 {
     let kept: Vec<S> = rows_across(alloc, grid, reach(down), across)?;
@@ -181,7 +182,7 @@ pub fn condense_windows(
 ) -> Result<(), AllocError>
     requires down { All (λ d. d.to * grid.now.width ≤ length grid.now.cells.now) down.now }
     requires across { All (λ a. a.to ≤ grid.now.width) across.now }
-    requires few { length grid.now.cells.now ≤ 2 ^ 24 }
+    requires few { length grid.now.cells.now ≤ max_points }
     ensures { OnOk result (outcomes.new.items ≡ windows op grid.now down.now across.now) }
 {
     match op {

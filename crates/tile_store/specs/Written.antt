@@ -4,6 +4,7 @@ use Rattle.std.specs.List.{flat_map}
 use Rattle.arr_core.specs.declared.cell.FieldType.{FieldType}
 use Rattle.arr_core.specs.Cells.{Fits}
 use Rattle.arr_core.specs.Domains.{count, IsDomain, IsInside, is_inside}
+use Rattle.arr_core.specs.Limits.{max_points, max_tile}
 use Rattle.block_file.specs.State.{BlocksState, block, times, none, free_of}
 use Rattle.block_file.specs.Words.{Recounts, Covers}
 use Rattle.tile_index.specs.declared.entry.Entry.{Entry}
@@ -104,7 +105,7 @@ pub record AreBefore (u : Patch) (s : BlocksState) (index : Index) (tile : ℕ) 
 -- the cells of a tile after a write
 pub record AreAfter (u : Patch) (s : BlocksState) (index : Index) (tile : ℕ) (cells : List ℤ) : Type 0 where
   pub some : 1 ≤ length cells
-  pub few : length cells ≤ 4096
+  pub few : length cells ≤ max_tile
   pub fit : All (Fits u.kind) cells
   pub numbers : IsTrue s.honest → cells ≡ patched u s index tile
   pub read : IsTrue s.honest → CoversTile u tile ⊎ IsSpelledFor u s index tile
@@ -138,8 +139,8 @@ RefusesTiles result u tiles s index =
 -- changes are few, what they replace takes no more than the index, and that is short
 pub record IsSized (index : Index) (changes : List (ℕ × Option Entry)) (tiles : List ℕ) : Type 0 where
   pub entries : All (λ (x : ℕ × Option Entry). (e : Entry) → x.1 ≡ Some e → IsEntry e) changes
-  pub few : length changes ≤ 2 ^ 24
-  pub few_tiles : length tiles ≤ 2 ^ 24
+  pub few : length changes ≤ max_points
+  pub few_tiles : length tiles ≤ max_points
   pub less : replaced_bytes index tiles ≤ length (index_bytes index)
   pub short : length (index_bytes index) ≤ 4 + 48 * 2 ^ 32
 
@@ -162,8 +163,8 @@ pub record IsReady (u : Patch) (old : BlocksState) (index : Index) (new : Blocks
 
 -- an index may be exchanged: the tiles are below a bound, and each block that is given back is in use
 pub record CanExchange (index : Index) (r : Ready) (s : BlocksState) : Type 0 where
-  pub below : IsBelow (2 ^ 24) index
-  pub changes : AreChanges (2 ^ 24) r.fresh.changes.items
+  pub below : IsBelow max_points index
+  pub changes : AreChanges max_points r.fresh.changes.items
   pub size : IsSizeWith index r
   pub taken : Covers s (times r.fresh.blocks.items)
   pub replaced : Covers s (times r.replaced.items)

@@ -13,7 +13,7 @@ use disk_face::DiskFault;
 use tile_index::Entry;
 
 /// How many neighbouring blocks are read at once at most: as many as a tile has.
-const MOST_AT_ONCE: usize = 10;
+const MAX_AT_ONCE: usize = 10;
 
 /// Whether there are blocks, no more than a tile has, and each is the one behind the one before it.
 fn are_neighbours(numbers: &[u32]) -> bool
@@ -21,7 +21,7 @@ fn are_neighbours(numbers: &[u32]) -> bool
     ensures few { IsTrue result → length numbers.now ≤ 10 }
     ensures rising { IsTrue result → AreNeighbours numbers.now }
 {
-    if numbers.len() == 0 || MOST_AT_ONCE < numbers.len() {
+    if numbers.len() == 0 || MAX_AT_ONCE < numbers.len() {
         return false;
     }
     let first = numbers[0] as usize;

@@ -4,6 +4,7 @@ ghost use Rattle.std.specs.Prelude.{◌≡◌, ◌<◌, ◌≤◌, [], length, o
 ghost use Rattle.arr_core.specs.Cells.{Fits};
 ghost use Rattle.arr_core.specs.Domains.{count, IsInside, IsBoxOf};
 ghost use Rattle.arr_core.specs.Tiles.{tile_boxes};
+ghost use Rattle.arr_core.specs.Limits.{max_tile};
 ghost use Rattle.disk_face.specs.Disk.{Tells};
 ghost use Rattle.block_file.specs.State.{none, times};
 ghost use Rattle.block_file.specs.Words.{OnlyReads, Recounts, Moves, Covers};
@@ -115,7 +116,7 @@ pub struct FieldTiles<'a> {
 pub(crate) fn part_of(alloc: Global, domain: &Domain, tile: u64) -> Result<Domain, AllocError>
     requires { tile < length (tile_boxes domain.now) }
     ensures part { IfOk result (λ part. tile_box domain.now tile ≡ part) }
-    ensures few { IfOk result (λ part. count part ≤ 4096) }
+    ensures few { IfOk result (λ part. count part ≤ max_tile) }
 {
     let part = domain.tile_box(alloc, tile)?;
     Ok(part)

@@ -4,6 +4,7 @@
 ghost use Rattle.std.specs.Prelude.{◌≡◌, ℕ, ◌+◌, ◌-◌, ◌*◌, ◌<◌, ◌≤◌, ◌^◌, ◌≤ℤ◌, List, length, slice_index_or, pos, if◌then◌else◌};
 ghost use Rattle.arr_core.specs.Domains.{gap, size_of, count, AreOrdered};
 ghost use Rattle.arr_core.specs.Domains.{rank_of};
+ghost use Rattle.arr_core.specs.Limits.{max_points};
 ghost use Rattle.tile_store.specs.Numbers.{HasNumbers, number_of};
 ghost use Rattle.tile_store.specs.Overlays.{IsCommon, Overlaid, FirstIs, HasRun, KeepsBelow, KeepsFrom};
 
@@ -40,9 +41,9 @@ fn size_of(axis: &Axis) -> usize
 /// How many points a box with these axes has.
 pub(crate) fn count_of(axes: &[Axis]) -> usize
     requires ordered { AreOrdered axes.now }
-    requires few { count axes.now ≤ 2 ^ 24 }
+    requires few { count axes.now ≤ max_points }
     ensures count { result ≡ count axes.now }
-    ensures small { result ≤ 2 ^ 24 }
+    ensures small { result ≤ max_points }
 {
     match axes {
         [] => 1,
@@ -83,8 +84,8 @@ pub(crate) fn overlay(to: &mut [i64], to_axes: &[Axis], numbers: &Numbers, at: u
     requires from { HasNumbers numbers.now (at + count axes.now) }
     requires to_ordered { AreOrdered to_axes.now }
     requires ordered { AreOrdered axes.now }
-    requires to_few { count to_axes.now ≤ 2 ^ 24 }
-    requires few { at + count axes.now ≤ 2 ^ 24 }
+    requires to_few { count to_axes.now ≤ max_points }
+    requires few { at + count axes.now ≤ max_points }
     ensures { Overlaid to_axes.now axes.now (λ p. number_of numbers.now (at + rank_of axes.now p)) to.old to.new }
 {
     match to_axes {
@@ -130,7 +131,7 @@ fn write_first(to: &mut [i64], numbers: &Numbers, at: usize, wanted: bool)
 fn write_run(to: &mut [i64], numbers: &Numbers, at: usize, common: Common)
     requires to { common.to + common.count ≤ length to.old }
     requires from { HasNumbers numbers.now (at + (common.from + common.count)) }
-    requires few { at + (common.from + common.count) ≤ 2 ^ 24 }
+    requires few { at + (common.from + common.count) ≤ max_points }
     ensures inside { HasRun common (λ i. number_of numbers.now (at + i)) to.new }
     ensures below { KeepsBelow common.to to.old to.new }
     ensures above { KeepsFrom (common.to + common.count) to.old to.new }
@@ -145,7 +146,7 @@ fn write_run(to: &mut [i64], numbers: &Numbers, at: usize, common: Common)
 fn copy_run(to: &mut [i64], from: &[i64], at: usize, common: Common)
     requires to { common.to + common.count ≤ length to.old }
     requires from { at + (common.from + common.count) ≤ length from.now }
-    requires few { at + (common.from + common.count) ≤ 2 ^ 24 }
+    requires few { at + (common.from + common.count) ≤ max_points }
     ensures inside { HasRun common (λ i. slice_index_or from.now (at + i) (pos 0)) to.new }
     ensures below { KeepsBelow common.to to.old to.new }
     ensures above { KeepsFrom (common.to + common.count) to.old to.new }

@@ -4,6 +4,7 @@ ghost use Rattle.std.specs.Prelude.{◌≡◌, ◌<◌, ◌≤◌, pos, length, 
 ghost use Rattle.arr_core.specs.Domains.{points};
 ghost use Rattle.arr_core.specs.Runs.{cells_of};
 ghost use Rattle.arr_core.specs.Tiles.{tile_boxes};
+ghost use Rattle.arr_core.specs.Limits.{max_tile};
 ghost use Rattle.disk_face.specs.Disk.{Tells};
 ghost use Rattle.block_file.specs.Words.{OnlyReads, Covers};
 ghost use Rattle.tile_store.specs.Faults.{Refuses};
@@ -24,7 +25,7 @@ use tile_index::Entry;
 /// Makes a list that of so many zeros, in one run.
 fn list_zeros(count: usize, runs: &mut RunList) -> Result<(), AllocError>
     requires some { 0 < count }
-    requires few { count ≤ 4096 }
+    requires few { count ≤ max_tile }
     requires room { length runs.old.values.items ≡ count }
     ensures zeros { OnOk result (cells_of runs.new ≡ replicate count (pos 0)) }
     ensures room { length runs.new.values.items ≡ count }
@@ -47,7 +48,7 @@ fn fill_runs<B: Blocks>(
 ) -> Result<(), Fault>
     requires used { Covers (B.state blocks.old) (entry_times (option_copied entry)) }
     requires some { 0 < count }
-    requires few { count ≤ 4096 }
+    requires few { count ≤ max_tile }
     requires room { length runs.old.values.items ≡ count }
     ensures read { OnOk result (IsRead kind count (B.state blocks.old) (option_copied entry.entry) (cells_of runs.new)) }
     ensures why { Refuses result (IsEntryDamaged kind count (B.state blocks.old) (option_copied entry.entry)) ⊥ }

@@ -5,6 +5,7 @@ ghost use Rattle.std.specs.List.{list_all};
 ghost use Rattle.std.specs.Ordering.{int_eq};
 ghost use Rattle.arr_core.specs.Cells.{Fits};
 ghost use Rattle.arr_core.specs.Domains.{points, count, AreOrdered};
+ghost use Rattle.arr_core.specs.Limits.{max_tile};
 ghost use Rattle.disk_face.specs.Disk.{Tells};
 ghost use Rattle.block_file.specs.State.{free_of};
 ghost use Rattle.block_file.specs.Words.{OnlyReads, Covers};
@@ -109,7 +110,7 @@ pub(crate) fn write_tile<B: Blocks>(
     cells: &[i64],
 ) -> Result<Option<Entry>, Fault>
     requires some { 1 ≤ length cells.now }
-    requires few { length cells.now ≤ 4096 }
+    requires few { length cells.now ≤ max_tile }
     requires fit { All (Fits kind) cells.now }
     ensures written { IfOk result (IsNewTile kind (B.state blocks.new) taken.old.items taken.new.items cells.now) }
     ensures takes { Takes taken.old.items taken.new.items (B.state blocks.old) (B.state blocks.new) }

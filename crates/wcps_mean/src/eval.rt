@@ -258,8 +258,8 @@ fn iterator(env: &[i32], k: usize) -> i64
     }
 }
 
-/// The item at a place.
-fn item_at(items: &[i64], place: u64) -> i64
+/// The item at a place, or 0 where there is none.
+pub fn item_at(items: &[i64], place: u64) -> i64
     ensures { result ≡ slice_index_or items.now place (pos 0) }
 {
     match items.get(place as usize) {

@@ -1,6 +1,7 @@
 //! A condenser that is fed the outcomes of its points in row-major order.
 
 ghost use Rattle.std.specs.Prelude.{◌≡◌, ℕ, ◌+◌, ◌*◌, ◌<◌, ◌≤◌, ◌^◌, ℤ, pos, neg_ℤ, ◌+ℤ◌, ◌≤ℤ◌, List, [], ◌∷◌, length, cond, IsTrue, IsFalse};
+ghost use Rattle.arr_core.specs.Limits.{max_points};
 ghost use Rattle.wcps_mean.specs.Cells.{is_true};
 ghost use Rattle.wcps_mean.specs.Condensers.{combined, total, floor_of};
 ghost use Rattle.wcps_mean.specs.Best.{greatest_of, least_of, top_of, bottom_of};
@@ -28,7 +29,7 @@ pub struct Running {
     pub all: bool,
     /// Some value is true.
     pub some: bool,
-    ghost few: { count ≤ 2 ^ 24 },
+    ghost few: { count ≤ max_points },
     ghost few_trues: { trues ≤ count },
     ghost from_below: { neg_ℤ (pos (count * 2 ^ 63)) ≤ℤ sum },
     ghost from_above: { (sum +ℤ pos count) ≤ℤ pos (count * 2 ^ 63) },
@@ -59,7 +60,7 @@ impl Running {
 
     /// The next outcome.
     pub fn add(&mut self, o: Outcome)
-        requires { self.old.count < 2 ^ 24 }
+        requires { self.old.count < max_points }
         ensures fed { Feeds self.old self.new (o ∷ []) }
         ensures count { self.new.count ≡ self.old.count + 1 }
         ensures op { self.new.op ≡ self.old.op }
@@ -80,7 +81,7 @@ impl Running {
     /// Whether a point with a condition demands its value, which is then to be added next. Else what the point gives
     /// without it has been added: the condition's fault, or nothing.
     pub fn demands(&mut self, condition: Outcome) -> bool
-        requires { self.old.count < 2 ^ 24 }
+        requires { self.old.count < max_points }
         ensures demanded { IsTrue result → (value : Outcome) → demanded condition value ≡ value ∷ [] }
         ensures unchanged { IsTrue result → self.new ≡ self.old }
         ensures otherwise { IsFalse result → (value : Outcome) → Feeds self.old self.new (demanded condition value) }
@@ -98,7 +99,7 @@ impl Running {
 
     /// The next value.
     fn add_value(&mut self, x: i64)
-        requires { self.old.count < 2 ^ 24 }
+        requires { self.old.count < max_points }
         ensures fed { Feeds self.old self.new (Outcome.Value x ∷ []) }
         ensures count { self.new.count ≡ self.old.count + 1 }
         ensures op { self.new.op ≡ self.old.op }
@@ -189,7 +190,7 @@ fn weight(x: i64) -> u32
 }
 
 /// The value, or the fault of a greatest or least of nothing.
-fn value_or_empty(best: Option<i64>) -> Outcome
+pub fn value_or_empty(best: Option<i64>) -> Outcome
     ensures greatest { (zs : List ℤ) → best ≡ greatest_of zs → result ≡ combined Aggregate.Greatest zs }
     ensures least { (zs : List ℤ) → best ≡ least_of zs → result ≡ combined Aggregate.Least zs }
 {
@@ -201,7 +202,7 @@ fn value_or_empty(best: Option<i64>) -> Outcome
 
 /// The floor of a sum over a count.
 fn average(sum: i128, count: u32) -> Outcome
-    requires few { count ≤ 2 ^ 24 }
+    requires few { count ≤ max_points }
     requires from_below { neg_ℤ (pos (count * 2 ^ 63)) ≤ℤ sum }
     requires from_above { (sum +ℤ pos count) ≤ℤ pos (count * 2 ^ 63) }
     ensures { (zs : List ℤ) → length zs ≡ count → sum ≡ total zs → result ≡ combined Aggregate.Average zs }

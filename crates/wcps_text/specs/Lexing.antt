@@ -1,6 +1,6 @@
 -- The tokens of a text.
 use Rattle.std.specs.Prelude.{◌≡◌, ℕ, ◌+◌, ◌-◌, ◌*◌, ◌^◌, ◌<◌, ◌≤◌, Bool, cond, ◌&&◌, ◌||◌, not, IsTrue, List, [], ◌∷◌, ◌++◌, length, map, Option, Some, None, Result, Ok, Err, codes, nat_le, ◌==◌}
-use Rattle.std.specs.Char.{is_ascii_digit, is_ascii_alphabetic, is_ascii_alphanumeric}
+use Rattle.std.specs.Char.{is_ascii_digit, is_ascii_alphanumeric}
 use Rattle.wcps_text.specs.declared.token.Symbol.{Symbol}
 use Rattle.wcps_text.specs.declared.token.Symbol.TheVariants as signs
 use Rattle.arr_core.specs.declared.keyword.Keyword.{Keyword}
@@ -10,14 +10,11 @@ use Rattle.wcps_text.specs.declared.error.LexError.{LexError}
 use Rattle.wcps_text.specs.declared.error.LexError.TheVariants as errors
 use Rattle.wcps_text.specs.Token.{Tok, number, name, dollar, quoted, word, sign, tok}
 use Rattle.arr_core.specs.Limits.{max_name}
+pub use Rattle.arr_core.specs.Names.{begins_name}
 
 -- space, tab, CR and LF
 abbrev pub is_space : ℕ → Bool
 is_space b = (b == 32 || b == 9) || (b == 13 || b == 10)
-
--- an ASCII letter or `_`
-abbrev pub begins_name : ℕ → Bool
-begins_name b = is_ascii_alphabetic b || b == 95
 
 -- a letter, a digit or `_`
 abbrev pub continues_name : ℕ → Bool

@@ -11,6 +11,7 @@ use crate::number::decimal;
 use crate::runs::{Class, run};
 use crate::symbol::{double, single};
 use crate::token::{Kind, Symbol};
+use arr_core::name::begins_name;
 use arr_core::{MAX_NAME, keyword_of};
 
 /// The token at the front.
@@ -37,12 +38,6 @@ pub fn front(bytes: &[u8]) -> Result<(usize, Kind), LexError>
         return string(bytes);
     }
     symbol(bytes)
-}
-
-fn begins_name(byte: u8) -> bool
-    ensures { result ≡ begins_name byte }
-{
-    byte.is_ascii_alphabetic() || byte == b'_'
 }
 
 fn number(bytes: &[u8]) -> Result<(usize, Kind), LexError>

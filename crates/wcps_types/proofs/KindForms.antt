@@ -19,7 +19,8 @@ use Rattle.wcps_types.specs.declared.names.Bound.{Bound}
 use Rattle.wcps_types.specs.Typed.{Typed, number, iterator, cell, unary, binary, scalar, select, bracket, slice, array, listed, condense, condense_where, reduce, condense_of}
 use Rattle.wcps_types.specs.Names.{name_place, bound_place, is_name_of, axis_place}
 use Rattle.wcps_types.specs.Shapes.{SlotTree, ShapeTree, FieldOf, ScalarOf, Answer, then_of, is_scalar, only_field, without_domain, only_scalar}
-use Rattle.wcps_types.specs.Variables.{is_boolean, cells_from, coverage_at, bound_at, bound_of, iterator_or, variable}
+use Rattle.arr_core.specs.Cells.{is_bool}
+use Rattle.wcps_types.specs.Variables.{cells_from, coverage_at, bound_at, bound_of, iterator_or, variable}
 use Rattle.wcps_types.specs.Operators.{selected, made_of, negated, unary as unary_of, are_same, OperandTrees, joined, binary_shape, numeric, logical, binary as binary_of, reduced_integer, integer_reduction, reduced_boolean, boolean_reduction, reduction}
 use Rattle.wcps_types.specs.Brackets.{BoundsOf, bounds_of, CutTree, BracketTree, trimmed_at, with_trim, integer_tree, position_of, sliced_slot, cut_between, cut_at, all_cut_out, bracketed_slot, closed}
 use Rattle.wcps_types.specs.Records.{PieceTree, PieceTrees, with_part, finished_part}
@@ -82,8 +83,8 @@ cells-kinds cs c k s [] at h = tt
 cells-kinds cs c k s (f ∷ fields) at h =
     let here : k + 0 ≡ k = omega arith in
     let first : slice_get s.fields k ≡ Some f = subst (λ n. slice_get s.fields n ≡ Some f) here (h 0) in
-    let own : cell_kind (slice_get cs c) k ≡ Some (is_boolean f.kind) = ap (λ o. cell_kind o k) at ∙ ap (option_map kind_of) first in (
-      ap (meets_some (Some (is_boolean f.kind))) own ∙ meets-own (is_boolean f.kind),
+    let own : cell_kind (slice_get cs c) k ≡ Some (is_bool f.kind) = ap (λ o. cell_kind o k) at ∙ ap (option_map kind_of) first in (
+      ap (meets_some (Some (is_bool f.kind))) own ∙ meets-own (is_bool f.kind),
       cells-kinds cs c (k + 1) s fields at (λ j. let e : k + suc j ≡ (k + 1) + j = omega arith in subst (λ n. slice_get s.fields n ≡ slice_get fields j) e (h (suc j))),
     )
 

@@ -19,7 +19,8 @@ use Rattle.wcps_types.specs.Operators as operators
 use Rattle.wcps_types.specs.Brackets.{BracketTree, opened, place_to_cut, position_of, with_position}
 use Rattle.wcps_types.specs.Records.{PieceTrees, no_pieces, is_part, with_part}
 use Rattle.wcps_types.specs.Boxes.{IteratorTrees, no_iterators, is_taken, with_iterator, box_of, condition_of, condensed, value_list}
-use Rattle.wcps_types.specs.Variables.{is_boolean, cells_from, coverage_at, bound_at, bound_of, iterator_or}
+use Rattle.arr_core.specs.Cells.{is_bool}
+use Rattle.wcps_types.specs.Variables.{cells_from, coverage_at, bound_at, bound_of, iterator_or}
 use Rattle.wcps_types.specs.Typing.{some_condition, closed_on, array_of, condition_tree, typ, typ_parts, typ_subs, typ_place, typ_interval, typ_iters, typ_condition}
 use Rattle.wcps_types.specs.Queries.{field_of_slot, item_of, plain_item, typ_item, combination_of, typ_combination}
 use Rattle.wcps_types.specs.Sharing.{AreLike, StandsFor, Stand, own, coverages_in}
@@ -29,8 +30,8 @@ use Rattle.wcps_types.proofs.RenamedForms.{answer_map, ren_slot, ren_shape, ren_
 cells-renamed : (cs : List ℕ) (v c k : ℕ) (fields : List Field) → get_or cs v 0 ≡ c → cells_from c k fields ≡ map (ren_slot cs) (cells_from v k fields)
 cells-renamed cs v c k [] e = refl
 cells-renamed cs v c k (f ∷ fields) e =
-    ap (λ (d : ℕ). (record { name = Some f.name; boolean = is_boolean f.kind; tree = cell d k }) ∷ cells_from c (k + 1) fields) (sym e)
-    ∙ ap (λ (more : List SlotTree). ren_slot cs (record { name = Some f.name; boolean = is_boolean f.kind; tree = cell v k }) ∷ more) (cells-renamed cs v c (k + 1) fields e)
+    ap (λ (d : ℕ). (record { name = Some f.name; boolean = is_bool f.kind; tree = cell d k }) ∷ cells_from c (k + 1) fields) (sym e)
+    ∙ ap (λ (more : List SlotTree). ren_slot cs (record { name = Some f.name; boolean = is_bool f.kind; tree = cell v k }) ∷ more) (cells-renamed cs v c (k + 1) fields e)
 
 -- the shapes of like signatures
 like-renamed : (names : List ℕ) (v c : ℕ) (t s : Signature) → AreLike t s → get_or names v 0 ≡ c → coverage_at c (Some t) ≡ answer_map (ren_shape names) (coverage_at v (Some s))

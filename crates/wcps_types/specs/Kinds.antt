@@ -11,7 +11,7 @@ use Rattle.wcps_text.specs.declared.operator.BinaryOperator.TheVariants as binar
 use Rattle.wcps_text.specs.declared.operator.Aggregate.{Aggregate}
 use Rattle.wcps_text.specs.declared.operator.Aggregate.TheVariants as aggregates
 use Rattle.wcps_types.specs.Typed.{Typed, number, iterator, cell, unary, binary, scalar, select, bracket, slice, array, listed, condense, condense_where, reduce, FieldTree, CombinationTree}
-use Rattle.wcps_types.specs.Variables.{is_boolean}
+use Rattle.arr_core.specs.Cells.{is_bool}
 
 -- What is asked of a tree: a Boolean (Some true), an integer (Some false), or either (None), as of the operands of
 -- arithmetic and comparisons, where a Boolean counts as 0 or 1.
@@ -30,7 +30,7 @@ are_kept (Some true) zs = list_all is_bit zs
 are_kept (Some false) zs = true
 
 abbrev pub kind_of : Field → Bool
-kind_of f = is_boolean f.kind
+kind_of f = is_bool f.kind
 
 -- the kind of a field of a coverage
 abbrev pub cell_kind : Option Signature → ℕ → Option Bool

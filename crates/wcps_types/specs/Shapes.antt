@@ -40,7 +40,7 @@ abbrev pub Answer : Type 0 → Type 0
 Answer A = Result A TypeRefusal
 
 -- a check after another one, which is made only where the first one gave something
-abbrev pub then_of : {A B : Type 0} → Answer A → (A → Answer B) → Answer B
+abbrev pub then_of : {A B E : Type 0} → Result A E → (A → Result B E) → Result B E
 then_of (Err f) go = Err f
 then_of (Ok a) go = go a
 

@@ -7,7 +7,8 @@ use Rattle.wcps_types.specs.declared.refusal.TypeRefusal.TheVariants.{UnknownNam
 use Rattle.wcps_types.specs.declared.names.Bound.{Bound}
 use Rattle.wcps_types.specs.Typed.{iterator, cell}
 use Rattle.wcps_types.specs.Names.{bound_place, name_place}
-pub use Rattle.wcps_types.specs.Labels.{is_boolean, label_of}
+use Rattle.arr_core.specs.Cells.{is_bool}
+pub use Rattle.wcps_types.specs.Labels.{label_of}
 use Rattle.wcps_types.specs.Shapes.{SlotTree, ShapeTree, Answer, unnamed}
 
 -- the signatures that references point to
@@ -17,7 +18,7 @@ signatures_in coverages = map (λ (s : Bor Signature). s.now) coverages
 -- the fields of the coverage at place c, from that of place k on
 abbrev pub cells_from : ℕ → ℕ → List Field → List SlotTree
 cells_from c k [] = []
-cells_from c k (f ∷ fields) = record { name = Some f.name; boolean = is_boolean f.kind; tree = cell c k } ∷ cells_from c (k + 1) fields
+cells_from c k (f ∷ fields) = record { name = Some f.name; boolean = is_bool f.kind; tree = cell c k } ∷ cells_from c (k + 1) fields
 
 abbrev pub coverage_at : ℕ → Option Signature → Answer ShapeTree
 coverage_at c None = Err UnknownName

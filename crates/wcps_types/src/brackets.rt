@@ -14,12 +14,9 @@ use crate::nodes::boxed;
 use crate::refusal::{CheckError, TypeRefusal};
 use crate::shape::{OneScalar, Shape, only_scalar};
 use crate::typed::Node;
-use arr_core::{Axis, Domain};
+use arr_core::{Axis, Domain, MAX_BOUND};
 use std::alloc::{AllocError, Global};
 use wcps_text::QueryName;
-
-/// The greatest bound of an axis; the least one is below `-MAX_BOUND` by 1.
-const MAX_BOUND: i64 = 2_147_483_647;
 
 /// An axis that is taken out, and where.
 #[derive(Drop)]

@@ -1,6 +1,7 @@
 //! Work: how many steps an evaluation takes at most, from domains alone.
 
 ghost use Rattle.std.specs.Prelude.{◌≡◌, ◌≤◌, ◌+◌, ◌*◌, ◌^◌, List, map, [], ◌∷◌};
+ghost use Rattle.arr_core.specs.Limits.{max_points};
 ghost use Rattle.wcps_types.specs.Typed.{field_tree, fields_view, item_view, tree_view};
 ghost use Rattle.wcps_types.specs.Sharing.{IsCounted};
 ghost use Rattle.wcps_types.specs.TypedQueries.{query_view};
@@ -26,7 +27,7 @@ fn plus(a: u64, b: u64) -> u64
 
 /// `points` times the work, or `TOO_MUCH` where it is more.
 fn times(points: u64, work: u64) -> u64
-    requires points { points ≤ 2 ^ 24 }
+    requires points { points ≤ max_points }
     requires work { work ≤ max_work + 1 }
     ensures { result ≡ capped (points * work) }
 {

@@ -10,7 +10,7 @@ ghost use Rattle.wcps_types.specs.Contexts.{under};
 
 use crate::context::Context;
 use crate::expression::expression;
-use crate::labels::{Label, Labels, is_boolean};
+use crate::labels::{Label, Labels};
 use crate::refusal::{CheckError, TypeRefusal};
 use crate::shape::{Shape, is_scalar};
 use crate::typed::TypedItem;
@@ -24,7 +24,7 @@ fn field_booleans(alloc: Global, fields: &[Field]) -> Result<Vec<bool>, AllocErr
 {
     let mut booleans = Vec::new(alloc);
     for field in fields {
-        booleans.push(is_boolean(field.kind))?;
+        booleans.push(field.kind.is_bool())?;
     }
     Ok(booleans)
 }

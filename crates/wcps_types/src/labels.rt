@@ -1,10 +1,10 @@
 //! The labels of the fields of a value.
 
 ghost use Rattle.std.specs.Prelude.{◌≡◌};
-ghost use Rattle.wcps_types.specs.Labels.{is_boolean, labels_in};
+ghost use Rattle.wcps_types.specs.Labels.{labels_in};
 ghost use Rattle.wcps_types.specs.Shapes.{the_boolean};
 
-use arr_core::{Field, FieldType};
+use arr_core::Field;
 use wcps_text::QueryName;
 
 /// One field: its name if it has one, and whether it is Boolean.
@@ -25,19 +25,6 @@ pub enum Labels<'a> {
     Listed(Vec<Label>),
 }
 
-/// Whether a field of that type is Boolean.
-pub fn is_boolean(kind: FieldType) -> bool
-    ensures { result ≡ is_boolean kind }
-{
-    match kind {
-        FieldType::Bool => true,
-        FieldType::U8 => false,
-        FieldType::I16 => false,
-        FieldType::I32 => false,
-        FieldType::I64 => false,
-    }
-}
-
 /// Whether the only field is Boolean, where there is one alone.
 pub fn the_boolean(labels: &Labels) -> Option<bool>
     ensures { result ≡ the_boolean (labels_in labels.now) }
@@ -45,7 +32,7 @@ pub fn the_boolean(labels: &Labels) -> Option<bool>
     match labels {
         Labels::Unnamed(boolean) => Some(*boolean),
         Labels::Fields(fields) => match fields {
-            [field] => Some(is_boolean(field.kind)),
+            [field] => Some(field.kind.is_bool()),
             [] | [_, _, ..] => None,
         },
         Labels::Listed(list) => match list.as_slice() {

@@ -24,8 +24,8 @@ returns-in-Bad-clause-bytes g c =
     let some : c.reading.buffer ≢ [] = λ e. omega (arith, ap length c.held.ensures.value, ap length e, c.in-Bad.ensures.1) in
     (i.0, i.1, i.2, c.held.ensures.fits, (some, never_for_fields c.reading.buffer bad))
 
-pub returns-then-seen-ge-HEAD_LIMIT-clause-bytes : goal.returns-then-seen-ge-HEAD_LIMIT-clause-bytes
-returns-then-seen-ge-HEAD_LIMIT-clause-bytes g c =
+pub returns-then-seen-ge-MAX_HEAD-clause-bytes : goal.returns-then-seen-ge-MAX_HEAD-clause-bytes
+returns-then-seen-ge-MAX_HEAD-clause-bytes g c =
     let i = c.reading.invariant.0 in
     let none : HasNoRequest c.reading.buffer = subst HasNoRequest c.held.ensures.value c.in-Partial.ensures in
     let full : 16384 ≤ length c.reading.buffer = omega (arith, c.len-seen.ensures) in

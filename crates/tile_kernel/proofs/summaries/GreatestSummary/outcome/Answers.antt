@@ -5,4 +5,4 @@ use Rattle.tile_kernel.proofs.Condensing.{greatest_unordered}
 use Rattle.tile_kernel.proofs.summaries.GreatestSummary.outcome.Goals as goal
 
 pub returns : goal.returns
-returns c = λ told ordered p h. c.best_or_empty.ensures.greatest (values (outcomes ordered)) (greatest_unordered c.args.self.best told ordered p h)
+returns c = λ told ordered p h. c.value_or_empty.ensures.greatest (values (outcomes ordered)) (greatest_unordered c.args.self.best told ordered p h)

@@ -5,4 +5,4 @@ use Rattle.tile_kernel.proofs.Condensing.{least_unordered}
 use Rattle.tile_kernel.proofs.summaries.LeastSummary.outcome.Goals as goal
 
 pub returns : goal.returns
-returns c = λ told ordered p h. c.best_or_empty.ensures.least (values (outcomes ordered)) (least_unordered c.args.self.best told ordered p h)
+returns c = λ told ordered p h. c.value_or_empty.ensures.least (values (outcomes ordered)) (least_unordered c.args.self.best told ordered p h)
