@@ -75,14 +75,28 @@ fn run_at(counts: &[u32], place: usize) -> usize
     0
 }
 
-/// Writes a value to so many places from one on.
+/// How many places of a short run are written together.
+const BLOCK: usize = 8;
+
+/// A run of so many places is filled as a slice is.
+const LONG: usize = 64;
+
+/// Writes a value to so many places from one on. A short run is written in blocks, without a branch for each place; what
+/// stood behind it may be lost.
 fn fill_from(out: &mut [i64], place: usize, count: usize, value: i64)
     requires { place + count ≤ length out.old }
     ensures front { take (place + count) out.new ≡ take place out.old ++ replicate count value }
     ensures length { length out.new ≡ length out.old }
 {
-    for k in place..place + count {
-        out[k] = value;
+    let end = place + count;
+    if count >= LONG || out.len() - end < BLOCK {
+        out[place..end].fill(value);
+        return;
+    }
+    let mut at = place;
+    while at < end {
+        out[at..at + BLOCK].fill(value);
+        at += BLOCK;
     }
 }
 

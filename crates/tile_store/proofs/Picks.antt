@@ -27,7 +27,6 @@ use Rattle.run_tile.specs.declared.error.DecodeError.TheVariants as decode
 use Rattle.tile_store.specs.declared.fault.Fault.{Fault}
 use Rattle.tile_store.specs.Faults.{Refuses, of_decode}
 use Rattle.tile_store.specs.declared.field.FieldTiles.{FieldTiles}
-use Rattle.tile_store.specs.declared.picking.LastBlock.{LastBlock}
 use Rattle.tile_store.specs.Listing.{entry_times, IsSound}
 use Rattle.tile_store.specs.Picking.{IsEntryIn, cells_as, IsLast, ArePicks, LackPicks}
 use Rattle.tile_store.specs.Reading.{number_in, ArePicked, IsSpelledIn}
@@ -118,11 +117,11 @@ raw_in_block k s e rank bytes is honest h at =
     ∙ sym (stored_byte s e (rank * width_of k / 4096) (rank * width_of k % 4096 + b) is honest here.within in_block in_bytes) ∙ ap (λ (n : ℕ). get_or stored n 0) split) in
     raw-at k bytes place count_block ∙ same ∙ sym (raw-at k stored rank count_stored)
 
-pub raw_read : (k : FieldType) (s : BlocksState) (e : Entry) (rank size number : ℕ) (numbers bytes : List ℕ) (last : LastBlock) → size ≡ width_of k → IsEntryIn s e → IsTrue s.honest → rank < e.length / size → numbers ≡ e.blocks → number ≡ get_or numbers (rank * size / 4096) 0
-    → last.number ≡ Some number → IsLast s last → bytes ≡ last.bytes → get_or (raw_cells k bytes) (rank * size % 4096 / size) (pos 0) ≡ get_or (cells_as Raw k s e) rank (pos 0)
-raw_read k s e rank size number numbers bytes last es is honest h same at some is_last read =
+pub raw_read : (k : FieldType) (s : BlocksState) (e : Entry) (rank size number : ℕ) (numbers bytes : List ℕ) (last : Option ℕ) → size ≡ width_of k → IsEntryIn s e → IsTrue s.honest → rank < e.length / size → numbers ≡ e.blocks → number ≡ get_or numbers (rank * size / 4096) 0
+    → last ≡ Some number → IsLast s last bytes → get_or (raw_cells k bytes) (rank * size % 4096 / size) (pos 0) ≡ get_or (cells_as Raw k s e) rank (pos 0)
+raw_read k s e rank size number numbers bytes last es is honest h same at some is_last =
     let block_is : bytes ≡ block s (get_or e.blocks (rank * width_of k / 4096) 0) =
-    read ∙ is_last honest number some ∙ ap (block s) (at ∙ ap (λ (l : List ℕ). get_or l (rank * size / 4096) 0) same ∙ ap (λ (w : ℕ). get_or e.blocks (rank * w / 4096) 0) es) in
+    is_last honest number some ∙ ap (block s) (at ∙ ap (λ (l : List ℕ). get_or l (rank * size / 4096) 0) same ∙ ap (λ (w : ℕ). get_or e.blocks (rank * w / 4096) 0) es) in
     rw es (raw_in_block k s e rank bytes is honest (rw es at h) block_is)
 
 -- a rank behind the bytes has no cell
@@ -146,8 +145,8 @@ lacks_one form k s e ranks place rank h is lack honest all =
 
 -- ---- reads change neither
 
-pub last_moved : {asked : ℕ → ℕ} (s s' : BlocksState) (last : LastBlock) → OnlyReads asked s s' → IsLast s last → IsLast s' last
-last_moved s s' last reads is honest k some = is (rw reads.honest at honest) k some ∙ ap (λ (c : List ℕ). block_at c k) (sym reads.content)
+pub last_moved : {asked : ℕ → ℕ} (s s' : BlocksState) (last : Option ℕ) (bytes : List ℕ) → OnlyReads asked s s' → IsLast s last bytes → IsLast s' last bytes
+last_moved s s' last bytes reads is honest k some = is (rw reads.honest at honest) k some ∙ ap (λ (c : List ℕ). block_at c k) (sym reads.content)
 
 pub entry_moved : {asked : ℕ → ℕ} (s s' : BlocksState) (e : Entry) → OnlyReads asked s s' → IsEntryIn s e → IsEntryIn s' e
 entry_moved s s' e reads is = record {

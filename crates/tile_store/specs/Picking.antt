@@ -1,5 +1,5 @@
 -- Cells of a tile at ranks, read without the others.
-use Rattle.std.specs.Prelude.{◌≡◌, ℕ, ◌<◌, ℤ, pos, IsTrue, List, length, slice_index_or, Some}
+use Rattle.std.specs.Prelude.{◌≡◌, ℕ, ◌<◌, ℤ, pos, IsTrue, List, length, slice_index_or, Option, Some}
 use Rattle.arr_core.specs.declared.cell.FieldType.{FieldType}
 use Rattle.block_file.specs.State.{BlocksState, block, times}
 use Rattle.block_file.specs.Words.{Covers}
@@ -7,7 +7,6 @@ use Rattle.file_bytes.specs.declared.form.Form.{Form}
 pub use Rattle.run_tile.specs.Picking.{picked, AreRanks}
 use Rattle.tile_index.specs.declared.entry.Entry.{Entry}
 use Rattle.tile_index.specs.Entries.{IsEntry}
-use Rattle.tile_store.specs.declared.picking.LastBlock.{LastBlock}
 use Rattle.tile_store.specs.Stored.{entry_data, cells_read}
 
 -- the blocks of an entry are in use, and whole on an honest disk
@@ -20,9 +19,9 @@ pub record IsEntryIn (s : BlocksState) (e : Entry) : Type 0 where
 abbrev pub cells_as : Form → FieldType → BlocksState → Entry → List ℤ
 cells_as form kind s e = cells_read form kind (entry_data s.content e)
 
--- what was read last is what the block with its number holds
-abbrev pub IsLast : BlocksState → LastBlock → Type 0
-IsLast s last = IsTrue s.honest → (k : ℕ) → last.number ≡ Some k → last.bytes ≡ block s k
+-- the bytes that were read last, if any were, are what the block with their number holds
+abbrev pub IsLast : BlocksState → Option ℕ → List ℕ → Type 0
+IsLast s last bytes = IsTrue s.honest → (k : ℕ) → last ≡ Some k → bytes ≡ block s k
 
 -- on an honest disk this is the cell at a rank of an entry's
 abbrev pub IsPick : Form → FieldType → BlocksState → Entry → ℕ → ℤ → Type 0

@@ -23,26 +23,24 @@ use file_bytes::Form;
 use run_tile::{pick_runs, raw_cell, width};
 use tile_index::Entry;
 
-/// The block that was read last: its number, where one was, and what it holds.
-#[derive(Drop)]
-pub(crate) struct LastBlock {
-    number: Option<u32>,
-    bytes: [u8; 4096],
-}
-
-/// Reads a block, unless it is the one that was read last.
-fn turn_to<B: Blocks>(blocks: &mut B, last: &mut LastBlock, number: u32) -> Result<(), Fault>
+/// Reads a block, unless it is the one that was read last, whose number is kept beside its bytes.
+fn turn_to<B: Blocks>(
+    blocks: &mut B,
+    last: &mut Option<u32>,
+    bytes: &mut [u8; 4096],
+    number: u32,
+) -> Result<(), Fault>
     requires used { 0 < (B.state blocks.old).uses number }
-    requires last { IsLast (B.state blocks.old) last.old }
-    ensures here { OnOk result (last.new.number ≡ Some number) }
-    ensures last { OnOk result (IsLast (B.state blocks.old) last.new) }
+    requires last { IsLast (B.state blocks.old) last.old bytes.old }
+    ensures here { OnOk result (last.new ≡ Some number) }
+    ensures last { OnOk result (IsLast (B.state blocks.old) last.new bytes.new) }
     ensures why { Refuses result ⊥ ⊥ }
     ensures frame { OnlyReads (one number) (B.state blocks.old) (B.state blocks.new) }
     ensures told { Tells (IsErrOf result Fault.DiskFault) (B.state blocks.old).failures (B.state blocks.new).failures }
 {
-    if last.number != Some(number) {
-        blocks.read(number, &mut last.bytes)?;
-        last.number = Some(number);
+    if *last != Some(number) {
+        blocks.read(number, bytes)?;
+        *last = Some(number);
     }
     Ok(())
 }
@@ -50,15 +48,16 @@ fn turn_to<B: Blocks>(blocks: &mut B, last: &mut LastBlock, number: u32) -> Resu
 /// Reads the cell at a rank of a tile of cells one after the other from the block that it stands in.
 fn read_raw_cell<B: Blocks>(
     blocks: &mut B,
-    last: &mut LastBlock,
+    last: &mut Option<u32>,
+    bytes: &mut [u8; 4096],
     kind: FieldType,
     entry: &Entry,
     rank: u64,
 ) -> Result<i64, Fault>
     requires entry { IsEntryIn (B.state blocks.old) entry.now }
-    requires last { IsLast (B.state blocks.old) last.old }
+    requires last { IsLast (B.state blocks.old) last.old bytes.old }
     ensures cell { IfOk result (IsPick Raw kind (B.state blocks.old) entry.now rank) }
-    ensures last { OnOk result (IsLast (B.state blocks.old) last.new) }
+    ensures last { OnOk result (IsLast (B.state blocks.old) last.new bytes.new) }
     ensures why { Refuses result (LackPicks Raw kind (B.state blocks.old) entry.now (rank ∷ [])) ⊥ }
     ensures frame { OnlyReads (times entry.now.blocks) (B.state blocks.old) (B.state blocks.new) }
     ensures told { Tells (IsErrOf result Fault.DiskFault) (B.state blocks.old).failures (B.state blocks.new).failures }
@@ -70,16 +69,18 @@ fn read_raw_cell<B: Blocks>(
     }
     let from = rank * size;
     let numbers = entry.blocks.as_slice();
-    turn_to(blocks, last, numbers[from / BLOCK_BYTES])?;
-    Ok(raw_cell(kind, &last.bytes, from % BLOCK_BYTES / size))
+    turn_to(blocks, last, bytes, numbers[from / BLOCK_BYTES])?;
+    Ok(raw_cell(kind, bytes, from % BLOCK_BYTES / size))
 }
 
-/// Writes the cells at ranks of a tile of cells one after the other. Ranks that rise take each block once.
+/// Writes the cells at ranks of a tile of cells one after the other, whose blocks it reads into a buffer, whatever that
+/// held before. Ranks that rise take each block once.
 fn pick_raw<B: Blocks>(
     blocks: &mut B,
     kind: FieldType,
     entry: &Entry,
     ranks: &[u64],
+    bytes: &mut [u8; 4096],
     cells: &mut [i64],
 ) -> Result<(), Fault>
     requires entry { IsEntryIn (B.state blocks.old) entry.now }
@@ -89,17 +90,37 @@ fn pick_raw<B: Blocks>(
     ensures frame { OnlyReads (times entry.now.blocks) (B.state blocks.old) (B.state blocks.new) }
     ensures told { Tells (IsErrOf result Fault.DiskFault) (B.state blocks.old).failures (B.state blocks.new).failures }
 {
-    let mut last = LastBlock {
-        number: None,
-        bytes: [0; 4096],
-    };
+    let mut last = None;
     for place in 0..ranks.len() {
-        cells[place] = read_raw_cell(blocks, &mut last, kind, entry, ranks[place])?;
+        cells[place] = read_raw_cell(blocks, &mut last, bytes, kind, entry, ranks[place])?;
     }
     Ok(())
 }
 
-/// Reads the cells at ranks of a tile that is listed into a buffer, and the bytes of one of runs into another, whatever
+/// The same by a buffer of any length.
+fn pick_blocks<B: Blocks>(
+    blocks: &mut B,
+    kind: FieldType,
+    entry: &Entry,
+    ranks: &[u64],
+    bytes: &mut Vec<u8>,
+    cells: &mut [i64],
+) -> Result<(), Fault>
+    requires entry { IsEntryIn (B.state blocks.old) entry.now }
+    requires room { length cells.old ≡ length ranks.now }
+    ensures picked { OnOk result (ArePicks Raw kind (B.state blocks.old) entry.now ranks.now cells.new) }
+    ensures why { Refuses result (LackPicks Raw kind (B.state blocks.old) entry.now ranks.now) ⊥ }
+    ensures frame { OnlyReads (times entry.now.blocks) (B.state blocks.old) (B.state blocks.new) }
+    ensures told { Tells (IsErrOf result Fault.DiskFault) (B.state blocks.old).failures (B.state blocks.new).failures }
+{
+    bytes.resize(BLOCK_BYTES, 0)?;
+    match bytes.first_chunk_mut::<4096>() {
+        Some(block) => pick_raw(blocks, kind, entry, ranks, block, cells),
+        None => unreachable!(),
+    }
+}
+
+/// Reads the cells at ranks of a tile that is listed into a buffer, and what stands in its blocks into another, whatever
 /// the two held before.
 fn pick_entry<B: Blocks>(
     blocks: &mut B,
@@ -125,15 +146,16 @@ fn pick_entry<B: Blocks>(
         }
         Form::Raw => {
             cells.resize(ranks.len(), 0)?;
-            pick_raw(blocks, kind, entry, ranks, cells)
+            pick_blocks(blocks, kind, entry, ranks, bytes, cells)
         }
     }
 }
 
 /// Reads the stored numbers of a tile, by its number, at ranks of its points in row-major order, into `cells`, one for
 /// each rank, whatever it held before. Of a tile that has cells one after the other it reads the blocks that they stand
-/// in, and of one of runs its bytes into `bytes`, which it walks. Whether the other cells are spelled is not told:
-/// `Damaged` comes only where the tile is not, but need not come there. After a refusal the two buffers hold anything.
+/// in into `bytes`, one after the other, and of one of runs all bytes, which it walks. Whether the other cells are
+/// spelled is not told: `Damaged` comes only where the tile is not, but need not come there. After a refusal the two
+/// buffers hold anything.
 pub fn pick_tile_into<B: Blocks>(
     blocks: &mut B,
     field: FieldTiles,

@@ -1,7 +1,8 @@
 //! Plans whose binds are inlined where they can be.
 
-ghost use Rattle.std.specs.Prelude.{◌≡◌, IfOk, OnOk, map};
-ghost use Rattle.plan_ir.specs.Plans.{pass_view, field_view, item_view, steps_view, plan_view};
+ghost use Rattle.std.specs.Prelude.{◌≡◌, ◌++◌, ◌∷◌, [], length, IfOk, OnOk, map};
+ghost use Rattle.plan_ir.specs.declared.body.Index.TheVariants.{Var};
+ghost use Rattle.plan_ir.specs.Plans.{bind_view, pass_view, field_view, item_view, steps_view, plan_view};
 ghost use Rattle.plan_ir.specs.Placed.{IsPlan};
 ghost use Rattle.plan_rewrite.specs.Everywhere.{Everywhere};
 ghost use Rattle.plan_rewrite.specs.Rewritten.{MeansSame, NoInlinableBind};
@@ -78,6 +79,24 @@ fn inline_item(alloc: Global, item: &mut Item) -> Result<(), AllocError>
     inline_fields(alloc, &env, &scope, &mut item.fields)
 }
 
+/// Puts a bind that stays at the end of a list, and adds its variable to the others.
+fn keep_bind(
+    bind: Bind,
+    env: &mut Vec<Index>,
+    scope: &mut Vec<Interval>,
+    list: &mut Vec<Bind>,
+) -> Result<(), AllocError>
+    ensures env { OnOk result (env.new.items ≡ env.old.items ++ Var (length scope.old.items) ∷ []) }
+    ensures scope { OnOk result (scope.new.items ≡ scope.old.items ++ bind.interval ∷ []) }
+    ensures kept { OnOk result (GainsBinds list.old list.new (bind_view bind ∷ [])) }
+{
+    let interval = bind.interval;
+    list.push(bind)?;
+    env.push(Index::Var(scope.len()))?;
+    scope.push(interval)?;
+    Ok(())
+}
+
 /// Puts the binds that stay at the end of a list, and adds to the variables what the binds add.
 fn inline_binds(
     alloc: Global,
@@ -101,10 +120,7 @@ fn inline_binds(
                     inline_binds(alloc, binds, env, scope, list)
                 }
                 None => {
-                    let interval = bind.interval;
-                    list.push(bind)?;
-                    env.push(Index::Var(scope.len()))?;
-                    scope.push(interval)?;
+                    keep_bind(bind, env, scope, list)?;
                     inline_binds(alloc, binds, env, scope, list)
                 }
             }

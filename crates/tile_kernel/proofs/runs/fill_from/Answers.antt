@@ -1,17 +1,35 @@
--- One more place has the value.
-use Rattle.std.proofs.Common.{◌≡◌, ◌+◌, ◌-◌, ◌∙◌, ◌++◌, ◌∷◌, [], take, ap, arith, w64, to_z, of_z}
-use Rattle.std.specs.Prelude.{replicate}
-use Rattle.std.proofs.lemmas.List.{take_more_set, append_assoc, replicate_more}
+-- A short run is written a block at a time.
+use Rattle.std.proofs.Common.{◌≡◌, List, ℕ, ℤ, ◌+◌, ◌-◌, ◌++◌, take, length, replicate, sym, ap, ap₂, ◌∙◌, arith, rules, append_assoc, SFits, w64, to_z, of_z}
+use Rattle.std.proofs.lemmas.Int.{to_z-of_z}
+use Rattle.std.proofs.lemmas.Slice.{take-put_mid}
+use Rattle.std.proofs.lemmas.List.{replicate-append-replicate, take-replicate, take-take, length-take-le}
+use Rattle.std.proofs.Math.Seq.{take-append-add}
 use Rattle.tile_kernel.proofs.runs.fill_from.Goals as goal
 
-pub loop-k-preserved : goal.loop-k-preserved
-loop-k-preserved c =
-    let k = c.loop-k.k in
-    let place = c.args.place in
-    let v = to_z w64 (of_z w64 c.args.value) in
-    let e : (k - place) + 1 ≡ (k + 1) - place = omega arith in
-    take_more_set c.loop-k.out k v (omega arith)
-    ∙ ap (λ l. l ++ v ∷ []) c.loop-k.invariant
-    ∙ append_assoc (take place c.args.out.now) (replicate (k - place) v) (v ∷ [])
-    ∙ ap (λ l. take place c.args.out.now ++ l) (replicate_more (k - place) v)
-    ∙ ap (λ n. take place c.args.out.now ++ replicate n v) e
+pub loop-at-preserved : goal.loop-at-preserved
+loop-at-preserved c =
+    let v = c.args.value in
+    let fits : SFits w64 v = search rules in
+    let same : to_z w64 (of_z w64 v) ≡ v = to_z-of_z w64 v fits in
+    let was = c.loop-at.invariant.written ∙ ap (λ (z : ℤ). take c.args.place c.args.out.now ++ replicate (c.loop-at.at - c.args.place) z) same in
+    let filled : c.fill-in-loop-at.new.self ≡ replicate 8 v = search rules in
+    let put = take-put_mid c.loop-at.at (c.loop-at.at + 8 - c.loop-at.at) c.loop-at.out c.fill-in-loop-at.new.self (c.loop-at.at + 8) (omega (arith, ap length filled)) (omega arith) in
+    let joined : replicate (c.loop-at.at - c.args.place) v ++ replicate 8 v ≡ replicate (c.loop-at.at + 8 - c.args.place) v = replicate-append-replicate (c.loop-at.at - c.args.place) 8 v ∙ ap (λ (n : ℕ). replicate n v) (omega arith) in
+    record {
+      begun = omega arith;
+      near = omega arith;
+      written = put ∙ ap₂ (λ (xs ys : List ℤ). xs ++ ys) was filled ∙ append_assoc (take c.args.place c.args.out.now) _ _ ∙ ap (λ (xs : List ℤ). take c.args.place c.args.out.now ++ xs) joined
+          ∙ ap (λ (z : ℤ). take c.args.place c.args.out.now ++ replicate (c.loop-at.at + 8 - c.args.place) z) (sym same);
+    }
+
+pub returns-clause-front : goal.returns-clause-front
+returns-clause-front c =
+    let front = take c.args.place c.args.out.now in
+    let count = c.args.count in
+    let done = replicate (c.loop-at.at - c.args.place) c.args.value in
+    let fits : SFits w64 c.args.value = search rules in
+    let written = c.loop-at.invariant.written ∙ ap (λ (z : ℤ). front ++ replicate (c.loop-at.at - c.args.place) z) (to_z-of_z w64 c.args.value fits) in
+    let long = length-take-le c.args.place c.args.out.now (omega arith) in
+    sym (take-take (c.args.place + count) c.loop-at.at c.loop-at.out (omega arith)) ∙ ap (take (c.args.place + count)) written
+    ∙ ap (λ (n : ℕ). take (n + count) (front ++ done)) (sym long) ∙ take-append-add front done count
+    ∙ ap (λ (xs : List ℤ). front ++ xs) (take-replicate count (c.loop-at.at - c.args.place) c.args.value (omega arith))

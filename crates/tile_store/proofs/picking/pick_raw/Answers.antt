@@ -18,7 +18,7 @@ loop-place-preserved g c =
     let z = c.in_ok-cells.field-0 in
     let fits : SFits w64 z = search rules in
     record {
-      last = last_moved _ _ c.read_raw_cell.new.last done.frame done.last;
+      last = last_moved _ _ c.read_raw_cell.new.last c.read_raw_cell.new.bytes done.frame done.last;
       picked = λ honest.
           picks_more Raw c.args.kind _ (g.B.Blocks.state c.loop-place.blocks) c.args.entry.now c.args.ranks.now c.loop-place.place c.loop-place.cells _ inv.frame (omega (arith, c.requires.room)) honest (inv.picked honest) (λ sure. to_z-of_z fits ∙ done.cell sure);
       frame = reads_then _ _ _ inv.frame done.frame;

@@ -36,7 +36,7 @@ returns-clause-cell g c = λ honest.
     let fits : SFits w64 c.raw_cell.result = search rules in
     let done = c.in_ok-turn_to.ensures in
     to_z-of_z fits ∙ c.raw_cell.ensures
-    ∙ raw_read c.args.kind _ c.args.entry.now c.args.rank c.width-size.result _ c.as_slice-numbers.result.now _ c.turn_to.new.last c.width-size.ensures c.requires.entry honest c.if-entry-size.false c.as_slice-numbers.ensures refl done.here done.last refl
+    ∙ raw_read c.args.kind _ c.args.entry.now c.args.rank c.width-size.result _ c.as_slice-numbers.result.now _ c.turn_to.new.last c.width-size.ensures c.requires.entry honest c.if-entry-size.false c.as_slice-numbers.ensures refl done.here done.last
 
 pub returns-clause-frame : goal.returns-clause-frame
 returns-clause-frame g c =
