@@ -22,7 +22,9 @@ PAGES = [
 ]
 PAGES += ["REFUSALS", "SPEED", "TEMPLATES", "TESTING"]
 BESIDE = ("bench", "clients", "deploy", "docs/pictures", "faults", "oracle", "scripts", "web")
-PICTURES = (".png", ".svg", ".pyc")
+PICTURES = (".png", ".svg")
+# Folders that git leaves out.
+BUILT = {"out", "__pycache__"}
 # What is another program's, how statements are named, and how a path is written.
 OTHERS = {"RT_JOBS", "IsX", "AreX", "HasX", "crate/file.rt"}
 QUOTED = re.compile(r"(?<!`)`([^`\n]+)`(?!`)")
@@ -36,7 +38,8 @@ def walked():
         *(f"crates/{it}/{part}" for it in os.listdir(f"{TOP}/crates") for part in ("src", "specs", "proofs")),
         *BESIDE,
     ):
-        for at, _, names in os.walk(f"{TOP}/{top}"):
+        for at, folders, names in os.walk(f"{TOP}/{top}"):
+            folders[:] = [it for it in folders if it not in BUILT]
             yield from (os.path.relpath(f"{at}/{name}", TOP) for name in names)
     yield from ("crates.txt", "pyproject.toml")
 
