@@ -1,6 +1,6 @@
 //! Numbers in order, as runs of one value.
 
-ghost use Rattle.std.specs.Prelude.{◌≡◌, [], length, IfOk};
+ghost use Rattle.std.specs.Prelude.{◌≡◌, ◌+◌, ◌≤◌, ◌++◌, [], length, take, replicate, IfOk};
 
 use std::alloc::{AllocError, Global};
 
@@ -24,5 +24,31 @@ impl RunList {
             values,
             counts: Vec::new(alloc),
         })
+    }
+}
+
+/// How many cells of a short run are written together.
+const BLOCK: usize = 8;
+
+/// A run of so many cells is filled as a slice is.
+const LONG: usize = 64;
+
+/// Writes a value to so many cells from a place on. A short run is written in blocks, without a branch for each cell: what
+/// stood behind it may be lost.
+#[inline(always)]
+pub fn write_run(cells: &mut [i64], from: usize, count: usize, value: i64)
+    requires { from + count ≤ length cells.old }
+    ensures front { take (from + count) cells.new ≡ take from cells.old ++ replicate count value }
+    ensures length { length cells.new ≡ length cells.old }
+{
+    let end = from + count;
+    if count >= LONG || cells.len() - end < BLOCK {
+        cells[from..end].fill(value);
+        return;
+    }
+    let mut at = from;
+    while at < end {
+        cells[at..at + BLOCK].fill(value);
+        at += BLOCK;
     }
 }

@@ -5,7 +5,7 @@ ghost use Rattle.run_tile.specs.Runs.{IsSpelling, IsNoSpelling, run_count};
 ghost use Rattle.run_tile.specs.Reading.{AreRead};
 
 use crate::run::{Run, width};
-use arr_core::FieldType;
+use arr_core::{FieldType, write_run};
 
 /// How far the reading has come: so many runs, so many cells, and the value of the last run.
 #[derive(Clone, Copy)]
@@ -23,12 +23,6 @@ pub(crate) fn repeats(before: Option<i64>, run: Run) -> bool
     before == Some(run.value)
 }
 
-/// How many cells of a run are written together.
-const BLOCK: usize = 8;
-
-/// A run of so many cells is filled as a slice is.
-const LONG: u16 = 64;
-
 /// How many runs are read before it is looked at of what kind they were.
 const FEW: usize = 8;
 
@@ -40,24 +34,6 @@ fn write_cell(cells: &mut [i64], place: usize, run: Run)
     ensures { take (place + run.count) cells.new ≡ take place cells.old ++ replicate run.count run.value }
 {
     cells[place] = run.value;
-}
-
-/// Writes the cells of a run from a place on; what stood after them may be lost, since they are written in blocks.
-#[inline(always)]
-fn write_run(cells: &mut [i64], from: usize, run: Run)
-    requires { from + run.count ≤ length cells.old }
-    ensures { take (from + run.count) cells.new ≡ take from cells.old ++ replicate run.count run.value }
-{
-    let end = from + run.count as usize;
-    if run.count >= LONG || cells.len() - end < BLOCK {
-        cells[from..end].fill(run.value);
-        return;
-    }
-    let mut at = from;
-    while at < end {
-        cells[at..at + BLOCK].fill(run.value);
-        at += BLOCK;
-    }
 }
 
 /// Reads on while runs of one cell come, of which noise consists, and stops before any other.
@@ -105,7 +81,7 @@ fn read_run(kind: FieldType, bytes: &[u8], cells: &mut [i64], at: Progress) -> O
     if !run.is_run(kind) || repeats(at.last, run) || cells.len() < after {
         return None;
     }
-    write_run(cells, at.cells, run);
+    write_run(cells, at.cells, run.count as usize, run.value);
     Some(Progress {
         runs: at.runs + 1,
         cells: after,

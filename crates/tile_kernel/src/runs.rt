@@ -8,6 +8,7 @@ ghost use Rattle.tile_kernel.specs.Repeated.{shown, runs_shown, StandsIn};
 use crate::form::Form;
 use crate::seen::{Runs, Seen};
 use crate::view::View;
+use arr_core::write_run;
 use wcps_mean::Outcome;
 
 impl<'a> Runs<'a> {
@@ -75,31 +76,6 @@ fn run_at(counts: &[u32], place: usize) -> usize
     0
 }
 
-/// How many places of a short run are written together.
-const BLOCK: usize = 8;
-
-/// A run of so many places is filled as a slice is.
-const LONG: usize = 64;
-
-/// Writes a value to so many places from one on. A short run is written in blocks, without a branch for each place; what
-/// stood behind it may be lost.
-fn fill_from(out: &mut [i64], place: usize, count: usize, value: i64)
-    requires { place + count ≤ length out.old }
-    ensures front { take (place + count) out.new ≡ take place out.old ++ replicate count value }
-    ensures length { length out.new ≡ length out.old }
-{
-    let end = place + count;
-    if count >= LONG || out.len() - end < BLOCK {
-        out[place..end].fill(value);
-        return;
-    }
-    let mut at = place;
-    while at < end {
-        out[at..at + BLOCK].fill(value);
-        at += BLOCK;
-    }
-}
-
 /// Writes each value as often as its count says, one after the other.
 pub(crate) fn spread_over(values: &[i64], counts: &[u32], out: &mut [i64])
     requires values { length counts.now ≤ length values.now }
@@ -110,7 +86,7 @@ pub(crate) fn spread_over(values: &[i64], counts: &[u32], out: &mut [i64])
     let mut place = 0;
     for run in 0..counts.len() {
         let count = counts[run] as usize;
-        fill_from(out, place, count, values[run]);
+        write_run(out, place, count, values[run]);
         place += count;
     }
 }

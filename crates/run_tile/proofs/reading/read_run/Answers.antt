@@ -1,5 +1,5 @@
 -- The run that was read is the one that stands there.
-use Rattle.std.proofs.Common.{ℤ, length, Some, refl, sym, ap, ◌∙◌, arith, rules, SFits, w64, to_z-of_z, subst}
+use Rattle.std.proofs.Common.{ℤ, length, take, replicate, ◌++◌, Some, refl, sym, ap, ◌∙◌, arith, rules, SFits, w64, to_z-of_z, subst}
 use Rattle.std.proofs.lemmas.List.{length-take-le}
 use Rattle.run_tile.specs.Runs.{IsRun}
 use Rattle.run_tile.specs.declared.run.Run.{Run}
@@ -27,4 +27,5 @@ pub returns-clause-read : goal.returns-clause-read
 returns-clause-read c =
     let sound : IsRun c.args.kind c.read_at-run.result = c.is_run.ensures.0 (search rules) in
     let fits : SFits w64 c.read_at-run.result.value = search rules in
-    read-more c.args.kind _ _ c.args.cells.now c.write_run.new.cells c.args.at _ c.read_at-run.result c.requires.read (λ k l. refl) c.read_at-run.ensures sound (search rules) refl refl (ap (λ (z : ℤ). Some z) (to_z-of_z fits)) (search rules) c.write_run.ensures
+    read-more c.args.kind _ _ c.args.cells.now c.write_run.new.cells c.args.at _ c.read_at-run.result c.requires.read (λ k l. refl) c.read_at-run.ensures sound (search rules) refl refl (ap (λ (z : ℤ). Some z) (to_z-of_z fits)) (search rules)
+    (c.write_run.ensures.front ∙ ap (λ (z : ℤ). take c.args.at.cells c.args.cells.now ++ replicate c.read_at-run.result.count z) (to_z-of_z fits))

@@ -14,7 +14,7 @@ loop-run-preserved c =
     let fits : SFits w64 (get_or zs run (pos 0)) = search rules in
     record {
       place = omega (arith, s, c.loop-run.invariant.place);
-      front = c.fill_from.ensures.front ∙ ap (λ z. take c.loop-run.place c.loop-run.out ++ replicate (get_or ns run 0) z) (to_z-of_z w64 (get_or zs run (pos 0)) fits)
+      front = c.write_run.ensures.front ∙ ap (λ z. take c.loop-run.place c.loop-run.out ++ replicate (get_or ns run 0) z) (to_z-of_z w64 (get_or zs run (pos 0)) fits)
           ∙ ap (λ l. l ++ replicate (get_or ns run 0) (get_or zs run (pos 0))) c.loop-run.invariant.front
           ∙ sym (spread-more zs ns run (omega arith) (omega arith));
     }

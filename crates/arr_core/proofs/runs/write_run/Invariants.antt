@@ -1,12 +1,12 @@
 use Rattle.std.proofs.Common.{◌-◌, ◌≡◌, ◌+◌, ◌≤◌, ◌<◌, ◌++◌, take, replicate}
-use Rattle.tile_kernel.proofs.runs.fill_from.Given as goal
+use Rattle.arr_core.proofs.runs.write_run.Given as goal
 
--- the places up to this one are written, and it is less than a block past the end
+-- the cells up to this one are written, and it is less than a block past the end
 abbrev pub invariant-loop-at : goal.invariant-loop-at
 invariant-loop-at l = record {
-  begun : l.place ≤ l.at;
+  begun : l.from ≤ l.at;
   near : l.at < l.end + 8;
-  written : take l.at l.out ≡ take l.place l.fn.out ++ replicate (l.at - l.place) l.value;
+  written : take l.at l.cells ≡ take l.from l.fn.cells ++ replicate (l.at - l.from) l.value;
 }
 
 abbrev pub decreases-loop-at : goal.decreases-loop-at
