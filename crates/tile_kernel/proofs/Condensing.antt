@@ -1,7 +1,7 @@
 -- What condensers keep, in whatever order points are told.
 use Rattle.std.proofs.Common.{◌≡◌, ℕ, ◌+◌, ◌<◌, ℤ, ◌+ℤ◌, arith, below_more, get_or, List, [], ◌∷◌, ◌++◌, length, map, length-append, refl, sym, ap, ◌∙◌, subst, Option, Some, None, Bool}
 use Rattle.std.specs.List.Sorted.{IsPermutation}
-use Rattle.std.proofs.lemmas.List.{map-append, length-map, get_or_append_left, get_or_push}
+use Rattle.std.proofs.lemmas.List.{append-nil, map-append, length-map, get_or_append_left, get_or_push}
 use Rattle.std.proofs.lemmas.List.Elements.{All-nil}
 use Rattle.std.proofs.lemmas.List.Sorted.{All-permutation, Contains-permutation, IsPermutation-refl, IsPermutation-trans, IsPermutation-append, IsPermutation-append_comm}
 use Rattle.wcps_text.specs.declared.operator.Aggregate.{Aggregate}
@@ -18,9 +18,9 @@ use Rattle.wcps_mean.specs.Products.{StandsFor}
 use Rattle.tile_kernel.specs.Told.{Told, outcomes, IsValue, StandsFrom, IsFirst, AreRising, ComesTo}
 use Rattle.tile_kernel.specs.declared.accumulator.Accumulator.{Accumulator}
 use Rattle.tile_kernel.specs.Standing.{Stands}
-use Rattle.tile_kernel.specs.Joins.{HoldsOfBoth}
+use Rattle.tile_kernel.specs.Joins.{HoldsOfBoth, HoldsWith}
 use Rattle.tile_kernel.specs.Condensing.{CombinesTo, StandsForBoth, IsKept, IsKeptOf, ComesToBoth}
-use Rattle.tile_kernel.proofs.Faults.{fault_in_order, fault_of_one, same_fault}
+use Rattle.tile_kernel.proofs.Faults.{fault_in_order, fault_of_one, left_alone, same_fault}
 use Rattle.tile_kernel.proofs.Merges.{values-append, total-append, keeps_permuted}
 use Rattle.tile_kernel.proofs.Orders.{length-permuted, total-permuted, trues-permuted, every-permuted, any-permuted, has_zero-permuted, sign-permuted, size-permuted, greatest-permuted, least-permuted}
 
@@ -123,6 +123,25 @@ pub merged_turned : {S : Type 0} (keeps : S → List ℤ → Type 0) (a b c : S)
 merged_turned keeps a b c af bf cf p q r first both told more h g =
     let m = merged keeps a b c af bf cf p q r first both more told g h in
     (m.0, IsPermutation-trans m.0 (more ++ told) (told ++ more) m.1 (IsPermutation-append_comm more told), m.2)
+
+-- ---- one point more
+
+pub with_value : {S : Type 0} (keeps : S → List ℤ → Type 0) (a b : S) (fault : Option PointFault) (p place : ℕ) (z : ℤ) → HoldsWith z (keeps a) (keeps b) → (told : List Told) → IsKeptOf keeps a fault p told → IsKeptOf keeps b fault p (told ++ (place, Value z) ∷ [])
+with_value keeps a b fault p place z more told h =
+    let one : List Told = (place, Value z) ∷ [] in (
+      h.0 ++ one,
+      IsPermutation-append h.0 told one one h.1 (IsPermutation-refl one),
+      record { faulted = left_alone fault p h.0 one h.2.faulted (fault_of_one place (Value z)); kept = subst (keeps b) (sym (values_of h.0 one)) (more (values (outcomes h.0)) h.2.kept) },
+    )
+
+pub with_fault : {S : Type 0} (keeps : S → List ℤ → Type 0) (s : S) (fault first : Option PointFault) (p q place : ℕ) (f : PointFault) → HoldsOfBoth (IsFirst fault p) (IsFirst (Some f) place) (IsFirst first q) → (told : List Told) → IsKeptOf keeps s fault p told
+    → IsKeptOf keeps s first q (told ++ (place, Fault f) ∷ [])
+with_fault keeps s fault first p q place f both told h =
+    let one : List Told = (place, Fault f) ∷ [] in (
+      h.0 ++ one,
+      IsPermutation-append h.0 told one one h.1 (IsPermutation-refl one),
+      record { faulted = both h.0 one h.2.faulted (fault_of_one place (Fault f)); kept = subst (keeps s) (sym (values_of h.0 one ∙ append-nil (values (outcomes h.0)))) h.2.kept },
+    )
 
 -- ---- the end
 

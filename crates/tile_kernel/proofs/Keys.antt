@@ -14,7 +14,7 @@ use Rattle.tile_kernel.specs.declared.accumulator.Accumulator.{Accumulator}
 use Rattle.tile_kernel.specs.Told.{Told, demanded_of, demanded_at}
 use Rattle.tile_kernel.specs.Condensing.{EachStandsFor, EachIsTold, EachCountsMore}
 use Rattle.tile_kernel.specs.Standing.{HaveAtMost}
-use Rattle.tile_kernel.specs.Keyed.{having, number_at, told_by_key, told_by_keys, TakeCells, StandByKeys, IsPlaceOf, AreSlots}
+use Rattle.tile_kernel.specs.Keyed.{having, number_at, told_by_key, told_by_keys, TakeCells, StandByKeys, IsPlaceOf, IsTable}
 use Rattle.tile_kernel.proofs.Places.{outcome_there}
 use Rattle.tile_kernel.proofs.Tellings.{demanded_suc, few_demanded}
 
@@ -141,7 +141,7 @@ few_by_keys numbers ps keys os folds h k d l =
 
 -- ---- numbers by a table
 
-pub none_above : (low z : ℤ) (table : List ℕ) (numbers : List ℤ) → AreSlots low table numbers → ((i : ℕ) → i < length table → z ≡ low +ℤ pos i → ⊥) → IsPlaceOf z numbers None
+pub none_above : (low z : ℤ) (table : List ℕ) (numbers : List ℤ) → IsTable low table numbers → ((i : ℕ) → i < length table → z ≡ low +ℤ pos i → ⊥) → IsPlaceOf z numbers None
 none_above low z table numbers s f k l =
     let t = s.there k l in
     ((λ (e : number_at numbers k ≡ z). absurd (f t.0 t.1 (sym e ∙ t.2))), (λ w. cc))
@@ -149,7 +149,7 @@ none_above low z table numbers s f k l =
 same_slot : (low : ℤ) (i j : ℕ) → low +ℤ pos i ≡ low +ℤ pos j → i ≡ j
 same_slot low i j e = omega (arith, ints, e)
 
-pub none_there : (low z : ℤ) (table : List ℕ) (numbers : List ℤ) (i : ℕ) → AreSlots low table numbers → z ≡ low +ℤ pos i → get_or table i 0 ≡ 0 → IsPlaceOf z numbers None
+pub none_there : (low z : ℤ) (table : List ℕ) (numbers : List ℤ) (i : ℕ) → IsTable low table numbers → z ≡ low +ℤ pos i → get_or table i 0 ≡ 0 → IsPlaceOf z numbers None
 none_there low z table numbers i s at none k l =
     let t = s.there k l in (
       (λ (e : number_at numbers k ≡ z).
@@ -159,7 +159,7 @@ none_there low z table numbers i s at none k l =
       (λ w. cc),
     )
 
-pub some_there : (low z : ℤ) (table : List ℕ) (numbers : List ℤ) (i n : ℕ) → AreSlots low table numbers → i < length table → z ≡ low +ℤ pos i → get_or table i 0 ≡ n → n ≢ 0 → IsPlaceOf z numbers (Some (n - 1))
+pub some_there : (low z : ℤ) (table : List ℕ) (numbers : List ℤ) (i n : ℕ) → IsTable low table numbers → i < length table → z ≡ low +ℤ pos i → get_or table i 0 ≡ n → n ≢ 0 → IsPlaceOf z numbers (Some (n - 1))
 some_there low z table numbers i n s lt at is some k l =
     let t = s.there k l in
     let b = s.back i lt (omega arith) in (
@@ -184,8 +184,8 @@ before_last (y ∷ xs) x d zero lt = refl
 before_last (y ∷ xs) x d (suc k) lt = before_last xs x d k (omega (arith, lt))
 
 -- a number that was in none of the places, behind the others
-pub slots_more : (low z : ℤ) (table : List ℕ) (numbers : List ℤ) (i n : ℕ) → AreSlots low table numbers → i < length table → z ≡ low +ℤ pos i → get_or table i 0 ≡ 0 → n ≡ length numbers + 1 → AreSlots low (set table i n) (numbers ++ z ∷ [])
-slots_more low z table numbers i n s lt at none e = record { there = there; back = back }
+pub table_more : (low z : ℤ) (table : List ℕ) (numbers : List ℤ) (i n : ℕ) → IsTable low table numbers → i < length table → z ≡ low +ℤ pos i → get_or table i 0 ≡ 0 → n ≡ length numbers + 1 → IsTable low (set table i n) (numbers ++ z ∷ [])
+table_more low z table numbers i n s lt at none e = record { there = there; back = back }
   where
     long : length (numbers ++ z ∷ []) ≡ length numbers + 1
     long = length-append numbers (z ∷ [])

@@ -9,6 +9,7 @@ pub mod Reductions
 pub mod Repeats
 pub mod Tellings
 pub mod Keys
+pub mod Rising
 pub mod Pairs
 pub mod Condensing
 pub mod Spans

@@ -78,6 +78,16 @@ halves (suc n) zs x bits low high c e h =
     let q = total-push (zs ++ replicate n x) x in
     omega (arith, ints)
 
+-- a sum of raised values, with so many more copies of one
+lifts : (n : ℕ) (zs : List ℤ) (x : ℤ) (bits sum c : ℕ) → pos bits ≡ x +ℤ pos (2 ^ 40) → pos sum ≡ total zs +ℤ pos (c * 2 ^ 40)
+    → pos (sum + n * bits) ≡ total (zs ++ replicate n x) +ℤ pos ((c + n) * 2 ^ 40)
+lifts zero zs x bits sum c e h = let p = ap total (append-nil zs) in omega (arith, ints)
+lifts (suc n) zs x bits sum c e h =
+    let i = lifts n zs x bits sum c e h in
+    let p = ap total (one_more zs n x) in
+    let q = total-push (zs ++ replicate n x) x in
+    omega (arith, ints)
+
 pub length_next : (t : ℕ → ℕ) (v : ℕ → ℤ) (k : ℕ) → length (selected t v (k + 1)) ≡ length (selected t v k) + t k
 length_next t v k = length-selected t v (k + 1) ∙ taken_in_next t k ∙ ap (λ n. n + t k) (sym (length-selected t v k))
 
@@ -92,6 +102,20 @@ sum_next t v k bits low high e h =
     halves (t k) (selected t v k) (v k) bits low high (length (selected t v k)) e h
     ∙ ap (λ zs. total zs +ℤ pos ((length (selected t v k) + t k) * 2 ^ 63)) (sym (selected_next t v k))
     ∙ ap (λ n. total (selected t v (k + 1)) +ℤ pos (n * 2 ^ 63)) (sym (length_next t v k))
+
+pub lifted_next : (t : ℕ → ℕ) (v : ℕ → ℤ) (k bits sum : ℕ) → pos bits ≡ v k +ℤ pos (2 ^ 40)
+    → pos sum ≡ total (selected t v k) +ℤ pos (length (selected t v k) * 2 ^ 40)
+    → pos (sum + t k * bits) ≡ total (selected t v (k + 1)) +ℤ pos (length (selected t v (k + 1)) * 2 ^ 40)
+lifted_next t v k bits sum e h =
+    lifts (t k) (selected t v k) (v k) bits sum (length (selected t v k)) e h
+    ∙ ap (λ zs. total zs +ℤ pos ((length (selected t v k) + t k) * 2 ^ 40)) (sym (selected_next t v k))
+    ∙ ap (λ n. total (selected t v (k + 1)) +ℤ pos (n * 2 ^ 40)) (sym (length_next t v k))
+
+pub lifted_most : (t : ℕ → ℕ) (v : ℕ → ℤ) (k sum bits : ℕ) → bits ≤ 2 ^ 41 → sum ≤ length (selected t v k) * 2 ^ 41 → sum + t k * bits ≤ length (selected t v (k + 1)) * 2 ^ 41
+lifted_most t v k sum bits a l =
+    let m = mul-le-mul_left (t k) a in
+    let n = length_next t v k in
+    omega (arith, m, n, l)
 
 pub half_next : (t : ℕ → ℕ) (v : ℕ → ℤ) (k low h : ℕ) → h ≤ 4294967295 → low ≤ length (selected t v k) * 4294967295 → low + t k * h ≤ length (selected t v (k + 1)) * 4294967295
 half_next t v k low h a l =

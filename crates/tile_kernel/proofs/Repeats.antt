@@ -1,6 +1,7 @@
 -- Outcomes that stand for runs, run by run.
-use Rattle.std.proofs.Common.{◌≡◌, ℕ, zero, suc, ◌+◌, ◌-◌, ◌<◌, ◌≤◌, ◌≢◌, min, arith, ℤ, pos, List, [], ◌∷◌, ◌++◌, length, get_or, take, map, refl, sym, ap, ◌∙◌, subst, length-append, Option, Some, None}
-use Rattle.std.specs.Prelude.{replicate, sum, Bool, true, false}
+use Rattle.std.proofs.Common.{◌≡◌, ℕ, zero, suc, ◌+◌, ◌-◌, ◌<◌, ◌≤◌, min, arith, ℤ, pos, List, [], ◌∷◌, ◌++◌, length, get_or, take, map, refl, sym, ap, ◌∙◌, subst, length-append, Option, Some, None}
+use Rattle.std.specs.Prelude.{replicate, sum, Vec, Bool, true, false}
+use Rattle.std.specs.declared.alloc.Global.{Global}
 use Rattle.std.proofs.lemmas.List.{map-append, length-map, length-replicate, replicate-append-replicate, get_or_append_left, get_or-append_right, get_or-replicate, take_all, length-take-le, append-nil, append_assoc}
 use Rattle.std.proofs.lemmas.List.Sums.{sum_by-cons, sum_by_more}
 use Rattle.arr_core.specs.Runs.{spread, runs_of}
@@ -12,8 +13,8 @@ use Rattle.wcps_mean.specs.Cells.{operate2}
 use Rattle.tile_kernel.specs.declared.seen.Runs.{Runs}
 use Rattle.tile_kernel.specs.declared.form.Form.{Form}
 use Rattle.tile_kernel.specs.declared.form.Form.TheVariants.{Values}
-use Rattle.tile_kernel.specs.Columns.{operate_all, seen}
-use Rattle.tile_kernel.specs.Repeated.{repeated, runs_shown, column_of, IsColumn, AreRuns, StandsIn, RepeatsIf}
+use Rattle.tile_kernel.specs.Columns.{operate_all}
+use Rattle.tile_kernel.specs.Repeated.{repeated, runs_shown, column_of, IsColumn, AreRuns, AreAll, StandsIn, RepeatsIf}
 use Rattle.tile_kernel.proofs.Places.{length-seen}
 
 -- ---- the sum of counts
@@ -121,20 +122,20 @@ length-heads zs r le = length-map (take r zs) Value ∙ length-take-le r zs le
 pub length-runs_shown : (zs : List ℤ) (ns : List ℕ) → length ns ≤ length zs → length (repeated (map Value (take (length ns) zs)) ns) ≡ sum ns
 length-runs_shown zs ns le = length-repeated (map Value (take (length ns) zs)) ns (length-heads zs (length ns) le)
 
-pub length-column : (runs : Option ℕ) (form : Form) (n : ℕ) (zs : List ℤ) (fs : List (Option PointFault)) (ns : List ℕ) → IsColumn runs n zs fs ns → length (column_of runs form n zs fs ns) ≡ n
-length-column None form n zs fs ns h = length-seen form n zs fs h.roomy
+pub length-column : (runs : Option ℕ) (form : Form) (n : ℕ) (zs : Vec ℤ Global) (fs : Vec (Option PointFault) Global) (ns : List ℕ) → IsColumn runs n zs fs ns → length (column_of runs form n zs.items fs.items ns) ≡ n
+length-column None form n zs fs ns h = length-seen form n zs.items fs.items h.roomy
 length-column (Some r) form n zs fs ns h =
     let rows : r ≤ 4096 = h.covered.0 in
-    let a = length-heads zs r (omega (arith, h.roomy.values)) in
+    let a = length-heads zs.items r (omega (arith, h.whole.0)) in
     let b = length-take-le r ns h.covered.1 in
-    length-repeated (map Value (take r zs)) (take r ns) (a ∙ sym b) ∙ h.covered.2
+    length-repeated (map Value (take r zs.items)) (take r ns) (a ∙ sym b) ∙ h.covered.2
 
-pub runs_seen : (runs : Option ℕ) (form : Form) (n : ℕ) (zs : List ℤ) (fs : List (Option PointFault)) (ns cs : List ℕ) (column : List Outcome) (r : ℕ) → runs ≡ Some r → column_of runs form n zs fs ns ≡ column → IsColumn runs n zs fs ns → cs ≡ take r ns
-    → (repeated (map Value (take (length cs) zs)) cs ≡ column) × ((sum cs ≡ n) × (length cs ≡ r))
+pub runs_seen : (runs : Option ℕ) (form : Form) (n : ℕ) (zs : Vec ℤ Global) (fs : Vec (Option PointFault) Global) (ns cs : List ℕ) (column : List Outcome) (r : ℕ) → runs ≡ Some r → column_of runs form n zs.items fs.items ns ≡ column → IsColumn runs n zs fs ns → cs ≡ take r ns
+    → (repeated (map Value (take (length cs) zs.items)) cs ≡ column) × ((sum cs ≡ n) × (length cs ≡ r))
 runs_seen runs form n zs fs ns cs column r e h kept same =
     let covered : AreRuns (Some r) n ns = subst (λ r. AreRuns r n ns) e kept.covered in
     let long : length cs ≡ r = ap length same ∙ length-take-le r ns covered.1 in (
-      ap (λ k. repeated (map Value (take k zs)) cs) long ∙ ap (repeated (map Value (take r zs))) same ∙ ap (λ r. column_of r form n zs fs ns) (sym e) ∙ h,
+      ap (λ k. repeated (map Value (take k zs.items)) cs) long ∙ ap (repeated (map Value (take r zs.items))) same ∙ ap (λ r. column_of r form n zs.items fs.items ns) (sym e) ∙ h,
       (ap sum same ∙ covered.2, long),
     )
 
@@ -184,13 +185,14 @@ pub spread-more : (zs : List ℤ) (ns : List ℕ) (k : ℕ) → k < length zs �
 spread-more zs ns k a b = let e : suc k ≡ k + 1 = omega arith in subst (λ m. spread (take m zs) (take m ns) ≡ spread (take k zs) (take k ns) ++ replicate (get_or ns k 0) (get_or zs k (pos 0))) e (spread-suc zs ns k a b)
 
 -- values that were spread in place of their runs
-pub spread_back : (runs : Option ℕ) (form : Form) (n : ℕ) (zs : List ℤ) (fs : List (Option PointFault)) (ns cs : List ℕ) (column : List Outcome) (r : ℕ) (room out : List ℤ) → runs ≡ Some r → column_of runs form n zs fs ns ≡ column → IsColumn runs n zs fs ns → cs ≡ take r ns
-    → length room ≡ 4096 → take (length zs) room ≡ zs → take (sum cs) out ≡ spread (take (length cs) room) cs → map Value (take n out) ≡ column
+pub spread_back : (runs : Option ℕ) (form : Form) (n : ℕ) (zs : Vec ℤ Global) (fs : Vec (Option PointFault) Global) (ns cs : List ℕ) (column : List Outcome) (r : ℕ) (room out : List ℤ) → runs ≡ Some r → column_of runs form n zs.items fs.items ns ≡ column → IsColumn runs n zs fs ns → cs ≡ take r ns
+    → length room ≡ 4096 → take (length zs.items) room ≡ zs.items → take (sum cs) out ≡ spread (take (length cs) room) cs → map Value (take n out) ≡ column
 spread_back runs form n zs fs ns cs column r room out e h kept same l copied written =
     let seen = runs_seen runs form n zs fs ns cs column r e h kept same in
-    let whole : room ≡ zs = sym (take_all (length zs) room (omega (arith, l, kept.roomy.values))) ∙ copied in
+    let all : AreAll (Some r) zs.items fs.items = subst (λ r. AreAll r zs.items fs.items) e kept.whole in
+    let whole : room ≡ zs.items = sym (take_all (length zs.items) room (omega (arith, l, all.0))) ∙ copied in
     ap (λ k. map Value (take k out)) (sym seen.1.0) ∙ ap (map Value) (written ∙ ap (λ l. spread (take (length cs) l) cs) whole)
-    ∙ values-repeated (take (length cs) zs) cs ∙ seen.0
+    ∙ values-repeated (take (length cs) zs.items) cs ∙ seen.0
 
 -- what was told to be repeated is
 pub repeats_now : (told : Bool) (ns : List ℕ) (before after : List Outcome) → told ≡ true → RepeatsIf told ns before after → after ≡ repeated before ns

@@ -1,5 +1,5 @@
 -- Columns as lists of outcomes.
-use Rattle.std.specs.Prelude.{◌≡◌, ℕ, ◌<◌, ◌≤◌, ℤ, pos, ◌≤ℤ◌, List, [], ◌∷◌, map, length, take, replicate, slice_index_or, Option, Some, None}
+use Rattle.std.specs.Prelude.{◌≡◌, ℕ, ◌<◌, ◌≤◌, ℤ, pos, ◌≤ℤ◌, List, [], ◌∷◌, map, length, take, replicate, slice_index_or, Vec, vec_capacity, Option, Some, None}
 use Rattle.wcps_text.specs.declared.operator.UnaryOperator.{UnaryOperator}
 use Rattle.wcps_text.specs.declared.operator.BinaryOperator.{BinaryOperator}
 use Rattle.wcps_mean.specs.declared.cell.PointFault.{PointFault}
@@ -25,11 +25,16 @@ seen (Same o) n zs fs = replicate n o
 seen Values n zs fs = map Value (take n zs)
 seen Mixed n zs fs = outcomes_of (take n zs) (take n fs)
 
--- a column has at most 4,096 places, and room for as many
+-- a column has at most 4,096 places, and a value and a fault for each
 pub record IsRoomy (n : ℕ) (zs : List ℤ) (fs : List (Option PointFault)) : Type 0 where
   pub few : n ≤ 4096
-  pub values : length zs ≡ 4096
-  pub faults : length fs ≡ 4096
+  pub values : n ≤ length zs
+  pub faults : n ≤ length fs
+
+-- a list is as long as another one, and has as much room
+pub record IsAsRoomy {T A : Type 0} (before after : Vec T A) : Type 0 where
+  pub long : length after.items ≡ length before.items
+  pub room : vec_capacity after ≡ vec_capacity before
 
 -- the outcome at a place of a column
 abbrev pub outcome_at : List Outcome → ℕ → Outcome

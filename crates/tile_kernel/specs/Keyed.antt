@@ -1,9 +1,12 @@
 -- Cells that are told by their keys.
-use Rattle.std.specs.Prelude.{◌≡◌, ◌↔◌, ℕ, ◌+◌, ◌-◌, ◌<◌, ◌≤◌, ℤ, pos, ◌+ℤ◌, List, map, length, slice_index_or, Option, Some}
+use Rattle.std.specs.Prelude.{◌≡◌, ◌↔◌, ℕ, ◌+◌, ◌-◌, ◌<◌, ◌≤◌, ℤ, pos, ◌+ℤ◌, ◌<ℤ◌, ◌≤ℤ◌, List, Contains, map, length, slice_index_or, Option, Some}
+use Rattle.std.specs.Ordering.{int_cmp}
+use Rattle.std.specs.List.Sorted.{IsStrictlySortedBy}
 use Rattle.wcps_text.specs.declared.operator.BinaryOperator.TheVariants.{Equal}
 use Rattle.wcps_mean.specs.declared.cell.Outcome.{Outcome}
 use Rattle.wcps_mean.specs.declared.cell.Outcome.TheVariants.{Value}
 use Rattle.wcps_mean.specs.Cells.{operate2}
+use Rattle.wcps_mean.specs.Condensers.{values}
 use Rattle.tile_kernel.specs.declared.accumulator.Accumulator.{Accumulator}
 use Rattle.tile_kernel.specs.Columns.{outcome_at}
 use Rattle.tile_kernel.specs.Told.{Told, demanded_of, demanded_at}
@@ -47,9 +50,22 @@ TakeIn stands before after numbers places keys value =
 abbrev pub IsPlaceOf : ℤ → List ℤ → Option ℕ → Type 0
 IsPlaceOf z numbers place = (k : ℕ) → k < length numbers → (number_at numbers k ≡ z) ↔ (place ≡ Some k)
 
--- Numbers by a table over a range: for each number from `low` on one more than its place, or 0.
-pub record AreSlots (low : ℤ) (table : List ℕ) (numbers : List ℤ) : Type 0 where
+-- these are the values of a column
+abbrev pub AreValuesOf : List Outcome → List ℤ → Type 0
+AreValuesOf column numbers = (z : ℤ) → Contains (values column) z ↔ Contains numbers z
+
+-- numbers are among so many from this one on
+abbrev pub LieFrom : ℤ → ℕ → List ℤ → Type 0
+LieFrom low span numbers = (k : ℕ) → k < length numbers → (low ≤ℤ number_at numbers k) × (number_at numbers k <ℤ (low +ℤ pos span))
+
+-- A table of numbers over a range: for each number from `low` on one more than its place, or 0.
+pub record IsTable (low : ℤ) (table : List ℕ) (numbers : List ℤ) : Type 0 where
   pub there : (k : ℕ) → k < length numbers
       → (i : ℕ) × (i < length table) × (number_at numbers k ≡ low +ℤ pos i) × (slice_index_or table i 0 ≡ k + 1)
   pub back : (i : ℕ) → i < length table → 0 < slice_index_or table i 0
       → (slice_index_or table i 0 ≤ length numbers) × (number_at numbers (slice_index_or table i 0 - 1) ≡ low +ℤ pos i)
+
+-- Rising numbers, and a table of them, or an empty one.
+pub record AreSlots (low : ℤ) (table : List ℕ) (numbers : List ℤ) : Type 0 where
+  pub rising : IsStrictlySortedBy int_cmp numbers
+  pub tabled : 0 < length table → IsTable low table numbers

@@ -1,10 +1,10 @@
 -- Outcomes that stand for runs.
-use Rattle.std.specs.Prelude.{◌≡◌, ℕ, suc, ◌+◌, ◌<◌, ◌≤◌, ℤ, List, [], ◌∷◌, ◌++◌, map, length, take, replicate, sum, slice_index, Bool, true, false, Option, Some, None}
+use Rattle.std.specs.Prelude.{◌≡◌, ℕ, ◌+◌, ◌<◌, ◌≤◌, ℤ, List, [], ◌∷◌, ◌++◌, map, length, take, replicate, sum, slice_index, Vec, vec_capacity, Bool, true, false, Option, Some, None}
+use Rattle.std.specs.declared.alloc.Global.{Global}
 use Rattle.wcps_mean.specs.declared.cell.PointFault.{PointFault}
 use Rattle.wcps_mean.specs.declared.cell.Outcome.{Outcome}
 use Rattle.wcps_mean.specs.declared.cell.Outcome.TheVariants.{Value}
 use Rattle.tile_kernel.specs.declared.form.Form.{Form}
-use Rattle.tile_kernel.specs.declared.form.Form.TheVariants.{Values}
 use Rattle.tile_kernel.specs.declared.pair.Pair.{Pair}
 use Rattle.tile_kernel.specs.declared.seen.Runs.{Runs}
 use Rattle.tile_kernel.specs.declared.seen.Seen.{Seen}
@@ -26,10 +26,19 @@ abbrev pub AreRuns : Option ℕ → ℕ → List ℕ → Type 0
 AreRuns None n ns = Unit {0}
 AreRuns (Some r) n ns = (r ≤ 4096) × (r ≤ length ns) × (sum (take r ns) ≡ n)
 
--- a column has at most 4,096 places, room for as many, and runs that cover its places
-pub record IsColumn (runs : Option ℕ) (n : ℕ) (zs : List ℤ) (fs : List (Option PointFault)) (ns : List ℕ) : Type 0 where
-  pub roomy : IsRoomy n zs fs
+-- where there are runs, there are as many values and faults as there can be
+abbrev pub AreAll : Option ℕ → List ℤ → List (Option PointFault) → Type 0
+AreAll None zs fs = Unit {0}
+AreAll (Some r) zs fs = (length zs ≡ 4096) × (4096 ≤ length fs)
+
+-- a column has at most 4,096 places, runs that cover them, and lists with room for as many
+pub record IsColumn (runs : Option ℕ) (n : ℕ) (values : Vec ℤ Global) (faults : Vec (Option PointFault) Global) (ns : List ℕ) : Type 0 where
+  pub roomy : IsRoomy n values.items faults.items
   pub covered : AreRuns runs n ns
+  pub whole : AreAll runs values.items faults.items
+  pub few_values : length values.items ≤ 4096
+  pub value_room : 4096 ≤ vec_capacity values
+  pub fault_room : 4096 ≤ vec_capacity faults
 
 -- the outcomes that are lent
 abbrev pub runs_shown : Runs → List Outcome

@@ -7,6 +7,7 @@ use Rattle.wcps_mean.specs.declared.cell.Outcome.{Outcome}
 use Rattle.wcps_mean.specs.declared.cell.Outcome.TheVariants.{Value, Fault}
 use Rattle.wcps_text.specs.declared.operator.Aggregate.{Aggregate}
 use Rattle.wcps_mean.specs.Condensers.{demanded, condensed}
+use Rattle.tile_kernel.specs.declared.first_fault.FirstFault.{FirstFault}
 use Rattle.tile_kernel.specs.Columns.{outcome_at}
 
 -- a point, by its place in the row-major list of its box, and its outcome
@@ -68,6 +69,10 @@ StandsFrom p k (Fault f) = p ≤ k
 abbrev pub IsFirst : Option PointFault → ℕ → List Told → Type 0
 IsFirst None place told = All (λ (t : Told). IsValue t.1) told
 IsFirst (Some f) place told = Contains told (place, Fault f) × All (λ (t : Told). StandsFrom place t.0 t.1) told
+
+-- the first fault of these points, if there is one
+abbrev pub IsFirstOf : FirstFault → List Told → Type 0
+IsFirstOf first told = IsFirst first.fault first.place told
 
 -- what a condenser makes of points, in the order of their places
 abbrev pub ComesTo : Aggregate → List Told → Outcome → Type 0

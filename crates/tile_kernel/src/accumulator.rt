@@ -2,11 +2,11 @@
 
 ghost use Rattle.std.specs.Prelude.{◌≡◌, ℕ, ◌+◌, ◌<◌, ◌≤◌, List, [], ◌∷◌};
 ghost use Rattle.arr_core.specs.Limits.{max_points};
-ghost use Rattle.tile_kernel.specs.Told.{Told, IsFirst};
-ghost use Rattle.tile_kernel.specs.Joins.{HoldsOfBoth};
+ghost use Rattle.tile_kernel.specs.Told.{Told};
 
+use crate::first_fault::FirstFault;
 use crate::joined::joined;
-use wcps_mean::{Outcome, PointFault, Running, is_set};
+use wcps_mean::{Outcome, Running, is_set};
 use wcps_text::Aggregate;
 
 /// What is kept of the points of a box, at most 2^24 of them, that a condenser has been told of. The order of telling
@@ -46,11 +46,11 @@ impl Accumulator {
     }
 
     /// The fault at the least place.
-    fn placed(&self) -> Placed
+    fn first_fault(&self) -> FirstFault
         ensures fault { result.fault ≡ self.now.running.fault }
         ensures place { result.place ≡ self.now.place }
     {
-        Placed {
+        FirstFault {
             fault: self.running.fault,
             place: self.place,
         }
@@ -75,7 +75,7 @@ impl Accumulator {
         ensures op { self.new.running.op ≡ self.old.running.op }
         ensures count { self.new.running.count ≡ self.old.running.count + other.now.running.count }
     {
-        let first = least_fault(self.placed(), other.placed());
+        let first = self.first_fault().least(other.first_fault());
         self.running = joined(&self.running, &other.running, first.fault);
         self.place = first.place;
     }
@@ -121,30 +121,5 @@ impl Accumulator {
         ensures { (told : List Told) → Stands self told → ComesTo self.running.op told result }
     {
         self.running.finish()
-    }
-}
-
-/// A fault, if there is one, and its place.
-#[derive(Clone, Copy)]
-pub(crate) struct Placed {
-    pub fault: Option<PointFault>,
-    pub place: u64,
-}
-
-/// The fault at the lower place of two.
-pub(crate) fn least_fault(a: Placed, b: Placed) -> Placed
-    ensures { HoldsOfBoth (IsFirst a.fault a.place) (IsFirst b.fault b.place) (IsFirst result.fault result.place) }
-{
-    match b.fault {
-        None => return a,
-        Some(_) => match a.fault {
-            None => return b,
-            Some(_) => {
-                if a.place <= b.place {
-                    return a;
-                }
-                return b;
-            }
-        },
     }
 }

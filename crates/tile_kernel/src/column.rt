@@ -1,9 +1,9 @@
 //! Columns: the outcomes at the places of a tile.
 
-ghost use Rattle.std.specs.Prelude.{◌≡◌, ◌<◌, ◌≤◌, [], length, map, replicate, slice_get, sum, take, Some, IfOk, IsTrue};
+ghost use Rattle.std.specs.Prelude.{◌≡◌, ◌<◌, ◌≤◌, [], length, map, replicate, slice_get, sum, take, max, vec_capacity, Some, IfOk, IsTrue};
 ghost use Rattle.arr_core.specs.Runs.{cells_of};
 ghost use Rattle.wcps_mean.specs.declared.cell.Outcome.TheVariants.{Value};
-ghost use Rattle.tile_kernel.specs.Columns.{outcome_at, AreOutcomes};
+ghost use Rattle.tile_kernel.specs.Columns.{outcome_at, AreOutcomes, IsAsRoomy};
 ghost use Rattle.tile_kernel.specs.Repeated.{shown, RepeatsIf};
 
 use crate::form::Form;
@@ -19,9 +19,10 @@ use wcps_mean::{Outcome, PointFault};
 /// How many places a column has at most: as many as a tile has cells.
 pub const MAX_PLACES: usize = 4096;
 
-/// The outcomes at the places of a tile, at most `MAX_PLACES` of them. It is made once with room for all of them, and
-/// then written again and again without taking memory, but for the counts of runs. One outcome at every place is kept
-/// once, values that come as runs are kept once a run, and a column without a fault keeps no faults.
+/// The outcomes at the places of a tile, at most `MAX_PLACES` of them. It is made once with room for all of them, which
+/// is cleared only as far as it is used, and then written again and again without taking memory, but for the counts of
+/// runs. One outcome at every place is kept once, values that come as runs are kept once a run, and a column without a
+/// fault keeps no faults.
 #[derive(Drop)]
 pub struct Column {
     pub(crate) len: usize,
@@ -43,7 +44,7 @@ impl Model for Column {
 
     ghost view = { λ c. column_of c.runs c.form c.len c.values.items c.faults.items c.counts.items };
 
-    ghost invariant = { λ c. IsColumn c.runs c.len c.values.items c.faults.items c.counts.items };
+    ghost invariant = { λ c. IsColumn c.runs c.len c.values c.faults c.counts.items };
 }
 
 impl Column {
@@ -51,16 +52,12 @@ impl Column {
     pub fn new(alloc: Global) -> Result<Column, AllocError>
         ensures { IfOk result (λ c. c ≡ []) }
     {
-        let mut values = Vec::new(alloc);
-        values.resize(MAX_PLACES, 0)?;
-        let mut faults = Vec::new(alloc);
-        faults.resize(MAX_PLACES, None)?;
         Ok(Column {
             len: 0,
             form: Form::Values,
             runs: None,
-            values,
-            faults,
+            values: Vec::with_capacity(alloc, MAX_PLACES)?,
+            faults: Vec::with_capacity(alloc, MAX_PLACES)?,
             counts: Vec::new(alloc),
         })
     }
@@ -115,6 +112,8 @@ impl Column {
         requires { len ≤ 4096 }
         ensures { self.new ≡ replicate len o }
     {
+        grow(&mut self.values, len, 0);
+        grow(&mut self.faults, len, None);
         self.len = len;
         self.form = Form::Same(o);
         self.runs = None;
@@ -125,6 +124,8 @@ impl Column {
         requires { length cells.now ≤ 4096 }
         ensures { self.new ≡ map Value cells.now }
     {
+        grow(&mut self.values, cells.len(), 0);
+        grow(&mut self.faults, cells.len(), None);
         copy_in(&mut self.values, cells);
         self.len = cells.len();
         self.form = Form::Values;
@@ -137,6 +138,8 @@ impl Column {
         ensures value { self.new ≡ map Value cells.old.items }
         ensures length { length cells.new.items ≡ 4096 }
     {
+        grow(&mut self.values, MAX_PLACES, 0);
+        grow(&mut self.faults, MAX_PLACES, None);
         mem::swap(&mut self.values, cells);
         self.len = MAX_PLACES;
         self.form = Form::Values;
@@ -151,6 +154,8 @@ impl Column {
         ensures value { self.new ≡ map Value (cells_of cells.old) }
         ensures room { length cells.new.values.items ≡ 4096 }
     {
+        grow(&mut self.values, MAX_PLACES, 0);
+        grow(&mut self.faults, MAX_PLACES, None);
         self.len = MAX_PLACES;
         self.form = Form::Values;
         let runs = cells.counts.len().min(MAX_PLACES);
@@ -177,6 +182,8 @@ impl Column {
         requires { length outcomes.now ≤ 4096 }
         ensures { self.new ≡ outcomes.now }
     {
+        grow(&mut self.values, outcomes.len(), 0);
+        grow(&mut self.faults, outcomes.len(), None);
         copy_outcomes(&mut self.values, &mut self.faults, outcomes);
         self.len = outcomes.len();
         self.form = Form::Mixed;
@@ -198,6 +205,8 @@ impl Column {
                     if !copy_counts(&mut self.counts, counts) {
                         return false;
                     }
+                    grow(&mut self.values, MAX_PLACES, 0);
+                    grow(&mut self.faults, MAX_PLACES, None);
                     self.len = len;
                     self.runs = Some(counts.len());
                     return true;
@@ -225,6 +234,18 @@ impl Column {
     }
 }
 
+/// Makes a list at least so long, in the room that it has.
+pub(crate) fn grow<T: Copy>(list: &mut Vec<T>, len: usize, blank: T)
+    requires { len ≤ vec_capacity list.old }
+    ensures long { length list.new.items ≡ max len (length list.old.items) }
+    ensures kept { take (length list.old.items) list.new.items ≡ list.old.items }
+    ensures room { vec_capacity list.old ≤ vec_capacity list.new }
+{
+    if list.len() < len {
+        let _grown = list.resize(len, blank).is_ok();
+    }
+}
+
 /// Copies values to others.
 fn copy_heads(heads: &mut [i64], values: &[i64])
     requires { length values.now ≤ length heads.old }
@@ -245,11 +266,10 @@ fn copy_counts(all: &mut Vec<u32>, counts: &[u32]) -> bool
 
 /// Puts the values and the faults that stand for outcomes to the front of lists.
 fn copy_outcomes(values: &mut Vec<i64>, faults: &mut Vec<Option<PointFault>>, outcomes: &[Outcome])
-    requires few { length outcomes.now ≤ 4096 }
-    requires values { length values.old.items ≡ 4096 }
-    requires faults { length faults.old.items ≡ 4096 }
-    ensures values { length values.new.items ≡ 4096 }
-    ensures faults { length faults.new.items ≡ 4096 }
+    requires values { length outcomes.now ≤ length values.old.items }
+    requires faults { length outcomes.now ≤ length faults.old.items }
+    ensures values { IsAsRoomy values.old values.new }
+    ensures faults { IsAsRoomy faults.old faults.new }
     ensures outcomes { AreOutcomes (length outcomes.now) (outcome_at outcomes.now) values.new.items faults.new.items }
 {
     let numbers = values.as_mut_slice();
@@ -265,7 +285,7 @@ fn copy_outcomes(values: &mut Vec<i64>, faults: &mut Vec<Option<PointFault>>, ou
 fn copy_in(values: &mut Vec<i64>, cells: &[i64])
     requires { length cells.now ≤ length values.old.items }
     ensures front { take (length cells.now) values.new.items ≡ cells.now }
-    ensures places { length values.new.items ≡ length values.old.items }
+    ensures places { IsAsRoomy values.old values.new }
 {
     let all = values.as_mut_slice();
     for place in 0..cells.len() {

@@ -7,10 +7,12 @@ ghost use Rattle.wcps_text.specs.declared.operator.Aggregate.{Aggregate};
 ghost use Rattle.tile_kernel.specs.Columns.{outcome_at};
 ghost use Rattle.tile_kernel.specs.Repeated.{runs_shown};
 ghost use Rattle.tile_kernel.specs.Told.{Told, told_at, told_from, ComesTo};
+ghost use Rattle.tile_kernel.specs.Joins.{HoldsWith};
 ghost use Rattle.tile_kernel.specs.Condensing.{IsUnordered, StandsForBoth, ComesToBoth, EachIsTold};
 
-use crate::accumulator::{Accumulator, Placed, least_fault};
+use crate::accumulator::Accumulator;
 use crate::column::{Column, MAX_PLACES};
+use crate::first_fault::FirstFault;
 use crate::seen::{Runs, Seen};
 use crate::summary::Summary;
 use crate::view::View;
@@ -46,6 +48,15 @@ pub trait Condenser: Copy {
         ensures turned { StandsForBoth stands other self result }
         ensures counted { counted result ≡ counted self + counted other };
 
+    /// Adds one point.
+    fn add(&mut self, place: u64, o: Outcome)
+        requires { counted self.old < max_points }
+        ensures stands { HoldsWith (place, o) (stands self.old) (stands self.new) }
+        ensures counted { counted self.new ≤ counted self.old + 1 }
+    {
+        *self = self.merge(Self::one(place, o));
+    }
+
     /// The condenser's outcome.
     fn finish(self) -> Outcome
         ensures { (told : List Told) → stands self told → ComesTo op told result };
@@ -58,7 +69,7 @@ pub trait Condenser: Copy {
 #[derive(Clone, Copy)]
 pub struct Condensed<S> {
     summary: S,
-    first: Placed,
+    first: FirstFault,
 }
 
 impl<S: Summary> Condenser for Condensed<S> {
@@ -76,24 +87,21 @@ impl<S: Summary> Condenser for Condensed<S> {
     fn empty() -> Condensed<S> {
         Condensed {
             summary: S::none(),
-            first: Placed {
-                fault: None,
-                place: 0,
-            },
+            first: FirstFault::none(),
         }
     }
 
     fn one(place: u64, o: Outcome) -> Condensed<S> {
         match o {
             Outcome::Value(x) => {
-                let first = Placed { fault: None, place };
+                let first = FirstFault { fault: None, place };
                 return Condensed {
                     summary: S::of(x),
                     first,
                 };
             }
             Outcome::Fault(f) => {
-                let first = Placed {
+                let first = FirstFault {
                     fault: Some(f),
                     place,
                 };
@@ -108,7 +116,17 @@ impl<S: Summary> Condenser for Condensed<S> {
     fn merge(self, other: Condensed<S>) -> Condensed<S> {
         Condensed {
             summary: self.summary.with(other.summary),
-            first: least_fault(self.first, other.first),
+            first: self.first.least(other.first),
+        }
+    }
+
+    fn add(&mut self, place: u64, o: Outcome) {
+        match o {
+            Outcome::Value(x) => self.summary.add(x),
+            Outcome::Fault(f) => {
+                let fault = Some(f);
+                self.first = self.first.least(FirstFault { fault, place });
+            }
         }
     }
 

@@ -56,7 +56,7 @@ fn tell_number<C: Condenser, N: Numbers>(
     ensures length { length folds.new ≡ length folds.old }
 {
     match numbers.place_of(key) {
-        Some(k) => folds[k] = folds[k].merge(C::one(place, o)),
+        Some(k) => folds[k].add(place, o),
         None => (),
     }
 }

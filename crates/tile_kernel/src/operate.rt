@@ -3,10 +3,10 @@
 ghost use Rattle.std.specs.Prelude.{◌≡◌, ◌≤◌, length, IsTrue};
 ghost use Rattle.wcps_mean.specs.Cells.{exact2};
 ghost use Rattle.wcps_text.specs.declared.operator.BinaryOperator.TheVariants.{Multiply, Divide};
-ghost use Rattle.tile_kernel.specs.Columns.{operate_all, each2, each_with, AreValues, AreOutcomes};
+ghost use Rattle.tile_kernel.specs.Columns.{operate_all, each2, each_with, AreValues, AreOutcomes, IsAsRoomy};
 ghost use Rattle.tile_kernel.specs.Repeated.{shown};
 
-use crate::column::{Column, MAX_PLACES};
+use crate::column::{Column, MAX_PLACES, grow};
 use crate::form::Form;
 use crate::lanes::try_lanes;
 use crate::loops::try_places;
@@ -84,6 +84,8 @@ fn operate_views(op: BinaryOperator, left: &View<'_>, right: &View<'_>, out: &mu
     requires { length left.now ≡ length right.now }
     ensures { out.new ≡ operate_all op left.now right.now }
 {
+    grow(&mut out.values, left.len, 0);
+    grow(&mut out.faults, left.len, None);
     out.len = left.len;
     out.runs = None;
     if let Form::Same(l) = left.form {
@@ -103,9 +105,9 @@ fn operate_views(op: BinaryOperator, left: &View<'_>, right: &View<'_>, out: &mu
 /// Tries an operation where no operand has a fault; tells whether each result is its outcome.
 fn try_columns(op: BinaryOperator, left: &View<'_>, right: &View<'_>, out: &mut Vec<i64>) -> bool
     requires same { length left.now ≡ length right.now }
-    requires room { length out.old.items ≡ 4096 }
+    requires room { length left.now ≤ length out.old.items }
     ensures value { IsTrue result → AreValues (length left.now) (each2 op left.now right.now) out.new.items }
-    ensures room { length out.new.items ≡ 4096 }
+    ensures room { IsAsRoomy out.old out.new }
 {
     let cells = out.as_mut_slice();
     match left.form {
@@ -133,7 +135,7 @@ fn try_right<L: Operand>(
 ) -> bool
     requires left { len ≤ L.places left.now }
     requires right { len ≡ length right.now }
-    requires out { length out.old ≡ 4096 }
+    requires out { len ≤ length out.old }
     ensures { IsTrue result → AreValues len (each_with op (L.value left.now) right.now) out.new }
 {
     match right.form {
@@ -243,10 +245,10 @@ fn operate_each(
     faults: &mut Vec<Option<PointFault>>,
 )
     requires same { length left.now ≡ length right.now }
-    requires values { length values.old.items ≡ 4096 }
-    requires faults { length faults.old.items ≡ 4096 }
-    ensures values { length values.new.items ≡ 4096 }
-    ensures faults { length faults.new.items ≡ 4096 }
+    requires values { length left.now ≤ length values.old.items }
+    requires faults { length left.now ≤ length faults.old.items }
+    ensures values { IsAsRoomy values.old values.new }
+    ensures faults { IsAsRoomy faults.old faults.new }
     ensures outcomes { AreOutcomes (length left.now) (each2 op left.now right.now) values.new.items faults.new.items }
 {
     let numbers = values.as_mut_slice();

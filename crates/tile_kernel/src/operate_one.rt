@@ -2,10 +2,10 @@
 
 ghost use Rattle.std.specs.Prelude.{◌≡◌, pos, ◌≤◌, length, map, slice_index_or, IsTrue};
 ghost use Rattle.wcps_mean.specs.Cells.{exact1, operate1};
-ghost use Rattle.tile_kernel.specs.Columns.{each1, AreValues, AreOutcomes};
+ghost use Rattle.tile_kernel.specs.Columns.{each1, AreValues, AreOutcomes, IsAsRoomy};
 ghost use Rattle.tile_kernel.specs.Repeated.{runs_shown};
 
-use crate::column::{Column, MAX_PLACES};
+use crate::column::{Column, MAX_PLACES, grow};
 use crate::form::Form;
 use crate::loops::try_places;
 use crate::operand::{Each, Same};
@@ -51,6 +51,8 @@ fn operate_spread(op: UnaryOperator, operand: &Runs<'_>, out: &mut Column)
 fn operate_view(op: UnaryOperator, operand: &View<'_>, out: &mut Column)
     ensures { out.new ≡ map (operate1 op) operand.now }
 {
+    grow(&mut out.values, operand.len, 0);
+    grow(&mut out.faults, operand.len, None);
     out.len = operand.len;
     out.runs = None;
     if let Form::Same(o) = operand.form {
@@ -67,9 +69,9 @@ fn operate_view(op: UnaryOperator, operand: &View<'_>, out: &mut Column)
 
 /// Tries an operation where the operand has no fault; tells whether each result is its outcome.
 fn try_column(op: UnaryOperator, operand: &View<'_>, out: &mut Vec<i64>) -> bool
-    requires { length out.old.items ≡ 4096 }
+    requires { length operand.now ≤ length out.old.items }
     ensures value { IsTrue result → AreValues (length operand.now) (each1 op operand.now) out.new.items }
-    ensures room { length out.new.items ≡ 4096 }
+    ensures room { IsAsRoomy out.old out.new }
 {
     let cells = out.as_mut_slice();
     match operand.form {
@@ -109,10 +111,10 @@ fn operate_each_one(
     values: &mut Vec<i64>,
     faults: &mut Vec<Option<PointFault>>,
 )
-    requires values { length values.old.items ≡ 4096 }
-    requires faults { length faults.old.items ≡ 4096 }
-    ensures values { length values.new.items ≡ 4096 }
-    ensures faults { length faults.new.items ≡ 4096 }
+    requires values { length operand.now ≤ length values.old.items }
+    requires faults { length operand.now ≤ length faults.old.items }
+    ensures values { IsAsRoomy values.old values.new }
+    ensures faults { IsAsRoomy faults.old faults.new }
     ensures outcomes { AreOutcomes (length operand.now) (each1 op operand.now) values.new.items faults.new.items }
 {
     let numbers = values.as_mut_slice();

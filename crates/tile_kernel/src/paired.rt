@@ -17,8 +17,8 @@ fn same_over<'a>(view: &View<'a>, runs: &Runs<'a>) -> Option<View<'a>>
         Form::Same(_) => Some(View {
             len: runs.counts.len(),
             form: view.form,
-            values: view.values,
-            faults: view.faults,
+            values: runs.values,
+            faults: runs.faults,
         }),
         _ => None,
     }

@@ -1,7 +1,7 @@
 //! What a condenser keeps of a column's values.
 
 ghost use Rattle.std.specs.Prelude.{◌≡◌, ◌+◌, ◌*◌, ◌≤◌, ◌^◌, ℤ, pos, neg_ℤ, ◌+ℤ◌, ◌≤ℤ◌, List, ◌++◌, ◌∷◌, []};
-ghost use Rattle.std.specs.Prelude.{length, replicate, None, cond, nat_lt};
+ghost use Rattle.std.specs.Prelude.{◌<◌, length, replicate, None, IfSome, cond, nat_lt};
 ghost use Rattle.wcps_mean.specs.Cells.{is_true};
 ghost use Rattle.wcps_mean.specs.Condensers.{total, trues, larger, smaller};
 ghost use Rattle.wcps_mean.specs.Best.{greatest_of, least_of};
@@ -90,8 +90,62 @@ fn raised(x: i64) -> u64
     x.cast_unsigned().wrapping_add(1 << 63)
 }
 
-/// The exact sum of so many values: the low and the high halves of the raised values are summed apart.
+/// The exact sum of so many values, in one loop of sums where all of them lie near 0.
 fn sum_over<V: Operand, C: Choice>(len: usize, values: &V, choice: &C, count: u64) -> i128
+    requires few { taken_in (C.times choice.now) len ≤ 4096 }
+    requires values { len ≤ V.places values.now }
+    requires choice { len ≤ C.places choice.now }
+    requires count { count ≡ length (selected (C.times choice.now) (V.value values.now) len) }
+    ensures value { result ≡ total (selected (C.times choice.now) (V.value values.now) len) }
+    ensures from_below { neg_ℤ (pos (count * 2 ^ 63)) ≤ℤ result }
+    ensures from_above { (result +ℤ pos count) ≤ℤ pos (count * 2 ^ 63) }
+{
+    match near_sum_over(len, values, choice, count) {
+        Some(sum) => sum,
+        None => far_sum_over(len, values, choice, count),
+    }
+}
+
+/// How far a value that lies near 0 is from it at most.
+const NEAR: u64 = 1_099_511_627_776;
+
+/// A value raised by 2^40, which is below 2^41 where the value lies near 0.
+fn lifted(x: i64) -> u64
+    ensures { result < 2 ^ 41 → pos result ≡ x +ℤ pos (2 ^ 40) }
+{
+    x.cast_unsigned().wrapping_add(NEAR)
+}
+
+/// The sum of so many values, if all values that stand there lie near 0.
+fn near_sum_over<V: Operand, C: Choice>(
+    len: usize,
+    values: &V,
+    choice: &C,
+    count: u64,
+) -> Option<i128>
+    requires few { taken_in (C.times choice.now) len ≤ 4096 }
+    requires values { len ≤ V.places values.now }
+    requires choice { len ≤ C.places choice.now }
+    requires count { count ≡ length (selected (C.times choice.now) (V.value values.now) len) }
+    ensures value { IfSome result (λ s. s ≡ total (selected (C.times choice.now) (V.value values.now) len)) }
+    ensures from_below { IfSome result (λ s. neg_ℤ (pos (count * 2 ^ 40)) ≤ℤ s) }
+    ensures from_above { IfSome result (λ s. s ≤ℤ pos (count * 2 ^ 40)) }
+{
+    let mut sum: u64 = 0;
+    let mut marks: u64 = 0;
+    for place in 0..len {
+        let bits = lifted(values.value(place));
+        sum = sum.wrapping_add(choice.times(place).wrapping_mul(bits));
+        marks |= bits;
+    }
+    if marks >= 2 * NEAR {
+        return None;
+    }
+    Some(sum as i128 - count as i128 * NEAR as i128)
+}
+
+/// The sum of so many values of any size: the low and the high halves of the raised values are summed apart.
+fn far_sum_over<V: Operand, C: Choice>(len: usize, values: &V, choice: &C, count: u64) -> i128
     requires few { taken_in (C.times choice.now) len ≤ 4096 }
     requires values { len ≤ V.places values.now }
     requires choice { len ≤ C.places choice.now }

@@ -15,7 +15,7 @@ pub(crate) struct Runs<'a> {
     ghost total: { sum counts.now ≡ len },
     ghost few: { len ≤ 4096 },
     ghost values_room: { length values.now ≡ 4096 },
-    ghost faults_room: { length faults.now ≡ 4096 },
+    ghost faults_room: { 4096 ≤ length faults.now },
     ghost counted: { length counts.now ≤ 4096 },
 }
 

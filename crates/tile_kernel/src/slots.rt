@@ -1,7 +1,11 @@
-//! Different numbers of a short range, each at a place of its own.
+//! Different numbers, each at a place of its own.
 
-ghost use Rattle.std.specs.Prelude.{◌≡◌, ℕ, ◌+◌, ◌-◌, ◌<◌, ◌≤◌, ◌^◌, ◌+ℤ◌, pos, [], length, slice_set, IfOk, OnOk, IfSome, IfNone};
+ghost use Rattle.std.specs.Prelude.{◌≡◌, ◌↔◌, ℕ, ℤ, ◌+◌, ◌-◌, ◌<◌, ◌≤◌, ◌≤ℤ◌, ◌+ℤ◌, pos, [], Contains, length, IfOk, IfSome, IfNone};
+ghost use Rattle.std.specs.Ordering.{int_cmp};
+ghost use Rattle.std.specs.List.Sorted.{IsStrictlySortedBy};
+ghost use Rattle.wcps_mean.specs.Condensers.{values};
 ghost use Rattle.tile_kernel.specs.Repeated.{runs_shown};
+ghost use Rattle.tile_kernel.specs.Keyed.{AreValuesOf, LieFrom, IsPlaceOf, IsTable};
 
 use crate::column::{Column, MAX_PLACES};
 use crate::keyed::Numbers;
@@ -11,10 +15,11 @@ use std::alloc::{AllocError, Global};
 use std::marker::Model;
 use wcps_mean::Outcome;
 
-/// How long a range is at most.
+/// How many numbers a table has at most.
 const MAX_SPAN: usize = 65_536;
 
-/// Numbers, and for each number from `low` on one more than its place, or 0.
+/// Rising numbers. Where they lie near each other they have a table: for each number from `low` on one more than its
+/// place, or 0. Where they lie far apart the table is empty, and a number is looked for among them.
 #[derive(Drop)]
 pub struct Slots {
     low: i64,
@@ -35,7 +40,7 @@ impl Model for Slots {
 }
 
 impl Slots {
-    /// No number yet, with room for those from `low` on, `span` of them.
+    /// No number, with a table of those from `low` on, `span` of them.
     pub fn new(alloc: Global, low: i64, span: usize) -> Result<Slots, AllocError>
         ensures { IfOk result (λ s. s ≡ []) }
     {
@@ -46,9 +51,10 @@ impl Slots {
         })
     }
 
-    /// Values of a column, each once: those that lie within a short range, from the least of them on.
+    /// The values of a column, each once.
     pub fn of(alloc: Global, column: &Column) -> Result<Slots, AllocError>
-        ensures { IfOk result (λ s. length s ≤ length column.now) }
+        ensures all { IfOk result (AreValuesOf column.now) }
+        ensures few { IfOk result (λ s. length s ≤ length column.now) }
     {
         match column.seen() {
             Seen::Each(view) => Slots::of_view(alloc, &view),
@@ -59,7 +65,8 @@ impl Slots {
     /// The same of outcomes that are kept as runs.
     #[inline(never)]
     fn of_runs(alloc: Global, column: &Runs<'_>) -> Result<Slots, AllocError>
-        ensures { IfOk result (λ s. length s ≤ length (runs_shown column.now)) }
+        ensures all { IfOk result (AreValuesOf (runs_shown column.now)) }
+        ensures few { IfOk result (λ s. length s ≤ length (runs_shown column.now)) }
     {
         let mut room = [0i64; MAX_PLACES];
         Slots::of_view(alloc, &column.spread(&mut room))
@@ -67,91 +74,113 @@ impl Slots {
 
     /// The same of outcomes at each place.
     fn of_view(alloc: Global, column: &View<'_>) -> Result<Slots, AllocError>
-        ensures { IfOk result (λ s. length s ≤ length column.now) }
+        ensures all { IfOk result (AreValuesOf column.now) }
+        ensures few { IfOk result (λ s. length s ≤ length column.now) }
     {
-        let (low, high) = bounds(column);
-        let mut slots = Slots::new(alloc, low, span(low, high))?;
-        slots.add_values(column)?;
-        Ok(slots)
+        let _few = column.len();
+        let mut numbers = values_of(alloc, column)?;
+        make_rising(&mut numbers);
+        Slots::of_rising(alloc, numbers)
     }
 
-    /// Puts the values of a column behind the numbers, those that lie in the range, each once.
-    fn add_values(&mut self, column: &View<'_>) -> Result<(), AllocError>
-        requires { length self.old < 2 ^ 16 }
-        ensures { OnOk result (length self.new ≤ length self.old + length column.now) }
+    /// Rising numbers, with a table where they lie near each other.
+    fn of_rising(alloc: Global, numbers: Vec<i64>) -> Result<Slots, AllocError>
+        requires rising { IsStrictlySortedBy int_cmp numbers.items }
+        requires few { length numbers.items ≤ 4096 }
+        ensures { IfOk result (λ s. s ≡ numbers.items) }
     {
-        for place in 0..column.len() {
-            self.add_value(column.at(place))?;
-        }
-        Ok(())
-    }
-
-    /// Puts a value behind the numbers, where it lies in the range and is none of them.
-    fn add_value(&mut self, o: Outcome) -> Result<(), AllocError>
-        requires { length self.old < 2 ^ 32 - 1 }
-        ensures { OnOk result (length self.new ≤ length self.old + 1) }
-    {
-        match o {
-            Outcome::Value(z) => self.add(z),
-            Outcome::Fault(_) => Ok(()),
-        }
-    }
-
-    /// Puts a number behind the others, where it lies in the range and is none of them.
-    fn add(&mut self, z: i64) -> Result<(), AllocError>
-        requires { length self.old < 2 ^ 32 - 1 }
-        ensures { OnOk result (length self.new ≤ length self.old + 1) }
-    {
-        match above(self.low, z, self.table.len()) {
-            None => Ok(()),
-            Some(i) => {
-                if self.table[i] != 0 {
-                    return Ok(());
-                }
-                self.numbers.push(z)?;
-                put(&mut self.table, i, self.numbers.len() as u32);
-                Ok(())
-            }
+        match range(&numbers) {
+            None => Ok(Slots {
+                low: 0,
+                table: Vec::new(alloc),
+                numbers,
+            }),
+            Some((low, span)) => Ok(Slots {
+                low,
+                table: table_of(alloc, low, span, &numbers)?,
+                numbers,
+            }),
         }
     }
 }
 
-/// Makes an item of a list another one.
-fn put(list: &mut Vec<u32>, i: usize, x: u32)
-    requires { i < length list.old.items }
-    ensures { list.new.items ≡ slice_set list.old.items i x }
+/// The values of a column, as often as it has them.
+fn values_of(alloc: Global, column: &View<'_>) -> Result<Vec<i64>, AllocError>
+    ensures values { IfOk result (λ v. v.items ≡ values column.now) }
+    ensures few { IfOk result (λ v. length v.items ≤ length column.now) }
 {
-    list[i] = x;
-}
-
-/// The least and the greatest value of a column; where it has none, the second is below the first.
-fn bounds(column: &View<'_>) -> (i64, i64) {
-    let mut low = i64::MAX;
-    let mut high = i64::MIN;
+    let mut numbers = Vec::with_capacity(alloc, column.len())?;
     for place in 0..column.len() {
         match column.at(place) {
-            Outcome::Value(z) => {
-                low = low.min(z);
-                high = high.max(z);
-            }
+            Outcome::Value(z) => numbers.push(z)?,
             Outcome::Fault(_) => (),
         }
     }
-    (low, high)
+    Ok(numbers)
 }
 
-/// How many numbers a table from a number to another one has, as many as are allowed.
-fn span(low: i64, high: i64) -> usize
-    ensures { result ≤ 65536 }
+/// Makes numbers rise, each of them once.
+fn make_rising(numbers: &mut Vec<i64>)
+    ensures rising { IsStrictlySortedBy int_cmp numbers.new.items }
+    ensures same { (z : ℤ) → Contains numbers.old.items z ↔ Contains numbers.new.items z }
+    ensures few { length numbers.new.items ≤ length numbers.old.items }
 {
-    let span = high as i128 - low as i128 + 1;
-    if span < 0 {
-        return 0;
+    numbers.sort_unstable();
+    numbers.dedup();
+}
+
+/// The first of rising numbers, and how many there are from it on to the last one, if these are few enough for a table.
+fn range(numbers: &[i64]) -> Option<(i64, usize)>
+    requires { IsStrictlySortedBy int_cmp numbers.now }
+    ensures near { IfSome result (λ r. LieFrom r.0 r.1 numbers.now) }
+    ensures few { IfSome result (λ r. r.1 ≤ 65536) }
+    ensures far { IfNone result ((low : ℤ) → LieFrom low 65536 numbers.now → length numbers.now ≡ 0) }
+{
+    if numbers.is_empty() {
+        return None;
     }
-    if span > 65_536 {
-        return MAX_SPAN;
+    let low = numbers[0];
+    let last = steps(low, numbers[numbers.len() - 1]);
+    if last >= MAX_SPAN {
+        return None;
     }
-    span as usize
+    Some((low, last + 1))
+}
+
+/// How far a number is above another one.
+fn steps(low: i64, z: i64) -> usize
+    requires { low ≤ℤ z }
+    ensures { z ≡ low +ℤ pos result }
+{
+    (z as i128 - low as i128) as usize
+}
+
+/// For each of `span` numbers from `low` on one more than its place among rising ones, or 0.
+fn table_of(alloc: Global, low: i64, span: usize, numbers: &[i64]) -> Result<Vec<u32>, AllocError>
+    requires rising { IsStrictlySortedBy int_cmp numbers.now }
+    requires near { LieFrom low span numbers.now }
+    requires few { length numbers.now ≤ 4096 }
+    ensures { IfOk result (λ table. IsTable low table.items numbers.now) }
+{
+    let mut table = vec![in alloc; 0u32; span]?;
+    for k in 0..numbers.len() {
+        let i = steps(low, numbers[k]);
+        table[i] = k as u32 + 1;
+    }
+    Ok(table)
+}
+
+/// The place of a number among rising ones, if it is one of them.
+#[inline(never)]
+fn searched(numbers: &[i64], z: i64) -> Option<usize>
+    requires { IsStrictlySortedBy int_cmp numbers.now }
+    ensures within { IfSome result (λ k. k < length numbers.now) }
+    ensures place { IsPlaceOf z numbers.now result }
+{
+    match numbers.binary_search(&z) {
+        Ok(k) => Some(k),
+        Err(_) => None,
+    }
 }
 
 /// How far a number is above the lowest one, if it is within the range.
@@ -174,6 +203,9 @@ impl Numbers for Slots {
     }
 
     fn place_of(&self, z: i64) -> Option<usize> {
+        if self.table.is_empty() {
+            return searched(&self.numbers, z);
+        }
         match above(self.low, z, self.table.len()) {
             None => None,
             Some(i) => {

@@ -106,6 +106,11 @@ impl Summary for Total {
         }
     }
 
+    fn add(&mut self, x: i64) {
+        self.count += 1;
+        self.sum += x as i128;
+    }
+
     fn running(self, count: u32, fault: Option<PointFault>) -> Running {
         let mut running = Running::new(Aggregate::Sum);
         running.count = count;
@@ -142,6 +147,10 @@ impl Summary for Mean {
         Mean {
             total: self.total.with(other.total),
         }
+    }
+
+    fn add(&mut self, x: i64) {
+        self.total.add(x);
     }
 
     fn running(self, count: u32, fault: Option<PointFault>) -> Running {

@@ -1,10 +1,10 @@
 //! What a condenser keeps of values.
 
-ghost use Rattle.std.specs.Prelude.{◌≡◌, ◌+◌, ◌≤◌, ℕ, ℤ, List, [], ◌∷◌};
+ghost use Rattle.std.specs.Prelude.{◌≡◌, ◌+◌, ◌<◌, ◌≤◌, ℕ, ℤ, List, [], ◌∷◌};
 ghost use Rattle.arr_core.specs.Limits.{max_points};
 ghost use Rattle.wcps_text.specs.declared.operator.Aggregate.{Aggregate};
 ghost use Rattle.wcps_mean.specs.Feeding.{Keeps};
-ghost use Rattle.tile_kernel.specs.Joins.{HoldsOfBoth};
+ghost use Rattle.tile_kernel.specs.Joins.{HoldsOfBoth, HoldsWith};
 ghost use Rattle.tile_kernel.specs.Condensing.{CombinesTo};
 
 use wcps_mean::{Outcome, PointFault, Running};
@@ -35,6 +35,15 @@ pub trait Summary: Copy {
         requires { counted self + counted other ≤ max_points }
         ensures keeps { HoldsOfBoth (keeps self) (keeps other) (keeps result) }
         ensures counted { counted result ≡ counted self + counted other };
+
+    /// Adds one value.
+    fn add(&mut self, x: i64)
+        requires { counted self.old < max_points }
+        ensures keeps { HoldsWith x (keeps self.old) (keeps self.new) }
+        ensures counted { counted self.new ≤ counted self.old + 1 }
+    {
+        *self = self.with(Self::of(x));
+    }
 
     /// A running condenser that keeps them, of so many points and with the first fault, if there is one.
     fn running(self, count: u32, fault: Option<PointFault>) -> Running

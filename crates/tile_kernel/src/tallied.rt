@@ -66,6 +66,11 @@ impl<S: Summary> Condenser for Tallied<S> {
         }
     }
 
+    fn add(&mut self, place: u64, o: Outcome) {
+        self.count += 1;
+        self.condensed.add(place, o);
+    }
+
     fn finish(self) -> Outcome {
         self.condensed.finish()
     }

@@ -1,7 +1,7 @@
 use Rattle.std.proofs.Common.{◌≡◌, ◌+◌, ◌*◌, ◌^◌, ◌≤◌, length, pos, ◌+ℤ◌}
 use Rattle.wcps_mean.specs.Condensers.{total}
 use Rattle.tile_kernel.specs.Selected.{selected}
-use Rattle.tile_kernel.proofs.reduce.sum_over.Given as goal
+use Rattle.tile_kernel.proofs.reduce.far_sum_over.Given as goal
 
 abbrev pub invariant-loop-place : goal.invariant-loop-place
 invariant-loop-place g l = record {

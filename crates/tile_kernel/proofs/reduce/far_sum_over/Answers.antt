@@ -5,7 +5,7 @@ use Rattle.std.proofs.lemmas.Int.{to_z-of_z}
 use Rattle.wcps_mean.specs.Condensers.{total}
 use Rattle.tile_kernel.specs.Selected.{selected}
 use Rattle.tile_kernel.proofs.Reductions.{sum_next, half_next, selected_before}
-use Rattle.tile_kernel.proofs.reduce.sum_over.Goals as goal
+use Rattle.tile_kernel.proofs.reduce.far_sum_over.Goals as goal
 
 pub overflow_mul-low : goal.overflow_mul-low
 overflow_mul-low g c =
