@@ -1,5 +1,5 @@
 -- The cells of halos.
-use Rattle.std.proofs.Common.{◌≡◌, ℕ, zero, suc, ◌+◌, ◌-◌, ◌*◌, ◌≤◌, ◌<◌, ℤ, pos, ◌+ℤ◌, ◌≤ℤ◌, List, [], ◌∷◌, ◌++◌, map, take, append_assoc, length, get_or, refl, ap, sym, ◌∙◌, subst, arith}
+use Rattle.std.proofs.Common.{◌≡◌, ℕ, zero, suc, ◌+◌, ◌-◌, ◌*◌, ◌≤◌, ◌<◌, ℤ, pos, ◌+ℤ◌, ◌≤ℤ◌, List, [], ◌∷◌, ◌++◌, map, take, append_assoc, length, get_or, ap, sym, ◌∙◌, subst, arith}
 use Rattle.std.specs.Prelude.{slice_get, IsSomeAnd}
 use Rattle.std.specs.List.{All}
 use Rattle.std.proofs.lemmas.Int.{ints}
@@ -22,7 +22,7 @@ use Rattle.std.proofs.Math.Nat.{mul-le-mul_right, div-mul-le_self}
 use Rattle.tile_columns.specs.declared.reach.Extents.{Extents}
 use Rattle.tile_columns.specs.declared.windows.Window.{Window}
 use Rattle.tile_columns.specs.Sources.{IsRead}
-use Rattle.tile_columns.specs.Reaching.{between, cross, extent, HasExtents}
+use Rattle.tile_columns.specs.Reaching.{between, cross, extent, HasExtents, Encloses}
 use Rattle.tile_columns.specs.Reaching.{IsReach}
 use Rattle.tile_columns.specs.Windows.{Covers, AreRowsOf, value_of}
 use Rattle.tile_columns.proofs.Boxes.{points_inside}
@@ -51,6 +51,20 @@ place_within w (s ∷ l) zero h = omega arith
 place_within w (s ∷ l) (suc n) h = let r = place_within w l n h in omega (arith, r)
 
 -- ---- rows
+
+-- rows of the halo lie in the coverage's domain
+pub rows_enclosed : (w : Window) (c : Signature) (rows : Interval) → Covers w c → AreRowsOf w rows → Encloses c.domain (record { rows = rows; columns = w.columns.halo })
+rows_enclosed w c rows v r =
+    let halo = v.rows in
+    let these = r.within in
+    record {
+      whole = v.extents;
+      are = v.axes;
+      row_part = (omega (arith, ints, halo.0, these.0), omega (arith, ints, halo.1, these.1));
+      column_part = v.columns;
+      rows = r.ordered;
+      columns = r.columns;
+    }
 
 inside_two : (f s a b : Axis) (e : List ℤ) → a.lo ≤ℤ f.lo → f.hi ≤ℤ a.hi → b.lo ≤ℤ s.lo → s.hi ≤ℤ b.hi → IsInside (f ∷ s ∷ []) e → IsInside (a ∷ b ∷ []) (numbers_at e (Var 0 ∷ Var 1 ∷ []))
 inside_two f s a b [] p q r t h = absurd h

@@ -19,9 +19,12 @@ pub mod Fetching
 pub mod Behind
 pub mod BlankFolds
 pub mod ZoneFolds
+pub mod ZoneKeys
 pub mod FoldPlaces
 pub mod Lying
 pub mod Reaches
+pub mod Narrowing
 pub mod Grid
 pub mod WindowMeaning
+pub mod WindowEdges
 pub mod Halos

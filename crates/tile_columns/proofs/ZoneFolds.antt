@@ -143,14 +143,14 @@ told_joined box (Within shape) g e vars xs =
     ∙ always_told (map (rank_of box) xs) (λ v. joined shape (g v) (e v)) frame
     ∙ told_chosen box (λ v. Value (pos 1)) (λ v. joined shape (g v) (e v)) vars xs
 
-is_t : {b : Bool} → b ≡ true → T b
+pub is_t : {b : Bool} → b ≡ true → T b
 is_t e = subst T (sym e) tt
 
--- what a point adds at a place is told by the place's key and by what the bodies give under the variables of another place
-zone_point : (s : ℕ → ℕ → List ℤ → ℤ) (regs : List Outcome) (dom : List Axis) (role : Role) (condition body own key : Tree) (first : Bool) (depth : ℕ) (one vars x : List ℤ) → IsZoned depth role condition body own key first → length one ≡ depth → length vars ≡ depth
-    → told_ranked dom (λ v. condition_of role (compared first (run s regs key vars) (run s regs own v))) (λ v. value_of role (compared first (run s regs key vars) (run s regs own v)) (run s regs (other_in role body) v)) one x
-    ≡ told_ranked dom (run s regs condition) (run s regs body) vars x
-zone_point s regs dom role condition body own key first depth one vars x z e f =
+-- what the condition and the body give at a point of a place is told by the place's key and by what their bodies give under the variables of another place
+pub zone_parts : (s : ℕ → ℕ → List ℤ → ℤ) (regs : List Outcome) (role : Role) (condition body own key : Tree) (first : Bool) (depth : ℕ) (one vars x : List ℤ) → IsZoned depth role condition body own key first → length one ≡ depth → length vars ≡ depth
+    → (condition_of role (compared first (run s regs key vars) (run s regs own (one ++ x))) ≡ run s regs condition (vars ++ x))
+    × (value_of role (compared first (run s regs key vars) (run s regs own (one ++ x))) (run s regs (other_in role body) (one ++ x)) ≡ run s regs body (vars ++ x))
+zone_parts s regs role condition body own key first depth one vars x z e f =
     let equation = equation_in role condition body in
     let other = other_in role body in
     let k : run s regs key (vars ++ x) ≡ run s regs key vars = below-means key s regs vars x (subst (λ n. T (is_below n key)) (sym f) (is_t z.sides.key_below)) in
@@ -158,14 +158,20 @@ zone_point s regs dom role condition body own key first depth one vars x z e f =
     let r : run s regs other (one ++ x) ≡ run s regs other (vars ++ x) = from-same other s regs depth one vars x (is_t z.other_from) e f in
     let q : compared first (run s regs key vars) (run s regs own (one ++ x)) ≡ run s regs equation (vars ++ x) =
     ap (compared first (run s regs key vars)) o ∙ ap (λ q. compared first q (run s regs own (vars ++ x))) (sym k)
-    ∙ sym (compared_run s regs own key first (vars ++ x)) ∙ ap (λ t. run s regs t (vars ++ x)) (sym z.sides.is) in
-    let c : condition_of role (compared first (run s regs key vars) (run s regs own (one ++ x))) ≡ run s regs condition (vars ++ x) =
-    ap (condition_of role) q ∙ sym (condition_run s regs role equation (vars ++ x)) ∙ ap (λ t. run s regs t (vars ++ x)) (sym z.condition_is) in
-    let b : value_of role (compared first (run s regs key vars) (run s regs own (one ++ x))) (run s regs other (one ++ x)) ≡ run s regs body (vars ++ x) =
-    ap (λ q. value_of role q (run s regs other (one ++ x))) q ∙ ap (value_of role (run s regs equation (vars ++ x))) r
-    ∙ sym (value_run s regs role equation other (vars ++ x)) ∙ ap (λ t. run s regs t (vars ++ x)) (sym z.body_is) in
-    ap (λ q. demanded_of (rank_of dom x) q (value_of role (compared first (run s regs key vars) (run s regs own (one ++ x))) (run s regs other (one ++ x)))) c
-    ∙ ap (demanded_of (rank_of dom x) (run s regs condition (vars ++ x))) b
+    ∙ sym (compared_run s regs own key first (vars ++ x)) ∙ ap (λ t. run s regs t (vars ++ x)) (sym z.sides.is) in (
+      ap (condition_of role) q ∙ sym (condition_run s regs role equation (vars ++ x)) ∙ ap (λ t. run s regs t (vars ++ x)) (sym z.condition_is),
+      ap (λ q. value_of role q (run s regs other (one ++ x))) q ∙ ap (value_of role (run s regs equation (vars ++ x))) r
+          ∙ sym (value_run s regs role equation other (vars ++ x)) ∙ ap (λ t. run s regs t (vars ++ x)) (sym z.body_is),
+    )
+
+-- and so is what the point adds there
+zone_point : (s : ℕ → ℕ → List ℤ → ℤ) (regs : List Outcome) (dom : List Axis) (role : Role) (condition body own key : Tree) (first : Bool) (depth : ℕ) (one vars x : List ℤ) → IsZoned depth role condition body own key first → length one ≡ depth → length vars ≡ depth
+    → told_ranked dom (λ v. condition_of role (compared first (run s regs key vars) (run s regs own v))) (λ v. value_of role (compared first (run s regs key vars) (run s regs own v)) (run s regs (other_in role body) v)) one x
+    ≡ told_ranked dom (run s regs condition) (run s regs body) vars x
+zone_point s regs dom role condition body own key first depth one vars x z e f =
+    let p = zone_parts s regs role condition body own key first depth one vars x z e f in
+    ap (λ q. demanded_of (rank_of dom x) q (value_of role (compared first (run s regs key vars) (run s regs own (one ++ x))) (run s regs (other_in role body) (one ++ x)))) p.0
+    ∙ ap (demanded_of (rank_of dom x) (run s regs condition (vars ++ x))) p.1
 
 -- what the columns of a part tell of a place's key is what the points of the part tell at the place
 pub zone_told : (s : ℕ → ℕ → List ℤ → ℤ) (regs : List Outcome) (dom : List Axis) (role : Role) (condition body own key : Tree) (first : Bool) (envs xs inner : List (List ℤ)) (keys zone column : List Outcome) (ranks : List ℕ) (before after : List Accumulator)
@@ -214,13 +220,13 @@ pub own_place : {cs : ℕ → Option Signature} {n : ℕ} (role : Role) (conditi
 own_place {cs} {n} role condition body own key first depth envs z h e =
     side_place own key first envs (subst (λ t. HasPlace cs n t envs) z.sides.is (equation_place role condition body own key first depth envs z h e))
 
-equation_placed : (cs : ℕ → Option Signature) (n : ℕ) (scope : List Interval) (role : Role) (condition body own key : Tree) (first : Bool) (depth : ℕ) → IsZoned depth role condition body own key first → IsPlaced cs n scope condition → IsPlaced cs n scope body → IsPlaced cs n scope (equation_in role condition body)
+pub equation_placed : (cs : ℕ → Option Signature) (n : ℕ) (scope : List Interval) (role : Role) (condition body own key : Tree) (first : Bool) (depth : ℕ) → IsZoned depth role condition body own key first → IsPlaced cs n scope condition → IsPlaced cs n scope body → IsPlaced cs n scope (equation_in role condition body)
 equation_placed cs n scope Condition condition body own key first depth z h e = h
 equation_placed cs n scope (Within Alone) condition body own key first depth z h e = e
 equation_placed cs n scope (Within (First op)) condition body own key first depth z h e = let p : IsPlaced cs n scope (operand true body) × IsPlaced cs n scope (operand false body) = subst (λ b. IsPlaced cs n scope b) z.body_is e in p.0
 equation_placed cs n scope (Within (Second op)) condition body own key first depth z h e = let p : IsPlaced cs n scope (operand true body) × IsPlaced cs n scope (operand false body) = subst (λ b. IsPlaced cs n scope b) z.body_is e in p.1
 
-key_placed : (cs : ℕ → Option Signature) (n : ℕ) (scope : List Interval) (own key : Tree) (first : Bool) → IsPlaced cs n scope (equality first own key) → IsPlaced cs n scope key
+pub key_placed : (cs : ℕ → Option Signature) (n : ℕ) (scope : List Interval) (own key : Tree) (first : Bool) → IsPlaced cs n scope (equality first own key) → IsPlaced cs n scope key
 key_placed cs n scope own key true p = p.0
 key_placed cs n scope own key false p = p.1
 
@@ -250,12 +256,12 @@ times_least a b e le =
     let m = ap (λ n. bound_times n e) s ∙ times_both a (b - a) e in
     omega (arith, m)
 
-sides_bound : (n : ℕ) (condition own key : Tree) (first : Bool) → condition ≡ equality first own key → bound_times n condition ≡ bound_times n own + bound_times n key
+pub sides_bound : (n : ℕ) (condition own key : Tree) (first : Bool) → condition ≡ equality first own key → bound_times n condition ≡ bound_times n own + bound_times n key
 sides_bound n condition own key true e = let m : bound_times n condition ≡ bound_times n key + bound_times n own = ap (bound_times n) e in omega (arith, m)
 sides_bound n condition own key false e = ap (bound_times n) e
 
 -- the equation and the other body ask for no more than the condition and the body
-zoned_bound : (n : ℕ) (role : Role) (condition body own key : Tree) (first : Bool) (depth : ℕ) → IsZoned depth role condition body own key first
+pub zoned_bound : (n : ℕ) (role : Role) (condition body own key : Tree) (first : Bool) (depth : ℕ) → IsZoned depth role condition body own key first
     → bound_times n (equation_in role condition body) + bound_times n (other_in role body) ≤ bound_times n condition + bound_times n body
 zoned_bound n Condition condition body own key first depth z = omega arith
 zoned_bound n (Within Alone) condition body own key first depth z = omega arith

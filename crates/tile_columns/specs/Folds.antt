@@ -1,5 +1,5 @@
 -- Folds at the places of a frame, over a source of tiles.
-use Rattle.std.specs.Prelude.{◌≡◌, ℕ, ◌+◌, ◌*◌, ◌++◌, ℤ, List, [], map, length, slice_index_or, Bool, Result}
+use Rattle.std.specs.Prelude.{◌≡◌, ℕ, ◌+◌, ◌*◌, ◌++◌, ℤ, List, [], map, length, slice_index_or, Result}
 use Rattle.std.specs.List.{flat_map}
 use Rattle.arr_core.specs.Domains.{points, count}
 use Rattle.wcps_mean.specs.declared.cell.Outcome.{Outcome}
@@ -9,20 +9,17 @@ use Rattle.tile_kernel.specs.declared.accumulator.Accumulator.{Accumulator}
 use Rattle.tile_kernel.specs.Told.{Told, demanded_of, demanded_at}
 use Rattle.tile_kernel.specs.Standing.{Stands, AreOf, HaveAtMost, EachTakesIn}
 use Rattle.tile_columns.specs.declared.part.Part.{Part}
-use Rattle.plan_ir.specs.declared.body.Body.{Body}
 use Rattle.plan_ir.specs.declared.body.Fold.{Fold}
 use Rattle.tile_columns.specs.declared.ground.Ground.{Ground}
 use Rattle.tile_columns.specs.declared.bodies.Point.{Point}
 use Rattle.tile_columns.specs.declared.bodies.Around.{Around}
 use Rattle.tile_columns.specs.declared.bodies.Zoning.{Zoning}
 use Rattle.tile_columns.specs.declared.bodies.Zoned.{Zoned}
-use Rattle.tile_columns.specs.declared.shapes.Shape.{Shape}
-use Rattle.tile_columns.specs.declared.shapes.ShapeSide.{ShapeSide}
 use Rattle.tile_columns.specs.Condensing.{told_of, under_vars, told_ranked}
 use Rattle.tile_columns.specs.declared.source.Tiles.{Ghosts}
 use Rattle.tile_columns.specs.Sources.{SourceState, FetchesAtMost}
 use Rattle.tile_columns.specs.Meaning.{IsGroundOf, meaning, HasPlaceOver, IsColumnOf, Fetches}
-use Rattle.tile_columns.specs.Zones.{side, key_of, own_of, other_of, inner, beside}
+use Rattle.tile_columns.specs.Zones.{key_of, own_of, other_of}
 
 -- a fold has its place over a source under the variables of a frame
 pub record FoldHasPlace {K : Type 0} (s : SourceState K) (g : Ground) (f : Fold) (envs : List (List ℤ)) : Type 0 where
@@ -101,25 +98,13 @@ FetchesPart f p a t old new = FetchesPoints f (length a.frame.now * count p.area
 abbrev pub FetchesFold : {S : Type 0} → Fold → List (List ℤ) → Ghosts S → S → S → Type 0
 FetchesFold f envs t old new = FetchesPoints f (length envs * count f.domain) t old new
 
--- a column has what a side of the equation of a fold of zones gives at the places of a frame, or its other body
-abbrev pub IsColumnOfSide : {K : Type 0} → SourceState K → Zoning → Bool → Fold → List (List ℤ) → List Outcome → Type 0
-IsColumnOfSide s z left f envs column = IsColumnOf s z.ground.now (side z.zones left f) envs column
-
+-- a column has what the other body of a fold of zones gives at the places of a frame, and no more tiles are fetched than
+-- that asks for there
 abbrev pub IsColumnOfOther : {K : Type 0} → SourceState K → Zoning → Fold → List (List ℤ) → List Outcome → Type 0
 IsColumnOfOther s z f envs column = IsColumnOf s z.ground.now (other_of f z.zones) envs column
 
--- and no more tiles are fetched than these ask for there
-abbrev pub FetchesSide : {S A E : Type 0} → Result A E → Zoning → Bool → Fold → List (List ℤ) → Ghosts S → S → S → Type 0
-FetchesSide result z left f envs t old new = Fetches result z.ground.now (side z.zones left f) envs t old new
-
 abbrev pub FetchesOther : {S A E : Type 0} → Result A E → Zoning → Fold → List (List ℤ) → Ghosts S → S → S → Type 0
 FetchesOther result z f envs t old new = Fetches result z.ground.now (other_of f z.zones) envs t old new
-
-abbrev pub FetchesInner : {S A E : Type 0} → Result A E → Ground → ShapeSide → Body → List (List ℤ) → Ghosts S → S → S → Type 0
-FetchesInner result g at b envs t old new = Fetches result g (inner at.shape at.left b) envs t old new
-
-abbrev pub FetchesBeside : {S A E : Type 0} → Result A E → Ground → Shape → Body → List (List ℤ) → Ghosts S → S → S → Type 0
-FetchesBeside result g shape b envs t old new = Fetches result g (beside shape b) envs t old new
 
 -- keys are those of the places of a frame
 abbrev pub AreKeysOf : {K : Type 0} → SourceState K → Zoned → Fold → Type 0
@@ -132,6 +117,12 @@ TakeInZones s z f old new = AreKeysOf s z f → TakeInFold s z.zoning.ground.now
 abbrev pub TakeInZone : {K : Type 0} → SourceState K → Zoned → Fold → Part → List Accumulator → List Accumulator → Type 0
 TakeInZone s z f p old new =
     AreKeysOf s z f → s.intact → EachTakesIn old new (λ k. added_by s z.zoning.ground.now f (points p.area) (slice_index_or z.frame.now k []))
+
+-- at most so many tiles are fetched as the key of a fold of zones asks for at the places of a frame, and its other two
+-- bodies at the points of the box
+abbrev pub FetchesByZones : {S : Type 0} → Zoning → Fold → List (List ℤ) → Ghosts S → S → S → Type 0
+FetchesByZones z f envs t old new =
+    FetchesAtMost (bound_times (length envs) (key_of f z.zones) + (bound_times (count f.domain) (own_of f z.zones) + bound_times (count f.domain) (other_of f z.zones))) (t.state old) (t.state new)
 
 -- at most so many tiles are fetched as the bodies of a fold of zones ask for at so many points of its box
 abbrev pub FetchesOwn : {S : Type 0} → Zoned → Fold → ℕ → Ghosts S → S → S → Type 0

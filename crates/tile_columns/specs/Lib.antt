@@ -17,6 +17,7 @@ pub mod Fields
 pub mod Shapes
 pub mod Blanks
 pub mod Zones
+pub mod Keys
 pub mod Folds
 pub mod Binds
 pub mod Reaching

@@ -4,8 +4,9 @@ use Rattle.std.specs.Int.{int_max, int_min}
 use Rattle.std.specs.List.{range_with_len, filter, flat_map}
 use Rattle.arr_core.specs.declared.domain.Axis.{Axis}
 use Rattle.tile_kernel.specs.Windows.{in_span}
-use Rattle.arr_core.specs.Domains.{gap, AreOrdered}
+use Rattle.arr_core.specs.Domains.{gap}
 use Rattle.plan_ir.specs.declared.body.Interval.{Interval}
+use Rattle.plan_ir.specs.Placed.{LiesWithin}
 use Rattle.tile_columns.specs.declared.reach.Extents.{Extents}
 use Rattle.tile_columns.specs.declared.reach.Reach.{Reach}
 use Rattle.tile_kernel.specs.declared.windows.Span.{Span}
@@ -66,5 +67,14 @@ pub record HasExtents (e : Extents) (axes : List Axis) : Type 0 where
   pub row_hi : first.hi ≡ e.rows.hi
   pub column_lo : second.lo ≡ e.columns.lo
   pub column_hi : second.hi ≡ e.columns.hi
+  pub rows : e.rows.lo ≤ℤ e.rows.hi
+  pub columns : e.columns.lo ≤ℤ e.columns.hi
+
+-- two axes have these coordinates, and others besides
+pub record Encloses (axes : List Axis) (e : Extents) : Type 0 where
+  pub whole : Extents
+  pub are : HasExtents whole axes
+  pub row_part : LiesWithin e.rows whole.rows
+  pub column_part : LiesWithin e.columns whole.columns
   pub rows : e.rows.lo ≤ℤ e.rows.hi
   pub columns : e.columns.lo ≤ℤ e.columns.hi

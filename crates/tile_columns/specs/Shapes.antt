@@ -21,11 +21,29 @@ operand left (table box items is) = table box items is
 operand left (bind i lo hi e) = bind i lo hi e
 operand left (fold op box c e) = fold op box c e
 
+-- a body has two operands
+abbrev pub HasOperands : Tree → Type 0
+HasOperands (lit z) = ⊥
+HasOperands (var k) = ⊥
+HasOperands (reg k) = ⊥
+HasOperands (op1 op e) = ⊥
+HasOperands (op2 op l r) = Unit {0}
+HasOperands (read c f is) = ⊥
+HasOperands (table box items is) = ⊥
+HasOperands (bind i lo hi e) = ⊥
+HasOperands (fold op box c e) = ⊥
+
 -- a body of a shape, by its equation and its other operand
 abbrev pub shaped : Shape → Tree → Tree → Tree
 shaped Alone equation other = equation
 shaped (First op) equation other = op2 op equation other
 shaped (Second op) equation other = op2 op other equation
+
+-- a body can be of a shape: it has two operands, where the equation is one of them
+abbrev pub IsOfShape : Shape → Tree → Type 0
+IsOfShape Alone body = Unit {0}
+IsOfShape (First op) body = HasOperands body
+IsOfShape (Second op) body = HasOperands body
 
 -- the equation of a body of a shape
 abbrev pub equation_by : Shape → Tree → Tree

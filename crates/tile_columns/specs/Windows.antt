@@ -1,10 +1,8 @@
 -- Folds of windows: at each place of a box they condense the cells within reach of it, as far as these lie within bounds.
-use Rattle.std.specs.Prelude.{◌≡◌, ℕ, ◌+◌, ◌*◌, ◌<◌, ◌≤◌, ◌≤ℤ◌, ℤ, pos, List, [], ◌∷◌, ◌++◌, map, length, slice_get, slice_index_or, Option, IsSomeAnd}
+use Rattle.std.specs.Prelude.{◌≡◌, ℕ, ◌+◌, ◌*◌, ◌<◌, ◌≤◌, ◌≤ℤ◌, ℤ, pos, List, [], ◌∷◌, ◌++◌, map, length, slice_get, slice_index_or, IsSomeAnd, Bool, true, false, ◌||◌}
 use Rattle.std.specs.List.{All, flat_map}
 use Rattle.arr_core.specs.declared.signature.Signature.{Signature}
 use Rattle.arr_core.specs.Domains.{count}
-use Rattle.wcps_text.specs.declared.operator.Aggregate.{Aggregate}
-use Rattle.wcps_text.specs.declared.operator.BinaryOperator.{BinaryOperator}
 use Rattle.wcps_text.specs.declared.operator.BinaryOperator.TheVariants.{Add, LessEqual, GreaterEqual, And}
 use Rattle.wcps_mean.specs.declared.cell.Outcome.{Outcome}
 use Rattle.wcps_mean.specs.declared.cell.Outcome.TheVariants.{Value, Fault}
@@ -21,6 +19,7 @@ use Rattle.tile_columns.specs.declared.reach.Extents.{Extents}
 use Rattle.tile_columns.specs.declared.windows.Sight.{Sight}
 use Rattle.tile_columns.specs.declared.windows.Pattern.{Pattern}
 use Rattle.tile_columns.specs.declared.windows.Window.{Window}
+use Rattle.tile_columns.specs.declared.windows.Edges.{Edges}
 use Rattle.tile_columns.specs.Reaching.{between, cross, extent, reached_by, IsReach, HasExtents}
 use Rattle.tile_columns.specs.declared.gather.Reading.{Reading}
 use Rattle.tile_columns.specs.Sources.{SourceState}
@@ -34,14 +33,6 @@ Means t o = (s : ℕ → ℕ → List ℤ → ℤ) (regs : List Outcome) (vars :
 abbrev pub moved : ℕ → ℕ → List ℤ → Outcome
 moved k m vars = operate2 Add (Value (slice_index_or vars k (pos 0))) (Value (slice_index_or vars m (pos 0)))
 
--- a comparison of it with a number
-abbrev pub compared_sum : BinaryOperator → ℕ → ℕ → ℤ → List ℤ → Outcome
-compared_sum op k m z vars = operate2 op (moved k m vars) (Value z)
-
--- any comparison of two operands is one of the sum of two variables with a number
-abbrev pub MeansCompared : Tree → Tree → ℕ → ℕ → ℤ → Type 0
-MeansCompared l r k m z = (op : BinaryOperator) → Means (op2 op l r) (compared_sum op k m z)
-
 -- that it lies not below the lower bound, and not above the upper one
 abbrev pub low_edge : Sight → ℕ → List ℤ → Outcome
 low_edge a m vars = operate2 GreaterEqual (moved a.level m vars) (Value a.bounds.lo)
@@ -49,15 +40,29 @@ low_edge a m vars = operate2 GreaterEqual (moved a.level m vars) (Value a.bounds
 abbrev pub high_edge : Sight → ℕ → List ℤ → Outcome
 high_edge a m vars = operate2 LessEqual (moved a.level m vars) (Value a.bounds.hi)
 
--- that it lies within the bounds, along the rows; then not below those of the columns too; then within these
-abbrev pub row_edges : Pattern → ℕ → List ℤ → Outcome
-row_edges w n vars = operate2 And (low_edge w.rows n vars) (high_edge w.rows n vars)
-
-abbrev pub three_edges : Pattern → ℕ → List ℤ → Outcome
-three_edges w n vars = operate2 And (row_edges w n vars) (low_edge w.columns (n + 1) vars)
-
+-- that it lies within the bounds, along the rows and along the columns
 abbrev pub edges : Pattern → ℕ → List ℤ → Outcome
-edges w n vars = operate2 And (three_edges w n vars) (high_edge w.columns (n + 1) vars)
+edges w n vars =
+    operate2 And (operate2 And (operate2 And (low_edge w.rows n vars) (high_edge w.rows n vars)) (low_edge w.columns (n + 1) vars)) (high_edge w.columns (n + 1) vars)
+
+-- an edge that is asked for; another one is met
+abbrev pub asked : Bool → Outcome → Outcome
+asked true o = o
+asked false o = Value (pos 1)
+
+-- those edges alone that are asked for
+abbrev pub some_edges : Pattern → ℕ → Edges → List ℤ → Outcome
+some_edges w n found vars =
+    operate2 And (operate2 And (operate2 And (asked found.row_low (low_edge w.rows n vars)) (asked found.row_high (high_edge w.rows n vars))) (asked found.column_low (low_edge w.columns (n + 1) vars))) (asked found.column_high (high_edge w.columns (n + 1) vars))
+
+-- the edges that are among one or the other
+abbrev pub either_edges : Edges → Edges → Edges
+either_edges a b = record {
+  row_low = a.row_low || b.row_low;
+  row_high = a.row_high || b.row_high;
+  column_low = a.column_low || b.column_low;
+  column_high = a.column_high || b.column_high;
+}
 
 -- a body at a place that is moved by a variable
 abbrev pub moved_bind : Sight → ℕ → Tree → Tree

@@ -6,7 +6,6 @@ use Rattle.wcps_text.specs.declared.operator.BinaryOperator.TheVariants.{Equal}
 use Rattle.wcps_mean.specs.declared.cell.Outcome.{Outcome}
 use Rattle.wcps_mean.specs.declared.cell.Outcome.TheVariants.{Value}
 use Rattle.wcps_mean.specs.Cells.{operate2}
-use Rattle.plan_ir.specs.declared.body.Body.{Body}
 use Rattle.plan_ir.specs.declared.body.Fold.{Fold}
 use Rattle.plan_ir.specs.Bodies.{Tree, body_view, condition_view, always, op2}
 use Rattle.plan_ir.specs.Variables.{is_from, is_below}
@@ -15,7 +14,7 @@ use Rattle.tile_kernel.specs.Columns.{outcome_at}
 use Rattle.tile_kernel.specs.Keyed.{having, number_at}
 use Rattle.tile_kernel.specs.Told.{Told, told_at, demanded_at}
 use Rattle.tile_columns.specs.declared.shapes.Shape.{Shape}
-use Rattle.tile_columns.specs.Shapes.{operand, shaped, equation_by, other_by, joined, joined_all, IsZero}
+use Rattle.tile_columns.specs.Shapes.{operand, shaped, equation_by, other_by, joined, joined_all, HasOperands, IsOfShape, IsZero}
 use Rattle.tile_columns.specs.Blanks.{skips_zeros, AddsZeros}
 use Rattle.tile_columns.specs.declared.zones.Role.{Role}
 use Rattle.tile_columns.specs.declared.zones.Role.TheVariants.{Condition, Within}
@@ -28,17 +27,6 @@ use Rattle.tile_kernel.specs.Standing.{Stands, TakesIn, AreOf, HaveAtMost, EachS
 abbrev pub compared : Bool → Outcome → Outcome → Outcome
 compared true key o = operate2 Equal key o
 compared false key o = operate2 Equal o key
-
--- a side of a body of the code, and of the equation of one that has this shape
-abbrev pub branch : Bool → Body → Tree
-branch left b = operand left (body_view b)
-
-abbrev pub inner : Shape → Bool → Body → Tree
-inner shape left b = operand left (equation_by shape (body_view b))
-
--- its other operand
-abbrev pub beside : Shape → Body → Tree
-beside shape b = other_by shape (body_view b)
 
 -- the equation of a fold of zones: it is the condition, or stands in the body
 abbrev pub equation_in : Role → Tree → Tree → Tree
@@ -84,6 +72,16 @@ key_of f z = side z z.key_first f
 
 abbrev pub own_of : Fold → Zones → Tree
 own_of f z = side z (not z.key_first) f
+
+-- a body can have the role that stands in it
+abbrev pub IsOfRole : Role → Tree → Type 0
+IsOfRole Condition body = Unit {0}
+IsOfRole (Within shape) body = IsOfShape shape body
+
+-- a fold has an equation with two sides
+pub record HasEquation (f : Fold) (z : Zones) : Type 0 where
+  pub sides : HasOperands (equation_of f z)
+  pub body : IsOfRole z.role (body_view f.body)
 
 -- the condition that a body equals a key
 abbrev pub equality : Bool → Tree → Tree → Tree

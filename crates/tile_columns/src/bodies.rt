@@ -9,9 +9,9 @@ ghost use Rattle.tile_columns.specs.Calling.{Reads};
 ghost use Rattle.tile_columns.specs.Meaning.{IsGroundOf, HasPlaceOver, IsColumnOf, Fetches};
 ghost use Rattle.tile_columns.specs.Binds.{HasPlaceBehind, IsColumnBehind, IsColumnUnder, FetchesBehind};
 ghost use Rattle.tile_columns.specs.TileOrder.{IsPart};
-ghost use Rattle.tile_columns.specs.Zones.{branch, inner, beside, side, other_of, AreZonesOf};
+ghost use Rattle.tile_columns.specs.Zones.{other_of, AreZonesOf, HasEquation};
 ghost use Rattle.tile_columns.specs.Folds.{FoldHasPlace, BodiesHavePlace, AreOfFold, GrowBy, StandsFor, TakeInFold, TakeInBox, TakeInPoint, TakeInLast, TakeInZones, TakeInZone, FetchesFold, FetchesPart, FetchesPoint, FetchesZones, FetchesZonePart};
-ghost use Rattle.tile_columns.specs.Folds.{IsColumnOfSide, IsColumnOfOther, FetchesSide, FetchesOther, FetchesInner, FetchesBeside};
+ghost use Rattle.tile_columns.specs.Folds.{IsColumnOfOther, FetchesOther, FetchesByZones};
 
 use crate::binds::{coordinates, settle};
 use crate::folds::{
@@ -23,10 +23,11 @@ use crate::halo::condense_window;
 use crate::lookup::{fill_variable, look_up};
 use crate::part::{Part, part_at};
 use crate::scratch::Scratch;
-use crate::shapes::{Shape, ShapeSide, always_true};
+use crate::shapes::always_true;
+use crate::sides::{other_of, side_of};
 use crate::source::Tiles;
 use crate::windows::window_of;
-use crate::zones::{Keys, Role, Seen, Zones, keys_of, tell_seen, zones_of};
+use crate::zones::{Keys, Seen, Zones, keys_of, tell_seen, zones_of};
 use plan_ir::{Body, Fold, Interval, register};
 use tile_kernel::{
     Accumulator, Column, add_column, add_column_where, fold_column, fold_column_where,
@@ -288,7 +289,7 @@ pub(crate) struct Zoning<'a> {
 /// Tells accumulators, one for each place of a frame, of all points of the box of a fold of zones, in one pass over it. The
 /// keys of the places are evaluated once.
 #[cycle(evaluate)]
-fn tell_zones<S: Tiles>(
+pub(crate) fn tell_zones<S: Tiles>(
     source: &mut S,
     on: &Zoning<'_>,
     fold: &Fold,
@@ -303,9 +304,10 @@ fn tell_zones<S: Tiles>(
     ensures op { OnOk result (AreOf fold.now.op folds.new) }
     ensures frame { OnOk result (frame.new ≡ frame.old) }
     ensures reads { Reads S.Tiles result source.old source.new }
-    ensures fetched { OnOk result (FetchesFold fold.now frame.old S.Tiles source.old source.new) }
+    ensures fetched { OnOk result (FetchesByZones on.now fold.now frame.old S.Tiles source.old source.new) }
 {
-    let column = side_of(source, on, fold, on.zones.key_first, frame, scratch)?;
+    let key = side_of(fold, on.zones, on.zones.key_first);
+    let column = column_of(source, on.ground, key, frame, scratch)?;
     let keys = keys_of(scratch.alloc(), column)?;
     let zoned = Zoned {
         zoning: *on,
@@ -377,8 +379,9 @@ fn tell_zone_part<S: Tiles>(
     let on = &zoned.zoning;
     let key_first = on.zones.key_first;
     let mut inner = part_frame(scratch.alloc(), zoned.frame, 0, &part.area)?;
-    let own = side_of(source, on, fold, !key_first, &mut inner, scratch)?;
-    let column = other_of(source, on, fold, &mut inner, scratch)?;
+    let side = side_of(fold, on.zones, !key_first);
+    let own = column_of(source, on.ground, side, &mut inner, scratch)?;
+    let column = other_column(source, on, fold, &mut inner, scratch)?;
     let seen = Seen {
         own: &own,
         column: &column,
@@ -392,10 +395,10 @@ fn tell_zone_part<S: Tiles>(
     Ok(())
 }
 
-/// The outcomes of a fold's other body at the places of a frame, in a column of the scratch: of its body, or of what stands
-/// there beside the equation.
+/// The outcomes of the other body of a fold of zones at the places of a frame, in a column of the scratch; where it has
+/// none, of what is true.
 #[cycle(evaluate)]
-fn other_of<S: Tiles>(
+fn other_column<S: Tiles>(
     source: &mut S,
     on: &Zoning<'_>,
     fold: &Fold,
@@ -403,6 +406,7 @@ fn other_of<S: Tiles>(
     scratch: &mut Scratch,
 ) -> Result<Column, CellError>
     requires signatures { IsGroundOf (S.state source.old) on.now.ground.now }
+    requires equation { HasEquation fold.now on.now.zones }
     requires place { HasPlaceOver (S.state source.old) on.now.ground.now (other_of fold.now on.now.zones) frame.old }
     ensures value { IfOk result (IsColumnOfOther (S.state source.old) on.now fold.now frame.old) }
     ensures places { IfOk result (λ c. length c ≡ length frame.old) }
@@ -410,126 +414,9 @@ fn other_of<S: Tiles>(
     ensures reads { Reads S.Tiles result source.old source.new }
     ensures fetched { FetchesOther result on.now fold.now frame.old S.Tiles source.old source.new }
 {
-    match on.zones.role {
-        Role::Condition => column_of(source, on.ground, &fold.body, frame, scratch),
-        Role::Within(shape) => beside(source, on.ground, &fold.body, shape, frame, scratch),
-    }
-}
-
-/// The outcomes of what stands beside the equation in a body of a shape; where nothing does, of what is true. A body
-/// without two operands, which no fold of zones has, is refused as want of memory.
-#[cycle(evaluate)]
-fn beside<S: Tiles>(
-    source: &mut S,
-    ground: &Ground<'_>,
-    body: &Body,
-    shape: Shape,
-    frame: &mut Frame,
-    scratch: &mut Scratch,
-) -> Result<Column, CellError>
-    requires signatures { IsGroundOf (S.state source.old) ground.now }
-    requires place { HasPlaceOver (S.state source.old) ground.now (beside shape body.now) frame.old }
-    ensures value { IfOk result (IsColumnOf (S.state source.old) ground.now (beside shape body.now) frame.old) }
-    ensures places { IfOk result (λ c. length c ≡ length frame.old) }
-    ensures frame { OnOk result (frame.new ≡ frame.old) }
-    ensures reads { Reads S.Tiles result source.old source.new }
-    ensures fetched { FetchesBeside result ground.now shape body.now frame.old S.Tiles source.old source.new }
-{
-    match body {
-        Body::Op2(_, l, r) => match shape {
-            Shape::Alone => Ok(always_true(frame, scratch)?),
-            Shape::First(_) => column_of(source, ground, r, frame, scratch),
-            Shape::Second(_) => column_of(source, ground, l, frame, scratch),
-        },
-        _ => Err(CellError::NoMemory),
-    }
-}
-
-/// The outcomes of the left or the right operand of the equation of a fold of zones at the places of a frame, in a column
-/// of the scratch. A fold without such an equation is refused as want of memory.
-#[cycle(evaluate)]
-fn side_of<S: Tiles>(
-    source: &mut S,
-    on: &Zoning<'_>,
-    fold: &Fold,
-    left: bool,
-    frame: &mut Frame,
-    scratch: &mut Scratch,
-) -> Result<Column, CellError>
-    requires signatures { IsGroundOf (S.state source.old) on.now.ground.now }
-    requires place { HasPlaceOver (S.state source.old) on.now.ground.now (side on.now.zones left fold.now) frame.old }
-    ensures value { IfOk result (IsColumnOfSide (S.state source.old) on.now left fold.now frame.old) }
-    ensures places { IfOk result (λ c. length c ≡ length frame.old) }
-    ensures frame { OnOk result (frame.new ≡ frame.old) }
-    ensures reads { Reads S.Tiles result source.old source.new }
-    ensures fetched { FetchesSide result on.now left fold.now frame.old S.Tiles source.old source.new }
-{
-    match on.zones.role {
-        Role::Condition => match &fold.condition {
-            None => Err(CellError::NoMemory),
-            Some(condition) => operand_of(source, on.ground, condition, left, frame, scratch),
-        },
-        Role::Within(shape) => {
-            let at = ShapeSide { shape, left };
-            inner_of(source, on.ground, &fold.body, at, frame, scratch)
-        }
-    }
-}
-
-/// The same of the equation of a body of a shape.
-#[cycle(evaluate)]
-fn inner_of<S: Tiles>(
-    source: &mut S,
-    ground: &Ground<'_>,
-    body: &Body,
-    at: ShapeSide,
-    frame: &mut Frame,
-    scratch: &mut Scratch,
-) -> Result<Column, CellError>
-    requires signatures { IsGroundOf (S.state source.old) ground.now }
-    requires place { HasPlaceOver (S.state source.old) ground.now (inner at.shape at.left body.now) frame.old }
-    ensures value { IfOk result (IsColumnOf (S.state source.old) ground.now (inner at.shape at.left body.now) frame.old) }
-    ensures places { IfOk result (λ c. length c ≡ length frame.old) }
-    ensures frame { OnOk result (frame.new ≡ frame.old) }
-    ensures reads { Reads S.Tiles result source.old source.new }
-    ensures fetched { FetchesInner result ground.now at body.now frame.old S.Tiles source.old source.new }
-{
-    match body {
-        Body::Op2(_, l, r) => match at.shape {
-            Shape::Alone => operand_of(source, ground, body, at.left, frame, scratch),
-            Shape::First(_) => operand_of(source, ground, l, at.left, frame, scratch),
-            Shape::Second(_) => operand_of(source, ground, r, at.left, frame, scratch),
-        },
-        _ => Err(CellError::NoMemory),
-    }
-}
-
-/// The same of a body.
-#[cycle(evaluate)]
-fn operand_of<S: Tiles>(
-    source: &mut S,
-    ground: &Ground<'_>,
-    body: &Body,
-    left: bool,
-    frame: &mut Frame,
-    scratch: &mut Scratch,
-) -> Result<Column, CellError>
-    requires signatures { IsGroundOf (S.state source.old) ground.now }
-    requires place { HasPlaceOver (S.state source.old) ground.now (branch left body.now) frame.old }
-    ensures value { IfOk result (IsColumnOf (S.state source.old) ground.now (branch left body.now) frame.old) }
-    ensures places { IfOk result (λ c. length c ≡ length frame.old) }
-    ensures frame { OnOk result (frame.new ≡ frame.old) }
-    ensures reads { Reads S.Tiles result source.old source.new }
-    ensures fetched { Fetches result ground.now (branch left body.now) frame.old S.Tiles source.old source.new }
-{
-    match body {
-        Body::Op2(_, l, r) => {
-            if left {
-                return column_of(source, ground, l, frame, scratch);
-            }
-            column_of(source, ground, r, frame, scratch)
-        }
-        _ => Err(CellError::NoMemory),
+    match other_of(fold, on.zones) {
+        None => Ok(always_true(frame, scratch)?),
+        Some(body) => column_of(source, on.ground, body, frame, scratch),
     }
 }
 

@@ -199,6 +199,15 @@ fn turn_as(variables: &[Variable], indexes: &[Index], axes: &[Axis], total: u64)
 }
 
 impl Frame {
+    /// So many places, at most 4,096, without variables.
+    pub fn of_places(alloc: Global, places: usize) -> Result<Frame, AllocError>
+        requires { places ≤ 4096 }
+        ensures { IfOk result (λ f. f ≡ replicate places []) }
+    {
+        let variables = Vec::new(alloc);
+        Ok(Frame { places, variables })
+    }
+
     /// The coordinates of a box of at most 4,096 points, in row-major order.
     pub fn of_box(alloc: Global, area: &Domain) -> Result<Frame, AllocError>
         requires { count area.now ≤ 4096 }

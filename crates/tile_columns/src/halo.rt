@@ -10,7 +10,7 @@ ghost use Rattle.tile_columns.specs.Windows.{CanRead, IsReady, AreRowsOf, AreWin
 use crate::frame::Frame;
 use crate::gather::{Reading, read};
 use crate::ground::Ground;
-use crate::reach::{Extents, at_step, grid, size_of, spans_of};
+use crate::reach::{Extents, at_step, narrow, size_of, spans_of};
 use crate::scratch::Scratch;
 use crate::source::Tiles;
 use crate::windows::Window;
@@ -83,9 +83,7 @@ fn read_rows<S: Tiles>(
         columns: window.columns.halo,
     };
     let signature = &ground.signatures[window.place];
-    let Some(area) = grid(scratch.alloc(), &signature.domain, extents)? else {
-        return Err(CellError::NoMemory);
-    };
+    let area = narrow(scratch.alloc(), &signature.domain, extents)?;
     let frame = Frame::of_box(scratch.alloc(), &area)?;
     let reading = Reading {
         coverage: window.place,

@@ -3,7 +3,7 @@
 ghost use Rattle.std.specs.Prelude.{◌≡◌, ◌+◌, ◌*◌, ◌^◌, ◌<◌, ◌≤◌, ◌≤ℤ◌, ◌+ℤ◌, length, map, IfSome, IfOk, IsTrue, pos, negsuc};
 ghost use Rattle.std.specs.Int.{int_max, int_min};
 ghost use Rattle.std.specs.List.{All};
-ghost use Rattle.tile_columns.specs.Reaching.{extent, reached_by, along, AreSpansOf, EndsBy, IsReach, HasExtents};
+ghost use Rattle.tile_columns.specs.Reaching.{extent, reached_by, along, AreSpansOf, EndsBy, IsReach, HasExtents, Encloses};
 
 use arr_core::{Axis, Domain, distance};
 use plan_ir::Interval;
@@ -85,6 +85,17 @@ pub(crate) fn grid(
         }
         _ => Ok(None),
     }
+}
+
+/// The domain of two axes with other coordinates of both, which lie within the old ones.
+pub(crate) fn narrow(alloc: Global, domain: &Domain, extents: Extents) -> Result<Domain, AllocError>
+    requires { Encloses domain.now extents }
+    ensures { IfOk result (HasExtents extents) }
+{
+    let rows = extents.rows;
+    let columns = extents.columns;
+    let across = domain.narrow(alloc, 1, columns.lo, columns.hi)?;
+    across.narrow(alloc, 0, rows.lo, rows.hi)
 }
 
 /// The sum of a place and an offset, or the bound where that is higher.

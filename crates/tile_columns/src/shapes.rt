@@ -23,13 +23,6 @@ pub(crate) enum Shape {
     Second(BinaryOperator),
 }
 
-/// A side of the equation of a body of a shape.
-#[derive(Clone, Copy)]
-pub(crate) struct ShapeSide {
-    pub shape: Shape,
-    pub left: bool,
-}
-
 /// Makes `out` the outcomes of a body of a shape, of those of its equation and of its other operand.
 pub(crate) fn join(shape: Shape, equation: &Column, other: &Column, out: &mut Column)
     requires { length equation.now ≡ length other.now }

@@ -3,13 +3,13 @@
 
 ghost use Rattle.std.specs.Prelude.{◌≡◌, ◌+◌, ◌*◌, ◌<◌, ◌≤◌, ◌≤ℤ◌, [], ◌∷◌, length, slice_index_or, IfSome, IfOk, IsTrue};
 ghost use Rattle.arr_core.specs.Domains.{count};
-ghost use Rattle.wcps_text.specs.declared.operator.BinaryOperator.TheVariants.{Add, LessEqual, GreaterEqual, And};
+ghost use Rattle.wcps_text.specs.declared.operator.BinaryOperator.TheVariants.{Add, And};
 ghost use Rattle.wcps_text.specs.declared.operator.UnaryOperator.TheVariants.{Negate};
 ghost use Rattle.wcps_mean.specs.declared.cell.Outcome.TheVariants.{Value};
 ghost use Rattle.plan_ir.specs.declared.body.Index.TheVariants.{Var};
 ghost use Rattle.plan_ir.specs.Bodies.{body_view, var, op1, op2, read, bind};
 ghost use Rattle.plan_ir.specs.Placed.{LiesWithin};
-ghost use Rattle.tile_columns.specs.Windows.{Means, MeansCompared, low_edge, high_edge, row_edges, three_edges, edges, cell_tree, column_tree, window_tree, halo_cells, IsPattern, GoesOver, IsNear, Covers, CanRead, IsWindow};
+ghost use Rattle.tile_columns.specs.Windows.{Means, moved, low_edge, high_edge, either_edges, some_edges, edges, cell_tree, column_tree, window_tree, halo_cells, IsPattern, GoesOver, IsNear, Covers, CanRead, IsWindow};
 
 use crate::frame::Frame;
 use crate::ground::Ground;
@@ -44,6 +44,15 @@ pub(crate) struct Window {
     pub pattern: Pattern,
     pub rows: Reach,
     pub columns: Reach,
+}
+
+/// Edges of windows: bounds along the rows and along the columns.
+#[derive(Clone, Copy)]
+pub(crate) struct Edges {
+    pub row_low: bool,
+    pub row_high: bool,
+    pub column_low: bool,
+    pub column_high: bool,
 }
 
 /// How many variables the places around a fold of windows have at most.
@@ -110,13 +119,14 @@ fn is_number(body: &Body, z: i32) -> bool
 }
 
 /// Whether two operands are the sum of two variables, and a number.
-fn are_compared(l: &Body, r: &Body, level: usize, own: usize, z: i32) -> bool
-    ensures { IsTrue result → MeansCompared (body_view l.now) (body_view r.now) level own z }
+fn are_compared(sum: &Body, number: &Body, level: usize, own: usize, z: i32) -> bool
+    ensures sum { IsTrue result → Means (body_view sum.now) (moved level own) }
+    ensures number { IsTrue result → Means (body_view number.now) (λ vars. Value z) }
 {
-    if !is_sum(l, level, own) {
+    if !is_sum(sum, level, own) {
         return false;
     }
-    is_number(r, z)
+    is_number(number, z)
 }
 
 /// Whether a body is that the sum of two variables lies not below the lower bound of an axis.
@@ -126,6 +136,7 @@ fn is_low_edge(body: &Body, sight: Sight, own: usize) -> bool
     match body {
         Body::Op2(op, l, r) => match op {
             BinaryOperator::GreaterEqual => are_compared(l, r, sight.level, own, sight.bounds.lo),
+            BinaryOperator::LessEqual => are_compared(r, l, sight.level, own, sight.bounds.lo),
             _ => false,
         },
         _ => false,
@@ -139,82 +150,91 @@ fn is_high_edge(body: &Body, sight: Sight, own: usize) -> bool
     match body {
         Body::Op2(op, l, r) => match op {
             BinaryOperator::LessEqual => are_compared(l, r, sight.level, own, sight.bounds.hi),
+            BinaryOperator::GreaterEqual => are_compared(r, l, sight.level, own, sight.bounds.hi),
             _ => false,
         },
         _ => false,
     }
 }
 
-/// Whether two operands are the edges of the rows.
-fn make_row_edges(l: &Body, r: &Body, pattern: &Pattern, depth: usize) -> bool
-    ensures { IsTrue result → Means (op2 And (body_view l.now) (body_view r.now)) (row_edges pattern.now depth) }
+/// No edge of windows.
+const NO_EDGES: Edges = Edges {
+    row_low: false,
+    row_high: false,
+    column_low: false,
+    column_high: false,
+};
+
+/// The edge of windows that a body is.
+fn edge_of(body: &Body, pattern: &Pattern, depth: usize) -> Option<Edges>
+    requires { depth ≤ 1024 }
+    ensures { IfSome result (λ found. Means (body_view body.now) (some_edges pattern.now depth found)) }
 {
-    if !is_low_edge(l, pattern.rows, depth) {
-        return false;
+    if is_low_edge(body, pattern.rows, depth) {
+        return Some(Edges {
+            row_low: true,
+            ..NO_EDGES
+        });
     }
-    is_high_edge(r, pattern.rows, depth)
+    if is_high_edge(body, pattern.rows, depth) {
+        return Some(Edges {
+            row_high: true,
+            ..NO_EDGES
+        });
+    }
+    if is_low_edge(body, pattern.columns, depth + 1) {
+        return Some(Edges {
+            column_low: true,
+            ..NO_EDGES
+        });
+    }
+    if is_high_edge(body, pattern.columns, depth + 1) {
+        return Some(Edges {
+            column_high: true,
+            ..NO_EDGES
+        });
+    }
+    None
 }
 
-/// Whether a body is the edges of the rows.
-fn are_row_edges(body: &Body, pattern: &Pattern, depth: usize) -> bool
-    ensures { IsTrue result → Means (body_view body.now) (row_edges pattern.now depth) }
+/// The edges that are among one or the other.
+fn either_edges(a: Edges, b: Edges) -> Edges
+    ensures { result ≡ either_edges a b }
+{
+    Edges {
+        row_low: a.row_low || b.row_low,
+        row_high: a.row_high || b.row_high,
+        column_low: a.column_low || b.column_low,
+        column_high: a.column_high || b.column_high,
+    }
+}
+
+/// The edges of windows whose conjunction a body is.
+fn edges_of(body: &Body, pattern: &Pattern, depth: usize) -> Option<Edges>
+    requires { depth ≤ 1024 }
+    ensures { IfSome result (λ found. Means (body_view body.now) (some_edges pattern.now depth found)) }
 {
     match body {
         Body::Op2(op, l, r) => match op {
-            BinaryOperator::And => make_row_edges(l, r, pattern, depth),
-            _ => false,
+            BinaryOperator::And => {
+                let left = edges_of(l, pattern, depth)?;
+                let right = edges_of(r, pattern, depth)?;
+                Some(either_edges(left, right))
+            }
+            _ => edge_of(body, pattern, depth),
         },
-        _ => false,
+        _ => None,
     }
 }
 
-/// Whether two operands are the edges of the rows, and the lower one of the columns.
-fn make_three_edges(l: &Body, r: &Body, pattern: &Pattern, depth: usize) -> bool
-    requires { depth ≤ 1024 }
-    ensures { IsTrue result → Means (op2 And (body_view l.now) (body_view r.now)) (three_edges pattern.now depth) }
-{
-    if !are_row_edges(l, pattern, depth) {
-        return false;
-    }
-    is_low_edge(r, pattern.columns, depth + 1)
-}
-
-/// Whether a body is the edges of the rows, and the lower one of the columns.
-fn are_three_edges(body: &Body, pattern: &Pattern, depth: usize) -> bool
-    requires { depth ≤ 1024 }
-    ensures { IsTrue result → Means (body_view body.now) (three_edges pattern.now depth) }
-{
-    match body {
-        Body::Op2(op, l, r) => match op {
-            BinaryOperator::And => make_three_edges(l, r, pattern, depth),
-            _ => false,
-        },
-        _ => false,
-    }
-}
-
-/// Whether two operands are the edges of rows and columns.
-fn make_edges(l: &Body, r: &Body, pattern: &Pattern, depth: usize) -> bool
-    requires { depth ≤ 1024 }
-    ensures { IsTrue result → Means (op2 And (body_view l.now) (body_view r.now)) (edges pattern.now depth) }
-{
-    if !are_three_edges(l, pattern, depth) {
-        return false;
-    }
-    is_high_edge(r, pattern.columns, depth + 1)
-}
-
-/// Whether a body is the edges of rows and columns.
+/// Whether a body is the conjunction of all edges of windows, in any order.
 fn are_edges(body: &Body, pattern: &Pattern, depth: usize) -> bool
     requires { depth ≤ 1024 }
     ensures { IsTrue result → Means (body_view body.now) (edges pattern.now depth) }
 {
-    match body {
-        Body::Op2(op, l, r) => match op {
-            BinaryOperator::And => make_edges(l, r, pattern, depth),
-            _ => false,
-        },
-        _ => false,
+    match edges_of(body, pattern, depth) {
+        None => false,
+        Some(found) => found.row_low && found.row_high && found.column_low && found.column_high,
     }
 }
 

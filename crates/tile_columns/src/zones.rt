@@ -7,13 +7,14 @@ ghost use Rattle.arr_core.specs.Domains.{count};
 ghost use Rattle.arr_core.specs.Limits.{max_points};
 ghost use Rattle.wcps_text.specs.declared.operator.BinaryOperator.TheVariants.{Equal};
 ghost use Rattle.wcps_mean.specs.declared.cell.Outcome.TheVariants.{Value};
-ghost use Rattle.plan_ir.specs.Bodies.{body_view, always, op2};
+ghost use Rattle.plan_ir.specs.Bodies.{body_view, condition_view, fold_view, always, op2};
 ghost use Rattle.plan_ir.specs.Variables.{is_from, is_below};
 ghost use Rattle.tile_kernel.specs.Columns.{outcome_at};
 ghost use Rattle.tile_kernel.specs.Keyed.{number_at};
 ghost use Rattle.tile_kernel.specs.Standing.{Stands, AreOf, HaveAtMost, EachTakesIn};
 ghost use Rattle.tile_columns.specs.Blanks.{skips_zeros};
 ghost use Rattle.tile_columns.specs.Condensing.{HasRoomAt};
+ghost use Rattle.tile_columns.specs.Keys.{IsFoundKey};
 ghost use Rattle.tile_columns.specs.Zones.{compared, HasKey, HasZones, AreZonesOf, IsWhole, HasBlanks, IsSharable, AreKeyed, AreCounted, AreShared, TakesInKey, added_with, added_for};
 
 use crate::blanks::{count_all_zeros, skips_zeros};
@@ -21,6 +22,7 @@ use crate::folds::merge_at;
 use crate::frame::Frame;
 use crate::scratch::Scratch;
 use crate::shapes::{Shape, are_zeros, join, join_same};
+use crate::sides::side_of;
 use arr_core::Domain;
 use plan_ir::{Body, Fold, is_below, is_from};
 use std::alloc::{AllocError, Global};
@@ -42,10 +44,10 @@ pub(crate) enum Role {
 
 /// What is found of the condition and the body of a fold of zones.
 #[derive(Clone, Copy)]
-pub(crate) struct Zones {
+pub struct Zones {
     /// The key of the places is the left operand of the equation, and the body of the fold's own points the right one.
-    pub key_first: bool,
-    pub role: Role,
+    pub(crate) key_first: bool,
+    pub(crate) role: Role,
 }
 
 /// How many pairs of a place and a point of a box take longer than to list the numbers among the keys.
@@ -70,7 +72,13 @@ pub(crate) fn zones_of(fold: &Fold, frame: &Frame) -> Option<Zones>
     if !are_many(places, &fold.domain) {
         return None;
     }
-    let depth = frame.depth();
+    zones_in(fold, frame.depth())
+}
+
+/// What is found of a fold, under so many variables of the places around it.
+fn zones_in(fold: &Fold, depth: usize) -> Option<Zones>
+    ensures { IfSome result (HasZones depth (condition_view fold.now.condition) (body_view fold.now.body)) }
+{
     match &fold.condition {
         None => in_body(&fold.body, depth),
         Some(condition) => in_condition(condition, &fold.body, depth),
@@ -453,4 +461,37 @@ pub(crate) fn tell_seen(
     scratch.give_back(work.same);
     scratch.give_back(work.chosen);
     Ok(())
+}
+
+/// The body on which a fold of zones depends alone, how often its evaluation fetches no more than that of the fold once,
+/// and where it was found.
+#[derive(Clone, Copy)]
+pub struct Key<'a> {
+    pub body: &'a Body,
+    pub times: u64,
+    pub zones: Zones,
+    pub(crate) fold: &'a Fold,
+}
+
+/// The key of a body that is a fold of zones, under so many variables of the places around it.
+pub fn key_of(body: &Body, depth: usize) -> Option<Key<'_>>
+    ensures { IfSome result (IsFoundKey depth (body_view body.now)) }
+{
+    match body {
+        Body::Fold(fold) => key_in(fold, depth),
+        _ => None,
+    }
+}
+
+/// The key of a fold of zones.
+fn key_in(fold: &Fold, depth: usize) -> Option<Key<'_>>
+    ensures { IfSome result (IsFoundKey depth (fold_view fold.now)) }
+{
+    let zones = zones_in(fold, depth)?;
+    Some(Key {
+        body: side_of(fold, zones, zones.key_first),
+        times: fold.domain.points(),
+        zones,
+        fold,
+    })
 }

@@ -1,6 +1,6 @@
 -- Each node of a body gives its column of outcomes, a fold by points or by tiles, and fetches within its bound.
 use Rattle.std.proofs.Common.{◌≡◌, ◌∙◌, ◌+◌, ◌-◌, ◌*◌, ◌^◌, ◌<◌, ◌≤◌, ℕ, ℤ, List, [], ◌∷◌, ◌++◌, refl, ap, sym, subst, length, map, get_or, take, drop, arith, pos, rules}
-use Rattle.std.specs.Prelude.{replicate, OnOk, IfOk, Option, true, false}
+use Rattle.std.specs.Prelude.{replicate, OnOk, IfOk, Option, option_copied}
 use Rattle.wcps_mean.specs.declared.cell.Outcome.TheVariants.{Value}
 use Rattle.plan_ir.specs.Bodies.{read}
 use Rattle.plan_ir.proofs.Folds.{folded}
@@ -35,12 +35,12 @@ use Rattle.tile_kernel.specs.declared.accumulator.Accumulator.{Accumulator}
 use Rattle.tile_kernel.specs.Told.{Told, told_at, demanded_at}
 use Rattle.tile_kernel.specs.Standing.{Stands, AreOf, HaveAtMost, EachTakesIn}
 use Rattle.tile_columns.specs.Condensing.{told_of, told_ranked}
-use Rattle.tile_columns.specs.Shapes.{operand, other_by}
-use Rattle.tile_columns.specs.Zones.{equation_in, other_in, own_of, key_of, other_of, AreZonesOf}
+use Rattle.tile_columns.specs.Zones.{own_of, key_of, other_of, AreZonesOf}
 use Rattle.tile_columns.specs.TileOrder.{points_to}
 use Rattle.tile_columns.proofs.TileOrders.{points_whole}
 use Rattle.tile_columns.proofs.TileFolds.{no_tile, tile_more, all_tiles, points_next, room_more, place_more, count_more, rest_more, stands_ranked, always_told, never_told, one_place, place_in_part, times_tile}
 use Rattle.tile_columns.proofs.ZoneFolds.{zone_told, own_place, other_place, key_place, zone_bound, times_next}
+use Rattle.tile_columns.proofs.ZoneKeys.{zoned_equation}
 use Rattle.tile_columns.specs.Meaning.{meaning, chosen, HasPlaceOver, IsColumnOf, Fetches}
 use Rattle.tile_columns.specs.Folds.{FoldHasPlace, BodiesHavePlace, AreOfFold, FetchesPoint, FetchesPoints, FetchesOwn}
 use Rattle.tile_columns.proofs.Calls.{reads_on}
@@ -564,71 +564,34 @@ tell_part-returns-in_err-found-clause-reads g t c =
 
 -- ---- folds of zones
 
-pub operand_of-returns-then-left-clause-value : goal.operand_of-returns-then-left-clause-value
-operand_of-returns-then-left-clause-value g t c =
-    subst (λ b. IfOk c.column_of.result (λ o. (g.S.Tiles.state c.args.source.now).intact → o ≡ map (meaning (g.S.Tiles.state c.args.source.now) c.args.ground.now b) c.args.frame.now))
-    (ap body_view c.deref.ensures ∙ ap (λ b. operand true (body_view b)) (sym c.in-Op2.is) ∙ ap (λ b. operand b (body_view c.args.body.now)) (sym c.if-left.true)) c.column_of.ensures.value
+pub tell_all-returns-in-Some-clause-fetched : goal.tell_all-returns-in-Some-clause-fetched
+tell_all-returns-in-Some-clause-fetched g t c =
+    let z = rw c.in-Some.is at c.zones_of.ensures in
+    let m = zone_bound (length c.args.frame.now) (count c.args.fold.now.domain) c.in-Some.zones.role (condition_view c.args.fold.now.condition) (body_view c.args.fold.now.body) (own_of c.args.fold.now c.in-Some.zones) (key_of c.args.fold.now c.in-Some.zones) c.in-Some.zones.key_first z.depth z.zoned z.some (count-pos c.args.fold.now.domain) in
+    on_ok c.tell_zones.result (λ le. omega (arith, le, m)) c.tell_zones.ensures.fetched
 
-pub operand_of-returns-else-left-clause-value : goal.operand_of-returns-else-left-clause-value
-operand_of-returns-else-left-clause-value g t c =
-    subst (λ b. IfOk c.column_of-in-Op2.result (λ o. (g.S.Tiles.state c.args.source.now).intact → o ≡ map (meaning (g.S.Tiles.state c.args.source.now) c.args.ground.now b) c.args.frame.now))
-    (ap body_view c.deref-in-Op2.ensures ∙ ap (λ b. operand false (body_view b)) (sym c.in-Op2.is) ∙ ap (λ b. operand b (body_view c.args.body.now)) (sym c.if-left.false)) c.column_of-in-Op2.ensures.value
-
-pub operand_of-returns-then-left-clause-fetched : goal.operand_of-returns-then-left-clause-fetched
-operand_of-returns-then-left-clause-fetched g t c =
-    subst (λ b. OnOk c.column_of.result ((n : ℕ) → All (λ (e : List ℤ). n ≤ length e) c.args.frame.now → (g.S.Tiles.state c.column_of.new.source).fetched ≤ (g.S.Tiles.state c.args.source.now).fetched + fetches (chosen (g.S.Tiles.state c.args.source.now) c.args.ground.now) n c.args.frame.now b))
-    (ap body_view c.deref.ensures ∙ ap (λ b. operand true (body_view b)) (sym c.in-Op2.is) ∙ ap (λ b. operand b (body_view c.args.body.now)) (sym c.if-left.true)) c.column_of.ensures.fetched
-
-pub operand_of-returns-else-left-clause-fetched : goal.operand_of-returns-else-left-clause-fetched
-operand_of-returns-else-left-clause-fetched g t c =
-    subst (λ b. OnOk c.column_of-in-Op2.result ((n : ℕ) → All (λ (e : List ℤ). n ≤ length e) c.args.frame.now → (g.S.Tiles.state c.column_of-in-Op2.new.source).fetched ≤ (g.S.Tiles.state c.args.source.now).fetched + fetches (chosen (g.S.Tiles.state c.args.source.now) c.args.ground.now) n c.args.frame.now b))
-    (ap body_view c.deref-in-Op2.ensures ∙ ap (λ b. operand false (body_view b)) (sym c.in-Op2.is) ∙ ap (λ b. operand b (body_view c.args.body.now)) (sym c.if-left.false)) c.column_of-in-Op2.ensures.fetched
-
-pub side_of-returns-in-Some-clause-value : goal.side_of-returns-in-Some-clause-value
-side_of-returns-in-Some-clause-value g t c =
-    subst (λ b. IfOk c.operand_of.result (λ o. (g.S.Tiles.state c.args.source.now).intact → o ≡ map (meaning (g.S.Tiles.state c.args.source.now) c.args.on.now.ground.now b) c.args.frame.now))
-    (ap (λ (o : Option _). operand c.args.left (condition_view o)) (sym c.in-Some.is) ∙ ap (λ r. operand c.args.left (equation_in r (condition_view c.args.fold.now.condition) (body_view c.args.fold.now.body))) (sym c.in-Condition.is)) c.operand_of.ensures.value
-
-pub side_of-returns-in-Some-clause-fetched : goal.side_of-returns-in-Some-clause-fetched
-side_of-returns-in-Some-clause-fetched g t c =
-    subst (λ b. OnOk c.operand_of.result ((n : ℕ) → All (λ (e : List ℤ). n ≤ length e) c.args.frame.now → (g.S.Tiles.state c.operand_of.new.source).fetched ≤ (g.S.Tiles.state c.args.source.now).fetched + fetches (chosen (g.S.Tiles.state c.args.source.now) c.args.on.now.ground.now) n c.args.frame.now b))
-    (ap (λ (o : Option _). operand c.args.left (condition_view o)) (sym c.in-Some.is) ∙ ap (λ r. operand c.args.left (equation_in r (condition_view c.args.fold.now.condition) (body_view c.args.fold.now.body))) (sym c.in-Condition.is)) c.operand_of.ensures.fetched
-
-pub side_of-returns-in-Within-clause-value : goal.side_of-returns-in-Within-clause-value
-side_of-returns-in-Within-clause-value g t c =
-    subst (λ b. IfOk c.inner_of.result (IsColumnOf (g.S.Tiles.state c.args.source.now) c.args.on.now.ground.now b c.args.frame.now))
-    (ap (λ r. operand c.args.left (equation_in r (condition_view c.args.fold.now.condition) (body_view c.args.fold.now.body))) (sym c.in-Within.is)) c.inner_of.ensures.value
-
-pub side_of-returns-in-Within-clause-fetched : goal.side_of-returns-in-Within-clause-fetched
-side_of-returns-in-Within-clause-fetched g t c =
-    subst (λ b. Fetches c.inner_of.result c.args.on.now.ground.now b c.args.frame.now g.S.Tiles c.args.source.now c.inner_of.new.source)
-    (ap (λ r. operand c.args.left (equation_in r (condition_view c.args.fold.now.condition) (body_view c.args.fold.now.body))) (sym c.in-Within.is)) c.inner_of.ensures.fetched
-
-pub beside-returns-in_ok-always_true-in-Alone-clause-value : goal.beside-returns-in_ok-always_true-in-Alone-clause-value
-beside-returns-in_ok-always_true-in-Alone-clause-value g t c = λ i.
-    c.in_ok-always_true-in-Alone.ensures
+pub other_column-returns-in_ok-always_true-in-None-clause-value : goal.other_column-returns-in_ok-always_true-in-None-clause-value
+other_column-returns-in_ok-always_true-in-None-clause-value g t c = λ i.
+    c.in_ok-always_true-in-None.ensures
     ∙ filled (Value (pos 1)) c.args.frame.now (length c.args.frame.now) refl
-    ∙ ap (λ s. map (meaning (g.S.Tiles.state c.args.source.now) c.args.ground.now (other_by s (body_view c.args.body.now))) c.args.frame.now) (sym c.in-Alone.is)
+    ∙ ap (λ b. map (meaning (g.S.Tiles.state c.args.source.now) c.args.on.now.ground.now b) c.args.frame.now)
+    (ap (λ o. condition_view (option_copied o)) (sym c.in-None.is) ∙ c.other_of.ensures.other)
 
-pub other_of-returns-in-Condition-clause-value : goal.other_of-returns-in-Condition-clause-value
-other_of-returns-in-Condition-clause-value g t c =
+pub other_column-column_of-requires : goal.other_column-column_of-requires
+other_column-column_of-requires g t c =
+    let there : HasPlaceOver (g.S.Tiles.state c.args.source.now) c.args.on.now.ground.now (body_view c.in-Some.body.now) c.args.frame.now =
+    subst (λ b. HasPlaceOver (g.S.Tiles.state c.args.source.now) c.args.on.now.ground.now b c.args.frame.now) (sym c.other_of.ensures.other ∙ ap (λ o. condition_view (option_copied o)) c.in-Some.is) c.requires.place in
+    search (rules, there)
+
+pub other_column-returns-in-Some-clause-value : goal.other_column-returns-in-Some-clause-value
+other_column-returns-in-Some-clause-value g t c =
     subst (λ b. IfOk c.column_of.result (IsColumnOf (g.S.Tiles.state c.args.source.now) c.args.on.now.ground.now b c.args.frame.now))
-    (ap (λ r. other_in r (body_view c.args.fold.now.body)) (sym c.in-Condition.is)) c.column_of.ensures.value
+    (ap (λ o. condition_view (option_copied o)) (sym c.in-Some.is) ∙ c.other_of.ensures.other) c.column_of.ensures.value
 
-pub other_of-returns-in-Condition-clause-fetched : goal.other_of-returns-in-Condition-clause-fetched
-other_of-returns-in-Condition-clause-fetched g t c =
+pub other_column-returns-in-Some-clause-fetched : goal.other_column-returns-in-Some-clause-fetched
+other_column-returns-in-Some-clause-fetched g t c =
     subst (λ b. Fetches c.column_of.result c.args.on.now.ground.now b c.args.frame.now g.S.Tiles c.args.source.now c.column_of.new.source)
-    (ap (λ r. other_in r (body_view c.args.fold.now.body)) (sym c.in-Condition.is)) c.column_of.ensures.fetched
-
-pub other_of-returns-in-Within-clause-value : goal.other_of-returns-in-Within-clause-value
-other_of-returns-in-Within-clause-value g t c =
-    subst (λ b. IfOk c.beside.result (IsColumnOf (g.S.Tiles.state c.args.source.now) c.args.on.now.ground.now b c.args.frame.now))
-    (ap (λ r. other_in r (body_view c.args.fold.now.body)) (sym c.in-Within.is)) c.beside.ensures.value
-
-pub other_of-returns-in-Within-clause-fetched : goal.other_of-returns-in-Within-clause-fetched
-other_of-returns-in-Within-clause-fetched g t c =
-    subst (λ b. Fetches c.beside.result c.args.on.now.ground.now b c.args.frame.now g.S.Tiles c.args.source.now c.beside.new.source)
-    (ap (λ r. other_in r (body_view c.args.fold.now.body)) (sym c.in-Within.is)) c.beside.ensures.fetched
+    (ap (λ o. condition_view (option_copied o)) (sym c.in-Some.is) ∙ c.other_of.ensures.other) c.column_of.ensures.fetched
 
 pub tell_zone_tiles-loop-number-init : goal.tell_zone_tiles-loop-number-init
 tell_zone_tiles-loop-number-init g t c =
@@ -687,8 +650,11 @@ tell_zone_tiles-returns-clause-fetched g t c =
     let n : length (points_to c.args.fold.now.domain c.loop-number.number) ≡ count c.args.fold.now.domain = ap (λ n. length (points_to c.args.fold.now.domain n)) whole ∙ points_whole c.args.fold.now.domain c.axes-axes.ensures.domain.ordered in
     subst (λ k. FetchesOwn c.args.zoned.now c.args.fold.now k g.S.Tiles c.args.source.now c.loop-number.source) n c.loop-number.invariant.fetched
 
-pub tell_zone_part-side_of-requires : goal.tell_zone_part-side_of-requires
-tell_zone_part-side_of-requires g t c =
+pub tell_zone_part-side_of-side-requires : goal.tell_zone_part-side_of-side-requires
+tell_zone_part-side_of-side-requires g t c = zoned_equation c.args.fold.now c.args.zoned.now.zoning.zones c.requires.zones.depth c.requires.zones.zoned
+
+pub tell_zone_part-column_of-requires : goal.tell_zone_part-column_of-requires
+tell_zone_part-column_of-requires g t c =
     let one = one_place (fold_view c.args.fold.now) c.args.zoned.now.frame.now 0 c.requires.zones.some c.requires.place.place in
     let both = folded_place c.args.fold.now.op c.args.fold.now.domain (condition_view c.args.fold.now.condition) (body_view c.args.fold.now.body) (get_or c.args.zoned.now.frame.now 0 [] ∷ []) one in
     let there : HasPlaceOver (g.S.Tiles.state c.args.source.now) c.args.zoned.now.zoning.ground.now (own_of c.args.fold.now c.args.zoned.now.zoning.zones) c.in_ok-inner.inner =
@@ -696,19 +662,21 @@ tell_zone_part-side_of-requires g t c =
     (own_place c.args.zoned.now.zoning.zones.role (condition_view c.args.fold.now.condition) (body_view c.args.fold.now.body) (own_of c.args.fold.now c.args.zoned.now.zoning.zones) (key_of c.args.fold.now c.args.zoned.now.zoning.zones) c.args.zoned.now.zoning.zones.key_first c.requires.zones.depth (map (λ p. get_or c.args.zoned.now.frame.now 0 [] ++ p) (points c.args.part.now.area)) c.requires.zones.zoned
     (place_in_part c.args.fold.now.domain c.args.part.now.area (condition_view c.args.fold.now.condition) (get_or c.args.zoned.now.frame.now 0 []) both.0 c.requires.part.inside c.requires.part.ordered)
     (place_in_part c.args.fold.now.domain c.args.part.now.area (body_view c.args.fold.now.body) (get_or c.args.zoned.now.frame.now 0 []) both.1 c.requires.part.inside c.requires.part.ordered)) in
-    search (rules, there)
+    let here = subst (λ b. HasPlaceOver (g.S.Tiles.state c.args.source.now) c.args.zoned.now.zoning.ground.now b c.in_ok-inner.inner) (sym c.side_of-side.ensures.side) there in
+    search (rules, here)
 
-pub tell_zone_part-other_of-requires : goal.tell_zone_part-other_of-requires
-tell_zone_part-other_of-requires g t c =
+pub tell_zone_part-other_column-requires : goal.tell_zone_part-other_column-requires
+tell_zone_part-other_column-requires g t c =
     let one = one_place (fold_view c.args.fold.now) c.args.zoned.now.frame.now 0 c.requires.zones.some c.requires.place.place in
     let both = folded_place c.args.fold.now.op c.args.fold.now.domain (condition_view c.args.fold.now.condition) (body_view c.args.fold.now.body) (get_or c.args.zoned.now.frame.now 0 [] ∷ []) one in
-    let signatures : c.args.zoned.now.zoning.ground.now.signatures.now ≡ (g.S.Tiles.state c.side_of.new.source).coverages = c.requires.place.signatures ∙ sym c.side_of.ensures.reads.only.coverages in
-    let there : HasPlaceOver (g.S.Tiles.state c.side_of.new.source) c.args.zoned.now.zoning.ground.now (other_of c.args.fold.now c.args.zoned.now.zoning.zones) c.side_of.new.frame =
-    subst (HasPlaceOver (g.S.Tiles.state c.side_of.new.source) c.args.zoned.now.zoning.ground.now (other_of c.args.fold.now c.args.zoned.now.zoning.zones)) (sym (c.in_ok-own.ensures.frame ∙ c.in_ok-inner.ensures))
-    (subst (λ all. HasPlace (signature_of all c.args.zoned.now.zoning.ground.now.coverages.now) (length c.args.zoned.now.zoning.ground.now.registers.now) (other_of c.args.fold.now c.args.zoned.now.zoning.zones) (map (λ p. get_or c.args.zoned.now.frame.now 0 [] ++ p) (points c.args.part.now.area))) (sym c.side_of.ensures.reads.only.coverages)
+    let signatures : c.args.zoned.now.zoning.ground.now.signatures.now ≡ (g.S.Tiles.state c.column_of.new.source).coverages = c.requires.place.signatures ∙ sym c.column_of.ensures.reads.only.coverages in
+    let there : HasPlaceOver (g.S.Tiles.state c.column_of.new.source) c.args.zoned.now.zoning.ground.now (other_of c.args.fold.now c.args.zoned.now.zoning.zones) c.column_of.new.frame =
+    subst (HasPlaceOver (g.S.Tiles.state c.column_of.new.source) c.args.zoned.now.zoning.ground.now (other_of c.args.fold.now c.args.zoned.now.zoning.zones)) (sym (c.in_ok-own.ensures.frame ∙ c.in_ok-inner.ensures))
+    (subst (λ all. HasPlace (signature_of all c.args.zoned.now.zoning.ground.now.coverages.now) (length c.args.zoned.now.zoning.ground.now.registers.now) (other_of c.args.fold.now c.args.zoned.now.zoning.zones) (map (λ p. get_or c.args.zoned.now.frame.now 0 [] ++ p) (points c.args.part.now.area))) (sym c.column_of.ensures.reads.only.coverages)
     (other_place c.args.zoned.now.zoning.zones.role (condition_view c.args.fold.now.condition) (body_view c.args.fold.now.body) (own_of c.args.fold.now c.args.zoned.now.zoning.zones) (key_of c.args.fold.now c.args.zoned.now.zoning.zones) c.args.zoned.now.zoning.zones.key_first c.requires.zones.depth (map (λ p. get_or c.args.zoned.now.frame.now 0 [] ++ p) (points c.args.part.now.area)) c.requires.zones.zoned
     (place_in_part c.args.fold.now.domain c.args.part.now.area (body_view c.args.fold.now.body) (get_or c.args.zoned.now.frame.now 0 []) both.1 c.requires.part.inside c.requires.part.ordered))) in
-    search (rules, signatures, there)
+    let equation = zoned_equation c.args.fold.now c.args.zoned.now.zoning.zones c.requires.zones.depth c.requires.zones.zoned in
+    search (rules, signatures, equation, there)
 
 pub tell_zone_part-tell_seen-requires : goal.tell_zone_part-tell_seen-requires
 tell_zone_part-tell_seen-requires g t c =
@@ -726,10 +694,11 @@ tell_zone_part-tell_seen-requires g t c =
 
 pub tell_zone_part-returns-clause-told : goal.tell_zone_part-returns-clause-told
 tell_zone_part-returns-clause-told g t c = λ h i.
-    let column = c.in_ok-column.ensures.value (c.side_of.ensures.reads.only.intact i) ∙ ap (λ s. map (run (cells_of s c.args.zoned.now.zoning.ground.now.coverages.now) c.args.zoned.now.zoning.ground.now.registers.now (other_of c.args.fold.now c.args.zoned.now.zoning.zones)) c.side_of.new.frame) c.side_of.ensures.reads.only.cells ∙ ap (map (meaning (g.S.Tiles.state c.args.source.now) c.args.zoned.now.zoning.ground.now (other_of c.args.fold.now c.args.zoned.now.zoning.zones))) c.in_ok-own.ensures.frame in
+    let own = c.in_ok-own.ensures.value i ∙ ap (λ b. map (meaning (g.S.Tiles.state c.args.source.now) c.args.zoned.now.zoning.ground.now b) c.in_ok-inner.inner) c.side_of-side.ensures.side in
+    let column = c.in_ok-column.ensures.value (c.column_of.ensures.reads.only.intact i) ∙ ap (λ s. map (run (cells_of s c.args.zoned.now.zoning.ground.now.coverages.now) c.args.zoned.now.zoning.ground.now.registers.now (other_of c.args.fold.now c.args.zoned.now.zoning.zones)) c.column_of.new.frame) c.column_of.ensures.reads.only.cells ∙ ap (map (meaning (g.S.Tiles.state c.args.source.now) c.args.zoned.now.zoning.ground.now (other_of c.args.fold.now c.args.zoned.now.zoning.zones))) c.in_ok-own.ensures.frame in
     zone_told (cells_of (g.S.Tiles.state c.args.source.now).cells c.args.zoned.now.zoning.ground.now.coverages.now) c.args.zoned.now.zoning.ground.now.registers.now c.args.fold.now.domain c.args.zoned.now.zoning.zones.role (condition_view c.args.fold.now.condition) (body_view c.args.fold.now.body) (own_of c.args.fold.now c.args.zoned.now.zoning.zones) (key_of c.args.fold.now c.args.zoned.now.zoning.zones) c.args.zoned.now.zoning.zones.key_first
     c.args.zoned.now.frame.now (points c.args.part.now.area) c.in_ok-inner.inner c.args.zoned.now.keys.now.column c.in_ok-own.own c.in_ok-column.column c.deref.result.now c.args.folds.now c.tell_seen.new.folds
-    c.requires.zones (c.tell_seen.auto.folds ∙ c.requires.folds.many) c.in_ok-inner.ensures (c.deref.ensures.value ∙ c.requires.part.ranks) (h i) (c.in_ok-own.ensures.value i) column c.in_ok-tell_seen.ensures.told
+    c.requires.zones (c.tell_seen.auto.folds ∙ c.requires.folds.many) c.in_ok-inner.ensures (c.deref.ensures.value ∙ c.requires.part.ranks) (h i) own column c.in_ok-tell_seen.ensures.told
 
 pub tell_zone_part-returns-clause-folds : goal.tell_zone_part-returns-clause-folds
 tell_zone_part-returns-clause-folds g t c =
@@ -746,47 +715,52 @@ pub tell_zone_part-returns-clause-fetched : goal.tell_zone_part-returns-clause-f
 tell_zone_part-returns-clause-fetched g t c =
     let area = c.args.part.now.area in
     let a = c.in_ok-own.ensures.fetched 0 (λ k d lt. omega arith) in
+    let same = ap (fetches (chosen (g.S.Tiles.state c.args.source.now) c.args.zoned.now.zoning.ground.now) 0 c.in_ok-inner.inner) c.side_of-side.ensures.side in
     let b = c.in_ok-column.ensures.fetched 0 (λ k d lt. omega arith) in
     let x = times_few (chosen (g.S.Tiles.state c.args.source.now) c.args.zoned.now.zoning.ground.now) 0 c.in_ok-inner.inner (own_of c.args.fold.now c.args.zoned.now.zoning.zones) in
     let y = times_few (chosen (g.S.Tiles.state c.args.source.now) c.args.zoned.now.zoning.ground.now) 0 c.in_ok-inner.inner (other_of c.args.fold.now c.args.zoned.now.zoning.zones) in
-    let e : fetches (chosen (g.S.Tiles.state c.side_of.new.source) c.args.zoned.now.zoning.ground.now) 0 c.side_of.new.frame (other_of c.args.fold.now c.args.zoned.now.zoning.zones) ≡ fetches (chosen (g.S.Tiles.state c.args.source.now) c.args.zoned.now.zoning.ground.now) 0 c.in_ok-inner.inner (other_of c.args.fold.now c.args.zoned.now.zoning.zones) =
-    ap (λ all. fetches (signature_of all c.args.zoned.now.zoning.ground.now.coverages.now) 0 c.side_of.new.frame (other_of c.args.fold.now c.args.zoned.now.zoning.zones)) c.side_of.ensures.reads.only.coverages ∙ ap (λ f. fetches (chosen (g.S.Tiles.state c.args.source.now) c.args.zoned.now.zoning.ground.now) 0 f (other_of c.args.fold.now c.args.zoned.now.zoning.zones)) c.in_ok-own.ensures.frame in
+    let e : fetches (chosen (g.S.Tiles.state c.column_of.new.source) c.args.zoned.now.zoning.ground.now) 0 c.column_of.new.frame (other_of c.args.fold.now c.args.zoned.now.zoning.zones) ≡ fetches (chosen (g.S.Tiles.state c.args.source.now) c.args.zoned.now.zoning.ground.now) 0 c.in_ok-inner.inner (other_of c.args.fold.now c.args.zoned.now.zoning.zones) =
+    ap (λ all. fetches (signature_of all c.args.zoned.now.zoning.ground.now.coverages.now) 0 c.column_of.new.frame (other_of c.args.fold.now c.args.zoned.now.zoning.zones)) c.column_of.ensures.reads.only.coverages ∙ ap (λ f. fetches (chosen (g.S.Tiles.state c.args.source.now) c.args.zoned.now.zoning.ground.now) 0 f (other_of c.args.fold.now c.args.zoned.now.zoning.zones)) c.in_ok-own.ensures.frame in
     let n : length c.in_ok-inner.inner ≡ count area = ap length c.in_ok-inner.ensures ∙ length-map (points area) (λ p. get_or c.args.zoned.now.frame.now 0 [] ++ p) ∙ length-points area in
     let u = ap (λ m. bound_times m (own_of c.args.fold.now c.args.zoned.now.zoning.zones)) n in
     let v = ap (λ m. bound_times m (other_of c.args.fold.now c.args.zoned.now.zoning.zones)) n in
-    omega (arith, a, b, x, y, e, u, v)
+    omega (arith, a, same, b, x, y, e, u, v)
 
-pub tell_zones-side_of-requires : goal.tell_zones-side_of-requires
-tell_zones-side_of-requires g t c =
+pub tell_zones-side_of-key-requires : goal.tell_zones-side_of-key-requires
+tell_zones-side_of-key-requires g t c = zoned_equation c.args.fold.now c.args.on.now.zones c.requires.zones.depth c.requires.zones.zoned
+
+pub tell_zones-column_of-requires : goal.tell_zones-column_of-requires
+tell_zones-column_of-requires g t c =
     let there : HasPlaceOver (g.S.Tiles.state c.args.source.now) c.args.on.now.ground.now (key_of c.args.fold.now c.args.on.now.zones) c.args.frame.now =
     key_place c.args.fold.now.op c.args.fold.now.domain c.args.on.now.zones.role (condition_view c.args.fold.now.condition) (body_view c.args.fold.now.body) (own_of c.args.fold.now c.args.on.now.zones) (key_of c.args.fold.now c.args.on.now.zones) c.args.on.now.zones.key_first c.args.frame.now c.requires.zones c.requires.place.place in
-    search (rules, there)
+    let here = subst (λ b. HasPlaceOver (g.S.Tiles.state c.args.source.now) c.args.on.now.ground.now b c.args.frame.now) (sym c.side_of-key.ensures.side) there in
+    search (rules, here)
 
 pub tell_zones-tell_zone_tiles-requires : goal.tell_zones-tell_zone_tiles-requires
 tell_zones-tell_zone_tiles-requires g t c =
     let frame = c.in_ok-column.ensures.frame in
-    let place = subst (FoldHasPlace (g.S.Tiles.state c.side_of.new.source) c.args.on.now.ground.now c.args.fold.now) (sym frame) (fold_later c.args.on.now.ground.now c.args.fold.now c.args.frame.now c.side_of.ensures.reads.only c.requires.place) in
+    let place = subst (FoldHasPlace (g.S.Tiles.state c.column_of.new.source) c.args.on.now.ground.now c.args.fold.now) (sym frame) (fold_later c.args.on.now.ground.now c.args.fold.now c.args.frame.now c.column_of.ensures.reads.only c.requires.place) in
     let zones = subst (λ f. AreZonesOf c.args.fold.now f c.args.on.now.zones) (sym frame) c.requires.zones in
-    let keys : length c.in_ok-keys.keys.column ≡ length c.side_of.new.frame = ap length c.in_ok-keys.ensures ∙ c.in_ok-column.ensures.places ∙ ap length (sym frame) in
+    let keys : length c.in_ok-keys.keys.column ≡ length c.column_of.new.frame = ap length c.in_ok-keys.ensures ∙ c.in_ok-column.ensures.places ∙ ap length (sym frame) in
     let folds = subst (λ f. AreOfFold c.args.fold.now f 0 c.args.folds.now) (sym frame) c.requires.folds in
     search (rules, place, zones, keys, folds)
 
 pub tell_zones-returns-clause-told : goal.tell_zones-returns-clause-told
 tell_zones-returns-clause-told g t c = λ i.
-    let same = c.side_of.ensures.reads.only.cells in
+    let same = c.column_of.ensures.reads.only.cells in
     let frame = c.in_ok-column.ensures.frame in
-    let keys : c.in_ok-keys.keys.column ≡ map (meaning (g.S.Tiles.state c.side_of.new.source) c.args.on.now.ground.now (key_of c.args.fold.now c.args.on.now.zones)) c.side_of.new.frame =
+    let keys : c.in_ok-keys.keys.column ≡ map (meaning (g.S.Tiles.state c.column_of.new.source) c.args.on.now.ground.now (key_of c.args.fold.now c.args.on.now.zones)) c.column_of.new.frame =
     c.in_ok-keys.ensures ∙ c.in_ok-column.ensures.value i
-    ∙ ap (λ s. map (run (cells_of s c.args.on.now.ground.now.coverages.now) c.args.on.now.ground.now.registers.now (key_of c.args.fold.now c.args.on.now.zones)) c.args.frame.now) (sym same) ∙ ap (map (meaning (g.S.Tiles.state c.side_of.new.source) c.args.on.now.ground.now (key_of c.args.fold.now c.args.on.now.zones))) (sym frame) in
+    ∙ ap (λ b. map (meaning (g.S.Tiles.state c.args.source.now) c.args.on.now.ground.now b) c.args.frame.now) c.side_of-key.ensures.side
+    ∙ ap (λ s. map (run (cells_of s c.args.on.now.ground.now.coverages.now) c.args.on.now.ground.now.registers.now (key_of c.args.fold.now c.args.on.now.zones)) c.args.frame.now) (sym same) ∙ ap (map (meaning (g.S.Tiles.state c.column_of.new.source) c.args.on.now.ground.now (key_of c.args.fold.now c.args.on.now.zones))) (sym frame) in
     subst (λ s. EachTakesIn c.args.folds.now c.tell_zone_tiles.new.folds (λ k. told_of (under_vars (run (cells_of s c.args.on.now.ground.now.coverages.now) c.args.on.now.ground.now.registers.now (condition_view c.args.fold.now.condition)) (get_or c.args.frame.now k [])) (under_vars (run (cells_of s c.args.on.now.ground.now.coverages.now) c.args.on.now.ground.now.registers.now (body_view c.args.fold.now.body)) (get_or c.args.frame.now k [])) 0 (points c.args.fold.now.domain))) same
-    (subst (λ f. EachTakesIn c.args.folds.now c.tell_zone_tiles.new.folds (λ k. told_of (under_vars (meaning (g.S.Tiles.state c.side_of.new.source) c.args.on.now.ground.now (condition_view c.args.fold.now.condition)) (get_or f k [])) (under_vars (meaning (g.S.Tiles.state c.side_of.new.source) c.args.on.now.ground.now (body_view c.args.fold.now.body)) (get_or f k [])) 0 (points c.args.fold.now.domain))) frame
-    (c.in_ok-tell_zone_tiles.ensures.told (λ _. keys) (c.side_of.ensures.reads.only.intact i)))
+    (subst (λ f. EachTakesIn c.args.folds.now c.tell_zone_tiles.new.folds (λ k. told_of (under_vars (meaning (g.S.Tiles.state c.column_of.new.source) c.args.on.now.ground.now (condition_view c.args.fold.now.condition)) (get_or f k [])) (under_vars (meaning (g.S.Tiles.state c.column_of.new.source) c.args.on.now.ground.now (body_view c.args.fold.now.body)) (get_or f k [])) 0 (points c.args.fold.now.domain))) frame
+    (c.in_ok-tell_zone_tiles.ensures.told (λ _. keys) (c.column_of.ensures.reads.only.intact i)))
 
 pub tell_zones-returns-clause-fetched : goal.tell_zones-returns-clause-fetched
 tell_zones-returns-clause-fetched g t c =
-    let z = c.requires.zones in
     let a = c.in_ok-column.ensures.fetched 0 (λ k d lt. omega arith) in
+    let same = ap (fetches (chosen (g.S.Tiles.state c.args.source.now) c.args.on.now.ground.now) 0 c.args.frame.now) c.side_of-key.ensures.side in
     let x = times_few (chosen (g.S.Tiles.state c.args.source.now) c.args.on.now.ground.now) 0 c.args.frame.now (key_of c.args.fold.now c.args.on.now.zones) in
     let b = c.in_ok-tell_zone_tiles.ensures.fetched in
-    let m = zone_bound (length c.args.frame.now) (count c.args.fold.now.domain) c.args.on.now.zones.role (condition_view c.args.fold.now.condition) (body_view c.args.fold.now.body) (own_of c.args.fold.now c.args.on.now.zones) (key_of c.args.fold.now c.args.on.now.zones) c.args.on.now.zones.key_first z.depth z.zoned z.some (count-pos c.args.fold.now.domain) in
-    omega (arith, a, x, b, m)
+    omega (arith, a, same, x, b)
