@@ -27,7 +27,7 @@ use Rattle.tile_kernel.specs.Told.{Told, outcomes, AreRising}
 use Rattle.tile_kernel.proofs.Faults.{fault_in_order}
 use Rattle.tile_columns.specs.TileOrder.{points_to}
 use Rattle.tile_columns.specs.Fields.{behind}
-use Rattle.tile_exec.specs.declared.task.First.{First}
+use Rattle.tile_kernel.specs.declared.first_fault.FirstFault.{FirstFault}
 use Rattle.tile_exec.specs.Items.{row, value_of, row_cells, all_cells, told_to_item, places_of, cell_count, Fills}
 use Rattle.tile_columns.proofs.TileOrders.{told_all, points_by_place}
 use Rattle.tile_exec.proofs.Passes.{outcomes-append}
@@ -173,7 +173,7 @@ length_rows s regs i (q ∷ qs) =
     omega (arith, a, b, c, d)
 
 -- cells that are filled at all tiles are those of the item
-pub filled : (s : ℕ → ℕ → List ℤ → ℤ) (regs : List Outcome) (i : ItemTree) (cells : List Cell) (first : First) → IsDomain i.domain → length cells ≡ cell_count i
+pub filled : (s : ℕ → ℕ → List ℤ → ℤ) (regs : List Outcome) (i : ItemTree) (cells : List Cell) (first : FirstFault) → IsDomain i.domain → length cells ≡ cell_count i
     → Fills s regs i (length (tile_boxes i.domain)) cells first → cells ≡ all_cells s regs i
 filled s regs i cells first d long h =
     let n = count i.domain in
@@ -188,7 +188,7 @@ filled s regs i cells first d long h =
     all_written all cells (long ∙ sym same) (λ k lt. let z : 0 + k ≡ k = omega arith in subst P (get_or-range_with_len 0 (n * m) k 0 (omega (arith, lt, same)) ∙ z) (w k 0 (omega (arith, lt, same, count))))
 
 -- the first fault of all tiles is the item's
-pub faulted : (s : ℕ → ℕ → List ℤ → ℤ) (regs : List Outcome) (i : ItemTree) (cells : List Cell) (first : First) → IsDomain i.domain
+pub faulted : (s : ℕ → ℕ → List ℤ → ℤ) (regs : List Outcome) (i : ItemTree) (cells : List Cell) (first : FirstFault) → IsDomain i.domain
     → Fills s regs i (length (tile_boxes i.domain)) cells first → first.fault ≡ first_fault (flat_map (row s regs i) (points i.domain))
 faulted s regs i cells first d h =
     let g = told_to_item s regs i in
@@ -206,7 +206,7 @@ told None i cells = refl
 told (Some f) i cells = refl
 
 -- an item that was told all tiles is the planned one
-pub item_told : (s : ℕ → ℕ → List ℤ → ℤ) (regs : List Outcome) (i : ItemTree) (cells : List Cell) (first : First) → IsDomain i.domain → 0 < length i.fields → length cells ≡ cell_count i
+pub item_told : (s : ℕ → ℕ → List ℤ → ℤ) (regs : List Outcome) (i : ItemTree) (cells : List Cell) (first : FirstFault) → IsDomain i.domain → 0 < length i.fields → length cells ≡ cell_count i
     → Fills s regs i (length (tile_boxes i.domain)) cells first → item_planned s regs i ≡ item_or first.fault (record { line = line_of i.domain; fields = field_count (length i.fields); cells = cells })
 item_told s regs i cells first d some long h =
     let go : List Cell → Result Item PointFault = λ l. Ok (record { line = line_of i.domain; fields = field_count (length i.fields); cells = l }) in

@@ -13,19 +13,22 @@ use Rattle.wcps_mean.specs.Answer.{field_count}
 use Rattle.plan_ir.specs.Plans.{ItemTree, signature_of}
 use Rattle.plan_ir.specs.Planned.{item_planned, cells_of}
 use Rattle.tile_kernel.specs.Joins.{HoldsOfBoth}
+use Rattle.tile_kernel.specs.Told.{IsFirstOf}
 use Rattle.tile_exec.specs.declared.task.Status.{Status}
 use Rattle.tile_exec.specs.declared.task.Status.TheVariants.{Giving}
-use Rattle.tile_exec.specs.declared.task.First.{First}
+use Rattle.tile_kernel.specs.declared.first_fault.FirstFault.{FirstFault}
+use Rattle.tile_exec.specs.declared.known.Known.{Known}
 use Rattle.tile_exec.specs.declared.found.ItemTile.{ItemTile}
 use Rattle.tile_exec.specs.declared.found.Found.TheVariants as found
 use Rattle.tile_exec.specs.declared.state.State.{State}
 use Rattle.tile_exec.specs.Tasks.{PartTree, TaskTree, pass, condition, item, area_of, IsPartPlaced, registers_made}
 use Rattle.tile_exec.specs.Progress.{read_by, after_part, after_item}
 use Rattle.tile_columns.specs.TileOrder.{points_to, tile_of}
-use Rattle.tile_exec.specs.Items.{Fills, all_cells, told_to_item, places_of, AreWritten, AreWrittenTo, cell_count, IsFirstOf}
+use Rattle.tile_exec.specs.Items.{Fills, all_cells, told_to_item, places_of, AreWritten, AreWrittenTo, cell_count}
+use Rattle.tile_exec.specs.Known.{IsKnown}
 use Rattle.tile_exec.specs.Rows.{all_cells_told}
 use Rattle.tile_exec.specs.Standing.{plan_of, tasks_left, progress_of, HasRoom, IsSound, IsUnder, HasCells, AtItem, AtPart}
-use Rattle.tile_exec.specs.Units.{cells_placed, Fits, FitsPart, FitsItem, BeginsTile, TellsTask, TellsPart, TellsItem, IsLast, GivesBy, Gives, Keeps}
+use Rattle.tile_exec.specs.Units.{cells_placed, KnowsPartOf, Fits, FitsPart, FitsItem, BeginsTile, TellsTask, TellsPart, TellsItem, IsLast, GivesBy, Gives, Keeps}
 use Rattle.tile_columns.proofs.TileOrders.{told_more}
 use Rattle.tile_exec.proofs.Moves.{GoesOn, GoesFurther, sound_next, stands_next, boxes_next, sound_further, stands_further, boxes_further, at_hand, stands_at}
 use Rattle.tile_exec.proofs.Keeping.{placed_at}
@@ -89,22 +92,24 @@ placed_so x places booleans columns a b e =
     ap (λ l. all_cells_told l booleans columns) a ∙ ap (λ l. all_cells_told x.places.items l columns) b ∙ ap (λ l. all_cells_told x.places.items x.booleans.items l) e
 
 -- what a tile is found to tell, and what was told before it
-pub record ItemKept (e : State) (x : ItemTile) (before cells : List Cell) (first now : First) : Type 0 where
+pub record ItemKept (e : State) (x : ItemTile) (before cells : List Cell) (first now : FirstFault) (known : Option Known) : Type 0 where
   pub kept : 0 < e.tile → before ≡ e.cells.items
   pub fresh : e.tile ≡ 0 → before ≡ x.fresh.items
   pub long : length cells ≡ length before
   pub written : AreWrittenTo before cells (cells_placed x)
   pub begun : BeginsTile e.tile (IsFirstOf e.first) (IsFirstOf first)
   pub joined : HoldsOfBoth (IsFirstOf first) (IsFirstOf x.first) (IsFirstOf now)
+  pub known_before : 0 < e.tile → known ≡ e.known
+  pub known_found : e.tile ≡ 0 → known ≡ x.known
 
-item_given : (s : ℕ → ℕ → List ℤ → ℤ) (regs : List Outcome) (i : ItemTree) (e : State) (st : Status) → st ≡ Giving → AtItem s regs i e st → 0 < e.tile → Fills s regs i e.tile e.cells.items e.first
+item_given : (s : ℕ → ℕ → List ℤ → ℤ) (regs : List Outcome) (i : ItemTree) (e : State) (st : Status) → st ≡ Giving → AtItem s regs i e st → 0 < e.tile → Fills s regs i e.tile e.cells.items e.first × IsKnown s regs i e.known
 item_given s regs i e st g h = subst (AtItem s regs i e) g h
 
 -- the cells and the first fault after one more tile
-fills_more : (s : ℕ → ℕ → List ℤ → ℤ) (regs : List Outcome) (i : ItemTree) (e : State) (x : ItemTile) (before cells : List Cell) (first now : First) → e.tile < length (tile_boxes i.domain)
-    → (0 < e.tile → Fills s regs i e.tile e.cells.items e.first) → TellsItem s regs i e.tile x → ItemKept e x before cells first now
+fills_more : (s : ℕ → ℕ → List ℤ → ℤ) (regs : List Outcome) (i : ItemTree) (e : State) (x : ItemTile) (before cells : List Cell) (first now : FirstFault) (known : Option Known) → e.tile < length (tile_boxes i.domain)
+    → (0 < e.tile → Fills s regs i e.tile e.cells.items e.first) → TellsItem s regs i e.tile x → ItemKept e x before cells first now known
     → Fills s regs i (e.tile + 1) cells now
-fills_more s regs i e x before cells first now lt h t k =
+fills_more s regs i e x before cells first now known lt h t k =
     let told = λ (n : ℕ). flat_map (told_to_item s regs i) (points_to i.domain n) in
     let places = λ (n : ℕ). flat_map (places_of i) (points_to i.domain n) in
     let all = all_cells s regs i in
@@ -119,28 +124,38 @@ fills_more s regs i e x before cells first now lt h t k =
           (k.joined (told e.tile) (flat_map (told_to_item s regs i) (points (tile_of i.domain e.tile))) (k.begun told refl (λ some. (h some).first)) t.first);
     }
 
-pub filled_at : (e : State) (last : Bool) (x : ItemTile) (a : ItemAt e last x) (before cells : List Cell) (first now : First) (s : ℕ → ℕ → List ℤ → ℤ) → IsSound e → ItemKept e x before cells first now
+-- what is known after one more tile
+known_more : (s : ℕ → ℕ → List ℤ → ℤ) (regs : List Outcome) (i : ItemTree) (e : State) (x : ItemTile) (before cells : List Cell) (first now : FirstFault) (known : Option Known)
+    → (0 < e.tile → IsKnown s regs i e.known) → TellsItem s regs i e.tile x → ItemKept e x before cells first now known → IsKnown s regs i known
+known_more s regs i e x before cells first now known h t k =
+    elim (some_or_zero e.tile) [
+      | inl z ↦ subst (IsKnown s regs i) (sym (k.known_found z)) t.known
+      | inr some ↦ subst (IsKnown s regs i) (sym (k.known_before some)) (h some)
+    ]
+
+pub filled_at : (e : State) (last : Bool) (x : ItemTile) (a : ItemAt e last x) (before cells : List Cell) (first now : FirstFault) (known : Option Known) (s : ℕ → ℕ → List ℤ → ℤ) → IsSound e → ItemKept e x before cells first now known
     → AtPart (cells_of s a.task.coverages) (read_by a.task e.registers.items) e a.task.part → TellsTask s e (tasks_left e) (found.Item x)
-    → Fills (cells_of s a.task.coverages) (read_by a.task e.registers.items) a.tree (e.tile + 1) cells now
-filled_at e last x a before cells first now s sound k at t =
+    → Fills (cells_of s a.task.coverages) (read_by a.task e.registers.items) a.tree (e.tile + 1) cells now × IsKnown (cells_of s a.task.coverages) (read_by a.task e.registers.items) a.tree known
+filled_at e last x a before cells first now known s sound k at t =
     let c = cells_of s a.task.coverages in
     let regs = read_by a.task e.registers.items in
     let was : AtPart c regs e (item a.tree) = subst (AtPart c regs e) a.is at in
     let here : TellsPart c regs e.tile (item a.tree) (found.Item x) = subst (λ q. TellsPart c regs e.tile q (found.Item x)) a.is (subst (λ l. TellsTask s e l (found.Item x)) a.hand t) in
-    fills_more c regs a.tree e x before cells first now (item_under e last x a sound).0 (item_given c regs a.tree e e.status a.fits.giving was) here k
+    let given = item_given c regs a.tree e e.status a.fits.giving was in
+    (fills_more c regs a.tree e x before cells first now known (item_under e last x a sound).0 (λ some. (given some).0) here k, known_more c regs a.tree e x before cells first now known (λ some. (given some).1) here k)
 
 by_status : (i : ItemTree) (e : State) (st : Status) → st ≡ Giving → (0 < e.tile → length e.cells.items ≡ cell_count i) → HasCells i e st
 by_status i e st g h = subst (HasCells i e) (sym g) h
 
-at_by_status : (s : ℕ → ℕ → List ℤ → ℤ) (regs : List Outcome) (i : ItemTree) (e : State) (st : Status) → st ≡ Giving → (0 < e.tile → Fills s regs i e.tile e.cells.items e.first) → AtItem s regs i e st
+at_by_status : (s : ℕ → ℕ → List ℤ → ℤ) (regs : List Outcome) (i : ItemTree) (e : State) (st : Status) → st ≡ Giving → (0 < e.tile → Fills s regs i e.tile e.cells.items e.first × IsKnown s regs i e.known) → AtItem s regs i e st
 at_by_status s regs i e st g h = subst (AtItem s regs i e) (sym g) h
 
 -- the executor after one more tile of an item that has more
-pub item_further : (e : State) (x : ItemTile) (before : List Cell) (v : Vec Cell Global) (first now : First) (l : ℕ) → IsSound e → Fits e (tasks_left e) false (found.Item x) → l + 1 ≡ e.left
-    → ItemKept e x before v.items first now → Keeps e (record e { cells = v; first = now; tile = e.tile + 1; left = l }) (found.Item x)
-item_further e x before v first now l sound fits left k =
+pub item_further : (e : State) (x : ItemTile) (before : List Cell) (v : Vec Cell Global) (first now : FirstFault) (known : Option Known) (l : ℕ) → IsSound e → Fits e (tasks_left e) false (found.Item x) → l + 1 ≡ e.left
+    → ItemKept e x before v.items first now known → Keeps e (record e { cells = v; first = now; known = known; tile = e.tile + 1; left = l }) (found.Item x)
+item_further e x before v first now known l sound fits left k =
     let a = item_at e false x fits in
-    let d = record e { cells = v; first = now; tile = e.tile + 1; left = l } in
+    let d = record e { cells = v; first = now; known = known; tile = e.tile + 1; left = l } in
     let below : e.tile + 1 < length (tile_boxes (area_of a.task.part)) = subst (λ p. e.tile + 1 < length (tile_boxes (area_of p))) (sym a.is) a.last_tile in
     let g : GoesFurther e d a.task a.tasks = record { hand = a.hand; plan = refl; tasks = refl; at = refl; tile = refl; left = left; below = below; registers = refl; items = refl; status = refl } in
     let long = k.long ∙ cells_before e false x a before sound k.kept k.fresh in
@@ -152,7 +167,7 @@ item_further e x before v first now l sound fits left k =
       stands = λ s st t.
           let c = cells_of s a.task.coverages in
           let regs = read_by a.task e.registers.items in
-          let fills = filled_at e false x a before v.items first now s sound k (stands_at s e a.task a.tasks a.hand st) t in
+          let fills = filled_at e false x a before v.items first now known s sound k (stands_at s e a.task a.tasks a.hand st) t in
           stands_further s e d a.task a.tasks g (subst (AtPart c regs d) (sym a.is) (at_by_status c regs a.tree d e.status a.fits.giving (λ some. fills))) st;
     }
 
@@ -181,12 +196,12 @@ items_given None e d line fields by =
 items_given (Some f) e d line fields by = let n = ap (λ v. length v.items) by.1 in omega (arith, n)
 
 -- the executor after the last tile of an item
-pub item_next : (e d : State) (x : ItemTile) (before : List Cell) (v : Vec Cell Global) (first now : First) (l : ℕ) → IsSound e → Fits e (tasks_left e) true (found.Item x) → l + 1 ≡ e.left
-    → ItemKept e x before v.items first now → Gives (record e { cells = v; first = now; left = l }) d x.line x.fields → Keeps e d (found.Item x)
-item_next e d x before v first now l sound fits left k gives =
+pub item_next : (e d : State) (x : ItemTile) (before : List Cell) (v : Vec Cell Global) (first now : FirstFault) (known : Option Known) (l : ℕ) → IsSound e → Fits e (tasks_left e) true (found.Item x) → l + 1 ≡ e.left
+    → ItemKept e x before v.items first now known → Gives (record e { cells = v; first = now; known = known; left = l }) d x.line x.fields → Keeps e d (found.Item x)
+item_next e d x before v first now known l sound fits left k gives =
     let a = item_at e true x fits in
     let i = a.tree in
-    let old = record e { cells = v; first = now; left = l } in
+    let old = record e { cells = v; first = now; known = known; left = l } in
     let last : e.tile + 1 ≡ length (tile_boxes (area_of a.task.part)) = subst (λ p. e.tile + 1 ≡ length (tile_boxes (area_of p))) (sym a.is) a.last_tile in
     let fewer = gives.left in
     let kept : d.left + 1 ≡ e.left = omega (arith, left, fewer) in
@@ -212,7 +227,7 @@ item_next e d x before v first now l sound fits left k gives =
       stands = λ s st t.
           let c = cells_of s a.task.coverages in
           let regs = read_by a.task e.registers.items in
-          let fills = filled_at e true x a before v.items first now s sound k (stands_at s e a.task a.tasks a.hand st) t in
+          let fills = (filled_at e true x a before v.items first now known s sound k (stands_at s e a.task a.tasks a.hand st) t).0 in
           let whole : Fills c regs i (length (tile_boxes i.domain)) v.items now = subst (λ n. Fills c regs i n v.items now) a.last_tile fills in
           let planned : item_planned c regs i ≡ item_or now.fault (record { line = x.line; fields = x.fields; cells = v.items }) =
           item_told c regs i v.items now placed.0 placed.1 long whole
@@ -220,3 +235,16 @@ item_next e d x before v first now l sound fits left k gives =
           ∙ ap (λ n. item_or now.fault (record { line = x.line; fields = n; cells = v.items })) (sym a.fits.fields) in
           stands_next s e d a.task a.tasks g (progress_given now.fault old d x.line x.fields gives.by gives.registers a.fits.giving ∙ ap (after_item (progress_of e) e.status) (sym planned) ∙ ap (after_part c regs (progress_of e)) (sym a.is)) st;
     }
+
+-- what is known of the item at hand is that of the tiles before
+item_known : (s : ℕ → ℕ → List ℤ → ℤ) (regs : List Outcome) (i : ItemTree) (e : State) (known : Option Known) → (e.tile ≡ 0 → known ≡ None) → (0 < e.tile → known ≡ e.known) → AtItem s regs i e Giving → IsKnown s regs i known
+item_known s regs i e known first later at =
+    elim (some_or_zero e.tile) [
+      | inl z ↦ subst (IsKnown s regs i) (sym (first z)) tt
+      | inr some ↦ subst (IsKnown s regs i) (sym (later some)) (at some).1
+    ]
+
+pub knows_part : (s : ℕ → ℕ → List ℤ → ℤ) (regs : List Outcome) (intact : Type 0) (e : State) (p : PartTree) (known : Option Known) → (e.tile ≡ 0 → known ≡ None) → (0 < e.tile → known ≡ e.known) → AtPart s regs e p → KnowsPartOf s regs intact e.status p known
+knows_part s regs intact e (pass p) known first later at = tt
+knows_part s regs intact e (condition c) known first later at = tt
+knows_part s regs intact e (item i) known first later at = λ giving i2. item_known s regs i e known first later (subst (AtItem s regs i e) giving at)

@@ -10,3 +10,5 @@ pub mod KeepingItems
 pub mod Begun
 pub mod Beginning
 pub mod Ending
+pub mod Sampling
+pub mod Knowing

@@ -7,11 +7,11 @@ use Rattle.wcps_mean.specs.declared.cell.Outcome.{Outcome}
 use Rattle.wcps_mean.specs.Answer.{cell_of}
 use Rattle.plan_ir.specs.Plans.{FieldBody, ItemTree}
 use Rattle.plan_ir.specs.Run.{run}
-use Rattle.tile_kernel.specs.Told.{Told, IsFirst}
+use Rattle.tile_kernel.specs.declared.first_fault.FirstFault.{FirstFault}
+use Rattle.tile_kernel.specs.Told.{Told, IsFirstOf}
 use Rattle.tile_columns.specs.Fields.{behind}
 use Rattle.tile_columns.specs.TileOrder.{points_to}
 pub use Rattle.tile_columns.specs.Windows.{value_of}
-use Rattle.tile_exec.specs.declared.task.First.{First}
 use Rattle.tile_exec.specs.Tasks.{Cells}
 
 -- the outcomes of all fields at a point
@@ -55,15 +55,11 @@ AreWrittenTo old new placed =
 abbrev pub cell_count : ItemTree → ℕ
 cell_count i = count i.domain * length i.fields
 
--- the first fault of these points, if there is one
-abbrev pub IsFirstOf : First → List Told → Type 0
-IsFirstOf first told = IsFirst first.fault first.place told
-
 -- the first fault after further points
-abbrev pub IsFirstAfter : First → First → List Told → Type 0
+abbrev pub IsFirstAfter : FirstFault → FirstFault → List Told → Type 0
 IsFirstAfter old new more = (told : List Told) → IsFirstOf old told → IsFirstOf new (told ++ more)
 
 -- the cells and the first fault of the first t tiles of an item's domain
-pub record Fills (s : Cells) (regs : List Outcome) (i : ItemTree) (t : ℕ) (cells : List Cell) (least : First) : Type 0 where
+pub record Fills (s : Cells) (regs : List Outcome) (i : ItemTree) (t : ℕ) (cells : List Cell) (least : FirstFault) : Type 0 where
   pub written : AreWritten (all_cells s regs i) cells (flat_map (places_of i) (points_to i.domain t))
   pub first : IsFirstOf least (flat_map (told_to_item s regs i) (points_to i.domain t))

@@ -1,9 +1,11 @@
 pub mod Tasks
 pub mod Progress
 pub mod Passes
+pub mod Known
 pub mod Items
 pub mod Standing
 pub mod Units
 pub mod Fetching
 pub mod Rows
 pub mod Begun
+pub mod Keyed

@@ -25,6 +25,7 @@ use Rattle.tile_columns.specs.Sources.{SourceState}
 use Rattle.tile_columns.specs.TileOrder.{points_to}
 use Rattle.tile_exec.specs.Passes.{told_to_pass}
 use Rattle.tile_exec.specs.Items.{cell_count, Fills}
+use Rattle.tile_exec.specs.Known.{IsKnown}
 
 -- the plan that is done
 abbrev pub plan_of : State → PlanTree
@@ -49,9 +50,9 @@ progress_of e = record { registers = e.registers.items; items = e.items.items; s
 abbrev pub boxes_left : State → List Stage
 boxes_left e = drop e.tile (flat_map stages_of (tasks_left e))
 
--- the tiles of an item that are done: nothing is kept of one that is not given
+-- the tiles of an item that are done, and what is known of it: nothing is kept of one that is not given
 abbrev pub AtItem : Cells → List Outcome → ItemTree → State → Status → Type 0
-AtItem s regs i e Giving = 0 < e.tile → Fills s regs i e.tile e.cells.items e.first
+AtItem s regs i e Giving = 0 < e.tile → Fills s regs i e.tile e.cells.items e.first × IsKnown s regs i e.known
 AtItem s regs i e Skipping = Unit {0}
 AtItem s regs i e (Failed f) = Unit {0}
 

@@ -1,5 +1,5 @@
 -- What a unit finds, and what comes of it.
-use Rattle.std.specs.Prelude.{◌≡◌, ℕ, ◌+◌, ◌^◌, ◌<◌, ◌≤◌, List, [], ◌∷◌, ◌++◌, length, vec_capacity, Option, Some, None, Bool, true, false}
+use Rattle.std.specs.Prelude.{◌≡◌, ℕ, ◌+◌, ◌^◌, ◌<◌, ◌≤◌, List, [], ◌∷◌, ◌++◌, length, vec_capacity, option_copied, Option, Some, None, Bool, true, false}
 use Rattle.std.specs.List.{All, flat_map}
 use Rattle.arr_core.specs.declared.cell.Cell.{Cell}
 use Rattle.arr_core.specs.Domains.{points}
@@ -8,18 +8,20 @@ use Rattle.arr_core.specs.Tiles.{tile_boxes}
 use Rattle.wcps_mean.specs.declared.cell.PointFault.{PointFault}
 use Rattle.wcps_mean.specs.declared.cell.Outcome.{Outcome}
 use Rattle.wcps_mean.specs.Answer.{line_of, field_count}
-use Rattle.plan_ir.specs.Plans.{ItemTree, PlanTree}
+use Rattle.plan_ir.specs.declared.plan.Item.{Item}
+use Rattle.plan_ir.specs.Plans.{ItemTree, PlanTree, item_view}
 use Rattle.plan_ir.specs.Planned.{cells_of}
 use Rattle.plan_ir.specs.Run.{run}
 use Rattle.plan_ir.specs.Units.{Stage, bound}
 use Rattle.tile_kernel.specs.Standing.{Stands}
-use Rattle.tile_kernel.specs.Told.{Told}
+use Rattle.tile_kernel.specs.Told.{Told, IsFirstOf}
 use Rattle.tile_exec.specs.declared.task.Status.{Status}
 use Rattle.tile_exec.specs.declared.task.Status.TheVariants.{Giving, Skipping, Failed}
 use Rattle.tile_exec.specs.declared.task.AtHand.{AtHand}
 use Rattle.tile_exec.specs.declared.found.ItemTile.{ItemTile}
 use Rattle.tile_exec.specs.declared.found.Found.{Found}
 use Rattle.tile_exec.specs.declared.found.Found.TheVariants as found
+use Rattle.tile_exec.specs.declared.known.Known.{Known}
 use Rattle.tile_exec.specs.declared.state.State.{State}
 use Rattle.tile_exec.specs.Tasks.{Cells, PartTree, TaskTree, pass, condition, item, area_of}
 use Rattle.tile_exec.specs.Progress.{read_by}
@@ -29,7 +31,8 @@ use Rattle.tile_columns.specs.TileOrder.{tile_of}
 use Rattle.tile_exec.specs.Passes.{told_by_tile}
 use Rattle.tile_columns.specs.Fields.{HavePlaces}
 use Rattle.tile_exec.specs.Rows.{all_cells_told}
-use Rattle.tile_exec.specs.Items.{all_cells, told_to_item, places_of, places_written, ArePlaced, cell_count, IsFirstOf}
+use Rattle.tile_exec.specs.Known.{IsKnown, Knows}
+use Rattle.tile_exec.specs.Items.{all_cells, told_to_item, places_of, places_written, ArePlaced, cell_count}
 use Rattle.tile_exec.specs.Standing.{StandsFor, IsSound, IsPartOf, plan_of, tasks_left, boxes_left}
 
 -- whether a tile is the last one
@@ -87,11 +90,12 @@ Fits e [] last found.Skipped = Unit {0}
 Fits e [] last _ = ⊥
 Fits e (t ∷ tasks) last x = FitsUnit e.tile e.status t.part last x
 
--- the cells and the first fault of a tile of an item
+-- the cells and the first fault of a tile of an item, and what is known of it
 pub record TellsItem (s : Cells) (regs : List Outcome) (i : ItemTree) (t : ℕ) (x : ItemTile) : Type 0 where
   pub places : places_written (cells_placed x) ≡ flat_map (places_of i) (points (tile_of i.domain t))
   pub cells : ArePlaced (all_cells s regs i) (cells_placed x)
   pub first : IsFirstOf x.first (flat_map (told_to_item s regs i) (points (tile_of i.domain t)))
+  pub known : IsKnown s regs i x.known
 
 -- what is found is that of the tile at hand
 abbrev pub TellsPart : Cells → List Outcome → ℕ → PartTree → Found → Type 0
@@ -100,9 +104,27 @@ TellsPart s regs tile (condition c) (found.Condition o) = o ≡ run s regs c []
 TellsPart s regs tile (item i) (found.Item x) = TellsItem s regs i tile x
 TellsPart s regs tile _ _ = Unit {0}
 
+-- what a tile of an item is found to tell is so, if what is known is
+abbrev pub IsItemFound : {K : Type 0} → SourceState K → Ground → Item → ℕ → Option Known → ItemTile → Type 0
+IsItemFound source g i tile known x =
+    Knows source g i known → source.intact → TellsItem (cells_of source.cells g.coverages.now) g.registers.now (item_view i) tile x
+
 -- the same over a source, for a combination's coverages and registers
 abbrev pub IsFound : {K : Type 0} → SourceState K → Ground → ℕ → Found → PartTree → Type 0
 IsFound source g tile x p = source.intact → TellsPart (cells_of source.cells g.coverages.now) g.registers.now tile p x
+
+-- what is known of an item at hand that is given is so, over an intact source
+abbrev pub KnowsPartOf : Cells → List Outcome → Type 0 → Status → PartTree → Option Known → Type 0
+KnowsPartOf s regs intact status (pass p) known = Unit {0}
+KnowsPartOf s regs intact status (condition c) known = Unit {0}
+KnowsPartOf s regs intact status (item i) known = status ≡ Giving → intact → IsKnown s regs i known
+
+abbrev pub KnowsPart : {K : Type 0} → SourceState K → Ground → Status → PartTree → Option Known → Type 0
+KnowsPart source g status p known = KnowsPartOf (cells_of source.cells g.coverages.now) g.registers.now source.intact status p known
+
+-- what is found is that of the tile at hand, if what is known is so
+abbrev pub IsFoundBy : {K : Type 0} → SourceState K → Ground → AtHand → Found → PartTree → Type 0
+IsFoundBy source g hand x p = KnowsPart source g hand.status p (option_copied hand.known) → IsFound source g hand.tile x p
 
 -- what is found is that of the next unit
 abbrev pub TellsTask : Cells → State → List TaskTree → Found → Type 0
@@ -110,7 +132,7 @@ TellsTask s e [] x = Unit {0}
 TellsTask s e (t ∷ tasks) x = TellsPart (cells_of s t.coverages) (read_by t e.registers.items) e.tile t.part x
 
 abbrev pub IsNextFound : {K : Type 0} → SourceState K → State → Found → Type 0
-IsNextFound source e x = source.intact → TellsTask source.cells e (tasks_left e) x
+IsNextFound source e x = source.intact → StandsFor source.cells e → TellsTask source.cells e (tasks_left e) x
 
 -- one box fewer is left
 abbrev pub LosesFirst : List Stage → List Stage → Type 0

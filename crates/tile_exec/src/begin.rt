@@ -8,11 +8,11 @@ ghost use Rattle.tile_exec.specs.Standing.{IsBegun};
 ghost use Rattle.tile_exec.specs.Begun.{Lists, Adds, AddsTask, AddsOf, IsChosen};
 
 use crate::state::State;
-use crate::task::{First, Part, Status, Task};
+use crate::task::{Part, Status, Task};
 use crate::workspace::Workspace;
 use plan_ir::{Plan, Steps};
 use std::alloc::{AllocError, Global};
-use tile_kernel::Accumulator;
+use tile_kernel::{Accumulator, FirstFault};
 use wcps_text::Aggregate;
 
 /// Tasks in their order, and how many boxes they have together.
@@ -188,10 +188,8 @@ pub(crate) fn begun(alloc: Global, plan: Plan) -> Result<State, AllocError>
         status: Status::Giving,
         accumulator: Accumulator::empty(Aggregate::Count),
         cells: Vec::new(alloc),
-        first: First {
-            fault: None,
-            place: 0,
-        },
+        first: FirstFault::none(),
+        known: None,
         workspace,
     })
 }

@@ -1,20 +1,21 @@
 //! What a unit finds, before it is kept.
 
-use crate::task::First;
+use crate::known::Known;
 use arr_core::Cell;
-use tile_kernel::{Accumulator, Column};
+use tile_kernel::{Accumulator, Column, FirstFault};
 use wcps_mean::Outcome;
 
 /// A tile of an item: the columns of its fields, the places of its points, which fields are Boolean, and the first fault.
 /// What a run along the last axis has, and how many fields, are those of the item. A first tile brings room for the
-/// item's cells.
+/// item's cells, and what it found of all its points.
 #[derive(Drop)]
 pub(crate) struct ItemTile {
     pub columns: Vec<Column>,
     pub places: Vec<u64>,
     pub booleans: Vec<bool>,
-    pub first: First,
+    pub first: FirstFault,
     pub fresh: Vec<Cell>,
+    pub known: Option<Known>,
     pub line: u64,
     pub fields: u32,
 }

@@ -1,6 +1,6 @@
 //! A tile of an item.
 
-ghost use Rattle.std.specs.Prelude.{◌≡◌, ◌*◌, ◌<◌, ◌^◌, length, map, IfOk};
+ghost use Rattle.std.specs.Prelude.{◌≡◌, ◌*◌, ◌<◌, ◌^◌, length, map, option_copied, IfOk};
 ghost use Rattle.arr_core.specs.Domains.{count};
 ghost use Rattle.arr_core.specs.Tiles.{tile_boxes};
 ghost use Rattle.wcps_mean.specs.Answer.{field_count};
@@ -8,13 +8,13 @@ ghost use Rattle.plan_ir.specs.declared.plan.Field.{Field};
 ghost use Rattle.plan_ir.specs.Plans.{item_view};
 ghost use Rattle.tile_columns.specs.Calling.{Reads};
 ghost use Rattle.tile_columns.specs.Meaning.{IsGroundOf};
-ghost use Rattle.tile_exec.specs.declared.found.Found.{Found};
 ghost use Rattle.tile_exec.specs.declared.task.Status.TheVariants.{Giving};
-ghost use Rattle.tile_exec.specs.Units.{FitsItem, IsFound};
+ghost use Rattle.tile_exec.specs.Units.{FitsItem, IsItemFound};
 ghost use Rattle.tile_exec.specs.Fetching.{as_item, IsPartOver, FetchesTile};
 
-use crate::column::columns_over;
 use crate::found::ItemTile;
+use crate::keyed::{ItemColumns, TileAt, item_columns};
+use crate::known::Known;
 use crate::row::first_fault;
 use crate::workspace::Workspace;
 use arr_core::Cell;
@@ -34,12 +34,13 @@ pub(crate) fn item_tile<S: Tiles>(
     ground: &Ground<'_>,
     item: &Item,
     tile: u64,
+    known: Option<&Known>,
 ) -> Result<ItemTile, CellError>
     requires signatures { IsGroundOf (S.state source.old) ground.now }
     requires placed { IsPartOver (S.state source.old) ground.now (as_item item.now) }
     requires tile { tile < length (tile_boxes item.now.domain) }
     ensures fits { IfOk result (λ x. FitsItem (item_view item.now) tile Giving x) }
-    ensures tells { IfOk result (λ x. IsFound (S.state source.old) ground.now tile (Found.Item x) (as_item item.now)) }
+    ensures tells { IfOk result (IsItemFound (S.state source.old) ground.now item.now tile (option_copied known.entry)) }
     ensures fetched { FetchesTile result ground.now tile S.Tiles source.old source.new (as_item item.now) }
     ensures reads { Reads S.Tiles result source.old source.new }
 {
@@ -51,7 +52,17 @@ pub(crate) fn item_tile<S: Tiles>(
     let _axes = part.axes();
     let mut places = mem::replace(&mut workspace.places, Vec::new(alloc));
     ranks(&mut places, &item.domain, &part)?;
-    let columns = columns_over(&mut workspace.memory, source, ground, item, &part)?;
+    let at = TileAt {
+        area: &item.domain,
+        part: &part,
+        number: tile,
+        known,
+    };
+    let told = item_columns(workspace, source, ground, item, &at)?;
+    let ItemColumns {
+        columns,
+        known: found,
+    } = told;
     let booleans = booleans_of(alloc, &item.fields)?;
     let fresh = fresh_cells(alloc, item, tile)?;
     let first = first_fault(&places, &columns);
@@ -61,6 +72,7 @@ pub(crate) fn item_tile<S: Tiles>(
         booleans,
         first,
         fresh,
+        known: found,
         line: run_length(item.domain.axes()),
         fields: count_of(&item.fields),
     })

@@ -3,22 +3,22 @@
 ghost use Rattle.std.specs.Prelude.{◌≡◌, ℕ, Bool, ◌+◌, ◌<◌, ◌≤◌, ◌^◌, [], ◌∷◌, ◌++◌, length, vec_capacity};
 ghost use Rattle.wcps_text.specs.declared.operator.Aggregate.{Aggregate};
 ghost use Rattle.wcps_mean.specs.declared.cell.Outcome.{Outcome};
-ghost use Rattle.tile_kernel.specs.Joins.{HoldsOfBoth};
+ghost use Rattle.tile_kernel.specs.Told.{IsFirstOf};
 ghost use Rattle.tile_kernel.specs.Standing.{Stands};
 ghost use Rattle.tile_exec.specs.declared.task.Status.{Status};
 ghost use Rattle.tile_exec.specs.declared.found.Found.{Found};
-ghost use Rattle.tile_exec.specs.Items.{IsFirstOf};
 ghost use Rattle.tile_exec.specs.Progress.{after_condition};
 ghost use Rattle.tile_exec.specs.Standing.{IsSound, tasks_left};
 ghost use Rattle.tile_exec.specs.Units.{Fits, IsNotGiven, AfterSkipped, BeginsTile, Gives, Keeps};
 
 use crate::found::{Found, ItemTile, Unit};
+use crate::known::Known;
 use crate::row::write_points;
 use crate::state::State;
-use crate::task::{First, Status};
+use crate::task::Status;
 use arr_core::Cell;
 use std::mem;
-use tile_kernel::Accumulator;
+use tile_kernel::{Accumulator, FirstFault};
 use wcps_mean::{CellList, Item, Outcome, is_set};
 use wcps_text::Aggregate;
 
@@ -58,33 +58,12 @@ fn begin(accumulator: &mut Accumulator, tile: u64, op: Aggregate)
     }
 }
 
-/// The fault at the lower place of two.
-pub(crate) fn least_first(a: First, b: First) -> First
-    ensures { HoldsOfBoth (IsFirstOf a) (IsFirstOf b) (IsFirstOf result) }
-{
-    match a.fault {
-        None => return b,
-        Some(_) => match b.fault {
-            None => return a,
-            Some(_) => {
-                if a.place <= b.place {
-                    return a;
-                }
-                return b;
-            }
-        },
-    }
-}
-
 /// The first fault before a tile: that of the tiles before it, or none before the first tile.
-fn begin_first(first: First, tile: u64) -> First
+fn begin_first(first: FirstFault, tile: u64) -> FirstFault
     ensures { BeginsTile tile (IsFirstOf first) (IsFirstOf result) }
 {
     if tile == 0 {
-        return First {
-            fault: None,
-            place: 0,
-        };
+        return FirstFault::none();
     }
     first
 }
@@ -96,6 +75,17 @@ fn begin_cells(cells: &mut Vec<Cell>, tile: u64, fresh: Vec<Cell>)
 {
     if tile == 0 {
         *cells = fresh;
+        return;
+    }
+}
+
+/// What is known after a tile: what a first one found, else what was known before.
+fn begin_known(known: &mut Option<Known>, tile: u64, found: Option<Known>)
+    ensures kept { 0 < tile → known.new ≡ known.old }
+    ensures found { tile ≡ 0 → known.new ≡ found }
+{
+    if tile == 0 {
+        *known = found;
         return;
     }
 }
@@ -198,13 +188,15 @@ impl State {
             booleans,
             first,
             fresh,
+            known,
             line,
             fields,
         } = found;
         begin_cells(&mut self.cells, self.tile, fresh);
+        begin_known(&mut self.known, self.tile, known);
         write_points(&mut self.cells, &places, &booleans, &columns);
         self.workspace.take_back(places);
-        self.first = least_first(begin_first(self.first, self.tile), first);
+        self.first = begin_first(self.first, self.tile).least(first);
         self.left -= 1;
         if last {
             self.give_item(line, fields);

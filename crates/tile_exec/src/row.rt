@@ -6,13 +6,12 @@ ghost use Rattle.arr_core.specs.Limits.{max_points};
 ghost use Rattle.wcps_mean.specs.declared.cell.Outcome.{Outcome};
 ghost use Rattle.wcps_mean.specs.Answer.{cell_of};
 ghost use Rattle.tile_columns.specs.Fields.{HavePlaces};
-ghost use Rattle.tile_exec.specs.Items.{value_of, AreWrittenTo, IsFirstOf, IsFirstAfter};
+ghost use Rattle.tile_kernel.specs.Told.{IsFirstOf};
+ghost use Rattle.tile_exec.specs.Items.{value_of, AreWrittenTo, IsFirstAfter};
 ghost use Rattle.tile_exec.specs.Rows.{row_at, cells_at, LieBelow, all_cells_told, all_rows_told};
 
-use crate::keep::least_first;
-use crate::task::First;
 use arr_core::Cell;
-use tile_kernel::Column;
+use tile_kernel::{Column, FirstFault};
 use wcps_mean::{Outcome, cell_of};
 
 /// The cell of an outcome; at a fault it means nothing.
@@ -26,24 +25,24 @@ fn cell_at(boolean: bool, o: Outcome) -> Cell
 }
 
 /// The first fault after one more outcome.
-fn first_after(first: First, place: u64, o: Outcome) -> First
+fn first_after(first: FirstFault, place: u64, o: Outcome) -> FirstFault
     ensures { IsFirstAfter first result ((place, o) ∷ []) }
 {
     match o {
         Outcome::Value(_) => first,
         Outcome::Fault(f) => {
-            let fault = First {
+            let fault = FirstFault {
                 fault: Some(f),
                 place,
             };
-            least_first(first, fault)
+            first.least(fault)
         }
     }
 }
 
 /// Finds the first fault after a point, which has the k-th place of each column. Its cells have the places from `place` on.
 #[inline(always)]
-fn tell_point(columns: &[Column], k: usize, place: u64, first: &mut First)
+fn tell_point(columns: &[Column], k: usize, place: u64, first: &mut FirstFault)
     requires there { All (λ (c : List Outcome). k < length c) columns.now }
     requires small { place + length columns.now < 2 ^ 64 }
     ensures { IsFirstAfter first.old first.new (enumerate_from place (row_at columns.now k)) }
@@ -54,16 +53,13 @@ fn tell_point(columns: &[Column], k: usize, place: u64, first: &mut First)
 }
 
 /// Finds the first fault of the points of columns, one for each field, which have these places in the item's domain.
-pub(crate) fn first_fault(ranks: &[u64], columns: &[Column]) -> First
+pub(crate) fn first_fault(ranks: &[u64], columns: &[Column]) -> FirstFault
     requires there { HavePlaces (length ranks.now) columns.now }
     requires ranks { All (λ (r : ℕ). r < max_points) ranks.now }
     requires few { length columns.now < 2 ^ 32 }
     ensures { IsFirstOf result (all_rows_told ranks.now (length columns.now) columns.now) }
 {
-    let mut first = First {
-        fault: None,
-        place: 0,
-    };
+    let mut first = FirstFault::none();
     for k in 0..ranks.len() {
         let place = ranks[k] * columns.len() as u64;
         tell_point(columns, k, place, &mut first);

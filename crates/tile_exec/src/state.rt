@@ -1,11 +1,12 @@
 //! How far a plan is done.
 
-use crate::task::{First, Status, Task};
+use crate::known::Known;
+use crate::task::{Status, Task};
 use crate::workspace::Workspace;
 use arr_core::Cell;
 use plan_ir::Plan;
 use std::alloc::Global;
-use tile_kernel::Accumulator;
+use tile_kernel::{Accumulator, FirstFault};
 use wcps_mean::{Item, Outcome};
 
 /// A plan, what its tasks have given, and what is kept of the task at hand.
@@ -29,6 +30,8 @@ pub(crate) struct State {
     pub accumulator: Accumulator,
     /// The cells of the item at hand, and its first fault.
     pub cells: Vec<Cell>,
-    pub first: First,
+    pub first: FirstFault,
+    /// What is known of the item at hand.
+    pub known: Option<Known>,
     pub workspace: Workspace,
 }

@@ -1,5 +1,6 @@
 //! Tasks: the passes, conditions and items of a plan's combinations.
 
+use crate::known::Known;
 use plan_ir::Steps;
 use wcps_mean::PointFault;
 
@@ -33,18 +34,13 @@ pub(crate) enum Status {
     Failed(PointFault),
 }
 
-/// The fault at the least place so far, if there is one.
-#[derive(Clone, Copy, PartialEq, Eq, Debug)]
-pub(crate) struct First {
-    pub fault: Option<PointFault>,
-    pub place: u64,
-}
-
-/// The task at hand and the steps that have its part, how many of its tiles are done, and how it stands.
+/// The task at hand and the steps that have its part, how many of its tiles are done, how it stands, and what is known of
+/// an item.
 #[derive(Clone, Copy)]
 pub(crate) struct AtHand<'a> {
     pub steps: &'a Steps,
     pub task: Task,
     pub tile: u64,
     pub status: Status,
+    pub known: Option<&'a Known>,
 }

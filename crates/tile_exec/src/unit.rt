@@ -6,11 +6,12 @@ ghost use Rattle.tile_columns.specs.Sources.{FetchesAtMost};
 ghost use Rattle.tile_columns.specs.Calling.{Reads};
 ghost use Rattle.tile_columns.specs.Meaning.{IsGroundOf};
 ghost use Rattle.tile_exec.specs.Standing.{IsSound, plan_of, tasks_left};
-ghost use Rattle.tile_exec.specs.Units.{IsLast, Fits, FitsUnit, IsFound, IsNextFound, IfPart, unit_bound};
+ghost use Rattle.tile_exec.specs.Units.{IsLast, Fits, FitsUnit, IsFoundBy, IsNextFound, IfPart, unit_bound};
 ghost use Rattle.tile_exec.specs.Fetching.{IsReady, FetchesTile};
 
 use crate::found::{Found, Unit};
 use crate::item::item_tile;
+use crate::known::known_before;
 use crate::pass::{condition_of, pass_tile};
 use crate::state::State;
 use crate::task::{AtHand, Part, Status, Task};
@@ -62,13 +63,13 @@ fn unit_of<S: Tiles>(
     requires signatures { IsGroundOf (S.state source.old) ground.now }
     requires part { IsReady (S.state source.old) ground.now at.now }
     ensures fits { IfOk result (λ u. IfPart at.now (λ p. FitsUnit at.now.tile at.now.status p u.last u.found)) }
-    ensures tells { IfOk result (λ u. IfPart at.now (IsFound (S.state source.old) ground.now at.now.tile u.found)) }
+    ensures tells { IfOk result (λ u. IfPart at.now (IsFoundBy (S.state source.old) ground.now at.now u.found)) }
     ensures fetched { IfPart at.now (FetchesTile result ground.now at.now.tile S.Tiles source.old source.new) }
     ensures reads { Reads S.Tiles result source.old source.new }
 {
     match at.task.part {
         Part::Pass => match pass_at(&at.steps.passes, at.task.count) {
-            None => Err(CellError::NoMemory),
+            None => unreachable!(),
             Some(pass) => {
                 let a = pass_tile(workspace, source, ground, pass, at.tile)?;
                 Ok(Unit {
@@ -78,7 +79,7 @@ fn unit_of<S: Tiles>(
             }
         },
         Part::Condition => match &at.steps.condition {
-            None => Err(CellError::NoMemory),
+            None => unreachable!(),
             Some(condition) => {
                 let o = condition_of(workspace, source, ground, condition)?;
                 Ok(Unit {
@@ -91,7 +92,14 @@ fn unit_of<S: Tiles>(
             let last = is_last(&at.steps.item.domain, at.tile);
             match at.status {
                 Status::Giving => {
-                    let x = item_tile(workspace, source, ground, &at.steps.item, at.tile)?;
+                    let x = item_tile(
+                        workspace,
+                        source,
+                        ground,
+                        &at.steps.item,
+                        at.tile,
+                        at.known,
+                    )?;
                     Ok(Unit {
                         last,
                         found: Found::Item(x),
@@ -139,6 +147,7 @@ impl State {
                     task: *task,
                     tile: self.tile,
                     status: self.status,
+                    known: known_before(&self.known, self.tile),
                 };
                 unit_of(&mut self.workspace, source, &ground, &hand)
             }

@@ -8,7 +8,7 @@ use Rattle.tile_columns.specs.TileOrder.{tile_of}
 use Rattle.tile_exec.specs.declared.found.Found.TheVariants as found
 use Rattle.tile_exec.specs.Tasks.{area_of, bodies_of}
 use Rattle.tile_exec.specs.Standing.{IsPartOf}
-use Rattle.tile_exec.specs.Units.{FitsUnit, IsFound}
+use Rattle.tile_exec.specs.Units.{FitsUnit, IsFound, IsFoundBy}
 use Rattle.tile_exec.proofs.Finding.{is_pass, is_item}
 use Rattle.tile_exec.proofs.unit.unit_of.Goals as goal
 
@@ -22,7 +22,7 @@ returns-in_ok-a-in-Some-clause-fits g c = λ p h.
     (c.is_last.ensures, (c.in_ok-a-in-Some.ensures.op, c.in_ok-a-in-Some.ensures.count))
 
 pub returns-in_ok-a-in-Some-clause-tells : goal.returns-in_ok-a-in-Some-clause-tells
-returns-in_ok-a-in-Some-clause-tells g c = λ p h.
+returns-in_ok-a-in-Some-clause-tells g c = λ p h _.
     let s = c.args.at.now.steps.now in
     let n = c.args.at.now.task.count in
     let at = ap (λ l. slice_get l n) (sym c.deref.ensures.value) ∙ sym c.in-Some.ensures in
@@ -38,6 +38,14 @@ returns-in_ok-a-in-Some-clause-fetched g c = λ p h.
     let e = is_pass s n c.in-Some.pass.now p at (subst (λ k. IsPartOf s n k p) c.in-Pass.is h) in
     subst (λ p. FetchesAtMost (sum_by (bound_of (chosen (g.S.Tiles.state c.args.source.now) c.args.ground.now) (tile_of (area_of p) c.args.at.now.tile)) (bodies_of p)) (g.S.Tiles.state c.args.source.now) (g.S.Tiles.state c.pass_tile.new.source)) (sym e)
     c.in_ok-a-in-Some.ensures.fetched
+
+pub returns-in_ok-x-in-Giving-clause-tells : goal.returns-in_ok-x-in-Giving-clause-tells
+returns-in_ok-x-in-Giving-clause-tells g c = λ p h.
+    let s = c.args.at.now.steps.now in
+    let n = c.args.at.now.task.count in
+    let e = is_item s n p (subst (λ k. IsPartOf s n k p) c.in-Item.is h) in
+    subst (IsFoundBy (g.S.Tiles.state c.args.source.now) c.args.ground.now c.args.at.now (found.Item c.in_ok-x-in-Giving.x)) (sym e)
+    (λ knows. c.in_ok-x-in-Giving.ensures.tells (knows c.in-Giving.is))
 
 pub returns-in_ok-x-in-Giving-clause-fetched : goal.returns-in_ok-x-in-Giving-clause-fetched
 returns-in_ok-x-in-Giving-clause-fetched g c = λ p h.

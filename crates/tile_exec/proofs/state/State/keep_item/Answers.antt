@@ -68,14 +68,16 @@ returns-then-last c =
     let e = c.args.self.now in
     let a = item_at e c.args.last c.args.found c.requires.fits in
     let h = some_left e a.task a.tasks a.hand c.requires.sound in
-    item_next e c.give_item.new.self c.args.found c.begin_cells.new.cells.items c.write_points.new.cells c.begin_first.result c.least_first-self.result (e.left - 1) c.requires.sound (subst (λ b. Fits e (tasks_left e) b (found.Item c.args.found)) c.if-last.true c.requires.fits) (omega (arith, h))
+    item_next e c.give_item.new.self c.args.found c.begin_cells.new.cells.items c.write_points.new.cells c.begin_first.result c.least-self.result c.begin_known.new.known (e.left - 1) c.requires.sound (subst (λ b. Fits e (tasks_left e) b (found.Item c.args.found)) c.if-last.true c.requires.fits) (omega (arith, h))
     record {
       kept = c.begin_cells.ensures.kept;
       fresh = c.begin_cells.ensures.fresh;
       long = c.write_points.ensures.length;
       written = subst (AreWrittenTo c.begin_cells.new.cells.items c.write_points.new.cells.items) (placed_so c.args.found c.deref.result.now c.deref-2.result.now c.deref-3.result.now c.deref.ensures.value c.deref-2.ensures.value c.deref-3.ensures.value) c.write_points.ensures.written;
       begun = c.begin_first.ensures;
-      joined = c.least_first-self.ensures;
+      joined = c.least-self.ensures;
+      known_before = c.begin_known.ensures.kept;
+      known_found = c.begin_known.ensures.found;
     }
     c.give_item.ensures
 
@@ -91,12 +93,14 @@ returns c =
     let e = c.args.self.now in
     let a = item_at e c.args.last c.args.found c.requires.fits in
     let h = some_left e a.task a.tasks a.hand c.requires.sound in
-    item_further e c.args.found c.begin_cells.new.cells.items c.write_points.new.cells c.begin_first.result c.least_first-self.result (e.left - 1) c.requires.sound (subst (λ b. Fits e (tasks_left e) b (found.Item c.args.found)) c.if-last.false c.requires.fits) (omega (arith, h))
+    item_further e c.args.found c.begin_cells.new.cells.items c.write_points.new.cells c.begin_first.result c.least-self.result c.begin_known.new.known (e.left - 1) c.requires.sound (subst (λ b. Fits e (tasks_left e) b (found.Item c.args.found)) c.if-last.false c.requires.fits) (omega (arith, h))
     record {
       kept = c.begin_cells.ensures.kept;
       fresh = c.begin_cells.ensures.fresh;
       long = c.write_points.ensures.length;
       written = subst (AreWrittenTo c.begin_cells.new.cells.items c.write_points.new.cells.items) (placed_so c.args.found c.deref.result.now c.deref-2.result.now c.deref-3.result.now c.deref.ensures.value c.deref-2.ensures.value c.deref-3.ensures.value) c.write_points.ensures.written;
       begun = c.begin_first.ensures;
-      joined = c.least_first-self.ensures;
+      joined = c.least-self.ensures;
+      known_before = c.begin_known.ensures.kept;
+      known_found = c.begin_known.ensures.found;
     }

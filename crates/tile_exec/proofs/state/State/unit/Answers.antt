@@ -1,6 +1,6 @@
 -- The task at hand, if any, has its steps and its registers, and the unit finds what its tile gives.
 use Rattle.std.proofs.Common.{arith, sym, ap, ◌∙◌, ◌+◌, ◌≤◌, subst, length, refl, take, drop, true}
-use Rattle.std.specs.Prelude.{slice_get, sum_by, IsSomeAnd}
+use Rattle.std.specs.Prelude.{slice_get, sum_by, option_copied, IsSomeAnd}
 use Rattle.std.proofs.lemmas.Option.{slice_get_read}
 use Rattle.plan_ir.specs.Plans.{signature_of}
 use Rattle.plan_ir.specs.Planned.{cells_of}
@@ -8,11 +8,13 @@ use Rattle.plan_ir.specs.Units.{bound_of}
 use Rattle.tile_exec.specs.declared.found.Found.TheVariants as found
 use Rattle.tile_exec.specs.Tasks.{PartTree, area_of, bodies_of, IsPartPlaced}
 use Rattle.tile_columns.specs.TileOrder.{tile_of}
-use Rattle.tile_exec.specs.Standing.{IsPartOf, IsStepsOf, plan_of, tasks_left, boxes_left}
-use Rattle.tile_exec.specs.Units.{Fits, FitsUnit, TellsTask, TellsPart, first_bound}
+use Rattle.tile_exec.specs.Progress.{read_by}
+use Rattle.tile_exec.specs.Standing.{IsPartOf, IsStepsOf, StandsFor, plan_of, tasks_left, boxes_left}
+use Rattle.tile_exec.specs.Units.{Fits, FitsUnit, KnowsPartOf, TellsTask, TellsPart, first_bound}
 use Rattle.tile_exec.proofs.Finding.{found_task, some_within, read_length, none_past, ok_map, on_ok, next_bound}
 use Rattle.tile_exec.proofs.Keeping.{placed_at, none_left}
-use Rattle.tile_exec.proofs.Moves.{at_hand}
+use Rattle.tile_exec.proofs.KeepingItems.{knows_part}
+use Rattle.tile_exec.proofs.Moves.{at_hand, stands_at}
 use Rattle.tile_exec.proofs.state.State.unit.Goals as goal
 
 pub index-combination-requires : goal.index-combination-requires
@@ -96,9 +98,18 @@ returns-in-Some-clause-tells g c =
     let p = x.tree.part in
     let s = (g.S.Tiles.state c.args.source.now).cells in
     let registers = c.registers_from.ensures ∙ ap (λ r. take t.count (drop t.first r)) c.deref-in-Some-3.ensures.value ∙ ap (λ k. take k (drop t.first e.registers.items)) x.is.count ∙ ap (λ k. take x.tree.count (drop k e.registers.items)) x.is.first in
-    ok_map c.unit_of.result (λ u. (p : PartTree) → IsPartOf c.index-steps.result.now t.count t.part p → (g.S.Tiles.state c.args.source.now).intact → TellsPart (cells_of s c.deref-in-Some-2.result.now) c.registers_from.result.now e.tile p u.found) (λ u. (g.S.Tiles.state c.args.source.now).intact → TellsTask s e (tasks_left e) u.found)
-    (λ u f i. subst (λ ts. TellsTask s e ts u.found) (sym x.hand)
-    (subst (λ r. TellsPart (cells_of s x.tree.coverages) r e.tile p u.found) registers (subst (λ v. TellsPart (cells_of s v) c.registers_from.result.now e.tile p u.found) coverages (f p is i)))) c.unit_of.ensures.tells
+    let known = option_copied c.known_before.result in
+    ok_map c.unit_of.result
+    (λ u. (p : PartTree) → IsPartOf c.index-steps.result.now t.count t.part p → KnowsPartOf (cells_of s c.deref-in-Some-2.result.now) c.registers_from.result.now (g.S.Tiles.state c.args.source.now).intact e.status p known
+    → (g.S.Tiles.state c.args.source.now).intact → TellsPart (cells_of s c.deref-in-Some-2.result.now) c.registers_from.result.now e.tile p u.found)
+    (λ u. (g.S.Tiles.state c.args.source.now).intact → StandsFor s e → TellsTask s e (tasks_left e) u.found)
+    (λ u f i st.
+    let at = stands_at s e x.tree x.rest x.hand st in
+    let knows = knows_part (cells_of s x.tree.coverages) (read_by x.tree e.registers.items) (g.S.Tiles.state c.args.source.now).intact e p known c.known_before.ensures.first c.known_before.ensures.later at in
+    let here = subst (λ r. KnowsPartOf (cells_of s c.deref-in-Some-2.result.now) r (g.S.Tiles.state c.args.source.now).intact e.status p known) (sym registers)
+    (subst (λ v. KnowsPartOf (cells_of s v) (read_by x.tree e.registers.items) (g.S.Tiles.state c.args.source.now).intact e.status p known) (sym coverages) knows) in
+    subst (λ ts. TellsTask s e ts u.found) (sym x.hand)
+    (subst (λ r. TellsPart (cells_of s x.tree.coverages) r e.tile p u.found) registers (subst (λ v. TellsPart (cells_of s v) c.registers_from.result.now e.tile p u.found) coverages (f p is here i)))) c.unit_of.ensures.tells
 
 pub returns-in-Some-clause-fetched : goal.returns-in-Some-clause-fetched
 returns-in-Some-clause-fetched g c =
