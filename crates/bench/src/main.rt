@@ -15,20 +15,25 @@ use anyhow::{Result, bail};
 use std::alloc::{AllocError, Global};
 use std::env;
 
-/// Runs a part, and prints the line of that.
-fn run(rt: &HostRuntime, words: &[String]) -> Result<()> {
+/// Runs a part, and gives the line of that.
+fn line_of(rt: &HostRuntime, words: &[String]) -> Result<String> {
     let alloc = rt.alloc();
     let [part, rest @ ..] = words else {
         bail!("words: query|tile|csv|kernel|store ..");
     };
-    let line = match part.as_str() {
-        "query" => query::run(alloc, rest)?,
-        "tile" => tile::run(alloc, rest)?,
-        "csv" => csv::run(alloc, rest)?,
-        "kernel" => kernel::run(alloc, rest)?,
-        "store" => store::run(rt, rest)?,
+    match part.as_str() {
+        "query" => query::run(alloc, rest),
+        "tile" => tile::run(alloc, rest),
+        "csv" => csv::run(alloc, rest),
+        "kernel" => kernel::run(alloc, rest),
+        "store" => store::run(rt, rest),
         _ => bail!("no part {part}"),
-    };
+    }
+}
+
+/// Runs a part, and prints its line.
+fn run(rt: &HostRuntime, words: &[String]) -> Result<()> {
+    let line = line_of(rt, words)?;
     println!(rt; "{line}")?;
     Ok(())
 }
@@ -42,18 +47,28 @@ fn words_of(alloc: Global, line: &str) -> Result<Vec<String>, AllocError> {
     Ok(words)
 }
 
-fn main(rt: HostRuntime) -> Result<()> {
-    let alloc = rt.alloc();
-    let mut words = Vec::new(alloc);
-    for word in env::args(&rt)?.skip(1) {
+/// The words that the program is called with.
+fn arguments(rt: &HostRuntime) -> Result<Vec<String>> {
+    let mut words = Vec::new(rt.alloc());
+    for word in env::args(rt)?.skip(1) {
         words.push(word)?;
     }
-    if !words.is_empty() {
-        return run(&rt, &words);
-    }
-    for line in rt.lines(alloc) {
-        let words = words_of(alloc, line?.as_str())?;
-        run(&rt, &words)?;
+    Ok(words)
+}
+
+/// Runs what each line of standard input has the words of.
+fn run_lines(rt: &HostRuntime) -> Result<()> {
+    for line in rt.lines(rt.alloc()) {
+        run(rt, &words_of(rt.alloc(), line?.as_str())?)?;
     }
     Ok(())
+}
+
+fn main(rt: HostRuntime) -> Result<()> {
+    let words = arguments(&rt)?;
+    if words.is_empty() {
+        run_lines(&rt)
+    } else {
+        run(&rt, &words)
+    }
 }

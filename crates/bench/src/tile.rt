@@ -123,21 +123,38 @@ fn tile(
     Ok(cells)
 }
 
+/// The tiles.
+fn tiles(alloc: Global, kind: FieldType, pattern: &str) -> Result<Vec<Vec<i64>>, AllocError> {
+    let mut tiles = Vec::new(alloc);
+    for number in 0..TILES {
+        tiles.push(tile(alloc, kind, pattern, number)?)?;
+    }
+    Ok(tiles)
+}
+
+/// How many bytes or cells it were.
+fn size_of(
+    alloc: Global,
+    kind: FieldType,
+    pattern: &str,
+    action: &str,
+    rounds: u32,
+) -> Result<u64, AllocError> {
+    let tiles = tiles(alloc, kind, pattern)?;
+    if action == "encode" {
+        encode_all(alloc, kind, &tiles, rounds)
+    } else {
+        decode_all(alloc, kind, &tiles, rounds)
+    }
+}
+
 /// What the words ask for.
 pub fn run(alloc: Global, words: &[String]) -> Result<String> {
     let [kind, pattern, action, rounds] = words else {
         bail!("words: tile TYPE one|runs|twenty|three|noise encode|decode ROUNDS");
     };
     let kind = kind_of(kind.as_str());
-    let mut tiles = Vec::new(alloc);
-    for number in 0..TILES {
-        tiles.push(tile(alloc, kind, pattern.as_str(), number)?)?;
-    }
     let rounds = rounds.parse::<u32>()?;
-    let size = if action.as_str() == "encode" {
-        encode_all(alloc, kind, &tiles, rounds)?
-    } else {
-        decode_all(alloc, kind, &tiles, rounds)?
-    };
+    let size = size_of(alloc, kind, pattern.as_str(), action.as_str(), rounds)?;
     Ok(format!(in alloc; "{size}")?)
 }

@@ -1,8 +1,9 @@
 //! Columns as rows write them.
 
 use crate::words::{outcome, shown};
-use anyhow::{Context, Result, bail};
+use anyhow::{Result, bail};
 use std::alloc::Global;
+use test_rows::{cut, cut_at, index};
 use tile_kernel::{Column, MAX_PLACES, operate_columns};
 use wcps_mean::{Outcome, PointFault};
 use wcps_text::BinaryOperator;
@@ -50,8 +51,8 @@ fn is_fault(outcome: Outcome) -> Result<bool> {
 impl Ends {
     /// Reads a first, an inner and a last outcome, as `DivideByZero,3,BadBit`.
     fn read(words: &str) -> Result<Ends> {
-        let (first, rest) = words.split_once(',').context("no inner place")?;
-        let (inner, last) = rest.split_once(',').context("no last place")?;
+        let (first, rest) = cut_at(words, ',');
+        let (inner, last) = cut_at(rest, ',');
         Ok(Ends {
             first: outcome(first)?,
             inner: outcome(inner)?,
@@ -157,7 +158,7 @@ pub fn column(alloc: Global, len: usize, words: &str) -> Result<Column> {
 }
 
 /// The outcomes of a column.
-pub fn outcomes(alloc: Global, column: &Column) -> Result<Vec<Outcome>> {
+fn outcomes(alloc: Global, column: &Column) -> Result<Vec<Outcome>> {
     let mut outcomes = Vec::new(alloc);
     for place in 0..column.len() {
         outcomes.push(column.at(place))?;
@@ -194,21 +195,26 @@ pub fn text(alloc: Global, outcomes: &[Outcome]) -> Result<String> {
     }
 }
 
+/// The outcomes of a column as text.
+pub fn column_text(alloc: Global, column: &Column) -> Result<String> {
+    text(alloc, &outcomes(alloc, column)?)
+}
+
 /// The outcomes of a column into which a list of cells is exchanged, and how many cells the list has then.
 fn exchange(alloc: Global, column: &mut Column, mut cells: Vec<i64>) -> Result<String> {
     if cells.len() != MAX_PLACES {
         bail!("cells of no whole tile");
     }
     column.exchange(&mut cells);
-    let written = text(alloc, &outcomes(alloc, column)?)?;
+    let written = column_text(alloc, column)?;
     Ok(format!(in alloc; "{} and {} cells", written.as_str(), cells.len())?)
 }
 
 /// What a column of a length becomes by an exchange with the cells of a whole tile, as `65 DivideByZero,3,3 5,-6,7`.
 pub fn exchanged(alloc: Global, words: &str) -> Result<String> {
-    let (len, rest) = words.split_once(' ').context("no column")?;
-    let (before, cells) = rest.split_once(' ').context("no cells")?;
+    let (len, rest) = cut(words);
+    let (before, cells) = cut(rest);
     let cells = Ends::read(cells)?.cells(alloc, MAX_PLACES, Part::Value)?;
-    let mut column = column(alloc, len.parse::<usize>()?, before)?;
+    let mut column = column(alloc, index(len)?, before)?;
     exchange(alloc, &mut column, cells)
 }

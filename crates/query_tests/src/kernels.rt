@@ -1,49 +1,56 @@
 //! Calls of the kernels.
 
-use crate::columns::{column, exchanged, operated, outcomes, text};
+use crate::columns::{column, column_text, exchanged, operated};
 use crate::folds::{added, added_where, folded, folded_where, merged, whole, whole_where};
 use crate::keyed::keyed;
 use crate::windows::windowed;
 use crate::words::{aggregate, binary, outcome, shown, unary};
-use anyhow::{Context, Result, bail};
+use anyhow::{Result, bail};
 use std::alloc::Global;
-use test_rows::Answer;
+use test_rows::{Answer, cut, cut_at, index};
 use tile_kernel::{Accumulator, Column, operate_column};
 
 /// An operation on columns of a length, as `65 3,3,3 + =4`.
 fn both(alloc: Global, words: &str) -> Result<String> {
-    let (len, rest) = words.split_once(' ').context("no left column")?;
-    let (left, rest) = rest.split_once(' ').context("no operation")?;
-    let (op, right) = rest.split_once(' ').context("no right column")?;
-    let len = len.parse::<usize>()?;
+    let (len, rest) = cut(words);
+    let (left, rest) = cut(rest);
+    let (op, right) = cut(rest);
+    let len = index(len)?;
+    let op = binary(op)?;
     let left = column(alloc, len, left)?;
     let right = column(alloc, len, right)?;
-    let out = operated(alloc, binary(op)?, &left, &right)?;
-    text(alloc, &outcomes(alloc, &out)?)
+    column_text(alloc, &operated(alloc, op, &left, &right)?)
 }
 
 /// An operation on a column, as `65 - 3,3,3`.
 fn one(alloc: Global, words: &str) -> Result<String> {
-    let (len, rest) = words.split_once(' ').context("no operation")?;
-    let (op, operand) = rest.split_once(' ').context("no column")?;
-    let operand = column(alloc, len.parse::<usize>()?, operand)?;
+    let (len, rest) = cut(words);
+    let (op, operand) = cut(rest);
+    let op = unary(op)?;
+    let operand = column(alloc, index(len)?, operand)?;
     let mut out = Column::new(alloc)?;
-    operate_column(unary(op)?, &operand, &mut out);
-    text(alloc, &outcomes(alloc, &out)?)
+    operate_column(op, &operand, &mut out);
+    column_text(alloc, &out)
+}
+
+/// Tells an accumulator of a point, as `65:Overflow`, where it has been told of few.
+fn tell(accumulator: &mut Accumulator, point: &str) -> Result<()> {
+    let (place, word) = cut_at(point, ':');
+    let place = place.parse::<u64>()?;
+    let outcome = outcome(word)?;
+    if accumulator.running.count < 1000 {
+        accumulator.add(place, outcome);
+    }
+    Ok(())
 }
 
 /// A condenser told of points in this order, as `sum 65:Overflow,64:DivideByZero`; `-` for none.
 fn told(alloc: Global, words: &str) -> Result<String> {
-    let (word, points) = words.split_once(' ').context("no points")?;
-    let op = aggregate(word)?;
-    let mut accumulator = Accumulator::empty(op);
+    let (op, points) = cut(words);
+    let mut accumulator = Accumulator::empty(aggregate(op)?);
     if points != "-" {
         for point in points.split(',') {
-            let (place, o) = point.split_once(':').context("no place")?;
-            let place = place.parse::<u64>()?;
-            if accumulator.running.count < 1000 {
-                accumulator.add(place, outcome(o)?);
-            }
+            tell(&mut accumulator, point)?;
         }
     }
     Ok(shown(alloc, accumulator.finish())?)

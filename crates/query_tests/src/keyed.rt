@@ -5,8 +5,9 @@ ghost use Rattle.std.specs.Prelude.{◌≡◌, ℕ, ◌+◌, ◌<◌, ◌≤◌,
 use crate::columns::column;
 use crate::folds::{empties, finished, places_from};
 use crate::words::aggregate;
-use anyhow::{Context, Result, bail};
+use anyhow::{Result, bail};
 use std::alloc::Global;
+use test_rows::{cut, cut_at, index, integer};
 use tile_kernel::{Accumulator, Column, Numbers, condense_keyed};
 use wcps_text::Aggregate;
 
@@ -81,23 +82,34 @@ fn take_over(folds: &mut [Accumulator], more: &[Accumulator]) -> Result<()> {
     Ok(())
 }
 
+/// The three accumulators of a part: columns of a length with the place of their first cell, as `0:7,8,9:3,3,3`.
+fn condensed_part(
+    alloc: Global,
+    op: Aggregate,
+    numbers: &Three,
+    len: usize,
+    part: &str,
+) -> Result<Vec<Accumulator>> {
+    let (first, rest) = cut_at(part, ':');
+    let (keys, cells) = cut_at(rest, ':');
+    let first = first.parse::<u64>()?;
+    let keys = column(alloc, len, keys)?;
+    let cells = column(alloc, len, cells)?;
+    condensed(alloc, op, numbers, first, &keys, &cells)
+}
+
 /// Three accumulators that are told, each under its own number, of the cells of columns, each with the place of its first
 /// cell, its keys and its cells, as `sum 7 65 0:7,8,9:3,3,3 65:=7:1,1,1`. The numbers are 7, 8 and 9 then.
 pub fn keyed(alloc: Global, words: &str) -> Result<String> {
-    let (op, rest) = words.split_once(' ').context("no number")?;
-    let (number, rest) = rest.split_once(' ').context("no length")?;
-    let (len, parts) = rest.split_once(' ').context("no column")?;
-    let first = number.parse::<i64>()?;
-    let len = len.parse::<usize>()?;
+    let (op, rest) = cut(words);
+    let (number, rest) = cut(rest);
+    let (len, parts) = cut(rest);
     let op = aggregate(op)?;
+    let first = integer(number)?;
+    let len = index(len)?;
     let mut folds = empties(alloc, op, 3)?;
     for part in parts.split(' ') {
-        let (place, rest) = part.split_once(':').context("no place")?;
-        let (keys, cells) = rest.split_once(':').context("no keys")?;
-        let place = place.parse::<u64>()?;
-        let keys = column(alloc, len, keys)?;
-        let cells = column(alloc, len, cells)?;
-        let more = condensed(alloc, op, &Three { first }, place, &keys, &cells)?;
+        let more = condensed_part(alloc, op, &Three { first }, len, part)?;
         take_over(folds.as_mut_slice(), &more)?;
     }
     finished(alloc, folds)

@@ -4,10 +4,12 @@ ghost use Rattle.std.specs.Prelude.{◌*◌, ◌≤◌, ◌^◌, length, All, Is
 ghost use Rattle.tile_kernel.specs.declared.windows.Span.{Span};
 
 use crate::words::{aggregate, shown};
-use anyhow::{Context, Result, bail};
+use anyhow::{Result, bail};
 use std::alloc::Global;
+use test_rows::{cut, cut_at, index, numbers};
 use tile_kernel::{Grid, Span, condense_windows};
 use wcps_mean::Outcome;
+use wcps_text::Aggregate;
 
 /// How many cells a grid has here at most.
 const MOST: usize = 65_536;
@@ -16,9 +18,9 @@ const MOST: usize = 65_536;
 fn spans(alloc: Global, words: &str) -> Result<Vec<Span>> {
     let mut spans = Vec::new(alloc);
     for word in words.split(',') {
-        let (from, to) = word.split_once('-').context("no span")?;
-        let from = from.parse::<usize>()?;
-        let to = to.parse::<usize>()?;
+        let (from, to) = cut_at(word, '-');
+        let from = index(from)?;
+        let to = index(to)?;
         spans.push(Span { from, to })?;
     }
     Ok(spans)
@@ -54,35 +56,43 @@ fn text(alloc: Global, outcomes: &[Outcome]) -> Result<String> {
     Ok(text)
 }
 
-/// The outcomes of the windows of a grid, as `sum 3 1,2,3,4,5,6 0-1,0-2 0-2,1-3`: its width, its cells, the spans of rows
-/// and those of columns.
-pub fn windowed(alloc: Global, words: &str) -> Result<String> {
-    let (op, rest) = words.split_once(' ').context("no width")?;
-    let (width, rest) = rest.split_once(' ').context("no cells")?;
-    let (numbers, rest) = rest.split_once(' ').context("no rows")?;
-    let (down, across) = rest.split_once(' ').context("no columns")?;
-    let mut cells = Vec::new(alloc);
-    for number in numbers.split(',') {
-        cells.push(number.parse::<i64>()?)?;
-    }
-    let grid = Grid {
-        cells: cells.as_slice(),
-        width: width.parse::<usize>()?,
-    };
-    let down = spans(alloc, down)?;
-    let across = spans(alloc, across)?;
-    if !are_within(&grid, down.as_slice(), across.as_slice()) {
+/// The outcomes of the windows of a grid that lie in some rows and columns.
+fn condensed(
+    alloc: Global,
+    op: Aggregate,
+    grid: &Grid<'_>,
+    down: &[Span],
+    across: &[Span],
+) -> Result<String> {
+    if !are_within(grid, down, across) {
         bail!("a span outside of the grid");
     }
     let mut outcomes = Vec::new(alloc);
     outcomes.push(Outcome::Value(7))?;
-    condense_windows(
-        alloc,
-        aggregate(op)?,
-        &grid,
-        down.as_slice(),
-        across.as_slice(),
-        &mut outcomes,
-    )?;
+    condense_windows(alloc, op, grid, down, across, &mut outcomes)?;
     text(alloc, outcomes.as_slice())
+}
+
+/// The same, as `0-1,0-2 0-2,1-3`: the spans of rows and those of columns.
+fn over_windows(alloc: Global, op: Aggregate, grid: &Grid<'_>, words: &str) -> Result<String> {
+    let (down, across) = cut(words);
+    let down = spans(alloc, down)?;
+    let across = spans(alloc, across)?;
+    condensed(alloc, op, grid, down.as_slice(), across.as_slice())
+}
+
+/// The outcomes of the windows of a grid, as `sum 3 1,2,3,4,5,6 0-1,0-2 0-2,1-3`: its width, its cells, the spans of rows
+/// and those of columns.
+pub fn windowed(alloc: Global, words: &str) -> Result<String> {
+    let (op, rest) = cut(words);
+    let (width, rest) = cut(rest);
+    let (cells, spans) = cut(rest);
+    let op = aggregate(op)?;
+    let width = index(width)?;
+    let cells = numbers(alloc, cells)?;
+    let grid = Grid {
+        cells: cells.as_slice(),
+        width,
+    };
+    over_windows(alloc, op, &grid, spans)
 }

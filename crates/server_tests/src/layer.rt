@@ -137,6 +137,11 @@ impl Site {
         told(alloc, server, pairs)
     }
 
+    /// The same for a request whose pairs are written as `bytes` reads them.
+    fn ask_written(&mut self, alloc: Global, written: &str) -> Result<String> {
+        self.ask(alloc, &bytes(alloc, written)?)
+    }
+
     /// Keeps the request that tells the state, and the body of its reply.
     fn keep(&mut self, alloc: Global, words: &str) -> Result<()> {
         let (pairs, body) = words.split_once(" is").context("no body")?;
@@ -196,11 +201,11 @@ impl Layer for Site {
         }
         match verb {
             "writes" | "later" | "state" => self.prepare(alloc, verb, words),
-            "ask" => self.ask(alloc, &bytes(alloc, words)?),
+            "ask" => self.ask_written(alloc, words),
             "looks" => looks(alloc, words),
             "devices" => self.on_devices(alloc, words),
             "script" => self.begin_script(alloc, words),
-            "asks" => self.add_step(alloc, &text(alloc, words)?),
+            "asks" => self.add_step(alloc, words),
             "growths" => self.play(rt, words),
             _ => self.storage.answer(rt, call),
         }

@@ -5,7 +5,7 @@ use http_front::{Conn, Next, PieceReader};
 use std::alloc::Global;
 use std::str;
 use stream_face::Watched;
-use test_rows::{bytes, cut_at, refusal};
+use test_rows::{bytes, cut_at, index, refusal};
 
 /// Adds what a look found, on a line: the pairs of a message, the refusal, `Ended` or `ReadFault`.
 fn say_found(alloc: Global, text: &mut String, found: &Next) -> Result<()> {
@@ -19,23 +19,35 @@ fn say_found(alloc: Global, text: &mut String, found: &Next) -> Result<()> {
     Ok(())
 }
 
+/// What so many looks find, each on a line.
+fn found(alloc: Global, source: &mut Watched<PieceReader<'_>>, count: usize) -> Result<String> {
+    let mut conn = Conn::new();
+    let mut text = String::new(alloc);
+    for _look in 0..count {
+        say_found(alloc, &mut text, &conn.next(alloc, source))?;
+    }
+    Ok(text)
+}
+
+/// What so many looks find on a stream, and how many bytes it has left then.
+fn looked(alloc: Global, reader: PieceReader<'_>, count: usize) -> Result<String> {
+    let mut source = Watched::new(reader);
+    let text = found(alloc, &mut source, count)?;
+    let left = source.inner.rest().len();
+    Ok(format!(in alloc; "{text}{left} left")?)
+}
+
 /// What so many looks find on a stream whose reader gives so many bytes a read, and how many bytes it has left then. A
 /// reader behind `!` fails at its end.
 pub fn looks(alloc: Global, words: &str) -> Result<String> {
     let (step, rest) = cut_at(words, ' ');
     let (count, written) = cut_at(rest, ' ');
+    let step = index(step)?;
+    let count = index(count)?;
     let stream = bytes(alloc, written.strip_prefix('!').unwrap_or(written))?;
-    let mut reader = PieceReader::new(stream.as_slice(), 0, step.parse::<usize>()?);
+    let mut reader = PieceReader::new(stream.as_slice(), 0, step);
     if written.starts_with('!') {
         reader.break_off();
     }
-    let mut source = Watched::new(reader);
-    let mut conn = Conn::new();
-    let mut text = String::new(alloc);
-    for _look in 0..count.parse::<usize>()? {
-        let found = conn.next(alloc, &mut source);
-        say_found(alloc, &mut text, &found)?;
-    }
-    let left = source.inner.rest().len();
-    Ok(format!(in alloc; "{text}{left} left")?)
+    looked(alloc, reader, count)
 }

@@ -22,5 +22,7 @@ use test_rows::judge;
 
 fn main(rt: HostRuntime) -> Result<ExitCode> {
     let mut scripts = Scripts::new(rt.alloc());
-    judge(&rt, &mut scripts)
+    let outcome = judge(&rt, &mut scripts);
+    drop(scripts);
+    outcome
 }

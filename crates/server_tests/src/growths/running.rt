@@ -8,7 +8,7 @@ use anyhow::{Context, Result, bail};
 use disk_face::{FileDisk, MemDisk};
 use std::alloc::Global;
 use std::fs;
-use test_rows::{cut, index};
+use test_rows::{cut, index, text};
 
 /// The file of the system in which a store lies.
 const PATH: &str = "growths.tmp";
@@ -126,9 +126,10 @@ impl Site {
     }
 
     /// Adds a request to the script, and gives the body of its reply.
-    pub fn add_step(&mut self, alloc: Global, pairs: &str) -> Result<String> {
+    pub fn add_step(&mut self, alloc: Global, written: &str) -> Result<String> {
+        let pairs = text(alloc, written)?;
         let server = self.server.as_mut().context("no server")?;
-        self.script.add(alloc, server, pairs)
+        self.script.add(alloc, server, pairs.as_str())
     }
 
     /// Ends the script where its server is open, by a close, and plays it.

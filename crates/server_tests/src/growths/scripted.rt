@@ -4,7 +4,7 @@ use crate::storage::disks::TestDisk;
 use crate::streams::whole;
 use anyhow::{Context, Result};
 use coverage_server::Server;
-use std::alloc::Global;
+use std::alloc::{AllocError, Global};
 use std::str;
 
 /// A message that is answered by 11 whatever the store is, and the reply to it.
@@ -36,6 +36,21 @@ fn body_of(reply: &str) -> &str {
     }
 }
 
+/// The stream of the pairs of a request.
+fn stream_of(alloc: Global, pairs: &str) -> Result<String, AllocError> {
+    let length = pairs.len();
+    format!(in alloc; "POST /ows HTTP/1.1\r\nContent-Length: {length}\r\n\r\n{pairs}{BEHIND}")
+}
+
+/// The first reply to a stream.
+fn reply_to(alloc: Global, server: &mut Server<TestDisk>, stream: &str) -> Result<String> {
+    let written = whole(alloc, server, stream.as_bytes())?;
+    let reply = str::from_utf8(&written)?
+        .strip_suffix(REPLY_BEHIND)
+        .context("the message behind it has another reply")?;
+    Ok(String::from_str(alloc, reply)?)
+}
+
 impl Script {
     /// A script without a step over the store of a file.
     pub fn new(alloc: Global, file: Vec<u8>) -> Script {
@@ -53,16 +68,9 @@ impl Script {
         server: &mut Server<TestDisk>,
         pairs: &str,
     ) -> Result<String> {
-        let length = pairs.len();
-        let stream = format!(in alloc;
-            "POST /ows HTTP/1.1\r\nContent-Length: {length}\r\n\r\n{pairs}{BEHIND}"
-        )?;
-        let written = whole(alloc, server, stream.as_bytes())?;
-        let reply = str::from_utf8(&written)?
-            .strip_suffix(REPLY_BEHIND)
-            .context("the message behind it has another reply")?;
-        let body = String::from_str(alloc, body_of(reply))?;
-        let reply = String::from_str(alloc, reply)?;
+        let stream = stream_of(alloc, pairs)?;
+        let reply = reply_to(alloc, server, stream.as_str())?;
+        let body = String::from_str(alloc, body_of(reply.as_str()))?;
         self.steps.push(Step { stream, reply })?;
         Ok(body)
     }

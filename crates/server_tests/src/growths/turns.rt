@@ -4,7 +4,7 @@ use crate::growths::counts::{Counts, Part, Wrong};
 use crate::growths::refusing::{refuse, was_one_refused};
 use crate::growths::scripted::{REPLY_BEHIND, Script, Step};
 use arr_core::Refusal;
-use coverage_server::{ConnEnd, Server};
+use coverage_server::{ConnEnd, NotClosed, Server};
 use disk_face::Disk;
 use http_front::PieceReader;
 use std::alloc::{AllocError, Global};
@@ -94,21 +94,30 @@ impl Turn {
         })
     }
 
+    /// Counts the refusal of a close, and gives the server back.
+    fn take_back<D: Disk + Drop>(&mut self, refused: NotClosed<D>) -> Result<Server<D>, Wrong> {
+        let NotClosed { server, fault } = refused;
+        match self.count(Part::Close, fault.refusal()) {
+            Ok(()) => Ok(server),
+            Err(wrong) => {
+                drop(server);
+                Err(wrong)
+            }
+        }
+    }
+
     /// Closes the store of a server, which comes back where that is refused.
     fn close<D: Disk + Drop>(&mut self, server: Server<D>) -> Result<D, Wrong> {
-        let part = Part::Close;
         let mut server = server;
         for _attempt in 0..=self.count {
             match server.close() {
                 Ok(disk) => return Ok(disk),
-                Err(refused) => {
-                    self.count(part, refused.fault.refusal())?;
-                    server = refused.server;
-                }
+                Err(refused) => server = self.take_back(refused)?,
             }
         }
+        drop(server);
         Err(Wrong {
-            part,
+            part: Part::Close,
             refusal: Some(Refusal::NoMemory),
         })
     }
@@ -156,6 +165,18 @@ impl Turn {
         })
     }
 
+    /// Sends the streams of all steps.
+    fn ask_all<D: Disk + Drop>(
+        &mut self,
+        server: &mut Server<D>,
+        script: &Script,
+    ) -> Result<(), Wrong> {
+        for place in 0..script.steps.len() {
+            self.ask(server, place, &script.steps[place])?;
+        }
+        Ok(())
+    }
+
     /// Opens the store of a disk, asks what the script has, and closes it.
     fn played<D: Disk + Drop>(
         &mut self,
@@ -164,10 +185,13 @@ impl Turn {
         script: &Script,
     ) -> Result<D, Wrong> {
         let mut server = self.open(alloc, disk)?;
-        for place in 0..script.steps.len() {
-            self.ask(&mut server, place, &script.steps[place])?;
+        match self.ask_all(&mut server, script) {
+            Ok(()) => self.close(server),
+            Err(wrong) => {
+                drop(server);
+                Err(wrong)
+            }
         }
-        self.close(server)
     }
 
     /// The same, while growths are refused.

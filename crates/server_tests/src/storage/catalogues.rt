@@ -132,6 +132,12 @@ fn describe(alloc: Global, answer: &mut Answer, catalogue: &Catalogue, words: &s
     Ok(())
 }
 
+/// The bytes of the catalogue.
+fn bytes(alloc: Global, answer: &mut Answer, catalogue: &Catalogue) -> Result<()> {
+    answer.hex(&catalogue.to_bytes(alloc)?);
+    Ok(())
+}
+
 /// A call on a catalogue.
 pub fn call(
     alloc: Global,
@@ -142,15 +148,15 @@ pub fn call(
     words: &str,
 ) -> Result<()> {
     match verb {
-        "of" => read(alloc, answer, catalogue, files, words)?,
-        "insert" => insert(alloc, answer, catalogue, words)?,
-        "insert_many" => insert_many(alloc, answer, catalogue, number(words))?,
-        "size_with" => size_with(alloc, answer, catalogue, words)?,
-        "remove" => remove(alloc, answer, catalogue, words)?,
-        "describe" => describe(alloc, answer, catalogue, words)?,
-        "list" => names(alloc, answer, catalogue)?,
+        "of" => return read(alloc, answer, catalogue, files, words),
+        "insert" => return insert(alloc, answer, catalogue, words),
+        "insert_many" => return insert_many(alloc, answer, catalogue, number(words)),
+        "size_with" => return size_with(alloc, answer, catalogue, words),
+        "remove" => return remove(alloc, answer, catalogue, words),
+        "describe" => return describe(alloc, answer, catalogue, words),
+        "list" => return names(alloc, answer, catalogue),
+        "bytes" => return bytes(alloc, answer, catalogue),
         "size" => say_size(answer, catalogue),
-        "bytes" => answer.hex(&catalogue.to_bytes(alloc)?),
         _ => answer.wrong("no such call"),
     }
     Ok(())

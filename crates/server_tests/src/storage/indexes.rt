@@ -121,6 +121,18 @@ fn replace(alloc: Global, answer: &mut Answer, index: &mut TileIndex, words: &st
     Ok(())
 }
 
+/// The blocks that an index lists.
+fn blocks(alloc: Global, answer: &mut Answer, index: &TileIndex) -> Result<()> {
+    say_list(alloc, answer, &index.blocks(alloc)?);
+    Ok(())
+}
+
+/// The bytes of an index.
+fn bytes(alloc: Global, answer: &mut Answer, index: &TileIndex) -> Result<()> {
+    answer.hex(&index.to_bytes(alloc)?);
+    Ok(())
+}
+
 /// A call on an index.
 pub fn call(
     alloc: Global,
@@ -131,13 +143,13 @@ pub fn call(
     words: &str,
 ) -> Result<()> {
     match verb {
-        "of" => read(alloc, answer, index, Version::Two, files, words)?,
-        "of_version_1" => read(alloc, answer, index, Version::One, files, words)?,
-        "replace" => replace(alloc, answer, index, words)?,
+        "of" => return read(alloc, answer, index, Version::Two, files, words),
+        "of_version_1" => return read(alloc, answer, index, Version::One, files, words),
+        "replace" => return replace(alloc, answer, index, words),
+        "blocks" => return blocks(alloc, answer, index),
+        "index_bytes" => return bytes(alloc, answer, index),
         "entry" => say_entry(alloc, answer, index.get(number(words))),
         "tiles" => answer.count(index.as_slice().len() as u64),
-        "blocks" => say_list(alloc, answer, &index.blocks(alloc)?),
-        "index_bytes" => answer.hex(&index.to_bytes(alloc)?),
         _ => answer.wrong("no such call"),
     }
     Ok(())

@@ -253,6 +253,14 @@ fn read_tiles(alloc: Global, answer: &mut Answer, store: &mut Store, target: &Ta
     read_into(alloc, answer, store, target, number(second), &mut cells);
 }
 
+/// The bytes of the index of a field.
+fn index_bytes(alloc: Global, answer: &mut Answer, store: &Store, target: &Target) -> Result<()>
+    requires { HasField target.now.name target.now.field store.now.coverages }
+{
+    answer.hex(&store.index_bytes(alloc, &target.name, target.field)?);
+    Ok(())
+}
+
 /// A call on a field of a store whose catalogue has so many bytes.
 fn on_field(
     alloc: Global,
@@ -266,13 +274,13 @@ fn on_field(
 {
     let FieldCall { verb, words } = call;
     match verb {
-        "update" => update(alloc, answer, store, bytes, target, words)?,
-        "fill" => fill(alloc, answer, store, bytes, target, words)?,
-        "box" => read_box(alloc, answer, store, target, words)?,
-        "at" => read_point(alloc, answer, store, target, words)?,
+        "update" => return update(alloc, answer, store, bytes, target, words),
+        "fill" => return fill(alloc, answer, store, bytes, target, words),
+        "box" => return read_box(alloc, answer, store, target, words),
+        "at" => return read_point(alloc, answer, store, target, words),
+        "index" => return index_bytes(alloc, answer, store, target),
         "tile" => read_tile(alloc, answer, store, target, number(words)),
         "tiles" => read_tiles(alloc, answer, store, target, words),
-        "index" => answer.hex(&store.index_bytes(alloc, &target.name, target.field)?),
         _ => answer.wrong("no such call"),
     }
     Ok(())
@@ -416,17 +424,17 @@ pub fn call(
     words: &str,
 ) -> Result<()> {
     match verb {
-        "create" => create(alloc, answer, store, bytes, words)?,
-        "described" => describe(alloc, answer, store, words)?,
-        "delete" => delete(alloc, answer, store, words)?,
+        "create" => return create(alloc, answer, store, bytes, words),
+        "described" => return describe(alloc, answer, store, words),
+        "delete" => return delete(alloc, answer, store, words),
+        "hold" => return hold(alloc, answer, store, words),
+        "held" => return read_held(alloc, answer, store, words),
+        "pick" => return pick(alloc, answer, store, words),
+        "runs" => return list(alloc, answer, store, words),
         "fetched" => answer.count(store.fetched()),
         "count" => answer.count(store.len() as u64),
-        "hold" => hold(alloc, answer, store, words)?,
         "release" => release(answer, store, number(words)),
-        "held" => read_held(alloc, answer, store, words)?,
-        "pick" => pick(alloc, answer, store, words)?,
-        "runs" => list(alloc, answer, store, words)?,
-        _ => of_field(alloc, answer, store, bytes, verb, words)?,
+        _ => return of_field(alloc, answer, store, bytes, verb, words),
     }
     Ok(())
 }
