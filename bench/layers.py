@@ -71,6 +71,11 @@ class Connection:
     def spent(self):
         return on_processor(self.process.pid)
 
+    def resident(self, most=False):
+        """The KiB of memory that the process has, or has had at most."""
+        with open(f"/proc/{self.process.pid}/status") as file:
+            return next(int(line.split()[1]) for line in file if line.startswith("VmHWM" if most else "VmRSS"))
+
 
 class Session(Connection):
     """The program over a store, one connection through a pipe."""
@@ -86,11 +91,6 @@ class Session(Connection):
         self.process.stdin.close()
         if self.process.wait() != 0:
             sys.exit(f"the program ended with status {self.process.returncode}")
-
-    def resident(self, most=False):
-        """The KiB of memory that the program has, or has had at most."""
-        with open(f"/proc/{self.process.pid}/status") as file:
-            return next(int(line.split()[1]) for line in file if line.startswith("VmHWM" if most else "VmRSS"))
 
 
 def updates(name, cells, side, row, rows):

@@ -5,12 +5,12 @@ usage: bench/queries.py [--again] [--beside] [WORD..]    only the rows that have
 
 The queries go to the built program over the store of layers.py, through a pipe. The time is that which the program is on a
 processor from the query to the end of its reply, the median of several; the loops of queries.c read cells of 16 bits in memory
-and write their own digits; they are compiled here by cc -O3, and their times are medians of processor time too. Beside small
-requests stands a server in C, echo.c, that finds the end of a message and writes the same reply. Each reply is compared with
-what the loop printed. The second column is what the program has had of memory at most until then. The aim is how many times
-C's time a query is to take at most, or how many times another row's, where that is printed too; the last lines say which aims
-were missed. Behind the queries stand small requests, and what a store of as many tiles as a file of 4 GiB has room for takes to
-open and to close.
+and write their own digits; they are compiled here by cc -O3, and their times are medians of processor time too. Small requests
+go over one connection on loopback, beside a server in C, echo.c, that finds the end of a message and writes the same reply.
+Each reply is compared with what the loop printed. The second column is what the program has had of memory at most until then.
+The aim is how many times C's time a query is to take at most, or how many times another row's, where that is printed too; the
+last lines say which aims were missed. Behind the queries stand small requests, and what a store of as many tiles as a file of
+4 GiB has room for takes to open and to close.
 
 With --beside the same is asked of PostGIS raster (by_postgis.py) and of numpy behind a small HTTP server (by_numpy.py), each
 where it is installed, and their processor times stand in columns of their own: that of the backend, and that of the server. A
@@ -19,6 +19,7 @@ the store is made anew. bench/submissions.py has what jobs take.
 """
 import contextlib
 import os
+import socket
 import statistics
 import subprocess
 import sys
@@ -26,13 +27,14 @@ import time
 
 sys.dont_write_bytecode = True
 TOP = os.path.dirname(os.path.dirname(os.path.abspath(__file__)))
-sys.path.insert(0, f"{TOP}/oracle")
+sys.path[:0] = [f"{TOP}/oracle", f"{TOP}/scripts"]
 
 import by_numpy
 import by_postgis
 from compiled import compiled
-from layers import FOLDER, SIDE, Connection, Session, cells_of, is_made, make_store, message, updates
+from layers import FOLDER, PROGRAM, SIDE, STORE, Connection, Session, cells_of, is_made, make_store, message, updates
 from room import FILLER, Filler
+from served import free_port
 
 # no more askings of a query once they took so many seconds
 ENOUGH = 20
@@ -211,24 +213,45 @@ def ingest(table, session, loops, plain):
 
 
 @contextlib.contextmanager
+def listener(*words):
+    """A connection over loopback to a server, behind whose words stand its port and how many connections it serves."""
+    port = free_port()
+    with subprocess.Popen([*words, str(port), "1"], stdin=subprocess.DEVNULL) as process:
+        with connected(port) as client:
+            client.setsockopt(socket.IPPROTO_TCP, socket.TCP_NODELAY, 1)
+            with client.makefile("wb") as messages, client.makefile("rb") as replies:
+                yield Connection(process, messages, replies)
+
+
+def connected(port):
+    """A connection to a server, once it listens."""
+    given_up = time.monotonic() + ENOUGH
+    while True:
+        try:
+            return socket.create_connection(("127.0.0.1", port))
+        except ConnectionRefusedError:
+            if time.monotonic() > given_up:
+                raise
+            time.sleep(0.01)
+
+
 def echo(program, request, body):
     """A server in C that writes the reply with this body to each such request."""
     head = b"HTTP/1.1 200 OK\r\nContent-Type: text/csv\r\nContent-Length: %d\r\n\r\n" % len(body)
-    words = [program, head + body, str(len(request.split(b"\r\n\r\n", 1)[1]))]
-    with subprocess.Popen(words, stdin=subprocess.PIPE, stdout=subprocess.PIPE) as process:
-        yield Connection(process, process.stdin, process.stdout)
+    return listener(program, head + body, str(len(request.split(b"\r\n\r\n", 1)[1])))
 
 
-def small_requests(table, session, echoes, plain):
-    """Small requests, one at a time and many at a time, on connections that are there, of all by turns."""
+def small_requests(table, echoes, plain):
+    """Small requests over a connection, one at a time and many at a time, of all by turns."""
     for name, loop, aim, request, together in SMALL:
         if table.has(name):
             text = plain[loop][1]
-            with echo(echoes, request, text) as server:
+            with listener(PROGRAM, STORE, "listen") as session, echo(echoes, request, text) as server:
                 turns = [(session, request), (server, request)] + [(it, it.forms[loop]) for it in table.beside]
                 rounds = [[asked(*it, text, together) for it in turns] for _ in range(max(TURNS // together, 25))]
+                most = session.resident(True) >> 10
             taken, least, *others = map(statistics.median, zip(*rounds))
-            table.row(name, taken, session.resident(True) >> 10, least, others, aim)
+            table.row(name, taken, most, least, others, aim)
 
 
 def beside_many(table):
@@ -298,10 +321,10 @@ def main():
         plain = printed_by(loops, table.loops())
         with Session() as session:
             queries(table, session, plain)
-        with Session() as session:
-            if table.has(INGEST):
+        if table.has(INGEST):
+            with Session() as session:
                 ingest(table, session, loops, plain)
-            small_requests(table, session, echoes, plain)
+        small_requests(table, echoes, plain)
         if table.has(*BESIDE_MANY):
             beside_many(table)
         if table.has(MOST_TILES):
