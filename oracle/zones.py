@@ -35,7 +35,7 @@ class Zones:
         self.chance = chance
         if chance.random() < 0.25:
             lo = chance.randint(-70, 0)
-            self.axes = [("x", lo, lo + chance.randint(60, 80)), ("y", 0, chance.randint(0, 1))]
+            self.axes = [("x", lo, lo + chance.randint(60, 100)), ("y", 0, chance.randint(0, 1))]
         else:
             self.axes = [("x", -1, chance.randint(-1, 5)), ("y", 3, chance.randint(3, 8))]
         self.store = {}
