@@ -1,6 +1,6 @@
 /* A server that reads 16,384 bytes at a time, looks for the blank line behind each head, passes over the body, and writes the
- * same reply to each message, one write a message. Its words are the reply and how many bytes a body has; it serves its
- * standard streams, or, with a port and a number behind these, so many connections over loopback, one after the other. */
+ * same reply to each message, one write a message. Its words are the reply, how many bytes a body has, a port, and how many
+ * connections over loopback it serves, one after the other. */
 #define _GNU_SOURCE
 #include <arpa/inet.h>
 #include <stdlib.h>
@@ -12,20 +12,20 @@ static char held[16384];
 static const char *reply;
 static size_t length, body;
 
-static void serve(int from, int to) {
+static void serve(int client) {
     size_t start = 0, end = 0;
     for (;;) {
         char *blank = memmem(held + start, end - start, "\r\n\r\n", 4);
         size_t next = blank ? (size_t)(blank + 4 - held) + body : sizeof held + 1;
         if (next <= end) {
             start = next;
-            if (write(to, reply, length) < 0) return;
+            if (write(client, reply, length) < 0) return;
             continue;
         }
         memmove(held, held + start, end - start);
         end -= start;
         start = 0;
-        ssize_t came = read(from, held + end, sizeof held - end);
+        ssize_t came = read(client, held + end, sizeof held - end);
         if (came <= 0) return;
         end += came;
     }
@@ -39,20 +39,16 @@ static int listening(int port) {
 }
 
 int main(int words, char **word) {
-    if (words != 3 && words != 5) return 2;
+    if (words != 5) return 2;
     reply = word[1];
     length = strlen(reply);
     body = atol(word[2]);
-    if (words == 3) {
-        serve(0, 1);
-        return 0;
-    }
     int at = listening(atoi(word[3]));
     for (long left = atol(word[4]); left > 0; left--) {
-        int to = accept(at, 0, 0);
-        if (to < 0) return 1;
-        serve(to, to);
-        close(to);
+        int client = accept(at, 0, 0);
+        if (client < 0) return 1;
+        serve(client);
+        close(client);
     }
     return 0;
 }
