@@ -1,29 +1,42 @@
 //! Numbers in order, as runs of one value.
 
-ghost use Rattle.std.specs.Prelude.{◌≡◌, ◌+◌, ◌≤◌, ◌++◌, [], length, take, replicate, IfOk};
+ghost use Rattle.std.specs.Prelude.{◌≡◌, ◌+◌, ◌≤◌, ◌++◌, [], length, take, replicate, IfOk, false};
 
 use std::alloc::{AllocError, Global};
 
-/// Numbers in order: the k-th value stands as often as the k-th count says, as far as both lists go. Without counts each
-/// value stands once. So the list of values may be longer than that of the counts, and be written again and again.
-#[derive(Debug, Drop)]
+/// Numbers in order: those of 32 bits where it is narrow. Else the k-th value stands as often as the k-th count says, as
+/// far as both lists go, and without counts each value stands once. So the list of values may be longer than that of the
+/// counts, and each list be written again and again.
+#[derive(Drop)]
 pub struct RunList {
     pub values: Vec<i64>,
     pub counts: Vec<u32>,
+    pub narrow: Vec<i32>,
+    pub is_narrow: bool,
 }
 
 impl RunList {
+    /// Each value as often as its count says, or once without counts.
+    pub fn of(alloc: Global, values: Vec<i64>, counts: Vec<u32>) -> RunList
+        ensures { result ≡ record { values = values; counts = counts; narrow = result.narrow; is_narrow = false } }
+    {
+        RunList {
+            values,
+            counts,
+            narrow: Vec::new(alloc),
+            is_narrow: false,
+        }
+    }
+
     /// As many zeros, without counts.
     pub fn new(alloc: Global, len: usize) -> Result<RunList, AllocError>
+        ensures wide { IfOk result (λ r. r.is_narrow ≡ false) }
         ensures values { IfOk result (λ r. length r.values.items ≡ len) }
         ensures counts { IfOk result (λ r. r.counts.items ≡ []) }
     {
         let mut values = Vec::new(alloc);
         values.resize(len, 0)?;
-        Ok(RunList {
-            values,
-            counts: Vec::new(alloc),
-        })
+        Ok(RunList::of(alloc, values, Vec::new(alloc)))
     }
 }
 

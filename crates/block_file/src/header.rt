@@ -27,7 +27,7 @@ fn version_of(number: u32) -> Option<Version>
 }
 
 /// Whether a session has the file open, or closed it.
-#[derive(Clone, Copy, Debug, PartialEq, Eq)]
+#[derive(Clone, Copy, PartialEq, Eq)]
 pub enum State {
     Open,
     Closed,

@@ -32,7 +32,7 @@ use std::marker::Model;
 use stream_face::{Sink, Source};
 
 /// How a connection ended: by a message or the end of the stream, or by a read or a write that failed.
-#[derive(Clone, Copy, Debug, PartialEq, Eq)]
+#[derive(Clone, Copy, PartialEq, Eq)]
 pub enum ConnEnd {
     Finished,
     ReadFault,

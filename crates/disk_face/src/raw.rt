@@ -11,7 +11,7 @@ use std::os::unix::fs::FileExt;
 const LAST_STREAM: i32 = 2;
 
 /// The system refused a call.
-#[derive(Clone, Copy, Debug, PartialEq, Eq)]
+#[derive(Clone, Copy, PartialEq, Eq)]
 pub struct RawFault;
 
 /// What the system offers on an open file. Of an honest one a read gives bytes that it has, what a write took stands

@@ -1,7 +1,7 @@
 //! The two forms of a tile, and the versions of the file.
 
 /// How the bytes of a tile spell its cells.
-#[derive(Clone, Copy, PartialEq, Eq, Debug)]
+#[derive(Clone, Copy, PartialEq, Eq)]
 pub enum Form {
     /// Runs of equal cells, each a count and a value.
     Runs,
@@ -10,7 +10,7 @@ pub enum Form {
 }
 
 /// A version of the file's format.
-#[derive(Clone, Copy, PartialEq, Eq, Debug)]
+#[derive(Clone, Copy, PartialEq, Eq)]
 pub enum Version {
     /// Tiles are runs, and domains have at most four axes.
     One,

@@ -9,7 +9,7 @@ use stream_face::Source;
 pub const MAX_HEAD: usize = 16384;
 
 /// What one read did: bytes came, the stream is at its end, or the read failed.
-#[derive(Clone, Copy, Debug, PartialEq, Eq)]
+#[derive(Clone, Copy, PartialEq, Eq)]
 pub enum Filled {
     More,
     End,

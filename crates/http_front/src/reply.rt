@@ -14,7 +14,7 @@ use stream_face::{Sink, flush_if};
 use thiserror::Error;
 
 /// What a request is answered: a text, a text of comma-separated values, or the number of a refusal.
-#[derive(Debug, Drop)]
+#[derive(Drop)]
 pub enum Reply {
     Text(String),
     Csv(String),

@@ -10,7 +10,7 @@ use tile_exec::Exec;
 use wcps_mean::PointFault;
 
 /// An answer: CSV text, or the fault of the first point that has one.
-#[derive(Debug, Drop)]
+#[derive(Drop)]
 pub enum Answer {
     Text(String),
     Refused(PointFault),

@@ -11,7 +11,7 @@ use arr_core::Cell;
 use std::alloc::Global;
 
 /// The same cell at each point of a box, or the cells of its points in row-major order.
-#[derive(Debug, Drop)]
+#[derive(Drop)]
 pub enum Content {
     Fill(Cell),
     Values(Vec<Cell>),

@@ -8,7 +8,7 @@ use std::alloc::{AllocError, AllocFailed, Global};
 use thiserror::Error;
 
 /// An axis and its bounds, as a request spells them. The bounds may lie outside those of a domain.
-#[derive(Debug, Drop)]
+#[derive(Drop)]
 pub struct Interval {
     pub axis: Name,
     pub lo: i64,
@@ -16,7 +16,7 @@ pub struct Interval {
 }
 
 /// A new coverage: its name, its axes and its fields.
-#[derive(Debug, Drop)]
+#[derive(Drop)]
 pub struct Insertion {
     pub coverage: Name,
     pub intervals: Vec<Interval>,
@@ -24,7 +24,7 @@ pub struct Insertion {
 }
 
 /// New cells for a box of one field of a coverage.
-#[derive(Debug, Drop)]
+#[derive(Drop)]
 pub struct Update {
     pub coverage: Name,
     pub field: Name,
@@ -33,14 +33,14 @@ pub struct Update {
 }
 
 /// A layer of a template: a coverage, or a field of it.
-#[derive(Debug, Drop)]
+#[derive(Drop)]
 pub struct RequestedLayer {
     pub coverage: Name,
     pub field: Option<Name>,
 }
 
 /// A template, by its name, and its parameters. Each template takes some of them.
-#[derive(Debug, Drop)]
+#[derive(Drop)]
 pub struct TemplateRequest {
     pub template: String,
     pub layer: RequestedLayer,
@@ -49,7 +49,7 @@ pub struct TemplateRequest {
 }
 
 /// Some units of a job.
-#[derive(Debug, Drop)]
+#[derive(Drop)]
 pub struct JobUnits {
     /// The number of the job.
     pub job: u64,
@@ -58,7 +58,7 @@ pub struct JobUnits {
 }
 
 /// What a message asks of the store.
-#[derive(Debug, Drop)]
+#[derive(Drop)]
 pub enum Request {
     InsertCoverage(Insertion),
     UpdateCoverage(Update),

@@ -3,14 +3,14 @@
 use arr_core::Name;
 
 /// A field of a coverage, or the only field of one.
-#[derive(Debug, Drop)]
+#[derive(Drop)]
 pub struct Layer {
     pub coverage: Name,
     pub field: Option<Name>,
 }
 
 /// The parameters of a template. Each template uses some of them, and the others are not looked at.
-#[derive(Debug, Drop)]
+#[derive(Drop)]
 pub struct Params {
     /// The layer whose values are taken.
     pub layer: Layer,

@@ -6,7 +6,7 @@ ghost use Rattle.map_templates.specs.Templates.{template_named, summary_text};
 use arr_core::Keyword;
 
 /// What a local operation makes of the two values at a location.
-#[derive(Clone, Copy, PartialEq, Eq, Debug)]
+#[derive(Clone, Copy, PartialEq, Eq)]
 pub enum LocalOperation {
     Sum,
     Difference,
@@ -16,7 +16,7 @@ pub enum LocalOperation {
 }
 
 /// What a focal or a zonal operation makes of the values of a set of locations.
-#[derive(Clone, Copy, PartialEq, Eq, Debug)]
+#[derive(Clone, Copy, PartialEq, Eq)]
 pub enum Summary {
     Sum,
     Maximum,
@@ -24,7 +24,7 @@ pub enum Summary {
 }
 
 /// A template. (C. D. Tomlin, Geographic Information Systems and Cartographic Modeling, 1990.)
-#[derive(Clone, Copy, PartialEq, Eq, Debug)]
+#[derive(Clone, Copy, PartialEq, Eq)]
 pub enum Template {
     /// Of the two values at each location.
     Local(LocalOperation),

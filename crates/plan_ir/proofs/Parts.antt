@@ -1,5 +1,5 @@
 -- What a plan gives, by what its parts give.
-use Rattle.std.proofs.Common.{◌≡◌, ℕ, zero, suc, ℤ, List, [], ◌∷◌, map, length, refl, ap, ◌∙◌, Bool, true, false, cond, Result, Ok, Err}
+use Rattle.std.proofs.Common.{◌≡◌, ℕ, zero, suc, ◌<◌, ℤ, List, [], ◌∷◌, map, length, refl, ap, ◌∙◌, arith, Bool, true, false, cond, Result, Ok, Err}
 use Rattle.std.specs.Prelude.{slice_get, option_map}
 use Rattle.arr_core.specs.declared.cell.Cell.{Cell}
 use Rattle.wcps_mean.specs.declared.cell.PointFault.{PointFault}
@@ -8,7 +8,8 @@ use Rattle.wcps_mean.specs.declared.item.Item.{Item}
 use Rattle.wcps_mean.specs.Answer.{then_of, line_of, field_count}
 use Rattle.plan_ir.specs.declared.plan.Steps.{Steps}
 use Rattle.plan_ir.specs.declared.plan.Combination.{Combination}
-use Rattle.plan_ir.specs.Plans.{ItemTree, StepsTree, Choice, steps_view, choice_view}
+use Rattle.plan_ir.specs.Plans.{BindTree, FieldBody, ItemTree, StepsTree, Choice, steps_view, choice_view}
+use Rattle.plan_ir.specs.Placed.{AreDemanded}
 use Rattle.plan_ir.specs.Planned.{item_cells, item_planned, chosen, given_out, choice_planned}
 
 pub slice_get-map : {X Y : Type 0} (f : X → Y) (xs : List X) (k : ℕ) → slice_get (map f xs) k ≡ option_map f (slice_get xs k)
@@ -43,3 +44,8 @@ chosen-item s regs t i h e = ap (from_choice (item_planned s regs t.item)) h ∙
 
 pub chosen-item-err : (s : ℕ → ℕ → List ℤ → ℤ) (regs : List Outcome) (t : StepsTree) (f : PointFault) → chosen s regs t.condition ≡ Ok true → item_planned s regs t.item ≡ Err f → given_out s regs t ≡ Err f
 chosen-item-err s regs t f h e = ap (from_choice (item_planned s regs t.item)) h ∙ ap from_item e
+
+-- what a field demands may have binds
+pub some-demanded : (binds : List BindTree) (fields : List FieldBody) → 0 < length fields → AreDemanded binds fields
+some-demanded binds [] lt = absurd (omega (arith, lt))
+some-demanded binds (f ∷ fields) lt = tt

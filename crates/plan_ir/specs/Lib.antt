@@ -2,7 +2,8 @@ pub mod Bodies
 pub mod Run
 pub mod Plans
 pub mod Planned
-pub mod Placed
 pub mod Units
+pub mod FoldPoints
+pub mod Placed
 pub mod Variables
 pub mod Frames

@@ -1,5 +1,5 @@
 -- Well-formed plans: each name has its place, and what a cell is read at lies in its coverage.
-use Rattle.std.specs.Prelude.{◌≡◌, ℕ, ◌+◌, ◌<◌, ◌≤ℤ◌, List, [], ◌∷◌, ◌++◌, map, length, Option, Some, None, slice_get, IsSomeAnd, All}
+use Rattle.std.specs.Prelude.{◌≡◌, ℕ, ◌+◌, ◌^◌, ◌<◌, ◌≤ℤ◌, List, [], ◌∷◌, ◌++◌, map, length, Option, Some, None, slice_get, IsSomeAnd, All}
 use Rattle.arr_core.specs.declared.domain.Axis.{Axis}
 use Rattle.arr_core.specs.declared.signature.Signature.{Signature}
 use Rattle.arr_core.specs.Domains.{count}
@@ -8,6 +8,7 @@ use Rattle.plan_ir.specs.declared.body.Index.{Index}
 use Rattle.plan_ir.specs.declared.body.Index.TheVariants.{Const, Var}
 use Rattle.plan_ir.specs.Bodies.{Tree, lit, var, reg, op1, op2, read, table, bind, fold}
 use Rattle.plan_ir.specs.Plans.{PassTree, BindTree, FieldBody, StepsTree, Choice, PlanTree, signature_of}
+use Rattle.plan_ir.specs.FoldPoints.{unit_bound}
 
 -- the interval of an axis
 abbrev pub span : Axis → Interval
@@ -68,14 +69,22 @@ abbrev pub ItemIsPlaced : (ℕ → Option Signature) → ℕ → List Interval �
 ItemIsPlaced cs regs scope [] fields = FieldsArePlaced cs regs scope fields
 ItemIsPlaced cs regs scope (b ∷ binds) fields = IsPlaced cs regs scope b.position × ItemIsPlaced cs regs (scope ++ record { lo = b.lo; hi = b.hi } ∷ []) binds fields
 
+-- an item without fields has no binds, since nothing demands their positions
+abbrev pub AreDemanded : List BindTree → List FieldBody → Type 0
+AreDemanded binds [] = binds ≡ []
+AreDemanded binds (f ∷ fields) = Unit {0}
+
 pub record AreSteps (cs : ℕ → Option Signature) (s : StepsTree) : Type 0 where
   pub passes : PassesArePlaced cs 0 s.passes
   pub condition : ConditionIsPlaced cs (length s.passes) [] s.condition
   pub item : ItemIsPlaced cs (length s.passes) (spans s.item.domain) s.item.binds s.item.fields
+  pub demanded : AreDemanded s.item.binds s.item.fields
 
 -- a combination has steps, which stand over the coverages that it chooses
 abbrev pub IsChoice : PlanTree → Choice → Type 0
 IsChoice plan c = IsSomeAnd (slice_get plan.steps c.steps) (AreSteps (signature_of plan.coverages c.coverages))
 
-abbrev pub IsPlan : PlanTree → Type 0
-IsPlan plan = All (IsChoice plan) plan.combinations
+-- each combination is one of the plan's, and the units, once all folds are passes, can be counted in 64 bits
+pub record IsPlan (plan : PlanTree) : Type 0 where
+  pub choices : All (IsChoice plan) plan.combinations
+  pub few : unit_bound plan < 2 ^ 64

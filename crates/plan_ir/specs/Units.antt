@@ -13,15 +13,20 @@ use Rattle.plan_ir.specs.Bodies.{Tree, lit, var, reg, op1, op2, read, table, bin
 use Rattle.plan_ir.specs.Run.{numbers_at}
 use Rattle.plan_ir.specs.Plans.{PassTree, BindTree, FieldBody, ItemTree, StepsTree, Choice, PlanTree, signature_of}
 
--- the points of an item; without fields there is nothing to evaluate
+-- one of a condition, if there is one
+abbrev pub condition_units : Option Tree → ℕ
+condition_units None = 0
+condition_units (Some c) = 1
+
+-- the points of an item; one without fields has nothing to evaluate, and is given in one unit
 abbrev pub item_units : List Axis → List FieldBody → ℕ
-item_units box [] = 0
+item_units box [] = 1
 item_units box (f ∷ fields) = count box
 
--- one for a combination, and the points of its passes' boxes and of its item
+-- of a combination: the points of its passes' boxes, one for its condition, and those of its item
 abbrev pub steps_units : Option StepsTree → ℕ
-steps_units None = 1
-steps_units (Some s) = 1 + (sum_by (λ (p : PassTree). count p.domain) s.passes + item_units s.item.domain s.item.fields)
+steps_units None = 0
+steps_units (Some s) = sum_by (λ (p : PassTree). count p.domain) s.passes + (condition_units s.condition + item_units s.item.domain s.item.fields)
 
 -- at most so many units has a plan
 abbrev pub units : PlanTree → ℕ
@@ -44,9 +49,9 @@ abbrev pub condition_stages : List ℕ → Option Tree → List Stage
 condition_stages coverages None = []
 condition_stages coverages (Some c) = record { box = []; coverages = coverages; bodies = c ∷ [] } ∷ []
 
--- the positions of the binds, then the bodies of the fields, if there are any
+-- the positions of the binds, then the bodies of the fields; without fields, no bodies in the box without axes
 abbrev pub item_stages : List ℕ → ItemTree → List FieldBody → List Stage
-item_stages coverages i [] = []
+item_stages coverages i [] = record { box = []; coverages = coverages; bodies = [] } ∷ []
 item_stages coverages i (f ∷ fields) =
     tile_stages coverages (map (λ (b : BindTree). b.position) i.binds ++ map (λ (f : FieldBody). f.body) (f ∷ fields)) i.domain
 
@@ -55,7 +60,7 @@ abbrev pub passes_boxes : List ℕ → Option StepsTree → List Stage
 passes_boxes coverages None = []
 passes_boxes coverages (Some s) = flat_map (pass_stages coverages) s.passes
 
--- of a combination: the box without axes of its condition, if any, then the tiles of its item
+-- of a combination: the box without axes of its condition, if any, then the boxes of its item
 abbrev pub out_boxes : List ℕ → Option StepsTree → List Stage
 out_boxes coverages None = []
 out_boxes coverages (Some s) = condition_stages coverages s.condition ++ item_stages coverages s.item s.item.fields

@@ -4,14 +4,14 @@ use arr_core::Domain;
 use wcps_text::{Aggregate, BinaryOperator, UnaryOperator};
 
 /// What stands for a coordinate: a constant, or the variable of that level.
-#[derive(Clone, Copy, PartialEq, Eq, Debug)]
+#[derive(Clone, Copy, PartialEq, Eq)]
 pub enum Index {
     Const(i32),
     Var(usize),
 }
 
 /// The coordinates from `lo` to `hi`, both inclusive.
-#[derive(Clone, Copy, PartialEq, Eq, Debug)]
+#[derive(Clone, Copy, PartialEq, Eq)]
 pub struct Interval {
     pub lo: i32,
     pub hi: i32,
@@ -20,7 +20,7 @@ pub struct Interval {
 /// What gives a value at a point. Its variables are the coordinates of the boxes and binds around it, outermost first: a
 /// variable is its level among them, from 0. A Boolean is 0 or 1.
 #[cycle(body)]
-#[derive(Debug, Drop)]
+#[derive(Drop)]
 pub enum Body {
     /// A number.
     Lit(i64),
@@ -58,7 +58,7 @@ pub enum Body {
 /// What becomes of the values of the body at those points of a domain where the condition is true, or at all of them. The
 /// coordinates of the domain are further variables in both.
 #[cycle(body)]
-#[derive(Debug, Drop)]
+#[derive(Drop)]
 pub struct Fold {
     pub op: Aggregate,
     pub domain: Domain,

@@ -10,7 +10,7 @@ use Rattle.plan_ir.specs.declared.body.Interval.{Interval}
 use Rattle.plan_ir.specs.Bodies.{Tree, lit, var, reg, op1, op2, read, table, bind, fold}
 use Rattle.plan_ir.specs.Placed.{spans}
 use Rattle.plan_ir.specs.Plans.{PassTree, BindTree, FieldBody, StepsTree, Choice, PlanTree}
-use Rattle.plan_ir.specs.Units.{item_units, steps_units, units}
+use Rattle.plan_ir.specs.Units.{condition_units, item_units, steps_units}
 use Rattle.plan_ir.proofs.Parts.{slice_get-map}
 use Rattle.plan_rewrite.specs.Inlining.{variable, levels, stand_in, bind_or_go, inlining}
 use Rattle.plan_rewrite.specs.InlinedPlans.{Variables, stand_in_for, after_bind, variables_after, unless_inlined, kept_binds, inlined_pass, inlined_field, inlined_steps, inlined_plan}
@@ -18,7 +18,7 @@ use Rattle.plan_ir.specs.Variables.{is_from, without}
 use Rattle.plan_rewrite.specs.Hoisting.{hoisting, pass_without}
 use Rattle.plan_rewrite.specs.HoistedPlans.{Places, with_pass, with_passes, hoisted_condition, hoisted_fields, hoisted_item, hoisted_steps, hoisted_plan}
 use Rattle.plan_rewrite.proofs.HoistedReduced.{fold_or_register}
-use Rattle.plan_rewrite.specs.FoldPoints.{body_folds, passes_folds, condition_folds, binds_folds, fields_folds, steps_folds, fold_points}
+use Rattle.plan_ir.specs.FoldPoints.{body_folds, passes_folds, condition_folds, binds_folds, fields_folds, steps_folds, unit_bound}
 
 pub variable-folds : (i : Index) → body_folds (variable i) ≡ 0
 variable-folds (Const z) = refl
@@ -86,6 +86,10 @@ inlined-counts : (ps : List PassTree) → sum_by pass_count (map inlined_pass ps
 inlined-counts [] = refl
 inlined-counts (p ∷ ps) = sum_by-cons pass_count (inlined_pass p) (map inlined_pass ps) ∙ ap (λ n. count p.domain + n) (inlined-counts ps) ∙ sym (sum_by-cons pass_count p ps)
 
+condition-units : (f : Tree → Tree) (o : Option Tree) → condition_units (option_map f o) ≡ condition_units o
+condition-units f None = refl
+condition-units f (Some c) = refl
+
 inlined-item-units : (box : List Axis) (g : Variables) (fields : List FieldBody) → item_units box (map (inlined_field g) fields) ≡ item_units box fields
 inlined-item-units box g [] = refl
 inlined-item-units box g (f ∷ fields) = refl
@@ -104,7 +108,8 @@ inlined-few t =
     let d = inlined-fields t.item.fields g in
     let e = inlined-counts t.passes in
     let f = inlined-item-units t.item.domain g t.item.fields in
-    omega (arith, a, b, c, d, e, f)
+    let h = condition-units (inlining [] []) t.condition in
+    omega (arith, a, b, c, d, e, f, h)
 
 without-folds : (t : Tree) (n : ℕ) → body_folds (without n t) ≡ body_folds t
 without-folds (lit z) n = refl
@@ -195,6 +200,10 @@ hoisted-conditions : (o : Option Tree) (w : Places) → whole (hoisted_condition
 hoisted-conditions None w = refl
 hoisted-conditions (Some c) w = hoisted-whole c w.regs 0 w.passes
 
+hoisted-condition-units : (o : Option Tree) (w : Places) → condition_units (hoisted_condition w o).condition ≡ condition_units o
+hoisted-condition-units None w = refl
+hoisted-condition-units (Some c) w = refl
+
 fields-item-units : (fields : List FieldBody) (box : List Axis) (regs : List ℕ) (n : ℕ) (passes : List PassTree) → item_units box (hoisted_fields regs n passes fields).fields ≡ item_units box fields
 fields-item-units [] box regs n passes = refl
 fields-item-units (f ∷ fields) box regs n passes = refl
@@ -215,7 +224,8 @@ hoisted-few t =
     let d = hoisted-item-units t.item.binds t.item.fields t.item.domain w.regs n hc.passes in
     let e = whole-is t.passes in
     let f = whole-is hi.passes in
-    omega (arith, a, b, c, d, e, f)
+    let g = hoisted-condition-units t.condition w in
+    omega (arith, a, b, c, d, e, f, g)
 
 some-few : (f : StepsTree → StepsTree) → ((t : StepsTree) → both_of (Some (f t)) ≤ both_of (Some t)) → (o : Option StepsTree) → both_of (option_map f o) ≤ both_of o
 some-few f h None = omega arith
@@ -240,8 +250,14 @@ choices-few f h steps (c ∷ all) =
     omega (arith, a, b, u, v, w, x)
 
 -- units and the points of folds together do not grow
-pub rewritten-few : (p : PlanTree) → units (hoisted_plan (inlined_plan p)) + fold_points (hoisted_plan (inlined_plan p)) ≤ units p + fold_points p
+pub inlined-plan-few : (p : PlanTree) → unit_bound (inlined_plan p) ≤ unit_bound p
+inlined-plan-few p = choices-few inlined_steps inlined-few p.steps p.combinations
+
+pub hoisted-plan-few : (p : PlanTree) → unit_bound (hoisted_plan p) ≤ unit_bound p
+hoisted-plan-few p = choices-few hoisted_steps hoisted-few p.steps p.combinations
+
+pub rewritten-few : (p : PlanTree) → unit_bound (hoisted_plan (inlined_plan p)) ≤ unit_bound p
 rewritten-few p =
-    let a = choices-few inlined_steps inlined-few p.steps p.combinations in
-    let b = choices-few hoisted_steps hoisted-few (map inlined_steps p.steps) p.combinations in
+    let a = inlined-plan-few p in
+    let b = hoisted-plan-few (inlined_plan p) in
     omega (arith, a, b)

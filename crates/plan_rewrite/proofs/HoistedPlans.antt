@@ -17,6 +17,7 @@ use Rattle.plan_ir.specs.Variables.{index_from, is_from, index_without, without}
 use Rattle.plan_rewrite.specs.Hoisting.{Hoist, hoisting}
 use Rattle.plan_rewrite.specs.HoistedPlans.{Places, with_pass, with_passes, hoisted_condition, hoisted_fields, hoisted_item, hoisted_steps, hoisted_plan}
 use Rattle.plan_ir.proofs.FirstVariables.{both-true}
+use Rattle.plan_rewrite.proofs.FoldPoints.{hoisted-plan-few}
 use Rattle.plan_rewrite.proofs.HoistedSteps.{steps-hoist}
 use Rattle.plan_rewrite.proofs.OpenFolds.{HasOpenFolds, PassesAreOpen, ConditionIsOpen, FieldsAreOpen, ItemIsOpen, StepsAreOpen}
 
@@ -33,7 +34,7 @@ choices-same s p (c ∷ all) h =
     ∙ ap (λ l. choice_planned s c.coverages (slice_get p.steps c.steps) ∷ l) (choices-same s p all (λ k d lt. h (suc k) d (omega (arith, lt))))
 
 pub hoisted-planned : (p : PlanTree) (s : ℕ → ℕ → List ℤ → ℤ) → IsPlan p → planned s (hoisted_plan p) ≡ planned s p
-hoisted-planned p s h = ap joined (choices-same s p p.combinations h)
+hoisted-planned p s h = ap joined (choices-same s p p.combinations h.choices)
 
 option-placed : (o : Option StepsTree) (cs : ℕ → Option Signature) → IsSomeAnd o (AreSteps cs) → IsSomeAnd (option_map hoisted_steps o) (AreSteps cs)
 option-placed None cs h = absurd h
@@ -45,7 +46,10 @@ choice-placed p c h =
     subst (λ o. IsSomeAnd o (AreSteps cs)) (sym (slice_get-map hoisted_steps p.steps c.steps)) (option-placed (slice_get p.steps c.steps) cs h)
 
 pub hoisted-placed : (p : PlanTree) → IsPlan p → IsPlan (hoisted_plan p)
-hoisted-placed p h = λ k d lt. choice-placed p (get_or p.combinations k d) (h k d lt)
+hoisted-placed p h = record {
+  choices = λ k d lt. choice-placed p (get_or p.combinations k d) (h.choices k d lt);
+  few = let a = hoisted-plan-few p in let b = h.few in omega (arith, a, b);
+}
 
 -- variables behind the first n
 le-shift : (n m k : ℕ) → T (nat_le n k) → nat_le (n + m) k ≡ nat_le m (k - n)

@@ -17,9 +17,10 @@ use Rattle.plan_ir.specs.Bodies.{Tree}
 use Rattle.plan_ir.specs.Run.{run}
 use Rattle.plan_ir.specs.Plans.{PassTree, BindTree, FieldBody, StepsTree}
 use Rattle.plan_ir.specs.Planned.{pass_outcome, registers_after, registers, coordinate, bound, field_cell, cells_at, item_cells, item_planned, chosen, steps_planned}
-use Rattle.plan_ir.specs.Placed.{span, spans, IsPlaced, PassesArePlaced, ConditionIsPlaced, FieldsArePlaced, ItemIsPlaced, AreSteps}
+use Rattle.plan_ir.specs.Placed.{span, spans, IsPlaced, PassesArePlaced, ConditionIsPlaced, FieldsArePlaced, ItemIsPlaced, AreDemanded, AreSteps}
 use Rattle.plan_rewrite.specs.Hoisting.{hoisting}
 use Rattle.plan_rewrite.specs.HoistedPlans.{Places, with_pass, with_passes, HoistedCondition, hoisted_condition, HoistedFields, hoisted_fields, HoistedItem, hoisted_item, hoisted_steps}
+use Rattle.plan_ir.proofs.Parts.{some-demanded}
 use Rattle.plan_rewrite.proofs.Scopes.{Lie, lie-length, points-lie, flat-same}
 use Rattle.plan_rewrite.proofs.InlinedPlans.{map-same}
 use Rattle.plan_rewrite.proofs.Hoists.{Kept, kept-more, later, last-register, registers-count, passes-last, run-later, placed-later, Hoists, hoists, two}
@@ -191,6 +192,14 @@ item-count : (binds : List BindTree) (fields : List FieldBody) (regs : List ℕ)
 item-count [] fields regs n passes = fields-count fields regs n passes
 item-count (b ∷ binds) fields regs n passes = item-count binds fields regs (n + 1) (hoisting regs n passes b.position).passes
 
+-- an item without fields stays without binds
+item-demanded : (binds : List BindTree) (fields : List FieldBody) (regs : List ℕ) (n : ℕ) (passes : List PassTree) → AreDemanded binds fields
+    → AreDemanded (hoisted_item regs n passes binds fields).binds (hoisted_item regs n passes binds fields).fields
+item-demanded binds [] regs n passes h = subst (λ l. AreDemanded (hoisted_item regs n passes l []).binds (hoisted_item regs n passes l []).fields) (sym h) refl
+item-demanded binds (f ∷ fields) regs n passes h =
+    let k = item-count binds (f ∷ fields) regs n passes in
+    some-demanded (hoisted_item regs n passes binds (f ∷ fields)).binds (hoisted_item regs n passes binds (f ∷ fields)).fields (omega (arith, k))
+
 abbrev out_of : Result Bool PointFault → Result Item PointFault → Result (List Item) PointFault
 out_of c i = then_of c (λ b. cond b (then_of i (λ x. Ok (x ∷ []))) (Ok []))
 
@@ -225,5 +234,6 @@ steps-hoist t s cs h =
         passes = b.passes_placed;
         condition = subst (λ q. ConditionIsPlaced cs (length q) [] c.condition) (sym b.extends) (a.placed b.more);
         item = b.placed;
+        demanded = item-demanded i.binds i.fields w.regs (length box) c.passes h.demanded;
       };
     }

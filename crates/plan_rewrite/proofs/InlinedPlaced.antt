@@ -1,5 +1,5 @@
 -- An inlined plan is well-formed, and has no bind left that could be inlined.
-use Rattle.std.proofs.Common.{◌≡◌, ℕ, ◌+◌, List, [], ◌∷◌, ◌++◌, length, map, get_or, refl, sym, subst}
+use Rattle.std.proofs.Common.{◌≡◌, ℕ, ◌+◌, List, [], ◌∷◌, ◌++◌, length, map, get_or, refl, sym, ap, subst, arith}
 use Rattle.std.specs.Prelude.{Option, Some, None, slice_get, option_map, IsSomeAnd}
 use Rattle.std.proofs.lemmas.List.{length-map}
 use Rattle.arr_core.specs.declared.signature.Signature.{Signature}
@@ -8,7 +8,7 @@ use Rattle.plan_ir.specs.declared.body.Index.TheVariants.{Var}
 use Rattle.plan_ir.specs.declared.body.Interval.{Interval}
 use Rattle.plan_ir.specs.Bodies.{Tree}
 use Rattle.plan_ir.specs.Plans.{PassTree, BindTree, FieldBody, StepsTree, Choice, PlanTree, signature_of}
-use Rattle.plan_ir.specs.Placed.{spans, Indexes, IsPlaced, ConditionIsPlaced, PassesArePlaced, FieldsArePlaced, ItemIsPlaced, AreSteps, IsChoice, IsPlan}
+use Rattle.plan_ir.specs.Placed.{spans, Indexes, IsPlaced, ConditionIsPlaced, PassesArePlaced, FieldsArePlaced, ItemIsPlaced, AreDemanded, AreSteps, IsChoice, IsPlan}
 use Rattle.plan_ir.proofs.Parts.{slice_get-map}
 use Rattle.plan_rewrite.specs.Inlining.{levels, inlining}
 use Rattle.plan_rewrite.specs.InlinedPlans.{Variables, stand_in_for, after_bind, variables_after, unless_inlined, kept_binds, inlined_pass, inlined_field, inlined_item, inlined_steps, inlined_plan}
@@ -16,6 +16,7 @@ use Rattle.plan_rewrite.specs.Everywhere.{InPasses, InCondition, InFields, InIte
 use Rattle.plan_rewrite.specs.Rewritten.{NoInlinableBind}
 use Rattle.plan_rewrite.proofs.Scopes.{indexes-append, levels-lie, indexes-under}
 use Rattle.plan_rewrite.proofs.Inlines.{is-inlined, inlined-placed, inlined-reduced}
+use Rattle.plan_rewrite.proofs.FoldPoints.{inlined-plan-few}
 
 passes-placed : (ps : List PassTree) (cs : ℕ → Option Signature) (regs : ℕ) → PassesArePlaced cs regs ps → PassesArePlaced cs regs (map inlined_pass ps)
 passes-placed [] cs regs h = tt
@@ -45,6 +46,11 @@ item-placed (b ∷ binds) fields cs regs old scope env h i =
     bind-item b binds fields cs regs old scope env (stand_in_for env scope b) refl (inlined-placed b.position cs regs old scope env h.0 i) i
     (λ scope' env' i'. item-placed binds fields cs regs (old ++ record { lo = b.lo; hi = b.hi } ∷ []) scope' env' h.1 i')
 
+-- an item without fields has no binds to keep
+item-demanded : (binds : List BindTree) (fields : List FieldBody) (env : List Index) (scope : List Interval) (g : Variables) → AreDemanded binds fields → AreDemanded (kept_binds env scope binds) (map (inlined_field g) fields)
+item-demanded binds [] env scope g h = ap (kept_binds env scope) h
+item-demanded binds (f ∷ fields) env scope g h = tt
+
 steps-placed : (t : StepsTree) (cs : ℕ → Option Signature) → AreSteps cs t → AreSteps cs (inlined_steps t)
 steps-placed t cs h =
     let box = spans t.item.domain in
@@ -53,6 +59,7 @@ steps-placed t cs h =
       passes = passes-placed t.passes cs 0 h.passes;
       condition = subst (λ n. ConditionIsPlaced cs n [] (option_map (inlining [] []) t.condition)) same (condition-placed t.condition cs (length t.passes) h.condition);
       item = subst (λ n. ItemIsPlaced cs n box (inlined_item t.item).binds (inlined_item t.item).fields) same (item-placed t.item.binds t.item.fields cs (length t.passes) box box (levels 0 box) h.item (levels-lie [] box 0 refl));
+      demanded = item-demanded t.item.binds t.item.fields (levels 0 box) box (variables_after (levels 0 box) box t.item.binds) h.demanded;
     }
 
 option-placed : (o : Option StepsTree) (cs : ℕ → Option Signature) → IsSomeAnd o (AreSteps cs) → IsSomeAnd (option_map inlined_steps o) (AreSteps cs)
@@ -66,7 +73,10 @@ choice-placed p c h =
 
 -- an inlined plan is well-formed
 pub plan-placed : (p : PlanTree) → IsPlan p → IsPlan (inlined_plan p)
-plan-placed p h = λ k d lt. choice-placed p (get_or p.combinations k d) (h k d lt)
+plan-placed p h = record {
+  choices = λ k d lt. choice-placed p (get_or p.combinations k d) (h.choices k d lt);
+  few = let a = inlined-plan-few p in let b = h.few in omega (arith, a, b);
+}
 
 passes-reduced : (ps : List PassTree) → InPasses NoInlinableBind (map inlined_pass ps)
 passes-reduced [] = tt

@@ -32,7 +32,7 @@ use Rattle.plan_rewrite.specs.LoweredItems.{lowered_field, boxed_scalar}
 use Rattle.plan_rewrite.specs.LoweredPlans.{lowered_tree}
 use Rattle.plan_rewrite.proofs.Inlines.{position-same}
 use Rattle.plan_rewrite.proofs.Lowers.{outer-placed}
-use Rattle.plan_rewrite.proofs.LoweredSteps.{steps-mean, item-placed}
+use Rattle.plan_rewrite.proofs.LoweredSteps.{steps-mean, item-placed, item-demanded}
 
 map-each : {X Y : Type 0} (f g : X → Y) (xs : List X) → ((x : X) → f x ≡ g x) → map f xs ≡ map g xs
 map-each f g [] h = refl
@@ -132,4 +132,5 @@ tree-placed t cs ks h = record {
   passes = tt;
   condition = condition-placed t.condition cs ks h.0;
   item = item-placed t.item (signature_of cs ks) (fields-placed (item_view t.item).fields cs ks t.item.domain h.1);
+  demanded = item-demanded t.item;
 }

@@ -1,6 +1,6 @@
 -- A lowered query gives the query's answer, is well-formed, and has its units within the work: each combination has the steps
 -- of its tree.
-use Rattle.std.proofs.Common.{◌≡◌, ℕ, zero, suc, ◌+◌, ◌*◌, ◌<◌, ◌≤◌, List, [], ◌∷◌, ◌++◌, length, map, refl, sym, ap, ◌∙◌, subst, arith, ℤ, take, Result, Ok, Err}
+use Rattle.std.proofs.Common.{◌≡◌, ℕ, zero, suc, ◌+◌, ◌*◌, ◌^◌, ◌<◌, ◌≤◌, List, [], ◌∷◌, ◌++◌, length, map, refl, sym, ap, ◌∙◌, subst, arith, ℤ, take, Result, Ok, Err}
 use Rattle.std.specs.Prelude.{Option, Some, None, slice_get, option_map, IsSomeAnd, All, sum_by}
 use Rattle.std.proofs.lemmas.List.{length-map, map-append}
 use Rattle.std.proofs.lemmas.List.Sums.{sum_by-cons}
@@ -10,7 +10,7 @@ use Rattle.wcps_types.specs.declared.typed_query.Combination.{Combination}
 use Rattle.wcps_types.specs.Typed.{CombinationTree, tree_view}
 use Rattle.wcps_types.specs.Renamed.{over, combination_view}
 use Rattle.wcps_types.specs.WellTyped.{CombinationIsTyped, AreTyped}
-use Rattle.wcps_types.specs.Work.{query_work}
+use Rattle.wcps_types.specs.Work.{query_work, max_work}
 use Rattle.wcps_types.proofs.SharedEfforts.{work_over}
 use Rattle.wcps_mean.specs.declared.cell.PointFault.{PointFault}
 use Rattle.wcps_mean.specs.declared.item.Item.{Item}
@@ -20,7 +20,7 @@ use Rattle.plan_ir.specs.Placed.{AreSteps, IsPlan}
 use Rattle.plan_ir.specs.Planned.{choice_planned, planned}
 use Rattle.plan_ir.specs.Units.{steps_units, units}
 use Rattle.plan_ir.proofs.Parts.{slice_get-map}
-use Rattle.plan_rewrite.specs.FoldPoints.{steps_folds, fold_points}
+use Rattle.plan_ir.specs.FoldPoints.{steps_folds, fold_points, unit_bound}
 use Rattle.plan_rewrite.specs.LoweredPlans.{lowered_tree, StandsFor, IsLowered, AreLowered, lowered_choice, lowered_choices}
 use Rattle.plan_rewrite.proofs.LoweredPlans.{tree-means, tree-placed}
 use Rattle.plan_rewrite.proofs.LoweredWork.{tree-within}
@@ -150,11 +150,6 @@ choices-placed [] cs trees steps h t = λ k d lt. absurd (omega (arith, lt))
 choices-placed (c ∷ all) cs trees steps h t =
     one-placed (slice_get trees c.tree) (slice_get steps c.tree) (lowered-at trees steps c.tree h) cs steps c (lowered_choices steps all) refl t.0 (choices-placed all cs trees steps h t.1)
 
--- the plan is well-formed
-pub query-placed : (cs : List Signature) (trees : List CombinationTree) (steps : List StepsTree) (all : List Combination) → AreLowered trees steps → AreTyped cs (map (combination_view trees) all)
-    → IsPlan (plan_of cs steps (lowered_choices steps all))
-query-placed cs trees steps all h t = choices-placed all cs trees steps h t
-
 abbrev units_at : List StepsTree → Choice → ℕ
 units_at steps c = steps_units (slice_get steps c.steps)
 
@@ -169,12 +164,12 @@ folds_in steps all = sum_by (folds_at steps) all
 
 one-within : (o : Option CombinationTree) (p : Option StepsTree) → IsLowered o p → (steps : List StepsTree) (c : Combination) (rest : List Choice) (n : ℕ) → slice_get steps c.tree ≡ p
     → units_in steps rest + folds_in steps rest ≤ n
-    → units_in steps (lowered_choice p c ++ rest) + folds_in steps (lowered_choice p c ++ rest) ≤ (2 + query_work (over c.coverages.items o ∷ [])) + n
+    → units_in steps (lowered_choice p c ++ rest) + folds_in steps (lowered_choice p c ++ rest) ≤ (1 + query_work (over c.coverages.items o ∷ [])) + n
 one-within None None b steps c rest n e h = omega (arith, h)
 one-within None (Some t) b steps c rest n e h = absurd b
 one-within (Some x) None b steps c rest n e h = absurd b
 one-within (Some x) (Some t) b steps c rest n e h =
-    let a = subst (λ o. steps_units o + steps_folds o ≤ 2 + query_work (x ∷ [])) (sym e) b.within in
+    let a = subst (λ o. steps_units o + steps_folds o ≤ 1 + query_work (x ∷ [])) (sym e) b.within in
     let d : query_work (over c.coverages.items (Some x) ∷ []) ≡ query_work (x ∷ []) = work_over c.coverages.items x in
     let y : Choice = record { steps = c.tree; coverages = c.coverages.items } in
     let u : units_in steps (lowered_choice (Some t) c ++ rest) ≡ steps_units (slice_get steps c.tree) + units_in steps rest = sum_by-cons (units_at steps) y rest in
@@ -182,12 +177,22 @@ one-within (Some x) (Some t) b steps c rest n e h =
     omega (arith, h, a, d, u, v)
 
 choices-within : (all : List Combination) (trees : List CombinationTree) (steps : List StepsTree) → AreLowered trees steps
-    → units_in steps (lowered_choices steps all) + folds_in steps (lowered_choices steps all) ≤ 2 * length all + query_work (map (combination_view trees) all)
+    → units_in steps (lowered_choices steps all) + folds_in steps (lowered_choices steps all) ≤ length all + query_work (map (combination_view trees) all)
 choices-within [] trees steps h = omega arith
 choices-within (c ∷ all) trees steps h =
     let a = choices-within all trees steps h in
-    let b = one-within (slice_get trees c.tree) (slice_get steps c.tree) (lowered-at trees steps c.tree h) steps c (lowered_choices steps all) (2 * length all + query_work (map (combination_view trees) all)) refl a in
+    let b = one-within (slice_get trees c.tree) (slice_get steps c.tree) (lowered-at trees steps c.tree h) steps c (lowered_choices steps all) (length all + query_work (map (combination_view trees) all)) refl a in
     omega (arith, b)
+
+-- the plan is well-formed
+pub query-placed : (cs : List Signature) (trees : List CombinationTree) (steps : List StepsTree) (all : List Combination) → AreLowered trees steps → AreTyped cs (map (combination_view trees) all)
+    → length all < 2 ^ 63 → query_work (map (combination_view trees) all) ≤ max_work → IsPlan (plan_of cs steps (lowered_choices steps all))
+query-placed cs trees steps all h t many work = record {
+  choices = choices-placed all cs trees steps h t;
+  few =
+      let a : unit_bound (plan_of cs steps (lowered_choices steps all)) ≤ length all + query_work (map (combination_view trees) all) = choices-within all trees steps h in
+      omega (arith, a, many, work);
+}
 
 within-product : (n w : ℕ) → 1 ≤ n → 2 * n + w ≤ n * (2 + w)
 within-product zero w h = absurd (omega (arith, h))

@@ -14,10 +14,11 @@ use Rattle.wcps_mean.specs.declared.cell.PointFault.{PointFault}
 use Rattle.wcps_mean.specs.declared.item.Item.{Item}
 use Rattle.wcps_mean.specs.Cells.{is_true}
 use Rattle.wcps_mean.specs.Answer.{then_of, given, chosen as answer_chosen, combination_answer}
-use Rattle.plan_ir.specs.Plans.{FieldBody}
+use Rattle.plan_ir.specs.Plans.{BindTree, FieldBody}
 use Rattle.plan_ir.specs.Planned.{chosen, item_planned, steps_planned}
-use Rattle.plan_ir.specs.Placed.{spans, ConditionIsPlaced, FieldsArePlaced, ItemIsPlaced, AreSteps}
-use Rattle.plan_ir.specs.Units.{item_units, steps_units}
+use Rattle.plan_ir.specs.Placed.{spans, ConditionIsPlaced, FieldsArePlaced, ItemIsPlaced, AreDemanded, AreSteps}
+use Rattle.plan_ir.specs.Units.{condition_units, item_units, steps_units}
+use Rattle.plan_ir.proofs.Parts.{some-demanded}
 use Rattle.plan_rewrite.specs.Lowering.{Setting, outermost, at_slice}
 use Rattle.plan_rewrite.specs.LoweredItems.{Chain, end, bracketed, sliced, chain_of, chain_binds, chain_fields, lowered_field, item_binds, lowered_item, returned, boxed_scalar, lowered_steps}
 use Rattle.plan_rewrite.proofs.Lowers.{outer-means, outer-placed}
@@ -63,6 +64,17 @@ item-placed i cs p =
     binds-placed (chain_of i.node.value) cs c i.booleans.items
     (subst (λ l. FieldsArePlaced cs 0 (spans i.domain) (map (lowered_field c) l)) (sym (chain-views i.node.value 0 i.booleans.items)) p)
 
+binds-demanded : (h : Chain) (c : Setting) (bs : List Bool) (binds : List BindTree) → AreDemanded (item_binds bs binds) (chain_fields c h bs)
+binds-demanded h c [] binds = subst (AreDemanded []) (sym (no-fields h c)) refl
+binds-demanded h c (b ∷ bs) binds = let n = fields-length h c (b ∷ bs) in some-demanded binds (chain_fields c h (b ∷ bs)) (omega (arith, n))
+
+-- an item without fields has no binds
+pub item-demanded : (i : TypedItem) → AreDemanded (lowered_item i).binds (lowered_item i).fields
+item-demanded i =
+    let c = outermost [] i.domain in
+    let h = chain_of i.node.value in
+    binds-demanded h c i.booleans.items (chain_binds c h)
+
 fields-placed : (cs : List Signature) (dom : List Axis) (fs : List FieldTree) → FieldsAreTyped cs dom fs → FieldsArePlaced (slice_get cs) 0 (spans dom) (map (lowered_field (outermost [] dom)) fs)
 fields-placed cs dom [] t = tt
 fields-placed cs dom (f ∷ fs) t = (outer-placed f.tree [] dom cs 0 t.0, fields-placed cs dom fs t.1)
@@ -76,6 +88,7 @@ steps-placed condition i cs t = record {
   passes = tt;
   condition = condition-placed cs condition t.0;
   item = item-placed i (slice_get cs) (fields-placed cs i.domain (item_view i).fields t.1);
+  demanded = item-demanded i;
 }
 
 -- each tree takes work
@@ -99,14 +112,20 @@ times-some : (n w : ℕ) → 1 ≤ w → n ≤ n * w
 times-some n zero h = absurd (omega (arith, h))
 times-some n (suc w) h = let e : n * suc w ≡ n + n * w = grind arith in omega (arith, e)
 
-units-of : (box : List Axis) (fs : List FieldBody) (e : Node) (k : ℕ) (bs : List Bool) → length fs ≡ length bs → item_units box fs ≤ count box * fields_work (fields_view e k bs)
+units-of : (box : List Axis) (fs : List FieldBody) (e : Node) (k : ℕ) (bs : List Bool) → length fs ≡ length bs → item_units box fs ≤ 1 + count box * fields_work (fields_view e k bs)
 units-of box [] e k bs h = omega arith
 units-of box (f ∷ fs) e k [] h = absurd (omega (arith, h))
 units-of box (f ∷ fs) e k (b ∷ bs) h =
     let some = work-some (field_tree e k) in
-    times-some (count box) (work_of (field_tree e k) + fields_work (fields_view e (suc k) bs)) (omega (arith, some))
+    let few = times-some (count box) (work_of (field_tree e k) + fields_work (fields_view e (suc k) bs)) (omega (arith, some)) in
+    omega (arith, few)
+
+condition-few : (o : Option (Box Node Global)) → condition_units (option_map boxed_scalar o) ≤ condition_work (option_map boxed_tree o)
+condition-few None = omega arith
+condition-few (Some e) = work-some (boxed_tree e)
 
 pub steps-few : (condition : Option (Box Node Global)) (i : TypedItem) → steps_units (Some (lowered_steps condition i)) ≤ 1 + (condition_work (returned condition i).condition + item_work (returned condition i).item)
 steps-few condition i =
     let few = units-of i.domain (lowered_item i).fields i.node.value 0 i.booleans.items (fields-length (chain_of i.node.value) (outermost [] i.domain) i.booleans.items) in
-    omega (arith, few)
+    let one = condition-few condition in
+    omega (arith, few, one)

@@ -1,5 +1,5 @@
 -- The units of the steps of a tree and the points of their folds are within its work.
-use Rattle.std.proofs.Common.{◌≡◌, ℕ, zero, suc, ◌+◌, ◌*◌, ◌≤◌, List, [], ◌∷◌, map, sym, ap, subst, arith, ℤ, pos, get_or, Bool}
+use Rattle.std.proofs.Common.{◌≡◌, ℕ, zero, suc, ◌+◌, ◌*◌, ◌<◌, ◌≤◌, List, [], ◌∷◌, map, sym, ap, subst, arith, ℤ, pos, get_or, Bool}
 use Rattle.std.specs.Prelude.{Option, Some, None, option_map, Box}
 use Rattle.std.specs.Global.{Global}
 use Rattle.arr_core.specs.declared.domain.Axis.{Axis}
@@ -10,11 +10,11 @@ use Rattle.wcps_types.specs.Typed.{Typed, number, iterator, cell, unary, binary,
 use Rattle.wcps_types.specs.Work.{work_of, fields_work, condition_work, query_work}
 use Rattle.plan_ir.specs.declared.body.Index.TheVariants.{Const}
 use Rattle.plan_ir.specs.Plans.{FieldBody}
-use Rattle.plan_ir.specs.Units.{item_units}
+use Rattle.plan_ir.specs.Units.{condition_units, item_units}
 use Rattle.plan_rewrite.specs.Lowering.{Setting, outermost, at_scalar, at_iterators, at_slice, at_box, at_points, lowered}
 use Rattle.plan_rewrite.specs.LoweredItems.{Chain, end, bracketed, sliced, chain_of, chain_tree, chain_binds, chain_fields, lowered_field, item_binds, boxed_scalar}
 use Rattle.plan_rewrite.specs.LoweredPlans.{lowered_tree}
-use Rattle.plan_rewrite.specs.FoldPoints.{body_folds, condition_folds, binds_folds, fields_folds}
+use Rattle.plan_ir.specs.FoldPoints.{body_folds, condition_folds, binds_folds, fields_folds}
 use Rattle.plan_rewrite.proofs.FoldPoints.{variable-folds, both_of}
 use Rattle.plan_rewrite.proofs.LoweredItems.{chain_views, chain-views, end-views, no-fields}
 use Rattle.plan_rewrite.proofs.LoweredSteps.{work-some}
@@ -33,8 +33,8 @@ sum-product zero m h k = absurd (omega (arith, h))
 sum-product (suc n) zero h k = absurd (omega (arith, k))
 sum-product (suc n) (suc m) h k = let e : suc n * suc m ≡ 1 + (n + (m + n * m)) = grind arith in omega (arith, e)
 
--- the folds of a body are within the work of its tree
-lowered-folds : (t : Typed) (c : Setting) → body_folds (lowered c t) ≤ work_of t
+-- the folds of a body have fewer points than its tree takes work
+lowered-folds : (t : Typed) (c : Setting) → body_folds (lowered c t) < work_of t
 lowered-folds (number z) c = omega arith
 lowered-folds (iterator k) c = let a = variable-folds (get_or c.iterators k (Const (pos 0))) in omega (arith, a)
 lowered-folds (cell v f) c = omega arith
@@ -88,15 +88,15 @@ chain-within (sliced axis lo hi i h) c b bs =
     omega (arith, a, d, e)
 
 units-few : (box : List Axis) (fs : List FieldBody) → item_units box fs ≤ count box
-units-few box [] = omega arith
+units-few box [] = count-some box
 units-few box (f ∷ fs) = omega arith
 
 first-work : (h : Chain) (b : Bool) (bs : List Bool) → 1 ≤ fields_work (chain_views h 0 (b ∷ bs))
 first-work h b bs = let a = work-some (chain_tree h 0) in omega (arith, a)
 
-condition-within : (o : Option (Box Node Global)) → condition_folds (option_map boxed_scalar o) ≤ condition_work (option_map boxed_tree o)
+condition-within : (o : Option (Box Node Global)) → condition_units (option_map boxed_scalar o) + condition_folds (option_map boxed_scalar o) ≤ condition_work (option_map boxed_tree o)
 condition-within None = omega arith
-condition-within (Some e) = lowered-folds (boxed_tree e) (outermost [] [])
+condition-within (Some e) = let a = lowered-folds (boxed_tree e) (outermost [] []) in omega (arith, a)
 
 -- the units of an item and the points of its folds
 item-within : (h : Chain) (c : Setting) (box : List Axis) (bs : List Bool) (w : ℕ) → fields_work (chain_views h 0 bs) ≡ w
@@ -109,7 +109,7 @@ item-within h c box (b ∷ bs) w e =
     let d = sum-product (count box) w (count-some box) (omega (arith, some, e)) in
     omega (arith, a, u, d, e)
 
-pub tree-within : (t : Tree) → both_of (Some (lowered_tree t)) ≤ 2 + query_work (tree_view t ∷ [])
+pub tree-within : (t : Tree) → both_of (Some (lowered_tree t)) ≤ 1 + query_work (tree_view t ∷ [])
 tree-within t =
     let c = outermost [] t.item.domain in
     let a = condition-within t.condition in

@@ -9,5 +9,4 @@ pub mod Hoisting
 pub mod HoistedPlans
 pub mod HoistedParts
 pub mod LoweredPlans
-pub mod FoldPoints
 pub mod Lowered

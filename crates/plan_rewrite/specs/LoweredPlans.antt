@@ -12,7 +12,7 @@ use Rattle.plan_ir.specs.Plans.{StepsTree, Choice, signature_of}
 use Rattle.plan_ir.specs.Planned.{cells_of, steps_planned}
 use Rattle.plan_ir.specs.Placed.{AreSteps}
 use Rattle.plan_ir.specs.Units.{steps_units}
-use Rattle.plan_rewrite.specs.FoldPoints.{steps_folds}
+use Rattle.plan_ir.specs.FoldPoints.{steps_folds}
 use Rattle.plan_rewrite.specs.LoweredItems.{lowered_steps}
 
 -- the steps of a tree
@@ -24,7 +24,7 @@ lowered_tree t = lowered_steps t.condition t.item
 pub record StandsFor (c : CombinationTree) (t : StepsTree) : Type 0 where
   pub planned : (s : ℕ → ℕ → List ℤ → ℤ) (ks : List ℕ) → steps_planned (cells_of s ks) t ≡ combination_answer s (renamed_combination ks c)
   pub placed : (cs : List Signature) (ks : List ℕ) → CombinationIsTyped cs (renamed_combination ks c) → AreSteps (signature_of cs ks) t
-  pub within : steps_units (Some t) + steps_folds (Some t) ≤ 2 + query_work (c ∷ [])
+  pub within : steps_units (Some t) + steps_folds (Some t) ≤ 1 + query_work (c ∷ [])
 
 -- there are steps where there is a tree, and they stand for it
 abbrev pub IsLowered : Option CombinationTree → Option StepsTree → Type 0

@@ -7,7 +7,7 @@ ghost use Rattle.plan_rewrite.specs.InlinedPlans.{inlined_plan};
 ghost use Rattle.plan_rewrite.specs.Everywhere.{Everywhere};
 ghost use Rattle.plan_rewrite.specs.Rewritten.{MeansSame, NoInlinableBind, NoFoldIsClosed};
 ghost use Rattle.plan_rewrite.specs.HoistedPlans.{hoisted_plan};
-ghost use Rattle.plan_rewrite.specs.FoldPoints.{unit_bound};
+ghost use Rattle.plan_ir.specs.FoldPoints.{unit_bound};
 
 use crate::hoisting::hoist_plan;
 use crate::inlining::inline_plan;

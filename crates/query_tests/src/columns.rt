@@ -2,6 +2,7 @@
 
 use crate::words::{outcome, shown};
 use anyhow::{Result, bail};
+use arr_core::RunList;
 use std::alloc::Global;
 use test_rows::{cut, cut_at, index};
 use tile_kernel::{Column, MAX_PLACES, operate_columns};
@@ -142,11 +143,35 @@ pub fn operated(
     Ok(out)
 }
 
-/// A column of one outcome everywhere, as `=7`; or of a first, an inner and a last outcome, as `DivideByZero,3,BadBit`,
+/// Cells of a whole tile in 32 bits each.
+fn narrow_cells(alloc: Global, cells: &[i64]) -> Result<RunList> {
+    let mut list = RunList::new(alloc, MAX_PLACES)?;
+    for cell in cells {
+        list.narrow.push(i32::try_from(*cell)?)?;
+    }
+    list.is_narrow = true;
+    Ok(list)
+}
+
+/// A column of the cells of a whole tile, which come in 32 bits each.
+fn narrow(alloc: Global, cells: &[i64]) -> Result<Column> {
+    let mut column = Column::new(alloc)?;
+    let mut list = narrow_cells(alloc, cells)?;
+    if list.values.len() != MAX_PLACES || list.narrow.len() != MAX_PLACES || !list.is_narrow {
+        bail!("cells of no whole tile");
+    }
+    column.exchange_runs(&mut list);
+    Ok(column)
+}
+
+/// A column of one outcome everywhere, as `=7`; of the values of a whole tile in 32 bits, as `~5,-6,7`; or of a first, an inner and a last outcome, as `DivideByZero,3,BadBit`,
 /// each a value or a fault of a division by 0 or of a bit 64.
 pub fn column(alloc: Global, len: usize, words: &str) -> Result<Column> {
     if let Some(word) = words.strip_prefix("=") {
         return filled(alloc, len, outcome(word)?);
+    }
+    if let Some(word) = words.strip_prefix("~") {
+        return narrow(alloc, &Ends::read(word)?.cells(alloc, len, Part::Value)?);
     }
     let ends = Ends::read(words)?;
     if !ends.has_fault()? {

@@ -24,14 +24,16 @@ const MARKS: usize = 65536;
 /// How far apart the places of tiles of one number are, of versions and of fields that follow one another.
 const STRIDE: u64 = 4099;
 
-/// The cells of tiles by the versions of their coverages, as they were read, in the order of their last use, and marks of tiles that were
-/// tested, which is to say read whole without a refusal. What finds no memory is left out: a tile, the marks, or the
-/// whole. A tile is kept where it was read lately, so that one pass over many tiles drives out none. Tiles of versions
-/// that no coverage has any more go as the least lately used.
+/// The cells of tiles by the versions of their coverages, as they were read, in the order of their last use, and
+/// marks of tiles that were tested, which is to say read whole without a refusal. What finds no memory is left out: a
+/// tile, the marks, or the whole. A tile is kept where it was read lately, so that one pass over many tiles drives out
+/// none; and since a pass may read each tile twice in a row, of two such reads the second one does not count. Tiles of
+/// versions that no coverage has any more go as the least lately used.
 #[derive(Drop)]
 pub(crate) struct DecodedTiles {
     kept: Option<LruCache<TileKey, RunList>>,
     read: Vec<TileKey>,
+    last: Option<TileKey>,
     tested: Vec<Option<TileKey>>,
 }
 
@@ -73,6 +75,7 @@ fn empty(alloc: Global, count: NonZeroUsize) -> Result<DecodedTiles, AllocError>
     Ok(DecodedTiles {
         kept: Some(kept),
         read,
+        last: None,
         tested: Vec::new(alloc),
     })
 }
@@ -90,6 +93,7 @@ impl DecodedTiles {
         DecodedTiles {
             kept: None,
             read: Vec::new(alloc),
+            last: None,
             tested: Vec::new(alloc),
         }
     }
@@ -100,6 +104,7 @@ impl DecodedTiles {
     {
         self.kept = None;
         self.read = Vec::new(alloc);
+        self.last = None;
         self.tested = Vec::new(alloc);
     }
 
@@ -135,18 +140,24 @@ impl DecodedTiles {
         write_list(runs, tile)
     }
 
-    /// Notes the key of a tile that was read, and tells whether it was noted already.
+    /// Notes the key of a tile that was read, and tells whether it was noted already. Of two reads in a row the second
+    /// one does not count.
     fn note(&mut self, at: TileKey) -> bool
         ensures { self.new ≡ self.old }
     {
+        if self.last == Some(at) {
+            self.last = None;
+            return false;
+        }
+        self.last = Some(at);
         let place = at.tile.wrapping_add((at.field as u64).wrapping_mul(101)) % NOTED as u64;
-        let Some(last) = self.read.get_mut(place as usize) else {
+        let Some(noted) = self.read.get_mut(place as usize) else {
             return false;
         };
-        if *last == at {
+        if *noted == at {
             return true;
         }
-        *last = at;
+        *noted = at;
         false
     }
 

@@ -9,7 +9,7 @@ use tile_store::FieldTiles;
 
 /// Which tile: of which coverage of a store, by its place, of which of its fields, by its place, and which one of its
 /// domain's tiles, by its number.
-#[derive(Clone, Copy, Debug, PartialEq, Eq, Hash)]
+#[derive(Clone, Copy, PartialEq, Eq, Hash)]
 pub struct TileAt {
     pub coverage: usize,
     pub field: usize,
@@ -18,7 +18,7 @@ pub struct TileAt {
 
 /// Which tile: of a coverage as it was while it had a version, of which of its fields, by its place, and which one of its
 /// domain's tiles, by its number.
-#[derive(Clone, Copy, Debug, PartialEq, Eq, Hash)]
+#[derive(Clone, Copy, PartialEq, Eq, Hash)]
 pub(crate) struct TileKey {
     pub(crate) version: u64,
     pub(crate) field: usize,

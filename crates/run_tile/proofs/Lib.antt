@@ -5,3 +5,4 @@ pub mod Pushes
 pub mod RawTiles
 pub mod Picks
 pub mod Lists
+pub mod ShortValues

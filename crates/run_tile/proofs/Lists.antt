@@ -1,14 +1,15 @@
 -- Runs as values and counts: their cells, and how far they were listed.
-use Rattle.std.proofs.Common.{◌≡◌, ◌≢◌, ℕ, zero, suc, ◌+◌, ◌*◌, ◌<◌, ◌≤◌, ℤ, pos, List, [], ◌∷◌, ◌++◌, length, replicate, get_or, Some, refl, sym, ap, ap₂, ◌∙◌, arith, below_more, length-append, subst, eq-or-lt_of_le, ⊎_elim}
+use Rattle.std.proofs.Common.{◌≡◌, ℕ, zero, suc, ◌+◌, ◌*◌, ◌<◌, ◌≤◌, ℤ, pos, List, [], ◌∷◌, ◌++◌, length, replicate, get_or, Some, refl, sym, ap, ap₂, ◌∙◌, arith, below_more, length-append, subst, eq-or-lt_of_le, ⊎_elim, ◌⊎◌, inl, inr, Bool, true, false, ◌&&◌, IsTrue, ◌↔◌}
 use Rattle.std.proofs.lemmas.List.{length-replicate}
 use Rattle.std.proofs.lemmas.List.FromFn.{length-map-range_with_len, get_or-map-range_with_len}
 use Rattle.arr_core.specs.declared.cell.FieldType.{FieldType}
 use Rattle.arr_core.specs.Runs.{spread, runs_of}
 use Rattle.run_tile.specs.Runs.{run_at, first_runs, cells_of, IsRun, IsSpelling, run_count, run_size}
 use Rattle.run_tile.specs.Reading.{last_of}
-use Rattle.run_tile.specs.Listing.{AreListed}
+use Rattle.run_tile.specs.Listing.{AreListed, IsPart}
+use Rattle.run_tile.specs.declared.listing.Part.{Part}
 use Rattle.run_tile.specs.declared.run.Run.{Run}
-use Rattle.run_tile.proofs.Spelling.{cells_of-none, cells_of-more}
+use Rattle.run_tile.proofs.Spelling.{cells_of-more, not-repeated}
 
 -- how many cells the first runs have with one more
 pub count-more : (kind : FieldType) (bytes : List ℕ) (n : ℕ) → length (cells_of (first_runs kind bytes (n + 1))) ≡ length (cells_of (first_runs kind bytes n)) + (run_at kind bytes n).count
@@ -101,3 +102,42 @@ sound-more kind bytes n run values values' counts counts' was read sound differs
   values_are = value;
   counts_are = count;
 }
+
+-- the runs before a place are sound, and so is the one there, which has not the value of the one before it
+pub record IsTold (kind : FieldType) (bytes : List ℕ) (n : ℕ) (was sound : Bool) : Type 0 where
+  pub yes : IsTrue sound → IsTrue was × IsRun kind (run_at kind bytes n) × (last_of kind bytes n ≡ Some (run_at kind bytes n).value → ⊥)
+  pub no : (sound ≡ false) → (was ≡ false) ⊎ (IsRun kind (run_at kind bytes n) × (last_of kind bytes n ≡ Some (run_at kind bytes n).value → ⊥) → ⊥)
+
+-- it is told by two tests
+pub told-both : (kind : FieldType) (bytes : List ℕ) (n : ℕ) (was test : Bool) → (IsTrue test ↔ (IsRun kind (run_at kind bytes n) × (last_of kind bytes n ≡ Some (run_at kind bytes n).value → ⊥))) → IsTold kind bytes n was (was && test)
+told-both kind bytes n true true h = record { yes = λ t. (refl, (h.0 refl).0, (h.0 refl).1); no = λ f. absurd cc }
+told-both kind bytes n true false h = record { yes = λ t. absurd cc; no = λ f. inr (λ both. let t : IsTrue false = h.1 both in cc) }
+told-both kind bytes n false test h = record { yes = λ t. absurd cc; no = λ f. inl refl }
+
+-- values and counts with one more behind those that were written
+pub record IsPut (kind : FieldType) (bytes : List ℕ) (n : ℕ) (values values' : List ℤ) (counts counts' : List ℕ) : Type 0 where
+  pub values_before : (k : ℕ) → k < n → get_or values' k (pos 0) ≡ get_or values k (pos 0)
+  pub value : get_or values' n (pos 0) ≡ (run_at kind bytes n).value
+  pub counts_before : (k : ℕ) → k < n → get_or counts' k 0 ≡ get_or counts k 0
+  pub count : get_or counts' n 0 ≡ (run_at kind bytes n).count
+
+-- one run more
+pub part-more : (kind : FieldType) (bytes : List ℕ) (from n : ℕ) (values values' : List ℤ) (counts counts' : List ℕ) (part next : Part) → IsPart kind bytes values counts from n part → n < run_count kind bytes
+    → IsTold kind bytes n part.sound next.sound → IsPut kind bytes n values values' counts counts' → next.cells ≡ part.cells + (run_at kind bytes n).count → IsPart kind bytes values' counts' from (n + 1) next
+part-more kind bytes from n values values' counts counts' part next was some told put cells = record {
+  sound = λ t.
+      let yes = told.yes t in
+      let listed = was.sound yes.0 in
+      sound-more kind bytes n (run_at kind bytes n) values values' counts counts' listed refl yes.1 yes.2
+      (below_more _ n (λ k h. put.values_before k h ∙ listed.values_are k h) put.value)
+      (below_more _ n (λ k h. put.counts_before k h ∙ listed.counts_are k h) put.count);
+  unsound = λ f list spelled. ⊎_elim
+      (λ e. was.unsound e list spelled)
+      (λ refused. refused (spelled.runs n some, λ same. not-repeated kind bytes list n spelled some same))
+      (told.no f);
+  cells_are = omega (arith, was.cells_are, cells, count-more kind bytes n);
+}
+
+-- no run more
+pub part-none : (kind : FieldType) (bytes : List ℕ) (values : List ℤ) (counts : List ℕ) (n : ℕ) → AreListed kind bytes values counts n → IsPart kind bytes values counts n n (record { sound = true; cells = 0 })
+part-none kind bytes values counts n listed = record { sound = λ _. listed; unsound = λ f list spelled. cc; cells_are = omega arith }

@@ -1,5 +1,5 @@
 -- Cells one after the other: what they read as, and how many runs they make.
-use Rattle.std.proofs.Common.{◌≡◌, ◌↔◌, ℕ, zero, suc, ◌+◌, ◌-◌, ◌*◌, ◌/◌, ◌<◌, ◌≤◌, ℤ, pos, List, [], ◌∷◌, ◌++◌, length, take, drop, get_or, sym, ap, ◌∙◌, arith, append_assoc, length-append, length-drop, mul-div_cancel, below_more, subst, Bool, cond, lt-ltb, le-ltb, inl, inr}
+use Rattle.std.proofs.Common.{◌≡◌, ◌↔◌, ℕ, zero, suc, ◌+◌, ◌-◌, ◌*◌, ◌/◌, ◌<◌, ◌≤◌, ℤ, pos, List, [], ◌∷◌, ◌++◌, length, take, drop, get_or, sym, ap, ◌∙◌, arith, append_assoc, length-append, length-drop, mul-div_cancel, below_more, subst, Bool, true, false, ◌&&◌, IsTrue, refl, ◌⊎◌, cond, lt-ltb, le-ltb, inl, inr}
 use Rattle.std.specs.Prelude.{if◌then◌else◌}
 use Rattle.std.specs.Int.{w64}
 use Rattle.std.specs.Ordering.{int_eq}
@@ -20,6 +20,16 @@ use Rattle.run_tile.specs.Runs.{runs_in}
 use Rattle.run_tile.specs.Raw.{raw_at, raw_cells, raw_count, raw_size, runs_size, tile_size, form_of, IsRawSpelling, IsRawWritten}
 use Rattle.run_tile.proofs.Pushes.{runs-bounds}
 use Rattle.run_tile.proofs.Values.{value-read}
+
+-- two tests that hold, and two of which one fails
+pub both-true : (a b : Bool) → IsTrue (a && b) → IsTrue a × IsTrue b
+both-true true true t = (refl, refl)
+both-true true false t = absurd cc
+both-true false b t = absurd cc
+
+pub one-false : (a b : Bool) → (a && b) ≡ false → (a ≡ false) ⊎ (b ≡ false)
+one-false true b f = inr f
+one-false false b f = inl refl
 
 pub some-width : (kind : FieldType) → 1 ≤ width_of kind
 some-width kind = grind arith

@@ -7,6 +7,7 @@ ghost use Rattle.run_tile.specs.Raw.{Spells, IsOfNone};
 
 use crate::error::DecodeError;
 use crate::listing::list_runs;
+use crate::narrow::list_raw;
 use crate::raw::read_raw;
 use crate::reading::read_cells;
 use arr_core::{FieldType, RunList};
@@ -68,8 +69,9 @@ pub fn decode(
 }
 
 /// Makes a list that of the cells of a type that the bytes spell in a form, as many as it has values, which it keeps:
-/// their runs where they lie so, else the values one by one without counts. Refused as `decode_into`. A list that has
-/// room for as many counts as values takes no memory. After a refusal it stands for any cells.
+/// their runs where they lie so, else the values one by one without counts, in 32 bits where the values of the type
+/// have room there and there is memory for them. Refused as `decode_into`, but not for want of memory where the list
+/// has room for as many counts as values. After a refusal it stands for any cells.
 pub fn decode_runs(
     kind: FieldType,
     form: Form,
@@ -89,8 +91,7 @@ pub fn decode_runs(
     match form {
         Form::Runs => list_runs(kind, bytes, runs),
         Form::Raw => {
-            runs.counts.clear();
-            if read_raw(kind, bytes, &mut runs.values) {
+            if list_raw(kind, bytes, runs) {
                 Ok(())
             } else {
                 Err(DecodeError::Damaged)

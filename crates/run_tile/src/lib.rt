@@ -6,6 +6,8 @@ mod decoding;
 mod encoding;
 mod error;
 mod listing;
+mod narrow;
+mod number;
 mod picking;
 mod raw;
 mod reading;

@@ -1,8 +1,7 @@
 //! Cells one after the other, each in the width of its type.
 
-ghost use Rattle.std.specs.Prelude.{◌≡◌, ◌+◌, ◌*◌, ◌≤◌, ◌<◌, ◌++◌, ◌↔◌, ℕ, ℤ, List, length, drop, All, pos, false, get_or, IsTrue, IfOk, cond};
+ghost use Rattle.std.specs.Prelude.{◌≡◌, ◌+◌, ◌*◌, ◌≤◌, ◌<◌, ◌++◌, ◌↔◌, ℕ, ℤ, List, length, map, drop, All, pos, false, get_or, IsTrue, IfOk};
 ghost use Rattle.std.specs.Int.{w64};
-ghost use Rattle.std.specs.Ordering.{int_eq};
 ghost use Rattle.byteorder.specs.Endian.{little_bytes, low_bytes};
 ghost use Rattle.arr_core.specs.Cells.{Fits};
 ghost use Rattle.arr_core.specs.Limits.{max_tile};
@@ -10,41 +9,34 @@ ghost use Rattle.run_tile.specs.Types.{width_of};
 ghost use Rattle.run_tile.specs.Runs.{runs_in};
 ghost use Rattle.run_tile.specs.Raw.{raw_at, raw_cells, raw_size, runs_size, IsRawSpelling, IsNoRawSpelling};
 
+use crate::number::Number;
 use crate::run::{read_value, width};
 use arr_core::FieldType;
 use byteorder::{ByteOrder, LittleEndian};
 use std::alloc::{AllocError, Global};
 
-/// 1 where two neighbours differ, else 0.
-#[inline(always)]
-fn change(x: i64, y: i64) -> usize
-    ensures value { result ≡ cond (int_eq x y) 0 1 }
-    ensures small { result ≤ 1 }
-{
-    if x == y { 0 } else { 1 }
-}
+/// How many cells are looked at before it is asked whether their runs are too many.
+const BLOCK: usize = 256;
 
 /// How many cells differ from the one before them.
 #[inline(always)]
-fn count_changes(cells: &[i64]) -> usize
-    requires { 1 ≤ length cells.now }
-    ensures value { result + 1 ≡ runs_in cells.now }
+fn count_changes<N: Number>(cells: &[N]) -> u32
+    requires some { 1 ≤ length cells.now }
+    requires few { length cells.now ≤ BLOCK + 1 }
+    ensures value { result + 1 ≡ runs_in (map N.number cells.now) }
     ensures few { result + 1 ≤ length cells.now }
 {
-    let mut changes: usize = 0;
+    let mut changes: u32 = 0;
     for place in 1..cells.len() {
-        changes += change(cells[place - 1], cells[place]);
+        changes += cells[place - 1].change(cells[place]);
     }
     changes
 }
 
-/// How many cells are looked at before it is asked whether their runs are too many.
-const BLOCK: usize = 256;
-
 /// How many runs cells make. Where they make more than `most`, any number above it will do.
-fn count_runs(cells: &[i64], most: usize) -> usize
-    ensures exact { result ≤ most → result ≡ runs_in cells.now }
-    ensures more { most < result → most < runs_in cells.now }
+fn count_runs<N: Number>(cells: &[N], most: usize) -> usize
+    ensures exact { result ≤ most → result ≡ runs_in (map N.number cells.now) }
+    ensures more { most < result → most < runs_in (map N.number cells.now) }
     ensures few { result ≤ length cells.now }
 {
     if cells.len() == 0 {
@@ -56,16 +48,16 @@ fn count_runs(cells: &[i64], most: usize) -> usize
         if most < runs {
             return runs;
         }
-        let end = cells.len().min(at + BLOCK);
-        runs += count_changes(&cells[at - 1..end]);
+        let end = at + BLOCK.min(cells.len() - at);
+        runs += count_changes(&cells[at - 1..end]) as usize;
         at = end;
     }
     runs
 }
 
 /// Whether the runs of cells take more than so many bytes.
-pub(crate) fn is_shorter(kind: FieldType, bytes: usize, cells: &[i64]) -> bool
-    ensures { IsTrue result ↔ (bytes < runs_size kind cells.now) }
+pub(crate) fn is_shorter<N: Number>(kind: FieldType, bytes: usize, cells: &[N]) -> bool
+    ensures { IsTrue result ↔ (bytes < runs_size kind (map N.number cells.now)) }
 {
     let most = bytes / (2 + width(kind));
     most < count_runs(cells, most)
@@ -73,18 +65,19 @@ pub(crate) fn is_shorter(kind: FieldType, bytes: usize, cells: &[i64]) -> bool
 
 /// Reads the value at each place, as many as there is room for, and tells whether all are of the type.
 #[inline(always)]
-fn read_values(kind: FieldType, bytes: &[u8], cells: &mut [i64]) -> bool
-    requires { length cells.old * width_of kind ≤ length bytes.now }
+fn read_values<N: Number>(kind: FieldType, bytes: &[u8], cells: &mut [N]) -> bool
+    requires long { length cells.old * width_of kind ≤ length bytes.now }
+    requires room { (k : ℕ) → N.HasRoom (raw_at kind bytes.now k) }
     ensures places { length cells.new ≡ length cells.old }
-    ensures read { (k : ℕ) → k < length cells.new → get_or cells.new k (pos 0) ≡ raw_at kind bytes.now k }
+    ensures read { (k : ℕ) → k < length cells.new → get_or (map N.number cells.new) k (pos 0) ≡ raw_at kind bytes.now k }
     ensures fit { IsTrue result → (k : ℕ) → k < length cells.new → Fits kind (raw_at kind bytes.now k) }
     ensures unfit { (result ≡ false) → (k : ℕ) × (k < length cells.new) × ¬ (Fits kind (raw_at kind bytes.now k)) }
 {
     let mut fit = true;
     for place in 0..cells.len() {
         let value = value_at(kind, bytes, place);
-        fit = fit && kind.fits(value);
-        cells[place] = value;
+        fit &= kind.fits(value);
+        cells[place] = N::of(value);
     }
     fit
 }
@@ -102,11 +95,13 @@ pub(crate) fn value_at(kind: FieldType, bytes: &[u8], place: usize) -> i64
 /// Whether the bytes are cells of a type one after the other, as many as there is room for, which are written then, and
 /// are fewer than the runs of these take.
 #[inline(always)]
-fn read_all(kind: FieldType, bytes: &[u8], cells: &mut [i64]) -> bool
-    ensures spelled { IsTrue result → IsRawSpelling kind bytes.now cells.new }
+fn read_all<N: Number>(kind: FieldType, bytes: &[u8], cells: &mut [N]) -> bool
+    requires { (k : ℕ) → N.HasRoom (raw_at kind bytes.now k) }
+    ensures spelled { IsTrue result → IsRawSpelling kind bytes.now (map N.number cells.new) }
     ensures damaged { (result ≡ false) → IsNoRawSpelling (length cells.old) kind bytes.now }
 {
-    if bytes.len() != cells.len() * width(kind) {
+    let size = width(kind);
+    if bytes.len() % size != 0 || bytes.len() / size != cells.len() {
         return false;
     }
     if !read_values(kind, bytes, cells) {
@@ -116,8 +111,9 @@ fn read_all(kind: FieldType, bytes: &[u8], cells: &mut [i64]) -> bool
 }
 
 /// The same, by a loop of its own for each type.
-pub fn read_raw(kind: FieldType, bytes: &[u8], cells: &mut [i64]) -> bool
-    ensures spelled { IsTrue result → IsRawSpelling kind bytes.now cells.new }
+pub(crate) fn read_raw<N: Number>(kind: FieldType, bytes: &[u8], cells: &mut [N]) -> bool
+    requires { (k : ℕ) → N.HasRoom (raw_at kind bytes.now k) }
+    ensures spelled { IsTrue result → IsRawSpelling kind bytes.now (map N.number cells.new) }
     ensures damaged { (result ≡ false) → IsNoRawSpelling (length cells.old) kind bytes.now }
 {
     match kind {

@@ -9,7 +9,7 @@ use arr_core::{FieldType, MAX_TILE};
 use byteorder::{ByteOrder, LittleEndian};
 
 /// A run: `count` cells of one value.
-#[derive(Clone, Copy, PartialEq, Eq, Debug)]
+#[derive(Clone, Copy, PartialEq, Eq)]
 pub struct Run {
     pub count: u16,
     pub value: i64,

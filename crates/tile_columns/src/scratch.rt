@@ -37,10 +37,7 @@ impl Scratch {
             keeps_runs: false,
             cells: Vec::new(alloc),
             tile: Vec::new(alloc),
-            runs: RunList {
-                values: Vec::new(alloc),
-                counts: Vec::new(alloc),
-            },
+            runs: RunList::of(alloc, Vec::new(alloc), Vec::new(alloc)),
             coordinates: Vec::new(alloc),
             numbers: Vec::new(alloc),
             ranks: Vec::new(alloc),

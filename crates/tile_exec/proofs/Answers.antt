@@ -8,12 +8,12 @@ use Rattle.wcps_mean.specs.declared.item.Item.{Item}
 use Rattle.wcps_mean.specs.Cells.{is_true}
 use Rattle.wcps_mean.specs.Answer.{joined, then_of, given}
 use Rattle.plan_ir.specs.Bodies.{Tree}
-use Rattle.plan_ir.specs.Plans.{PassTree, ItemTree, StepsTree, Choice, PlanTree}
+use Rattle.plan_ir.specs.Plans.{PassTree, FieldBody, ItemTree, StepsTree, Choice, PlanTree}
 use Rattle.plan_ir.specs.Run.{run}
 use Rattle.plan_ir.specs.Planned.{pass_outcome, registers, registers_after, item_planned, chosen, cells_of, choice_planned, planned}
 use Rattle.tile_exec.specs.declared.task.Status.TheVariants.{Giving, Skipping, Failed}
-use Rattle.tile_exec.specs.Tasks.{TaskTree, item, pass_tasks, choice_passes, register_count, all_passes, condition_tasks, choice_outs, all_outs, tasks_of}
-use Rattle.tile_exec.specs.Progress.{Progress, start, tested, with_item, after_item, after, after_all, answer_of}
+use Rattle.tile_exec.specs.Tasks.{TaskTree, item_part, pass_tasks, choice_passes, register_count, all_passes, condition_tasks, choice_outs, all_outs, tasks_of}
+use Rattle.tile_exec.specs.Progress.{Progress, start, tested, with_item, after_item, after_part, after, after_all, answer_of}
 
 pub after_append : (s : ℕ → ℕ → List ℤ → ℤ) (g : Progress) (xs ys : List TaskTree) → after_all s g (xs ++ ys) ≡ after_all s (after_all s g xs) ys
 after_append s g [] ys = refl
@@ -114,31 +114,40 @@ tested_settled : (regs : List Outcome) (items : List Item) (o : Outcome) (r : Re
 tested_settled regs items (Fault f) r = refl
 tested_settled regs items (Value z) r = chosen_settled regs items (is_true z) r
 
+-- with fields or without, an item gives what it gives
+item_after : (i : ItemTree) (fields : List FieldBody) (s : ℕ → ℕ → List ℤ → ℤ) (regs : List Outcome) (g : Progress) → after_part s regs g (item_part i fields) ≡ after_item g g.status (item_planned s regs i)
+item_after i [] s regs g = refl
+item_after i (f ∷ fields) s regs g = refl
+
 -- the condition and the item of a combination, with its registers
-outs_settled : (s : ℕ → ℕ → List ℤ → ℤ) (coverages : List ℕ) (regs own : List Outcome) (items : List Item) (first n : ℕ) (c : Option Tree) (i : ItemTree) → take n (drop first regs) ≡ own
-    → after_all s (giving regs items) (condition_tasks coverages first n c ++ record { coverages = coverages; first = first; count = n; part = item i } ∷ [])
+outs_settled : (s : ℕ → ℕ → List ℤ → ℤ) (coverages : List ℕ) (regs own : List Outcome) (items : List Item) (first n : ℕ) (c : Option Tree) (i : ItemTree) (fields : List FieldBody) → take n (drop first regs) ≡ own
+    → after_all s (giving regs items) (condition_tasks coverages first n c ++ record { coverages = coverages; first = first; count = n; part = item_part i fields } ∷ [])
     ≡ settled regs items (then_of (chosen (cells_of s coverages) own c) (λ b. cond b (then_of (item_planned (cells_of s coverages) own i) (λ i. Ok (i ∷ []))) (Ok [])))
-outs_settled s coverages regs own items first n None i h =
-    ap (λ r. with_item (giving regs items) (item_planned (cells_of s coverages) r i)) h ∙ item_settled regs items (item_planned (cells_of s coverages) own i)
-outs_settled s coverages regs own items first n (Some c) i h =
+outs_settled s coverages regs own items first n None i fields h =
     let f = cells_of s coverages in
-    ap (λ r. after_item (record { registers = regs; items = items; status = tested (run f r c []) }) (tested (run f r c [])) (item_planned f r i)) h
+    item_after i fields f (take n (drop first regs)) (giving regs items)
+    ∙ ap (λ r. with_item (giving regs items) (item_planned f r i)) h ∙ item_settled regs items (item_planned f own i)
+outs_settled s coverages regs own items first n (Some c) i fields h =
+    let f = cells_of s coverages in
+    let r = take n (drop first regs) in
+    item_after i fields f r (record { registers = regs; items = items; status = tested (run f r c []) })
+    ∙ ap (λ r. after_item (record { registers = regs; items = items; status = tested (run f r c []) }) (tested (run f r c [])) (item_planned f r i)) h
     ∙ tested_settled regs items (run f own c []) (item_planned f own i)
 
 choice_settled : (s : ℕ → ℕ → List ℤ → ℤ) (coverages : List ℕ) (regs : List Outcome) (items : List Item) (first : ℕ) (o : Option StepsTree) → take (register_count o) (drop first regs) ≡ own_registers s coverages o
     → after_all s (giving regs items) (choice_outs coverages first o) ≡ settled regs items (choice_planned s coverages o)
 choice_settled s coverages regs items first None h = ap (giving regs) (sym (append-nil items))
-choice_settled s coverages regs items first (Some t) h = outs_settled s coverages regs (own_registers s coverages (Some t)) items first (length t.passes) t.condition t.item h
+choice_settled s coverages regs items first (Some t) h = outs_settled s coverages regs (own_registers s coverages (Some t)) items first (length t.passes) t.condition t.item t.item.fields h
 
-outs_failed : (s : ℕ → ℕ → List ℤ → ℤ) (coverages : List ℕ) (regs : List Outcome) (items : List Item) (f : PointFault) (first n : ℕ) (c : Option Tree) (i : ItemTree)
-    → after_all s (failed regs items f) (condition_tasks coverages first n c ++ record { coverages = coverages; first = first; count = n; part = item i } ∷ []) ≡ failed regs items f
-outs_failed s coverages regs items f first n None i = refl
-outs_failed s coverages regs items f first n (Some c) i = refl
+outs_failed : (s : ℕ → ℕ → List ℤ → ℤ) (coverages : List ℕ) (regs : List Outcome) (items : List Item) (f : PointFault) (first n : ℕ) (c : Option Tree) (i : ItemTree) (fields : List FieldBody)
+    → after_all s (failed regs items f) (condition_tasks coverages first n c ++ record { coverages = coverages; first = first; count = n; part = item_part i fields } ∷ []) ≡ failed regs items f
+outs_failed s coverages regs items f first n None i fields = item_after i fields (cells_of s coverages) (take n (drop first regs)) (failed regs items f)
+outs_failed s coverages regs items f first n (Some c) i fields = item_after i fields (cells_of s coverages) (take n (drop first regs)) (failed regs items f)
 
 choice_failed : (s : ℕ → ℕ → List ℤ → ℤ) (coverages : List ℕ) (regs : List Outcome) (items : List Item) (f : PointFault) (first : ℕ) (o : Option StepsTree)
     → after_all s (failed regs items f) (choice_outs coverages first o) ≡ failed regs items f
 choice_failed s coverages regs items f first None = refl
-choice_failed s coverages regs items f first (Some t) = outs_failed s coverages regs items f first (length t.passes) t.condition t.item
+choice_failed s coverages regs items f first (Some t) = outs_failed s coverages regs items f first (length t.passes) t.condition t.item t.item.fields
 
 all_failed : (s : ℕ → ℕ → List ℤ → ℤ) (steps : List StepsTree) (regs : List Outcome) (items : List Item) (f : PointFault) (first : ℕ) (choices : List Choice)
     → after_all s (failed regs items f) (all_outs steps first choices) ≡ failed regs items f

@@ -1,5 +1,5 @@
 -- The tasks of a plan before the first unit.
-use Rattle.std.proofs.Common.{◌≡◌, ℕ, zero, suc, ◌+◌, ◌<◌, ◌≤◌, max, List, [], ◌∷◌, ◌++◌, length, map, take, drop, refl, sym, ap, ◌∙◌, subst, arith, length-append, append_assoc, append-nil, Option, Some, None, inl, inr}
+use Rattle.std.proofs.Common.{◌≡◌, ℕ, zero, suc, ◌+◌, ◌^◌, ◌<◌, ◌≤◌, max, List, [], ◌∷◌, ◌++◌, length, map, take, drop, refl, sym, ap, ◌∙◌, subst, arith, length-append, append_assoc, append-nil, Option, Some, None, inl, inr}
 use Rattle.std.specs.Prelude.{slice_get, IsSomeAnd, sum_by, vec_capacity, All}
 use Rattle.std.specs.List.{flat_map}
 use Rattle.std.proofs.lemmas.List.{length-map}
@@ -13,16 +13,16 @@ use Rattle.arr_core.specs.Tiles.{tile_boxes}
 use Rattle.plan_ir.specs.declared.plan.Plan.{Plan}
 use Rattle.plan_ir.specs.Bodies.{Tree}
 use Rattle.plan_ir.specs.Plans.{PassTree, BindTree, FieldBody, ItemTree, StepsTree, Choice, PlanTree, signature_of, plan_view}
-use Rattle.plan_ir.specs.Placed.{PassesArePlaced, ConditionIsPlaced, AreSteps, IsChoice, IsPlan}
-use Rattle.plan_ir.specs.Units.{item_units, steps_units, units, tile_stages, pass_stages, condition_stages, item_stages, passes_boxes, out_boxes, boxes}
+use Rattle.plan_ir.specs.Placed.{spans, PassesArePlaced, ConditionIsPlaced, ItemIsPlaced, AreDemanded, AreSteps, IsChoice, IsPlan}
+use Rattle.plan_ir.specs.Units.{condition_units, item_units, steps_units, units, tile_stages, pass_stages, condition_stages, item_stages, passes_boxes, out_boxes, boxes}
 use Rattle.tile_exec.specs.declared.task.Task.{Task}
 use Rattle.tile_exec.specs.declared.begin.Listing.{Listing}
 use Rattle.tile_exec.specs.declared.state.State.{State}
-use Rattle.tile_exec.specs.Tasks.{TaskTree, pass, item, bodies_of, stages_of, pass_tasks, choice_passes, register_count, all_passes, condition_tasks, choice_outs, all_outs, tasks_of, AreReady}
+use Rattle.tile_exec.specs.Tasks.{PartTree, TaskTree, pass, area_of, bodies_of, stages_of, item_part, pass_tasks, choice_passes, register_count, all_passes, condition_tasks, choice_outs, all_outs, tasks_of, IsPartPlaced, registers_made, AreReady}
 use Rattle.tile_exec.specs.Progress.{start, after_all}
 use Rattle.tile_exec.specs.Standing.{plan_of, tasks_left, progress_of, AreTasks, IsLeft, IsBegun}
-use Rattle.tile_exec.specs.Begun.{AreFit, Lists}
-use Rattle.tile_columns.proofs.TileOrders.{tiles-few}
+use Rattle.tile_exec.specs.Begun.{IsFit, AreFit, Lists}
+use Rattle.tile_columns.proofs.TileOrders.{tiles-few, tiles-pos}
 use Rattle.tile_exec.proofs.Moves.{at_start, stands_start}
 use Rattle.tile_exec.proofs.Begun.{total}
 
@@ -69,23 +69,34 @@ all_ready plan first (c ∷ cs) rest h f r =
 same_after : (all : List Signature) (n : ℕ) (ts : List TaskTree) → AreReady all n ts → AreReady all (n + 0) ts
 same_after all n ts h = let e : n ≡ n + 0 = omega arith in subst (λ k. AreReady all k ts) e h
 
-outs_ready : (all : List Signature) (coverages : List ℕ) (first m n : ℕ) (c : Option Tree) (i : ItemTree) (rest : List TaskTree) → ConditionIsPlaced (signature_of all coverages) m [] c
-    → AreReady all n (record { coverages = coverages; first = first; count = m; part = item i } ∷ rest) → first + m ≤ n
-    → AreReady all n ((condition_tasks coverages first m c ++ record { coverages = coverages; first = first; count = m; part = item i } ∷ []) ++ rest)
-outs_ready all coverages first m n None i rest p r le = r
-outs_ready all coverages first m n (Some c) i rest p r le = (le, p, same_after all n (record { coverages = coverages; first = first; count = m; part = item i } ∷ rest) r)
+outs_ready : (all : List Signature) (coverages : List ℕ) (first m n : ℕ) (c : Option Tree) (p : PartTree) (rest : List TaskTree) → ConditionIsPlaced (signature_of all coverages) m [] c
+    → AreReady all n (record { coverages = coverages; first = first; count = m; part = p } ∷ rest) → first + m ≤ n
+    → AreReady all n ((condition_tasks coverages first m c ++ record { coverages = coverages; first = first; count = m; part = p } ∷ []) ++ rest)
+outs_ready all coverages first m n None p rest h r le = r
+outs_ready all coverages first m n (Some c) p rest h r le = (le, h, same_after all n (record { coverages = coverages; first = first; count = m; part = p } ∷ rest) r)
 
-item_fit : (coverages : List ℕ) (first m : ℕ) (c : Option Tree) (i : ItemTree) → AreFit (condition_tasks coverages first m c ++ record { coverages = coverages; first = first; count = m; part = item i } ∷ [])
-    → AreFit (record { coverages = coverages; first = first; count = m; part = item i } ∷ [])
-item_fit coverages first m c i f = fit_back (condition_tasks coverages first m c) (record { coverages = coverages; first = first; count = m; part = item i } ∷ []) f
+item_fit : (coverages : List ℕ) (first m : ℕ) (c : Option Tree) (p : PartTree) → AreFit (condition_tasks coverages first m c ++ record { coverages = coverages; first = first; count = m; part = p } ∷ [])
+    → AreFit (record { coverages = coverages; first = first; count = m; part = p } ∷ [])
+item_fit coverages first m c p f = fit_back (condition_tasks coverages first m c) (record { coverages = coverages; first = first; count = m; part = p } ∷ []) f
+
+item_ready : (cs : ℕ → Option Signature) (m : ℕ) (i : ItemTree) (fields : List FieldBody) → i.fields ≡ fields → ItemIsPlaced cs m (spans i.domain) i.binds i.fields → AreDemanded i.binds i.fields → IsFit (item_part i fields)
+    → IsPartPlaced cs m (item_part i fields)
+item_ready cs m i [] e p d f = (subst (AreDemanded i.binds) e d, e)
+item_ready cs m i (x ∷ fields) e p d f = (f, p, subst (λ l. 0 < length l) (sym e) (omega arith))
+
+item_after : (all : List Signature) (n : ℕ) (i : ItemTree) (fields : List FieldBody) (ts : List TaskTree) → AreReady all n ts → AreReady all (n + registers_made (item_part i fields)) ts
+item_after all n i [] ts h = same_after all n ts h
+item_after all n i (x ∷ fields) ts h = same_after all n ts h
 
 out_ready : (all : List Signature) (coverages : List ℕ) (first n : ℕ) (o : Option StepsTree) (rest : List TaskTree) → IsSomeAnd o (AreSteps (signature_of all coverages)) → AreFit (choice_outs coverages first o)
     → first + register_count o ≤ n → AreReady all n rest → AreReady all n (choice_outs coverages first o ++ rest)
 out_ready all coverages first n None rest p f le r = r
 out_ready all coverages first n (Some s) rest p f le r =
     let m = length s.passes in
-    let fit = (item_fit coverages first m s.condition s.item f).0 in
-    outs_ready all coverages first m n s.condition s.item rest p.condition (le, (fit.0, p.item, fit.1), same_after all n rest r) le
+    let i = s.item in
+    let fit = (item_fit coverages first m s.condition (item_part i i.fields) f).0 in
+    outs_ready all coverages first m n s.condition (item_part i i.fields) rest p.condition
+    (le, item_ready (signature_of all coverages) m i i.fields refl p.item p.demanded fit, item_after all n i i.fields rest r) le
 
 total_above : (steps : List StepsTree) (first : ℕ) (cs : List Choice) → first ≤ total steps first cs
 total_above steps first [] = omega arith
@@ -106,7 +117,7 @@ tasks_ready : (plan : PlanTree) → IsPlan plan → AreFit (tasks_of plan) → A
 tasks_ready plan h f =
     let passes = all_passes plan.steps 0 plan.combinations in
     let outs = all_outs plan.steps 0 plan.combinations in
-    all_ready plan 0 plan.combinations outs h (fit_front passes outs f) (all_outs_ready plan 0 (total plan.steps 0 plan.combinations) plan.combinations h (fit_back passes outs f) (omega arith))
+    all_ready plan 0 plan.combinations outs h.choices (fit_front passes outs f) (all_outs_ready plan 0 (total plan.steps 0 plan.combinations) plan.combinations h.choices (fit_back passes outs f) (omega arith))
 
 -- the boxes of the tasks
 pass_boxes : (coverages : List ℕ) (first n : ℕ) (passes : List PassTree) → flat_map stages_of (pass_tasks coverages first n passes) ≡ flat_map (pass_stages coverages) passes
@@ -130,9 +141,10 @@ all_boxes steps first (c ∷ cs) =
     ∙ ap (λ l. passes_boxes c.coverages o ++ l) (all_boxes steps (first + register_count o) cs)
     ∙ sym (flat_map-cons (λ (c : Choice). passes_boxes c.coverages (slice_get steps c.steps)) c cs)
 
-item_boxes : (coverages : List ℕ) (i : ItemTree) (fields : List FieldBody) → i.fields ≡ fields → 0 < length fields → tile_stages coverages (bodies_of (item i)) i.domain ≡ item_stages coverages i fields
-item_boxes coverages i [] e lt = absurd (omega (arith, lt))
-item_boxes coverages i (f ∷ fields) e lt = ap (λ l. tile_stages coverages (map (λ (b : BindTree). b.position) i.binds ++ map (λ (f : FieldBody). f.body) l) i.domain) e
+item_boxes : (coverages : List ℕ) (i : ItemTree) (fields : List FieldBody) → i.fields ≡ fields
+    → tile_stages coverages (bodies_of (item_part i fields)) (area_of (item_part i fields)) ≡ item_stages coverages i fields
+item_boxes coverages i [] e = refl
+item_boxes coverages i (f ∷ fields) e = ap (λ l. tile_stages coverages (map (λ (b : BindTree). b.position) i.binds ++ map (λ (f : FieldBody). f.body) l) i.domain) e
 
 condition_boxes : (coverages : List ℕ) (first m : ℕ) (c : Option Tree) → flat_map stages_of (condition_tasks coverages first m c) ≡ condition_stages coverages c
 condition_boxes coverages first m None = refl
@@ -141,36 +153,35 @@ condition_boxes coverages first m (Some c) = refl
 one_boxes : (t : TaskTree) → flat_map stages_of (t ∷ []) ≡ stages_of t
 one_boxes t = flat_map-cons stages_of t [] ∙ append-nil (stages_of t)
 
-out_boxes_are : (coverages : List ℕ) (first : ℕ) (o : Option StepsTree) → AreFit (choice_outs coverages first o) → flat_map stages_of (choice_outs coverages first o) ≡ out_boxes coverages o
-out_boxes_are coverages first None f = refl
-out_boxes_are coverages first (Some s) f =
+out_boxes_are : (coverages : List ℕ) (first : ℕ) (o : Option StepsTree) → flat_map stages_of (choice_outs coverages first o) ≡ out_boxes coverages o
+out_boxes_are coverages first None = refl
+out_boxes_are coverages first (Some s) =
     let m = length s.passes in
-    let t : TaskTree = record { coverages = coverages; first = first; count = m; part = item s.item } in
-    let fit = (item_fit coverages first m s.condition s.item f).0 in
+    let i = s.item in
+    let t : TaskTree = record { coverages = coverages; first = first; count = m; part = item_part i i.fields } in
     flat_map-append stages_of (condition_tasks coverages first m s.condition) (t ∷ [])
     ∙ ap (λ l. l ++ flat_map stages_of (t ∷ [])) (condition_boxes coverages first m s.condition)
-    ∙ ap (λ l. condition_stages coverages s.condition ++ l) (one_boxes t ∙ item_boxes coverages s.item s.item.fields refl fit.1)
+    ∙ ap (λ l. condition_stages coverages s.condition ++ l) (one_boxes t ∙ item_boxes coverages i i.fields refl)
 
-all_out_boxes : (steps : List StepsTree) (first : ℕ) (cs : List Choice) → AreFit (all_outs steps first cs)
-    → flat_map stages_of (all_outs steps first cs) ≡ flat_map (λ (c : Choice). out_boxes c.coverages (slice_get steps c.steps)) cs
-all_out_boxes steps first [] f = refl
-all_out_boxes steps first (c ∷ cs) f =
+all_out_boxes : (steps : List StepsTree) (first : ℕ) (cs : List Choice) → flat_map stages_of (all_outs steps first cs) ≡ flat_map (λ (c : Choice). out_boxes c.coverages (slice_get steps c.steps)) cs
+all_out_boxes steps first [] = refl
+all_out_boxes steps first (c ∷ cs) =
     let o = slice_get steps c.steps in
     let here = choice_outs c.coverages first o in
     let next = all_outs steps (first + register_count o) cs in
     flat_map-append stages_of here next
-    ∙ ap (λ l. l ++ flat_map stages_of next) (out_boxes_are c.coverages first o (fit_front here next f))
-    ∙ ap (λ l. out_boxes c.coverages o ++ l) (all_out_boxes steps (first + register_count o) cs (fit_back here next f))
+    ∙ ap (λ l. l ++ flat_map stages_of next) (out_boxes_are c.coverages first o)
+    ∙ ap (λ l. out_boxes c.coverages o ++ l) (all_out_boxes steps (first + register_count o) cs)
     ∙ sym (flat_map-cons (λ (c : Choice). out_boxes c.coverages (slice_get steps c.steps)) c cs)
 
 -- the stages of the tasks are the boxes of the plan
-tasks_boxes : (plan : PlanTree) → AreFit (tasks_of plan) → flat_map stages_of (tasks_of plan) ≡ boxes plan
-tasks_boxes plan f =
+tasks_boxes : (plan : PlanTree) → flat_map stages_of (tasks_of plan) ≡ boxes plan
+tasks_boxes plan =
     let passes = all_passes plan.steps 0 plan.combinations in
     let outs = all_outs plan.steps 0 plan.combinations in
     flat_map-append stages_of passes outs
     ∙ ap (λ l. l ++ flat_map stages_of outs) (all_boxes plan.steps 0 plan.combinations)
-    ∙ ap (λ l. flat_map (λ (c : Choice). passes_boxes c.coverages (slice_get plan.steps c.steps)) plan.combinations ++ l) (all_out_boxes plan.steps 0 plan.combinations (fit_back passes outs f))
+    ∙ ap (λ l. flat_map (λ (c : Choice). passes_boxes c.coverages (slice_get plan.steps c.steps)) plan.combinations ++ l) (all_out_boxes plan.steps 0 plan.combinations)
 
 -- no more boxes than units
 tiles_few : (coverages : List ℕ) (bodies : List Tree) (box : List Axis) → length (tile_stages coverages bodies box) ≤ count box
@@ -189,7 +200,7 @@ passes_few coverages (p ∷ passes) =
     let m = sum_by-cons (λ (p : PassTree). count p.domain) p passes in
     omega (arith, a, b, h, k, m)
 
-condition_few : (coverages : List ℕ) (c : Option Tree) → length (condition_stages coverages c) ≤ 1
+condition_few : (coverages : List ℕ) (c : Option Tree) → length (condition_stages coverages c) ≤ condition_units c
 condition_few coverages None = omega arith
 condition_few coverages (Some c) = omega arith
 
@@ -229,6 +240,42 @@ boxes_few plan =
     let a = length-append f g in
     let h = choices_few plan.steps plan.combinations in
     omega (arith, a, h)
+
+-- no more registers than units
+passes_some : (passes : List PassTree) → length passes ≤ sum_by (λ (p : PassTree). count p.domain) passes
+passes_some [] = omega arith
+passes_some (p ∷ passes) =
+    let a = tiles-pos p.domain in
+    let b = tiles-few p.domain in
+    let h = passes_some passes in
+    let m = sum_by-cons (λ (p : PassTree). count p.domain) p passes in
+    omega (arith, a, b, h, m)
+
+registers_some : (o : Option StepsTree) → register_count o ≤ steps_units o
+registers_some None = omega arith
+registers_some (Some s) = let h = passes_some s.passes in omega (arith, h)
+
+total_few : (steps : List StepsTree) (first : ℕ) (cs : List Choice) → total steps first cs ≤ first + sum_by (λ (c : Choice). steps_units (slice_get steps c.steps)) cs
+total_few steps first [] = omega arith
+total_few steps first (c ∷ cs) =
+    let h = total_few steps (first + register_count (slice_get steps c.steps)) cs in
+    let k = registers_some (slice_get steps c.steps) in
+    let m = sum_by-cons (λ (c : Choice). steps_units (slice_get steps c.steps)) c cs in
+    omega (arith, h, k, m)
+
+total_front : (steps : List StepsTree) (first n : ℕ) (cs : List Choice) → total steps first (take n cs) ≤ total steps first cs
+total_front steps first zero [] = omega arith
+total_front steps first (suc n) [] = omega arith
+total_front steps first zero (c ∷ cs) = total_above steps first (c ∷ cs)
+total_front steps first (suc n) (c ∷ cs) = total_front steps (first + register_count (slice_get steps c.steps)) n cs
+
+-- the registers of the first combinations can be counted
+pub registers_few : (plan : PlanTree) (n : ℕ) → IsPlan plan → total plan.steps 0 (take n plan.combinations) < 2 ^ 64
+registers_few plan n h =
+    let a = total_front plan.steps 0 n plan.combinations in
+    let b = total_few plan.steps 0 plan.combinations in
+    let few = h.few in
+    omega (arith, a, b, few)
 
 tasks_many : (plan : Plan) (xs : List Task) (ts : List TaskTree) → AreTasks plan xs ts → length xs ≡ length ts
 tasks_many plan [] [] h = refl
@@ -273,9 +320,11 @@ begun_is plan l e h list g =
     let r = g.registers in
     let i = g.items in
     let z = g.tile in
-    let counted = list.boxes in
-    let same = ap length (tasks_boxes tree list.fit) in
+    let same = ap length (tasks_boxes tree) in
     let few = boxes_few tree in
+    let bounded = h.few in
+    let listed = list.boxes in
+    let counted : l.boxes ≡ length (flat_map stages_of trees) = omega (arith, listed, same, few, bounded) in
     let left = g.left in
     record {
       sound = record {
@@ -292,7 +341,7 @@ begun_is plan l e h list g =
         progress = g.progress ∙ sym (ap (λ k. after_all s start (take k (tasks_of (plan_of e)))) g.at ∙ ap (after_all s start) (take_zero (tasks_of (plan_of e))));
         at_hand = stands_start s e (tasks_left e) z;
       };
-      boxes = ap (λ ts. drop e.tile (flat_map stages_of ts)) hand ∙ ap (λ k. drop k (flat_map stages_of trees)) z ∙ drop_zero (flat_map stages_of trees) ∙ tasks_boxes tree list.fit ∙ ap boxes (sym is);
+      boxes = ap (λ ts. drop e.tile (flat_map stages_of ts)) hand ∙ ap (λ k. drop k (flat_map stages_of trees)) z ∙ drop_zero (flat_map stages_of trees) ∙ tasks_boxes tree ∙ ap boxes (sym is);
       some = omega (arith, left);
       few = subst (λ p. e.left ≤ max 1 (units p)) (sym is) (omega (arith, left, counted, same, few));
     }

@@ -1,18 +1,19 @@
 -- The list of a plan's tasks, as it is made.
-use Rattle.std.proofs.Common.{◌≡◌, ◌==◌, ℕ, zero, suc, ◌+◌, ◌<◌, List, [], ◌∷◌, ◌++◌, length, map, take, refl, sym, ap, ◌∙◌, subst, arith, length-append, append_assoc, append-nil, Some, option_map, Bool, false}
+use Rattle.std.proofs.Common.{◌≡◌, ◌==◌, ℕ, zero, suc, ◌+◌, ◌-◌, ◌^◌, min, List, [], ◌∷◌, ◌++◌, length, map, take, refl, sym, ap, ◌∙◌, subst, arith, length-append, append_assoc, append-nil, Some, option_map, Bool, true, false}
 use Rattle.std.specs.Prelude.{slice_get, IsSomeAnd}
 use Rattle.std.specs.List.{flat_map}
 use Rattle.std.proofs.lemmas.List.{length-map, length-take-le}
 use Rattle.std.proofs.lemmas.Option.{slice_get-map, slice_get_within, get_or_from_slice_get}
 use Rattle.std.proofs.lemmas.Grind.{flat_map-append}
+use Rattle.std.proofs.Math.Dec.{eqb-suc-zero}
 use Rattle.arr_core.specs.Tiles.{tile_boxes}
 use Rattle.plan_ir.specs.declared.body.Fold.{Fold}
 use Rattle.plan_ir.specs.declared.plan.Plan.{Plan}
 use Rattle.plan_ir.specs.declared.plan.Steps.{Steps}
-use Rattle.plan_ir.specs.Plans.{PassTree, StepsTree, Choice, pass_view, steps_view, choice_view, plan_view}
+use Rattle.plan_ir.specs.Plans.{PassTree, FieldBody, ItemTree, StepsTree, Choice, pass_view, steps_view, choice_view, plan_view}
 use Rattle.tile_exec.specs.declared.task.Task.{Task}
 use Rattle.tile_exec.specs.declared.begin.Listing.{Listing}
-use Rattle.tile_exec.specs.Tasks.{TaskTree, pass, area_of, stages_of, pass_tasks, choice_passes, choice_outs, register_count, all_passes, all_outs}
+use Rattle.tile_exec.specs.Tasks.{TaskTree, pass, item, fieldless, area_of, stages_of, item_part, pass_tasks, choice_passes, choice_outs, register_count, all_passes, all_outs}
 use Rattle.tile_exec.specs.Standing.{IsPartOf, IsStepsOf, IsTask, AreTasks}
 use Rattle.tile_exec.specs.Begun.{IsFit, AreFit, Lists, Adds, IsChosen}
 use Rattle.tile_columns.proofs.TileOrders.{take_more}
@@ -36,7 +37,7 @@ boxes_push ts t =
     omega (arith, a, b, c)
 
 -- one more task is listed
-pub pushed : (plan : Plan) (old new : Listing) (x : Task) (t : TaskTree) (boxes : ℕ) → new.tasks.items ≡ old.tasks.items ++ x ∷ [] → new.boxes ≡ old.boxes + boxes
+pub pushed : (plan : Plan) (old new : Listing) (x : Task) (t : TaskTree) (boxes : ℕ) → new.tasks.items ≡ old.tasks.items ++ x ∷ [] → new.boxes ≡ min (old.boxes + boxes) (2 ^ 64 - 1)
     → IsTask plan x t → IsFit t.part → boxes ≡ length (tile_boxes (area_of t.part)) → Adds plan old new (t ∷ [])
 pushed plan old new x t boxes items more is fit few trees l = record {
   tasks = subst (λ v. AreTasks plan v (trees ++ t ∷ [])) (sym items) (tasks_push plan old.tasks.items trees x t l.tasks is);
@@ -163,6 +164,13 @@ outs_more plan a b d k s c n x h f g =
     ∙ ap (λ m. all_outs tree.steps 0 front ++ choice_outs c.coverages m (Some (steps_view s))) (sym h) in
     subst (Adds plan a d) (sym e) (adds_more plan a b d (all_outs tree.steps 0 front) (choice_outs c.coverages n (Some (steps_view s))) f g)
 
-pub not_empty : (n : ℕ) (b : Bool) → b ≡ false → b ≡ (n == 0) → 0 < n
-not_empty zero b f e = cc
-not_empty (suc n) b f e = omega arith
+-- an item is a task by whether it has fields
+pub item_some : (i : ItemTree) (fields : List FieldBody) (n : ℕ) (b : Bool) → b ≡ false → b ≡ (n == 0) → length fields ≡ n → item_part i fields ≡ item i
+item_some i [] zero b f e m = cc
+item_some i [] (suc n) b f e m = absurd (omega (arith, m))
+item_some i (x ∷ fields) n b f e m = refl
+
+pub item_none : (i : ItemTree) (fields : List FieldBody) (n : ℕ) (b : Bool) → b ≡ true → b ≡ (n == 0) → length fields ≡ n → item_part i fields ≡ fieldless i
+item_none i [] n b f e m = refl
+item_none i (x ∷ fields) zero b f e m = absurd (omega (arith, m))
+item_none i (x ∷ fields) (suc n) b f e m = let k : (suc n == 0) ≡ false = eqb-suc-zero n in cc

@@ -21,7 +21,7 @@ use Rattle.wcps_mean.specs.declared.cell.Outcome.{Outcome}
 use Rattle.tile_exec.specs.declared.task.Task.{Task}
 use Rattle.tile_exec.specs.declared.task.Part.TheVariants as part
 use Rattle.tile_exec.specs.declared.state.State.{State}
-use Rattle.tile_exec.specs.Tasks.{PartTree, TaskTree, pass, condition, item, area_of, bodies_of, stages_of}
+use Rattle.tile_exec.specs.Tasks.{PartTree, TaskTree, pass, condition, item, fieldless, area_of, bodies_of, stages_of}
 use Rattle.tile_columns.specs.Evaluating.{HasPlace}
 use Rattle.tile_columns.specs.TileOrder.{tile_of}
 use Rattle.tile_columns.proofs.Boxes.{points_within}
@@ -33,11 +33,19 @@ pub is_pass : (s : Steps) (n : ℕ) (q : Fold) (p : PartTree) → slice_get s.pa
 is_pass s n q (pass x) at h = let e : pass_view q ≡ x = subst (λ o. IsSomeAnd o (λ q. pass_view q ≡ x)) at h in ap pass (sym e)
 is_pass s n q (condition c) at h = absurd h
 is_pass s n q (item i) at h = absurd h
+is_pass s n q (fieldless i) at h = absurd h
 
 pub is_item : (s : Steps) (n : ℕ) (p : PartTree) → IsPartOf s n part.Item p → p ≡ item (item_view s.item)
 is_item s n (pass x) h = absurd h
 is_item s n (condition c) h = absurd h
 is_item s n (item i) h = ap item (sym h)
+is_item s n (fieldless i) h = absurd h
+
+pub is_fieldless : (s : Steps) (n : ℕ) (p : PartTree) → IsPartOf s n part.Fieldless p → p ≡ fieldless (item_view s.item)
+is_fieldless s n (pass x) h = absurd h
+is_fieldless s n (condition c) h = absurd h
+is_fieldless s n (item i) h = absurd h
+is_fieldless s n (fieldless i) h = ap fieldless (sym h)
 
 -- a task by its place, and what it stands for
 pub record FoundTask (plan : Plan) (x : Task) (ts : List TaskTree) : Type 0 where

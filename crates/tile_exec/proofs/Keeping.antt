@@ -22,8 +22,8 @@ use Rattle.tile_exec.specs.declared.task.Status.TheVariants.{Giving, Skipping, F
 use Rattle.tile_exec.specs.declared.task.Task.{Task}
 use Rattle.tile_exec.specs.declared.found.Found.TheVariants as found
 use Rattle.tile_exec.specs.declared.state.State.{State}
-use Rattle.tile_exec.specs.Tasks.{PartTree, TaskTree, pass, condition, item, area_of, stages_of, AreReady, IsPartPlaced, registers_made}
-use Rattle.tile_exec.specs.Progress.{read_by, after_part, after_condition, after_item}
+use Rattle.tile_exec.specs.Tasks.{PartTree, TaskTree, pass, condition, item, fieldless, area_of, stages_of, AreReady, IsPartPlaced, registers_made}
+use Rattle.tile_exec.specs.Progress.{Progress, read_by, after_part, after_condition, after_item}
 use Rattle.tile_columns.specs.TileOrder.{points_to, tile_of}
 use Rattle.tile_exec.specs.Passes.{told_to_pass}
 use Rattle.tile_exec.specs.Standing.{plan_of, tasks_left, progress_of, HasRoom, IsSound, IsUnder, IsAt, HasCells, AtItem, AtPart, AtTask, AreTasks}
@@ -39,6 +39,7 @@ tiles_bound : (cs : ℕ → Option Signature) (n : ℕ) (p : PartTree) → IsPar
 tiles_bound cs n (pass p) h = domain_bound p.domain h.0
 tiles_bound cs n (condition c) h = omega arith
 tiles_bound cs n (item i) h = domain_bound i.domain h.0
+tiles_bound cs n (fieldless i) h = omega arith
 
 -- the task at hand is a pass, of which a tile was found
 pub record PassAt (e : State) (last : Bool) (a : Accumulator) : Type 0 where
@@ -56,6 +57,7 @@ pass_in : (e : State) (last : Bool) (a : Accumulator) (task : TaskTree) (tasks :
 pass_in e last a task tasks (pass p) h is l f = record { task = task; tasks = tasks; pass_tree = p; hand = h; is = is; last_tile = l; op = f.0; few = f.1 }
 pass_in e last a task tasks (condition c) h is l f = absurd f
 pass_in e last a task tasks (item i) h is l f = absurd f
+pass_in e last a task tasks (fieldless i) h is l f = absurd f
 
 pass_among : (e : State) (last : Bool) (a : Accumulator) (ts : List TaskTree) → tasks_left e ≡ ts → Fits e ts last (found.Pass a) → PassAt e last a
 pass_among e last a [] h f = absurd f
@@ -197,6 +199,7 @@ condition_in : (e : State) (o : Outcome) (task : TaskTree) (tasks : List TaskTre
 condition_in e o task tasks (pass p) h is f = absurd f
 condition_in e o task tasks (condition c) h is f = record { task = task; tasks = tasks; tree = c; hand = h; is = is }
 condition_in e o task tasks (item i) h is f = absurd f
+condition_in e o task tasks (fieldless i) h is f = absurd f
 
 condition_among : (e : State) (last : Bool) (o : Outcome) (ts : List TaskTree) → tasks_left e ≡ ts → Fits e ts last (found.Condition o) → ConditionAt e
 condition_among e last o [] h f = absurd f
@@ -272,21 +275,47 @@ idle e l sound left none =
       stands = λ s st t. record { progress = st.progress; at_hand = subst (AtTask s d) (sym none) tt };
     }
 
+no_cells : (i : ItemTree) (e : State) (st : Status) → IsNotGiven st → HasCells i e st
+no_cells i e Giving h = absurd h
+no_cells i e Skipping h = tt
+no_cells i e (Failed f) h = tt
+
+no_item : (s : ℕ → ℕ → List ℤ → ℤ) (regs : List Outcome) (i : ItemTree) (e : State) (st : Status) → IsNotGiven st → AtItem s regs i e st
+no_item s regs i e Giving h = absurd h
+no_item s regs i e Skipping h = tt
+no_item s regs i e (Failed f) h = tt
+
+-- a part that gives an item, with fields or without
+pub record GivesItem (p : PartTree) (tree : ItemTree) : Type 0 where
+  pub after : (s : ℕ → ℕ → List ℤ → ℤ) (regs : List Outcome) (g : Progress) → after_part s regs g p ≡ after_item g g.status (item_planned s regs tree)
+  pub made : registers_made p ≡ 0
+  pub under : (e : State) → IsNotGiven e.status → IsUnder p e
+  pub at : (s : ℕ → ℕ → List ℤ → ℤ) (regs : List Outcome) (e : State) → IsNotGiven e.status → AtPart s regs e p
+
+item_gives : (i : ItemTree) → GivesItem (item i) i
+item_gives i = record { after = λ s regs g. refl; made = refl; under = λ e n. no_cells i e e.status n; at = λ s regs e n. no_item s regs i e e.status n }
+
+fieldless_gives : (i : ItemTree) → GivesItem (fieldless i) i
+fieldless_gives i = record { after = λ s regs g. refl; made = refl; under = λ e n. tt; at = λ s regs e n. tt }
+
 -- the task at hand is an item that is not given
 pub record SkippedAt (e : State) (last : Bool) : Type 0 where
   pub task : TaskTree
   pub tasks : List TaskTree
   pub tree : ItemTree
   pub hand : tasks_left e ≡ task ∷ tasks
-  pub is : task.part ≡ item tree
-  pub last_tile : IsLast last e.tile (length (tile_boxes tree.domain))
+  pub gives : GivesItem task.part tree
+  pub last_tile : IsLast last e.tile (length (tile_boxes (area_of task.part)))
   pub not_given : IsNotGiven e.status
 
 skipped_in : (e : State) (last : Bool) (task : TaskTree) (tasks : List TaskTree) (p : PartTree) → tasks_left e ≡ task ∷ tasks → task.part ≡ p
-    → IsLast last e.tile (length (tile_boxes (area_of p))) → FitsPart e.tile e.status p found.Skipped → SkippedAt e last
+    → IsLast last e.tile (length (tile_boxes (area_of task.part))) → FitsPart e.tile e.status p found.Skipped → SkippedAt e last
 skipped_in e last task tasks (pass p) h is l f = absurd f
 skipped_in e last task tasks (condition c) h is l f = absurd f
-skipped_in e last task tasks (item i) h is l f = record { task = task; tasks = tasks; tree = i; hand = h; is = is; last_tile = l; not_given = f }
+skipped_in e last task tasks (item i) h is l f =
+    record { task = task; tasks = tasks; tree = i; hand = h; gives = subst (λ p. GivesItem p i) (sym is) (item_gives i); last_tile = l; not_given = f }
+skipped_in e last task tasks (fieldless i) h is l f =
+    record { task = task; tasks = tasks; tree = i; hand = h; gives = subst (λ p. GivesItem p i) (sym is) (fieldless_gives i); last_tile = l; not_given = f }
 
 skipped_among : (e : State) (last : Bool) (ts : List TaskTree) → tasks_left e ≡ ts → IsSound e → e.at < length e.tasks.items → Fits e ts last found.Skipped → SkippedAt e last
 skipped_among e last [] h sound lt f = let k = tasks_past e.plan e.at e.tasks.items (subst (AreTasks e.plan (drop e.at e.tasks.items)) h sound.tasks) in absurd (omega (arith, k, lt))
@@ -305,41 +334,32 @@ pub skipped_next : (e : State) (st : Status) (l : ℕ) → IsSound e → Skipped
     → Keeps e (record e { status = st; at = e.at + 1; tile = 0; left = l }) found.Skipped
 skipped_next e st l sound x left h =
     let d = record e { status = st; at = e.at + 1; tile = 0; left = l } in
-    let last : e.tile + 1 ≡ length (tile_boxes (area_of x.task.part)) = subst (λ p. e.tile + 1 ≡ length (tile_boxes (area_of p))) (sym x.is) x.last_tile in
-    let g : GoesOn e d x.task x.tasks = record { hand = x.hand; plan = refl; tasks = refl; at = refl; tile = refl; left = left; last = last } in
+    let g : GoesOn e d x.task x.tasks = record { hand = x.hand; plan = refl; tasks = refl; at = refl; tile = refl; left = left; last = x.last_tile } in
+    let given = x.gives in
+    let made = given.made in
     record {
-      sound = sound_next e d x.task x.tasks g (subst (λ p. length e.registers.items ≡ length e.registers.items + registers_made p) (sym x.is) (omega arith)) (room_after e d x.task x.tasks x.hand refl refl sound.room) sound;
+      sound = sound_next e d x.task x.tasks g (omega (arith, made)) (room_after e d x.task x.tasks x.hand refl refl sound.room) sound;
       plan = refl;
       left = left;
       boxes = boxes_next e d x.task x.tasks g;
       stands = λ s stands t.
           let c = cells_of s x.task.coverages in
           let regs = read_by x.task e.registers.items in
-          stands_next s e d x.task x.tasks g (after_skipped e.registers.items e.items.items e.status st (item_planned c regs x.tree) x.not_given h ∙ ap (after_part c regs (progress_of e)) (sym x.is)) stands;
+          stands_next s e d x.task x.tasks g (after_skipped e.registers.items e.items.items e.status st (item_planned c regs x.tree) x.not_given h ∙ sym (given.after c regs (progress_of e))) stands;
     }
-
-no_cells : (i : ItemTree) (e : State) (st : Status) → IsNotGiven st → HasCells i e st
-no_cells i e Giving h = absurd h
-no_cells i e Skipping h = tt
-no_cells i e (Failed f) h = tt
-
-no_item : (s : ℕ → ℕ → List ℤ → ℤ) (regs : List Outcome) (i : ItemTree) (e : State) (st : Status) → IsNotGiven st → AtItem s regs i e st
-no_item s regs i e Giving h = absurd h
-no_item s regs i e Skipping h = tt
-no_item s regs i e (Failed f) h = tt
 
 pub skipped_further : (e : State) (l : ℕ) → IsSound e → SkippedAt e false → l + 1 ≡ e.left → Keeps e (record e { tile = e.tile + 1; left = l }) found.Skipped
 skipped_further e l sound x left =
     let d = record e { tile = e.tile + 1; left = l } in
-    let below : e.tile + 1 < length (tile_boxes (area_of x.task.part)) = subst (λ p. e.tile + 1 < length (tile_boxes (area_of p))) (sym x.is) x.last_tile in
-    let g : GoesFurther e d x.task x.tasks = record { hand = x.hand; plan = refl; tasks = refl; at = refl; tile = refl; left = left; below = below; registers = refl; items = refl; status = refl } in
+    let g : GoesFurther e d x.task x.tasks = record { hand = x.hand; plan = refl; tasks = refl; at = refl; tile = refl; left = left; below = x.last_tile; registers = refl; items = refl; status = refl } in
+    let given = x.gives in
     record {
-      sound = sound_further e d x.task x.tasks g (subst (λ p. IsUnder p d) (sym x.is) (no_cells x.tree d e.status x.not_given)) sound;
+      sound = sound_further e d x.task x.tasks g (given.under d x.not_given) sound;
       plan = refl;
       left = left;
       boxes = boxes_further e d x.task x.tasks g;
       stands = λ s st t.
           let c = cells_of s x.task.coverages in
           let regs = read_by x.task e.registers.items in
-          stands_further s e d x.task x.tasks g (subst (AtPart c regs d) (sym x.is) (no_item c regs x.tree d e.status x.not_given)) st;
+          stands_further s e d x.task x.tasks g (given.at c regs d x.not_given) st;
     }

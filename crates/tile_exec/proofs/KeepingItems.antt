@@ -21,7 +21,7 @@ use Rattle.tile_exec.specs.declared.known.Known.{Known}
 use Rattle.tile_exec.specs.declared.found.ItemTile.{ItemTile}
 use Rattle.tile_exec.specs.declared.found.Found.TheVariants as found
 use Rattle.tile_exec.specs.declared.state.State.{State}
-use Rattle.tile_exec.specs.Tasks.{PartTree, TaskTree, pass, condition, item, area_of, IsPartPlaced, registers_made}
+use Rattle.tile_exec.specs.Tasks.{PartTree, TaskTree, pass, condition, item, fieldless, area_of, IsPartPlaced, registers_made}
 use Rattle.tile_exec.specs.Progress.{read_by, after_part, after_item}
 use Rattle.tile_columns.specs.TileOrder.{points_to, tile_of}
 use Rattle.tile_exec.specs.Items.{Fills, all_cells, told_to_item, places_of, AreWritten, AreWrittenTo, cell_count}
@@ -49,6 +49,7 @@ item_in : (e : State) (last : Bool) (x : ItemTile) (task : TaskTree) (tasks : Li
 item_in e last x task tasks (pass p) h is l f = absurd f
 item_in e last x task tasks (condition c) h is l f = absurd f
 item_in e last x task tasks (item i) h is l f = record { task = task; tasks = tasks; tree = i; hand = h; is = is; last_tile = l; fits = f }
+item_in e last x task tasks (fieldless i) h is l f = absurd f
 
 item_among : (e : State) (last : Bool) (x : ItemTile) (ts : List TaskTree) → tasks_left e ≡ ts → Fits e ts last (found.Item x) → ItemAt e last x
 item_among e last x [] h f = absurd f
@@ -248,3 +249,4 @@ pub knows_part : (s : ℕ → ℕ → List ℤ → ℤ) (regs : List Outcome) (i
 knows_part s regs intact e (pass p) known first later at = tt
 knows_part s regs intact e (condition c) known first later at = tt
 knows_part s regs intact e (item i) known first later at = λ giving i2. item_known s regs i e known first later (subst (AtItem s regs i e) giving at)
+knows_part s regs intact e (fieldless i) known first later at = tt

@@ -7,6 +7,7 @@ pub mod Rows
 pub mod Written
 pub mod Items
 pub mod KeepingItems
+pub mod Fieldless
 pub mod Begun
 pub mod Beginning
 pub mod Ending

@@ -14,7 +14,7 @@ use Rattle.tile_exec.specs.declared.task.Status.{Status}
 use Rattle.tile_exec.specs.declared.task.Status.TheVariants.{Giving, Skipping, Failed}
 use Rattle.tile_exec.specs.declared.task.Task.{Task}
 use Rattle.tile_exec.specs.declared.state.State.{State}
-use Rattle.tile_exec.specs.Tasks.{Cells, PartTree, TaskTree, pass, condition, item, area_of, stages_of, registers_made, tasks_of, AreReady}
+use Rattle.tile_exec.specs.Tasks.{Cells, PartTree, TaskTree, pass, condition, item, fieldless, area_of, stages_of, registers_made, tasks_of, AreReady}
 use Rattle.tile_exec.specs.Progress.{start, read_by, after, after_all}
 use Rattle.tile_exec.specs.Standing.{plan_of, tasks_done, tasks_left, boxes_left, progress_of, AtItem, AtPart, AtTask, StandsFor, HasCells, IsUnder, IsAt, AreTasks, IsLeft, HasRoom, IsSound}
 use Rattle.tile_exec.specs.Units.{LosesFirst}
@@ -72,6 +72,7 @@ under_start : (p : PartTree) (e : State) → e.tile ≡ 0 → IsUnder p e
 under_start (pass p) e z = λ lt. absurd (omega arith)
 under_start (condition c) e z = tt
 under_start (item i) e z = cells_start i e e.status z
+under_start (fieldless i) e z = tt
 
 pub at_start : (ts : List TaskTree) (e : State) → e.tile ≡ 0 → IsAt ts e
 at_start [] e z = z
@@ -86,6 +87,7 @@ part_start : (s : Cells) (regs : List Outcome) (e : State) (p : PartTree) → e.
 part_start s regs e (pass p) z = λ lt. absurd (omega arith)
 part_start s regs e (condition c) z = tt
 part_start s regs e (item i) z = item_start s regs i e e.status z
+part_start s regs e (fieldless i) z = tt
 
 pub stands_start : (s : Cells) (e : State) (ts : List TaskTree) → e.tile ≡ 0 → AtTask s e ts
 stands_start s e [] z = tt

@@ -5,7 +5,7 @@ use Rattle.std.specs.List.{flat_map, enumerate_from, range_with_len}
 use Rattle.std.proofs.Math.Nat.{suc-mul}
 use Rattle.std.proofs.lemmas.Option.{slice_get-get_or}
 use Rattle.std.proofs.lemmas.List.{length-map, get_or-map, map_more, take_more, length-take-le, get_or-append-add, get_or_append_left}
-use Rattle.std.proofs.lemmas.List.Elements.{All-append, All-nil}
+use Rattle.std.proofs.lemmas.List.Elements.{All-append, All-cons, All-nil}
 use Rattle.std.proofs.lemmas.List.FromFn.{get_or-range_with_len, length-range_with_len, length-enumerate_from, get_or-enumerate_from}
 use Rattle.std.proofs.lemmas.List.Folds.{flat_map-map}
 use Rattle.arr_core.specs.declared.domain.Axis.{Axis}
@@ -19,13 +19,13 @@ use Rattle.plan_ir.specs.Plans.{FieldBody, ItemTree, field_view}
 use Rattle.plan_ir.specs.declared.plan.Field.{Field}
 use Rattle.plan_ir.specs.Run.{run}
 use Rattle.tile_kernel.specs.Columns.{outcome_at}
-use Rattle.tile_kernel.specs.Told.{Told}
+use Rattle.tile_kernel.specs.Told.{Told, IsValue}
 use Rattle.tile_columns.specs.Fields.{behind, columns_behind}
 use Rattle.tile_columns.proofs.Ranges.{map_map, same_over, by_places}
 use Rattle.tile_exec.specs.Items.{row, value_of, row_cells, all_cells, told_to_item, places_of}
 use Rattle.tile_columns.proofs.Boxes.{box-inside, points_inside}
 use Rattle.tile_columns.proofs.ByRows.{map_same, map_flat}
-use Rattle.tile_exec.specs.Rows.{row_at, booleans_of, cells_from, first_place, cells_told, rows_told}
+use Rattle.tile_exec.specs.Rows.{row_at, booleans_of, cells_from, first_place, cells_told, rows_told, all_rows_told}
 
 -- ---- one more field
 
@@ -273,3 +273,22 @@ told_rows s regs i qs ranks columns width r e m =
     ∙ ap (λ n. rows_told (map (rank_of i.domain) qs) n columns (length qs)) m
     ∙ ap (λ l. rows_told (map (rank_of i.domain) qs) (length i.fields) l (length qs)) e
     ∙ rows_all s regs i qs
+
+-- ---- columns of values alone
+
+value_there : (c : List Outcome) (k : ℕ) → All IsValue c → IsValue (outcome_at c k)
+value_there [] k h = tt
+value_there (o ∷ c) zero h = h 0 o (omega arith)
+value_there (o ∷ c) (suc k) h = value_there c k (λ j d lt. h (suc j) d (omega arith))
+
+row_of_values : (n : ℕ) (columns : List (List Outcome)) (k : ℕ) → All (All IsValue) columns → All (λ (t : Told). IsValue t.1) (enumerate_from n (row_at columns k))
+row_of_values n [] k h = All-nil (λ (t : Told). IsValue t.1)
+row_of_values n (c ∷ columns) k h =
+    All-cons (λ (t : Told). IsValue t.1) (n, outcome_at c k) (enumerate_from (n + 1) (row_at columns k)) (value_there c k (h 0 [] (omega arith)))
+    (row_of_values (n + 1) columns k (λ j d lt. h (suc j) d (omega arith)))
+
+-- columns of values alone tell no fault
+pub rows_of_values : (ranks : List ℕ) (columns : List (List Outcome)) → All (All IsValue) columns → All (λ (t : Told). IsValue t.1) (all_rows_told ranks (length columns) columns)
+rows_of_values ranks columns h =
+    all_flat (λ (t : Told). IsValue t.1) (λ k. enumerate_from (first_place ranks (length columns) k) (row_at columns k)) (range_with_len 0 (length ranks))
+    (λ j d lt. row_of_values (first_place ranks (length columns) (get_or (range_with_len 0 (length ranks)) j d)) columns (get_or (range_with_len 0 (length ranks)) j d) h)

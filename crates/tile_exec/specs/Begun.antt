@@ -1,5 +1,5 @@
 -- The list of a plan's tasks while it is made.
-use Rattle.std.specs.Prelude.{◌≡◌, ℕ, ◌<◌, List, [], ◌∷◌, ◌++◌, length, slice_get, Option, Some}
+use Rattle.std.specs.Prelude.{◌≡◌, ℕ, ◌-◌, ◌^◌, min, List, [], ◌∷◌, ◌++◌, length, slice_get, Option, Some}
 use Rattle.std.specs.List.{flat_map}
 use Rattle.arr_core.specs.Domains.{IsDomain}
 use Rattle.arr_core.specs.Tiles.{tile_boxes}
@@ -9,24 +9,25 @@ use Rattle.plan_ir.specs.declared.plan.Combination.{Combination}
 use Rattle.plan_ir.specs.Plans.{StepsTree, Choice, choice_view, steps_view}
 use Rattle.tile_exec.specs.declared.begin.Listing.{Listing}
 use Rattle.tile_exec.specs.declared.task.Task.{Task}
-use Rattle.tile_exec.specs.Tasks.{PartTree, TaskTree, pass, condition, item, area_of, stages_of}
+use Rattle.tile_exec.specs.Tasks.{PartTree, TaskTree, pass, condition, item, fieldless, area_of, stages_of}
 use Rattle.tile_exec.specs.Standing.{IsTask, AreTasks}
 
--- its box is a domain, and an item has fields
+-- its box is a domain
 abbrev pub IsFit : PartTree → Type 0
 IsFit (pass p) = IsDomain p.domain
 IsFit (condition c) = Unit {0}
-IsFit (item i) = IsDomain i.domain × (0 < length i.fields)
+IsFit (item i) = IsDomain i.domain
+IsFit (fieldless i) = Unit {0}
 
 abbrev pub AreFit : List TaskTree → Type 0
 AreFit [] = Unit {0}
 AreFit (t ∷ trees) = IsFit t.part × AreFit trees
 
--- the tasks by their places in the plan, and how many boxes they have
+-- the tasks by their places in the plan, and how many boxes they have, in a count that stays at its last value
 pub record Lists (plan : Plan) (l : Listing) (trees : List TaskTree) : Type 0 where
   pub tasks : AreTasks plan l.tasks.items trees
   pub fit : AreFit trees
-  pub boxes : l.boxes ≡ length (flat_map stages_of trees)
+  pub boxes : l.boxes ≡ min (2 ^ 64 - 1) (length (flat_map stages_of trees))
 
 -- further tasks come behind those that are listed
 abbrev pub Adds : Plan → Listing → Listing → List TaskTree → Type 0

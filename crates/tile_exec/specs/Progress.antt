@@ -9,7 +9,7 @@ use Rattle.plan_ir.specs.Run.{run}
 use Rattle.plan_ir.specs.Planned.{pass_outcome, item_planned, cells_of}
 use Rattle.tile_exec.specs.declared.task.Status.{Status}
 use Rattle.tile_exec.specs.declared.task.Status.TheVariants.{Giving, Skipping, Failed}
-use Rattle.tile_exec.specs.Tasks.{Cells, TaskTree, PartTree, pass, condition, item}
+use Rattle.tile_exec.specs.Tasks.{Cells, TaskTree, PartTree, pass, condition, item, fieldless}
 
 -- the registers of the passes that are done, the items, and how it stands with the combination at hand
 pub record Progress : Type 0 where
@@ -45,6 +45,7 @@ abbrev pub after_part : Cells → List Outcome → Progress → PartTree → Pro
 after_part s regs g (pass p) = record g { registers = g.registers ++ pass_outcome s regs p ∷ [] }
 after_part s regs g (condition c) = record g { status = after_condition g.status (run s regs c []) }
 after_part s regs g (item i) = after_item g g.status (item_planned s regs i)
+after_part s regs g (fieldless i) = after_item g g.status (item_planned s regs i)
 
 -- the registers that a task may read
 abbrev pub read_by : TaskTree → List Outcome → List Outcome

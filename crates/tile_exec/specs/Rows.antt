@@ -1,8 +1,9 @@
 -- What columns tell of a point.
-use Rattle.std.specs.Prelude.{ℕ, ◌+◌, ◌*◌, ◌<◌, Bool, List, [], ◌∷◌, map, length, slice_index_or}
+use Rattle.std.specs.Prelude.{ℕ, ◌+◌, ◌*◌, ◌<◌, ℤ, Bool, List, [], ◌∷◌, map, length, slice_index_or}
 use Rattle.std.specs.List.{All, flat_map, enumerate_from, range_with_len}
 use Rattle.arr_core.specs.declared.cell.Cell.{Cell}
 use Rattle.wcps_mean.specs.declared.cell.Outcome.{Outcome}
+use Rattle.wcps_mean.specs.declared.cell.Outcome.TheVariants.{Value}
 use Rattle.wcps_mean.specs.Answer.{cell_of}
 use Rattle.plan_ir.specs.Plans.{FieldBody}
 use Rattle.tile_kernel.specs.Columns.{outcome_at}
@@ -46,6 +47,10 @@ rows_told ranks width columns n = flat_map (λ k. enumerate_from (first_place ra
 -- the cells of all points, and their outcomes
 abbrev pub all_cells_told : List ℕ → List Bool → List (List Outcome) → List (ℕ × Cell)
 all_cells_told ranks booleans columns = cells_told ranks booleans columns (length ranks)
+
+-- the cells of all points of one column of values
+abbrev pub values_told : List ℕ → Bool → List ℤ → List (ℕ × Cell)
+values_told ranks boolean zs = all_cells_told ranks (boolean ∷ []) (map Value zs ∷ [])
 
 abbrev pub all_rows_told : List ℕ → ℕ → List (List Outcome) → List Told
 all_rows_told ranks width columns = rows_told ranks width columns (length ranks)

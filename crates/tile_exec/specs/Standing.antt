@@ -19,7 +19,7 @@ use Rattle.tile_exec.specs.declared.task.Task.{Task}
 use Rattle.tile_exec.specs.declared.task.Part.{Part}
 use Rattle.tile_exec.specs.declared.task.Part.TheVariants as part
 use Rattle.tile_exec.specs.declared.state.State.{State}
-use Rattle.tile_exec.specs.Tasks.{Cells, PartTree, TaskTree, pass, condition, item, area_of, stages_of, tasks_of, AreReady}
+use Rattle.tile_exec.specs.Tasks.{Cells, PartTree, TaskTree, pass, condition, item, fieldless, area_of, stages_of, tasks_of, AreReady}
 use Rattle.tile_exec.specs.Progress.{Progress, start, read_by, after_all}
 use Rattle.tile_columns.specs.Sources.{SourceState}
 use Rattle.tile_columns.specs.TileOrder.{points_to}
@@ -61,6 +61,7 @@ abbrev pub AtPart : Cells → List Outcome → State → PartTree → Type 0
 AtPart s regs e (pass p) = 0 < e.tile → Stands e.accumulator (flat_map (told_to_pass s regs p) (points_to p.domain e.tile))
 AtPart s regs e (condition c) = Unit {0}
 AtPart s regs e (item i) = AtItem s regs i e e.status
+AtPart s regs e (fieldless i) = Unit {0}
 
 abbrev pub AtTask : Cells → State → List TaskTree → Type 0
 AtTask s e [] = Unit {0}
@@ -90,6 +91,7 @@ abbrev pub IsUnder : PartTree → State → Type 0
 IsUnder (pass p) e = 0 < e.tile → (e.accumulator.running.op ≡ p.op) × (e.accumulator.running.count ≤ length (points_to p.domain e.tile))
 IsUnder (condition c) e = Unit {0}
 IsUnder (item i) e = HasCells i e e.status
+IsUnder (fieldless i) e = Unit {0}
 
 -- not all tiles of the task at hand are done
 abbrev pub IsAt : List TaskTree → State → Type 0
@@ -101,6 +103,7 @@ abbrev pub IsPartOf : Steps → ℕ → Part → PartTree → Type 0
 IsPartOf s n part.Pass (pass p) = IsSomeAnd (slice_get s.passes.items n) (λ q. pass_view q ≡ p)
 IsPartOf s n part.Condition (condition c) = IsSomeAnd s.condition (λ b. body_view b ≡ c)
 IsPartOf s n part.Item (item i) = item_view s.item ≡ i
+IsPartOf s n part.Fieldless (fieldless i) = item_view s.item ≡ i
 IsPartOf s n _ _ = ⊥
 
 abbrev pub IsStepsOf : Plan → Task → TaskTree → Combination → Type 0

@@ -1,5 +1,5 @@
 -- The tasks of a plan: its passes, conditions and items in the order in which they are done, each a tile at a time.
-use Rattle.std.specs.Prelude.{ℕ, ◌+◌, ◌<◌, ◌≤◌, ℤ, List, [], ◌∷◌, ◌++◌, map, length, Option, Some, None, slice_get}
+use Rattle.std.specs.Prelude.{◌≡◌, ℕ, ◌+◌, ◌<◌, ◌≤◌, ℤ, List, [], ◌∷◌, ◌++◌, map, length, Option, Some, None, slice_get}
 use Rattle.arr_core.specs.declared.domain.Axis.{Axis}
 use Rattle.arr_core.specs.declared.signature.Signature.{Signature}
 use Rattle.arr_core.specs.Domains.{IsDomain}
@@ -17,6 +17,8 @@ pub data PartTree : Type 0 where
   pass : PassTree → PartTree
   condition : Tree → PartTree
   item : ItemTree → PartTree
+  -- an item without fields
+  fieldless : ItemTree → PartTree
 
 -- A task of a combination: its coverages, and which registers it may read: so many, from the first one of the combination on.
 pub record TaskTree : Type 0 where
@@ -25,17 +27,19 @@ pub record TaskTree : Type 0 where
   pub count : ℕ
   pub part : PartTree
 
--- the box that is done tile by tile; a condition has the box without axes
+-- the box that is done tile by tile; a condition and an item without fields have the box without axes
 abbrev pub area_of : PartTree → List Axis
 area_of (pass p) = p.domain
 area_of (condition c) = []
 area_of (item i) = i.domain
+area_of (fieldless i) = []
 
 -- the bodies that are evaluated at each point
 abbrev pub bodies_of : PartTree → List Tree
 bodies_of (pass p) = p.condition ∷ p.body ∷ []
 bodies_of (condition c) = c ∷ []
 bodies_of (item i) = map (λ (b : BindTree). b.position) i.binds ++ map (λ (f : FieldBody). f.body) i.fields
+bodies_of (fieldless i) = []
 
 -- the stages of a task: one for each tile
 abbrev pub stages_of : TaskTree → List Stage
@@ -70,12 +74,18 @@ abbrev pub choice_condition : List ℕ → ℕ → Option StepsTree → List Tas
 choice_condition coverages first None = []
 choice_condition coverages first (Some s) = condition_tasks coverages first (length s.passes) s.condition
 
+-- an item by its fields
+abbrev pub item_part : ItemTree → List FieldBody → PartTree
+item_part i [] = fieldless i
+item_part i (f ∷ fields) = item i
+
+abbrev pub choice_item : List ℕ → ℕ → Option StepsTree → List TaskTree
+choice_item coverages first None = []
+choice_item coverages first (Some s) = record { coverages = coverages; first = first; count = length s.passes; part = item_part s.item s.item.fields } ∷ []
+
 -- the condition, if there is one, and then the item
 abbrev pub choice_outs : List ℕ → ℕ → Option StepsTree → List TaskTree
-choice_outs coverages first None = []
-choice_outs coverages first (Some s) =
-    choice_condition coverages first (Some s)
-    ++ record { coverages = coverages; first = first; count = length s.passes; part = item s.item } ∷ []
+choice_outs coverages first o = choice_condition coverages first o ++ choice_item coverages first o
 
 abbrev pub all_outs : List StepsTree → ℕ → List Choice → List TaskTree
 all_outs steps first [] = []
@@ -97,12 +107,14 @@ abbrev pub IsPartPlaced : (ℕ → Option Signature) → ℕ → PartTree → Ty
 IsPartPlaced cs regs (pass p) = IsDomain p.domain × IsPlaced cs regs (spans p.domain) p.condition × IsPlaced cs regs (spans p.domain) p.body
 IsPartPlaced cs regs (condition c) = IsPlaced cs regs [] c
 IsPartPlaced cs regs (item i) = IsDomain i.domain × ItemIsPlaced cs regs (spans i.domain) i.binds i.fields × (0 < length i.fields)
+IsPartPlaced cs regs (fieldless i) = (i.binds ≡ []) × (i.fields ≡ [])
 
 -- how many registers a task adds
 abbrev pub registers_made : PartTree → ℕ
 registers_made (pass p) = 1
 registers_made (condition c) = 0
 registers_made (item i) = 0
+registers_made (fieldless i) = 0
 
 -- tasks that can be done where so many registers are there
 abbrev pub AreReady : List Signature → ℕ → List TaskTree → Type 0

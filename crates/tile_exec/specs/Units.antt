@@ -23,7 +23,7 @@ use Rattle.tile_exec.specs.declared.found.Found.{Found}
 use Rattle.tile_exec.specs.declared.found.Found.TheVariants as found
 use Rattle.tile_exec.specs.declared.known.Known.{Known}
 use Rattle.tile_exec.specs.declared.state.State.{State}
-use Rattle.tile_exec.specs.Tasks.{Cells, PartTree, TaskTree, pass, condition, item, area_of}
+use Rattle.tile_exec.specs.Tasks.{Cells, PartTree, TaskTree, pass, condition, item, fieldless, area_of}
 use Rattle.tile_exec.specs.Progress.{read_by}
 use Rattle.tile_columns.specs.declared.ground.Ground.{Ground}
 use Rattle.tile_columns.specs.Sources.{SourceState}
@@ -79,6 +79,8 @@ FitsPart tile status (pass p) (found.Pass a) = (a.running.op ≡ p.op) × (a.run
 FitsPart tile status (condition c) (found.Condition o) = Unit {0}
 FitsPart tile status (item i) (found.Item x) = FitsItem i tile status x
 FitsPart tile status (item i) found.Skipped = IsNotGiven status
+FitsPart tile status (fieldless i) (found.Fieldless line) = (status ≡ Giving) × (line ≡ line_of i.domain)
+FitsPart tile status (fieldless i) found.Skipped = IsNotGiven status
 FitsPart tile status _ _ = ⊥
 
 -- the same, and whether the tile is the last one
@@ -118,6 +120,7 @@ abbrev pub KnowsPartOf : Cells → List Outcome → Type 0 → Status → PartTr
 KnowsPartOf s regs intact status (pass p) known = Unit {0}
 KnowsPartOf s regs intact status (condition c) known = Unit {0}
 KnowsPartOf s regs intact status (item i) known = status ≡ Giving → intact → IsKnown s regs i known
+KnowsPartOf s regs intact status (fieldless i) known = Unit {0}
 
 abbrev pub KnowsPart : {K : Type 0} → SourceState K → Ground → Status → PartTree → Option Known → Type 0
 KnowsPart source g status p known = KnowsPartOf (cells_of source.cells g.coverages.now) g.registers.now source.intact status p known

@@ -3,7 +3,7 @@
 ghost use Rattle.std.specs.Prelude.{◌<◌, length, slice_index_or, IfOk, OnOk};
 ghost use Rattle.plan_ir.specs.Plans.{Choice, plan_view};
 ghost use Rattle.plan_ir.specs.Placed.{IsPlan};
-ghost use Rattle.tile_exec.specs.Tasks.{choice_passes, choice_condition, choice_outs, passes_of, outs_of, tasks_of};
+ghost use Rattle.tile_exec.specs.Tasks.{choice_passes, choice_condition, choice_item, choice_outs, passes_of, outs_of, tasks_of};
 ghost use Rattle.tile_exec.specs.Standing.{IsBegun};
 ghost use Rattle.tile_exec.specs.Begun.{Lists, Adds, AddsTask, AddsOf, IsChosen};
 
@@ -15,7 +15,7 @@ use std::alloc::{AllocError, Global};
 use tile_kernel::{Accumulator, FirstFault};
 use wcps_text::Aggregate;
 
-/// Tasks in their order, and how many boxes they have together.
+/// Tasks in their order, and how many boxes they have together, in a count that stays at its last value.
 #[derive(Drop)]
 pub(crate) struct Listing {
     pub tasks: Vec<Task>,
@@ -27,11 +27,8 @@ impl Listing {
     fn push(&mut self, task: Task, boxes: u64) -> Result<(), AllocError>
         ensures { OnOk result (AddsTask task boxes self.old self.new) }
     {
-        let Some(sum) = self.boxes.checked_add(boxes) else {
-            return Err(AllocError);
-        };
         self.tasks.push(task)?;
-        self.boxes = sum;
+        self.boxes = self.boxes.saturating_add(boxes);
         Ok(())
     }
 }
@@ -93,8 +90,32 @@ fn push_condition(
     }
 }
 
-/// Puts a combination's condition, if there is one, and its item at the end. An item without fields has no box, and is
-/// refused.
+/// Puts a combination's item at the end. One without fields has a single box, as a condition has.
+fn push_item(
+    list: &mut Listing,
+    steps: &Steps,
+    combination: usize,
+    first: usize,
+) -> Result<(), AllocError>
+    ensures { OnOk result (AddsOf choice_item combination first steps.now list.old list.new) }
+{
+    let mut task = Task {
+        combination,
+        part: Part::Item,
+        first,
+        count: steps.passes.len(),
+    };
+    if steps.item.fields.is_empty() {
+        task.part = Part::Fieldless;
+        list.push(task, 1)?;
+        return Ok(());
+    }
+    let _axes = steps.item.domain.axes();
+    list.push(task, steps.item.domain.tiles())?;
+    Ok(())
+}
+
+/// Puts a combination's condition, if there is one, and its item at the end.
 fn push_out(
     list: &mut Listing,
     steps: &Steps,
@@ -103,19 +124,8 @@ fn push_out(
 ) -> Result<(), AllocError>
     ensures { OnOk result (AddsOf choice_outs combination first steps.now list.old list.new) }
 {
-    if steps.item.fields.is_empty() {
-        return Err(AllocError);
-    }
     push_condition(list, steps, combination, first)?;
-    let _axes = steps.item.domain.axes();
-    let task = Task {
-        combination,
-        part: Part::Item,
-        first,
-        count: steps.passes.len(),
-    };
-    list.push(task, steps.item.domain.tiles())?;
-    Ok(())
+    push_item(list, steps, combination, first)
 }
 
 /// Puts the passes of all combinations at the end.
@@ -127,10 +137,7 @@ fn push_all_passes(list: &mut Listing, plan: &Plan) -> Result<(), AllocError>
     for k in 0..plan.combinations.len() {
         let steps = steps_at(plan, k);
         push_passes(list, steps, k, first)?;
-        let Some(next) = first.checked_add(steps.passes.len()) else {
-            return Err(AllocError);
-        };
-        first = next;
+        first += steps.passes.len();
     }
     Ok(())
 }
@@ -144,10 +151,7 @@ fn push_all_outs(list: &mut Listing, plan: &Plan) -> Result<(), AllocError>
     for k in 0..plan.combinations.len() {
         let steps = steps_at(plan, k);
         push_out(list, steps, k, first)?;
-        let Some(next) = first.checked_add(steps.passes.len()) else {
-            return Err(AllocError);
-        };
-        first = next;
+        first += steps.passes.len();
     }
     Ok(())
 }

@@ -38,7 +38,7 @@ impl Model for Exec {
 }
 
 /// What a step did: how many units are left, and how many tiles it fetched.
-#[derive(Clone, Copy, PartialEq, Eq, Debug)]
+#[derive(Clone, Copy, PartialEq, Eq)]
 pub struct StepInfo {
     pub left: u64,
     pub fetched: u64,

@@ -26,6 +26,8 @@ pub(crate) enum Found {
     Pass(Accumulator),
     Condition(Outcome),
     Item(ItemTile),
+    /// An item without fields, by what a run along its last axis has.
+    Fieldless(u64),
     /// Nothing: there is no item to give, or no task is left.
     Skipped,
 }

@@ -140,6 +140,7 @@ impl State {
             Found::Pass(a) => self.keep_pass(last, a),
             Found::Condition(o) => self.keep_condition(o),
             Found::Item(tile) => self.keep_item(last, tile),
+            Found::Fieldless(line) => self.keep_fieldless(line),
             Found::Skipped => self.keep_skipped(last),
         }
     }
@@ -232,6 +233,26 @@ impl State {
                 return;
             }
         }
+    }
+
+    /// The item at hand, which has no fields, is given.
+    fn keep_fieldless(&mut self, line: u64)
+        requires sound { IsSound self.old }
+        requires fits { (last : Bool) × Fits self.old (tasks_left self.old) last (Found.Fieldless line) }
+        ensures { Keeps self.old self.new (Found.Fieldless line) }
+    {
+        let cells = CellList::new(Vec::new(self.alloc));
+        put_item(
+            &mut self.items,
+            Item {
+                line,
+                fields: 0,
+                cells,
+            },
+        );
+        self.left -= 1;
+        self.at += 1;
+        self.tile = 0;
     }
 
     /// A tile of an item that is not given; or there is no task.

@@ -157,7 +157,7 @@ pub(crate) fn condition_of<S: Tiles>(
     ensures fetched { FetchesBody result ground.now [] test.now S.Tiles source.old source.new }
 {
     match Domain::new(Vec::new(workspace.memory.alloc)) {
-        Err(_) => Err(CellError::NoMemory),
+        Err(_) => unreachable!(),
         Ok(point) => {
             let _axes = point.axes();
             column_over(

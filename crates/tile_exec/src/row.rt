@@ -1,14 +1,14 @@
 //! What the columns of an item's fields tell, point by point.
 
-ghost use Rattle.std.specs.Prelude.{◌≡◌, ℕ, ◌+◌, ◌<◌, ◌^◌, List, [], ◌∷◌, All, length, slice_set};
+ghost use Rattle.std.specs.Prelude.{◌≡◌, ℕ, ◌+◌, ◌<◌, ◌^◌, List, [], ◌∷◌, All, IsTrue, length, slice_set};
 ghost use Rattle.std.specs.List.{enumerate_from};
 ghost use Rattle.arr_core.specs.Limits.{max_points};
 ghost use Rattle.wcps_mean.specs.declared.cell.Outcome.{Outcome};
 ghost use Rattle.wcps_mean.specs.Answer.{cell_of};
 ghost use Rattle.tile_columns.specs.Fields.{HavePlaces};
-ghost use Rattle.tile_kernel.specs.Told.{IsFirstOf};
+ghost use Rattle.tile_kernel.specs.Told.{IsFirstOf, IsValue};
 ghost use Rattle.tile_exec.specs.Items.{value_of, AreWrittenTo, IsFirstAfter};
-ghost use Rattle.tile_exec.specs.Rows.{row_at, cells_at, LieBelow, all_cells_told, all_rows_told};
+ghost use Rattle.tile_exec.specs.Rows.{row_at, cells_at, values_told, LieBelow, all_cells_told, all_rows_told};
 
 use arr_core::Cell;
 use tile_kernel::{Column, FirstFault};
@@ -52,8 +52,34 @@ fn tell_point(columns: &[Column], k: usize, place: u64, first: &mut FirstFault)
     }
 }
 
+/// Whether each column has a value at each place, and keeps it there.
+fn are_values(columns: &[Column]) -> bool
+    ensures { IsTrue result → All (All IsValue) columns.now }
+{
+    for k in 0..columns.len() {
+        match columns[k].values() {
+            Some(_) => {}
+            None => return false,
+        }
+    }
+    true
+}
+
 /// Finds the first fault of the points of columns, one for each field, which have these places in the item's domain.
 pub(crate) fn first_fault(ranks: &[u64], columns: &[Column]) -> FirstFault
+    requires there { HavePlaces (length ranks.now) columns.now }
+    requires ranks { All (λ (r : ℕ). r < max_points) ranks.now }
+    requires few { length columns.now < 2 ^ 32 }
+    ensures { IsFirstOf result (all_rows_told ranks.now (length columns.now) columns.now) }
+{
+    if are_values(columns) {
+        return FirstFault::none();
+    }
+    first_of(ranks, columns)
+}
+
+/// The same, point by point.
+fn first_of(ranks: &[u64], columns: &[Column]) -> FirstFault
     requires there { HavePlaces (length ranks.now) columns.now }
     requires ranks { All (λ (r : ℕ). r < max_points) ranks.now }
     requires few { length columns.now < 2 ^ 32 }
@@ -92,6 +118,18 @@ fn write_point(cells: &mut Vec<Cell>, booleans: &[bool], columns: &[Column], k: 
     }
 }
 
+/// Writes the cells of all points of one column of values, which have these places in the item's domain.
+fn write_values(cells: &mut Vec<Cell>, ranks: &[u64], boolean: bool, values: &[i64])
+    requires there { length values.now ≡ length ranks.now }
+    requires below { LieBelow (length cells.old.items) (values_told ranks.now boolean values.now) }
+    ensures length { length cells.new.items ≡ length cells.old.items }
+    ensures written { AreWrittenTo cells.old.items cells.new.items (values_told ranks.now boolean values.now) }
+{
+    for k in 0..ranks.len() {
+        write_cell(cells, ranks[k], cell_of(boolean, values[k]));
+    }
+}
+
 /// Writes the cells of all points of columns, which have these places in the item's domain.
 pub(crate) fn write_points(
     cells: &mut Vec<Cell>,
@@ -99,6 +137,27 @@ pub(crate) fn write_points(
     booleans: &[bool],
     columns: &[Column],
 )
+    requires columns { length columns.now ≡ length booleans.now }
+    requires there { HavePlaces (length ranks.now) columns.now }
+    requires ranks { All (λ (r : ℕ). r < max_points) ranks.now }
+    requires few { length booleans.now < 2 ^ 32 }
+    requires below { LieBelow (length cells.old.items) (all_cells_told ranks.now booleans.now columns.now) }
+    ensures length { length cells.new.items ≡ length cells.old.items }
+    ensures written { AreWrittenTo cells.old.items cells.new.items (all_cells_told ranks.now booleans.now columns.now) }
+{
+    if let [boolean] = booleans {
+        if let [column] = columns {
+            if let Some(values) = column.values() {
+                write_values(cells, ranks, *boolean, values);
+                return;
+            }
+        }
+    }
+    write_each(cells, ranks, booleans, columns);
+}
+
+/// The same, point by point.
+fn write_each(cells: &mut Vec<Cell>, ranks: &[u64], booleans: &[bool], columns: &[Column])
     requires columns { length columns.now ≡ length booleans.now }
     requires there { HavePlaces (length ranks.now) columns.now }
     requires ranks { All (λ (r : ℕ). r < max_points) ranks.now }

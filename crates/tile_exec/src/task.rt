@@ -5,17 +5,19 @@ use plan_ir::Steps;
 use wcps_mean::PointFault;
 
 /// What a task does.
-#[derive(Clone, Copy, PartialEq, Eq, Debug)]
+#[derive(Clone, Copy, PartialEq, Eq)]
 pub(crate) enum Part {
     /// The pass whose place is the task's count.
     Pass,
     Condition,
     Item,
+    /// An item without fields.
+    Fieldless,
 }
 
 /// A task of a combination, by its place in the plan. It may read `count` registers, from that of the combination's first
 /// pass on.
-#[derive(Clone, Copy, PartialEq, Eq, Debug)]
+#[derive(Clone, Copy, PartialEq, Eq)]
 pub(crate) struct Task {
     pub combination: usize,
     pub part: Part,
@@ -24,7 +26,7 @@ pub(crate) struct Task {
 }
 
 /// How it stands with the item of the combination at hand.
-#[derive(Clone, Copy, PartialEq, Eq, Debug)]
+#[derive(Clone, Copy, PartialEq, Eq)]
 pub(crate) enum Status {
     /// It is given, as far as is known.
     Giving,

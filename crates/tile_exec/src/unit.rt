@@ -1,12 +1,14 @@
 //! What the next unit finds.
 
-ghost use Rattle.std.specs.Prelude.{◌≡◌, ◌+◌, ◌<◌, ◌≤◌, IfOk, OnOk, length, slice_get, option_copied, take, drop};
+ghost use Rattle.std.specs.Prelude.{◌≡◌, ℕ, ◌+◌, ◌<◌, ◌≤◌, IfOk, OnOk, length, slice_get, option_copied, take, drop};
 ghost use Rattle.arr_core.specs.Tiles.{tile_boxes};
 ghost use Rattle.tile_columns.specs.Sources.{FetchesAtMost};
 ghost use Rattle.tile_columns.specs.Calling.{Reads};
 ghost use Rattle.tile_columns.specs.Meaning.{IsGroundOf};
+ghost use Rattle.plan_ir.specs.Plans.{item_view};
+ghost use Rattle.tile_exec.specs.Tasks.{fieldless};
 ghost use Rattle.tile_exec.specs.Standing.{IsSound, plan_of, tasks_left};
-ghost use Rattle.tile_exec.specs.Units.{IsLast, Fits, FitsUnit, IsFoundBy, IsNextFound, IfPart, unit_bound};
+ghost use Rattle.tile_exec.specs.Units.{IsLast, Fits, FitsPart, FitsUnit, IsFoundBy, IsNextFound, IfPart, unit_bound};
 ghost use Rattle.tile_exec.specs.Fetching.{IsReady, FetchesTile};
 
 use crate::found::{Found, Unit};
@@ -17,9 +19,9 @@ use crate::state::State;
 use crate::task::{AtHand, Part, Status, Task};
 use crate::workspace::Workspace;
 use arr_core::Domain;
-use plan_ir::Fold;
+use plan_ir::{Fold, Item};
 use tile_columns::{Ground, Tiles};
-use wcps_mean::{CellError, Outcome};
+use wcps_mean::{CellError, Outcome, run_length};
 
 /// Whether a tile of a box is its last one.
 fn is_last(area: &Domain, tile: u64) -> bool
@@ -51,6 +53,17 @@ fn task_at(tasks: &[Task], k: usize) -> Option<&Task>
     ensures { option_copied result ≡ slice_get tasks.now k }
 {
     tasks.get(k)
+}
+
+/// What an item without fields gives.
+fn fieldless_of(item: &Item, status: Status) -> Found
+    ensures { (tile : ℕ) → FitsPart tile status (fieldless (item_view item.now)) result }
+{
+    match status {
+        Status::Giving => Found::Fieldless(run_length(item.domain.axes())),
+        Status::Skipping => Found::Skipped,
+        Status::Failed(_) => Found::Skipped,
+    }
 }
 
 /// What a tile of a task gives.
@@ -115,6 +128,10 @@ fn unit_of<S: Tiles>(
                 }),
             }
         }
+        Part::Fieldless => Ok(Unit {
+            last: true,
+            found: fieldless_of(&at.steps.item, at.status),
+        }),
     }
 }
 

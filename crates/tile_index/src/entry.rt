@@ -7,7 +7,7 @@ use std::marker::Model;
 
 /// The numbers of the blocks of a tile, in the order of its bytes: at most ten, which 40,960 bytes fill. They take no
 /// memory of their own.
-#[derive(Debug, Drop)]
+#[derive(Drop)]
 pub struct BlockList {
     numbers: [u32; 10],
     count: usize,
@@ -76,7 +76,7 @@ impl BlockList {
 }
 
 /// A tile's bytes: in which form they spell its cells, how many there are, and the blocks that they lie in.
-#[derive(Debug, Drop)]
+#[derive(Drop)]
 pub struct Entry {
     pub form: Form,
     pub length: u32,

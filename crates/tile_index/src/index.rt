@@ -12,7 +12,7 @@ use std::marker::Model;
 use std::mem;
 
 /// Which tiles of a field have bytes, and where: a finite map from tile numbers to entries.
-#[derive(Debug, Drop)]
+#[derive(Drop)]
 pub struct TileIndex {
     entries: Vec<(u64, Entry)>,
 }

@@ -14,3 +14,4 @@ pub mod Pairs
 pub mod Condensing
 pub mod Spans
 pub mod Values
+pub mod Narrow

@@ -1,10 +1,10 @@
 -- What is kept of the values that count, one after the other.
-use Rattle.std.proofs.Common.{◌≡◌, ℕ, zero, suc, ◌+◌, ◌*◌, ◌/◌, ◌%◌, ◌-◌, ◌^◌, ◌<◌, ◌≤◌, arith, List, [], ◌∷◌, ◌++◌, length, refl, sym, ap, ◌∙◌, subst, ℤ, pos, negsuc, ◌+ℤ◌, SFits, w64, Bool, true, false, ◌&&◌, ◌||◌, cond, Some, None, inl, inr, nat_eq, nat_lt}
-use Rattle.std.proofs.Common.{length-append}
+use Rattle.std.proofs.Common.{◌≡◌, ℕ, zero, suc, ◌+◌, ◌*◌, ◌/◌, ◌%◌, ◌^◌, ◌<◌, ◌≤◌, arith, List, [], ◌∷◌, ◌++◌, length, refl, sym, ap, ◌∙◌, subst, ℤ, pos, negsuc, ◌+ℤ◌, SFits, w64, Bool, true, false, ◌&&◌, ◌||◌, cond, Some, None, inl, inr, nat_eq, nat_lt}
+use Rattle.std.proofs.Common.{length-append, take, get_or}
 use Rattle.std.proofs.lemmas.Int.{ints}
 use Rattle.std.specs.Prelude.{replicate}
 use Rattle.std.proofs.Math.Nat.{mul-le-mul_left}
-use Rattle.std.proofs.lemmas.List.{append-nil, append_assoc, length-replicate, replicate_more}
+use Rattle.std.proofs.lemmas.List.{append-nil, append_assoc, length-replicate, replicate_more, take_more, take_all}
 use Rattle.std.proofs.lemmas.Bool.{cases_eq, eq-eqb, ne_eqb, lt-ltb}
 use Rattle.wcps_mean.specs.declared.product.Product.{Product}
 use Rattle.wcps_text.specs.declared.operator.Aggregate.{Aggregate}
@@ -243,3 +243,43 @@ keeps_every op r zs o e = subst (λ op. Keeps op r zs) (sym o) e
 
 pub keeps_any : (op : Aggregate) (r : Running) (zs : List ℤ) → op ≡ aggregates.Any → r.some ≡ any zs → Keeps op r zs
 keeps_any op r zs o e = subst (λ op. Keeps op r zs) (sym o) e
+
+-- ---- one more value of a list
+
+pub total_more : (zs : List ℤ) (k : ℕ) → k < length zs → total (take (k + 1) zs) ≡ total (take k zs) +ℤ get_or zs k (pos 0)
+total_more zs k lt = ap total (take_more zs k (pos 0) lt) ∙ total-push (take k zs) (get_or zs k (pos 0))
+
+pub trues_more : (zs : List ℤ) (k : ℕ) → k < length zs → trues (take (k + 1) zs) ≡ trues (take k zs) + cond (is_true (get_or zs k (pos 0))) 1 0
+trues_more zs k lt = ap trues (take_more zs k (pos 0) lt) ∙ trues-push (take k zs) (get_or zs k (pos 0))
+
+greatest_of-push : (zs : List ℤ) (b x : ℤ) → greatest_of zs ≡ Some b → greatest_of (zs ++ x ∷ []) ≡ Some (larger b x)
+greatest_of-push [] b x e = absurd (cc)
+greatest_of-push (z ∷ zs) b x e = let same : greatest z zs ≡ b = cc in ap Some (greatest-push z zs x ∙ ap (λ m. larger m x) same)
+
+least_of-push : (zs : List ℤ) (b x : ℤ) → least_of zs ≡ Some b → least_of (zs ++ x ∷ []) ≡ Some (smaller b x)
+least_of-push [] b x e = absurd (cc)
+least_of-push (z ∷ zs) b x e = let same : least z zs ≡ b = cc in ap Some (least-push z zs x ∙ ap (λ m. smaller m x) same)
+
+pub greatest_more : (zs : List ℤ) (k : ℕ) (b : ℤ) → k < length zs → greatest_of (take k zs) ≡ Some b → greatest_of (take (k + 1) zs) ≡ Some (larger b (get_or zs k (pos 0)))
+greatest_more zs k b lt e = ap greatest_of (take_more zs k (pos 0) lt) ∙ greatest_of-push (take k zs) b (get_or zs k (pos 0)) e
+
+pub least_more : (zs : List ℤ) (k : ℕ) (b : ℤ) → k < length zs → least_of (take k zs) ≡ Some b → least_of (take (k + 1) zs) ≡ Some (smaller b (get_or zs k (pos 0)))
+least_more zs k b lt e = ap least_of (take_more zs k (pos 0) lt) ∙ least_of-push (take k zs) b (get_or zs k (pos 0)) e
+
+pub greatest_one : (zs : List ℤ) → 0 < length zs → greatest_of (take 1 zs) ≡ Some (get_or zs 0 (pos 0))
+greatest_one [] lt = absurd (omega arith)
+greatest_one (z ∷ zs) lt = refl
+
+pub least_one : (zs : List ℤ) → 0 < length zs → least_of (take 1 zs) ≡ Some (get_or zs 0 (pos 0))
+least_one [] lt = absurd (omega arith)
+least_one (z ∷ zs) lt = refl
+
+-- the values of a list, each once
+selected_front : (zs : List ℤ) (n : ℕ) → n ≤ length zs → selected (λ k. 1) (λ k. get_or zs k (pos 0)) n ≡ take n zs
+selected_front zs zero le = refl
+selected_front zs (suc n) le =
+    let e : n + 1 ≡ suc n = omega arith in
+    ap (λ l. l ++ get_or zs n (pos 0) ∷ []) (selected_front zs n (omega arith)) ∙ sym (take_more zs n (pos 0) (omega arith)) ∙ ap (λ k. take k zs) e
+
+pub selected_all : (zs : List ℤ) → selected (λ k. 1) (λ k. get_or zs k (pos 0)) (length zs) ≡ zs
+selected_all zs = selected_front zs (length zs) (omega arith) ∙ take_all (length zs) zs (omega arith)

@@ -12,10 +12,10 @@ use Rattle.wcps_mean.specs.declared.cell.Outcome.TheVariants.{Value}
 use Rattle.wcps_mean.specs.Cells.{operate2}
 use Rattle.tile_kernel.specs.declared.seen.Runs.{Runs}
 use Rattle.tile_kernel.specs.declared.form.Form.{Form}
-use Rattle.tile_kernel.specs.declared.form.Form.TheVariants.{Values}
-use Rattle.tile_kernel.specs.Columns.{operate_all}
+use Rattle.tile_kernel.specs.declared.form.Form.TheVariants.{Values, Narrow}
+use Rattle.tile_kernel.specs.Columns.{seen, operate_all}
 use Rattle.tile_kernel.specs.Repeated.{repeated, runs_shown, column_of, IsColumn, AreRuns, AreAll, StandsIn, RepeatsIf}
-use Rattle.tile_kernel.proofs.Places.{length-seen}
+use Rattle.tile_kernel.proofs.Places.{length-seen, narrow_places}
 
 -- ---- the sum of counts
 
@@ -122,20 +122,20 @@ length-heads zs r le = length-map (take r zs) Value ∙ length-take-le r zs le
 pub length-runs_shown : (zs : List ℤ) (ns : List ℕ) → length ns ≤ length zs → length (repeated (map Value (take (length ns) zs)) ns) ≡ sum ns
 length-runs_shown zs ns le = length-repeated (map Value (take (length ns) zs)) ns (length-heads zs (length ns) le)
 
-pub length-column : (runs : Option ℕ) (form : Form) (n : ℕ) (zs : Vec ℤ Global) (fs : Vec (Option PointFault) Global) (ns : List ℕ) → IsColumn runs n zs fs ns → length (column_of runs form n zs.items fs.items ns) ≡ n
-length-column None form n zs fs ns h = length-seen form n zs.items fs.items h.roomy
-length-column (Some r) form n zs fs ns h =
+pub length-column : (runs : Option ℕ) (form : Form) (n : ℕ) (zs : Vec ℤ Global) (fs : Vec (Option PointFault) Global) (ws : List ℤ) (ns : List ℕ) → IsColumn runs form n zs fs ws ns → length (column_of runs form n zs.items fs.items ws ns) ≡ n
+length-column None form n zs fs ws ns h = length-seen form n zs.items fs.items ws h.roomy
+length-column (Some r) form n zs fs ws ns h =
     let rows : r ≤ 4096 = h.covered.0 in
     let a = length-heads zs.items r (omega (arith, h.whole.0)) in
     let b = length-take-le r ns h.covered.1 in
     length-repeated (map Value (take r zs.items)) (take r ns) (a ∙ sym b) ∙ h.covered.2
 
-pub runs_seen : (runs : Option ℕ) (form : Form) (n : ℕ) (zs : Vec ℤ Global) (fs : Vec (Option PointFault) Global) (ns cs : List ℕ) (column : List Outcome) (r : ℕ) → runs ≡ Some r → column_of runs form n zs.items fs.items ns ≡ column → IsColumn runs n zs fs ns → cs ≡ take r ns
+pub runs_seen : (runs : Option ℕ) (form : Form) (n : ℕ) (zs : Vec ℤ Global) (fs : Vec (Option PointFault) Global) (ws : List ℤ) (ns cs : List ℕ) (column : List Outcome) (r : ℕ) → runs ≡ Some r → column_of runs form n zs.items fs.items ws ns ≡ column → IsColumn runs form n zs fs ws ns → cs ≡ take r ns
     → (repeated (map Value (take (length cs) zs.items)) cs ≡ column) × ((sum cs ≡ n) × (length cs ≡ r))
-runs_seen runs form n zs fs ns cs column r e h kept same =
+runs_seen runs form n zs fs ws ns cs column r e h kept same =
     let covered : AreRuns (Some r) n ns = subst (λ r. AreRuns r n ns) e kept.covered in
     let long : length cs ≡ r = ap length same ∙ length-take-le r ns covered.1 in (
-      ap (λ k. repeated (map Value (take k zs.items)) cs) long ∙ ap (repeated (map Value (take r zs.items))) same ∙ ap (λ r. column_of r form n zs.items fs.items ns) (sym e) ∙ h,
+      ap (λ k. repeated (map Value (take k zs.items)) cs) long ∙ ap (repeated (map Value (take r zs.items))) same ∙ ap (λ r. column_of r form n zs.items fs.items ws ns) (sym e) ∙ h,
       (ap sum same ∙ covered.2, long),
     )
 
@@ -148,8 +148,8 @@ runs_of-cons zs (n ∷ ns) h = refl
 runs_front : (r : ℕ) (zs : List ℤ) (counts : List ℕ) → length zs ≡ 4096 → r ≡ min (length counts) 4096 → (r ≡ 0 → ⊥) → spread (take r zs) (take r counts) ≡ runs_of zs counts
 runs_front r zs counts h few some = spread_front r zs counts (omega arith) ∙ sym (runs_of-cons zs counts (omega (arith, few, some)))
 
-pub runs_exchanged : (r : ℕ) (zs : List ℤ) (fs : List (Option PointFault)) (counts ns : List ℕ) → length zs ≡ 4096 → r ≡ min (length counts) 4096 → (r ≡ 0 → ⊥) → ns ≡ take r counts → column_of (Some r) Values 4096 zs fs ns ≡ map Value (runs_of zs counts)
-runs_exchanged r zs fs counts ns h few some e =
+pub runs_exchanged : (r : ℕ) (zs : List ℤ) (fs : List (Option PointFault)) (ws : List ℤ) (counts ns : List ℕ) → length zs ≡ 4096 → r ≡ min (length counts) 4096 → (r ≡ 0 → ⊥) → ns ≡ take r counts → column_of (Some r) Values 4096 zs fs ws ns ≡ map Value (runs_of zs counts)
+runs_exchanged r zs fs ws counts ns h few some e =
     let long : length ns ≡ r = ap length e ∙ length-take-le r counts (omega arith) in
     ap (repeated (map Value (take r zs))) (take_all r ns (omega arith) ∙ e) ∙ sym (values-repeated (take r zs) (take r counts)) ∙ ap (map Value) (runs_front r zs counts h few some)
 
@@ -185,14 +185,24 @@ pub spread-more : (zs : List ℤ) (ns : List ℕ) (k : ℕ) → k < length zs �
 spread-more zs ns k a b = let e : suc k ≡ k + 1 = omega arith in subst (λ m. spread (take m zs) (take m ns) ≡ spread (take k zs) (take k ns) ++ replicate (get_or ns k 0) (get_or zs k (pos 0))) e (spread-suc zs ns k a b)
 
 -- values that were spread in place of their runs
-pub spread_back : (runs : Option ℕ) (form : Form) (n : ℕ) (zs : Vec ℤ Global) (fs : Vec (Option PointFault) Global) (ns cs : List ℕ) (column : List Outcome) (r : ℕ) (room out : List ℤ) → runs ≡ Some r → column_of runs form n zs.items fs.items ns ≡ column → IsColumn runs n zs fs ns → cs ≡ take r ns
+pub spread_back : (runs : Option ℕ) (form : Form) (n : ℕ) (zs : Vec ℤ Global) (fs : Vec (Option PointFault) Global) (ws : List ℤ) (ns cs : List ℕ) (column : List Outcome) (r : ℕ) (room out : List ℤ) → runs ≡ Some r → column_of runs form n zs.items fs.items ws ns ≡ column → IsColumn runs form n zs fs ws ns → cs ≡ take r ns
     → length room ≡ 4096 → take (length zs.items) room ≡ zs.items → take (sum cs) out ≡ spread (take (length cs) room) cs → map Value (take n out) ≡ column
-spread_back runs form n zs fs ns cs column r room out e h kept same l copied written =
-    let seen = runs_seen runs form n zs fs ns cs column r e h kept same in
+spread_back runs form n zs fs ws ns cs column r room out e h kept same l copied written =
+    let seen = runs_seen runs form n zs fs ws ns cs column r e h kept same in
     let all : AreAll (Some r) zs.items fs.items = subst (λ r. AreAll r zs.items fs.items) e kept.whole in
     let whole : room ≡ zs.items = sym (take_all (length zs.items) room (omega (arith, l, all.0))) ∙ copied in
     ap (λ k. map Value (take k out)) (sym seen.1.0) ∙ ap (map Value) (written ∙ ap (λ l. spread (take (length cs) l) cs) whole)
     ∙ values-repeated (take (length cs) zs.items) cs ∙ seen.0
+
+-- values that were widened
+pub widened_back : (runs : Option ℕ) (form : Form) (n : ℕ) (zs : Vec ℤ Global) (fs : Vec (Option PointFault) Global) (ws : List ℤ) (ns : List ℕ) (column : List Outcome) (cells out : List ℤ) → runs ≡ None → form ≡ Narrow → column_of runs form n zs.items fs.items ws ns ≡ column → IsColumn runs form n zs fs ws ns
+    → cells ≡ ws → take (length (take n cells)) out ≡ take n cells → column_of runs Values n out fs.items ws ns ≡ column
+widened_back runs form n zs fs ws ns column cells out e f h kept same copied =
+    let long : n ≤ length ws = narrow_places form n zs.items fs.items ws f kept.roomy in
+    let places : length (take n cells) ≡ n = length-take-le n cells (omega (arith, long, ap length same)) in
+    ap (λ r. column_of r Values n out fs.items ws ns) e
+    ∙ ap (λ (l : List ℤ). map Value l) (ap (λ k. take k out) (sym places) ∙ copied ∙ ap (take n) same)
+    ∙ sym (ap (λ r. column_of r form n zs.items fs.items ws ns) e ∙ ap (λ g. seen g n zs.items fs.items ws) f) ∙ h
 
 -- what was told to be repeated is
 pub repeats_now : (told : Bool) (ns : List ℕ) (before after : List Outcome) → told ≡ true → RepeatsIf told ns before after → after ≡ repeated before ns

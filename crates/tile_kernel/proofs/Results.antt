@@ -38,3 +38,11 @@ pub narrow_product : (x y v : ℤ) → SFits w64 x → SFits w64 y → FitsSigne
 narrow_product x y v f g a b e fits =
     let wide : FitsSigned w64 (x *ℤ y) = fits_signed_mul w64 x y (2 ^ 31) (2 ^ 31) (narrow_size x a) (narrow_size y b) (omega arith) in
     ranged_same (x *ℤ y) v (product_kept x y f g wide ∙ sym e) fits
+
+pub fits_wide : (z : ℤ) → SFits w32 z → SFits w64 z
+fits_wide (pos n) f = record { sfits = omega (arith, ints, f.sfits) }
+fits_wide (negsuc n) f = record { sfits = omega (arith, ints, f.sfits) }
+
+-- a value of 32 bits that is widened
+pub widened : (z : ℤ) → SFits w32 z → to_z w64 (of_z w64 (to_z w32 (of_z w32 z))) ≡ z
+widened z f = ap (λ y. to_z w64 (of_z w64 y)) (to_z-of_z w32 z f) ∙ to_z-of_z w64 z (fits_wide z f)

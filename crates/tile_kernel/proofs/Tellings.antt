@@ -2,16 +2,14 @@
 use Rattle.std.proofs.Common.{◌≡◌, ℕ, zero, suc, ◌+◌, ◌<◌, ◌≤◌, ◌≢◌, arith, List, [], ◌∷◌, ◌++◌, length, get_or, set, take, map, refl, sym, ap, ◌∙◌, subst, ℤ, pos, Option, Some, None, below_more, get_or-set_other, get_or-set_same}
 use Rattle.std.specs.Prelude.{slice_get, IfSome, replicate, sum, Bool, true, false, cond}
 use Rattle.std.specs.List.{All}
-use Rattle.std.proofs.Common.{length-append}
 use Rattle.std.proofs.lemmas.List.{take_more, take_all, append-nil, append_assoc, map-append, length-map}
-use Rattle.std.proofs.lemmas.List.Elements.{All-cons, All-nil, All-append}
+use Rattle.std.proofs.lemmas.List.Elements.{All-cons, All-nil}
 use Rattle.wcps_mean.specs.declared.running.Running.{Running}
 use Rattle.wcps_text.specs.declared.operator.Aggregate.{Aggregate}
 use Rattle.wcps_mean.specs.declared.cell.Outcome.{Outcome}
 use Rattle.wcps_mean.specs.declared.cell.Outcome.TheVariants.{Value, Fault}
 use Rattle.wcps_mean.specs.Cells.{is_true}
 use Rattle.wcps_mean.specs.Condensers.{values, demanded}
-use Rattle.wcps_mean.proofs.Feeds.{values-append}
 use Rattle.wcps_mean.specs.Feeding.{Keeps}
 use Rattle.tile_kernel.specs.declared.accumulator.Accumulator.{Accumulator}
 use Rattle.tile_kernel.specs.Columns.{outcome_at}

@@ -7,7 +7,7 @@ use Rattle.wcps_mean.specs.declared.cell.Outcome.{Outcome}
 use Rattle.wcps_mean.specs.declared.cell.Outcome.TheVariants.{Value, Fault}
 use Rattle.wcps_mean.specs.Cells.{operate1, operate2}
 use Rattle.tile_kernel.specs.declared.form.Form.{Form}
-use Rattle.tile_kernel.specs.declared.form.Form.TheVariants.{Same, Values, Mixed}
+use Rattle.tile_kernel.specs.declared.form.Form.TheVariants.{Same, Values, Narrow, Mixed}
 
 -- a place's outcome, by its value and its fault
 abbrev pub outcome_of : ℤ → Option PointFault → Outcome
@@ -20,16 +20,25 @@ outcomes_of (z ∷ zs) [] = []
 outcomes_of (z ∷ zs) (f ∷ fs) = outcome_of z f ∷ outcomes_of zs fs
 
 -- the outcomes at the first n places
-abbrev pub seen : Form → ℕ → List ℤ → List (Option PointFault) → List Outcome
-seen (Same o) n zs fs = replicate n o
-seen Values n zs fs = map Value (take n zs)
-seen Mixed n zs fs = outcomes_of (take n zs) (take n fs)
+abbrev pub seen : Form → ℕ → List ℤ → List (Option PointFault) → List ℤ → List Outcome
+seen (Same o) n zs fs ws = replicate n o
+seen Values n zs fs ws = map Value (take n zs)
+seen Narrow n zs fs ws = map Value (take n ws)
+seen Mixed n zs fs ws = outcomes_of (take n zs) (take n fs)
+
+-- where the values are kept in 32 bits, there is one for each place
+abbrev pub HasNarrow : Form → ℕ → List ℤ → Type 0
+HasNarrow (Same o) n ws = Unit {0}
+HasNarrow Values n ws = Unit {0}
+HasNarrow Narrow n ws = n ≤ length ws
+HasNarrow Mixed n ws = Unit {0}
 
 -- a column has at most 4,096 places, and a value and a fault for each
-pub record IsRoomy (n : ℕ) (zs : List ℤ) (fs : List (Option PointFault)) : Type 0 where
+pub record IsRoomy (form : Form) (n : ℕ) (zs : List ℤ) (fs : List (Option PointFault)) (ws : List ℤ) : Type 0 where
   pub few : n ≤ 4096
   pub values : n ≤ length zs
   pub faults : n ≤ length fs
+  pub narrow : HasNarrow form n ws
 
 -- a list is as long as another one, and has as much room
 pub record IsAsRoomy {T A : Type 0} (before after : Vec T A) : Type 0 where
@@ -39,6 +48,10 @@ pub record IsAsRoomy {T A : Type 0} (before after : Vec T A) : Type 0 where
 -- the outcome at a place of a column
 abbrev pub outcome_at : List Outcome → ℕ → Outcome
 outcome_at column k = slice_index_or column k (Value (pos 0))
+
+-- the cells of a column are so many values
+abbrev pub HasValues : ℕ → (ℕ → ℤ) → List Outcome → Type 0
+HasValues n value column = (length column ≡ n) × ((k : ℕ) → k < n → outcome_at column k ≡ Value (value k))
 
 -- the operation at a place
 abbrev pub each1 : UnaryOperator → List Outcome → ℕ → Outcome

@@ -8,7 +8,7 @@ use Rattle.wcps_mean.specs.declared.cell.Outcome.TheVariants.{Value}
 use Rattle.wcps_mean.specs.Cells.{operate2}
 use Rattle.wcps_mean.specs.Condensers.{values}
 use Rattle.tile_kernel.specs.declared.accumulator.Accumulator.{Accumulator}
-use Rattle.tile_kernel.specs.Columns.{outcome_at}
+use Rattle.tile_kernel.specs.Columns.{HasValues}
 use Rattle.tile_kernel.specs.Told.{Told, demanded_of, demanded_at}
 use Rattle.tile_kernel.specs.Standing.{EachStands}
 use Rattle.tile_kernel.specs.Condensing.{EachIsTold}
@@ -37,14 +37,11 @@ TakeCells stands before after numbers places keys column = EachIsTold stands bef
 abbrev pub StandByKeys : List ℤ → List ℕ → List Outcome → List Outcome → List Accumulator → Type 0
 StandByKeys numbers places keys column folds = EachStands folds (told_by_keys numbers places keys column)
 
--- the first n cells of a column have these values
-abbrev pub HasValues : ℕ → (ℕ → ℤ) → List Outcome → Type 0
-HasValues n value column = (length column ≡ n) × ((k : ℕ) → k < n → outcome_at column k ≡ Value (value k))
-
 -- condensers take in values, each those with its number, at these places
-abbrev pub TakeIn : {C : Type 0} → (C → List Told → Type 0) → List C → List C → List ℤ → List ℕ → List ℤ → (ℕ → ℤ) → Type 0
-TakeIn stands before after numbers places keys value =
-    (own column : List Outcome) → HasValues (length places) (number_at keys) own → HasValues (length places) value column → TakeCells stands before after numbers places own column
+abbrev pub TakeIn : {C : Type 0} → (C → List Told → Type 0) → List C → List C → List ℤ → List ℕ → (ℕ → ℤ) → (ℕ → ℤ) → Type 0
+TakeIn stands before after numbers places key value =
+    (own column : List Outcome) → HasValues (length places) key own → HasValues (length places) value column
+    → TakeCells stands before after numbers places own column
 
 -- this is the place of a number in a list in which no other place has it, or there is none
 abbrev pub IsPlaceOf : ℤ → List ℤ → Option ℕ → Type 0

@@ -8,3 +8,4 @@ pub mod Keyed
 pub mod Windows
 pub mod Lanes
 pub mod Condensing
+pub mod Narrow

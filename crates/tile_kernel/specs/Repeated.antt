@@ -17,9 +17,9 @@ repeated (o ∷ os) (n ∷ ns) = replicate n o ++ repeated os ns
 repeated _ _ = []
 
 -- the outcomes of a column: those at its places, or those of its runs
-abbrev pub column_of : Option ℕ → Form → ℕ → List ℤ → List (Option PointFault) → List ℕ → List Outcome
-column_of None form n zs fs ns = seen form n zs fs
-column_of (Some r) form n zs fs ns = repeated (map Value (take r zs)) (take r ns)
+abbrev pub column_of : Option ℕ → Form → ℕ → List ℤ → List (Option PointFault) → List ℤ → List ℕ → List Outcome
+column_of None form n zs fs ws ns = seen form n zs fs ws
+column_of (Some r) form n zs fs ws ns = repeated (map Value (take r zs)) (take r ns)
 
 -- the runs, if there are some, cover all places
 abbrev pub AreRuns : Option ℕ → ℕ → List ℕ → Type 0
@@ -32,8 +32,8 @@ AreAll None zs fs = Unit {0}
 AreAll (Some r) zs fs = (length zs ≡ 4096) × (4096 ≤ length fs)
 
 -- a column has at most 4,096 places, runs that cover them, and lists with room for as many
-pub record IsColumn (runs : Option ℕ) (n : ℕ) (values : Vec ℤ Global) (faults : Vec (Option PointFault) Global) (ns : List ℕ) : Type 0 where
-  pub roomy : IsRoomy n values.items faults.items
+pub record IsColumn (runs : Option ℕ) (form : Form) (n : ℕ) (values : Vec ℤ Global) (faults : Vec (Option PointFault) Global) (ws : List ℤ) (ns : List ℕ) : Type 0 where
+  pub roomy : IsRoomy form n values.items faults.items ws
   pub covered : AreRuns runs n ns
   pub whole : AreAll runs values.items faults.items
   pub few_values : length values.items ≤ 4096

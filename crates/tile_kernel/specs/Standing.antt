@@ -1,11 +1,13 @@
 -- What an accumulator stands for.
-use Rattle.std.specs.Prelude.{◌≡◌, ℕ, ◌<◌, ◌≤◌, List, ◌++◌, length, slice_index_or}
+use Rattle.std.specs.Prelude.{◌≡◌, ℕ, ℤ, ◌<◌, ◌≤◌, List, ◌++◌, length, slice_index_or, Option, IfSome}
 use Rattle.std.specs.List.{All}
 use Rattle.wcps_text.specs.declared.operator.Aggregate.{Aggregate}
 use Rattle.wcps_mean.specs.declared.cell.Outcome.{Outcome}
 use Rattle.wcps_mean.specs.Condensers.{values}
 use Rattle.wcps_mean.specs.Feeding.{Keeps}
 use Rattle.tile_kernel.specs.declared.accumulator.Accumulator.{Accumulator}
+use Rattle.tile_kernel.specs.Columns.{HasValues}
+use Rattle.tile_kernel.specs.Repeated.{repeated}
 use Rattle.tile_kernel.specs.Selected.{taken}
 use Rattle.tile_kernel.specs.Told.{Told, outcomes, told_at, demanded_at, IsFirst}
 
@@ -46,3 +48,17 @@ StandsAnywhere a column = (places : List ℕ) → length places ≡ length colum
 -- it stands for the cells of a column under a condition, whatever places they have
 abbrev pub IsCondensedWhere : Aggregate → List Outcome → List Outcome → Accumulator → Type 0
 IsCondensedWhere op condition column a = (places : List ℕ) → length places ≡ length column → (a.running.op ≡ op) × Stands a (demanded_at places condition column)
+
+-- it stands for whatever outcomes are these values, each as often as it counts
+abbrev pub IsCondensedOf : (ℕ → ℕ) → ℕ → (ℕ → ℤ) → Accumulator → Type 0
+IsCondensedOf times n value a = (os : List Outcome) → HasValues n value os → IsCondensed times os a
+
+-- if there is one, it stands for the cells of a column under whatever condition is these values
+abbrev pub IsCondensedBy : Aggregate → (ℕ → ℤ) → List Outcome → Option Accumulator → Type 0
+IsCondensedBy op value column a =
+    (condition : List Outcome) → HasValues (length column) value condition → IfSome a (IsCondensedWhere op condition column)
+
+-- the same of outcomes that stand as often as their counts say
+abbrev pub IsCondensedByRuns : Aggregate → List ℕ → (ℕ → ℤ) → List Outcome → Option Accumulator → Type 0
+IsCondensedByRuns op ns value heads a =
+    (chosen : List Outcome) → HasValues (length ns) value chosen → IfSome a (IsCondensedWhere op (repeated chosen ns) (repeated heads ns))

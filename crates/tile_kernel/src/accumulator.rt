@@ -12,7 +12,7 @@ use wcps_text::Aggregate;
 /// What is kept of the points of a box, at most 2^24 of them, that a condenser has been told of. The order of telling
 /// does not matter: sums are exact in 128 bits, products keep sign, magnitude and whether there is a zero, and of the
 /// faults that at the least place stands.
-#[derive(Drop, Debug)]
+#[derive(Drop)]
 pub struct Accumulator {
     /// How many points, what is kept of their values, and the fault at the least place.
     pub running: Running,

@@ -1,8 +1,9 @@
 //! How often a condenser takes in the value at a place.
 
-ghost use Rattle.std.specs.Prelude.{◌≡◌, ℕ, pos, ◌<◌, ◌≤◌, length, slice_index, slice_index_or, cond};
+ghost use Rattle.std.specs.Prelude.{◌≡◌, ℕ, ◌<◌, ◌≤◌, length, slice_index, cond};
 ghost use Rattle.wcps_mean.specs.Cells.{is_true};
 
+use crate::operand::Operand;
 use wcps_mean::is_set;
 
 /// How often a condenser takes in the value at each place.
@@ -34,18 +35,19 @@ impl Choice for Always {
 }
 
 /// The places count once where the condition is true.
-#[derive(Clone, Copy, Drop)]
-pub(crate) struct Where<'a> {
-    pub condition: &'a [i64],
+#[derive(Drop)]
+pub(crate) struct Where<V: Operand> {
+    pub condition: V,
 }
 
-impl Choice for Where<'_> {
-    ghost times = { λ s k. cond (is_true (slice_index_or s.condition.now k (pos 0))) 1 0 };
+impl<V: Operand> Choice for Where<V> {
+    ghost times = { λ s k. cond (is_true (V.value s.condition k)) 1 0 };
 
-    ghost places = { λ s. length s.condition.now };
+    ghost places = { λ s. V.places s.condition };
 
     fn times(&self, place: usize) -> u64 {
-        if is_set(self.condition[place]) { 1 } else { 0 }
+        let chosen = is_set(self.condition.value(place));
+        if chosen { 1 } else { 0 }
     }
 }
 
@@ -66,20 +68,20 @@ impl Choice for Counted<'_> {
 }
 
 /// The places count as often as their runs go on, where the condition is true.
-#[derive(Clone, Copy, Drop)]
-pub(crate) struct CountedWhere<'a> {
-    pub condition: &'a [i64],
+#[derive(Drop)]
+pub(crate) struct CountedWhere<'a, V: Operand> {
+    pub condition: V,
     pub counts: &'a [u32],
-    ghost room: { length counts.now ≤ length condition.now },
+    ghost room: { length counts.now ≤ V.places condition },
 }
 
-impl Choice for CountedWhere<'_> {
-    ghost times = { λ s k. cond (is_true (slice_index_or s.condition.now k (pos 0))) (slice_index s.counts.now k) 0 };
+impl<V: Operand> Choice for CountedWhere<'_, V> {
+    ghost times = { λ s k. cond (is_true (V.value s.condition k)) (slice_index s.counts.now k) 0 };
 
     ghost places = { λ s. length s.counts.now };
 
     fn times(&self, place: usize) -> u64 {
-        if is_set(self.condition[place]) {
+        if is_set(self.condition.value(place)) {
             self.counts[place] as u64
         } else {
             0

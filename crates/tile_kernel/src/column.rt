@@ -1,7 +1,7 @@
 //! Columns: the outcomes at the places of a tile.
 
-ghost use Rattle.std.specs.Prelude.{◌≡◌, ◌<◌, ◌≤◌, [], length, map, replicate, slice_get, sum, take, max, vec_capacity, Some, IfOk, IsTrue};
-ghost use Rattle.arr_core.specs.Runs.{cells_of};
+ghost use Rattle.std.specs.Prelude.{◌≡◌, ◌<◌, ◌≤◌, [], length, map, replicate, slice_get, sum, take, max, vec_capacity, Some, IfOk, IfSome, IsTrue};
+ghost use Rattle.arr_core.specs.Runs.{cells_of, runs_of};
 ghost use Rattle.wcps_mean.specs.declared.cell.Outcome.TheVariants.{Value};
 ghost use Rattle.tile_kernel.specs.Columns.{outcome_at, AreOutcomes, IsAsRoomy};
 ghost use Rattle.tile_kernel.specs.Repeated.{shown, RepeatsIf};
@@ -21,8 +21,8 @@ pub const MAX_PLACES: usize = 4096;
 
 /// The outcomes at the places of a tile, at most `MAX_PLACES` of them. It is made once with room for all of them, which
 /// is cleared only as far as it is used, and then written again and again without taking memory, but for the counts of
-/// runs. One outcome at every place is kept once, values that come as runs are kept once a run, and a column without a
-/// fault keeps no faults.
+/// runs and for values of 32 bits. One outcome at every place is kept once, values that come as runs are kept once a run,
+/// values that come in 32 bits each are kept so, and a column without a fault keeps no faults.
 #[derive(Drop)]
 pub struct Column {
     pub(crate) len: usize,
@@ -31,6 +31,8 @@ pub struct Column {
     pub(crate) runs: Option<usize>,
     pub(crate) values: Vec<i64>,
     pub(crate) faults: Vec<Option<PointFault>>,
+    /// The values that are kept in 32 bits each.
+    pub(crate) narrow: Vec<i32>,
     pub(crate) counts: Vec<u32>,
 }
 
@@ -42,9 +44,9 @@ impl Model for Column {
 
     ghost use Rattle.tile_kernel.specs.Repeated.{column_of, IsColumn};
 
-    ghost view = { λ c. column_of c.runs c.form c.len c.values.items c.faults.items c.counts.items };
+    ghost view = { λ c. column_of c.runs c.form c.len c.values.items c.faults.items c.narrow.items c.counts.items };
 
-    ghost invariant = { λ c. IsColumn c.runs c.len c.values c.faults c.counts.items };
+    ghost invariant = { λ c. IsColumn c.runs c.form c.len c.values c.faults c.narrow.items c.counts.items };
 }
 
 impl Column {
@@ -58,6 +60,7 @@ impl Column {
             runs: None,
             values: Vec::with_capacity(alloc, MAX_PLACES)?,
             faults: Vec::with_capacity(alloc, MAX_PLACES)?,
+            narrow: Vec::new(alloc),
             counts: Vec::new(alloc),
         })
     }
@@ -82,6 +85,7 @@ impl Column {
                     form: self.form,
                     values: self.values.as_slice(),
                     faults: self.faults.as_slice(),
+                    narrow: self.narrow.as_slice(),
                 });
             }
             Some(runs) => {
@@ -92,6 +96,19 @@ impl Column {
                     counts: &self.counts[..runs],
                 });
             }
+        }
+    }
+
+    /// The values at all places, where none has a fault and each is kept at its place, in 64 bits.
+    pub fn values(&self) -> Option<&[i64]>
+        ensures { IfSome result (λ values. self.now ≡ map Value values.now) }
+    {
+        if self.runs.is_some() {
+            return None;
+        }
+        match self.form {
+            Form::Values => Some(&self.values[..self.len]),
+            _ => None,
         }
     }
 
@@ -146,12 +163,39 @@ impl Column {
         self.runs = None;
     }
 
-    /// Makes it the values of as many cells as it has places at most, which come as runs, and gives what it held for
-    /// their values. Without memory for their counts the cells are written place by place.
+    /// Makes it the values of as many cells as it has places at most, which come as runs or in 32 bits each, and gives
+    /// what it held for their values. Without memory for the counts of runs their cells are written place by place.
     pub fn exchange_runs(&mut self, cells: &mut RunList)
         requires room { length cells.old.values.items ≡ 4096 }
         requires places { length (cells_of cells.old) ≡ 4096 }
         ensures value { self.new ≡ map Value (cells_of cells.old) }
+        ensures room { length cells.new.values.items ≡ 4096 }
+    {
+        if cells.is_narrow {
+            self.exchange_narrow(&mut cells.narrow);
+            return;
+        }
+        self.exchange_wide(cells);
+    }
+
+    /// The same of cells of 32 bits.
+    fn exchange_narrow(&mut self, cells: &mut Vec<i32>)
+        requires { length cells.old.items ≡ 4096 }
+        ensures { self.new ≡ map Value cells.old.items }
+    {
+        grow(&mut self.values, MAX_PLACES, 0);
+        grow(&mut self.faults, MAX_PLACES, None);
+        mem::swap(&mut self.narrow, cells);
+        self.len = MAX_PLACES;
+        self.form = Form::Narrow;
+        self.runs = None;
+    }
+
+    /// The same of cells that come as runs.
+    fn exchange_wide(&mut self, cells: &mut RunList)
+        requires room { length cells.old.values.items ≡ 4096 }
+        requires places { length (runs_of cells.old.values.items cells.old.counts.items) ≡ 4096 }
+        ensures value { self.new ≡ map Value (runs_of cells.old.values.items cells.old.counts.items) }
         ensures room { length cells.new.values.items ≡ 4096 }
     {
         grow(&mut self.values, MAX_PLACES, 0);
@@ -216,13 +260,19 @@ impl Column {
         }
     }
 
-    /// Keeps each outcome at its place, so that reading one takes the same time at all places.
+    /// Keeps each outcome at its place, and values in 64 bits, so that reading one takes the same time at all places.
     #[inline(never)]
     pub fn spread(&mut self)
         ensures { self.new ≡ self.old }
     {
         match self.runs {
-            None => return,
+            None => match self.form {
+                Form::Narrow => {
+                    widen(&mut self.values, &self.narrow[..self.len]);
+                    self.form = Form::Values;
+                }
+                _ => return,
+            },
             Some(runs) => {
                 let mut room = [0i64; MAX_PLACES];
                 copy_heads(&mut room, self.values.as_slice());
@@ -290,5 +340,17 @@ fn copy_in(values: &mut Vec<i64>, cells: &[i64])
     let all = values.as_mut_slice();
     for place in 0..cells.len() {
         all[place] = cells[place];
+    }
+}
+
+/// Copies cells of 32 bits to the front of values.
+fn widen(values: &mut Vec<i64>, cells: &[i32])
+    requires { length cells.now ≤ length values.old.items }
+    ensures front { take (length cells.now) values.new.items ≡ cells.now }
+    ensures places { IsAsRoomy values.old values.new }
+{
+    let all = values.as_mut_slice();
+    for place in 0..cells.len() {
+        all[place] = cells[place] as i64;
     }
 }

@@ -7,7 +7,7 @@ ghost use Rattle.tile_kernel.specs.Joins.{HoldsOfBoth};
 use wcps_mean::PointFault;
 
 /// The fault at the least place of the points that were told, if there is one; without a fault the place means nothing.
-#[derive(Clone, Copy, PartialEq, Eq, Debug)]
+#[derive(Clone, Copy, PartialEq, Eq)]
 pub struct FirstFault {
     pub fault: Option<PointFault>,
     pub place: u64,

@@ -1,21 +1,23 @@
 //! Condensers over columns.
 
-ghost use Rattle.std.specs.Prelude.{◌≡◌, ℕ, ◌+◌, ◌<◌, ◌≤◌, [], ◌∷◌, length, sum, IfSome};
+ghost use Rattle.std.specs.Prelude.{◌≡◌, ℕ, ◌+◌, ◌<◌, ◌≤◌, [], ◌∷◌, length, map, sum, IfSome};
 ghost use Rattle.arr_core.specs.Limits.{max_points};
 ghost use Rattle.wcps_text.specs.declared.operator.Aggregate.{Aggregate};
+ghost use Rattle.wcps_mean.specs.declared.cell.Outcome.TheVariants.{Value};
 ghost use Rattle.tile_kernel.specs.Columns.{outcome_at};
 ghost use Rattle.tile_kernel.specs.Repeated.{shown, runs_shown, repeated, left_of, right_of};
 ghost use Rattle.tile_kernel.specs.Selected.{taken_in};
 ghost use Rattle.tile_kernel.specs.Told.{told_at, demanded_at, demanded_from};
 ghost use Rattle.tile_kernel.specs.Standing.{Stands, AreOf, HaveAtMost, EachTakesIn, IsCondensed};
-ghost use Rattle.tile_kernel.specs.Standing.{StandsAnywhere, IsCondensedWhere};
+ghost use Rattle.tile_kernel.specs.Standing.{StandsAnywhere, IsCondensedWhere, IsCondensedOf, IsCondensedBy, IsCondensedByRuns};
 
 use crate::accumulator::Accumulator;
 use crate::choice::{Always, Choice, Counted, CountedWhere, Where};
 use crate::column::{Column, MAX_PLACES};
 use crate::condenser::{Condensed, condense};
 use crate::form::Form;
-use crate::operand::{Each, Same};
+use crate::narrow_reduce::condense_narrow;
+use crate::operand::{Each, EachNarrow, Operand, Same};
 use crate::pair::Pair;
 use crate::paired::paired;
 use crate::reduce::condense_values;
@@ -26,6 +28,23 @@ use crate::view::View;
 use wcps_mean::{Outcome, is_set};
 use wcps_text::Aggregate;
 
+/// What a condenser keeps of the values at the first `len` places, each as often as it counts.
+fn condense_operand<V: Operand, C: Choice>(
+    op: Aggregate,
+    len: usize,
+    values: &V,
+    choice: &C,
+) -> Accumulator
+    requires few { taken_in (C.times choice.now) len ≤ 4096 }
+    requires values { len ≤ V.places values.now }
+    requires choice { len ≤ C.places choice.now }
+    ensures stands { IsCondensedOf (C.times choice.now) len (V.value values.now) result }
+    ensures op { result.running.op ≡ op }
+{
+    let running = condense_values(op, len, values, choice);
+    Accumulator { running, place: 0 }
+}
+
 /// What a condenser keeps of outcomes, each as often as it counts, where none is a fault.
 fn condense_view<C: Choice>(op: Aggregate, view: &View<'_>, choice: &C) -> Option<Accumulator>
     requires places { length view.now ≤ C.places choice.now }
@@ -35,16 +54,16 @@ fn condense_view<C: Choice>(op: Aggregate, view: &View<'_>, choice: &C) -> Optio
 {
     match view.form {
         Form::Values => {
-            let values = Each {
-                values: view.values,
-            };
-            let running = condense_values(op, view.len, &values, choice);
-            return Some(Accumulator { running, place: 0 });
+            let values = view.values;
+            return Some(condense_operand(op, view.len, &Each { values }, choice));
+        }
+        Form::Narrow => {
+            let values = view.narrow;
+            return Some(condense_operand(op, view.len, &EachNarrow { values }, choice));
         }
         Form::Same(o) => match o {
             Outcome::Value(value) => {
-                let running = condense_values(op, view.len, &Same { value }, choice);
-                return Some(Accumulator { running, place: 0 });
+                return Some(condense_operand(op, view.len, &Same { value }, choice));
             }
             Outcome::Fault(_) => return None,
         },
@@ -63,11 +82,24 @@ fn condense_column(op: Aggregate, column: &Column) -> Option<Accumulator>
     }
 }
 
+/// What a condenser keeps of values of 32 bits.
+fn condense_values_narrow(op: Aggregate, values: &[i32]) -> Accumulator
+    requires { length values.now ≤ 4096 }
+    ensures stands { StandsAnywhere result (map Value values.now) }
+    ensures op { result.running.op ≡ op }
+{
+    let running = condense_narrow(op, values);
+    Accumulator { running, place: 0 }
+}
+
 /// What a condenser keeps of outcomes, where none is a fault.
 fn condense_each(op: Aggregate, view: &View<'_>) -> Option<Accumulator>
     ensures stands { IfSome result (λ a. StandsAnywhere a view.now) }
     ensures op { IfSome result (λ a. a.running.op ≡ op) }
 {
+    if let Form::Narrow = view.form {
+        return Some(condense_values_narrow(op, &view.narrow[..view.len]));
+    }
     condense_view(op, view, &Always { len: view.len() })
 }
 
@@ -225,6 +257,19 @@ fn condense_seen_where(
     }
 }
 
+/// What a condenser keeps of outcomes under a condition of these values, where none is a fault.
+fn condense_chosen<V: Operand + Drop>(
+    op: Aggregate,
+    condition: V,
+    column: &View<'_>,
+) -> Option<Accumulator>
+    requires { length column.now ≤ V.places condition }
+    ensures { IsCondensedBy op (V.value condition) column.now result }
+{
+    let _few = column.len();
+    condense_view(op, column, &Where { condition })
+}
+
 /// The same of outcomes at each place.
 fn condense_each_where(
     op: Aggregate,
@@ -236,10 +281,12 @@ fn condense_each_where(
 {
     match condition.form {
         Form::Values => {
-            let choice = Where {
-                condition: condition.values,
-            };
-            return condense_view(op, column, &choice);
+            let values = condition.values;
+            return condense_chosen(op, Each { values }, column);
+        }
+        Form::Narrow => {
+            let values = condition.narrow;
+            return condense_chosen(op, EachNarrow { values }, column);
         }
         Form::Same(o) => match o {
             Outcome::Value(x) => {
@@ -261,6 +308,22 @@ fn condense_runs_where(op: Aggregate, pair: &Pair<'_>) -> Option<Accumulator>
     condense_heads_where(op, &pair.left, &pair.right, pair.counts)
 }
 
+/// What a condenser keeps of outcomes under a condition of these values, each as often as its count says, where none is
+/// a fault.
+fn condense_counted<V: Operand + Drop>(
+    op: Aggregate,
+    condition: V,
+    column: &View<'_>,
+    counts: &[u32],
+) -> Option<Accumulator>
+    requires condition { length counts.now ≤ V.places condition }
+    requires column { length column.now ≡ length counts.now }
+    requires few { sum counts.now ≤ 4096 }
+    ensures { IsCondensedByRuns op counts.now (V.value condition) column.now result }
+{
+    condense_view(op, column, &CountedWhere { condition, counts })
+}
+
 /// The same of what they have for each run, and how often it stands.
 fn condense_heads_where(
     op: Aggregate,
@@ -275,11 +338,12 @@ fn condense_heads_where(
 {
     match chosen.form {
         Form::Values => {
-            let choice = CountedWhere {
-                condition: chosen.values,
-                counts,
-            };
-            return condense_view(op, column, &choice);
+            let values = chosen.values;
+            return condense_counted(op, Each { values }, column, counts);
+        }
+        Form::Narrow => {
+            let values = chosen.narrow;
+            return condense_counted(op, EachNarrow { values }, column, counts);
         }
         Form::Same(o) => match o {
             Outcome::Value(x) => {

@@ -9,6 +9,8 @@ pub(crate) enum Form {
     Same(Outcome),
     /// The values; no place has a fault.
     Values,
+    /// The values, in 32 bits each; no place has a fault.
+    Narrow,
     /// The values and the faults.
     Mixed,
 }

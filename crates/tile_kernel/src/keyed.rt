@@ -4,13 +4,14 @@ ghost use Rattle.std.specs.Prelude.{◌≡◌, ◌+◌, ◌<◌, ◌≤◌, ℤ,
 ghost use Rattle.std.specs.List.{All};
 ghost use Rattle.arr_core.specs.Limits.{max_points};
 ghost use Rattle.wcps_mean.specs.declared.cell.Outcome.TheVariants.{Value};
+ghost use Rattle.tile_kernel.specs.Columns.{HasValues};
 ghost use Rattle.tile_kernel.specs.Condensing.{EachIsTold, EachCountsMore};
-ghost use Rattle.tile_kernel.specs.Keyed.{number_at, told_by_key, TakeCells, TakeIn, IsPlaceOf};
+ghost use Rattle.tile_kernel.specs.Keyed.{told_by_key, TakeCells, TakeIn, IsPlaceOf};
 
 use crate::column::{Column, MAX_PLACES};
 use crate::condenser::Condenser;
 use crate::form::Form;
-use crate::operand::{Each, Operand, Same};
+use crate::operand::{Each, EachNarrow, Operand, Same};
 use crate::seen::Seen;
 use crate::view::View;
 use wcps_mean::Outcome;
@@ -103,24 +104,24 @@ fn tell_cells<C: Condenser, N: Numbers>(
 }
 
 /// Each condenser is told of those values whose key is its number, as many as there are places.
-fn tell_values<C: Condenser, N: Numbers, V: Operand>(
+fn tell_values<C: Condenser, N: Numbers, K: Operand + Drop, V: Operand + Drop>(
     folds: &mut [C],
     numbers: &N,
-    keys: &[i64],
-    values: &V,
+    keys: K,
+    cells: V,
     places: &[u64],
 )
     requires folds { length folds.old ≡ length (N.numbers numbers.now) }
-    requires keys { length places.now ≤ length keys.now }
-    requires values { length places.now ≤ V.places values.now }
+    requires keys { length places.now ≤ K.places keys }
+    requires cells { length places.now ≤ V.places cells }
     requires room { All (λ c. C.counted c + length places.now ≤ max_points) folds.old }
-    ensures stands { TakeIn C.stands folds.old folds.new (N.numbers numbers.now) places.now keys.now (V.value values.now) }
+    ensures stands { TakeIn C.stands folds.old folds.new (N.numbers numbers.now) places.now (K.value keys) (V.value cells) }
     ensures room { EachCountsMore C.counted (length places.now) folds.old folds.new }
     ensures length { length folds.new ≡ length folds.old }
 {
     for j in 0..places.len() {
-        let value = Outcome::Value(values.value(j));
-        tell_number(folds, numbers, places[j], keys[j], value);
+        let value = Outcome::Value(cells.value(j));
+        tell_number(folds, numbers, places[j], keys.value(j), value);
     }
 }
 
@@ -194,22 +195,51 @@ fn add_views<C: Condenser, N: Numbers>(
     ensures length { length folds.new ≡ length folds.old }
 {
     match keys.form {
-        Form::Values => match column.form {
-            Form::Values => {
-                let values = Each {
-                    values: column.values,
-                };
-                tell_values(folds, numbers, keys.values, &values, places);
-            }
-            Form::Same(o) => match o {
-                Outcome::Value(value) => {
-                    let values = Same { value };
-                    tell_values(folds, numbers, keys.values, &values, places);
-                }
-                Outcome::Fault(_) => tell_cells(folds, numbers, keys, column, places),
-            },
-            Form::Mixed => tell_cells(folds, numbers, keys, column, places),
-        },
+        Form::Values => {
+            let values = keys.values;
+            add_by_values(folds, numbers, keys, Each { values }, column, places);
+        }
+        Form::Narrow => {
+            let values = keys.narrow;
+            add_by_values(folds, numbers, keys, EachNarrow { values }, column, places);
+        }
         _ => tell_cells(folds, numbers, keys, column, places),
+    }
+}
+
+/// The same where the keys are these values.
+fn add_by_values<C: Condenser, N: Numbers, K: Operand + Drop>(
+    folds: &mut [C],
+    numbers: &N,
+    keys: &View<'_>,
+    key_values: K,
+    column: &View<'_>,
+    places: &[u64],
+)
+    requires folds { length folds.old ≡ length (N.numbers numbers.now) }
+    requires keys { HasValues (length column.now) (K.value key_values) keys.now }
+    requires key_places { length column.now ≤ K.places key_values }
+    requires places { length places.now ≡ length column.now }
+    requires room { All (λ c. C.counted c + length column.now ≤ max_points) folds.old }
+    ensures stands { TakeCells C.stands folds.old folds.new (N.numbers numbers.now) places.now keys.now column.now }
+    ensures room { EachCountsMore C.counted (length column.now) folds.old folds.new }
+    ensures length { length folds.new ≡ length folds.old }
+{
+    match column.form {
+        Form::Values => {
+            let values = column.values;
+            tell_values(folds, numbers, key_values, Each { values }, places);
+        }
+        Form::Narrow => {
+            let values = column.narrow;
+            tell_values(folds, numbers, key_values, EachNarrow { values }, places);
+        }
+        Form::Same(o) => match o {
+            Outcome::Value(value) => {
+                tell_values(folds, numbers, key_values, Same { value }, places);
+            }
+            Outcome::Fault(_) => tell_cells(folds, numbers, keys, column, places),
+        },
+        Form::Mixed => tell_cells(folds, numbers, keys, column, places),
     }
 }

@@ -43,6 +43,26 @@ impl Operand for Each<'_> {
     }
 }
 
+/// A value of 32 bits at each place.
+#[derive(Clone, Copy, Drop)]
+pub(crate) struct EachNarrow<'a> {
+    pub values: &'a [i32],
+}
+
+impl Operand for EachNarrow<'_> {
+    ghost value = { λ s k. slice_index_or s.values.now k (pos 0) };
+
+    ghost places = { λ s. length s.values.now };
+
+    fn value(&self, place: usize) -> i64 {
+        self.values[place] as i64
+    }
+
+    fn pair(&self, place: usize) -> i64x2 {
+        i64x2::from_array([self.values[place] as i64, self.values[place + 1] as i64])
+    }
+}
+
 /// The same value at every place.
 #[derive(Clone, Copy, Drop)]
 pub(crate) struct Same {
@@ -65,9 +85,9 @@ impl Operand for Same {
 
 /// The same value at every place, one that the compiler knows.
 #[derive(Clone, Copy, Drop)]
-pub(crate) struct Literal<const VALUE: u32>;
+pub(crate) struct Literal<const VALUE: u16>;
 
-impl<const VALUE: u32> Operand for Literal<VALUE> {
+impl<const VALUE: u16> Operand for Literal<VALUE> {
     ghost value = { λ s k. pos VALUE };
 
     ghost places = { λ s. 4096 };

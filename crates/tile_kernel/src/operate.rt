@@ -10,7 +10,8 @@ use crate::column::{Column, MAX_PLACES, grow};
 use crate::form::Form;
 use crate::lanes::try_lanes;
 use crate::loops::try_places;
-use crate::operand::{Each, Literal, Operand, Same};
+use crate::operand::{Each, EachNarrow, Literal, Operand, Same};
+use crate::operate_narrow::operate_narrow;
 use crate::operations::{
     BitSet, Both, Difference, Either, IsAtLeast, IsAtMost, IsEqual, IsGreater, IsLess, IsOther,
     NarrowProduct, OneOnly, Product, Quotient, Sum,
@@ -22,9 +23,10 @@ use wcps_mean::{Outcome, PointFault, operate_both};
 use wcps_text::BinaryOperator;
 
 /// Makes `out` the operation at each place: the left operand's fault, else the right one's, else the exact result,
-/// tested. Operands without faults are tried in one loop; only where some result there is no value is each place taken by
-/// itself. Operands over the same runs are taken run by run where each result is a value: then alone it takes memory, for
-/// their counts, and does without where there is none.
+/// tested. Operands without faults are tried in one loop, and in 32 bits where their values are such and each result is
+/// seen to be; only where some result there is no value is each place taken by itself. Operands over the same runs are
+/// taken run by run where each result is a value. It takes memory for values of 32 bits and for the counts of runs alone,
+/// and does without where there is none.
 pub fn operate_columns(op: BinaryOperator, left: &Column, right: &Column, out: &mut Column)
     requires { length left.now ≡ length right.now }
     ensures { out.new ≡ operate_all op left.now right.now }
@@ -84,16 +86,27 @@ fn operate_views(op: BinaryOperator, left: &View<'_>, right: &View<'_>, out: &mu
     requires { length left.now ≡ length right.now }
     ensures { out.new ≡ operate_all op left.now right.now }
 {
+    if let Form::Same(l) = left.form {
+        if let Form::Same(r) = right.form {
+            out.fill(left.len, operate_both(op, l, r));
+            return;
+        }
+    }
+    if operate_narrow(op, left, right, out) {
+        return;
+    }
+    operate_wide(op, left, right, out);
+}
+
+/// The operation on outcomes at each place in values of 64 bits.
+fn operate_wide(op: BinaryOperator, left: &View<'_>, right: &View<'_>, out: &mut Column)
+    requires { length left.now ≡ length right.now }
+    ensures { out.new ≡ operate_all op left.now right.now }
+{
     grow(&mut out.values, left.len, 0);
     grow(&mut out.faults, left.len, None);
     out.len = left.len;
     out.runs = None;
-    if let Form::Same(l) = left.form {
-        if let Form::Same(r) = right.form {
-            out.form = Form::Same(operate_both(op, l, r));
-            return;
-        }
-    }
     if try_columns(op, left, right, &mut out.values) {
         out.form = Form::Values;
         return;
@@ -112,10 +125,12 @@ fn try_columns(op: BinaryOperator, left: &View<'_>, right: &View<'_>, out: &mut 
     let cells = out.as_mut_slice();
     match left.form {
         Form::Values => {
-            let each = Each {
-                values: left.values,
-            };
-            return try_right(op, left.len, &each, right, cells);
+            let values = left.values;
+            return try_right(op, left.len, &Each { values }, right, cells);
+        }
+        Form::Narrow => {
+            let values = left.narrow;
+            return try_right(op, left.len, &EachNarrow { values }, right, cells);
         }
         Form::Same(o) => match o {
             Outcome::Value(value) => return try_right(op, left.len, &Same { value }, right, cells),
@@ -140,10 +155,12 @@ fn try_right<L: Operand>(
 {
     match right.form {
         Form::Values => {
-            let each = Each {
-                values: right.values,
-            };
-            return try_operation(op, len, left, &each, out);
+            let values = right.values;
+            return try_operation(op, len, left, &Each { values }, out);
+        }
+        Form::Narrow => {
+            let values = right.narrow;
+            return try_operation(op, len, left, &EachNarrow { values }, out);
         }
         Form::Same(o) => match o {
             Outcome::Value(value) => return try_scalar(op, len, left, value, out),

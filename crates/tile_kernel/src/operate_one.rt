@@ -1,6 +1,6 @@
 //! A cell operation over one column.
 
-ghost use Rattle.std.specs.Prelude.{◌≡◌, pos, ◌≤◌, length, map, slice_index_or, IsTrue};
+ghost use Rattle.std.specs.Prelude.{◌≡◌, ◌≤◌, length, map, IsTrue};
 ghost use Rattle.wcps_mean.specs.Cells.{exact1, operate1};
 ghost use Rattle.tile_kernel.specs.Columns.{each1, AreValues, AreOutcomes, IsAsRoomy};
 ghost use Rattle.tile_kernel.specs.Repeated.{runs_shown};
@@ -8,16 +8,17 @@ ghost use Rattle.tile_kernel.specs.Repeated.{runs_shown};
 use crate::column::{Column, MAX_PLACES, grow};
 use crate::form::Form;
 use crate::loops::try_places;
-use crate::operand::{Each, Same};
+use crate::operand::{Each, EachNarrow, Operand, Same};
+use crate::operate_narrow_one::operate_narrow_one;
 use crate::operations::{Itself, Magnitude, Negative, Opposite};
 use crate::seen::{Runs, Seen};
 use crate::view::{View, parts};
 use wcps_mean::{PointFault, operate};
 use wcps_text::UnaryOperator;
 
-/// Makes `out` the operation at each place: the operand's fault, else the exact result, tested. An operand that is kept as
-/// runs is taken run by run where each result is a value: then alone it takes memory, for their counts, and does without
-/// where there is none.
+/// Makes `out` the operation at each place: the operand's fault, else the exact result, tested. Values of 32 bits stay
+/// such where each result is seen to be one, and an operand that is kept as runs is taken run by run where each result is
+/// a value. It takes memory for values of 32 bits and for the counts of runs alone, and does without where there is none.
 pub fn operate_column(op: UnaryOperator, operand: &Column, out: &mut Column)
     ensures { out.new ≡ map (operate1 op) operand.now }
 {
@@ -51,14 +52,24 @@ fn operate_spread(op: UnaryOperator, operand: &Runs<'_>, out: &mut Column)
 fn operate_view(op: UnaryOperator, operand: &View<'_>, out: &mut Column)
     ensures { out.new ≡ map (operate1 op) operand.now }
 {
+    if let Form::Same(o) = operand.form {
+        out.fill(operand.len, operate(op, o));
+        return;
+    }
+    if operate_narrow_one(op, operand, out) {
+        return;
+    }
+    operate_wide(op, operand, out);
+}
+
+/// The operation on outcomes at each place in values of 64 bits.
+fn operate_wide(op: UnaryOperator, operand: &View<'_>, out: &mut Column)
+    ensures { out.new ≡ map (operate1 op) operand.now }
+{
     grow(&mut out.values, operand.len, 0);
     grow(&mut out.faults, operand.len, None);
     out.len = operand.len;
     out.runs = None;
-    if let Form::Same(o) = operand.form {
-        out.form = Form::Same(operate(op, o));
-        return;
-    }
     if try_column(op, operand, &mut out.values) {
         out.form = Form::Values;
         return;
@@ -76,10 +87,12 @@ fn try_column(op: UnaryOperator, operand: &View<'_>, out: &mut Vec<i64>) -> bool
     let cells = out.as_mut_slice();
     match operand.form {
         Form::Values => {
-            let each = Each {
-                values: operand.values,
-            };
-            return try_one(op, operand.len, &each, cells);
+            let values = operand.values;
+            return try_one(op, operand.len, &Each { values }, cells);
+        }
+        Form::Narrow => {
+            let values = operand.narrow;
+            return try_one(op, operand.len, &EachNarrow { values }, cells);
         }
         Form::Same(_) => return false,
         Form::Mixed => return false,
@@ -87,20 +100,18 @@ fn try_column(op: UnaryOperator, operand: &View<'_>, out: &mut Vec<i64>) -> bool
 }
 
 /// Tries an operation at the first `len` places; tells whether each result is its value.
-fn try_one(op: UnaryOperator, len: usize, operand: &Each<'_>, out: &mut [i64]) -> bool
-    requires operand { len ≤ length operand.now.values.now }
+fn try_one<V: Operand>(op: UnaryOperator, len: usize, operand: &V, out: &mut [i64]) -> bool
+    requires operand { len ≤ V.places operand.now }
     requires few { len ≤ 4096 }
     requires out { len ≤ length out.old }
-    ensures { IsTrue result → AreValues len (λ k. exact1 op (slice_index_or operand.now.values.now k (pos 0))) out.new }
+    ensures { IsTrue result → AreValues len (λ k. exact1 op (V.value operand.now k)) out.new }
 {
     let none = Same { value: 0 };
     match op {
-        UnaryOperator::Negate => try_places::<Negative, Each<'_>, Same>(len, operand, &none, out),
-        UnaryOperator::Plus => try_places::<Itself, Each<'_>, Same>(len, operand, &none, out),
-        UnaryOperator::Not => try_places::<Opposite, Each<'_>, Same>(len, operand, &none, out),
-        UnaryOperator::Absolute => try_places::<Magnitude, Each<'_>, Same>(
-            len, operand, &none, out,
-        ),
+        UnaryOperator::Negate => try_places::<Negative, V, Same>(len, operand, &none, out),
+        UnaryOperator::Plus => try_places::<Itself, V, Same>(len, operand, &none, out),
+        UnaryOperator::Not => try_places::<Opposite, V, Same>(len, operand, &none, out),
+        UnaryOperator::Absolute => try_places::<Magnitude, V, Same>(len, operand, &none, out),
     }
 }
 

@@ -58,7 +58,7 @@ impl Trial for Difference {
 }
 
 /// Whether a value fits 32 bits.
-fn is_narrow(x: i64) -> bool
+pub(crate) fn is_narrow(x: i64) -> bool
     ensures { IsTrue result → FitsSigned w32 x }
 {
     -2_147_483_648 <= x && x <= 2_147_483_647

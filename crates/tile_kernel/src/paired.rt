@@ -14,11 +14,12 @@ fn same_over<'a>(view: &View<'a>, runs: &Runs<'a>) -> Option<View<'a>>
     ensures { IfSome result (StandsOver runs.now.counts.now view.now) }
 {
     match view.form {
-        Form::Same(_) => Some(View {
+        Form::Same(o) => Some(View {
             len: runs.counts.len(),
-            form: view.form,
+            form: Form::Same(o),
             values: runs.values,
             faults: runs.faults,
+            narrow: view.narrow,
         }),
         _ => None,
     }

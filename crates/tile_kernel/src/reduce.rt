@@ -177,7 +177,7 @@ fn times_by(times: u64, product: Product, x: i64) -> Product
 }
 
 /// The product.
-fn product_over<V: Operand, C: Choice>(len: usize, values: &V, choice: &C) -> Product
+pub(crate) fn product_over<V: Operand, C: Choice>(len: usize, values: &V, choice: &C) -> Product
     requires values { len ≤ V.places values.now }
     requires choice { len ≤ C.places choice.now }
     ensures { StandsFor result (selected (C.times choice.now) (V.value values.now) len) }

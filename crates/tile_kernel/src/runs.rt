@@ -21,6 +21,7 @@ impl<'a> Runs<'a> {
             form: Form::Values,
             values: self.values,
             faults: self.faults,
+            narrow: &[],
         }
     }
 
@@ -43,6 +44,7 @@ impl<'a> Runs<'a> {
             form: Form::Values,
             values: room,
             faults: self.faults,
+            narrow: &[],
         }
     }
 }

@@ -14,7 +14,7 @@ use wcps_mean::{Outcome, PointFault, Product, Running, is_set, value_or_empty};
 use wcps_text::Aggregate;
 
 /// Of a sum: the exact sum of so many values.
-#[derive(Clone, Copy, Debug)]
+#[derive(Clone, Copy)]
 pub struct Total {
     sum: i128,
     count: u32,
@@ -24,43 +24,43 @@ pub struct Total {
 }
 
 /// Of an average: the exact sum of so many values.
-#[derive(Clone, Copy, Debug)]
+#[derive(Clone, Copy)]
 pub struct Mean {
     total: Total,
 }
 
 /// Of a product: its sign, its magnitude, and whether a factor is 0.
-#[derive(Clone, Copy, Debug)]
+#[derive(Clone, Copy)]
 pub struct Factors {
     product: Product,
 }
 
 /// Of a greatest: the greatest value, if there is any.
-#[derive(Clone, Copy, Debug)]
+#[derive(Clone, Copy)]
 pub struct Greatest {
     best: Option<i64>,
 }
 
 /// Of a least: the least value, if there is any.
-#[derive(Clone, Copy, Debug)]
+#[derive(Clone, Copy)]
 pub struct Least {
     best: Option<i64>,
 }
 
 /// Of `every`: whether all values are true.
-#[derive(Clone, Copy, Debug)]
+#[derive(Clone, Copy)]
 pub struct AllTrue {
     all: bool,
 }
 
 /// Of `any`: whether some value is true.
-#[derive(Clone, Copy, Debug)]
+#[derive(Clone, Copy)]
 pub struct SomeTrue {
     some: bool,
 }
 
 /// Of a count: how many values are true.
-#[derive(Clone, Copy, Debug)]
+#[derive(Clone, Copy)]
 pub struct Trues {
     trues: u32,
     ghost few: { trues ≤ max_points },

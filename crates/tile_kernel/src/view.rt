@@ -15,6 +15,7 @@ pub(crate) struct View<'a> {
     pub form: Form,
     pub values: &'a [i64],
     pub faults: &'a [Option<PointFault>],
+    pub narrow: &'a [i32],
 }
 
 impl<'a> Model for View<'a> {
@@ -25,9 +26,9 @@ impl<'a> Model for View<'a> {
 
     ghost use Rattle.tile_kernel.specs.Columns.{seen, IsRoomy};
 
-    ghost view = { λ v. seen v.form v.len v.values.now v.faults.now };
+    ghost view = { λ v. seen v.form v.len v.values.now v.faults.now v.narrow.now };
 
-    ghost invariant = { λ v. IsRoomy v.len v.values.now v.faults.now };
+    ghost invariant = { λ v. IsRoomy v.form v.len v.values.now v.faults.now v.narrow.now };
 }
 
 /// An outcome by its value and its fault.
@@ -67,6 +68,7 @@ impl<'a> View<'a> {
         match self.form {
             Form::Same(o) => return o,
             Form::Values => return Outcome::Value(self.values[place]),
+            Form::Narrow => return Outcome::Value(self.narrow[place] as i64),
             Form::Mixed => return outcome(self.values[place], self.faults[place]),
         }
     }
@@ -80,6 +82,7 @@ impl<'a> View<'a> {
             form: self.form,
             values: self.values,
             faults: self.faults,
+            narrow: self.narrow,
         }
     }
 }

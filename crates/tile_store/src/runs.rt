@@ -30,6 +30,7 @@ fn list_zeros(count: usize, runs: &mut RunList) -> Result<(), AllocError>
     ensures zeros { OnOk result (cells_of runs.new ≡ replicate count (pos 0)) }
     ensures room { length runs.new.values.items ≡ count }
 {
+    runs.is_narrow = false;
     runs.values[0] = 0;
     runs.counts.clear();
     runs.counts.push(count as u32)?;

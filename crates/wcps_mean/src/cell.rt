@@ -43,7 +43,7 @@ impl PointFault {
 }
 
 /// What a point gives: a value, where a Boolean is 0 or 1, or a fault.
-#[derive(Clone, Copy, PartialEq, Eq, Debug)]
+#[derive(Clone, Copy, PartialEq, Eq)]
 pub enum Outcome {
     Value(i64),
     Fault(PointFault),

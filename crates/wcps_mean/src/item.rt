@@ -6,7 +6,7 @@ use arr_core::Cell;
 use std::marker::Model;
 
 /// Cells in order.
-#[derive(Debug, Drop)]
+#[derive(Drop)]
 pub struct CellList {
     cells: Vec<Cell>,
 }
@@ -52,7 +52,7 @@ impl CellList {
 }
 
 /// One item of an answer: the cells of a value on a domain.
-#[derive(Debug, Drop)]
+#[derive(Drop)]
 pub struct Item {
     /// How many points a run along the last axis has; 1 for a scalar.
     pub line: u64,

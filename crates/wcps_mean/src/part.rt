@@ -8,7 +8,7 @@ ghost use Rattle.wcps_mean.specs.Spots.{part_at};
 use wcps_types::{Node, Tree};
 
 /// Which part of a combination.
-#[derive(Clone, Copy, PartialEq, Eq, Debug)]
+#[derive(Clone, Copy, PartialEq, Eq)]
 pub enum Part {
     /// The condition of the query; its point is the empty one.
     Condition,

@@ -8,7 +8,7 @@ ghost use Rattle.wcps_mean.specs.Magnitudes.{is_negative, cap};
 use crate::cell::{Outcome, range_test};
 
 /// What is kept of a product: enough for its range test, however far partial products leave the range.
-#[derive(Clone, Copy, Debug)]
+#[derive(Clone, Copy)]
 pub struct Product {
     /// A factor is 0.
     pub has_zero: bool,

@@ -11,7 +11,7 @@ use crate::product::Product;
 use wcps_text::Aggregate;
 
 /// What is kept of the outcomes so far: at most 2^24 of them, the points of a box.
-#[derive(Drop, Debug)]
+#[derive(Drop)]
 pub struct Running {
     pub op: Aggregate,
     /// How many outcomes.

@@ -20,7 +20,7 @@ use wcps_text::Query;
 
 /// The query with one choice of coverages for its variables: the place of its tree among the query's trees, and for each
 /// variable the place of its coverage among the query's coverages.
-#[derive(Debug, Drop)]
+#[derive(Drop)]
 pub struct Combination {
     pub tree: usize,
     pub coverages: Vec<usize>,
@@ -28,7 +28,7 @@ pub struct Combination {
 
 /// What a tree is typed over, for each variable the place of its coverage; and the cells and the work of the tree, each
 /// told up to one more than is allowed.
-#[derive(Debug, Drop)]
+#[derive(Drop)]
 pub struct Maker {
     pub(crate) coverages: Vec<usize>,
     pub(crate) cells: u64,

@@ -9,7 +9,7 @@ use plan_ir::{Index, Interval};
 use std::alloc::{AllocError, Global};
 
 /// What an expression's iterators and its point stand for under the variables of a body.
-#[derive(Debug, Drop)]
+#[derive(Drop)]
 pub struct Context {
     /// The interval of each variable, outermost first.
     pub scope: Vec<Interval>,

@@ -4,7 +4,7 @@ ghost use Rattle.std.specs.Prelude.{◌≡◌, ◌∷◌, [], ◌≤◌, IfOk, O
 ghost use Rattle.wcps_types.specs.TypedQueries.{query_view, trees_in};
 ghost use Rattle.plan_ir.specs.Plans.{steps_view, choice_view, plan_view};
 ghost use Rattle.plan_ir.specs.Placed.{IsPlan};
-ghost use Rattle.plan_rewrite.specs.FoldPoints.{unit_bound};
+ghost use Rattle.plan_ir.specs.FoldPoints.{unit_bound};
 ghost use Rattle.plan_rewrite.specs.LoweredPlans.{IsLowered, AreLowered, choice_of, lowered_choices};
 ghost use Rattle.plan_rewrite.specs.Lowered.{Answers, work_bound};
 ghost use Rattle.plan_rewrite.specs.Views.{Gains};

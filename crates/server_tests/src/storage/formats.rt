@@ -105,10 +105,9 @@ fn decoded_runs(alloc: Global, answer: &mut Answer, words: &str, bytes: &[u8]) -
     let (form, words) = form_of(words);
     let (type_name, count) = cut_at(words, ':');
     let kind = kind(type_name)?;
-    let mut runs = RunList {
-        values: vec![in alloc; 9i64; number(count) as usize]?,
-        counts: vec![in alloc; 3u32; 2]?,
-    };
+    let values = vec![in alloc; 9i64; number(count) as usize]?;
+    let counts = vec![in alloc; 3u32; 2]?;
+    let mut runs = RunList::of(alloc, values, counts);
     match decode_runs(kind, form, bytes, &mut runs) {
         Ok(()) => say_runs(alloc, answer, &runs),
         Err(error) => answer.refusal(refused(error)),

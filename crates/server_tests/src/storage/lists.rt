@@ -48,15 +48,13 @@ fn room_for(
         field: *field,
         tile: *tile,
     };
-    let runs = RunList {
-        values: vec![in alloc; 9i64; points as usize]?,
-        counts: vec![in alloc; 3u32; 2]?,
-    };
-    Ok(Some((at, runs)))
+    let values = vec![in alloc; 9i64; points as usize]?;
+    let counts = vec![in alloc; 3u32; 2]?;
+    Ok(Some((at, RunList::of(alloc, values, counts))))
 }
 
-/// The cells of runs.
-fn cells_of(alloc: Global, runs: &RunList) -> Result<Vec<i64>> {
+/// The cells of a list that is not narrow.
+fn wide_cells(alloc: Global, runs: &RunList) -> Result<Vec<i64>> {
     let mut cells = Vec::new(alloc);
     if runs.counts.is_empty() {
         cells.extend_from_slice(&runs.values)?;
@@ -65,6 +63,18 @@ fn cells_of(alloc: Global, runs: &RunList) -> Result<Vec<i64>> {
         for _cell in 0..*count {
             cells.push(*value)?;
         }
+    }
+    Ok(cells)
+}
+
+/// The cells of a list of runs.
+fn cells_of(alloc: Global, runs: &RunList) -> Result<Vec<i64>> {
+    if !runs.is_narrow {
+        return wide_cells(alloc, runs);
+    }
+    let mut cells = Vec::new(alloc);
+    for value in &runs.narrow {
+        cells.push(i64::from(*value))?;
     }
     Ok(cells)
 }

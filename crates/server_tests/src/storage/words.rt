@@ -53,8 +53,11 @@ pub fn say_list<T: Display>(alloc: Global, answer: &mut Answer, numbers: &[T]) {
     }
 }
 
-/// Runs of equal cells, as `7*2,8*1`; where there are no counts, each cell.
+/// Runs of equal cells, as `7*2,8*1`; where there are no counts, or the values have 32 bits, each cell.
 pub fn say_runs(alloc: Global, answer: &mut Answer, runs: &RunList) {
+    if runs.is_narrow {
+        return say_list(alloc, answer, &runs.narrow);
+    }
     if runs.counts.is_empty() {
         return say_list(alloc, answer, &runs.values);
     }

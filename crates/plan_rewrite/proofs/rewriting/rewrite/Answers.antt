@@ -7,7 +7,7 @@ use Rattle.plan_rewrite.specs.InlinedPlans.{inlined_steps, inlined_plan}
 use Rattle.plan_rewrite.specs.HoistedPlans.{hoisted_steps}
 use Rattle.plan_rewrite.specs.Everywhere.{Everywhere}
 use Rattle.plan_rewrite.specs.Rewritten.{NoInlinableBind, NoFoldIsClosed}
-use Rattle.plan_rewrite.specs.FoldPoints.{unit_bound}
+use Rattle.plan_ir.specs.FoldPoints.{unit_bound}
 use Rattle.plan_rewrite.proofs.InlinedPlans.{inlined-planned}
 use Rattle.plan_rewrite.proofs.InlinedPlaced.{plan-placed, steps-reduced}
 use Rattle.plan_rewrite.proofs.HoistedPlans.{hoisted-planned, hoisted-placed, steps-open}

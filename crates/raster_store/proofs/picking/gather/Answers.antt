@@ -1,6 +1,5 @@
 -- The cells so far, and in the end those at all ranks.
 use Rattle.std.proofs.Common.{◌≡◌, ◌∙◌, List, ℕ, ap, take_all, arith, rules, SFits, w64, to_z-of_z}
-use Rattle.std.specs.Prelude.{ℤ}
 use Rattle.tile_store.specs.Picking.{picked}
 use Rattle.raster_store.proofs.Readings.{picked_more}
 use Rattle.raster_store.proofs.picking.gather.Goals as goal

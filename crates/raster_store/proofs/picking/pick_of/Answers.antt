@@ -1,5 +1,5 @@
 -- A tile that is marked of the coverage's version is spelled, and so is one that was read whole, which is marked.
-use Rattle.std.proofs.Common.{rules, None, inl}
+use Rattle.std.proofs.Common.{rules, None}
 use Rattle.raster_store.proofs.Versions.{adds_then}
 use Rattle.raster_store.proofs.picking.pick_of.Goals as goal
 

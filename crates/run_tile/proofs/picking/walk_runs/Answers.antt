@@ -1,12 +1,12 @@
 -- The run that was found has the cell at the rank.
-use Rattle.std.proofs.Common.{◌≡◌, ◌≢◌, ◌<◌, ℕ, ℤ, pos, length, get_or, sym, ap, ◌∙◌, subst, arith, rules, below_more, SFits, w64, to_z-of_z}
+use Rattle.std.proofs.Common.{◌≡◌, ◌≢◌, ◌<◌, ℕ, length, get_or, sym, ap, ◌∙◌, subst, arith, rules, below_more, SFits, w64, to_z-of_z}
 use Rattle.std.proofs.lemmas.List.{get_or-set_other, get_or-set_same, get_or_default}
 use Rattle.file_bytes.specs.declared.form.Form.TheVariants.{Runs}
 use Rattle.run_tile.specs.Raw.{cells_in}
 use Rattle.run_tile.specs.Picking.{IsStart}
 use Rattle.run_tile.specs.declared.run.Run.{Run}
 use Rattle.run_tile.specs.declared.picking.Start.{Start}
-use Rattle.run_tile.proofs.Picks.{start-none, in-run, at-end, picked-all}
+use Rattle.run_tile.proofs.Picks.{start-none, in-run, picked-all}
 use Rattle.run_tile.proofs.picking.walk_runs.Goals as goal
 use Rattle.run_tile.proofs.picking.walk_runs.Goals.{then-at-rank, else-at-rank}
 

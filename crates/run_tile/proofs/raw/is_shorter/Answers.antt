@@ -1,5 +1,5 @@
 -- The runs were counted far enough to tell whether they take more.
-use Rattle.std.proofs.Common.{◌≡◌, ◌*◌, ◌+◌, ◌<◌, ℕ, ap, sym, subst, arith}
+use Rattle.std.proofs.Common.{◌≡◌, ◌*◌, ◌+◌, ◌<◌, ℕ, map, ap, sym, subst, arith}
 use Rattle.std.proofs.lemmas.Bool.Decides.{Decides-ltb}
 use Rattle.run_tile.specs.Runs.{runs_in}
 use Rattle.run_tile.specs.Raw.{runs_size}
@@ -7,8 +7,9 @@ use Rattle.run_tile.proofs.RawTiles.{counted-short}
 use Rattle.run_tile.proofs.raw.is_shorter.Goals as goal
 
 pub returns : goal.returns
-returns c =
-    let all = runs_in c.args.cells.now in
+returns g c =
+    let cells = map g.N.Number.number c.args.cells.now in
+    let all = runs_in cells in
     let told = counted-short c.args.bytes (2 + c.width.result) c.count_runs.result all (omega arith) c.count_runs.ensures.exact c.count_runs.ensures.more in
-    let same : all * (2 + c.width.result) ≡ runs_size c.args.kind c.args.cells.now = ap (λ (w : ℕ). all * (2 + w)) c.width.ensures in
+    let same : all * (2 + c.width.result) ≡ runs_size c.args.kind cells = ap (λ (w : ℕ). all * (2 + w)) c.width.ensures in
     ((λ h. subst (λ (n : ℕ). c.args.bytes < n) same (told.0 ((Decides-ltb _ _).0 h))), λ h. (Decides-ltb _ _).1 (told.1 (subst (λ (n : ℕ). c.args.bytes < n) (sym same) h)))

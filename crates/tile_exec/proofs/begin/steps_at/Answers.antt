@@ -15,7 +15,7 @@ index-requires c =
     let k = c.index-combination.result.now in
     let there = slice_get_read plan.combinations.items (length plan.combinations.items) c.args.k k refl c.requires.k c.index-combination.ensures in
     let at : slice_get tree.combinations c.args.k ≡ Some (choice_view k) = slice_get-map choice_view plan.combinations.items c.args.k ∙ ap (option_map choice_view) there in
-    let is = subst (IsChoice tree) (get_or_from_slice_get tree.combinations c.args.k (choice_view k) (choice_view k) at) (c.requires.plan c.args.k (choice_view k) (slice_get_within tree.combinations c.args.k (choice_view k) at)) in
+    let is = subst (IsChoice tree) (get_or_from_slice_get tree.combinations c.args.k (choice_view k) (choice_view k) at) (c.requires.plan.choices c.args.k (choice_view k) (slice_get_within tree.combinations c.args.k (choice_view k) at)) in
     let lt = some_within (AreSteps (signature_of tree.coverages k.coverages.items)) tree.steps k.steps is in
     omega (arith, lt, length-map plan.steps.items steps_view, plan.steps.ok.0)
 
@@ -26,7 +26,7 @@ returns c = λ d.
     let k = c.index-combination.result.now in
     let there = slice_get_read plan.combinations.items (length plan.combinations.items) c.args.k k refl c.requires.k c.index-combination.ensures in
     let at : slice_get tree.combinations c.args.k ≡ Some (choice_view k) = slice_get-map choice_view plan.combinations.items c.args.k ∙ ap (option_map choice_view) there in
-    let is = subst (IsChoice tree) (get_or_from_slice_get tree.combinations c.args.k (choice_view k) (choice_view k) at) (c.requires.plan c.args.k (choice_view k) (slice_get_within tree.combinations c.args.k (choice_view k) at)) in
+    let is = subst (IsChoice tree) (get_or_from_slice_get tree.combinations c.args.k (choice_view k) (choice_view k) at) (c.requires.plan.choices c.args.k (choice_view k) (slice_get_within tree.combinations c.args.k (choice_view k) at)) in
     let lt = some_within (AreSteps (signature_of tree.coverages k.coverages.items)) tree.steps k.steps is in
     let below : k.steps < length plan.steps.items = omega (arith, lt, length-map plan.steps.items steps_view) in
     record {

@@ -1,17 +1,12 @@
--- One more point.
-use Rattle.std.proofs.Common.{sym, subst, length}
-use Rattle.std.specs.List.{enumerate_from}
-use Rattle.tile_kernel.specs.Told.{IsFirst}
-use Rattle.tile_exec.specs.Rows.{row_at, first_place, rows_told}
-use Rattle.tile_columns.proofs.ByRows.{flat_more}
+-- Values alone have no fault.
+use Rattle.std.proofs.Common.{[], length, refl}
+use Rattle.tile_kernel.proofs.Faults.{left_alone}
+use Rattle.tile_exec.specs.Rows.{all_rows_told}
+use Rattle.tile_exec.proofs.Rows.{rows_of_values}
 use Rattle.tile_exec.proofs.row.first_fault.Goals as goal
 
-pub loop-k-preserved : goal.loop-k-preserved
-loop-k-preserved c =
-    let k = c.loop-k.k in
+pub returns-then-are_values : goal.returns-then-are_values
+returns-then-are_values c =
     let ranks = c.args.ranks.now in
     let columns = c.args.columns.now in
-    let width = length columns in
-    subst (IsFirst c.tell_point.new.first.fault c.tell_point.new.first.place)
-    (sym (flat_more (λ k. enumerate_from (first_place ranks width k) (row_at columns k)) k))
-    (c.tell_point.ensures (rows_told ranks width columns k) c.loop-k.invariant)
+    left_alone c.none.result.fault c.none.result.place [] (all_rows_told ranks (length columns) columns) c.none.ensures (rows_of_values ranks columns (c.if-are_values.ensures refl))

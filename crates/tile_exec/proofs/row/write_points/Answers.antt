@@ -1,44 +1,32 @@
--- One more point.
-use Rattle.std.proofs.Common.{◌≡◌, ◌∙◌, ◌<◌, ℕ, sym, subst, arith, refl, length}
-use Rattle.std.specs.Prelude.{All}
-use Rattle.arr_core.specs.declared.cell.Cell.{Cell}
-use Rattle.tile_columns.proofs.ByRows.{flat_more}
+-- One field of values.
+use Rattle.std.proofs.Common.{◌≡◌, ◌∙◌, ◌∷◌, [], ◌≤◌, ◌<◌, List, Bool, ℕ, ℤ, ap, ap₂, sym, subst, arith, refl, length, map, false, get_or}
+use Rattle.wcps_mean.specs.declared.cell.Outcome.{Outcome}
+use Rattle.wcps_mean.specs.declared.cell.Outcome.TheVariants.{Value}
 use Rattle.tile_exec.specs.Items.{AreWrittenTo}
-use Rattle.tile_exec.specs.Rows.{row_at, cells_from, first_place, cells_told, all_cells_told}
-use Rattle.tile_exec.proofs.Rows.{all_at_point}
-use Rattle.tile_exec.proofs.Written.{written_none, written_then}
+use Rattle.tile_exec.specs.Rows.{LieBelow, all_cells_told, values_told}
 use Rattle.tile_exec.proofs.row.write_points.Goals as goal
 
-pub write_point-requires-clause-below : goal.write_point-requires-clause-below
-write_point-requires-clause-below c =
-    let ranks = c.args.ranks.now in
-    let booleans = c.args.booleans.now in
-    let columns = c.args.columns.now in
-    let all = subst (λ m. All (λ (w : ℕ × Cell). w.0 < m) (all_cells_told ranks booleans columns)) (sym c.loop-k.invariant.length) c.requires.below in
-    all_at_point (λ (w : ℕ × Cell). w.0 < length c.loop-k.cells.items) (λ k. cells_from (first_place ranks (length booleans) k) booleans (row_at columns k)) (length ranks) c.loop-k.k all
-    (omega (arith, c.loop-k-test.true))
+single : {X : Type 0} (xs : List X) (d : X) → 1 ≤ length xs → length xs < 2 → xs ≡ get_or xs 0 d ∷ []
+single [] d some few = absurd (omega arith)
+single (x ∷ []) d some few = refl
+single (x ∷ y ∷ xs) d some few = absurd (omega arith)
 
-pub loop-k-init : goal.loop-k-init
-loop-k-init c = record { length = refl; written = written_none c.args.cells.now.items }
+-- the cells of all points are those of one column of values
+of_values : (ranks : List ℕ) (booleans : List Bool) (columns : List (List Outcome)) (column : List Outcome) (values : List ℤ) → booleans ≡ get_or booleans 0 false ∷ [] → columns ≡ get_or columns 0 column ∷ []
+    → column ≡ get_or columns 0 column → column ≡ map Value values → all_cells_told ranks booleans columns ≡ values_told ranks (get_or booleans 0 false) values
+of_values ranks booleans columns column values one own is known =
+    ap₂ (all_cells_told ranks) one (own ∙ ap (λ (c : List Outcome). c ∷ []) (sym is ∙ known))
 
-pub loop-k-preserved : goal.loop-k-preserved
-loop-k-preserved c =
-    let inv = c.loop-k.invariant in
-    let k = c.loop-k.k in
-    let ranks = c.args.ranks.now in
-    let booleans = c.args.booleans.now in
-    let columns = c.args.columns.now in
-    let old = c.args.cells.now.items in
-    let new = c.write_point.new.cells.items in
-    let point = cells_from (first_place ranks (length booleans) k) booleans (row_at columns k) in
-    let both = written_then old c.loop-k.cells.items new (cells_told ranks booleans columns k) point inv.written c.write_point.ensures.written in
-    record {
-      length = c.write_point.ensures.length ∙ inv.length;
-      written = subst (AreWrittenTo old new) (sym (flat_more (λ k. cells_from (first_place ranks (length booleans) k) booleans (row_at columns k)) k)) both;
-    }
+pub write_values-requires-clause-below : goal.write_values-requires-clause-below
+write_values-requires-clause-below c =
+    let one = single c.args.booleans.now false (omega (arith, c.in-len1.len_at_least)) (omega (arith, c.in-len1.len_below)) in
+    let own = single c.args.columns.now c.column-item.result (omega (arith, c.in-len1-columns.len_at_least)) (omega (arith, c.in-len1-columns.len_below)) in
+    subst (LieBelow (length c.args.cells.now.items))
+    (of_values c.args.ranks.now c.args.booleans.now c.args.columns.now c.column-item.result c.in-Some.values.now one own c.column-item.is c.in-Some.ensures) c.requires.below
 
-pub returns-clause-written : goal.returns-clause-written
-returns-clause-written c =
-    let ranks = c.args.ranks.now in
-    let all : c.loop-k.k ≡ length ranks = omega (arith, c.loop-k-test.false, c.loop-k.auto.k-end) in
-    subst (λ n. AreWrittenTo c.args.cells.now.items c.loop-k.cells.items (cells_told ranks c.args.booleans.now c.args.columns.now n)) all c.loop-k.invariant.written
+pub returns-in-Some-clause-written : goal.returns-in-Some-clause-written
+returns-in-Some-clause-written c =
+    let one = single c.args.booleans.now false (omega (arith, c.in-len1.len_at_least)) (omega (arith, c.in-len1.len_below)) in
+    let own = single c.args.columns.now c.column-item.result (omega (arith, c.in-len1-columns.len_at_least)) (omega (arith, c.in-len1-columns.len_below)) in
+    subst (AreWrittenTo c.args.cells.now.items c.write_values.new.cells.items)
+    (sym (of_values c.args.ranks.now c.args.booleans.now c.args.columns.now c.column-item.result c.in-Some.values.now one own c.column-item.is c.in-Some.ensures)) c.write_values.ensures.written

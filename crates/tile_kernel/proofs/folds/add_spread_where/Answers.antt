@@ -1,5 +1,5 @@
 -- What is lent are the outcomes of the columns.
-use Rattle.std.proofs.Common.{subst, sym, ap, List}
+use Rattle.std.proofs.Common.{subst, List}
 use Rattle.wcps_mean.specs.declared.cell.Outcome.{Outcome}
 use Rattle.tile_kernel.specs.Told.{demanded_from}
 use Rattle.tile_kernel.specs.Repeated.{shown}

@@ -1,5 +1,5 @@
 -- Each value counts as often as its run goes on.
-use Rattle.std.proofs.Common.{◌≡◌, ◌∙◌, ◌≤◌, arith, length, ap, subst, sym, List, get_or}
+use Rattle.std.proofs.Common.{◌≡◌, ◌∙◌, ◌≤◌, arith, length, ap, subst, List}
 use Rattle.std.specs.Prelude.{IfSome}
 use Rattle.wcps_mean.specs.declared.cell.Outcome.{Outcome}
 use Rattle.tile_kernel.specs.Repeated.{repeated}

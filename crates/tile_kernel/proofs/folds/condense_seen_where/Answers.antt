@@ -1,5 +1,5 @@
 -- What both have for each run gives what they have at each place.
-use Rattle.std.proofs.Common.{◌≡◌, sym, subst, List}
+use Rattle.std.proofs.Common.{sym, subst, List}
 use Rattle.std.specs.Prelude.{IfSome}
 use Rattle.wcps_mean.specs.declared.cell.Outcome.{Outcome}
 use Rattle.tile_kernel.specs.Repeated.{repeated, shown}

@@ -1,21 +1,18 @@
--- Where each place has a value, or all places have one, the values are those of the columns.
-use Rattle.std.proofs.Common.{refl, ◌≡◌, ◌∙◌, length, sym, ap, arith, rules, SFits, w64}
-use Rattle.std.proofs.lemmas.Int.{to_z-of_z}
-use Rattle.wcps_mean.specs.declared.cell.Outcome.TheVariants.{Value}
-use Rattle.tile_kernel.proofs.Places.{places_are, value_there, same_there}
+-- Where each place has a value for its key, these are the keys.
+use Rattle.std.proofs.Common.{refl, ◌≡◌, length, arith}
+use Rattle.tile_kernel.proofs.Places.{places_are, value_there, narrow_places, narrow_there}
 use Rattle.tile_kernel.proofs.keyed.add_views.Goals as goal
 
-pub returns-in-Values-form-clause-stands : goal.returns-in-Values-form-clause-stands
-returns-in-Values-form-clause-stands g c =
-    let n : c.column.inside.len ≡ length c.args.column.now = places_are _ _ _ _ _ c.column.view_is c.column.invariant in
-    c.tell_values.ensures.stands c.args.keys.now c.args.column.now
-    (c.requires.keys ∙ sym c.requires.places, λ k lt. value_there _ _ _ _ _ _ k c.in-Values.is c.keys.view_is c.keys.invariant refl (omega (arith, lt, c.requires.places, c.requires.keys)))
-    (sym c.requires.places, λ k lt. value_there _ _ _ _ _ _ k c.in-Values-form.is c.column.view_is c.column.invariant refl (omega (arith, lt, n, c.requires.places)))
+pub add_by_values-requires-clause-keys : goal.add_by_values-requires-clause-keys
+add_by_values-requires-clause-keys g c =
+    (c.requires.keys, λ k lt. value_there _ _ _ _ _ _ _ k c.in-Values.is c.keys.view_is c.keys.invariant refl (omega (arith, lt, c.requires.keys)))
 
-pub returns-in-Value-clause-stands : goal.returns-in-Value-clause-stands
-returns-in-Value-clause-stands g c =
-    let n : c.column.inside.len ≡ length c.args.column.now = places_are _ _ _ _ _ c.column.view_is c.column.invariant in
-    let fits : SFits w64 c.in-Value.value = search rules in
-    c.tell_values-in-Value.ensures.stands c.args.keys.now c.args.column.now
-    (c.requires.keys ∙ sym c.requires.places, λ k lt. value_there _ _ _ _ _ _ k c.in-Values.is c.keys.view_is c.keys.invariant refl (omega (arith, lt, c.requires.places, c.requires.keys)))
-    (sym c.requires.places, λ k lt. same_there _ _ _ _ _ _ k c.in-Same.is c.column.view_is c.column.invariant (omega (arith, lt, n, c.requires.places)) ∙ c.in-Value.is ∙ ap Value (sym (to_z-of_z w64 c.in-Value.value fits)))
+pub add_by_values-requires-in-Narrow-clause-keys : goal.add_by_values-requires-in-Narrow-clause-keys
+add_by_values-requires-in-Narrow-clause-keys g c =
+    (c.requires.keys, λ k lt. narrow_there _ _ _ _ _ _ k c.in-Narrow.is c.keys.view_is c.keys.invariant (omega (arith, lt, c.requires.keys)))
+
+pub add_by_values-requires-in-Narrow-clause-key_places : goal.add_by_values-requires-in-Narrow-clause-key_places
+add_by_values-requires-in-Narrow-clause-key_places g c =
+    let n : c.keys.inside.len ≡ length c.args.keys.now = places_are _ _ _ _ _ _ c.keys.view_is c.keys.invariant in
+    let room = narrow_places _ _ _ _ _ c.in-Narrow.is c.keys.invariant in
+    omega (arith, n, room, c.requires.keys)

@@ -5,7 +5,7 @@ use Rattle.std.proofs.lemmas.Int.{to_z-of_z}
 use Rattle.std.proofs.lemmas.Option.{slice_get-get_or}
 use Rattle.wcps_mean.specs.declared.cell.Outcome.TheVariants.{Value}
 use Rattle.tile_kernel.specs.Condensing.{EachIsTold}
-use Rattle.tile_kernel.specs.Keyed.{number_at, told_by_key}
+use Rattle.tile_kernel.specs.Keyed.{told_by_key}
 use Rattle.tile_kernel.proofs.Keys.{keyed_more, keyed_whole}
 use Rattle.tile_kernel.proofs.keyed.tell_values.Goals as goal
 
@@ -23,14 +23,14 @@ loop-j-preserved g c =
     let numbers = g.N.Numbers.numbers c.args.numbers.now in
     let places = c.args.places.now in
     let j = c.loop-j.j in
-    let key = number_at c.args.keys.now j in
-    let x = g.V.Operand.value c.args.values.now j in
-    let fits : SFits w64 key = search rules in
+    let key = g.K.Operand.value c.args.keys j in
+    let x = g.V.Operand.value c.args.cells j in
+    let fits : SFits w64 c.value-in-loop-j.result = search rules in
     let small : SFits w64 c.value.result = search rules in
     let in_range : j < length c.args.places.now = omega arith in
     let one : EachIsTold g.C.Condenser.stands c.loop-j.folds c.tell_number.new.folds (told_by_key numbers (get_or places j 0) (Value key) (Value x)) =
-    subst (λ (z : ℤ). EachIsTold g.C.Condenser.stands c.loop-j.folds c.tell_number.new.folds (told_by_key numbers (get_or places j 0) (Value z) (Value x))) (to_z-of_z w64 key fits)
-    (subst (λ (z : ℤ). EachIsTold g.C.Condenser.stands c.loop-j.folds c.tell_number.new.folds (told_by_key numbers (get_or places j 0) (Value (to_z w64 (of_z w64 key))) (Value z))) (to_z-of_z w64 c.value.result small ∙ c.value.ensures) c.tell_number.ensures.stands) in
+    subst (λ (z : ℤ). EachIsTold g.C.Condenser.stands c.loop-j.folds c.tell_number.new.folds (told_by_key numbers (get_or places j 0) (Value z) (Value x))) (to_z-of_z w64 c.value-in-loop-j.result fits ∙ c.value-in-loop-j.ensures)
+    (subst (λ (z : ℤ). EachIsTold g.C.Condenser.stands c.loop-j.folds c.tell_number.new.folds (told_by_key numbers (get_or places j 0) (Value (to_z w64 (of_z w64 c.value-in-loop-j.result))) (Value z))) (to_z-of_z w64 c.value.result small ∙ c.value.ensures) c.tell_number.ensures.stands) in
     record {
       stands = λ own column a b.
           let own_there : slice_get own j ≡ Some (Value key) = slice_get-get_or own j (Value (pos 0)) (omega (arith, a.0, in_range)) ∙ ap Some (a.1 j in_range) in

@@ -1,5 +1,5 @@
 -- What was operated run by run is the operation at each place.
-use Rattle.std.proofs.Common.{◌≡◌, ◌∙◌, sym, ap, arith, length, List}
+use Rattle.std.proofs.Common.{◌∙◌, sym, ap, length, List}
 use Rattle.wcps_mean.specs.declared.cell.Outcome.{Outcome}
 use Rattle.tile_kernel.specs.Columns.{operate_all}
 use Rattle.tile_kernel.specs.Repeated.{repeated, shown}

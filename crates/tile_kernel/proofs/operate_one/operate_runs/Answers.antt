@@ -1,5 +1,5 @@
 -- What was operated run by run is the operation at each place.
-use Rattle.std.proofs.Common.{◌≡◌, ◌∙◌, ◌≤◌, sym, ap, arith, length, take, map, List}
+use Rattle.std.proofs.Common.{◌∙◌, ◌≤◌, sym, ap, arith, length, take, map, List}
 use Rattle.wcps_mean.specs.declared.cell.Outcome.{Outcome}
 use Rattle.wcps_mean.specs.declared.cell.Outcome.TheVariants.{Value}
 use Rattle.wcps_mean.specs.Cells.{operate1}

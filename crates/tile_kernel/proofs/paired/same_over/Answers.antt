@@ -4,7 +4,6 @@ use Rattle.std.specs.Prelude.{replicate, sum}
 use Rattle.std.proofs.lemmas.List.{length-replicate}
 use Rattle.tile_kernel.specs.declared.form.Form.{Form}
 use Rattle.tile_kernel.specs.Columns.{seen}
-use Rattle.tile_kernel.specs.Repeated.{repeated}
 use Rattle.tile_kernel.proofs.Places.{places_are}
 use Rattle.tile_kernel.proofs.Repeats.{repeated-same}
 use Rattle.tile_kernel.proofs.paired.same_over.Goals as goal
@@ -12,13 +11,11 @@ use Rattle.tile_kernel.proofs.paired.same_over.Goals as goal
 pub returns-in-Same : goal.returns-in-Same
 returns-in-Same c =
     let ns = c.args.runs.now.counts.now in
-    let zs = c.args.runs.now.values.now in
-    let fs = c.args.runs.now.faults.now in
     let n = c.view.inside.len in
-    let o = c.in-Same.field-0 in
-    let places : n ≡ sum ns = places_are _ _ _ _ _ c.view.view_is c.view.invariant ∙ c.requires ∙ sym c.args.runs.now.total in
+    let o = c.in-Same.o in
+    let places : n ≡ sum ns = places_are _ _ _ _ _ _ c.view.view_is c.view.invariant ∙ c.requires ∙ sym c.args.runs.now.total in
     record {
-      even = ap (λ (f : Form). length (seen f (length ns) zs fs)) c.in-Same.is ∙ length-replicate (length ns) o;
-      same = sym c.view.view_is ∙ ap (λ (f : Form). seen f n c.view.inside.values.now c.view.inside.faults.now) c.in-Same.is ∙ ap (λ k. replicate k o) places
-          ∙ sym (repeated-same o ns) ∙ ap (λ (f : Form). repeated (seen f (length ns) zs fs) ns) (sym c.in-Same.is);
+      even = length-replicate (length ns) o;
+      same = sym c.view.view_is ∙ ap (λ (f : Form). seen f n c.view.inside.values.now c.view.inside.faults.now c.view.inside.narrow.now) c.in-Same.is ∙ ap (λ k. replicate k o) places
+          ∙ sym (repeated-same o ns);
     }

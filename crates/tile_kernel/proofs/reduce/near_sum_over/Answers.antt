@@ -1,11 +1,10 @@
 -- Where no mark is high, one more raised value is in the sum as often as it counts, and the sum does not wrap.
-use Rattle.std.proofs.Common.{◌≡◌, ◌+◌, ◌*◌, ◌%◌, ◌^◌, ◌<◌, ◌≤◌, ◌∙◌, ap, sym, subst, arith, rules, SFits, Fits, w64, pos, ◌+ℤ◌, bit_or, length}
-use Rattle.std.proofs.lemmas.Int.{ints, to_z-of_z}
+use Rattle.std.proofs.Common.{◌≡◌, ◌+◌, ◌*◌, ◌%◌, ◌^◌, ◌<◌, ◌≤◌, ◌∙◌, ap, sym, subst, arith, rules, SFits, w64, pos, ◌+ℤ◌, length}
+use Rattle.std.proofs.lemmas.Int.{to_z-of_z}
 use Rattle.std.proofs.lemmas.Nat.{le_or_l, le_or_r}
 use Rattle.std.proofs.Math.Nat.{mul-le-mul_left, mod-eq_of_lt}
-use Rattle.wcps_mean.specs.Condensers.{total}
 use Rattle.tile_kernel.specs.Selected.{selected}
-use Rattle.tile_kernel.proofs.Reductions.{lifted_next, lifted_most, selected_before, length-selected}
+use Rattle.tile_kernel.proofs.Reductions.{lifted_next, lifted_most, selected_before}
 use Rattle.tile_kernel.proofs.reduce.near_sum_over.Goals as goal
 
 pub loop-place-preserved : goal.loop-place-preserved

@@ -1,5 +1,5 @@
 -- One more value is counted as often as it counts, if it is true.
-use Rattle.std.proofs.Common.{◌≡◌, ◌≤◌, ◌*◌, ◌∙◌, ap, arith, rules, SFits, w64, cond}
+use Rattle.std.proofs.Common.{◌≡◌, ◌*◌, ◌∙◌, ap, arith, rules, SFits, w64, cond}
 use Rattle.std.proofs.Math.Nat.{mul-le-mul_left}
 use Rattle.std.proofs.lemmas.Int.{to_z-of_z}
 use Rattle.wcps_mean.specs.Cells.{is_true}

@@ -1,6 +1,5 @@
 -- A tile is added, or nothing is.
 use Rattle.std.proofs.Common.{◌≡◌, ◌∙◌, sym, ap, refl, Option}
-use Rattle.std.specs.Prelude.{ℤ}
 use Rattle.arr_core.specs.declared.runs.RunList.{RunList}
 use Rattle.arr_core.specs.Runs.{cells_of}
 use Rattle.lru.specs.LruCache.{LruCache}

@@ -3,4 +3,4 @@ use Rattle.tile_exec.proofs.Begun.{pushed}
 use Rattle.tile_exec.proofs.begin.Listing.push.Goals as goal
 
 pub returns : goal.returns
-returns c = λ plan tree is fit few. pushed plan c.args.self.now _ c.args.task tree c.args.boxes c.in_ok-push.ensures.items c.in-Some.ensures.1 is fit few
+returns c = λ plan tree is fit few. pushed plan c.args.self.now _ c.args.task tree c.args.boxes c.in_ok-push.ensures.items c.saturating_add-self.ensures is fit few

@@ -1,7 +1,7 @@
 use Rattle.std.proofs.Common.{◌≡◌, length}
 use Rattle.tile_exec.specs.Items.{AreWrittenTo}
 use Rattle.tile_exec.specs.Rows.{cells_told}
-use Rattle.tile_exec.proofs.row.write_points.Given as goal
+use Rattle.tile_exec.proofs.row.write_each.Given as goal
 
 abbrev pub invariant-loop-k : goal.invariant-loop-k
 invariant-loop-k l = record {

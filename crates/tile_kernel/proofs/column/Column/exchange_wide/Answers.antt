@@ -7,7 +7,7 @@ use Rattle.arr_core.specs.Runs.{spread, runs_of}
 use Rattle.wcps_mean.specs.declared.cell.Outcome.TheVariants.{Value}
 use Rattle.tile_kernel.proofs.Places.{written_back}
 use Rattle.tile_kernel.proofs.Repeats.{runs_exchanged, runs_covered, runs_written, sum_front}
-use Rattle.tile_kernel.proofs.column.Column.exchange_runs.Goals as goal
+use Rattle.tile_kernel.proofs.column.Column.exchange_wide.Goals as goal
 
 pub returns-then-runs-eq0-clause-value : goal.returns-then-runs-eq0-clause-value
 returns-then-runs-eq0-clause-value c =
@@ -26,7 +26,7 @@ invariant_of-self-then-copy_counts c =
     let kept : c.copy_counts.new.all.items ≡ take r counts = c.if-copy_counts.ensures refl ∙ ap (take r) c.deref.ensures.value in
     let long : length c.swap-then-copy_counts.new.x.items ≡ 4096 = ap (λ (v : Vec ℤ Global). length v.items) c.swap-then-copy_counts.ensures.x_after ∙ c.requires.room in
     record {
-      roomy = record { few = omega arith; values = omega (arith, long); faults = omega (arith, c.grow-2.ensures.long) };
+      roomy = record { few = omega arith; values = omega (arith, long); faults = omega (arith, c.grow-2.ensures.long); narrow = tt };
       covered = runs_covered r zs counts c.copy_counts.new.all.items c.requires.room c.requires.places few c.if-runs-eq0.false kept;
       whole = (long, omega (arith, c.grow-2.ensures.long));
       few_values = omega (arith, long);
@@ -42,7 +42,7 @@ returns-then-copy_counts-clause-value c =
     let few : r ≡ min (length counts) 4096 = omega (arith, c.len.ensures, c.min-runs.ensures, c.args.cells.now.counts.ok.0) in
     let kept : c.copy_counts.new.all.items ≡ take r counts = c.if-copy_counts.ensures refl ∙ ap (take r) c.deref.ensures.value in
     let same : c.swap-then-copy_counts.new.x.items ≡ zs = ap (λ (v : Vec ℤ Global). v.items) c.swap-then-copy_counts.ensures.x_after in
-    runs_exchanged r c.swap-then-copy_counts.new.x.items c.self.inside.faults.items counts c.copy_counts.new.all.items (ap length same ∙ c.requires.room) few c.if-runs-eq0.false kept
+    runs_exchanged r c.swap-then-copy_counts.new.x.items c.self.inside.faults.items c.self.inside.narrow.items counts c.copy_counts.new.all.items (ap length same ∙ c.requires.room) few c.if-runs-eq0.false kept
     ∙ ap (λ (l : List ℤ). map Value (runs_of l counts)) same
 
 pub spread_over-requires-clause-room : goal.spread_over-requires-clause-room

@@ -1,0 +1,103 @@
+-- Values that fit 32 bits.
+use Rattle.std.proofs.Common.{◌≡◌, ℕ, zero, suc, ◌+◌, ◌*◌, ◌<◌, ◌≤◌, ◌^◌, unsigned_abs, arith, ℤ, pos, negsuc, ◌+ℤ◌, ◌-ℤ◌, ◌*ℤ◌, ◌≤ℤ◌, List, ap, sym, refl, ◌∙◌, subst, w64, to_z, of_z, FitsSigned, SFits, Bool, true, false}
+use Rattle.std.specs.Prelude.{neg_ℤ, nat_abs, int_div}
+use Rattle.std.specs.Int.{w32}
+use Rattle.std.proofs.Math.Nat.{mul-le-mul}
+use Rattle.std.proofs.lemmas.Int.{ints, fits_signed_from_abs, unsigned_abs-mul, to_z-of_z, quot_fits}
+use Rattle.wcps_mean.specs.declared.cell.Outcome.{Outcome}
+use Rattle.wcps_mean.specs.declared.cell.Outcome.TheVariants.{Value}
+use Rattle.wcps_mean.specs.Cells.{ranged, quotient, number, truth}
+use Rattle.tile_kernel.specs.Narrow.{IsWritten}
+use Rattle.tile_kernel.proofs.Results.{ranged_fits, fits_wide}
+
+abs_nat : (x : ℤ) → nat_abs x ≡ unsigned_abs x
+abs_nat x = omega (arith, ints)
+
+-- ---- results that fit
+
+number_fits : (b : Bool) → FitsSigned w32 (number b)
+number_fits true = fits_signed_from_abs w32 (pos 1) (omega arith)
+number_fits false = fits_signed_from_abs w32 (pos 0) (omega arith)
+
+pub truth_fits : (b : Bool) → (v : ℤ) × FitsSigned w32 v × (truth b ≡ Value v)
+truth_fits b = (number b, number_fits b, refl)
+
+pub quotient_fits : (x d : ℤ) → FitsSigned w32 x → pos 1 ≤ℤ d → (v : ℤ) × FitsSigned w32 v × (quotient x d ≡ Value v)
+quotient_fits x (pos zero) f h = absurd (omega (arith, ints, h))
+quotient_fits x (pos (suc n)) f h =
+    let g = quot_fits w32 x (pos (suc n)) f (omega (arith, ints)) in
+    (int_div x (pos (suc n)), g, ranged_fits (int_div x (pos (suc n))) (fits_wide (int_div x (pos (suc n))) g))
+quotient_fits x (negsuc n) f h = absurd (omega (arith, ints, h))
+
+-- ---- bounds of results
+
+wide : (z : ℤ) → unsigned_abs z ≤ 2 ^ 62 → SFits w64 z
+wide z h = fits_signed_from_abs w64 z (omega (arith, h))
+
+pub sum_within : (x y : ℤ) (a b : ℕ) → unsigned_abs x ≤ a → unsigned_abs y ≤ b → a ≤ 2 ^ 31 → b ≤ 2 ^ 31 → (v : ℤ) × (unsigned_abs v ≤ a + b) × (ranged (x +ℤ y) ≡ Value v)
+sum_within x y a b p q c d =
+    let m : unsigned_abs (x +ℤ y) ≤ unsigned_abs x + unsigned_abs y = omega (arith, ints) in
+    (x +ℤ y, omega (arith, m, p, q), ranged_fits (x +ℤ y) (wide (x +ℤ y) (omega (arith, m, p, q, c, d))))
+
+pub difference_within : (x y : ℤ) (a b : ℕ) → unsigned_abs x ≤ a → unsigned_abs y ≤ b → a ≤ 2 ^ 31 → b ≤ 2 ^ 31 → (v : ℤ) × (unsigned_abs v ≤ a + b) × (ranged (x -ℤ y) ≡ Value v)
+difference_within x y a b p q c d =
+    let m : unsigned_abs (x -ℤ y) ≤ unsigned_abs x + unsigned_abs y = omega (arith, ints) in
+    (x -ℤ y, omega (arith, m, p, q), ranged_fits (x -ℤ y) (wide (x -ℤ y) (omega (arith, m, p, q, c, d))))
+
+pub product_within : (x y : ℤ) (a b : ℕ) → unsigned_abs x ≤ a → unsigned_abs y ≤ b → a ≤ 2 ^ 31 → b ≤ 2 ^ 31 → (v : ℤ) × (unsigned_abs v ≤ a * b) × (ranged (x *ℤ y) ≡ Value v)
+product_within x y a b p q c d =
+    let m : unsigned_abs (x *ℤ y) ≡ unsigned_abs x * unsigned_abs y = unsigned_abs-mul x y in
+    let n = mul-le-mul p q in
+    let far = mul-le-mul c d in
+    (x *ℤ y, omega (arith, m, n), ranged_fits (x *ℤ y) (wide (x *ℤ y) (omega (arith, m, n, far))))
+
+pub negative_within : (x : ℤ) (a : ℕ) → unsigned_abs x ≤ a → a ≤ 2 ^ 31 → (v : ℤ) × (unsigned_abs v ≤ a) × (ranged (neg_ℤ x) ≡ Value v)
+negative_within x a p c =
+    let m : unsigned_abs (neg_ℤ x) ≡ unsigned_abs x = omega (arith, ints) in
+    (neg_ℤ x, omega (arith, m, p), ranged_fits (neg_ℤ x) (wide (neg_ℤ x) (omega (arith, m, p, c))))
+
+pub magnitude_within : (x : ℤ) (a : ℕ) → unsigned_abs x ≤ a → a ≤ 2 ^ 31 → (v : ℤ) × (unsigned_abs v ≤ a) × (ranged (pos (nat_abs x)) ≡ Value v)
+magnitude_within x a p c =
+    let m = abs_nat x in
+    (pos (nat_abs x), omega (arith, m, p), ranged_fits (pos (nat_abs x)) (wide (pos (nat_abs x)) (omega (arith, m, p, c))))
+
+-- a value within 31 bits fits 32
+pub within_fits : (v : ℤ) (bound : ℕ) → unsigned_abs v ≤ bound → bound ≤ 2147483647 → FitsSigned w32 v
+within_fits v bound h l = fits_signed_from_abs w32 v (omega (arith, h, l))
+
+-- a result at operands that were read
+pub narrow_result : (exact : ℤ → ℤ → Outcome) (a b x y r : ℤ) → SFits w32 a → SFits w32 b → SFits w32 r → a ≡ x → b ≡ y
+    → ((v : ℤ) → FitsSigned w32 v → exact (to_z w32 (of_z w32 a)) (to_z w32 (of_z w32 b)) ≡ Value v → r ≡ v)
+    → (FitsSigned w32 x → FitsSigned w32 y → (v : ℤ) × FitsSigned w32 v × (exact x y ≡ Value v))
+    → exact x y ≡ Value (to_z w32 (of_z w32 r))
+narrow_result exact a b x y r f g h p q is there =
+    let t = there (subst (SFits w32) p f) (subst (SFits w32) q g) in
+    let same : exact (to_z w32 (of_z w32 a)) (to_z w32 (of_z w32 b)) ≡ exact x y =
+    ap (λ z. exact z (to_z w32 (of_z w32 b))) (to_z-of_z w32 a f ∙ p) ∙ ap (exact x) (to_z-of_z w32 b g ∙ q) in
+    t.2 ∙ ap Value (sym (is t.0 t.1 (same ∙ t.2)) ∙ sym (to_z-of_z w32 r h))
+
+-- the same values of outcomes that are told in another way
+pub written_as : (told : Bool) (m n : ℕ) (e f : ℕ → Outcome) (before after : List ℤ) → n ≡ m → ((k : ℕ) → k < n → f k ≡ e k) → IsWritten told m e before after → IsWritten told n f before after
+written_as told m n e f before after s h w = record { kept = w.kept; room = λ t. omega (arith, s, w.room t); values = λ t k lt. h k lt ∙ w.values t k (omega (arith, s, lt)) }
+
+-- ---- a sum with one more value of 32 bits
+
+least_narrow : (x : ℤ) → SFits w32 x → neg_ℤ (pos (2 ^ 31)) ≤ℤ x
+least_narrow (pos n) f = omega (arith, ints)
+least_narrow (negsuc n) f = omega (arith, ints, f.sfits)
+
+greatest_narrow : (x : ℤ) → SFits w32 x → (x +ℤ pos 1) ≤ℤ pos (2 ^ 31)
+greatest_narrow (pos n) f = omega (arith, ints, f.sfits)
+greatest_narrow (negsuc n) f = omega (arith, ints)
+
+pub sum_below : (t x : ℤ) (k : ℕ) → SFits w32 x → neg_ℤ (pos (k * 2 ^ 31)) ≤ℤ t → neg_ℤ (pos ((k + 1) * 2 ^ 31)) ≤ℤ (t +ℤ x)
+sum_below t x k f b = let l = least_narrow x f in omega (arith, ints, l, b)
+
+pub sum_above : (t x : ℤ) (k : ℕ) → SFits w32 x → (t +ℤ pos k) ≤ℤ pos (k * 2 ^ 31) → ((t +ℤ x) +ℤ pos (k + 1)) ≤ℤ pos ((k + 1) * 2 ^ 31)
+sum_above t x k f a = let g = greatest_narrow x f in omega (arith, ints, g, a)
+
+pub sum_fits : (t x : ℤ) (k : ℕ) → k < 4096 → SFits w32 x → neg_ℤ (pos (k * 2 ^ 31)) ≤ℤ t → (t +ℤ pos k) ≤ℤ pos (k * 2 ^ 31) → SFits w64 (t +ℤ x)
+sum_fits t x k few f b a =
+    let l = sum_below t x k f b in
+    let g = sum_above t x k f a in
+    fits_signed_from_abs w64 (t +ℤ x) (omega (arith, ints, l, g, few))

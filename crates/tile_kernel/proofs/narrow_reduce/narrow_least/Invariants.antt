@@ -1,0 +1,6 @@
+use Rattle.std.proofs.Common.{◌≡◌, Some, take}
+use Rattle.wcps_mean.specs.Best.{least_of}
+use Rattle.tile_kernel.proofs.narrow_reduce.narrow_least.Given as goal
+
+abbrev pub invariant-loop-place : goal.invariant-loop-place
+invariant-loop-place l = least_of (take l.place l.values) ≡ Some l.best
