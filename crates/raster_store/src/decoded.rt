@@ -18,6 +18,9 @@ const TILES: usize = 64;
 /// How many keys are noted of tiles that were read.
 const NOTED: usize = 256;
 
+/// How many tiles are kept from their first read on after one was read again.
+const EXPECTED: u32 = 8;
+
 /// How many places there are for marks of tiles that were tested. Each has one place, where a later tile takes it.
 const MARKS: usize = 65536;
 
@@ -27,13 +30,13 @@ const STRIDE: u64 = 4099;
 /// The cells of tiles by the versions of their coverages, as they were read, in the order of their last use, and
 /// marks of tiles that were tested, which is to say read whole without a refusal. What finds no memory is left out: a
 /// tile, the marks, or the whole. A tile is kept where it was read lately, so that one pass over many tiles drives out
-/// none; and since a pass may read each tile twice in a row, of two such reads the second one does not count. Tiles of
-/// versions that no coverage has any more go as the least lately used.
+/// none. Where tiles are being read again, as by a query that names a layer twice, the next few are kept from their first
+/// read on. Tiles of versions that no coverage has any more go as the least lately used.
 #[derive(Drop)]
 pub(crate) struct DecodedTiles {
     kept: Option<LruCache<TileKey, RunList>>,
     read: Vec<TileKey>,
-    last: Option<TileKey>,
+    expected: u32,
     tested: Vec<Option<TileKey>>,
 }
 
@@ -75,7 +78,7 @@ fn empty(alloc: Global, count: NonZeroUsize) -> Result<DecodedTiles, AllocError>
     Ok(DecodedTiles {
         kept: Some(kept),
         read,
-        last: None,
+        expected: 0,
         tested: Vec::new(alloc),
     })
 }
@@ -93,7 +96,7 @@ impl DecodedTiles {
         DecodedTiles {
             kept: None,
             read: Vec::new(alloc),
-            last: None,
+            expected: 0,
             tested: Vec::new(alloc),
         }
     }
@@ -104,7 +107,7 @@ impl DecodedTiles {
     {
         self.kept = None;
         self.read = Vec::new(alloc);
-        self.last = None;
+        self.expected = 0;
         self.tested = Vec::new(alloc);
     }
 
@@ -119,6 +122,7 @@ impl DecodedTiles {
         let Some(tile) = kept.get(&at) else {
             return Ok(false);
         };
+        self.expected = EXPECTED;
         cells.clear();
         append_cells(tile, cells)?;
         Ok(true)
@@ -137,28 +141,29 @@ impl DecodedTiles {
         let Some(tile) = kept.get(&at) else {
             return Ok(false);
         };
+        self.expected = EXPECTED;
         write_list(runs, tile)
     }
 
-    /// Notes the key of a tile that was read, and tells whether it was noted already. Of two reads in a row the second
-    /// one does not count.
+    /// Notes the key of a tile that was read, and tells whether it is to be kept: where it was noted already, or another
+    /// read of it is expected.
     fn note(&mut self, at: TileKey) -> bool
         ensures { self.new ≡ self.old }
     {
-        if self.last == Some(at) {
-            self.last = None;
-            return false;
-        }
-        self.last = Some(at);
         let place = at.tile.wrapping_add((at.field as u64).wrapping_mul(101)) % NOTED as u64;
         let Some(noted) = self.read.get_mut(place as usize) else {
             return false;
         };
         if *noted == at {
+            self.expected = EXPECTED;
             return true;
         }
         *noted = at;
-        false
+        if self.expected == 0 {
+            return false;
+        }
+        self.expected -= 1;
+        true
     }
 
     /// Keeps a tile, where there is memory for it.
@@ -181,7 +186,7 @@ impl DecodedTiles {
         self.put(at, tile);
     }
 
-    /// Keeps the cells of a tile that was read, where it was read lately before and there is memory for them.
+    /// Keeps the cells of a tile that was read, where another read of it is expected and there is memory for them.
     pub(crate) fn keep(&mut self, alloc: Global, at: TileKey, cells: &[i64])
         ensures { Adds at (Some cells.now) self.old self.new }
     {
@@ -200,7 +205,7 @@ impl DecodedTiles {
         self.put(at, tile);
     }
 
-    /// Keeps the cells of a tile that was read as runs, where it was read lately before and there is memory for them.
+    /// Keeps the cells of a tile that was read as runs, where another read of it is expected and there is memory for them.
     pub(crate) fn keep_runs(&mut self, alloc: Global, at: TileKey, runs: &RunList)
         ensures { Adds at (Some (cells_of runs.now)) self.old self.new }
     {
