@@ -1,5 +1,5 @@
 -- Values that fit 32 bits.
-use Rattle.std.proofs.Common.{◌≡◌, ℕ, zero, suc, ◌+◌, ◌*◌, ◌<◌, ◌≤◌, ◌^◌, unsigned_abs, arith, ℤ, pos, negsuc, ◌+ℤ◌, ◌-ℤ◌, ◌*ℤ◌, ◌≤ℤ◌, List, ap, sym, refl, ◌∙◌, subst, w64, to_z, of_z, FitsSigned, SFits, Bool, true, false}
+use Rattle.std.proofs.Common.{◌≡◌, ℕ, zero, suc, ◌+◌, ◌*◌, ◌<◌, ◌≤◌, ◌^◌, unsigned_abs, arith, ℤ, pos, negsuc, ◌+ℤ◌, ◌-ℤ◌, ◌*ℤ◌, ◌≤ℤ◌, ◌≢◌, List, length, get_or, set, max, below_more, get_or-set_other, get_or-set_same, ap, sym, refl, ◌∙◌, subst, w64, to_z, of_z, FitsSigned, SFits, Bool, true, false}
 use Rattle.std.specs.Prelude.{neg_ℤ, nat_abs, int_div}
 use Rattle.std.specs.Int.{w32}
 use Rattle.std.proofs.Math.Nat.{mul-le-mul}
@@ -7,7 +7,10 @@ use Rattle.std.proofs.lemmas.Int.{ints, fits_signed_from_abs, unsigned_abs-mul, 
 use Rattle.wcps_mean.specs.declared.cell.Outcome.{Outcome}
 use Rattle.wcps_mean.specs.declared.cell.Outcome.TheVariants.{Value}
 use Rattle.wcps_mean.specs.Cells.{ranged, quotient, number, truth}
-use Rattle.tile_kernel.specs.Narrow.{IsWritten}
+use Rattle.tile_kernel.specs.Columns.{exact_at, AreValues}
+use Rattle.tile_kernel.specs.Narrow.{IsNarrowOf, AreNarrowOf, AreWithin, IsBound, IsWritten}
+use Rattle.tile_kernel.specs.Tried.{IsTried}
+use Rattle.tile_kernel.specs.declared.narrow_loops.Bounds.{Bounds}
 use Rattle.tile_kernel.proofs.Results.{ranged_fits, fits_wide}
 
 abs_nat : (x : ℤ) → nat_abs x ≡ unsigned_abs x
@@ -75,6 +78,39 @@ narrow_result exact a b x y r f g h p q is there =
     let same : exact (to_z w32 (of_z w32 a)) (to_z w32 (of_z w32 b)) ≡ exact x y =
     ap (λ z. exact z (to_z w32 (of_z w32 b))) (to_z-of_z w32 a f ∙ p) ∙ ap (exact x) (to_z-of_z w32 b g ∙ q) in
     t.2 ∙ ap Value (sym (is t.0 t.1 (same ∙ t.2)) ∙ sym (to_z-of_z w32 r h))
+
+-- ---- results that were tried
+
+-- a bound of one magnitude more
+pub bound_more : (n : ℕ) (value : ℕ → ℤ) (b m : ℕ) (x : ℤ) → IsBound n value b → SFits w32 x → x ≡ value n → m ≡ unsigned_abs (to_z w32 (of_z w32 x)) → IsBound (n + 1) value (max b m)
+bound_more n value b m x before f is e k l =
+    let here : unsigned_abs (value n) ≡ m = ap unsigned_abs (sym is ∙ sym (to_z-of_z w32 x f)) ∙ sym e in
+    below_more (λ k. unsigned_abs (value k) ≤ max b m) n (λ k l. let h = before k l in omega (arith, h)) (omega (arith, here)) k l
+
+-- a result at operands that were read, if it fits
+pub narrow_read : (exact : ℤ → ℤ → Outcome) (a b x y r : ℤ) → SFits w32 a → SFits w32 b → SFits w32 r → a ≡ x → b ≡ y
+    → IsNarrowOf (exact (to_z w32 (of_z w32 a)) (to_z w32 (of_z w32 b))) r → IsNarrowOf (exact x y) (to_z w32 (of_z w32 r))
+narrow_read exact a b x y r f g h p q is v fits e =
+    let same : exact (to_z w32 (of_z w32 a)) (to_z w32 (of_z w32 b)) ≡ exact x y =
+    ap (λ z. exact z (to_z w32 (of_z w32 b))) (to_z-of_z w32 a f ∙ p) ∙ ap (exact x) (to_z-of_z w32 b g ∙ q) in
+    to_z-of_z w32 r h ∙ is v fits (same ∙ e)
+
+-- one more result
+pub tried_more : (e : ℕ → Outcome) (out : List ℤ) (place : ℕ) (v : ℤ) → place < length out → AreNarrowOf place e out → IsNarrowOf (e place) v → AreNarrowOf (place + 1) e (set out place v)
+tried_more e out place v lt before here k l =
+    below_more (λ k. IsNarrowOf (e k) (get_or (set out place v) k (pos 0))) place
+    (λ k l. let ne : k ≢ place = omega arith in λ w f h. get_or-set_other out place k v (pos 0) ne ∙ before k l w f h)
+    (λ w f h. get_or-set_same out place v (pos 0) lt ∙ here w f h)
+    k l
+
+-- results within a bound, where that fits
+pub tried_written : (told : Bool) (n : ℕ) (exact : ℤ → ℤ → Outcome) (left right : ℕ → ℤ) (bounds : Bounds) (bound : ℕ) (before after : List ℤ) → length before ≤ length after → IsTried n exact left right after bounds → (told ≡ true → bound ≤ 2147483647)
+    → AreWithin bound n (exact_at exact left right) → IsWritten told n (exact_at exact left right) before after
+tried_written told n exact left right bounds bound before after kept tried small within = record {
+  kept = kept;
+  room = λ t. tried.room;
+  values = λ t k lt. let v = within k lt in v.2 ∙ ap Value (sym (tried.values k lt v.0 (within_fits v.0 bound v.1 (small t)) v.2));
+}
 
 -- the same values of outcomes that are told in another way
 pub written_as : (told : Bool) (m n : ℕ) (e f : ℕ → Outcome) (before after : List ℤ) → n ≡ m → ((k : ℕ) → k < n → f k ≡ e k) → IsWritten told m e before after → IsWritten told n f before after

@@ -9,3 +9,4 @@ pub mod Windows
 pub mod Lanes
 pub mod Condensing
 pub mod Narrow
+pub mod Tried

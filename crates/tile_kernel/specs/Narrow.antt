@@ -1,5 +1,5 @@
 -- Values that fit 32 bits.
-use Rattle.std.specs.Prelude.{◌≡◌, ℕ, ◌<◌, ◌≤◌, ℤ, List, length, Bool, true, unsigned_abs, FitsSigned}
+use Rattle.std.specs.Prelude.{◌≡◌, ℕ, ◌<◌, ◌≤◌, ℤ, pos, List, length, slice_index_or, Bool, true, unsigned_abs, FitsSigned}
 use Rattle.std.specs.Int.{w32}
 use Rattle.wcps_mean.specs.declared.cell.Outcome.{Outcome}
 use Rattle.wcps_mean.specs.declared.cell.Outcome.TheVariants.{Value}
@@ -14,6 +14,10 @@ abbrev pub AreNarrow : ℕ → (ℤ → ℤ → Outcome) → (ℕ → ℤ) → (
 AreNarrow n exact left right =
     (k : ℕ) → k < n → FitsSigned w32 (left k) → FitsSigned w32 (right k)
     → (v : ℤ) × FitsSigned w32 v × (exact (left k) (right k) ≡ Value v)
+
+-- wherever one of the first n outcomes is a value that fits 32 bits, it stands there
+abbrev pub AreNarrowOf : ℕ → (ℕ → Outcome) → List ℤ → Type 0
+AreNarrowOf n outcomes zs = (k : ℕ) → k < n → IsNarrowOf (outcomes k) (slice_index_or zs k (pos 0))
 
 -- each of the first n outcomes is a value whose magnitude is at most this
 abbrev pub AreWithin : ℕ → ℕ → (ℕ → Outcome) → Type 0

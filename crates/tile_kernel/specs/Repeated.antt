@@ -1,6 +1,7 @@
 -- Outcomes that stand for runs.
 use Rattle.std.specs.Prelude.{◌≡◌, ℕ, ◌+◌, ◌<◌, ◌≤◌, ℤ, List, [], ◌∷◌, ◌++◌, map, length, take, replicate, sum, slice_index, Vec, vec_capacity, Bool, true, false, Option, Some, None}
 use Rattle.std.specs.declared.alloc.Global.{Global}
+use Rattle.arr_core.specs.Runs.{spread}
 use Rattle.wcps_mean.specs.declared.cell.PointFault.{PointFault}
 use Rattle.wcps_mean.specs.declared.cell.Outcome.{Outcome}
 use Rattle.wcps_mean.specs.declared.cell.Outcome.TheVariants.{Value}
@@ -47,6 +48,10 @@ runs_shown r = repeated (map Value (take (length r.counts.now) r.values.now)) r.
 abbrev pub shown : Seen → List Outcome
 shown (kept.Each view) = view
 shown (kept.Runs runs) = runs_shown runs
+
+-- a list begins with each value as often as its count says
+abbrev pub IsSpread : List ℤ → List ℕ → List ℤ → Type 0
+IsSpread values counts out = take (sum counts) out ≡ spread (take (length counts) values) counts
 
 -- a place lies in this run
 pub record StandsIn (counts : List ℕ) (place run : ℕ) : Type 0 where

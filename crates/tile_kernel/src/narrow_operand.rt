@@ -1,7 +1,6 @@
 //! Operands of a kernel in 32 bits.
 
-ghost use Rattle.std.specs.Prelude.{◌≡◌, ℕ, ℤ, pos, ◌<◌, ◌≤◌, ◌^◌, length, slice_index_or};
-ghost use Rattle.tile_kernel.specs.Narrow.{IsBound};
+ghost use Rattle.std.specs.Prelude.{◌≡◌, ℕ, ℤ, pos, ◌<◌, length, slice_index_or};
 
 use crate::operand::{EachNarrow, Literal};
 
@@ -15,12 +14,6 @@ pub(crate) trait NarrowOperand {
     fn value(&self, place: usize) -> i32
         requires { place < places self.now }
         ensures { result ≡ value self.now place };
-
-    /// A number that no magnitude of the values at the first `len` places is above.
-    fn bound(&self, len: usize) -> u64
-        requires { len ≤ places self.now }
-        ensures value { IsBound len (value self.now) result }
-        ensures small { result ≤ 2 ^ 31 };
 }
 
 impl NarrowOperand for EachNarrow<'_> {
@@ -30,14 +23,6 @@ impl NarrowOperand for EachNarrow<'_> {
 
     fn value(&self, place: usize) -> i32 {
         self.values[place]
-    }
-
-    fn bound(&self, len: usize) -> u64 {
-        let mut greatest: u32 = 0;
-        for place in 0..len {
-            greatest = greatest.max(self.values[place].unsigned_abs());
-        }
-        greatest as u64
     }
 }
 
@@ -55,10 +40,6 @@ impl NarrowOperand for SameNarrow {
     fn value(&self, _: usize) -> i32 {
         self.value
     }
-
-    fn bound(&self, _: usize) -> u64 {
-        self.value.unsigned_abs() as u64
-    }
 }
 
 impl<const VALUE: u16> NarrowOperand for Literal<VALUE> {
@@ -68,9 +49,5 @@ impl<const VALUE: u16> NarrowOperand for Literal<VALUE> {
 
     fn value(&self, _: usize) -> i32 {
         VALUE as i32
-    }
-
-    fn bound(&self, _: usize) -> u64 {
-        VALUE as u64
     }
 }

@@ -17,6 +17,7 @@ use crate::operations::{
     NarrowProduct, OneOnly, Product, Quotient, Sum,
 };
 use crate::paired::paired;
+use crate::runs::NARROW_ROOM;
 use crate::seen::Seen;
 use crate::view::{View, parts};
 use wcps_mean::{Outcome, PointFault, operate_both};
@@ -69,8 +70,68 @@ fn operate_runs(op: BinaryOperator, left: &Seen<'_>, right: &Seen<'_>, out: &mut
 }
 
 /// The operation place by place, where an operand is kept as runs.
-#[inline(never)]
 fn operate_spread(op: BinaryOperator, left: &Seen<'_>, right: &Seen<'_>, out: &mut Column)
+    requires { length (shown left.now) ≡ length (shown right.now) }
+    ensures { out.new ≡ operate_all op (shown left.now) (shown right.now) }
+{
+    if left.may_be_narrow()
+        && right.may_be_narrow()
+        && operate_spread_narrow(op, left, right, out)
+    {
+        return;
+    }
+    operate_spread_wide(op, left, right, out);
+}
+
+/// Tries the operation place by place in values of 32 bits; tells whether it did.
+#[inline(never)]
+fn operate_spread_narrow(
+    op: BinaryOperator,
+    left: &Seen<'_>,
+    right: &Seen<'_>,
+    out: &mut Column,
+) -> bool
+    requires { length (shown left.now) ≡ length (shown right.now) }
+    ensures { IsTrue result → out.new ≡ operate_all op (shown left.now) (shown right.now) }
+{
+    match left {
+        Seen::Each(view) => operate_spread_right(op, view, right, out),
+        Seen::Runs(runs) => {
+            let mut room = [0i32; NARROW_ROOM];
+            match runs.spread_narrow(&mut room) {
+                Some(view) => operate_spread_right(op, &view, right, out),
+                None => false,
+            }
+        }
+    }
+}
+
+/// Tries the operation place by place in values of 32 bits, where the left operand is kept place by place; tells whether
+/// it did.
+fn operate_spread_right(
+    op: BinaryOperator,
+    left: &View<'_>,
+    right: &Seen<'_>,
+    out: &mut Column,
+) -> bool
+    requires { length left.now ≡ length (shown right.now) }
+    ensures { IsTrue result → out.new ≡ operate_all op left.now (shown right.now) }
+{
+    match right {
+        Seen::Each(view) => operate_narrow(op, left, view, out),
+        Seen::Runs(runs) => {
+            let mut room = [0i32; NARROW_ROOM];
+            match runs.spread_narrow(&mut room) {
+                Some(view) => operate_narrow(op, left, &view, out),
+                None => false,
+            }
+        }
+    }
+}
+
+/// The operation place by place in values of 64 bits.
+#[inline(never)]
+fn operate_spread_wide(op: BinaryOperator, left: &Seen<'_>, right: &Seen<'_>, out: &mut Column)
     requires { length (shown left.now) ≡ length (shown right.now) }
     ensures { out.new ≡ operate_all op (shown left.now) (shown right.now) }
 {

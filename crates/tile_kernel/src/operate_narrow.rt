@@ -9,7 +9,7 @@ ghost use Rattle.tile_kernel.specs.Narrow.{IsWritten};
 
 use crate::column::{Column, grow};
 use crate::form::Form;
-use crate::narrow_loops::{write_narrow, write_within};
+use crate::narrow_loops::{fit_within, try_bounded, write_narrow};
 use crate::narrow_operand::{NarrowOperand, SameNarrow};
 use crate::operand::{EachNarrow, Literal};
 use crate::operations::{
@@ -161,18 +161,18 @@ fn try_narrow_operation<L: NarrowOperand, R: NarrowOperand>(
     ensures { IsWritten result len (λ k. exact2 op (L.value left.now k) (R.value right.now k)) out.old.items out.new.items }
 {
     match op {
-        BinaryOperator::Add => {
-            let bound = left.bound(len) + right.bound(len);
-            return write_within::<Sum, L, R>(bound, len, left, right, out);
-        }
-        BinaryOperator::Subtract => {
-            let bound = left.bound(len) + right.bound(len);
-            return write_within::<Difference, L, R>(bound, len, left, right, out);
-        }
-        BinaryOperator::Multiply => {
-            let bound = left.bound(len) * right.bound(len);
-            return write_within::<Product, L, R>(bound, len, left, right, out);
-        }
+        BinaryOperator::Add => match try_bounded::<Sum, L, R>(len, left, right, out) {
+            Some(bounds) => return fit_within(bounds.left + bounds.right),
+            None => return false,
+        },
+        BinaryOperator::Subtract => match try_bounded::<Difference, L, R>(len, left, right, out) {
+            Some(bounds) => return fit_within(bounds.left + bounds.right),
+            None => return false,
+        },
+        BinaryOperator::Multiply => match try_bounded::<Product, L, R>(len, left, right, out) {
+            Some(bounds) => return fit_within(bounds.left * bounds.right),
+            None => return false,
+        },
         _ => return try_narrow_truths(op, len, left, right, out),
     }
 }

@@ -7,7 +7,7 @@ ghost use Rattle.tile_kernel.specs.Narrow.{IsWritten};
 
 use crate::column::{Column, grow};
 use crate::form::Form;
-use crate::narrow_loops::{write_narrow, write_within};
+use crate::narrow_loops::{fit_within, try_bounded, write_narrow};
 use crate::narrow_operand::{NarrowOperand, SameNarrow};
 use crate::operand::EachNarrow;
 use crate::operations::{Itself, Magnitude, Negative, Opposite};
@@ -57,17 +57,23 @@ fn try_narrow_one<V: NarrowOperand>(
     let none = SameNarrow { value: 0 };
     match op {
         UnaryOperator::Not => write_narrow::<Opposite, V, SameNarrow>(len, operand, &none, out),
-        UnaryOperator::Negate => {
-            let bound = operand.bound(len);
-            write_within::<Negative, V, SameNarrow>(bound, len, operand, &none, out)
-        }
-        UnaryOperator::Plus => {
-            let bound = operand.bound(len);
-            write_within::<Itself, V, SameNarrow>(bound, len, operand, &none, out)
-        }
-        UnaryOperator::Absolute => {
-            let bound = operand.bound(len);
-            write_within::<Magnitude, V, SameNarrow>(bound, len, operand, &none, out)
-        }
+        UnaryOperator::Negate => match try_bounded::<Negative, V, SameNarrow>(
+            len, operand, &none, out,
+        ) {
+            Some(bounds) => fit_within(bounds.left),
+            None => false,
+        },
+        UnaryOperator::Plus => match try_bounded::<Itself, V, SameNarrow>(
+            len, operand, &none, out,
+        ) {
+            Some(bounds) => fit_within(bounds.left),
+            None => false,
+        },
+        UnaryOperator::Absolute => match try_bounded::<Magnitude, V, SameNarrow>(
+            len, operand, &none, out,
+        ) {
+            Some(bounds) => fit_within(bounds.left),
+            None => false,
+        },
     }
 }

@@ -1,11 +1,11 @@
 //! Values that stand for runs.
 
-ghost use Rattle.std.specs.Prelude.{◌≡◌, ◌+◌, ◌<◌, ◌≤◌, ◌++◌, length, replicate, slice_get, sum, take, map, Some};
-ghost use Rattle.arr_core.specs.Runs.{spread};
+ghost use Rattle.std.specs.Prelude.{◌≡◌, ◌+◌, ◌<◌, ◌≤◌, ◌++◌, length, replicate, slice_get, sum, take, map, Some, IfSome, IsTrue};
 ghost use Rattle.wcps_mean.specs.declared.cell.Outcome.TheVariants.{Value};
-ghost use Rattle.tile_kernel.specs.Repeated.{shown, runs_shown, StandsIn};
+ghost use Rattle.tile_kernel.specs.Repeated.{shown, runs_shown, IsSpread, StandsIn};
 
 use crate::form::Form;
+use crate::operations::is_narrow;
 use crate::seen::{Runs, Seen};
 use crate::view::View;
 use arr_core::write_run;
@@ -47,6 +47,23 @@ impl<'a> Runs<'a> {
             narrow: &[],
         }
     }
+
+    /// The outcomes at all places, by their values in `room`, if each fits 32 bits.
+    pub fn spread_narrow<'b>(&'b self, room: &'b mut [i32]) -> Option<View<'b>>
+        requires { length room.old ≡ 4104 }
+        ensures { IfSome result (λ view. view ≡ runs_shown self.now) }
+    {
+        if !spread_narrow_over(self.values, self.counts, room) {
+            return None;
+        }
+        Some(View {
+            len: self.len,
+            form: Form::Narrow,
+            values: self.values,
+            faults: self.faults,
+            narrow: room,
+        })
+    }
 }
 
 impl<'a> Seen<'a> {
@@ -82,7 +99,7 @@ fn run_at(counts: &[u32], place: usize) -> usize
 pub(crate) fn spread_over(values: &[i64], counts: &[u32], out: &mut [i64])
     requires values { length counts.now ≤ length values.now }
     requires room { sum counts.now ≤ length out.old }
-    ensures front { take (sum counts.now) out.new ≡ spread (take (length counts.now) values.now) counts.now }
+    ensures front { IsSpread values.now counts.now out.new }
     ensures length { length out.new ≡ length out.old }
 {
     let mut place = 0;
@@ -91,4 +108,46 @@ pub(crate) fn spread_over(values: &[i64], counts: &[u32], out: &mut [i64])
         write_run(out, place, count, values[run]);
         place += count;
     }
+}
+
+/// How many cells of a run are written together.
+const BLOCK: usize = 8;
+
+/// As many cells as a column has places at most, and a block behind them.
+pub(crate) const NARROW_ROOM: usize = 4104;
+
+/// Writes a value to so many cells from a place on, in blocks, without a branch for each cell: what stood behind them may be
+/// lost.
+#[inline(always)]
+fn write_blocks(cells: &mut [i32], from: usize, count: usize, value: i32)
+    requires { from + count + 8 ≤ length cells.old }
+    ensures front { take (from + count) cells.new ≡ take from cells.old ++ replicate count value }
+    ensures length { length cells.new ≡ length cells.old }
+{
+    let end = from + count;
+    let mut at = from;
+    while at < end {
+        cells[at..at + BLOCK].fill(value);
+        at += BLOCK;
+    }
+}
+
+/// Writes each value as often as its count says, one after the other, if each fits 32 bits; tells whether it did.
+fn spread_narrow_over(values: &[i64], counts: &[u32], out: &mut [i32]) -> bool
+    requires values { length counts.now ≤ length values.now }
+    requires room { sum counts.now + 8 ≤ length out.old }
+    ensures front { IsTrue result → IsSpread values.now counts.now out.new }
+    ensures length { length out.new ≡ length out.old }
+{
+    let mut from = 0;
+    for run in 0..counts.len() {
+        let value = values[run];
+        if !is_narrow(value) {
+            return false;
+        }
+        let count = counts[run] as usize;
+        write_blocks(out, from, count, value as i32);
+        from += count;
+    }
+    true
 }

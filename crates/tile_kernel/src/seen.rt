@@ -2,6 +2,7 @@
 
 ghost use Rattle.std.specs.Prelude.{◌≡◌, ◌≤◌, length, sum};
 
+use crate::form::Form;
 use crate::view::View;
 use wcps_mean::PointFault;
 
@@ -26,4 +27,14 @@ pub(crate) enum Seen<'a> {
     Each(View<'a>),
     /// The places are runs of one value.
     Runs(Runs<'a>),
+}
+
+impl<'a> Seen<'a> {
+    /// Whether its values may be written in 32 bits.
+    pub fn may_be_narrow(&self) -> bool {
+        match self {
+            Seen::Each(view) => matches!(view.form, Form::Narrow | Form::Same(_)),
+            Seen::Runs(_) => true,
+        }
+    }
 }

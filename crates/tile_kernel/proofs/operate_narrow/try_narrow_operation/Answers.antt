@@ -1,15 +1,15 @@
--- A result is within the bound that is made of the operands' bounds.
-use Rattle.tile_kernel.proofs.Narrow.{sum_within, difference_within, product_within}
+-- A product is within the product of the operands' bounds.
+use Rattle.wcps_mean.specs.Cells.{exact2}
+use Rattle.wcps_text.specs.declared.operator.BinaryOperator.TheVariants.{Multiply}
+use Rattle.std.proofs.Common.{◌*◌}
+use Rattle.tile_kernel.proofs.Narrow.{tried_written, product_within}
 use Rattle.tile_kernel.proofs.operate_narrow.try_narrow_operation.Goals as goal
 
-pub write_within-requires-clause-within : goal.write_within-requires-clause-within
-write_within-requires-clause-within g c = λ k lt.
-    sum_within (g.L.NarrowOperand.value c.args.left.now k) (g.R.NarrowOperand.value c.args.right.now k) c.bound.result c.bound-in-Add.result (c.bound.ensures.value k lt) (c.bound-in-Add.ensures.value k lt) c.bound.ensures.small c.bound-in-Add.ensures.small
-
-pub write_within-requires-in-Subtract-clause-within : goal.write_within-requires-in-Subtract-clause-within
-write_within-requires-in-Subtract-clause-within g c = λ k lt.
-    difference_within (g.L.NarrowOperand.value c.args.left.now k) (g.R.NarrowOperand.value c.args.right.now k) c.bound-in-Subtract.result c.bound-in-Subtract-2.result (c.bound-in-Subtract.ensures.value k lt) (c.bound-in-Subtract-2.ensures.value k lt) c.bound-in-Subtract.ensures.small c.bound-in-Subtract-2.ensures.small
-
-pub write_within-requires-in-Multiply-clause-within : goal.write_within-requires-in-Multiply-clause-within
-write_within-requires-in-Multiply-clause-within g c = λ k lt.
-    product_within (g.L.NarrowOperand.value c.args.left.now k) (g.R.NarrowOperand.value c.args.right.now k) c.bound-in-Multiply.result c.bound-in-Multiply-2.result (c.bound-in-Multiply.ensures.value k lt) (c.bound-in-Multiply-2.ensures.value k lt) c.bound-in-Multiply.ensures.small c.bound-in-Multiply-2.ensures.small
+pub returns-in-Some-try_bounded-2 : goal.returns-in-Some-try_bounded-2
+returns-in-Some-try_bounded-2 g c =
+    let left = g.L.NarrowOperand.value c.args.left.now in
+    let right = g.R.NarrowOperand.value c.args.right.now in
+    let bounds = c.in-Some-try_bounded-2.bounds in
+    let tried = c.in-Some-try_bounded-2.ensures.tried in
+    rw c.in-Multiply.is (tried_written c.fit_within-in-Some-try_bounded-2.result c.args.len (exact2 Multiply) left right bounds (bounds.left * bounds.right) _ _ c.in-Some-try_bounded-2.ensures.kept tried c.fit_within-in-Some-try_bounded-2.ensures
+    (λ k lt. product_within (left k) (right k) bounds.left bounds.right (tried.left_bound k lt) (tried.right_bound k lt) tried.small_left tried.small_right))
