@@ -1,6 +1,7 @@
 pub mod Calls
 pub mod Ranges
 pub mod Turns
+pub mod Coverings
 pub mod Turning
 pub mod Locating
 pub mod Gathers

@@ -3,6 +3,7 @@ pub mod Sources
 pub mod Calling
 pub mod Locating
 pub mod Readings
+pub mod Covering
 pub mod Spots
 pub mod Gathering
 pub mod Stretches

@@ -5,7 +5,9 @@ ghost use Rattle.std.specs.List.{All};
 ghost use Rattle.arr_core.specs.Domains.{gap, size_of, points, count, AreOrdered};
 ghost use Rattle.plan_ir.specs.Run.{number_at, numbers_at};
 ghost use Rattle.tile_columns.specs.Frames.{turn, number_of, environment, HasPlaces, under, extended, turns, TellsAt, Adds, number_there, by_place, StayWhole};
+ghost use Rattle.tile_columns.specs.Covering.{GoesOver};
 
+use crate::covering::tile_covered;
 use crate::numbers::fill_list;
 use arr_core::{Axis, Domain, distance};
 use plan_ir::{Index, Interval};
@@ -164,8 +166,19 @@ fn constant_at(variables: &[Variable], k: usize) -> Option<i32>
     }
 }
 
+/// The bounds of a variable that turns as the coordinates of an axis, by its index.
+pub(crate) fn bounds_at(variables: &[Variable], index: Index) -> Option<Interval> {
+    match index {
+        Index::Const(_) => None,
+        Index::Var(k) => match variables.get(k) {
+            Some(Variable::Axis(lo, hi, _)) => Some(Interval { lo: *lo, hi: *hi }),
+            _ => None,
+        },
+    }
+}
+
 /// Whether an index stands for a variable that turns as the coordinates of an axis.
-fn turns_as(variables: &[Variable], index: Index, lo: i32, hi: i32, every: u64) -> bool
+pub(crate) fn turns_as(variables: &[Variable], index: Index, lo: i32, hi: i32, every: u64) -> bool
     ensures { IsTrue result → (place : ℕ) → number_at (environment variables.now place) index ≡ turn lo hi every place }
 {
     match index {
@@ -269,6 +282,22 @@ impl Frame {
         constant_at(&self.variables, k)
     }
 
+    /// The number of the tile of a domain over whose box the indexes go, point for point, if there is one.
+    pub(crate) fn tile_under(&self, indexes: &[Index], domain: &Domain) -> Option<u64>
+        ensures { IfSome result (GoesOver domain.now indexes.now self.now) }
+    {
+        let edge = domain.tile_edge();
+        match tile_covered(&self.variables, indexes, domain.axes(), edge) {
+            None => None,
+            Some(tile) => {
+                if tile.points != self.places as u64 {
+                    return None;
+                }
+                Some(tile.number)
+            }
+        }
+    }
+
     /// Whether the indexes go over the points of a box, in row-major order.
     pub(crate) fn goes_over(&self, indexes: &[Index], area: &Domain) -> bool
         ensures { IsTrue result → map (λ e. numbers_at e indexes.now) self.now ≡ points area.now }
@@ -306,9 +335,6 @@ impl Frame {
 
     /// The bounds of a variable that turns as the coordinates of an axis.
     pub(crate) fn bounds(&self, k: usize) -> Option<Interval> {
-        match self.variables.get(k) {
-            Some(Variable::Axis(lo, hi, _)) => Some(Interval { lo: *lo, hi: *hi }),
-            _ => None,
-        }
+        bounds_at(&self.variables, Index::Var(k))
     }
 }

@@ -1,7 +1,7 @@
 //! Reads at all places of a column: each tile that holds a cell of it is fetched once. Where the places read few tiles,
 //! one tile after the other is copied to all places that read it; else the places are put in the order of their tiles.
 
-ghost use Rattle.std.specs.Prelude.{◌≡◌, ◌≢◌, ◌<◌, ◌≤◌, pos, length, slice_index_or, IfSome, IfOk, OnOk};
+ghost use Rattle.std.specs.Prelude.{◌≡◌, ◌≢◌, ◌<◌, ◌≤◌, pos, length, slice_index_or, IfSome, OnOk};
 ghost use Rattle.arr_core.specs.Domains.{count};
 ghost use Rattle.tile_columns.specs.Sources.{OneMore, box_in};
 ghost use Rattle.tile_columns.specs.Calling.{Reads, FetchesOnce};
@@ -12,7 +12,6 @@ ghost use Rattle.tile_columns.specs.Gathering.{HasRanks, CopiesTile, IsLocated, 
 use crate::different::list_tiles;
 use crate::frame::Frame;
 use crate::locate::{Located, locate};
-use crate::lookup::point_at;
 use crate::numbers::fill_list;
 use crate::scratch::Scratch;
 use crate::source::Tiles;
@@ -153,24 +152,13 @@ fn gather<S: Tiles>(
 }
 
 /// The number of the tile whose box the indexes go over, point for point, if there is such a tile.
-fn whole_tile(
-    reading: &Reading<'_>,
-    frame: &Frame,
-    scratch: &mut Scratch,
-) -> Result<Option<u64>, AllocError>
-    requires { ReadsInside reading.now frame.now }
-    ensures { IfOk result (λ o. IfSome o (ReadsWhole reading.now frame.now)) }
+fn whole_tile(reading: &Reading<'_>, frame: &Frame) -> Option<u64>
+    ensures { IfSome result (ReadsWhole reading.now frame.now) }
 {
     if frame.places() == 0 {
-        return Ok(None);
+        return None;
     }
-    point_at(frame, 0, reading.indexes, &mut scratch.point)?;
-    let number = reading.domain.tile_of(&scratch.point);
-    let area = reading.domain.tile_box(scratch.alloc(), number)?;
-    if frame.goes_over(reading.indexes, &area) {
-        return Ok(Some(number));
-    }
-    Ok(None)
+    frame.tile_under(reading.indexes, reading.domain)
 }
 
 /// Gives a list of runs as many values as a column has places at most.
@@ -257,8 +245,7 @@ pub fn read<S: Tiles>(
     ensures fetched { OnOk result (FetchesOnce (tiles_of reading.now frame.now) S.Tiles source.old source.new) }
 {
     let places = frame.places();
-    let found = whole_tile(reading, frame, scratch)?;
-    match found {
+    match whole_tile(reading, frame) {
         Some(number) => return read_tile(source, reading, number, places, scratch, out),
         None => (),
     }

@@ -5,6 +5,7 @@
 mod binds;
 mod blanks;
 mod bodies;
+mod covering;
 mod different;
 mod fields;
 mod folds;

@@ -18,7 +18,7 @@ pub read_tile-requires : goal.read_tile-requires
 read_tile-requires g c =
     let s = g.S.Tiles.state c.args.source.now in
     let r = c.args.reading.now in
-    let w = rw c.in-Some.is at c.in_ok-found.ensures in
+    let w = c.in-Some.ensures in
     let here = tile_here (slice_get s.coverages r.coverage) r.field c.in-Some.number r.domain.now c.requires.there w.1 in
     let n = whole_places c.args.frame.now r.indexes.now (get_or (tile_boxes r.domain.now) c.in-Some.number []) (count (box_in s r.coverage c.in-Some.number)) w.2 (ap count here.1) in
     record { tile = here.0; points = n ∙ sym c.places-places.ensures.value; few = c.places-places.ensures.few }
@@ -27,7 +27,7 @@ pub returns-in-Some-clause-value : goal.returns-in-Some-clause-value
 returns-in-Some-clause-value g c =
     let s = g.S.Tiles.state c.args.source.now in
     let r = c.args.reading.now in
-    let w = rw c.in-Some.is at c.in_ok-found.ensures in
+    let w = c.in-Some.ensures in
     let here = tile_here (slice_get s.coverages r.coverage) r.field c.in-Some.number r.domain.now c.requires.there w.1 in
     on_ok c.read_tile.result
     (λ h i. h i ∙ ap (λ d. map (λ q. Value (s.cells r.coverage r.field q)) (points d)) here.1 ∙ whole_column c.args.frame.now r.indexes.now (get_or (tile_boxes r.domain.now) c.in-Some.number []) (s.cells r.coverage r.field) w.2)
@@ -38,7 +38,7 @@ returns-in-Some-clause-places g c = on_ok c.read_tile.result (λ h. h ∙ c.plac
 
 pub returns-in-Some-clause-fetched : goal.returns-in-Some-clause-fetched
 returns-in-Some-clause-fetched g c =
-    let w = rw c.in-Some.is at c.in_ok-found.ensures in
+    let w = c.in-Some.ensures in
     let numbers = map (λ e. tile_number c.args.reading.now.domain.now (numbers_at e c.args.reading.now.indexes.now)) c.args.frame.now in
     let n = length-map c.args.frame.now (λ e. tile_number c.args.reading.now.domain.now (numbers_at e c.args.reading.now.indexes.now)) in
     let some = distinct_some numbers (omega (arith, n, w.0)) in
