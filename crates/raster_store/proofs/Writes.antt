@@ -3,14 +3,14 @@ use Rattle.std.proofs.Common.{◌≡◌, ℕ, Bool, true, ◌&&◌, List, [], Co
 use Rattle.std.specs.Prelude.{ℤ, Some, IsTrue, replicate}
 use Rattle.arr_core.specs.declared.runs.RunList.{RunList}
 use Rattle.arr_core.specs.Runs.{cells_of}
-use Rattle.std.specs.Map.{lookup}
+use Rattle.std.specs.Map.{lookup, remove_entry}
 use Rattle.std.specs.List.{remove}
 use Rattle.std.proofs.lemmas.Bool.{eqb-true, and_parts, cases_eq}
 use Rattle.std.proofs.lemmas.List.{get_or-set_other, get_or-set_same}
 use Rattle.std.proofs.Math.ListN.{length-set}
 use Rattle.std.proofs.lemmas.List.Elements.{All-head, All-tail, All-append, All-take, All-drop, All-replicate}
 use Rattle.lru.specs.LruCache.{LruCache, lru_cache, promoted, put_entries}
-use Rattle.lru.proofs.CallerLemmas.{Contains-lookup, Contains-promoted, Contains-put_entries}
+use Rattle.lru.proofs.CallerLemmas.{Contains-lookup, Contains-promoted, Contains-put_entries, Contains-remove_entry}
 use Rattle.block_file.specs.State.{BlocksState, none}
 use Rattle.block_file.specs.Words.{Recounts, Moves, OnlyHeader}
 use Rattle.raster_store.specs.declared.reading.TileKey.{TileKey}
@@ -50,6 +50,11 @@ looked_up at es tile h =
 pub promoted_kept : (at : TileKey) (es : List (TileKey × RunList)) (tested : List (Option TileKey)) → NoneAdded (record { tiles = es; tested = tested }) (record { tiles = promoted (is_at at) es; tested = tested })
 promoted_kept at es tested j None kept = kept
 promoted_kept at es tested j (Some cells) kept = (kept.0, Contains-promoted (is_at at) es (j, kept.0) kept.1, kept.2)
+
+-- without a tile the others are kept
+pub popped_kept : (at : TileKey) (es : List (TileKey × RunList)) (tested : List (Option TileKey)) → NoneAdded (record { tiles = es; tested = tested }) (record { tiles = remove_entry (is_at at) es; tested = tested })
+popped_kept at es tested j None kept = kept
+popped_kept at es tested j (Some cells) kept = (kept.0, Contains-remove_entry (is_at at) es (j, kept.0) kept.1, kept.2)
 
 put_added : (old : LruCache TileKey RunList) (tested : List (Option TileKey)) (at : TileKey) (tile : RunList) (cells : List ℤ) → cells_of tile ≡ cells → Adds at (Some cells) (record { tiles = old.entries; tested = tested }) (record { tiles = put_entries is_at old at tile; tested = tested })
 put_added old tested at tile cells is j None kept = inl kept

@@ -1,10 +1,10 @@
 //! The tiles that are kept decoded.
 
-ghost use Rattle.std.specs.Prelude.{◌≡◌, ◌<◌, length, IsTrue, IfOk, None, Some, replicate};
+ghost use Rattle.std.specs.Prelude.{◌≡◌, ◌<◌, length, IsTrue, IfOk, None, Some, false, replicate};
 ghost use Rattle.arr_core.specs.Runs.{cells_of};
 ghost use Rattle.raster_store.specs.Decoded.{nothing, IsKept, NoneAdded, Adds};
 
-use crate::lists::{append_cells, copy_of, list_of, write_list};
+use crate::lists::{append_cells, copy_of, exchange_narrow, list_of, write_list};
 use crate::reading::TileKey;
 use arr_core::RunList;
 use lru::LruCache;
@@ -31,12 +31,20 @@ const STRIDE: u64 = 4099;
 /// marks of tiles that were tested, which is to say read whole without a refusal. What finds no memory is left out: a
 /// tile, the marks, or the whole. A tile is kept where it was read lately, so that one pass over many tiles drives out
 /// none. Where tiles are being read again, as by a query that names a layer twice, the next few are kept from their first
-/// read on. Tiles of versions that no coverage has any more go as the least lately used.
+/// read on. The last of these is given away at its second read, if it has 32 bits and such tiles are not read once more;
+/// else it goes before the next one is kept, which then takes its memory. Tiles of versions that no coverage has any more
+/// go as the least lately used.
 #[derive(Drop)]
 pub(crate) struct DecodedTiles {
     kept: Option<LruCache<TileKey, RunList>>,
     read: Vec<TileKey>,
     expected: u32,
+    /// The tile that was kept last from its first read on, and whether it was read again.
+    fresh: Option<TileKey>,
+    served: bool,
+    /// The tile that was given away last, and whether such tiles are given away: not where one was read once more.
+    given: Option<TileKey>,
+    gives: bool,
     tested: Vec<Option<TileKey>>,
 }
 
@@ -79,6 +87,10 @@ fn empty(alloc: Global, count: NonZeroUsize) -> Result<DecodedTiles, AllocError>
         kept: Some(kept),
         read,
         expected: 0,
+        fresh: None,
+        served: false,
+        given: None,
+        gives: true,
         tested: Vec::new(alloc),
     })
 }
@@ -97,6 +109,10 @@ impl DecodedTiles {
             kept: None,
             read: Vec::new(alloc),
             expected: 0,
+            fresh: None,
+            served: false,
+            given: None,
+            gives: true,
             tested: Vec::new(alloc),
         }
     }
@@ -108,6 +124,10 @@ impl DecodedTiles {
         self.kept = None;
         self.read = Vec::new(alloc);
         self.expected = 0;
+        self.fresh = None;
+        self.served = false;
+        self.given = None;
+        self.gives = true;
         self.tested = Vec::new(alloc);
     }
 
@@ -123,6 +143,7 @@ impl DecodedTiles {
             return Ok(false);
         };
         self.expected = EXPECTED;
+        self.served |= self.fresh == Some(at);
         cells.clear();
         append_cells(tile, cells)?;
         Ok(true)
@@ -135,6 +156,21 @@ impl DecodedTiles {
         ensures same { NoneAdded self.old self.new }
         ensures room { length runs.new.values.items ≡ length runs.old.values.items }
     {
+        if !self.gives || self.fresh != Some(at) {
+            return self.copy_runs(at, runs);
+        }
+        if self.give(at, runs) {
+            return Ok(true);
+        }
+        self.copy_runs(at, runs)
+    }
+
+    /// Makes a list that of the cells of a tile, as `get_runs` does, by a copy.
+    fn copy_runs(&mut self, at: TileKey, runs: &mut RunList) -> Result<bool, AllocError>
+        ensures kept { IfOk result (λ found. IsTrue found → IsKept at (Some (cells_of runs.new)) self.old) }
+        ensures same { NoneAdded self.old self.new }
+        ensures room { length runs.new.values.items ≡ length runs.old.values.items }
+    {
         let Some(kept) = &mut self.kept else {
             return Ok(false);
         };
@@ -142,13 +178,56 @@ impl DecodedTiles {
             return Ok(false);
         };
         self.expected = EXPECTED;
+        self.served |= self.fresh == Some(at);
         write_list(runs, tile)
+    }
+
+    /// Gives a list the cells of a tile, and keeps the tile no longer, where it is kept in 32 bits, which it tells.
+    fn give(&mut self, at: TileKey, runs: &mut RunList) -> bool
+        ensures kept { IsTrue result → IsKept at (Some (cells_of runs.new)) self.old }
+        ensures unkept { IsTrue result → NoneAdded self.old self.new }
+        ensures same { (result ≡ false) → (self.new ≡ self.old) × (runs.new ≡ runs.old) }
+        ensures room { length runs.new.values.items ≡ length runs.old.values.items }
+    {
+        let Some(kept) = &mut self.kept else {
+            return false;
+        };
+        let Some(found) = kept.peek(&at) else {
+            return false;
+        };
+        if !found.is_narrow {
+            return false;
+        }
+        let Some(mut tile) = kept.pop(&at) else {
+            return false;
+        };
+        exchange_narrow(runs, &mut tile);
+        self.expected = EXPECTED;
+        self.fresh = None;
+        self.given = Some(at);
+        true
+    }
+
+    /// Lets the tile go that was kept last from its first read on, if it was read again since.
+    fn drop_served(&mut self)
+        ensures { NoneAdded self.old self.new }
+    {
+        if !self.served {
+            return;
+        }
+        let Some(fresh) = self.fresh else {
+            return;
+        };
+        let Some(kept) = &mut self.kept else {
+            return;
+        };
+        let _served = kept.pop(&fresh);
     }
 
     /// Notes the key of a tile that was read, and tells whether it is to be kept: where it was noted already, or another
     /// read of it is expected.
     fn note(&mut self, at: TileKey) -> bool
-        ensures { self.new ≡ self.old }
+        ensures { NoneAdded self.old self.new }
     {
         let place = at.tile.wrapping_add((at.field as u64).wrapping_mul(101)) % NOTED as u64;
         let Some(noted) = self.read.get_mut(place as usize) else {
@@ -156,13 +235,18 @@ impl DecodedTiles {
         };
         if *noted == at {
             self.expected = EXPECTED;
+            self.gives &= self.given != Some(at);
             return true;
         }
         *noted = at;
         if self.expected == 0 {
+            self.gives = true;
             return false;
         }
         self.expected -= 1;
+        self.drop_served();
+        self.fresh = Some(at);
+        self.served = false;
         true
     }
 

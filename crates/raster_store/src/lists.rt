@@ -5,6 +5,7 @@ ghost use Rattle.arr_core.specs.Runs.{cells_of};
 
 use arr_core::RunList;
 use std::alloc::{AllocError, Global};
+use std::mem;
 
 /// The same cells again, one by one.
 pub(crate) fn list_of(alloc: Global, cells: &[i64]) -> Result<RunList, AllocError>
@@ -110,6 +111,17 @@ fn write_narrow(runs: &mut RunList, from: &[i32]) -> Result<bool, AllocError>
     runs.narrow.clear();
     runs.narrow.extend_from_slice(from)?;
     Ok(true)
+}
+
+/// Makes a list that of another one of 32 bits, and gives what it held for it. It keeps its values.
+pub(crate) fn exchange_narrow(runs: &mut RunList, from: &mut RunList)
+    requires { IsTrue from.old.is_narrow }
+    ensures cells { cells_of runs.new ≡ cells_of from.old }
+    ensures room { length runs.new.values.items ≡ length runs.old.values.items }
+{
+    runs.is_narrow = from.is_narrow;
+    runs.counts.clear();
+    mem::swap(&mut runs.narrow, &mut from.narrow);
 }
 
 /// Makes a list that of the cells of another one, where it has room for the values, which it tells. It keeps as many

@@ -1,9 +1,9 @@
--- A note changes no tile.
-use Rattle.std.proofs.Common.{inl}
+-- A note adds no tile.
+use Rattle.std.proofs.Common.{inl, inr}
 use Rattle.raster_store.proofs.decoded.DecodedTiles.keep.Goals as goal
 
 pub returns-then-note : goal.returns-then-note
-returns-then-note c = rw c.note.ensures at c.put_cells.ensures
+returns-then-note c = λ j known found. elim (c.put_cells.ensures j known found) [ inl was ↦ inl (c.note.ensures j known was) | inr same ↦ inr same ]
 
 pub returns-else-note : goal.returns-else-note
-returns-else-note c = rw c.note.ensures (λ j others kept. inl kept)
+returns-else-note c = λ j known kept. inl (c.note.ensures j known kept)
