@@ -1,12 +1,12 @@
 -- Cells one after the other: what they read as, and how many runs they make.
-use Rattle.std.proofs.Common.{◌≡◌, ◌↔◌, ℕ, zero, suc, ◌+◌, ◌-◌, ◌*◌, ◌/◌, ◌<◌, ◌≤◌, ℤ, pos, List, [], ◌∷◌, ◌++◌, length, take, drop, get_or, sym, ap, ◌∙◌, arith, append_assoc, length-append, length-drop, mul-div_cancel, below_more, subst, Bool, true, false, ◌&&◌, IsTrue, refl, ◌⊎◌, cond, lt-ltb, le-ltb, inl, inr}
+use Rattle.std.proofs.Common.{◌≡◌, ◌↔◌, ℕ, ◌+◌, ◌*◌, ◌/◌, ◌<◌, ◌≤◌, ℤ, pos, List, [], ◌∷◌, ◌++◌, length, take, drop, get_or, sym, ap, ap₂, ◌∙◌, arith, mul-le-mul_right, append_assoc, length-append, length-drop, mul-div_cancel, below_more, subst, Bool, true, false, ◌&&◌, IsTrue, refl, ◌⊎◌, cond, All, lt-ltb, le-ltb, inl, inr}
 use Rattle.std.specs.Prelude.{if◌then◌else◌}
 use Rattle.std.specs.Int.{w64}
 use Rattle.std.specs.Ordering.{int_eq}
 use Rattle.std.proofs.lemmas.Bool.{cases_lt}
 use Rattle.std.proofs.Math.Nat.{div-lt_iff_lt-mul, one-le-mul}
-use Rattle.std.proofs.lemmas.List.{drop-append-le, drop_more, drop_all, drop-drop}
-use Rattle.std.proofs.lemmas.List.FromFn.{fill_by_all, get_or-map-range_with_len}
+use Rattle.std.proofs.lemmas.List.{drop-append-le, drop_more, drop_all}
+use Rattle.std.proofs.lemmas.List.FromFn.{fill_by_all, get_or-map-range_with_len, length-map-range_with_len}
 use Rattle.std.proofs.lemmas.Option.{slice_get-get_or}
 use Rattle.std.proofs.Math.Seq.{drop-append_seam, take-append_seam}
 use Rattle.byteorder.specs.Endian.{little_bytes, little_number, low_bytes}
@@ -17,7 +17,7 @@ use Rattle.arr_core.specs.Cells.{Fits}
 use Rattle.file_bytes.specs.declared.form.Form.TheVariants.{Runs, Raw}
 use Rattle.run_tile.specs.Types.{width_of, value_of}
 use Rattle.run_tile.specs.Runs.{runs_in}
-use Rattle.run_tile.specs.Raw.{raw_at, raw_cells, raw_count, raw_size, runs_size, tile_size, form_of, IsRawSpelling, IsRawWritten}
+use Rattle.run_tile.specs.Raw.{raw_at, raw_cells, raw_count, raw_size, runs_size, tile_size, form_of, runs_from, IsRawSpelling, IsRawWritten, IsTile}
 use Rattle.run_tile.proofs.Pushes.{runs-bounds}
 use Rattle.run_tile.proofs.Values.{value-read}
 
@@ -33,6 +33,9 @@ one-false false b f = inl refl
 
 pub some-width : (kind : FieldType) → 1 ≤ width_of kind
 some-width kind = grind arith
+
+pub most-width : (kind : FieldType) → width_of kind ≤ 8
+most-width kind = grind arith
 
 -- a value reads only its own bytes
 raw_at-append : (kind : FieldType) (xs ys : List ℕ) (k : ℕ) → k * width_of kind + width_of kind ≤ length xs → raw_at kind xs k ≡ raw_at kind (xs ++ ys) k
@@ -84,14 +87,19 @@ raw-there kind bytes list k s h =
 pub unfit : (kind : FieldType) (bytes : List ℕ) (list : List ℤ) (k : ℕ) → IsRawSpelling kind bytes list → k < length list → (Fits kind (raw_at kind bytes k) → ⊥) → ⊥
 unfit kind bytes list k s h refused = refused (subst (Fits kind) (raw-there kind bytes list k s h) (s.fit k (pos 0) h))
 
--- what was read is what is spelled
-pub same-raw : (kind : FieldType) (bytes : List ℕ) (cells list : List ℤ) → IsRawSpelling kind bytes list → length cells ≡ length list → ((k : ℕ) → k < length cells → get_or cells k (pos 0) ≡ raw_at kind bytes k) → list ≡ cells
-same-raw kind bytes cells list s e each =
-    s.cells_are ∙ sym (raw-cells kind bytes cells (s.whole ∙ ap (λ (n : ℕ). n * width_of kind) (sym e)) each)
-
 -- which form cells have, and how many bytes
 pub raw-form : (kind : FieldType) (cells : List ℤ) → raw_size kind cells < runs_size kind cells → (Raw ≡ form_of kind cells) × (tile_size kind cells ≡ raw_size kind cells)
 raw-form kind cells h = (ap (λ (b : Bool). if b then Raw else Runs) (sym (lt-ltb (raw_size kind cells) (runs_size kind cells) h)), omega arith)
+
+-- a tile that is written one after the other
+pub raw-tile : (kind : FieldType) (cells : List ℤ) (bytes : List ℕ) → All (Fits kind) cells → length bytes ≡ raw_size kind cells → cells ≡ raw_cells kind bytes → raw_size kind cells < runs_size kind cells → IsTile kind cells Raw bytes
+raw-tile kind cells bytes fit whole read short =
+    let form = raw-form kind cells short in
+    record {
+      spelled = record { whole = whole; fit = fit; shorter = rw whole short; cells_are = read };
+      shorter = form.0;
+      size = whole ∙ sym form.1;
+    }
 
 pub runs-form : (kind : FieldType) (cells : List ℤ) → runs_size kind cells ≤ raw_size kind cells → (Runs ≡ form_of kind cells) × (tile_size kind cells ≡ runs_size kind cells)
 runs-form kind cells h = (ap (λ (b : Bool). if b then Raw else Runs) (sym (le-ltb (raw_size kind cells) (runs_size kind cells) h)), omega arith)
@@ -130,39 +138,51 @@ any-default xs k d e lt = let p = slice_get-get_or xs k d lt in let q = slice_ge
 
 -- what was read is spelled where it is of the type, and shorter than its runs
 pub spelled-raw : (kind : FieldType) (bytes : List ℕ) (cells : List ℤ) → length bytes ≡ raw_size kind cells
-    → ((k : ℕ) → k < length cells → get_or cells k (pos 0) ≡ raw_at kind bytes k) → ((k : ℕ) → k < length cells → Fits kind (raw_at kind bytes k)) → length bytes < runs_size kind cells → IsRawSpelling kind bytes cells
-spelled-raw kind bytes cells whole each fit short = record {
-  whole = whole;
-  fit = λ k d l. subst (Fits kind) (sym (any-default cells k d (pos 0) l ∙ each k l)) (fit k l);
-  shorter = short;
-  cells_are = raw-cells kind bytes cells whole each;
-}
+    → ((k : ℕ) → k < length cells → get_or cells k (pos 0) ≡ raw_at kind bytes k) → ((k : ℕ) → k < length cells → Fits kind (raw_at kind bytes k)) → length bytes < runs_size kind (raw_cells kind bytes) → IsRawSpelling kind bytes cells
+spelled-raw kind bytes cells whole each fit short =
+    let same = raw-cells kind bytes cells whole each in
+    record {
+      whole = whole;
+      fit = λ k d l. subst (Fits kind) (sym (any-default cells k d (pos 0) l ∙ each k l)) (fit k l);
+      shorter = subst (λ (l : List ℤ). length bytes < runs_size kind l) (sym same) short;
+      cells_are = same;
+    }
 
 -- and else nothing is
-pub not-shorter : (kind : FieldType) (bytes : List ℕ) (cells list : List ℤ) → length list ≡ length cells
-    → ((k : ℕ) → k < length cells → get_or cells k (pos 0) ≡ raw_at kind bytes k) → (length bytes < runs_size kind cells → ⊥) → IsRawSpelling kind bytes list → ⊥
-not-shorter kind bytes cells list len each long s =
-    let there = same-raw kind bytes cells list s (sym len) each in
-    long (subst (λ (l : List ℤ). length bytes < runs_size kind l) there s.shorter)
+pub not-shorter : (kind : FieldType) (bytes : List ℕ) (list : List ℤ) → (length bytes < runs_size kind (raw_cells kind bytes) → ⊥) → IsRawSpelling kind bytes list → ⊥
+not-shorter kind bytes list long s = long (subst (λ (l : List ℤ). length bytes < runs_size kind l) s.cells_are s.shorter)
 
--- the runs of cells are those up to a place and those from it on, where that of the place counts twice
-runs-parted : (m : ℕ) (l : List ℤ) → m < length l → runs_in (take (suc m) l) + runs_in (drop m l) ≡ runs_in l + 1
-runs-parted m [] h = absurd (omega arith)
-runs-parted zero (x ∷ ys) h = omega arith
-runs-parted (suc m) (x ∷ []) h = absurd (omega arith)
-runs-parted (suc m) (x ∷ y ∷ ys) h = let rest = runs-parted m (y ∷ ys) (omega arith) in omega (arith, rest)
+-- as many values as there is room for
+pub raw-length : (kind : FieldType) (bytes : List ℕ) → length (raw_cells kind bytes) ≡ raw_count kind bytes
+unfolding raw_cells
+raw-length kind bytes = length-map-range_with_len (raw_at kind bytes) 0 (raw_count kind bytes)
 
--- the runs from one place on, by those up to a later one and those from there on
-pub runs-on : (cells : List ℤ) (at end : ℕ) → 1 ≤ at → at ≤ end → end ≤ length cells → runs_in (take (end - (at - 1)) (drop (at - 1) cells)) + runs_in (drop (end - 1) cells) ≡ runs_in (drop (at - 1) cells) + 1
-runs-on cells at end some le inside =
-    let part = drop (at - 1) cells in
-    let long = length-drop (at - 1) cells in
-    let parted = runs-parted (end - at) part (omega arith) in
-    let first : suc (end - at) ≡ end - (at - 1) = omega arith in
-    let place : at - 1 + (end - at) ≡ end - 1 = omega arith in
-    let last : drop (end - at) part ≡ drop (end - 1) cells = drop-drop (end - at) (at - 1) cells ∙ ap (λ (k : ℕ). drop k cells) place in
-    let same = ap (λ (k : ℕ). runs_in (take k part)) first in
-    omega (arith, parted, same, ap runs_in last)
+-- a value that the bytes have room for is one of those that they read as
+raw-place : (kind : FieldType) (bytes : List ℕ) (k : ℕ) → k * width_of kind + width_of kind ≤ length bytes → k < length (raw_cells kind bytes)
+raw-place kind bytes k h =
+    let some = some-width kind in
+    let count = raw-length kind bytes in
+    let room = div-lt_iff_lt-mul {k = width_of kind} {x = length bytes} {y = k + 1} (omega arith) in
+    elim (cases_lt (raw_count kind bytes) (k + 1)) [
+      | inl lt ↦ (let short = room.0 lt in absurd (omega arith))
+      | inr ge ↦ omega (arith, count, ge)
+    ]
+
+raw-value : (kind : FieldType) (bytes : List ℕ) (k : ℕ) → k * width_of kind + width_of kind ≤ length bytes → get_or (raw_cells kind bytes) k (pos 0) ≡ raw_at kind bytes k
+unfolding raw_cells
+raw-value kind bytes k h =
+    let place = raw-place kind bytes k h in
+    let count = raw-length kind bytes in
+    get_or-map-range_with_len (raw_at kind bytes) 0 (raw_count kind bytes) k k (pos 0) (omega (arith, place, count)) (omega arith)
+
+-- the runs of the values from one place on, by those from the next
+pub changes-step : (kind : FieldType) (bytes : List ℕ) (q p : ℕ) → q + 1 ≡ p → p * width_of kind + width_of kind ≤ length bytes
+    → runs_from kind bytes q ≡ cond (int_eq (raw_at kind bytes q) (raw_at kind bytes p)) 0 1 + runs_from kind bytes p
+changes-step kind bytes q p e h =
+    let before : (q + 1) * width_of kind ≤ p * width_of kind = mul-le-mul_right (width_of kind) (omega arith) in
+    let last = raw-value kind bytes q (omega (arith, before, h)) in
+    let here = raw-value kind bytes p h in
+    runs-step (raw_cells kind bytes) q p e (raw-place kind bytes p h) ∙ ap₂ (λ (a b : ℤ). cond (int_eq a b) 0 1 + runs_from kind bytes p) last here
 
 -- from a place that is there at least one run begins
 pub some-run : (cells : List ℤ) (q : ℕ) → q < length cells → 1 ≤ runs_in (drop q cells)
@@ -189,3 +209,8 @@ put-more kind cells old new rest at size z es w fit value is =
     let next = written-more kind cells front at z w fit value in
     let taken : take ((at + 1) * width_of kind) new ≡ front ++ more = ap (take ((at + 1) * width_of kind)) there ∙ ap (λ (n : ℕ). take n ((front ++ more) ++ rest)) (sym next.whole) ∙ take-append_seam (front ++ more) rest in
     subst (λ (l : List ℕ). IsRawWritten kind cells l (at + 1)) (sym taken) next
+
+-- no values make no runs
+pub no-runs : (cells : List ℤ) → length cells ≡ 0 → runs_in cells ≡ 0
+no-runs [] h = refl
+no-runs (x ∷ xs) h = absurd (omega arith)

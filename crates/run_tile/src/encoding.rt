@@ -74,20 +74,20 @@ fn encode_runs(
     Ok(Some(bytes))
 }
 
-/// How many of the first cells tell whether raw is looked at before runs.
+/// How many of the first cells are looked at for noise.
 const FIRST: usize = 64;
 
-/// Whether raw is shorter than runs, where it is so of the first cells too. Noise is found here, before its runs would be
-/// written.
-fn is_noise(kind: FieldType, cells: &[i64]) -> bool
-    requires few { length cells.now ≤ max_tile }
-    ensures { IsTrue result → raw_size kind cells.now < runs_size kind cells.now }
-{
+/// Whether cells look like noise: whether the first ones take more bytes in runs than one after the other. Noise is found
+/// here, before its runs would be written.
+fn seems_noisy(kind: FieldType, cells: &[i64]) -> bool {
     let first = cells.len().min(FIRST);
-    if !is_shorter(kind, first * width(kind), &cells[..first]) {
-        return false;
+    let mut runs: usize = 1;
+    for place in 1..first {
+        if cells[place - 1] != cells[place] {
+            runs += 1;
+        }
     }
-    is_shorter(kind, cells.len() * width(kind), cells)
+    first * width(kind) < runs * (2 + width(kind))
 }
 
 /// The raw bytes of cells whose runs take more.
@@ -113,9 +113,11 @@ pub fn encode(alloc: Global, kind: FieldType, cells: &[i64]) -> Result<(Form, Ve
     ensures some { IfOk result (λ it. 1 ≤ length it.1.items) }
     ensures few { IfOk result (λ it. length it.1.items ≤ 32768) }
 {
-    if is_noise(kind, cells) {
-        let tile = raw_tile(alloc, kind, cells)?;
-        return Ok(tile);
+    if seems_noisy(kind, cells) {
+        let bytes = encode_raw(alloc, kind, cells)?;
+        if is_shorter(kind, &bytes) {
+            return Ok((Form::Raw, bytes));
+        }
     }
     let Some(bytes) = encode_runs(alloc, kind, cells, cells.len() * width(kind))? else {
         let tile = raw_tile(alloc, kind, cells)?;

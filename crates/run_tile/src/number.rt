@@ -1,8 +1,7 @@
 //! The numbers of the two widths that cells are held in.
 
-ghost use Rattle.std.specs.Prelude.{◌≡◌, ◌≤◌, ℤ, FitsSigned, cond};
+ghost use Rattle.std.specs.Prelude.{◌≡◌, ℤ, FitsSigned};
 ghost use Rattle.std.specs.Int.{w32};
-ghost use Rattle.std.specs.Ordering.{int_eq};
 
 /// A number that a cell is held as.
 pub(crate) trait Number: Copy {
@@ -14,11 +13,6 @@ pub(crate) trait Number: Copy {
     fn of(value: i64) -> Self
         requires { HasRoom value }
         ensures { number result ≡ value };
-
-    /// 1 where it differs from another one, else 0.
-    fn change(self, other: Self) -> u32
-        ensures value { result ≡ cond (int_eq (number self) (number other)) 0 1 }
-        ensures small { result ≤ 1 };
 }
 
 impl Number for i64 {
@@ -30,11 +24,6 @@ impl Number for i64 {
     fn of(value: i64) -> i64 {
         value
     }
-
-    #[inline(always)]
-    fn change(self, other: i64) -> u32 {
-        if self == other { 0 } else { 1 }
-    }
 }
 
 impl Number for i32 {
@@ -45,10 +34,5 @@ impl Number for i32 {
     #[inline(always)]
     fn of(value: i64) -> i32 {
         value as i32
-    }
-
-    #[inline(always)]
-    fn change(self, other: i32) -> u32 {
-        if self == other { 0 } else { 1 }
     }
 }

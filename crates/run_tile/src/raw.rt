@@ -1,13 +1,14 @@
 //! Cells one after the other, each in the width of its type.
 
-ghost use Rattle.std.specs.Prelude.{◌≡◌, ◌+◌, ◌*◌, ◌≤◌, ◌<◌, ◌++◌, ◌↔◌, ℕ, ℤ, List, length, map, drop, All, pos, false, get_or, IsTrue, IfOk};
+ghost use Rattle.std.specs.Prelude.{◌≡◌, ◌+◌, ◌-◌, ◌*◌, ◌≤◌, ◌<◌, ◌++◌, ◌↔◌, ℕ, ℤ, List, length, map, drop, All, pos, false, get_or, cond, IsTrue, IfOk};
+ghost use Rattle.std.specs.Ordering.{int_eq};
 ghost use Rattle.std.specs.Int.{w64};
 ghost use Rattle.byteorder.specs.Endian.{little_bytes, low_bytes};
 ghost use Rattle.arr_core.specs.Cells.{Fits};
 ghost use Rattle.arr_core.specs.Limits.{max_tile};
 ghost use Rattle.run_tile.specs.Types.{width_of};
 ghost use Rattle.run_tile.specs.Runs.{runs_in};
-ghost use Rattle.run_tile.specs.Raw.{raw_at, raw_cells, raw_size, runs_size, IsRawSpelling, IsNoRawSpelling};
+ghost use Rattle.run_tile.specs.Raw.{raw_at, raw_cells, raw_size, runs_from, runs_size, IsRawSpelling, IsNoRawSpelling};
 
 use crate::number::Number;
 use crate::run::{read_value, width};
@@ -15,57 +16,90 @@ use arr_core::FieldType;
 use byteorder::{ByteOrder, LittleEndian};
 use std::alloc::{AllocError, Global};
 
-/// How many cells are looked at before it is asked whether their runs are too many.
+/// How many values are looked at before it is asked whether their runs are too many.
 const BLOCK: usize = 256;
 
-/// How many cells differ from the one before them.
+/// 1 where the value at a place differs from the one before it, else 0.
 #[inline(always)]
-fn count_changes<N: Number>(cells: &[N]) -> u32
-    requires some { 1 ≤ length cells.now }
-    requires few { length cells.now ≤ BLOCK + 1 }
-    ensures value { result + 1 ≡ runs_in (map N.number cells.now) }
-    ensures few { result + 1 ≤ length cells.now }
+fn change_at(kind: FieldType, bytes: &[u8], place: usize) -> u16
+    requires some { 1 ≤ place }
+    requires within { place * width_of kind + width_of kind ≤ length bytes.now }
+    ensures value { result ≡ cond (int_eq (raw_at kind bytes.now (place - 1)) (raw_at kind bytes.now place)) 0 1 }
+    ensures small { result ≤ 1 }
 {
-    let mut changes: u32 = 0;
-    for place in 1..cells.len() {
-        changes += cells[place - 1].change(cells[place]);
+    if value_at(kind, bytes, place - 1) == value_at(kind, bytes, place) {
+        0
+    } else {
+        1
+    }
+}
+
+/// How many of the values from one place on up to a later one differ from the one before them. They are compared in
+/// the width of their type.
+#[inline(always)]
+fn count_changes(kind: FieldType, bytes: &[u8], from: usize, end: usize) -> u16
+    requires some { 1 ≤ from }
+    requires order { from ≤ end }
+    requires few { end ≤ from + BLOCK }
+    requires within { end * width_of kind ≤ length bytes.now }
+    ensures value { result + runs_from kind bytes.now (end - 1) ≡ runs_from kind bytes.now (from - 1) }
+    ensures few { result ≤ end - from }
+{
+    let mut changes: u16 = 0;
+    for place in from..end {
+        changes += change_at(kind, bytes, place);
     }
     changes
 }
 
-/// How many runs cells make. Where they make more than `most`, any number above it will do.
-fn count_runs<N: Number>(cells: &[N], most: usize) -> usize
-    ensures exact { result ≤ most → result ≡ runs_in (map N.number cells.now) }
-    ensures more { most < result → most < runs_in (map N.number cells.now) }
-    ensures few { result ≤ length cells.now }
+/// How many runs the values make. Where they make more than `most`, any number above it will do.
+#[inline(always)]
+fn count_runs(kind: FieldType, bytes: &[u8], most: usize) -> usize
+    ensures exact { result ≤ most → result ≡ runs_in (raw_cells kind bytes.now) }
+    ensures more { most < result → most < runs_in (raw_cells kind bytes.now) }
 {
-    if cells.len() == 0 {
+    let count = bytes.len() / width(kind);
+    if count == 0 {
         return 0;
     }
     let mut runs: usize = 1;
     let mut at: usize = 1;
-    while at < cells.len() {
+    while at < count {
         if most < runs {
             return runs;
         }
-        let end = at + BLOCK.min(cells.len() - at);
-        runs += count_changes(&cells[at - 1..end]) as usize;
+        let end = at + BLOCK.min(count - at);
+        runs += count_changes(kind, bytes, at, end) as usize;
         at = end;
     }
     runs
 }
 
-/// Whether the runs of cells take more than so many bytes.
-pub(crate) fn is_shorter<N: Number>(kind: FieldType, bytes: usize, cells: &[N]) -> bool
-    ensures { IsTrue result ↔ (bytes < runs_size kind (map N.number cells.now)) }
+/// Whether the runs of the values that the bytes read as take more bytes than these.
+#[inline(always)]
+fn is_shorter_of(kind: FieldType, bytes: &[u8]) -> bool
+    ensures { IsTrue result ↔ (length bytes.now < runs_size kind (raw_cells kind bytes.now)) }
 {
-    let most = bytes / (2 + width(kind));
-    most < count_runs(cells, most)
+    let most = bytes.len() / (2 + width(kind));
+    most < count_runs(kind, bytes, most)
+}
+
+/// The same, by a loop of its own for each type.
+pub(crate) fn is_shorter(kind: FieldType, bytes: &[u8]) -> bool
+    ensures { IsTrue result ↔ (length bytes.now < runs_size kind (raw_cells kind bytes.now)) }
+{
+    match kind {
+        FieldType::Bool => is_shorter_of(FieldType::Bool, bytes),
+        FieldType::U8 => is_shorter_of(FieldType::U8, bytes),
+        FieldType::I16 => is_shorter_of(FieldType::I16, bytes),
+        FieldType::I32 => is_shorter_of(FieldType::I32, bytes),
+        FieldType::I64 => is_shorter_of(FieldType::I64, bytes),
+    }
 }
 
 /// Reads the value at each place, as many as there is room for, and tells whether all are of the type.
 #[inline(always)]
-fn read_values<N: Number>(kind: FieldType, bytes: &[u8], cells: &mut [N]) -> bool
+fn read_each<N: Number>(kind: FieldType, bytes: &[u8], cells: &mut [N]) -> bool
     requires long { length cells.old * width_of kind ≤ length bytes.now }
     requires room { (k : ℕ) → N.HasRoom (raw_at kind bytes.now k) }
     ensures places { length cells.new ≡ length cells.old }
@@ -92,10 +126,27 @@ pub(crate) fn value_at(kind: FieldType, bytes: &[u8], place: usize) -> i64
     read_value(kind, &bytes[place * size..])
 }
 
+/// The same, by a loop of its own for each type.
+fn read_values<N: Number>(kind: FieldType, bytes: &[u8], cells: &mut [N]) -> bool
+    requires long { length cells.old * width_of kind ≤ length bytes.now }
+    requires room { (k : ℕ) → N.HasRoom (raw_at kind bytes.now k) }
+    ensures places { length cells.new ≡ length cells.old }
+    ensures read { (k : ℕ) → k < length cells.new → get_or (map N.number cells.new) k (pos 0) ≡ raw_at kind bytes.now k }
+    ensures fit { IsTrue result → (k : ℕ) → k < length cells.new → Fits kind (raw_at kind bytes.now k) }
+    ensures unfit { (result ≡ false) → (k : ℕ) × (k < length cells.new) × ¬ (Fits kind (raw_at kind bytes.now k)) }
+{
+    match kind {
+        FieldType::Bool => read_each(FieldType::Bool, bytes, cells),
+        FieldType::U8 => read_each(FieldType::U8, bytes, cells),
+        FieldType::I16 => read_each(FieldType::I16, bytes, cells),
+        FieldType::I32 => read_each(FieldType::I32, bytes, cells),
+        FieldType::I64 => read_each(FieldType::I64, bytes, cells),
+    }
+}
+
 /// Whether the bytes are cells of a type one after the other, as many as there is room for, which are written then, and
 /// are fewer than the runs of these take.
-#[inline(always)]
-fn read_all<N: Number>(kind: FieldType, bytes: &[u8], cells: &mut [N]) -> bool
+pub(crate) fn read_raw<N: Number>(kind: FieldType, bytes: &[u8], cells: &mut [N]) -> bool
     requires { (k : ℕ) → N.HasRoom (raw_at kind bytes.now k) }
     ensures spelled { IsTrue result → IsRawSpelling kind bytes.now (map N.number cells.new) }
     ensures damaged { (result ≡ false) → IsNoRawSpelling (length cells.old) kind bytes.now }
@@ -107,22 +158,7 @@ fn read_all<N: Number>(kind: FieldType, bytes: &[u8], cells: &mut [N]) -> bool
     if !read_values(kind, bytes, cells) {
         return false;
     }
-    is_shorter(kind, bytes.len(), cells)
-}
-
-/// The same, by a loop of its own for each type.
-pub(crate) fn read_raw<N: Number>(kind: FieldType, bytes: &[u8], cells: &mut [N]) -> bool
-    requires { (k : ℕ) → N.HasRoom (raw_at kind bytes.now k) }
-    ensures spelled { IsTrue result → IsRawSpelling kind bytes.now (map N.number cells.new) }
-    ensures damaged { (result ≡ false) → IsNoRawSpelling (length cells.old) kind bytes.now }
-{
-    match kind {
-        FieldType::Bool => read_all(FieldType::Bool, bytes, cells),
-        FieldType::U8 => read_all(FieldType::U8, bytes, cells),
-        FieldType::I16 => read_all(FieldType::I16, bytes, cells),
-        FieldType::I32 => read_all(FieldType::I32, bytes, cells),
-        FieldType::I64 => read_all(FieldType::I64, bytes, cells),
-    }
+    is_shorter(kind, bytes)
 }
 
 /// Writes the value at each place.

@@ -1,7 +1,7 @@
-use Rattle.std.proofs.Common.{◌-◌, ◌≡◌, ◌+◌, ◌≤◌, drop, map}
-use Rattle.run_tile.specs.Runs.{runs_in}
+use Rattle.std.proofs.Common.{◌-◌, ◌≡◌, ◌+◌, ◌≤◌}
+use Rattle.run_tile.specs.Raw.{runs_from}
 use Rattle.run_tile.proofs.raw.count_changes.Given as goal
 
--- those before this place, and the runs of the cells from the one before it on
+-- the changes before this place, and the runs of the values from the one before it on
 abbrev pub invariant-loop-place : goal.invariant-loop-place
-invariant-loop-place g l = record { counted : l.changes + runs_in (drop (l.place - 1) (map g.N.Number.number l.cells)) ≡ runs_in (map g.N.Number.number l.cells); few : l.changes + 1 ≤ l.place }
+invariant-loop-place l = record { counted : l.changes + runs_from l.fn.kind l.fn.bytes (l.place - 1) ≡ runs_from l.fn.kind l.fn.bytes (l.fn.from - 1); few : l.changes + l.fn.from ≤ l.place }

@@ -1,49 +1,67 @@
--- With the next cells there are as many runs more as there are changes among them and the cell before.
-use Rattle.std.proofs.Common.{◌≡◌, ◌-◌, ◌+◌, ◌∙◌, sym, ap, map, take, drop, length, arith, length-drop}
-use Rattle.std.proofs.lemmas.List.{length-take-le, length-map, take-map, drop-map}
-use Rattle.run_tile.specs.Runs.{runs_in}
-use Rattle.run_tile.proofs.RawTiles.{runs-on, some-run, last-run}
+-- With the next values there are as many runs more as there are changes among them and the value before.
+use Rattle.std.proofs.Common.{◌≡◌, ◌-◌, ◌+◌, ◌*◌, ◌/◌, ◌≤◌, ℕ, List, length, ap, sym, ◌∙◌, arith, div-add-mod', mul-le-mul_right}
+use Rattle.arr_core.specs.declared.cell.FieldType.{FieldType}
+use Rattle.run_tile.specs.Types.{width_of}
+use Rattle.run_tile.specs.Raw.{raw_cells}
+use Rattle.run_tile.proofs.RawTiles.{raw-length, some-run, last-run, no-runs}
 use Rattle.run_tile.proofs.raw.count_runs.Goals as goal
 
+-- how many values there are
+values : (kind : FieldType) (bytes : List ℕ) (size : ℕ) → size ≡ width_of kind → length (raw_cells kind bytes) ≡ length bytes / size
+values kind bytes size e = raw-length kind bytes ∙ ap (λ (w : ℕ). length bytes / w) (sym e)
+
 pub loop-at-preserved : goal.loop-at-preserved
-loop-at-preserved g c =
-    let number = g.N.Number.number in
-    let list = c.args.cells.now in
-    let cells = map number list in
-    let at = c.loop-at.at in
-    let end = at + c.min.result in
+loop-at-preserved c =
     let inv = c.loop-at.invariant in
-    let all : length cells ≡ length list = length-map list number in
-    let on = runs-on cells at end inv.some (omega (arith, c.min.ensures)) (omega (arith, c.min.ensures, all)) in
-    let whole = length-drop (at - 1) list in
-    let long = length-take-le (end - (at - 1)) (drop (at - 1) list) (omega (arith, whole, c.min.ensures)) in
-    let part : map number (take (end - (at - 1)) (drop (at - 1) list)) ≡ take (end - (at - 1)) (drop (at - 1) cells) =
-    sym (take-map number (end - (at - 1)) (drop (at - 1) list)) ∙ ap (take (end - (at - 1))) (sym (drop-map number (at - 1) list)) in
     record {
-      counted = omega (arith, on, inv.counted, c.count_changes.ensures.value, ap runs_in part);
-      few = omega (arith, inv.few, c.count_changes.ensures.few, long);
+      counted = omega (arith, inv.counted, c.count_changes.ensures.value);
+      few = omega (arith, inv.few, c.count_changes.ensures.few);
       some = omega (arith, inv.some, c.min.ensures);
       within = omega (arith, c.min.ensures);
     }
 
-pub returns-clause-exact : goal.returns-clause-exact
-returns-clause-exact g c =
-    let number = g.N.Number.number in
-    let list = c.args.cells.now in
-    let last = last-run (map number list) (c.loop-at.at - 1) (omega (arith, c.loop-at.invariant.within, c.loop-at.invariant.some, length-map list number)) in
-    λ _. omega (arith, last, c.loop-at.invariant.counted)
+pub count_changes-requires : goal.count_changes-requires
+count_changes-requires c =
+    let size = c.width.result in
+    let bytes = length c.args.bytes.now in
+    let end = c.loop-at.at + c.min.result in
+    let part : end * size ≤ (bytes / size) * size = mul-le-mul_right size (omega (arith, c.min.ensures)) in
+    record {
+      some = c.loop-at.invariant.some;
+      order = omega arith;
+      few = omega (arith, c.min.ensures);
+      within = omega (arith, part, div-add-mod' bytes size, ap (λ (w : ℕ). end * w) c.width.ensures);
+    }
 
-pub returns-clause-more : goal.returns-clause-more
-returns-clause-more g c =
-    let number = g.N.Number.number in
-    let list = c.args.cells.now in
-    let last = last-run (map number list) (c.loop-at.at - 1) (omega (arith, c.loop-at.invariant.within, c.loop-at.invariant.some, length-map list number)) in
-    λ more. omega (arith, last, more, c.loop-at.invariant.counted)
+pub returns-then-count-eq0-clause-exact : goal.returns-then-count-eq0-clause-exact
+returns-then-count-eq0-clause-exact c _ =
+    let kind = c.args.kind in
+    let bytes = c.args.bytes.now in
+    sym (no-runs (raw_cells kind bytes) (values kind bytes c.width.result c.width.ensures ∙ c.if-count-eq0.true))
 
 pub returns-then-most-runs-clause-more : goal.returns-then-most-runs-clause-more
-returns-then-most-runs-clause-more g c =
-    let number = g.N.Number.number in
-    let list = c.args.cells.now in
+returns-then-most-runs-clause-more c =
+    let kind = c.args.kind in
+    let bytes = c.args.bytes.now in
     let inv = c.loop-at.invariant in
-    let rest = some-run (map number list) (c.loop-at.at - 1) (omega (arith, inv.within, inv.some, length-map list number)) in
+    let count = values kind bytes c.width.result c.width.ensures in
+    let rest = some-run (raw_cells kind bytes) (c.loop-at.at - 1) (omega (arith, inv.within, inv.some, count, c.loop-at-test.true)) in
     λ more. omega (arith, more, rest, inv.counted)
+
+pub returns-clause-exact : goal.returns-clause-exact
+returns-clause-exact c =
+    let kind = c.args.kind in
+    let bytes = c.args.bytes.now in
+    let inv = c.loop-at.invariant in
+    let count = values kind bytes c.width.result c.width.ensures in
+    let last = last-run (raw_cells kind bytes) (c.loop-at.at - 1) (omega (arith, inv.within, inv.some, count, c.loop-at-test.false)) in
+    λ _. omega (arith, last, inv.counted)
+
+pub returns-clause-more : goal.returns-clause-more
+returns-clause-more c =
+    let kind = c.args.kind in
+    let bytes = c.args.bytes.now in
+    let inv = c.loop-at.invariant in
+    let count = values kind bytes c.width.result c.width.ensures in
+    let last = last-run (raw_cells kind bytes) (c.loop-at.at - 1) (omega (arith, inv.within, inv.some, count, c.loop-at-test.false)) in
+    λ more. omega (arith, last, more, inv.counted)

@@ -1,15 +1,16 @@
-use Rattle.std.proofs.Common.{◌-◌, ◌≡◌, ◌+◌, ◌≤◌, drop, map, length}
+use Rattle.std.proofs.Common.{◌-◌, ◌≡◌, ◌+◌, ◌≤◌}
 use Rattle.run_tile.specs.Runs.{runs_in}
+use Rattle.run_tile.specs.Raw.{raw_cells, runs_from}
 use Rattle.run_tile.proofs.raw.count_runs.Given as goal
 
--- those that begin before this place, and those of the cells from the one before it on, of which one has begun before
+-- those that begin before this place, and those of the values from the one before it on, of which one has begun before
 abbrev pub invariant-loop-at : goal.invariant-loop-at
-invariant-loop-at g l = record {
-  counted : l.runs + runs_in (drop (l.at - 1) (map g.N.Number.number l.cells)) ≡ runs_in (map g.N.Number.number l.cells) + 1;
+invariant-loop-at l = record {
+  counted : l.runs + runs_from l.fn.kind l.fn.bytes (l.at - 1) ≡ runs_in (raw_cells l.fn.kind l.fn.bytes) + 1;
   few : l.runs ≤ l.at;
   some : 1 ≤ l.at;
-  within : l.at ≤ length l.cells;
+  within : l.at ≤ l.count;
 }
 
 abbrev pub decreases-loop-at : goal.decreases-loop-at
-decreases-loop-at g l = length l.cells - l.at
+decreases-loop-at l = l.count - l.at

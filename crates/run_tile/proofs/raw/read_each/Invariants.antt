@@ -1,7 +1,7 @@
 use Rattle.std.proofs.Common.{◌≡◌, ◌<◌, ℕ, get_or, map, pos, length, IsTrue, false}
 use Rattle.arr_core.specs.Cells.{Fits}
 use Rattle.run_tile.specs.Raw.{raw_at}
-use Rattle.run_tile.proofs.raw.read_values.Given as goal
+use Rattle.run_tile.proofs.raw.read_each.Given as goal
 
 abbrev pub invariant-loop-place : goal.invariant-loop-place
 invariant-loop-place g l = record {

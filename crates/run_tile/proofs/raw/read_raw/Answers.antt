@@ -3,8 +3,8 @@ use Rattle.std.proofs.Common.{◌≡◌, ◌*◌, ◌/◌, ◌%◌, ℕ, length,
 use Rattle.std.proofs.Math.Nat.{mul-mod_left}
 use Rattle.std.proofs.lemmas.List.{length-map}
 use Rattle.run_tile.proofs.RawTiles.{some-width, spelled-raw, not-shorter, unfit}
-use Rattle.run_tile.proofs.raw.read_all.Goals as goal
-use Rattle.run_tile.proofs.raw.read_all.Goals.{then-bytes-size-ne0-via-then-bytes-size-ne0, then-bytes-size-ne0-via-else-bytes-size-ne0+then-bytes-size}
+use Rattle.run_tile.proofs.raw.read_raw.Goals as goal
+use Rattle.run_tile.proofs.raw.read_raw.Goals.{then-bytes-size-ne0-via-then-bytes-size-ne0, then-bytes-size-ne0-via-else-bytes-size-ne0+then-bytes-size}
 
 -- as many whole values as there is room for
 whole-bytes : (bytes size cells : ℕ) → bytes % size ≡ 0 → bytes / size ≡ cells → bytes ≡ cells * size
@@ -40,9 +40,5 @@ returns-clause-spelled g c h =
     spelled-raw c.args.kind c.args.bytes.now cells whole (λ k l. c.read_values.ensures.read k (omega (arith, l, long))) (λ k l. c.if-not-read_values.ensures.fit refl k (omega (arith, l, long))) (c.is_shorter.ensures.0 h)
 
 pub returns-clause-damaged : goal.returns-clause-damaged
-returns-clause-damaged g c h list len s =
-    let own = c.read_values.new.cells in
-    let cells = map g.N.Number.number own in
-    let long : length cells ≡ length own = length-map own g.N.Number.number in
-    not-shorter c.args.kind c.args.bytes.now cells list (len ∙ sym c.read_values.ensures.places ∙ sym long) (λ k l. c.read_values.ensures.read k (omega (arith, l, long)))
-    (λ short. true≢false (sym (c.is_shorter.ensures.1 short) ∙ h)) s
+returns-clause-damaged g c h list _ s =
+    not-shorter c.args.kind c.args.bytes.now list (λ short. true≢false (sym (c.is_shorter.ensures.1 short) ∙ h)) s

@@ -5,7 +5,7 @@ use Rattle.std.proofs.lemmas.List.{length-map, map-set, get_or-set_other, get_or
 use Rattle.arr_core.specs.Cells.{Fits}
 use Rattle.run_tile.specs.Raw.{raw_at}
 use Rattle.run_tile.proofs.RawTiles.{both-true, one-false}
-use Rattle.run_tile.proofs.raw.read_values.Goals as goal
+use Rattle.run_tile.proofs.raw.read_each.Goals as goal
 
 pub loop-place-preserved : goal.loop-place-preserved
 loop-place-preserved g c =
