@@ -176,13 +176,23 @@ raw-value kind bytes k h =
     get_or-map-range_with_len (raw_at kind bytes) 0 (raw_count kind bytes) k k (pos 0) (omega (arith, place, count)) (omega arith)
 
 -- the runs of the values from one place on, by those from the next
-pub changes-step : (kind : FieldType) (bytes : List ℕ) (q p : ℕ) → q + 1 ≡ p → p * width_of kind + width_of kind ≤ length bytes
+changes-step : (kind : FieldType) (bytes : List ℕ) (q p : ℕ) → q + 1 ≡ p → p * width_of kind + width_of kind ≤ length bytes
     → runs_from kind bytes q ≡ cond (int_eq (raw_at kind bytes q) (raw_at kind bytes p)) 0 1 + runs_from kind bytes p
 changes-step kind bytes q p e h =
     let before : (q + 1) * width_of kind ≤ p * width_of kind = mul-le-mul_right (width_of kind) (omega arith) in
     let last = raw-value kind bytes q (omega (arith, before, h)) in
     let here = raw-value kind bytes p h in
     runs-step (raw_cells kind bytes) q p e (raw-place kind bytes p h) ∙ ap₂ (λ (a b : ℤ). cond (int_eq a b) 0 1 + runs_from kind bytes p) last here
+
+one-of-two : (b : Bool) → cond b 1 0 + cond b 0 1 ≡ 1
+one-of-two true = refl
+one-of-two false = refl
+
+-- with the next value there is a run less behind, or it is the value before it once more
+pub repeats-step : (kind : FieldType) (bytes : List ℕ) (q p : ℕ) → q + 1 ≡ p → p * width_of kind + width_of kind ≤ length bytes
+    → cond (int_eq (raw_at kind bytes q) (raw_at kind bytes p)) 1 0 + runs_from kind bytes q ≡ 1 + runs_from kind bytes p
+repeats-step kind bytes q p e h =
+    omega (arith, changes-step kind bytes q p e h, one-of-two (int_eq (raw_at kind bytes q) (raw_at kind bytes p)))
 
 -- from a place that is there at least one run begins
 pub some-run : (cells : List ℤ) (q : ℕ) → q < length cells → 1 ≤ runs_in (drop q cells)

@@ -12,44 +12,53 @@ ghost use Rattle.run_tile.specs.Raw.{raw_at, raw_cells, raw_size, runs_from, run
 
 use crate::number::Number;
 use crate::run::{read_value, width};
-use arr_core::FieldType;
+use arr_core::{FieldType, MAX_TILE};
 use byteorder::{ByteOrder, LittleEndian};
 use std::alloc::{AllocError, Global};
 
-/// How many values are looked at before it is asked whether their runs are too many.
-const BLOCK: usize = 256;
-
-/// 1 where the value at a place differs from the one before it, else 0.
+/// The value at a place, counted from 0.
 #[inline(always)]
-fn change_at(kind: FieldType, bytes: &[u8], place: usize) -> u16
+pub(crate) fn value_at(kind: FieldType, bytes: &[u8], place: usize) -> i64
+    requires { place * width_of kind + width_of kind ≤ length bytes.now }
+    ensures { result ≡ raw_at kind bytes.now place }
+{
+    let size = width(kind);
+    read_value(kind, &bytes[place * size..])
+}
+
+/// How many values are compared at least before it is asked whether their runs are too many.
+const BLOCK: usize = 64;
+
+/// 1 where the value at a place is that of the place before it, else 0.
+#[inline(always)]
+fn repeats_at(kind: FieldType, bytes: &[u8], place: usize) -> u16
     requires some { 1 ≤ place }
     requires within { place * width_of kind + width_of kind ≤ length bytes.now }
-    ensures value { result ≡ cond (int_eq (raw_at kind bytes.now (place - 1)) (raw_at kind bytes.now place)) 0 1 }
+    ensures value { result ≡ cond (int_eq (raw_at kind bytes.now (place - 1)) (raw_at kind bytes.now place)) 1 0 }
     ensures small { result ≤ 1 }
 {
     if value_at(kind, bytes, place - 1) == value_at(kind, bytes, place) {
-        0
-    } else {
         1
+    } else {
+        0
     }
 }
 
-/// How many of the values from one place on up to a later one differ from the one before them. They are compared in
-/// the width of their type.
+/// How many of the values from one place on up to a later one begin a run. They are compared in the width of their type.
 #[inline(always)]
-fn count_changes(kind: FieldType, bytes: &[u8], from: usize, end: usize) -> u16
+fn count_starts(kind: FieldType, bytes: &[u8], from: usize, end: usize) -> usize
     requires some { 1 ≤ from }
     requires order { from ≤ end }
-    requires few { end ≤ from + BLOCK }
+    requires few { end ≤ from + max_tile }
     requires within { end * width_of kind ≤ length bytes.now }
     ensures value { result + runs_from kind bytes.now (end - 1) ≡ runs_from kind bytes.now (from - 1) }
     ensures few { result ≤ end - from }
 {
-    let mut changes: u16 = 0;
+    let mut repeats: u16 = 0;
     for place in from..end {
-        changes += change_at(kind, bytes, place);
+        repeats += repeats_at(kind, bytes, place);
     }
-    changes
+    end - from - repeats as usize
 }
 
 /// How many runs the values make. Where they make more than `most`, any number above it will do.
@@ -68,8 +77,9 @@ fn count_runs(kind: FieldType, bytes: &[u8], most: usize) -> usize
         if most < runs {
             return runs;
         }
-        let end = at + BLOCK.min(count - at);
-        runs += count_changes(kind, bytes, at, end) as usize;
+        let block = (most - runs + 1).max(BLOCK).min(MAX_TILE as usize);
+        let end = at + block.min(count - at);
+        runs += count_starts(kind, bytes, at, end);
         at = end;
     }
     runs
@@ -114,16 +124,6 @@ fn read_each<N: Number>(kind: FieldType, bytes: &[u8], cells: &mut [N]) -> bool
         cells[place] = N::of(value);
     }
     fit
-}
-
-/// The value at a place, counted from 0.
-#[inline(always)]
-pub(crate) fn value_at(kind: FieldType, bytes: &[u8], place: usize) -> i64
-    requires { place * width_of kind + width_of kind ≤ length bytes.now }
-    ensures { result ≡ raw_at kind bytes.now place }
-{
-    let size = width(kind);
-    read_value(kind, &bytes[place * size..])
 }
 
 /// The same, by a loop of its own for each type.

@@ -14,14 +14,15 @@ pub loop-at-preserved : goal.loop-at-preserved
 loop-at-preserved c =
     let inv = c.loop-at.invariant in
     record {
-      counted = omega (arith, inv.counted, c.count_changes.ensures.value);
-      few = omega (arith, inv.few, c.count_changes.ensures.few);
+      counted = omega (arith, inv.counted, c.count_starts-runs.ensures.value);
+      few = omega (arith, inv.few, c.count_starts-runs.ensures.few);
+      begun = omega (arith, inv.begun);
       some = omega (arith, inv.some, c.min.ensures);
       within = omega (arith, c.min.ensures);
     }
 
-pub count_changes-requires : goal.count_changes-requires
-count_changes-requires c =
+pub count_starts-runs-requires : goal.count_starts-runs-requires
+count_starts-runs-requires c =
     let size = c.width.result in
     let bytes = length c.args.bytes.now in
     let end = c.loop-at.at + c.min.result in
@@ -29,7 +30,7 @@ count_changes-requires c =
     record {
       some = c.loop-at.invariant.some;
       order = omega arith;
-      few = omega (arith, c.min.ensures);
+      few = omega (arith, c.min.ensures, c.min-block.ensures);
       within = omega (arith, part, div-add-mod' bytes size, ap (λ (w : ℕ). end * w) c.width.ensures);
     }
 

@@ -8,6 +8,7 @@ abbrev pub invariant-loop-at : goal.invariant-loop-at
 invariant-loop-at l = record {
   counted : l.runs + runs_from l.fn.kind l.fn.bytes (l.at - 1) ≡ runs_in (raw_cells l.fn.kind l.fn.bytes) + 1;
   few : l.runs ≤ l.at;
+  begun : 1 ≤ l.runs;
   some : 1 ≤ l.at;
   within : l.at ≤ l.count;
 }

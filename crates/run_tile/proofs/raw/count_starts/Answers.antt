@@ -1,9 +1,9 @@
--- With the next value there are as many changes as before, or one more where it differs from the one before.
+-- With the next value there is one more that repeats the one before, or one more run begins.
 use Rattle.std.proofs.Common.{◌-◌, ◌+◌, ◌*◌, ◌≤◌, ap, arith, mul-le-mul_right}
 use Rattle.run_tile.specs.Types.{width_of}
 use Rattle.run_tile.specs.Raw.{runs_from}
-use Rattle.run_tile.proofs.RawTiles.{changes-step}
-use Rattle.run_tile.proofs.raw.count_changes.Goals as goal
+use Rattle.run_tile.proofs.RawTiles.{repeats-step}
+use Rattle.run_tile.proofs.raw.count_starts.Goals as goal
 
 pub loop-place-preserved : goal.loop-place-preserved
 loop-place-preserved c =
@@ -11,6 +11,6 @@ loop-place-preserved c =
     let bytes = c.args.bytes.now in
     let place = c.loop-place.place in
     let room : (place + 1) * width_of kind ≤ c.args.end * width_of kind = mul-le-mul_right (width_of kind) (omega arith) in
-    let step = changes-step kind bytes (place - 1) place (omega arith) (omega (arith, room, c.requires.within)) in
+    let step = repeats-step kind bytes (place - 1) place (omega arith) (omega (arith, room, c.requires.within)) in
     let same = ap (runs_from kind bytes) {x = place + 1 - 1} {y = place} (omega arith) in
-    record { counted = omega (arith, c.loop-place.invariant.counted, step, same, c.change_at-changes.ensures.value); few = omega (arith, c.change_at-changes.ensures.small, c.loop-place.invariant.few) }
+    record { counted = omega (arith, c.loop-place.invariant.counted, step, same, c.repeats_at-repeats.ensures.value); few = omega (arith, c.repeats_at-repeats.ensures.small, c.loop-place.invariant.few) }
