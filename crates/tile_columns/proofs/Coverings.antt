@@ -1,16 +1,16 @@
 -- Tiles over whose boxes indexes turn, axis by axis.
-use Rattle.std.proofs.Common.{◌≡◌, ℕ, ◌+◌, ◌-◌, ◌*◌, ◌/◌, ◌%◌, ◌<◌, ◌≤◌, List, [], ◌∷◌, length, map, min, refl, sym, ap, ◌∙◌, subst, arith, ℤ, pos, ◌+ℤ◌, ◌≤ℤ◌, get_or}
+use Rattle.std.proofs.Common.{◌≡◌, ℕ, ◌+◌, ◌-◌, ◌*◌, ◌/◌, ◌%◌, ◌<◌, ◌≤◌, List, [], ◌∷◌, length, min, sym, ap, ◌∙◌, subst, arith, ℤ, pos, ◌+ℤ◌, ◌≤ℤ◌}
 use Rattle.std.proofs.lemmas.Int.{ints}
 use Rattle.std.proofs.lemmas.Nat.{div-mul-add, mod-mul-add}
 use Rattle.arr_core.specs.declared.domain.Axis.{Axis}
-use Rattle.arr_core.specs.Domains.{gap, size_of, points, count, point_at}
-use Rattle.arr_core.specs.Tiles.{edge_of, grid, part_of, box_at, tile_boxes}
+use Rattle.arr_core.specs.Domains.{gap, size_of, points, count}
+use Rattle.arr_core.specs.Tiles.{edge_of, grid, part_of}
 use Rattle.arr_core.proofs.Points.{lo-add-gap, place_below}
 use Rattle.arr_core.proofs.Grids.{size-cell, part-hi, div-mono, get_or-tile_boxes, length-tile_boxes}
 use Rattle.plan_ir.specs.declared.body.Index.{Index}
-use Rattle.plan_ir.specs.Run.{number_at, numbers_at}
+use Rattle.plan_ir.specs.Run.{numbers_at}
 use Rattle.tile_columns.specs.declared.frame.Variable.{Variable}
-use Rattle.tile_columns.specs.declared.covering.Stretch.{Stretch}
+use Rattle.tile_columns.specs.declared.covering.AxisPart.{AxisPart}
 use Rattle.tile_columns.specs.declared.covering.Covered.{Covered}
 use Rattle.tile_columns.specs.Frames.{environment, environments, turn, turns}
 use Rattle.tile_columns.specs.Covering.{TurnsAlong, box_of_tile, TurnsOver, GoesOver}
@@ -49,7 +49,7 @@ in_front edge a rest place n lt =
     ∙ ap (λ m. part_of edge a (pos place) ∷ box_of_tile edge rest m) r
 
 -- an index more turns over a tile of an axis more
-pub turns_more : (edge : ℕ) (vs : List Variable) (axes rest : List Axis) (a : Axis) (is further : List Index) (i : Index) (s : Stretch) (b t : Covered) → axes ≡ a ∷ rest → is ≡ i ∷ further → TurnsOver edge vs further rest b → TurnsAlong edge a vs i b.points s
+pub turns_more : (edge : ℕ) (vs : List Variable) (axes rest : List Axis) (a : Axis) (is further : List Index) (i : Index) (s : AxisPart) (b t : Covered) → axes ≡ a ∷ rest → is ≡ i ∷ further → TurnsOver edge vs further rest b → TurnsAlong edge a vs i b.points s
     → t.number ≡ s.place * b.tiles + b.number → t.tiles ≡ (gap a.lo a.hi / edge + 1) * b.tiles → t.points ≡ s.size * b.points → TurnsOver edge vs is axes t
 turns_more edge vs axes rest a is further i s b t e f behind along n ts ps =
     let c = count (grid edge rest) in

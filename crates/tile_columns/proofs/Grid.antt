@@ -9,9 +9,9 @@ use Rattle.std.proofs.lemmas.List.Folds.{flat_map-map}
 use Rattle.std.specs.List.{range_with_len, filter, flat_map, All}
 use Rattle.tile_kernel.specs.declared.windows.Span.{Span}
 use Rattle.arr_core.specs.declared.domain.Axis.{Axis}
-use Rattle.arr_core.specs.Domains.{gap, size_of, coordinates, points, count, IsInside, rank_of}
+use Rattle.arr_core.specs.Domains.{gap, size_of, coordinates, points, IsInside, rank_of}
 use Rattle.arr_core.proofs.Points.{at_rank, length-points, rank_of-lt-count, gap-add}
-use Rattle.tile_columns.specs.Reaching.{lies, between, cross, reached, along, EndsBy}
+use Rattle.tile_columns.specs.Reaching.{cross, along, EndsBy}
 use Rattle.tile_kernel.specs.Windows.{in_span}
 
 pub map_map : {X Y Z : Type 0} (f : Y → Z) (g : X → Y) (xs : List X) → map f (map g xs) ≡ map (λ x. f (g x)) xs

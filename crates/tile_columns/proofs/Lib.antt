@@ -2,6 +2,7 @@ pub mod Calls
 pub mod Ranges
 pub mod Turns
 pub mod Coverings
+pub mod Tilings
 pub mod Turning
 pub mod Locating
 pub mod Gathers

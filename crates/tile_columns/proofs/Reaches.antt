@@ -1,5 +1,5 @@
 -- Spans of a halo.
-use Rattle.std.proofs.Common.{◌≡◌, ◌≤ℤ◌, ◌<ℤ◌, ◌+ℤ◌, ℕ, ◌+◌, ◌-◌, ◌<◌, ◌≤◌, arith, ℤ, pos, subst, refl, sym, ap, ◌∙◌, zero, suc, List, [], ◌∷◌, ◌++◌, map, length, get_or}
+use Rattle.std.proofs.Common.{◌≡◌, ◌≤ℤ◌, ◌<ℤ◌, ◌+ℤ◌, ℕ, ◌+◌, ◌≤◌, arith, ℤ, pos, subst, refl, sym, ap, ◌∙◌, zero, suc, List, [], ◌∷◌, ◌++◌, map}
 use Rattle.std.specs.Int.{int_max, int_min}
 use Rattle.std.specs.List.{range_with_len, All}
 use Rattle.std.proofs.lemmas.Int.{ints, clamps}
@@ -7,7 +7,7 @@ use Rattle.std.proofs.lemmas.List.FromFn.{map-range_with_len_more}
 use Rattle.std.proofs.lemmas.List.Elements.{All-append}
 use Rattle.tile_columns.specs.declared.reach.Reach.{Reach}
 use Rattle.tile_kernel.specs.declared.windows.Span.{Span}
-use Rattle.tile_columns.specs.Reaching.{IsReach, between, reached, reached_by, along, extent, EndsBy}
+use Rattle.tile_columns.specs.Reaching.{IsReach, between, reached_by, along, extent, EndsBy}
 use Rattle.tile_columns.proofs.Lying.{spanned, spanned_none}
 
 -- what the window of a place has of the bounds lies in the halo

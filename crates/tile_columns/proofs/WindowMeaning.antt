@@ -1,11 +1,11 @@
 -- What folds of windows give.
-use Rattle.std.proofs.Common.{◌≡◌, ℕ, zero, suc, ◌+◌, ◌*◌, ◌≤◌, ◌<◌, ◌^◌, ℤ, pos, negsuc, ◌+ℤ◌, ◌≤ℤ◌, int_le, List, [], ◌∷◌, ◌++◌, map, length, get_or, Bool, true, false, cond, ◌&&◌, Option, Some, None, refl, ap, sym, ◌∙◌, subst, arith, append_assoc}
+use Rattle.std.proofs.Common.{◌≡◌, ℕ, zero, suc, ◌+◌, ◌*◌, ◌≤◌, ◌<◌, ◌^◌, ℤ, pos, negsuc, ◌+ℤ◌, ◌≤ℤ◌, int_le, List, [], ◌∷◌, ◌++◌, map, length, get_or, Bool, true, false, cond, ◌&&◌, None, refl, ap, sym, ◌∙◌, subst, arith, append_assoc}
 use Rattle.std.proofs.lemmas.Int.{ints}
 use Rattle.std.proofs.lemmas.Bool.Decides.{nat_tests}
 use Rattle.std.proofs.lemmas.List.{get_or-map, length-map}
 use Rattle.std.proofs.lemmas.List.Folds.{flat_map-map}
 use Rattle.std.proofs.lemmas.List.FromFn.{length-map-range_with_len}
-use Rattle.std.specs.List.{range_with_len, filter, flat_map, All}
+use Rattle.std.specs.List.{range_with_len, flat_map, All}
 use Rattle.arr_core.specs.declared.domain.Axis.{Axis}
 use Rattle.arr_core.specs.Domains.{gap, coordinates, points, count, IsInside}
 use Rattle.wcps_text.specs.declared.operator.Aggregate.{Aggregate}
@@ -14,26 +14,25 @@ use Rattle.wcps_mean.specs.declared.cell.PointFault.{PointFault}
 use Rattle.wcps_mean.specs.declared.cell.PointFault.TheVariants.{OutOfDomain, Overflow}
 use Rattle.wcps_mean.specs.declared.cell.Outcome.{Outcome}
 use Rattle.wcps_mean.specs.declared.cell.Outcome.TheVariants.{Value, Fault}
-use Rattle.wcps_mean.specs.Cells.{operate2, at_position, ranged, fits_64, truth}
+use Rattle.wcps_mean.specs.Cells.{operate2, at_position, fits_64, truth}
 use Rattle.wcps_mean.specs.Condensers.{combined, condensed, demanded, first_fault, values, fault_or}
 use Rattle.plan_ir.specs.declared.body.Fold.{Fold}
 use Rattle.plan_ir.specs.declared.body.Index.TheVariants.{Var}
-use Rattle.plan_ir.specs.Bodies.{Tree, var, op2, read, bind, fold, body_view, condition_view, fold_view}
+use Rattle.plan_ir.specs.Bodies.{read, body_view, condition_view, fold_view}
 use Rattle.plan_ir.specs.Run.{run, numbers_at}
 use Rattle.plan_ir.specs.Planned.{cells_of}
 use Rattle.plan_ir.specs.Units.{bound_times}
 use Rattle.tile_columns.specs.declared.ground.Ground.{Ground}
 use Rattle.tile_columns.specs.declared.reach.Extents.{Extents}
 use Rattle.tile_columns.specs.declared.reach.Reach.{Reach}
-use Rattle.tile_columns.specs.declared.windows.Sight.{Sight}
 use Rattle.tile_columns.specs.declared.windows.Pattern.{Pattern}
 use Rattle.tile_columns.specs.declared.windows.Window.{Window}
-use Rattle.tile_columns.specs.Reaching.{lies, between, cross, extent, reached, reached_by, IsReach, HasExtents}
+use Rattle.tile_columns.specs.Reaching.{lies, between, cross, extent, IsReach, HasExtents}
 use Rattle.tile_columns.specs.Sources.{SourceState}
 use Rattle.tile_columns.specs.Meaning.{meaning}
-use Rattle.tile_columns.specs.Windows.{Means, moved, edges, window_tree, column_tree, IsPattern, GoesOver, IsWindow, cells_within, windows_of, field_cells, window_places, halo_cells}
+use Rattle.tile_columns.specs.Windows.{moved, edges, window_tree, column_tree, IsPattern, IsWindow, cells_within, windows_of, field_cells, window_places, halo_cells}
 use Rattle.tile_columns.proofs.Boxes.{points_inside}
-use Rattle.tile_columns.proofs.Grid.{map_map, map_all, flat_same, flat_over, points_cross, flat_cross, map_cross, chosen_reached, length_cross}
+use Rattle.tile_columns.proofs.Grid.{map_map, map_all, flat_over, points_cross, flat_cross, map_cross, chosen_reached, length_cross}
 
 -- ---- outcomes
 

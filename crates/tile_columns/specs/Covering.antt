@@ -6,12 +6,12 @@ use Rattle.arr_core.specs.Tiles.{grid, part_of, box_at, tile_boxes}
 use Rattle.plan_ir.specs.declared.body.Index.{Index}
 use Rattle.plan_ir.specs.Run.{number_at, numbers_at}
 use Rattle.tile_columns.specs.declared.frame.Variable.{Variable}
-use Rattle.tile_columns.specs.declared.covering.Stretch.{Stretch}
+use Rattle.tile_columns.specs.declared.covering.AxisPart.{AxisPart}
 use Rattle.tile_columns.specs.declared.covering.Covered.{Covered}
 use Rattle.tile_columns.specs.Frames.{environment, turn, turns}
 
 -- an index turns over what tiles have of an axis at a place, each coordinate so many times
-pub record TurnsAlong (edge : ℕ) (a : Axis) (variables : List Variable) (i : Index) (every : ℕ) (s : Stretch) : Type 0 where
+pub record TurnsAlong (edge : ℕ) (a : Axis) (variables : List Variable) (i : Index) (every : ℕ) (s : AxisPart) : Type 0 where
   pub within : s.place ≤ gap a.lo a.hi / edge
   pub size : s.size ≡ size_of (part_of edge a (pos s.place))
   pub turns : (k : ℕ) → number_at (environment variables k) i ≡ turn (part_of edge a (pos s.place)).lo (part_of edge a (pos s.place)).hi every k

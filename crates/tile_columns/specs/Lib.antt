@@ -4,6 +4,7 @@ pub mod Calling
 pub mod Locating
 pub mod Readings
 pub mod Covering
+pub mod Tiling
 pub mod Spots
 pub mod Gathering
 pub mod Stretches

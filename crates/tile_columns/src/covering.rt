@@ -12,7 +12,7 @@ use tile_kernel::MAX_PLACES;
 
 /// What tiles have of an axis at one place: how many tiles are before it, and how many coordinates it has.
 #[derive(Clone, Copy)]
-pub(crate) struct Stretch {
+pub(crate) struct AxisPart {
     pub place: u64,
     pub size: u64,
 }
@@ -26,13 +26,13 @@ pub(crate) struct Covered {
 }
 
 /// What tiles have of an axis where an index turns, if it turns over just that, each coordinate so many times.
-fn stretch_of(
+fn part_under(
     variables: &[Variable],
     index: Index,
     axis: &Axis,
     edge: u64,
     every: u64,
-) -> Option<Stretch>
+) -> Option<AxisPart>
     requires ordered { axis.now.lo ≤ℤ axis.now.hi }
     requires some { 0 < edge }
     requires small { edge ≤ max_tile }
@@ -53,25 +53,25 @@ fn stretch_of(
     if first != from || distance(axis.lo, hi) != to || !turns_as(variables, index, lo, hi, every) {
         return None;
     }
-    Some(Stretch {
+    Some(AxisPart {
         place,
         size: to - from + 1,
     })
 }
 
 /// The tile of one more axis in front.
-fn in_front(axis: &Axis, edge: u64, stretch: Stretch, behind: Covered) -> Covered
+fn in_front(axis: &Axis, edge: u64, part: AxisPart, behind: Covered) -> Covered
     requires edge { 0 < edge }
-    requires stretch { (stretch.place < 2 ^ 32) × (stretch.size ≤ max_tile) }
+    requires part { (part.place < 2 ^ 32) × (part.size ≤ max_tile) }
     requires behind { (behind.number < behind.tiles) × (behind.tiles ≤ max_points) × (behind.points ≤ max_tile) }
-    ensures number { result.number ≡ stretch.place * behind.tiles + behind.number }
+    ensures number { result.number ≡ part.place * behind.tiles + behind.number }
     ensures tiles { result.tiles ≡ (gap axis.now.lo axis.now.hi / edge + 1) * behind.tiles }
-    ensures points { result.points ≡ stretch.size * behind.points }
+    ensures points { result.points ≡ part.size * behind.points }
 {
     Covered {
-        number: stretch.place * behind.tiles + behind.number,
+        number: part.place * behind.tiles + behind.number,
         tiles: (distance(axis.lo, axis.hi) / edge + 1) * behind.tiles,
-        points: stretch.size * behind.points,
+        points: part.size * behind.points,
     }
 }
 
@@ -105,9 +105,9 @@ pub(crate) fn tile_covered(
                     if behind.points > MAX_PLACES as u64 {
                         return None;
                     }
-                    match stretch_of(variables, *index, axis, edge, behind.points) {
+                    match part_under(variables, *index, axis, edge, behind.points) {
                         None => None,
-                        Some(stretch) => Some(in_front(axis, edge, stretch, behind)),
+                        Some(part) => Some(in_front(axis, edge, part, behind)),
                     }
                 }
             },

@@ -3,12 +3,15 @@
 ghost use Rattle.std.specs.Prelude.{◌≡◌, ℕ, ◌+◌, ◌*◌, ◌<◌, ◌≤◌, ◌^◌, ◌≤ℤ◌, ◌+ℤ◌, ℤ, pos, List, [], ◌++◌, length, take, map, slice_index_or, replicate, IsTrue, IfSome, OnOk, IfOk};
 ghost use Rattle.std.specs.List.{All};
 ghost use Rattle.arr_core.specs.Domains.{gap, size_of, points, count, AreOrdered};
+ghost use Rattle.arr_core.specs.Tiles.{tile_boxes};
 ghost use Rattle.plan_ir.specs.Run.{number_at, numbers_at};
 ghost use Rattle.tile_columns.specs.Frames.{turn, number_of, environment, HasPlaces, under, extended, turns, TellsAt, Adds, number_there, by_place, StayWhole};
 ghost use Rattle.tile_columns.specs.Covering.{GoesOver};
+ghost use Rattle.tile_columns.specs.TileOrder.{tile_of};
 
 use crate::covering::tile_covered;
 use crate::numbers::fill_list;
+use crate::tiling::push_tile;
 use arr_core::{Axis, Domain, distance};
 use plan_ir::{Index, Interval};
 use std::alloc::{AllocError, Global};
@@ -240,6 +243,19 @@ impl Frame {
         push_axes(&mut variables, area.axes(), places)?;
         Ok(Frame {
             places: places as usize,
+            variables,
+        })
+    }
+
+    /// The coordinates of the box of a tile, in row-major order.
+    pub fn of_tile(alloc: Global, domain: &Domain, tile: u64) -> Result<Frame, AllocError>
+        requires { tile < length (tile_boxes domain.now) }
+        ensures { IfOk result (λ f. f ≡ points (tile_of domain.now tile)) }
+    {
+        let mut variables = Vec::new(alloc);
+        let behind = push_tile(&mut variables, domain.axes(), domain.tile_edge(), tile)?;
+        Ok(Frame {
+            places: behind.points as usize,
             variables,
         })
     }

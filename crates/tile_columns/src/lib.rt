@@ -26,6 +26,7 @@ mod sides;
 mod source;
 mod spots;
 mod stretches;
+mod tiling;
 mod windows;
 mod zones;
 

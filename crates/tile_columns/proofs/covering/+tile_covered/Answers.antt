@@ -1,9 +1,8 @@
 -- The tile of the axes behind, and the part of the first one.
-use Rattle.std.proofs.Common.{◌≡◌, ◌∙◌, ◌-◌, ◌≤◌, arith, List, length, take, drop, subst, ap, sym}
+use Rattle.std.proofs.Common.{◌-◌, ◌≤◌, arith, List, length, take, drop, subst, sym}
 use Rattle.arr_core.specs.declared.domain.Axis.{Axis}
 use Rattle.arr_core.specs.Domains.{count}
 use Rattle.arr_core.specs.Limits.{max_points}
-use Rattle.arr_core.specs.Tiles.{grid}
 use Rattle.arr_core.proofs.Points.{count-rest}
 use Rattle.arr_core.proofs.Grids.{count-grid}
 use Rattle.wcps_mean.proofs.Ranks.{cut}
@@ -21,9 +20,9 @@ in_front-requires-clause-behind t c =
     let least : count rest ≤ count axes = subst (λ (x : List Axis). count rest ≤ count x) (sym e) (count-rest a rest) in
     (c.in-Some.ensures.number, omega (arith, c.in-Some.ensures.tiles, count-grid c.args.edge rest, least, few), c.if-behind.false)
 
-pub returns-in-Some-stretch_of : goal.returns-in-Some-stretch_of
-returns-in-Some-stretch_of t c =
+pub returns-in-Some-part_under : goal.returns-in-Some-part_under
+returns-in-Some-part_under t c =
     let e = cut c.args.axes.now c.axis-item.result c.in-len1-up.len_at_least c.axis-item.is in
-    turns_more c.args.edge c.args.variables.now c.args.axes.now _ c.axis-item.result c.args.indexes.now _ _ c.in-Some-stretch_of.stretch c.in-Some.behind c.in_front.result
-    e (cut_first c.args.indexes.now _ c.in-len1-up-indexes.len_at_least) c.in-Some.ensures c.in-Some-stretch_of.ensures.turns
+    turns_more c.args.edge c.args.variables.now c.args.axes.now _ c.axis-item.result c.args.indexes.now _ _ c.in-Some-part_under.part c.in-Some.behind c.in_front.result
+    e (cut_first c.args.indexes.now _ c.in-len1-up-indexes.len_at_least) c.in-Some.ensures c.in-Some-part_under.ensures.turns
     c.in_front.ensures.number c.in_front.ensures.tiles c.in_front.ensures.points

@@ -1,5 +1,5 @@
 -- The cells, as values.
-use Rattle.std.proofs.Common.{◌≡◌, ◌∙◌, ℤ, List, ap, sym, arith, map, length, get_or, []}
+use Rattle.std.proofs.Common.{◌∙◌, ap, sym, arith, map, get_or, []}
 use Rattle.std.specs.Prelude.{slice_get}
 use Rattle.std.proofs.lemmas.List.{length-map}
 use Rattle.arr_core.specs.Domains.{points, count}

@@ -1,6 +1,5 @@
 -- Some rows more, and all of them.
-use Rattle.std.proofs.Common.{◌≡◌, ◌∙◌, ◌+◌, ◌-◌, ◌*◌, ◌/◌, ◌<◌, ◌≤◌, ◌++◌, ◌+ℤ◌, pos, ap, sym, subst, arith, map, rules, SFits, w32, to_z, of_z, ℕ, ℤ, List}
-use Rattle.std.specs.Prelude.{min}
+use Rattle.std.proofs.Common.{◌≡◌, ◌∙◌, ◌+◌, ◌-◌, ◌*◌, ◌/◌, ◌<◌, ◌≤◌, ◌++◌, ◌+ℤ◌, pos, ap, subst, arith, map, rules, SFits, w32, to_z, of_z, ℕ, ℤ, List}
 use Rattle.std.proofs.lemmas.Int.{ints}
 use Rattle.tile_columns.specs.Reaching.{between, cross, extent}
 use Rattle.tile_columns.specs.Windows.{field_cells}

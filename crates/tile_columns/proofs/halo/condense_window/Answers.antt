@@ -1,11 +1,11 @@
 -- The windows of the halo's cells are those of the places.
-use Rattle.std.proofs.Common.{◌≡◌, ◌∙◌, ◌*◌, ◌≤◌, [], ◌∷◌, ap, sym, subst, arith, map, length, List}
+use Rattle.std.proofs.Common.{◌∙◌, ◌*◌, [], ap, sym, subst, arith, map, length}
 use Rattle.std.specs.List.{All}
 use Rattle.std.proofs.Math.Nat.{mul-le-mul_right}
 use Rattle.arr_core.specs.declared.domain.Axis.{Axis}
 use Rattle.wcps_mean.specs.Condensers.{combined}
 use Rattle.tile_columns.specs.Reaching.{between, extent, reached_by, EndsBy}
-use Rattle.tile_columns.specs.Windows.{field_cells, window_places}
+use Rattle.tile_columns.specs.Windows.{field_cells}
 use Rattle.tile_columns.proofs.Grid.{points_cross, windows, windows_many, windows_cross}
 use Rattle.tile_columns.proofs.halo.condense_window.Goals as goal
 

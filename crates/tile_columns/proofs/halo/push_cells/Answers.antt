@@ -1,5 +1,5 @@
 -- The values of the column that is read.
-use Rattle.std.proofs.Common.{◌≡◌, ◌∙◌, ◌++◌, ap, arith, map, length, length-append}
+use Rattle.std.proofs.Common.{ap, arith, map, length, length-append}
 use Rattle.std.proofs.lemmas.List.{length-map}
 use Rattle.tile_columns.specs.Readings.{cell_read}
 use Rattle.tile_columns.specs.Windows.{value_of}

@@ -1,5 +1,5 @@
 -- One more value, and all of them.
-use Rattle.std.proofs.Common.{◌≡◌, ◌∙◌, ◌++◌, ap, arith, rules, map, SFits, w64}
+use Rattle.std.proofs.Common.{◌∙◌, ◌++◌, ap, arith, rules, map, SFits, w64}
 use Rattle.std.proofs.lemmas.Int.{to_z-of_z}
 use Rattle.wcps_mean.proofs.Stacks.{take-whole}
 use Rattle.tile_kernel.proofs.Places.{outcome_there}

@@ -1,5 +1,5 @@
 -- The halo's bounds are among those of the coverage.
-use Rattle.std.proofs.Common.{◌≡◌, ◌≤ℤ◌, ◌+ℤ◌, rules, arith, ℤ, pos, SFits, w32, w64, to_z, of_z, subst, sym, ◌∙◌}
+use Rattle.std.proofs.Common.{◌≡◌, ◌≤ℤ◌, ◌+ℤ◌, rules, arith, ℤ, SFits, w32, w64, to_z, of_z, subst, sym, ◌∙◌}
 use Rattle.std.specs.Int.{int_max, int_min}
 use Rattle.tile_columns.specs.Reaching.{IsReach}
 use Rattle.std.proofs.lemmas.Int.{ints, clamps, to_z-of_z}

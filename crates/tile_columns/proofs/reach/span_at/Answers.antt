@@ -1,5 +1,5 @@
 -- The span of a place.
-use Rattle.std.proofs.Common.{◌≡◌, ◌≤ℤ◌, ◌<ℤ◌, ◌+ℤ◌, rules, arith, ℤ, pos, SFits, w32}
+use Rattle.std.proofs.Common.{◌≡◌, ◌≤ℤ◌, ◌+ℤ◌, rules, arith, SFits, w32}
 use Rattle.std.specs.Int.{int_max, int_min}
 use Rattle.std.proofs.lemmas.Int.{ints, to_z-of_z}
 use Rattle.tile_columns.proofs.Reaches.{from_halo, to_halo, no_span, some_span, span_within}

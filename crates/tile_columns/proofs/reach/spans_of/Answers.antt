@@ -1,5 +1,5 @@
 -- One more span, and all of them.
-use Rattle.std.proofs.Common.{rules, arith, ◌∙◌, ◌≡◌, ◌+ℤ◌, pos, ap, SFits, w32}
+use Rattle.std.proofs.Common.{rules, arith, ◌≡◌, ◌+ℤ◌, pos, SFits, w32}
 use Rattle.std.proofs.lemmas.Int.{ints, to_z-of_z}
 use Rattle.std.proofs.lemmas.Grind.{common_steps}
 use Rattle.tile_columns.specs.Reaching.{along, reached_by}

@@ -1,5 +1,5 @@
 -- The variables go over the points of a box of these extents.
-use Rattle.std.proofs.Common.{◌≡◌, ◌∙◌}
+use Rattle.std.proofs.Common.{◌∙◌}
 use Rattle.tile_columns.proofs.WindowMeaning.{extents_points}
 use Rattle.tile_columns.proofs.windows.places_of.Goals as goal
 

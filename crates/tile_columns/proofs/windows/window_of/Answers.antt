@@ -1,5 +1,5 @@
 -- What was tested one by one.
-use Rattle.std.proofs.Common.{◌≡◌, ◌∙◌, ◌*◌, refl, sym, ap, subst, arith, length}
+use Rattle.std.proofs.Common.{◌∙◌, ◌*◌, refl, sym, ap, subst, arith, length}
 use Rattle.plan_ir.specs.declared.body.Interval.{Interval}
 use Rattle.tile_columns.specs.Reaching.{HasExtents}
 use Rattle.tile_columns.specs.Windows.{GoesOver}

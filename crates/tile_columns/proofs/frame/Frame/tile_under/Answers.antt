@@ -1,6 +1,5 @@
 -- As many places as the tile has points, and at each the point.
-use Rattle.std.proofs.Common.{◌≡◌, ◌∙◌, sym, ap, length, List, subst, rules}
-use Rattle.arr_core.specs.declared.domain.Axis.{Axis}
+use Rattle.std.proofs.Common.{◌≡◌, length, subst, rules}
 use Rattle.arr_core.specs.Tiles.{edge_of}
 use Rattle.tile_columns.specs.Covering.{TurnsOver, GoesOver}
 use Rattle.tile_columns.proofs.Coverings.{covers}

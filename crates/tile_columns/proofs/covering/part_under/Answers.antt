@@ -1,12 +1,12 @@
 -- The bounds of the variable are those of the part of the axis at their place.
-use Rattle.std.proofs.Common.{rules, arith, ◌≡◌, ◌∙◌, ◌+◌, ◌-◌, ◌*◌, ◌/◌, min, sym, ap, pos, ◌≤ℤ◌, SFits, w32, to_z, of_z}
-use Rattle.std.proofs.lemmas.Int.{to_z-of_z, ints}
+use Rattle.std.proofs.Common.{rules, ◌≡◌, ◌∙◌, ◌+◌, ◌-◌, ◌*◌, ◌/◌, min, sym, ap, pos, SFits, w32, to_z, of_z}
+use Rattle.std.proofs.lemmas.Int.{to_z-of_z}
 use Rattle.arr_core.specs.Domains.{gap}
 use Rattle.arr_core.specs.Tiles.{part_of}
 use Rattle.tile_columns.specs.Frames.{turn}
 use Rattle.tile_columns.proofs.Turns.{gap_of}
 use Rattle.tile_columns.proofs.Coverings.{Part, part_is}
-use Rattle.tile_columns.proofs.covering.stretch_of.Goals as goal
+use Rattle.tile_columns.proofs.covering.part_under.Goals as goal
 
 pub returns-clause-turns : goal.returns-clause-turns
 returns-clause-turns c =
