@@ -1,7 +1,7 @@
 -- The task at hand, by its place in the plan.
 use Rattle.std.proofs.Common.{◌≡◌, ℕ, zero, suc, ◌+◌, ℤ, ◌<◌, ◌≤◌, List, [], ◌∷◌, ◌++◌, length, map, get_or, take, drop, refl, sym, ap, ◌∙◌, subst, arith, Option, Some, None}
 use Rattle.std.specs.Prelude.{slice_get, IsSomeAnd, IfOk, OnOk, Result, Ok, Err, sum_by}
-use Rattle.std.specs.List.{flat_map}
+use Rattle.std.specs.List.{All, flat_map}
 use Rattle.std.proofs.lemmas.List.{length-take-le, length-drop}
 use Rattle.std.proofs.lemmas.List.Concat.{flat_map-cons}
 use Rattle.arr_core.specs.declared.domain.Axis.{Axis}
@@ -22,9 +22,9 @@ use Rattle.tile_exec.specs.declared.task.Task.{Task}
 use Rattle.tile_exec.specs.declared.task.Part.TheVariants as part
 use Rattle.tile_exec.specs.declared.state.State.{State}
 use Rattle.tile_exec.specs.Tasks.{PartTree, TaskTree, pass, condition, item, fieldless, area_of, bodies_of, stages_of}
-use Rattle.tile_columns.specs.Evaluating.{HasPlace}
+use Rattle.tile_columns.specs.Evaluating.{HasPlace, fetches}
 use Rattle.tile_columns.specs.TileOrder.{tile_of}
-use Rattle.tile_columns.proofs.Boxes.{points_within}
+use Rattle.tile_columns.proofs.Boxes.{points_within, points_deep, fetches_bound}
 use Rattle.tile_exec.specs.Passes.{told_to_pass}
 use Rattle.tile_exec.specs.Standing.{plan_of, tasks_left, boxes_left, IsPartOf, IsTask, AreTasks, MovesOver}
 use Rattle.tile_exec.specs.Units.{first_bound, LosesFirst}
@@ -97,6 +97,12 @@ told_where s regs p (q ∷ qs) = ap (λ l. told_to_pass s regs p q ++ l) (told_w
 -- a body that has its place over a box has it at the points of a part
 pub placed_within : (cs : ℕ → Option Signature) (regs : ℕ) (area part : List Axis) (body : Tree) → IsPlaced cs regs (spans area) body → IsBoxOf area part → AreOrdered part → HasPlace cs regs body (points part)
 placed_within cs regs area part body h inside o = record { scope = spans area; placed = h; within = points_within area part inside o }
+
+-- what a body fetches at the points of a box
+pub bounded_over : (cs : ℕ → Option Signature) (box : List Axis) (envs : List (List ℤ)) (t : Tree) (old new : ℕ) → envs ≡ points box → AreOrdered box → ((n : ℕ) → All (λ (e : List ℤ). n ≤ length e) envs → new ≤ old + fetches cs n envs t) → new ≤ old + bound_of cs box t
+bounded_over cs box envs t old new e o h =
+    let deep : All (λ (v : List ℤ). length box ≤ length v) envs = subst (All (λ (v : List ℤ). length box ≤ length v)) (sym e) (points_deep box o) in
+    subst (λ n. new ≤ old + n) (ap (λ l. fetches cs (length box) l t) e ∙ fetches_bound cs box t) (h (length box) deep)
 
 pub ok_map : {A E : Type 0} (r : Result A E) (P Q : A → Type 0) → ((a : A) → P a → Q a) → IfOk r P → IfOk r Q
 ok_map (Ok a) P Q f h = f a h

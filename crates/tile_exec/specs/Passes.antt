@@ -1,13 +1,13 @@
 -- What the points of a pass's box tell it.
 use Rattle.std.specs.Prelude.{ℕ, ℤ, List, map}
 use Rattle.std.specs.List.{flat_map}
-use Rattle.arr_core.specs.declared.domain.Axis.{Axis}
 use Rattle.arr_core.specs.Domains.{points, rank_of}
 use Rattle.wcps_mean.specs.declared.cell.Outcome.{Outcome}
 use Rattle.plan_ir.specs.Plans.{PassTree}
 use Rattle.plan_ir.specs.Run.{run}
 use Rattle.tile_kernel.specs.Told.{Told, demanded_of}
 use Rattle.tile_columns.specs.TileOrder.{tile_of}
+use Rattle.tile_exec.specs.declared.pass.TileOf.{TileOf}
 use Rattle.tile_exec.specs.Tasks.{Cells}
 
 -- what a point tells a pass: the condition's fault, or nothing, or the body's outcome, at the point's place in the box
@@ -18,6 +18,6 @@ told_to_pass s regs p q = demanded_of (rank_of p.domain q) (run s regs p.conditi
 abbrev pub told_by_tile : Cells → List Outcome → PassTree → ℕ → List Told
 told_by_tile s regs p tile = flat_map (told_to_pass s regs p) (points (tile_of p.domain tile))
 
--- the places of a part's points in the row-major list of its box's
-abbrev pub ranks_in : List Axis → List Axis → List ℕ
-ranks_in area part = map (rank_of area) (points part)
+-- the places of a tile's points in the row-major list of the points of its box
+abbrev pub ranks_of : TileOf → List ℕ
+ranks_of of = map (rank_of of.area.now) (points (tile_of of.area.now of.tile))

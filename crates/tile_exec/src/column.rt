@@ -5,7 +5,7 @@ ghost use Rattle.arr_core.specs.Domains.{points, count};
 ghost use Rattle.plan_ir.specs.Bodies.{body_view};
 ghost use Rattle.tile_columns.specs.Calling.{Reads};
 ghost use Rattle.tile_columns.specs.Fields.{HavePlaces};
-ghost use Rattle.tile_columns.specs.Meaning.{IsGroundOf, HasPlaceOver, IsColumnOf};
+ghost use Rattle.tile_columns.specs.Meaning.{IsGroundOf, HasPlaceOver, IsColumnOf, Fetches};
 ghost use Rattle.tile_exec.specs.Fetching.{as_item, ItemHasPlace, AreItemColumns, FetchesBody, FetchesOver};
 
 use crate::workspace::Memory;
@@ -14,6 +14,28 @@ use plan_ir::{Body, Item};
 use tile_columns::{Frame, Ground, Tiles, evaluate, evaluate_fields};
 use tile_kernel::Column;
 use wcps_mean::CellError;
+
+/// Makes a column the outcomes of a body at the places of a frame, as runs where these are fewer.
+pub(crate) fn column_at<S: Tiles>(
+    memory: &mut Memory,
+    source: &mut S,
+    ground: &Ground<'_>,
+    frame: &mut Frame,
+    body: &Body,
+    out: &mut Column,
+) -> Result<(), CellError>
+    requires signatures { IsGroundOf (S.state source.old) ground.now }
+    requires place { HasPlaceOver (S.state source.old) ground.now (body_view body.now) frame.old }
+    ensures value { OnOk result (IsColumnOf (S.state source.old) ground.now (body_view body.now) frame.old out.new) }
+    ensures places { OnOk result (length out.new ≡ length frame.old) }
+    ensures frame { OnOk result (frame.new ≡ frame.old) }
+    ensures reads { Reads S.Tiles result source.old source.new }
+    ensures fetched { Fetches result ground.now (body_view body.now) frame.old S.Tiles source.old source.new }
+{
+    memory.scratch.keep_runs(true);
+    evaluate(source, ground, body, frame, &mut memory.scratch, out)?;
+    Ok(())
+}
 
 /// Makes a column the outcomes of a body at the points of a box, in row-major order.
 pub(crate) fn column_over<S: Tiles>(
@@ -34,8 +56,7 @@ pub(crate) fn column_over<S: Tiles>(
 {
     let _axes = at.axes();
     let mut frame = Frame::of_box(memory.alloc, at)?;
-    memory.scratch.keep_runs(true);
-    evaluate(source, ground, body, &mut frame, &mut memory.scratch, out)?;
+    column_at(memory, source, ground, &mut frame, body, out)?;
     Ok(())
 }
 

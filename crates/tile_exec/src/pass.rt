@@ -1,7 +1,7 @@
 //! A tile of a pass, and a condition.
 
-ghost use Rattle.std.specs.Prelude.{◌≡◌, ◌<◌, ◌≤◌, [], length, IfOk};
-ghost use Rattle.arr_core.specs.Domains.{points, IsBoxOf};
+ghost use Rattle.std.specs.Prelude.{◌≡◌, ◌<◌, ◌≤◌, [], length, IfOk, OnOk};
+ghost use Rattle.arr_core.specs.Domains.{points};
 ghost use Rattle.arr_core.specs.Tiles.{tile_boxes};
 ghost use Rattle.tile_kernel.specs.Told.{told_at, demanded_at};
 ghost use Rattle.tile_kernel.specs.Standing.{Stands};
@@ -9,41 +9,58 @@ ghost use Rattle.tile_columns.specs.Calling.{Reads};
 ghost use Rattle.tile_columns.specs.Meaning.{IsGroundOf};
 ghost use Rattle.tile_columns.specs.TileOrder.{tile_of};
 ghost use Rattle.tile_exec.specs.declared.found.Found.TheVariants.{Pass, Condition};
-ghost use Rattle.tile_exec.specs.Passes.{ranks_in};
+ghost use Rattle.tile_exec.specs.Passes.{ranks_of};
 ghost use Rattle.tile_exec.specs.Units.{IsFound};
 ghost use Rattle.tile_exec.specs.Fetching.{as_pass, as_condition, IsPartOver, FetchesBody, FetchesTile};
 
-use crate::column::column_over;
+use crate::column::{column_at, column_over};
 use crate::workspace::Workspace;
 use arr_core::Domain;
 use plan_ir::{Body, Fold};
-use std::alloc::AllocError;
-use tile_columns::{Ground, Tiles, ranks};
+use std::alloc::{AllocError, Global};
+use tile_columns::{Frame, Ground, Tiles, ranks};
 use tile_kernel::{
     Accumulator, Column, fold_column, fold_column_where, fold_values, fold_values_where,
 };
 use wcps_mean::{CellError, Outcome};
 use wcps_text::Aggregate;
 
-/// What a column tells a condenser, whose cells have the places that a part's points have in a box. The places are
-/// listed only where a cell may have a fault.
+/// A tile of a box, by its number.
+#[derive(Clone, Copy)]
+struct TileOf<'a> {
+    area: &'a Domain,
+    tile: u64,
+}
+
+/// Lists the places that the points of a tile have in its box.
+fn list_places(alloc: Global, of: TileOf<'_>, places: &mut Vec<u64>) -> Result<(), AllocError>
+    requires { of.tile < length (tile_boxes of.area.now) }
+    ensures { OnOk result (places.new.items ≡ ranks_of of.entry) }
+{
+    let part = of.area.tile_box(alloc, of.tile)?;
+    ranks(places, of.area, &part)?;
+    Ok(())
+}
+
+/// What a column of the cells of a tile tells a condenser. Their places in the box are listed only where a cell may have a
+/// fault.
 fn fold_part(
+    alloc: Global,
     op: Aggregate,
     column: &Column,
-    area: &Domain,
-    part: &Domain,
+    of: TileOf<'_>,
     places: &mut Vec<u64>,
 ) -> Result<Accumulator, AllocError>
-    requires part { IsBoxOf area.now part.now }
-    requires column { length column.now ≡ length (points part.now) }
-    ensures stands { IfOk result (λ a. Stands a (told_at (ranks_in area.now part.now) column.now)) }
+    requires tile { of.tile < length (tile_boxes of.area.now) }
+    requires column { length column.now ≡ length (points (tile_of of.area.now of.tile)) }
+    ensures stands { IfOk result (λ a. Stands a (told_at (ranks_of of.entry) column.now)) }
     ensures op { IfOk result (λ a. a.running.op ≡ op) }
     ensures count { IfOk result (λ a. a.running.count ≡ length column.now) }
 {
     match fold_values(op, column) {
         Some(accumulator) => Ok(accumulator),
         None => {
-            ranks(places, area, part)?;
+            list_places(alloc, of, places)?;
             Ok(fold_column(op, column, places))
         }
     }
@@ -51,24 +68,24 @@ fn fold_part(
 
 /// The same under a condition.
 fn fold_part_where(
+    alloc: Global,
     op: Aggregate,
     condition: &Column,
     column: &Column,
-    area: &Domain,
-    part: &Domain,
+    of: TileOf<'_>,
     places: &mut Vec<u64>,
 ) -> Result<Accumulator, AllocError>
-    requires part { IsBoxOf area.now part.now }
-    requires column { length column.now ≡ length (points part.now) }
+    requires tile { of.tile < length (tile_boxes of.area.now) }
+    requires column { length column.now ≡ length (points (tile_of of.area.now of.tile)) }
     requires condition { length condition.now ≡ length column.now }
-    ensures stands { IfOk result (λ a. Stands a (demanded_at (ranks_in area.now part.now) condition.now column.now)) }
+    ensures stands { IfOk result (λ a. Stands a (demanded_at (ranks_of of.entry) condition.now column.now)) }
     ensures op { IfOk result (λ a. a.running.op ≡ op) }
     ensures count { IfOk result (λ a. a.running.count ≤ length column.now) }
 {
     match fold_values_where(op, condition, column) {
         Some(accumulator) => Ok(accumulator),
         None => {
-            ranks(places, area, part)?;
+            list_places(alloc, of, places)?;
             Ok(fold_column_where(op, condition, column, places))
         }
     }
@@ -91,51 +108,47 @@ pub(crate) fn pass_tile<S: Tiles>(
     ensures reads { Reads S.Tiles result source.old source.new }
     ensures fetched { FetchesTile result ground.now tile S.Tiles source.old source.new (as_pass pass.now) }
 {
+    let alloc = workspace.memory.alloc;
     let area = &pass.domain;
-    let part = area.tile_box(workspace.memory.alloc, tile)?;
-    let _axes = part.axes();
+    let of = TileOf { area, tile };
+    let _axes = area.axes();
+    let mut frame = Frame::of_tile(alloc, area, tile)?;
     match &pass.condition {
         None => {
-            column_over(
+            column_at(
                 &mut workspace.memory,
                 source,
                 ground,
-                &part,
+                &mut frame,
                 &pass.body,
                 &mut workspace.column,
             )?;
-            let told = fold_part(
-                pass.op,
-                &workspace.column,
-                area,
-                &part,
-                &mut workspace.places,
-            )?;
+            let told = fold_part(alloc, pass.op, &workspace.column, of, &mut workspace.places)?;
             Ok(told)
         }
         Some(condition) => {
-            column_over(
+            column_at(
                 &mut workspace.memory,
                 source,
                 ground,
-                &part,
+                &mut frame,
                 condition,
                 &mut workspace.chosen,
             )?;
-            column_over(
+            column_at(
                 &mut workspace.memory,
                 source,
                 ground,
-                &part,
+                &mut frame,
                 &pass.body,
                 &mut workspace.column,
             )?;
             let told = fold_part_where(
+                alloc,
                 pass.op,
                 &workspace.chosen,
                 &workspace.column,
-                area,
-                &part,
+                of,
                 &mut workspace.places,
             )?;
             Ok(told)

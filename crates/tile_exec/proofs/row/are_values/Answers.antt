@@ -1,5 +1,5 @@
 -- One more column.
-use Rattle.std.proofs.Common.{◌≡◌, ◌<◌, [], refl, sym, subst, arith, length, get_or, below_more}
+use Rattle.std.proofs.Common.{[], refl, sym, subst, arith, length, get_or, below_more}
 use Rattle.std.specs.Prelude.{All}
 use Rattle.std.proofs.lemmas.List.{get_or_default, get_or_read_under}
 use Rattle.std.proofs.lemmas.List.Elements.{All-map}

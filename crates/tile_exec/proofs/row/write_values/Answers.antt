@@ -2,7 +2,7 @@
 use Rattle.std.proofs.Common.{◌≡◌, ◌∙◌, ◌<◌, ◌*◌, ◌∷◌, ◌++◌, [], ap, ap₂, sym, subst, arith, refl, length, map, Bool, ℕ, ℤ, pos, rules, SFits, w64}
 use Rattle.std.proofs.lemmas.Int.{to_z-of_z}
 use Rattle.std.proofs.lemmas.List.{length-set, get_or-map}
-use Rattle.std.specs.Prelude.{List, All, slice_index_or}
+use Rattle.std.specs.Prelude.{List, slice_index_or}
 use Rattle.arr_core.specs.declared.cell.Cell.{Cell}
 use Rattle.arr_core.specs.declared.cell.Cell.TheVariants.{Int}
 use Rattle.wcps_mean.specs.declared.cell.Outcome.{Outcome}
