@@ -16,6 +16,7 @@ use disk_face::Disk;
 use metadata::push_part;
 use std::alloc::{AllocError, Global};
 use thiserror::Error;
+use tile_exec::Workspace;
 
 /// Why a server is not closed.
 #[derive(Clone, Copy, Debug, PartialEq, Eq, Error)]
@@ -111,7 +112,11 @@ impl<D: Disk> Server<D> {
         ensures refused { IfErr result (λ refused. IsNotClosed refused.fault self.coverages refused.server.coverages) }
         ensures desk { IfErr result (λ refused. refused.server.desk ≡ self.desk) }
     {
-        let Server { mut cells, desk } = self;
+        let Server {
+            mut cells,
+            desk,
+            workspace,
+        } = self;
         let alloc = cells.alloc;
         match write_closed(alloc, &mut cells.coverages) {
             Ok(()) => {
@@ -124,18 +129,23 @@ impl<D: Disk> Server<D> {
                 Ok(coverages.into_disk())
             }
             Err(fault) => Err(NotClosed {
-                server: Server { cells, desk },
+                server: Server {
+                    cells,
+                    desk,
+                    workspace,
+                },
                 fault,
             }),
         }
     }
 
     /// Lets go what memory holds beside the coverages, so that a close may find some: the jobs, what is held for them,
-    /// and the tiles and pages that are kept. Takes no memory.
+    /// what units work in, and the tiles and pages that are kept. Takes no memory.
     pub fn let_go(&mut self)
         ensures { self.new ≡ without_jobs self.old }
     {
         self.desk.let_go();
+        self.workspace = Workspace::new(self.cells.alloc);
         self.cells.coverages.let_go();
     }
 

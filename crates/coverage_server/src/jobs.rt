@@ -21,6 +21,7 @@ use http_front::Reply;
 use itoa::Buffer;
 use job_desk::{Answer, FetchError, JobDesk, NoSuchJob, StepError, SubmitError};
 use std::alloc::Global;
+use tile_exec::Workspace;
 use wcps_types::TypedQuery;
 
 /// More bytes than `job 1 left 5` has for any numbers.
@@ -141,6 +142,7 @@ pub fn submit_query<D: Disk>(
 pub fn step_job<D: Disk>(
     cells: &mut AskedCells<D>,
     desk: &mut JobDesk,
+    workspace: &mut Workspace,
     number: u64,
     units: u64,
 ) -> Result<Reply, AnswerError>
@@ -166,7 +168,7 @@ pub fn step_job<D: Disk>(
         return Ok(Reply::Text(reply));
     }
     cells.ask(number, coverages)?;
-    match desk.step(number, units, cells) {
+    match desk.step(number, units, workspace, cells) {
         Ok(_) => Ok(Reply::Text(reply)),
         Err(error) => Err(step_refusal(error)),
     }

@@ -27,6 +27,7 @@ use page_pool::PagePool;
 use raster_store::{Fault, RasterStore};
 use std::alloc::{AllocError, Global};
 use thiserror::Error;
+use tile_exec::Workspace;
 use tile_index::TileIndex;
 
 /// How many pages of a file are kept.
@@ -295,6 +296,7 @@ impl<D: Disk> Server<D> {
             Ok(()) => Ok(Server {
                 cells: AskedCells::new(alloc, coverages),
                 desk: JobDesk::new(alloc),
+                workspace: Workspace::new(alloc),
             }),
             Err(_) => Err(NotOpened {
                 disk: coverages.into_disk(),

@@ -25,7 +25,7 @@ use kvp_front::MAX_QUERY;
 use plan_ir::Plan;
 use plan_rewrite::{lower, rewrite};
 use std::alloc::{AllocError, Global};
-use tile_exec::Exec;
+use tile_exec::{Exec, Workspace};
 use wcps_mean::CellError;
 use wcps_parse::{ParseError, parse};
 use wcps_text::{LexError, Query, Token, lex};
@@ -129,6 +129,7 @@ pub fn typed_text<D: Disk>(
 /// is done a unit after the other.
 fn values_by<D: Disk>(
     cells: &mut AskedCells<D>,
+    workspace: &mut Workspace,
     typed: &TypedQuery,
     exec: &mut Exec,
 ) -> Result<String, AnswerError>
@@ -144,7 +145,7 @@ fn values_by<D: Disk>(
         (FetchesBoxes (plan_in exec.old) cells.old.coverages cells.new.coverages) }
 {
     cells.ask(0, exec.coverages())?;
-    run_down(exec, cells, 0)?;
+    run_down(exec, workspace, cells, 0)?;
     match answer_of(cells.alloc, exec)? {
         Answer::Text(text) => Ok(text),
         Answer::Refused(fault) => Err(AnswerError::Named(fault.refusal())),
@@ -152,7 +153,11 @@ fn values_by<D: Disk>(
 }
 
 /// The comma-separated values of a typed query, or the refusal by its evaluation.
-fn values_of<D: Disk>(cells: &mut AskedCells<D>, typed: &TypedQuery) -> Result<String, AnswerError>
+fn values_of<D: Disk>(
+    cells: &mut AskedCells<D>,
+    workspace: &mut Workspace,
+    typed: &TypedQuery,
+) -> Result<String, AnswerError>
     requires unheld { held_for 0 cells.old.coverages.held ≡ None }
     requires held { All (IsHeld cells.old.coverages.store) typed.now.coverages.items }
     requires some { 1 ≤ length (typed_view typed.now).combinations }
@@ -164,12 +169,16 @@ fn values_of<D: Disk>(cells: &mut AskedCells<D>, typed: &TypedQuery) -> Result<S
 {
     let plan = plan_of(cells.alloc, typed)?;
     let mut exec = Exec::new(cells.alloc, plan)?;
-    values_by(cells, typed, &mut exec)
+    values_by(cells, workspace, typed, &mut exec)
 }
 
 /// The answer to a query, as comma-separated values: the query is typed, then evaluated. It reads the store as it is, as
 /// number 0, and nothing is held for it.
-pub fn process<D: Disk>(cells: &mut AskedCells<D>, text: &str) -> Result<Reply, AnswerError>
+pub fn process<D: Disk>(
+    cells: &mut AskedCells<D>,
+    workspace: &mut Workspace,
+    text: &str,
+) -> Result<Reply, AnswerError>
     requires unheld { held_for 0 cells.old.coverages.held ≡ None }
     ensures answered { AnswersQuery text.now cells.old.coverages cells.new.coverages result }
     ensures answer { IfOk result IsAnswer }
@@ -178,6 +187,6 @@ pub fn process<D: Disk>(cells: &mut AskedCells<D>, text: &str) -> Result<Reply, 
     ensures fetched { FetchesForText text.now cells.old.coverages cells.new.coverages result }
 {
     let typed = typed_text(cells.alloc, &cells.coverages, text)?;
-    let values = values_of(cells, &typed)?;
+    let values = values_of(cells, workspace, &typed)?;
     Ok(Reply::Csv(values))
 }

@@ -30,6 +30,7 @@ use kvp_front::{Insertion, Request, Update, read_request};
 use std::alloc::Global;
 use std::marker::Model;
 use stream_face::{Sink, Source};
+use tile_exec::Workspace;
 
 /// How a connection ended: by a message or the end of the stream, or by a read or a write that failed.
 #[derive(Clone, Copy, PartialEq, Eq)]
@@ -39,11 +40,12 @@ pub enum ConnEnd {
     WriteFault,
 }
 
-/// A server of the coverages of a disk, and its jobs.
+/// A server of the coverages of a disk, its jobs, and what the units of all queries work in.
 #[derive(Drop)]
 pub struct Server<D: Disk> {
     pub(crate) cells: AskedCells<D>,
     pub(crate) desk: JobDesk,
+    pub(crate) workspace: Workspace,
 }
 
 impl<D: Disk> Model for Server<D> {
@@ -199,19 +201,27 @@ impl<D: Disk> Server<D> {
             Request::DeleteCoverage(name) => delete(alloc, &mut self.cells.coverages, name),
             Request::ListCoverages => list(alloc, &self.cells.coverages),
             Request::DescribeCoverage(name) => describe(alloc, &self.cells.coverages, name),
-            Request::ProcessCoverages(query) => process(&mut self.cells, query.as_str()),
+            Request::ProcessCoverages(query) => {
+                process(&mut self.cells, &mut self.workspace, query.as_str())
+            }
             Request::SubmitQuery(query) => {
                 submit_query(&mut self.cells, &mut self.desk, query.as_str())
             }
-            Request::StepJob(asked) => {
-                step_job(&mut self.cells, &mut self.desk, asked.job, asked.units)
-            }
+            Request::StepJob(asked) => step_job(
+                &mut self.cells,
+                &mut self.desk,
+                &mut self.workspace,
+                asked.job,
+                asked.units,
+            ),
             Request::FetchJob(job) => fetch_job(&mut self.desk, *job),
             Request::CancelJob(job) => cancel_job(&mut self.cells, &mut self.desk, *job),
             Request::ExpandTemplate(template) => {
                 expand_template(alloc, &self.cells.coverages, template)
             }
-            Request::ProcessTemplate(template) => process_template(&mut self.cells, template),
+            Request::ProcessTemplate(template) => {
+                process_template(&mut self.cells, &mut self.workspace, template)
+            }
         }
     }
 

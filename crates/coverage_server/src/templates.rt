@@ -20,6 +20,7 @@ use http_front::Reply;
 use kvp_front::{RequestedLayer, TemplateRequest};
 use map_templates::{ExpandError, Layer, Params, expand};
 use std::alloc::{AllocError, Global};
+use tile_exec::Workspace;
 
 /// The layer that a request spells.
 fn layer_of(alloc: Global, requested: &RequestedLayer) -> Result<Layer, AllocError>
@@ -111,6 +112,7 @@ pub fn expand_template<D: Disk>(
 /// operation, or Overflow where a value of that leaves 64 bits, wherever the types of the query are accepted.
 pub fn process_template<D: Disk>(
     cells: &mut AskedCells<D>,
+    workspace: &mut Workspace,
     request: &TemplateRequest,
 ) -> Result<Reply, AnswerError>
     requires unheld { held_for 0 cells.old.coverages.held ≡ None }
@@ -121,7 +123,7 @@ pub fn process_template<D: Disk>(
     ensures fetched { FetchesForTemplate (template_view request.now) cells.old.coverages cells.new.coverages result }
 {
     let text = expansion(cells.alloc, &cells.coverages, request)?;
-    process(cells, text.as_str())
+    process(cells, workspace, text.as_str())
 }
 
 /// Over the coverages of a catalogue, whose numbers have 64 bits, the answer to a template that asks for an operation is the

@@ -20,7 +20,7 @@ use std::alloc::{AllocError, Global};
 use std::marker::Model;
 use std::num::NonZeroU64;
 use tile_columns::Tiles;
-use tile_exec::Exec;
+use tile_exec::{Exec, Workspace};
 
 /// How many jobs may be held.
 pub const MAX_JOBS: usize = 64;
@@ -145,6 +145,7 @@ impl JobDesk {
         &mut self,
         job: u64,
         units: u64,
+        workspace: &mut Workspace,
         source: &mut S,
     ) -> Result<u64, StepError>
         requires { HasCoverages job self.old.jobs (S.state source.old).coverages }
@@ -155,7 +156,7 @@ impl JobDesk {
         let Some(place) = place_of(&self.jobs, job) else {
             return Err(StepError::NoSuchJob);
         };
-        let left = step_job(&mut self.jobs[place], units, source)?;
+        let left = step_job(&mut self.jobs[place], units, workspace, source)?;
         if left == 0 {
             source.release(job);
         }

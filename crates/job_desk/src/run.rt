@@ -8,12 +8,17 @@ ghost use Rattle.job_desk.specs.Steps.{HasRun, FetchesWithin, coverages_of, IsLo
 
 use crate::job::Job;
 use tile_columns::Tiles;
-use tile_exec::Exec;
+use tile_exec::{Exec, Workspace};
 use wcps_mean::CellError;
 
 /// Does units of an executor until it has at most so many left; where it has no more than that, nothing. Where a unit fails
 /// those before it stay done.
-pub fn run_down<S: Tiles>(exec: &mut Exec, source: &mut S, left: u64) -> Result<(), CellError>
+pub fn run_down<S: Tiles>(
+    exec: &mut Exec,
+    workspace: &mut Workspace,
+    source: &mut S,
+    left: u64,
+) -> Result<(), CellError>
     requires { left < left_of exec.old → (S.state source.old).coverages ≡ (plan_of exec.old).coverages }
     ensures run { HasRun (S.state source.old) exec.old exec.new }
     ensures done { OnOk result (left_of exec.new ≡ min (left_of exec.old) left) }
@@ -24,7 +29,7 @@ pub fn run_down<S: Tiles>(exec: &mut Exec, source: &mut S, left: u64) -> Result<
     ensures reports { Tells S.spelled result (S.state source.old) (S.state source.new) }
 {
     while exec.left() > left {
-        exec.step(source)?;
+        exec.step(workspace, source)?;
     }
     Ok(())
 }
@@ -34,6 +39,7 @@ pub fn run_down<S: Tiles>(exec: &mut Exec, source: &mut S, left: u64) -> Result<
 pub(crate) fn step_job<S: Tiles>(
     job: &mut Job,
     units: u64,
+    workspace: &mut Workspace,
     source: &mut S,
 ) -> Result<u64, CellError>
     requires job { IsJob job.old }
@@ -46,7 +52,7 @@ pub(crate) fn step_job<S: Tiles>(
     ensures reports { Tells S.spelled result (S.state source.old) (S.state source.new) }
 {
     let left = job.left.saturating_sub(units);
-    run_down(&mut job.exec, source, left)?;
+    run_down(&mut job.exec, workspace, source, left)?;
     job.left = left;
     Ok(left)
 }

@@ -9,7 +9,6 @@ ghost use Rattle.tile_exec.specs.Begun.{Lists, Adds, AddsTask, AddsOf, IsChosen}
 
 use crate::state::State;
 use crate::task::{Part, Status, Task};
-use crate::workspace::Workspace;
 use plan_ir::{Plan, Steps};
 use std::alloc::{AllocError, Global};
 use tile_kernel::{Accumulator, FirstFault};
@@ -179,7 +178,6 @@ pub(crate) fn begun(alloc: Global, plan: Plan) -> Result<State, AllocError>
     let room = list.tasks.len();
     let registers = Vec::with_capacity(alloc, room)?;
     let items = Vec::with_capacity(alloc, room)?;
-    let workspace = Workspace::new(alloc)?;
     Ok(State {
         alloc,
         plan,
@@ -194,6 +192,5 @@ pub(crate) fn begun(alloc: Global, plan: Plan) -> Result<State, AllocError>
         cells: Vec::new(alloc),
         first: FirstFault::none(),
         known: None,
-        workspace,
     })
 }

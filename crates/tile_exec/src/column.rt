@@ -15,7 +15,7 @@ use tile_columns::{Frame, Ground, Tiles, evaluate, evaluate_fields};
 use tile_kernel::Column;
 use wcps_mean::CellError;
 
-/// Makes a column the outcomes of a body at the places of a frame, as runs where these are fewer.
+/// Makes a column the outcomes of a body at the places of a frame, kept as runs where a tile that is read lies so.
 pub(crate) fn column_at<S: Tiles>(
     memory: &mut Memory,
     source: &mut S,

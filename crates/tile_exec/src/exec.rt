@@ -9,6 +9,7 @@ ghost use Rattle.tile_exec.specs.Standing.{IsBegun, StandsOn, Answers, plan_of, 
 use crate::begin::begun;
 use crate::state::State;
 use crate::task::Status;
+use crate::workspace::Workspace;
 use arr_core::Signature;
 use plan_ir::Plan;
 use std::alloc::{AllocError, Global};
@@ -69,7 +70,11 @@ impl Exec {
     }
 
     /// Does one unit. After a refusal it is as it was.
-    pub fn step<S: Tiles>(&mut self, source: &mut S) -> Result<StepInfo, CellError>
+    pub fn step<S: Tiles>(
+        &mut self,
+        workspace: &mut Workspace,
+        source: &mut S,
+    ) -> Result<StepInfo, CellError>
         requires coverages { (S.state source.old).coverages ≡ (plan_of self.old).coverages }
         ensures plan { plan_of self.new ≡ plan_of self.old }
         ensures left { IfOk result (λ i. (left_of self.new ≡ left_of self.old - 1) × (i.left ≡ left_of self.new)) }
@@ -86,9 +91,9 @@ impl Exec {
                 fetched: 0,
             });
         }
-        let unit = self.state.unit(source)?;
+        let unit = self.state.unit(workspace, source)?;
         let fetched = source.count() - before;
-        self.state.keep(unit);
+        self.state.keep(workspace, unit);
         Ok(StepInfo {
             left: self.state.left,
             fetched,

@@ -16,6 +16,7 @@ use crate::known::Known;
 use crate::row::write_points;
 use crate::state::State;
 use crate::task::Status;
+use crate::workspace::Workspace;
 use arr_core::Cell;
 use std::mem;
 use tile_kernel::{Accumulator, FirstFault};
@@ -129,7 +130,7 @@ fn after_skipped(status: Status) -> Status
 
 impl State {
     /// Keeps what a unit found.
-    pub(crate) fn keep(&mut self, unit: Unit)
+    pub(crate) fn keep(&mut self, workspace: &mut Workspace, unit: Unit)
         requires sound { IsSound self.old }
         requires fits { Fits self.old (tasks_left self.old) unit.last unit.found }
         requires left { 0 < self.old.left }
@@ -139,7 +140,7 @@ impl State {
         match found {
             Found::Pass(a) => self.keep_pass(last, a),
             Found::Condition(o) => self.keep_condition(o),
-            Found::Item(tile) => self.keep_item(last, tile),
+            Found::Item(tile) => self.keep_item(workspace, last, tile),
             Found::Fieldless(line) => self.keep_fieldless(line),
             Found::Skipped => self.keep_skipped(last),
         }
@@ -178,7 +179,7 @@ impl State {
     }
 
     /// The item at hand is told of its next tile. After its last one it is given, or its first fault stands.
-    fn keep_item(&mut self, last: bool, found: ItemTile)
+    fn keep_item(&mut self, workspace: &mut Workspace, last: bool, found: ItemTile)
         requires sound { IsSound self.old }
         requires fits { Fits self.old (tasks_left self.old) last (Found.Item found) }
         ensures { Keeps self.old self.new (Found.Item found) }
@@ -196,7 +197,7 @@ impl State {
         begin_cells(&mut self.cells, self.tile, fresh);
         begin_known(&mut self.known, self.tile, known);
         write_points(&mut self.cells, &places, &booleans, &columns);
-        self.workspace.take_back(places);
+        workspace.take_back(places);
         self.first = begin_first(self.first, self.tile).least(first);
         self.left -= 1;
         if last {

@@ -15,7 +15,7 @@ ghost use Rattle.tile_exec.specs.Keyed.{IsKeyedColumn, AreColumnsKnown};
 use crate::column::{column_over, columns_over};
 use crate::known::{Known, pairs_of};
 use crate::samples::{Sample, frame_of, samples_of};
-use crate::workspace::Workspace;
+use crate::workspace::{Workspace, column_in};
 use arr_core::Domain;
 use plan_ir::Item;
 use std::alloc::{AllocError, Global};
@@ -73,15 +73,16 @@ fn known_by<S: Tiles>(
 {
     let alloc = workspace.memory.alloc;
     let mut frame = frame_of(alloc, samples, area.axes().len())?;
+    let column = column_in(alloc, &mut workspace.column)?;
     evaluate_keyed(
         source,
         ground,
         key,
         &mut frame,
         &mut workspace.memory.scratch,
-        &mut workspace.column,
+        column,
     )?;
-    let outcomes = pairs_of(alloc, samples, &workspace.column)?;
+    let outcomes = pairs_of(alloc, samples, column)?;
     Ok(Known {
         zones: key.zones,
         outcomes,
@@ -102,7 +103,15 @@ fn known_over<S: Tiles>(
     ensures reads { Reads S.Tiles result source.old source.new }
     ensures fetched { OnOk result (FetchesKeyed key.now (count area.now + 4096) 1 S.Tiles source.old source.new) }
 {
-    match samples_of(workspace, source, ground, key.body, area)? {
+    let column = column_in(workspace.memory.alloc, &mut workspace.column)?;
+    match samples_of(
+        &mut workspace.memory,
+        source,
+        ground,
+        key.body,
+        area,
+        column,
+    )? {
         None => Ok(None),
         Some(samples) => {
             if samples.is_empty() {
@@ -138,17 +147,11 @@ fn known_column<S: Tiles>(
             if !same_zones(known.zones, key.zones) {
                 return Ok(None);
             }
-            column_over(
-                &mut workspace.memory,
-                source,
-                ground,
-                part,
-                key.body,
-                &mut workspace.column,
-            )?;
-            workspace.column.spread();
             let alloc = workspace.memory.alloc;
-            match known.outcomes_by(alloc, &workspace.column)? {
+            let keys = column_in(alloc, &mut workspace.column)?;
+            column_over(&mut workspace.memory, source, ground, part, key.body, keys)?;
+            keys.spread();
+            match known.outcomes_by(alloc, keys)? {
                 None => Ok(None),
                 Some(outcomes) => {
                     let mut column = Column::new(alloc)?;

@@ -18,3 +18,4 @@ mod unit;
 mod workspace;
 
 pub use exec::{Exec, StepInfo};
+pub use workspace::Workspace;

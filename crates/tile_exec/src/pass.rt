@@ -14,7 +14,7 @@ ghost use Rattle.tile_exec.specs.Units.{IsFound};
 ghost use Rattle.tile_exec.specs.Fetching.{as_pass, as_condition, IsPartOver, FetchesBody, FetchesTile};
 
 use crate::column::{column_at, column_over};
-use crate::workspace::Workspace;
+use crate::workspace::{Workspace, column_in};
 use arr_core::Domain;
 use plan_ir::{Body, Fold};
 use std::alloc::{AllocError, Global};
@@ -112,6 +112,8 @@ pub(crate) fn pass_tile<S: Tiles>(
     let area = &pass.domain;
     let of = TileOf { area, tile };
     let _axes = area.axes();
+    let chosen = column_in(alloc, &mut workspace.chosen)?;
+    let column = column_in(alloc, &mut workspace.column)?;
     let mut frame = Frame::of_tile(alloc, area, tile)?;
     match &pass.condition {
         None => {
@@ -121,9 +123,9 @@ pub(crate) fn pass_tile<S: Tiles>(
                 ground,
                 &mut frame,
                 &pass.body,
-                &mut workspace.column,
+                column,
             )?;
-            let told = fold_part(alloc, pass.op, &workspace.column, of, &mut workspace.places)?;
+            let told = fold_part(alloc, pass.op, column, of, &mut workspace.places)?;
             Ok(told)
         }
         Some(condition) => {
@@ -133,7 +135,7 @@ pub(crate) fn pass_tile<S: Tiles>(
                 ground,
                 &mut frame,
                 condition,
-                &mut workspace.chosen,
+                chosen,
             )?;
             column_at(
                 &mut workspace.memory,
@@ -141,16 +143,9 @@ pub(crate) fn pass_tile<S: Tiles>(
                 ground,
                 &mut frame,
                 &pass.body,
-                &mut workspace.column,
+                column,
             )?;
-            let told = fold_part_where(
-                alloc,
-                pass.op,
-                &workspace.chosen,
-                &workspace.column,
-                of,
-                &mut workspace.places,
-            )?;
+            let told = fold_part_where(alloc, pass.op, chosen, column, of, &mut workspace.places)?;
             Ok(told)
         }
     }
@@ -169,19 +164,14 @@ pub(crate) fn condition_of<S: Tiles>(
     ensures reads { Reads S.Tiles result source.old source.new }
     ensures fetched { FetchesBody result ground.now [] test.now S.Tiles source.old source.new }
 {
-    match Domain::new(Vec::new(workspace.memory.alloc)) {
+    let alloc = workspace.memory.alloc;
+    match Domain::new(Vec::new(alloc)) {
         Err(_) => unreachable!(),
         Ok(point) => {
             let _axes = point.axes();
-            column_over(
-                &mut workspace.memory,
-                source,
-                ground,
-                &point,
-                test,
-                &mut workspace.column,
-            )?;
-            Ok(workspace.column.at(0))
+            let column = column_in(alloc, &mut workspace.column)?;
+            column_over(&mut workspace.memory, source, ground, &point, test, column)?;
+            Ok(column.at(0))
         }
     }
 }

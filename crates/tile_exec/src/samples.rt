@@ -8,7 +8,7 @@ ghost use Rattle.tile_columns.specs.Meaning.{IsGroundOf};
 ghost use Rattle.tile_exec.specs.Known.{IsKeyPlaced, AreSamples, AddsPoint, AddsPoints, FetchesTimes, point_of};
 
 use crate::column::column_over;
-use crate::workspace::Workspace;
+use crate::workspace::Memory;
 use arr_core::Domain;
 use plan_ir::Body;
 use std::alloc::{AllocError, Global};
@@ -65,13 +65,14 @@ fn add_points(
 }
 
 /// The different numbers of a key at the points of a box, each with one of these points; none where they are more than a
-/// column has places.
+/// column has places. The column is where the key is evaluated.
 pub(crate) fn samples_of<S: Tiles>(
-    workspace: &mut Workspace,
+    memory: &mut Memory,
     source: &mut S,
     ground: &Ground<'_>,
     key: &Body,
     area: &Domain,
+    column: &mut Column,
 ) -> Result<Option<Vec<Sample>>, CellError>
     requires signatures { IsGroundOf (S.state source.old) ground.now }
     requires placed { IsKeyPlaced (S.state source.old) ground.now area.now key.now }
@@ -80,22 +81,15 @@ pub(crate) fn samples_of<S: Tiles>(
     ensures reads { Reads S.Tiles result source.old source.new }
     ensures fetched { OnOk result (FetchesTimes (count area.now) key.now S.Tiles source.old source.new) }
 {
-    let alloc = workspace.memory.alloc;
+    let alloc = memory.alloc;
     let _axes = area.axes();
     let mut samples = Vec::new(alloc);
     for tile in 0..area.tiles() {
         let part = area.tile_box(alloc, tile)?;
         let _part_axes = part.axes();
-        column_over(
-            &mut workspace.memory,
-            source,
-            ground,
-            &part,
-            key,
-            &mut workspace.column,
-        )?;
-        workspace.column.spread();
-        add_points(alloc, &mut samples, &part, &workspace.column)?;
+        column_over(memory, source, ground, &part, key, column)?;
+        column.spread();
+        add_points(alloc, &mut samples, &part, column)?;
         if samples.len() > MAX_PLACES {
             return Ok(None);
         }

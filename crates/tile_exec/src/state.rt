@@ -2,7 +2,6 @@
 
 use crate::known::Known;
 use crate::task::{Status, Task};
-use crate::workspace::Workspace;
 use arr_core::Cell;
 use plan_ir::Plan;
 use std::alloc::Global;
@@ -33,5 +32,4 @@ pub(crate) struct State {
     pub first: FirstFault,
     /// What is known of the item at hand.
     pub known: Option<Known>,
-    pub workspace: Workspace,
 }

@@ -136,14 +136,17 @@ fn unit_of<S: Tiles>(
 }
 
 impl State {
-    /// What the next unit gives. It changes nothing but what units work in.
-    pub(crate) fn unit<S: Tiles>(&mut self, source: &mut S) -> Result<Unit, CellError>
-        requires sound { IsSound self.old }
-        requires coverages { (S.state source.old).coverages ≡ (plan_of self.old).coverages }
-        ensures unchanged { self.new ≡ self.old }
-        ensures fits { IfOk result (λ u. Fits self.old (tasks_left self.old) u.last u.found) }
-        ensures tells { IfOk result (λ u. IsNextFound (S.state source.old) self.old u.found) }
-        ensures fetched { OnOk result (FetchesAtMost (unit_bound self.old) (S.state source.old) (S.state source.new)) }
+    /// What the next unit gives.
+    pub(crate) fn unit<S: Tiles>(
+        &self,
+        workspace: &mut Workspace,
+        source: &mut S,
+    ) -> Result<Unit, CellError>
+        requires sound { IsSound self.now }
+        requires coverages { (S.state source.old).coverages ≡ (plan_of self.now).coverages }
+        ensures fits { IfOk result (λ u. Fits self.now (tasks_left self.now) u.last u.found) }
+        ensures tells { IfOk result (λ u. IsNextFound (S.state source.old) self.now u.found) }
+        ensures fetched { OnOk result (FetchesAtMost (unit_bound self.now) (S.state source.old) (S.state source.new)) }
         ensures reads { Reads S.Tiles result source.old source.new }
     {
         match task_at(&self.tasks, self.at) {
@@ -166,7 +169,7 @@ impl State {
                     status: self.status,
                     known: known_before(&self.known, self.tile),
                 };
-                unit_of(&mut self.workspace, source, &ground, &hand)
+                unit_of(workspace, source, &ground, &hand)
             }
         }
     }

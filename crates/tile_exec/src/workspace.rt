@@ -12,17 +12,17 @@ pub(crate) struct Memory {
     pub scratch: Scratch,
 }
 
-/// Lists and columns that each unit writes before it reads them, so that they grow in the first units alone. To a caller
-/// all are the same.
+/// Lists and columns that each unit writes before it reads them, so that one workspace serves all plans that are done by
+/// turns, and grows in their first units alone. To a caller all are the same.
 #[derive(Drop)]
-pub(crate) struct Workspace {
-    pub memory: Memory,
+pub struct Workspace {
+    pub(crate) memory: Memory,
     /// The places of a tile's points.
-    pub places: Vec<u64>,
+    pub(crate) places: Vec<u64>,
     /// The outcomes of a pass's condition.
-    pub chosen: Column,
+    pub(crate) chosen: Option<Column>,
     /// The outcomes of a body.
-    pub column: Column,
+    pub(crate) column: Option<Column>,
 }
 
 impl Model for Workspace {
@@ -32,24 +32,36 @@ impl Model for Workspace {
 }
 
 impl Workspace {
-    /// Nothing yet, but room for the columns.
-    pub fn new(alloc: Global) -> Result<Workspace, AllocError> {
+    /// Nothing yet. It takes no memory.
+    pub fn new(alloc: Global) -> Workspace {
         let memory = Memory {
             alloc,
             scratch: Scratch::new(alloc),
         };
-        let chosen = Column::new(alloc)?;
-        let column = Column::new(alloc)?;
-        Ok(Workspace {
+        Workspace {
             memory,
             places: Vec::new(alloc),
-            chosen,
-            column,
-        })
+            chosen: None,
+            column: None,
+        }
     }
 
     /// Takes back the list for the places of a tile's points.
-    pub fn take_back(&mut self, places: Vec<u64>) {
+    pub(crate) fn take_back(&mut self, places: Vec<u64>) {
         self.places = places;
+    }
+}
+
+/// A column to be written: the one that is kept, or a new one, which is then kept.
+pub(crate) fn column_in(
+    alloc: Global,
+    kept: &mut Option<Column>,
+) -> Result<&mut Column, AllocError> {
+    if kept.is_none() {
+        *kept = Some(Column::new(alloc)?);
+    }
+    match kept {
+        Some(column) => Ok(column),
+        None => unreachable!(),
     }
 }
