@@ -1,9 +1,10 @@
 -- What a disk holds to which a server was closed.
-use Rattle.std.proofs.Common.{◌≡◌, ◌∙◌, ℕ, ◌≤◌, List, IsTrue, sym, ap, subst, arith}
+use Rattle.std.proofs.Common.{◌≡◌, ◌∙◌, ℕ, List, IsTrue, sym, ap, subst}
 use Rattle.arr_core.specs.Stores.{Store}
 use Rattle.metadata.specs.Metadata.{metadata_bytes}
 use Rattle.raster_store.specs.Views.{Index, AreIntact}
 use Rattle.coverage_server.specs.declared.closing.CloseFault.{CloseFault}
+use Rattle.coverage_server.specs.declared.closing.CloseFault.TheVariants as closing
 use Rattle.coverage_server.specs.Closing.{HoldsClosed, IsWritten, WritesHeld, metadata_held}
 use Rattle.coverage_server.specs.Damage.{KeepsSpelled}
 use Rattle.coverage_server.specs.Disk.{DiskView, HoldsStore, ListsStore}
@@ -15,10 +16,10 @@ use Rattle.coverage_server.proofs.SpelledLemmas.{closed_spelled}
 
 -- the disk below the coverages whose metadata was written
 pub closed_to : (v w : ServerView) (disk : DiskView) → WritesHeld v w → IsUnchanged v w → (IsSound v → IsSound w)
-    → (IsTrue v.honest → KeepsSpelled v w) → w.honest ≡ v.honest → v.failures ≤ w.failures
+    → (IsTrue v.honest → KeepsSpelled v w) → w.honest ≡ v.honest → w.failures ≡ v.failures → w.overreads ≡ v.overreads
     → HoldsClosed w disk.content → disk.content ≡ w.content → disk.honest ≡ w.honest → disk.failures ≡ w.failures
-    → IsClosedTo v disk
-closed_to v w disk written same sounds keeps honest more closed content truth count = record {
+    → disk.overreads ≡ w.overreads → IsClosedTo v disk
+closed_to v w disk written same sounds keeps honest none inside closed content truth count within = record {
   lists = λ sure.
       subst (λ (s : Store). ListsStore disk.content s v.indexes) (same.store sure)
       (subst (λ (l : List (List Index)). ListsStore disk.content w.store l) same.indexes
@@ -30,7 +31,8 @@ closed_to v w disk written same sounds keeps honest more closed content truth co
   held = λ sound.
       subst (HoldsStore disk.content) (same.store sound.honest) (closed.held (now sound.honest) (sounds sound));
   honest = truth ∙ honest;
-  no_fewer = omega (arith, more, count);
+  failures = count ∙ none;
+  overreads = within ∙ inside;
 }
   where
     now : IsTrue v.honest → IsWritten disk.content (metadata_held w) w.indexes
@@ -42,13 +44,14 @@ closed_to v w disk written same sounds keeps honest more closed content truth co
         (subst (λ (b : List ℕ). IsWritten w.content b w.indexes) (sym metadata) (written sure))
 
 -- a close that was made once more, with the jobs let go
-pub closed_again : (fault : CloseFault) (old mid : ServerView) (disk : DiskView) → IsNotClosed fault old mid
-    → IsClosedTo (without_held mid) disk → IsClosedTo old disk
-closed_again fault old mid disk a closed = record {
+pub closed_again : (fault : CloseFault) (old mid : ServerView) (disk : DiskView) → fault ≡ closing.NoMemory
+    → IsNotClosed fault old mid → IsClosedTo (without_held mid) disk → IsClosedTo old disk
+closed_again fault old mid disk is a closed = record {
   lists = lists_again fault old mid disk.content a closed.lists;
   intact = intact_again fault old mid disk.content a closed.intact;
   spelled = spelled_again fault old mid disk.content a closed.spelled;
   held = holds_again fault old mid disk.content a closed.held;
   honest = closed.honest ∙ a.honest;
-  no_fewer = let first = a.no_fewer in let second = closed.no_fewer in omega (arith, first, second);
+  failures = closed.failures ∙ (a.no_memory is).1;
+  overreads = closed.overreads ∙ a.overreads;
 }

@@ -39,6 +39,7 @@ shown cells = record {
   content = cells.blocks.content;
   honest = cells.blocks.honest;
   failures = cells.blocks.failures;
+  overreads = cells.blocks.overreads;
   fetched = cells.fetched;
 }
 
@@ -227,9 +228,9 @@ either_ready (Err e) catalogue number names old new ready held none = none_ready
 
 -- ---- the same, as the server tells it
 
-others_same : (v w : ServerView) → w.store ≡ v.store → w.indexes ≡ v.indexes → w.content ≡ v.content → w.honest ≡ v.honest → w.failures ≡ v.failures → w.fetched ≡ v.fetched
-    → without_held w ≡ without_held v
-others_same v w a b c d e f = rw (a, b, c, d, e, f) refl
+others_same : (v w : ServerView) → w.store ≡ v.store → w.indexes ≡ v.indexes → w.content ≡ v.content → w.honest ≡ v.honest → w.failures ≡ v.failures → w.overreads ≡ v.overreads
+    → w.fetched ≡ v.fetched → without_held w ≡ without_held v
+others_same v w a b c d e o f = rw (a, b, c, d, e, o, f) refl
 
 pub holds_for : (number : ℕ) (names : List (List ℕ)) (old new : RasterView BlockFileView) → Holds state_of number names old new → HoldsFor number names (shown old) (shown new)
 holds_for number names old new h = record {
@@ -237,7 +238,7 @@ holds_for number names old new h = record {
   job = h.job;
   is = h.is;
   held = h.snapshots;
-  others = others_same (shown old) (shown new) h.same.coverages h.same.indexes h.recounts.content h.recounts.honest h.recounts.failures h.same.fetched;
+  others = others_same (shown old) (shown new) h.same.coverages h.same.indexes h.recounts.content h.recounts.honest h.recounts.failures h.recounts.overreads h.same.fetched;
   sound = λ sound. record {
     honest = rw h.recounts.honest sound.honest;
     intact = rw (h.recounts.content, h.same.coverages, h.same.indexes) sound.intact;
@@ -248,12 +249,21 @@ holds_for number names old new h = record {
 pub holds_none : (old new : RasterView BlockFileView) → HoldsNone state_of old new → shown new ≡ shown old
 holds_none old new h =
     let state = h.blocks in
-    rw (h.same.coverages, h.same.indexes, h.same.fetched, h.snapshots, ap (λ (s : BlocksState). s.content) state, ap (λ (s : BlocksState). s.honest) state, ap (λ (s : BlocksState). s.failures) state) refl
+    rw (
+      h.same.coverages,
+      h.same.indexes,
+      h.same.fetched,
+      h.snapshots,
+      ap (λ (s : BlocksState). s.content) state,
+      ap (λ (s : BlocksState). s.honest) state,
+      ap (λ (s : BlocksState). s.failures) state,
+      ap (λ (s : BlocksState). s.overreads) state,
+    ) refl
 
 pub releases_for : (number : ℕ) (old new : RasterView BlockFileView) → Releases state_of number old new → ReleasesFor number (shown old) (shown new)
 releases_for number old new h = record {
   held = h.snapshots;
-  others = others_same (shown old) (shown new) h.same.coverages h.same.indexes h.recounts.content h.recounts.honest h.recounts.failures h.same.fetched;
+  others = others_same (shown old) (shown new) h.same.coverages h.same.indexes h.recounts.content h.recounts.honest h.recounts.failures h.recounts.overreads h.same.fetched;
   sound = λ sound. record {
     honest = rw h.recounts.honest sound.honest;
     intact = rw (h.recounts.content, h.same.coverages, h.same.indexes) sound.intact;

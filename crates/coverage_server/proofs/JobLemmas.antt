@@ -11,9 +11,10 @@ use Rattle.raster_store.specs.Calls.{signature_of}
 use Rattle.raster_store.specs.Snapshots.{held_for, without_job, distinct, AreNames}
 use Rattle.raster_store.specs.Views.{SnapshotView}
 use Rattle.job_desk.specs.declared.job.Job.{Job as Held}
-use Rattle.job_desk.specs.declared.answer.Answer.TheVariants as given
+use Rattle.tile_exec.specs.declared.answer.Answer.TheVariants as given
 use Rattle.arr_core.specs.Numbers.{number_after}
-use Rattle.job_desk.specs.Desks.{DeskView, IsDesk, IsJob, IsFull, IsSubmitted, IsFetched, IsAnswer, replaced}
+use Rattle.job_desk.specs.Desks.{DeskView, IsDesk, IsJob, IsFull, IsSubmitted, IsFetched, replaced}
+use Rattle.tile_exec.specs.Answering.{IsAnswer}
 use Rattle.job_desk.specs.Desks as desks
 use Rattle.job_desk.specs.Steps.{IsRefusedFetch, IsRefusedSubmit}
 use Rattle.job_desk.specs.declared.error.FetchError.{FetchError}

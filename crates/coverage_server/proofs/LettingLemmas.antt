@@ -1,5 +1,5 @@
 -- What is held for jobs is let go: one after the other, until there is nothing.
-use Rattle.std.proofs.Common.{◌≡◌, ◌∙◌, ℕ, nat_eq, suc, true, cond, List, [], ◌∷◌, length, ◌<◌, refl, sym, ap, subst, arith, inl, inr, Some, None, Result, Ok, Err, IsTrue}
+use Rattle.std.proofs.Common.{◌≡◌, ◌∙◌, ℕ, nat_eq, true, List, [], ◌∷◌, length, ◌<◌, refl, sym, ap, subst, arith, inl, inr, Some, None, Result, Ok, Err, IsTrue}
 use Rattle.std.specs.Prelude.{option_map, slice_get, IfErr}
 use Rattle.std.proofs.lemmas.Bool.Decides.{eqb_tells}
 use Rattle.raster_store.specs.Views.{Index, SnapshotView, AreIntact, listed_snapshots}

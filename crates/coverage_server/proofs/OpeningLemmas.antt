@@ -431,14 +431,15 @@ disk_fault chain.NotClosed e = absurd cc
 
 -- what is left of such a disk is what it was
 pub not_opened : (fault : ChainFault) (told : OpenFault) (old left : DiskView) → told ≡ chain_fault fault → (IsTrue old.honest → IsRefused fault old.content) → left.content ≡ old.content → left.honest ≡ old.honest
-    → Tells (fault ≡ chain.DiskFault) old.failures left.failures → IsNotOpened told old left
-not_opened fault told old left is why content honest tells = rw is (record {
+    → left.overreads ≡ old.overreads → Tells (fault ≡ chain.DiskFault) old.failures left.failures → IsNotOpened told old left
+not_opened fault told old left is why content honest inside tells = rw is (record {
   why = λ truly. early_refused old.content fault (why truly);
   want = λ truly store held. want_of old.content (chain_fault fault) store (early_refused old.content fault (why truly)) held;
   disk_fault = λ e. tells.told (disk_fault fault e);
   others = λ ne. (content, tells.quiet (λ e. ne (ap chain_fault e)));
   torn = λ truly. rw content (torn_none old.content);
   honest = honest;
+  overreads = inside;
 })
 
 -- the coverages that are attached, the next one, and those that are left

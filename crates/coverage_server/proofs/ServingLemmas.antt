@@ -7,6 +7,7 @@ use Rattle.std.proofs.KnownBytes.{Appends-trans, Consumes-trans}
 use Rattle.arr_core.specs.declared.refusal.Refusal.{Refusal}
 use Rattle.stream_face.specs.Faults.{AppendsPrefix}
 use Rattle.stream_face.specs.Views.{SourceView, SinkView}
+use Rattle.stream_face.specs.Waiting.{IsFlushed}
 use Rattle.http_front.specs.declared.conn.Next.{Next}
 use Rattle.http_front.specs.declared.conn.Next.TheVariants as next
 use Rattle.http_front.specs.declared.reply.Reply.{Reply}
@@ -100,7 +101,7 @@ concat_push [] bytes = append-nil bytes
 concat_push (first ∷ replies) bytes =
     ap (λ (l : List ℕ). first ++ l) (concat_push replies bytes) ∙ sym (append_assoc first (concat replies) bytes)
 
--- What has come, the messages in it, and their replies, which went out.
+-- What has come, the messages in it, and their replies, which went out and do not wait.
 pub record Serving (may : Type 0) (before now : SourceView) (held holds : SinkView) (old new : Placed)
     (buffer : List ℕ) (count : ℕ) : Type 0 where
   pub came : List ℕ
@@ -110,6 +111,7 @@ pub record Serving (may : Type 0) (before now : SourceView) (held holds : SinkVi
   pub replies : List (List ℕ)
   pub run : Run may old items replies new
   pub sent : Appends held.contents holds.contents (concat replies)
+  pub flushed : IsFlushed held.waiting → IsFlushed holds.waiting
   pub counted : count ≡ length items
 
 module _ {may : Type 0} {before now : SourceView} {held holds : SinkView} {old new : Placed} {buffer : List ℕ} {count : ℕ}
@@ -141,7 +143,7 @@ module _ {may : Type 0} {before now : SourceView} {held holds : SinkView} {old n
           subst (Messages at_end 0 ((s.came ++ more) ++ rest_of later.remaining)) (append-nil s.items) messages,
         );
         run = s.run;
-        sent = s.sent;
+        sent = (s.sent, s.flushed);
       }
 
   pub faulted : HasNoMessage (buffer ++ more) → ServesConnection may (ends before later held holds) old new ReadFault
@@ -153,7 +155,7 @@ module _ {may : Type 0} {before now : SourceView} {held holds : SinkView} {old n
         replies = s.replies;
         asked = (took_all, subst (Messages at_fault 0 (s.came ++ more)) (append-nil s.items) messages);
         run = s.run;
-        sent = s.sent;
+        sent = (s.sent, s.flushed);
       }
 
   module _ (left : List ℕ) (item : Item) (x : Fronts count (buffer ++ more) left later.remaining item) (newer : Placed)
@@ -173,9 +175,9 @@ module _ {may : Type 0} {before now : SourceView} {held holds : SinkView} {old n
         (subst (λ b. Appends holds.contents gone.contents (reply_bytes b item.bare reply)) is
         (subst (λ d. Appends holds.contents gone.contents (reply_bytes last d reply)) shown sent)))
 
-    pub answered : last ≡ true → Appends holds.contents gone.contents (reply_bytes last bare reply)
+    pub answered : last ≡ true → Appends holds.contents gone.contents (reply_bytes last bare reply) → IsFlushed gone.waiting
         → ServesConnection fails (ends before later held gone) old newer Finished
-    answered closed sent = record {
+    answered closed sent flushed = record {
       bytes = (s.came ++ more) ++ rest_of later.remaining;
       items = s.items ++ item ∷ [];
       replies = s.replies ++ reply_bytes item.last item.bare reply ∷ [];
@@ -185,7 +187,7 @@ module _ {may : Type 0} {before now : SourceView} {held holds : SinkView} {old n
             (last_message count (buffer ++ more) left later.remaining item x (sym is ∙ closed)),
       );
       run = ran;
-      sent = gone_out sent;
+      sent = (gone_out sent, λ before. flushed);
     }
 
     pub unwritten : AppendsPrefix holds.contents gone.contents (reply_bytes last bare reply)
@@ -212,9 +214,9 @@ module _ {may : Type 0} {before now : SourceView} {held holds : SinkView} {old n
     }
 
     pub continued : (number : ℕ) → number ≡ count + 1 → last ≡ false
-        → Appends holds.contents gone.contents (reply_bytes last bare reply)
+        → Appends holds.contents gone.contents (reply_bytes last bare reply) → IsFlushed gone.waiting
         → Serving fails before later held gone old newer left number
-    continued number numbered goes_on sent =
+    continued number numbered goes_on sent flushed =
         let whole = whole_message count (buffer ++ more) left later.remaining item x (sym is ∙ goes_on) in
         record {
           came = s.came ++ more;
@@ -226,6 +228,7 @@ module _ {may : Type 0} {before now : SourceView} {held holds : SinkView} {old n
           replies = s.replies ++ reply_bytes item.last item.bare reply ∷ [];
           run = ran;
           sent = gone_out sent;
+          flushed = λ before. flushed;
           counted = omega (arith, numbered, s.counted, length-append s.items (item ∷ []));
         }
 
@@ -242,6 +245,7 @@ Continues-trans u v w first second = record {
   header = λ state count from size h. second.header state count from size (first.header state count from size h);
   honest = second.honest ∙ first.honest;
   no_fewer = let a = first.no_fewer in let b = second.no_fewer in omega (arith, a, b);
+  overreads = second.overreads ∙ first.overreads;
 }
 
 pub Continues-refl : (v : ServerView) → Continues v v
@@ -250,4 +254,5 @@ Continues-refl v = record {
   header = λ state count from size h. h;
   honest = refl;
   no_fewer = omega arith;
+  overreads = refl;
 }

@@ -125,9 +125,9 @@ pub unclosed : (fault : CloseFault) (ends : List Ends) (disk : DiskView) (opened
     → (IsTrue disk.honest → IsOpenedFrom disk.content opened.coverages)
     → opened.desk ≡ record { jobs = []; next = Some 1 } → opened.coverages.held ≡ []
     → opened.coverages.honest ≡ disk.honest → opened.coverages.failures ≡ disk.failures
-    → AreServed ends opened served → Continues opened.coverages served.coverages
+    → opened.coverages.overreads ≡ disk.overreads → AreServed ends opened served → Continues opened.coverages served.coverages
     → IsNotClosed fault served.coverages left.coverages → left.desk ≡ served.desk → ServesUnclosed fault ends disk left
-unclosed fault ends disk opened served left opens desk unheld honest count serves keeps refused same_desk =
+unclosed fault ends disk opened served left opens desk unheld honest count inside serves keeps refused same_desk =
     let rises : disk.failures ≤ opened.coverages.failures = omega (arith, count) in
     let more : opened.coverages.failures ≤ served.coverages.failures = keeps.no_fewer in
     record {
@@ -159,6 +159,7 @@ unclosed fault ends disk opened served left opens desk unheld honest count serve
       no_fewer =
           let fewer : served.coverages.failures ≤ left.coverages.failures = refused.no_fewer in
           omega (arith, count, more, fewer);
+      overreads = refused.overreads ∙ keeps.overreads ∙ inside;
     }
 
 -- a server whose second close was refused, after its jobs were let go
@@ -190,6 +191,7 @@ unclosed_again fault ends disk mid left before refused jobs =
           (was.0, (refused.no_memory e).0 Open was.0 0 0 was.1);
       honest = refused.honest ∙ before.honest;
       no_fewer = omega (arith, more, fewer);
+      overreads = refused.overreads ∙ before.overreads;
     }
 
 -- a server that was left where a close is made once more

@@ -4,8 +4,8 @@ use Rattle.std.specs.Prelude.{String}
 use Rattle.std.specs.declared.alloc.Global.{Global}
 use Rattle.arr_core.specs.declared.signature.Signature.{Signature}
 use Rattle.arr_core.specs.Stores.{Store}
-use Rattle.job_desk.specs.declared.answer.Answer.TheVariants as given
-use Rattle.job_desk.specs.Desks.{IsAnswer}
+use Rattle.tile_exec.specs.declared.answer.Answer.TheVariants as given
+use Rattle.tile_exec.specs.Answering.{IsAnswer}
 use Rattle.plan_ir.specs.Plans.{PlanTree}
 use Rattle.plan_ir.specs.Planned.{planned}
 use Rattle.wcps_mean.specs.declared.cell.PointFault.{PointFault}

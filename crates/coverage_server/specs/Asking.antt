@@ -10,7 +10,7 @@ use Rattle.wcps_text.specs.declared.error.LexError.{LexError}
 use Rattle.wcps_text.specs.Refusals.{refusal_of as token_refusal}
 use Rattle.wcps_text.specs.Token.{Tok}
 use Rattle.wcps_text.specs.Lexing.{Piece, Lexed, Refused, tokens_of}
-use Rattle.wcps_text.specs.Limits.{query_height}
+use Rattle.wcps_text.specs.Limits.{max_height, query_height}
 use Rattle.wcps_text.specs.Grammar.{IsSpelled}
 use Rattle.wcps_text.specs.Tree.{QueryTree}
 use Rattle.wcps_parse.specs.Outcome.{IsWithinLimits}
@@ -58,7 +58,7 @@ typed_answer (Err refusal) = Err (type_refusal refusal)
 
 -- a query higher than 64 is too deep; else its types over the store's coverages count
 abbrev pub tree_typed : Store → QueryTree → TypedAnswer
-tree_typed store q = if nat_le (query_height q) 64 then typed_answer (typ_query (map signature_of store) q) else Err TooDeep
+tree_typed store q = if nat_le (query_height q) max_height then typed_answer (typ_query (map signature_of store) q) else Err TooDeep
 
 -- Tokens of which more than 512 brackets are open at once, or with more than 256 words `condense` and `coverage`, are too
 -- deep; else they spell nothing and are bad syntax, else they spell a query.

@@ -4,7 +4,8 @@ use Rattle.arr_core.specs.declared.refusal.Refusal.{Refusal}
 use Rattle.arr_core.specs.declared.refusal.Refusal.TheVariants.{Damaged, DiskFault, NoMemory, NotAStore, NotClosed}
 use Rattle.arr_core.specs.declared.signature.Signature.{Signature}
 use Rattle.arr_core.specs.Stores.{Store}
-use Rattle.block_file.specs.State.{block_at}
+use Rattle.block_file.specs.State.{block_at, overreads_of}
+use Rattle.disk_face.specs.declared.Disk.{Ghosts}
 use Rattle.block_file.specs.declared.header.State.TheVariants.{Open}
 use Rattle.file_bytes.specs.declared.form.Version.{Version}
 use Rattle.file_bytes.specs.declared.form.Version.TheVariants.{Two}
@@ -16,14 +17,22 @@ use Rattle.coverage_server.specs.declared.closing.CloseFault.{CloseFault}
 use Rattle.coverage_server.specs.declared.closing.CloseFault.TheVariants as closing
 use Rattle.raster_store.specs.Views.{Index, AreBelow, AreIntact, coverages_in, listed_all}
 
--- what a disk tells: the bytes that it holds, whether it is honest, and how many of its calls have failed
+-- What a disk tells: the bytes that it holds, whether it is honest, how many of its calls have failed, and how often an honest
+-- one was read past its end.
 pub record DiskView : Type 0 where
   pub content : List ℕ
   pub honest : Bool
   pub failures : ℕ
+  pub overreads : ℕ
 
-abbrev pub disk_view : {D : Type 0} → (D → List ℕ) → (D → Bool) → (D → ℕ) → D → DiskView
-disk_view content honest failures disk = record { content = content disk; honest = honest disk; failures = failures disk }
+-- so it is with a disk, by what its type tells
+abbrev pub disk_view : {D : Type 0} → Ghosts D → D → DiskView
+disk_view g disk = record {
+  content = g.content disk;
+  honest = g.honest disk;
+  failures = g.failures disk;
+  overreads = overreads_of (g.honest disk) (g.overreads disk);
+}
 
 -- each index lists only tiles of its coverage's domain
 abbrev pub AreTiles : List Signature → List (List Index) → Type 0

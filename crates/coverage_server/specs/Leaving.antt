@@ -4,7 +4,7 @@ use Rattle.arr_core.specs.declared.refusal.Refusal.{Refusal}
 use Rattle.arr_core.specs.declared.refusal.Refusal.TheVariants as refusal
 use Rattle.arr_core.specs.Refusals.{number_of}
 use Rattle.block_file.specs.Format.{KeepsHeader}
-use Rattle.job_desk.specs.declared.answer.Answer.TheVariants as given
+use Rattle.tile_exec.specs.declared.answer.Answer.TheVariants as given
 use Rattle.job_desk.specs.declared.job.Job.{Job as Held}
 use Rattle.job_desk.specs.Desks.{DeskView, IsFetched}
 use Rattle.job_desk.specs.Steps.{IsChanged}
@@ -18,13 +18,14 @@ use Rattle.coverage_server.specs.declared.error.AnswerError.{AnswerError}
 use Rattle.coverage_server.specs.declared.error.AnswerError.TheVariants.{Named, NoMemory, DiskFault, NoRoom, Damaged}
 use Rattle.coverage_server.specs.Views.{ServerView, SessionView, IsSound, IsUnchanged, still_of, without_held}
 
--- What every call leaves: what was sound is so, the header tells what it told, the disk is as honest as it was, and its
--- count of failures has not fallen.
+-- What every call leaves: what was sound is so, the header tells what it told, the disk is as honest as it was, its count of
+-- failures has not fallen, and an honest one was read nowhere past its end.
 pub record Continues (old new : ServerView) : Type 0 where
   pub sound : IsSound old → IsSound new
   pub header : KeepsHeader old.content new.content
   pub honest : new.honest ≡ old.honest
   pub no_fewer : old.failures ≤ new.failures
+  pub overreads : new.overreads ≡ old.overreads
 
 -- What a call leaves that changes the coverages in memory alone: what was sound is so, the disk, what is held for jobs and
 -- the count of tiles that were fetched are as they were.
@@ -33,6 +34,7 @@ pub record KeepsDisk (old new : ServerView) : Type 0 where
   pub content : new.content ≡ old.content
   pub honest : new.honest ≡ old.honest
   pub failures : new.failures ≡ old.failures
+  pub overreads : new.overreads ≡ old.overreads
   pub held : new.held ≡ old.held
   pub fetched : new.fetched ≡ old.fetched
 

@@ -88,12 +88,14 @@ pub record ShowsFile (file : BlockFileView) (v : ServerView) : Type 0 where
   pub honest : v.honest ≡ file.honest
   pub unheld : v.held ≡ []
   pub failures : v.failures ≡ file.failures
+  pub overreads : v.overreads ≡ file.overreads
 
 -- the disk that a file is on, as it was
 pub record GivesBack (file : BlockFileView) (disk : DiskView) : Type 0 where
   pub content : disk.content ≡ file.content
   pub honest : disk.honest ≡ file.honest
   pub failures : disk.failures ≡ file.failures
+  pub overreads : disk.overreads ≡ file.overreads
 
 -- after the header is read: want of memory, or a departure from the format
 abbrev pub Departs : Type 0 → OpenFault → Type 0

@@ -6,6 +6,7 @@ use Rattle.arr_core.specs.declared.refusal.Refusal.{Refusal}
 use Rattle.disk_face.specs.Disk.{Rose}
 use Rattle.stream_face.specs.Faults.{AppendsPrefix, fault_told}
 use Rattle.stream_face.specs.Views.{SourceView, SinkView}
+use Rattle.stream_face.specs.Waiting.{IsFlushed}
 use Rattle.http_front.specs.Stream.{Item, at_end, at_fault, Messages, Begins, Shows}
 use Rattle.http_front.specs.declared.conn.Next.{Next}
 use Rattle.http_front.specs.declared.reply.Reply.{Reply}
@@ -42,10 +43,15 @@ AreAsked e ReadFault bytes items =
     Consumes e.source.remaining e.source_after.remaining bytes × Messages at_fault 0 bytes items
 AreAsked e WriteFault bytes items = IfSome e.source.remaining (λ all. bytes ≡ all) × Begins 0 bytes items
 
+-- these replies went out, and none of their bytes waits, if none waited before
+abbrev pub AreOut : Ends → List (List ℕ) → Type 0
+AreOut e replies =
+    Appends e.sink.contents e.sink_after.contents (concat replies) × (IsFlushed e.sink.waiting → IsFlushed e.sink_after.waiting)
+
 -- Which replies went out: all of them; where a write failed all but the last, and a first part of that one.
 abbrev pub AreSent : Ends → ConnEnd → List (List ℕ) → Type 0
-AreSent e Finished replies = Appends e.sink.contents e.sink_after.contents (concat replies)
-AreSent e ReadFault replies = Appends e.sink.contents e.sink_after.contents (concat replies)
+AreSent e Finished replies = AreOut e replies
+AreSent e ReadFault replies = AreOut e replies
 AreSent e WriteFault replies =
     (whole : List (List ℕ)) × (last : List ℕ) × (replies ≡ whole ++ last ∷ [])
     × (sent : Option (List ℕ)) × Appends e.sink.contents sent (concat whole)

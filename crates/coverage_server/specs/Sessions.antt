@@ -1,9 +1,10 @@
 -- Sessions: a disk is opened, connections are served one after the other, and the disk is closed.
-use Rattle.std.specs.Prelude.{◌≡◌, ◌≢◌, ◌⊎◌, ℕ, ◌≤◌, Bool, IsTrue, List, [], ◌∷◌, All, Result, Ok, Err, ⊤}
+use Rattle.std.specs.Prelude.{◌≡◌, ◌≢◌, ◌⊎◌, ℕ, ◌≤◌, IsTrue, List, [], ◌∷◌, All, Result, Ok, Err, ⊤}
 use Rattle.arr_core.specs.Stores.{Store}
 use Rattle.block_file.specs.Format.{IsHeader, HeaderTorn, KeepsHeader}
 use Rattle.block_file.specs.declared.header.State.TheVariants.{Open}
 use Rattle.disk_face.specs.Disk.{Rose}
+use Rattle.disk_face.specs.declared.Disk.{Ghosts}
 use Rattle.coverage_server.specs.declared.opening.OpenFault.{OpenFault}
 use Rattle.coverage_server.specs.declared.opening.OpenFault.TheVariants as opening
 use Rattle.coverage_server.specs.declared.closing.CloseFault.{CloseFault}
@@ -29,7 +30,8 @@ pub record IsOpenedFrom (content : List ℕ) (v : ServerView) : Type 0 where
   pub header : IsOpenFile v.content
 
 -- What is left of a disk that was not opened, and why it was not. It is refused by the rules of opening, or for want of memory,
--- or because a call failed. Where none did it is as it was; else the header block alone may have changed.
+-- or because a call failed, which on an honest disk was no read past its end. Where none did it is as it was; else the header
+-- block alone may have changed.
 pub record IsNotOpened (fault : OpenFault) (old left : DiskView) : Type 0 where
   pub why : IsTrue old.honest → IsNoStore old.content fault
   pub want : IsTrue old.honest → (store : Store) → HoldsStore old.content store → IsWant fault
@@ -37,14 +39,14 @@ pub record IsNotOpened (fault : OpenFault) (old left : DiskView) : Type 0 where
   pub others : fault ≢ opening.DiskFault → (left.content ≡ old.content) × (left.failures ≡ old.failures)
   pub torn : IsTrue old.honest → HeaderTorn old.content left.content
   pub honest : left.honest ≡ old.honest
+  pub overreads : left.overreads ≡ old.overreads
 
 -- so it is with a disk, by what its type tells
-abbrev pub LeavesUnopened : {D : Type 0} → (D → List ℕ) → (D → Bool) → (D → ℕ) → D → OpenFault → D → Type 0
-LeavesUnopened content honest failures disk fault left =
-    IsNotOpened fault (disk_view content honest failures disk) (disk_view content honest failures left)
+abbrev pub LeavesUnopened : {D : Type 0} → Ghosts D → D → OpenFault → D → Type 0
+LeavesUnopened g disk fault left = IsNotOpened fault (disk_view g disk) (disk_view g left)
 
 -- A disk to which a server was closed: it lists the server's coverages, intact where they were, and holds the store of a
--- sound server.
+-- sound server. No call of it has failed.
 pub record IsClosedTo (server : ServerView) (disk : DiskView) : Type 0 where
   pub lists : IsTrue server.honest → ListsStore disk.content server.store server.indexes
   pub intact : IsSound server → AreIntact disk.content server.store server.indexes
@@ -52,7 +54,8 @@ pub record IsClosedTo (server : ServerView) (disk : DiskView) : Type 0 where
       → IsIntactIn disk.content server.store server.indexes name
   pub held : IsSound server → HoldsStore disk.content server.store
   pub honest : disk.honest ≡ server.honest
-  pub no_fewer : server.failures ≤ disk.failures
+  pub failures : disk.failures ≡ server.failures
+  pub overreads : disk.overreads ≡ server.overreads
 
 -- What is left of a server that was not closed, and why it was not: for want of memory, where the header still is the one that
 -- it was, or because a call of the disk failed. It has its store, and may be closed again.
@@ -64,6 +67,7 @@ pub record IsNotClosed (fault : CloseFault) (old left : ServerView) : Type 0 whe
   pub no_memory : fault ≡ closing.NoMemory → KeepsHeader old.content left.content × (left.failures ≡ old.failures)
   pub honest : left.honest ≡ old.honest
   pub no_fewer : old.failures ≤ left.failures
+  pub overreads : left.overreads ≡ old.overreads
 
 -- A server whose close was refused for memory, whose jobs were let go then, and whose second close was refused.
 pub record IsRefusedTwice (fault : CloseFault) (old left : SessionView) : Type 0 where
@@ -124,17 +128,25 @@ pub record ServesUnclosed (fault : CloseFault) (ends : List Ends) (old : DiskVie
   pub no_memory : fault ≡ closing.NoMemory → IsTrue old.honest → (blocks : ℕ) × IsHeader server.coverages.content Open blocks 0 0
   pub honest : server.coverages.honest ≡ old.honest
   pub no_fewer : old.failures ≤ server.coverages.failures
+  pub overreads : server.coverages.overreads ≡ old.overreads
 
 -- How a session on a disk ended: by a close; with the disk, where it was not opened; with the server, where it was not
 -- closed.
-abbrev pub IsSession : {D : Type 0} → (D → List ℕ) → (D → Bool) → (D → ℕ) → D → List Ends → Result D (SessionFault D)
-    → Type 0
-IsSession content honest failures disk ends (Ok after) =
-    ServesSession ends (disk_view content honest failures disk) (disk_view content honest failures after)
-IsSession content honest failures disk ends (Err (NotOpened left fault)) =
-    LeavesUnopened content honest failures disk fault left
-IsSession content honest failures disk ends (Err (NotClosed server fault)) =
-    ServesUnclosed fault ends (disk_view content honest failures disk) server
+abbrev pub IsSession : {D : Type 0} → Ghosts D → D → List Ends → Result D (SessionFault D) → Type 0
+IsSession g disk ends (Ok after) = ServesSession ends (disk_view g disk) (disk_view g after)
+IsSession g disk ends (Err (NotOpened left fault)) = LeavesUnopened g disk fault left
+IsSession g disk ends (Err (NotClosed server fault)) = ServesUnclosed fault ends (disk_view g disk) server
+
+-- A disk after a session that ended by a close: as honest as it was, with a count of failures that has not fallen, and, where it
+-- is honest, read nowhere past its end.
+pub record IsStillHonest (old new : DiskView) : Type 0 where
+  pub honest : new.honest ≡ old.honest
+  pub no_fewer : old.failures ≤ new.failures
+  pub overreads : new.overreads ≡ old.overreads
+
+-- so it is with a disk, by what its type tells
+abbrev pub StaysHonest : {D : Type 0} → Ghosts D → D → D → Type 0
+StaysHonest g disk after = IsStillHonest (disk_view g disk) (disk_view g after)
 
 -- the disk was not opened
 abbrev pub IsUnopened : {D : Type 0} → Result D (SessionFault D) → Type 0

@@ -9,7 +9,7 @@ use Rattle.wcps_text.specs.declared.error.LexError.{LexError}
 use Rattle.wcps_text.specs.Refusals.{refusal_of as token_refusal}
 use Rattle.wcps_text.specs.Token.{Tok}
 use Rattle.wcps_text.specs.Lexing.{Lexed, Refused, piece}
-use Rattle.wcps_text.specs.Limits.{query_height}
+use Rattle.wcps_text.specs.Limits.{max_height, query_height}
 use Rattle.wcps_text.specs.Grammar.{IsSpelled}
 use Rattle.wcps_text.specs.Tree.{query_view}
 use Rattle.wcps_parse.specs.Outcome.{IsWithinLimits}
@@ -45,7 +45,7 @@ GivesTokens text (Err Damaged) = ⊥
 
 -- a query within the limits that the tokens spell, or their refusal, which is the same over each store
 abbrev pub GivesQuery : List Tok → Result Query AnswerError → Type 0
-GivesQuery ts (Ok q) = IsWithinLimits ts × IsSpelled ts (query_view q) × (query_height (query_view q) ≤ 64)
+GivesQuery ts (Ok q) = IsWithinLimits ts × IsSpelled ts (query_view q) × (query_height (query_view q) ≤ max_height)
 GivesQuery ts (Err (Named refusal)) = (store : Store) → TokensTyped store ts (Err refusal)
 GivesQuery ts (Err NoMemory) = ⊤
 GivesQuery ts (Err DiskFault) = ⊥

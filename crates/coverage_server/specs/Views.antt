@@ -2,8 +2,7 @@
 use Rattle.std.specs.Prelude.{◌≡◌, ℕ, ◌+◌, ◌≤◌, Bool, IsTrue, IsSomeAnd, List, [], map, length}
 use Rattle.arr_core.specs.declared.signature.Signature.{Signature}
 use Rattle.arr_core.specs.Stores.{Store, found}
-use Rattle.block_file.specs.Limits.{max_blocks}
-use Rattle.block_file.specs.State.{BlocksState, free_up_to}
+use Rattle.block_file.specs.State.{free_up_to}
 use Rattle.catalogue.specs.Bytes.{catalogue_bytes}
 use Rattle.job_desk.specs.Desks.{DeskView}
 use Rattle.raster_store.specs.Views.{Index, SnapshotView, AreIntact, listed_all, listed_snapshots, reserve}
@@ -11,7 +10,7 @@ use Rattle.raster_store.specs.Calls.{signature_of, AreSameSignatures}
 use Rattle.raster_store.specs.Snapshots.{AreIntactSnapshots, AreSameSnapshots}
 
 -- The store; the index of each field of each coverage; what is held for jobs; what the disk holds, whether it is honest,
--- and how many of its calls have failed; and how many tiles were fetched.
+-- how many of its calls have failed, and how often an honest one was read past its end; and how many tiles were fetched.
 pub record ServerView : Type 0 where
   pub store : Store
   pub indexes : List (List Index)
@@ -19,6 +18,7 @@ pub record ServerView : Type 0 where
   pub content : List ℕ
   pub honest : Bool
   pub failures : ℕ
+  pub overreads : ℕ
   pub fetched : ℕ
 
 -- A server in a session: its coverages, and its jobs.
@@ -66,18 +66,6 @@ free_in indexes held = free_up_to 1048575 (uses_in indexes held)
 
 abbrev pub free_blocks : ServerView → ℕ
 free_blocks v = free_in v.indexes v.held
-
--- the blocks of the disk, each in use as often as the indexes and what is held list it
-abbrev pub blocks_of : ServerView → BlocksState
-blocks_of v = record {
-  content = v.content;
-  synced = v.content;
-  uses = uses_in v.indexes v.held;
-  size = max_blocks;
-  failures = v.failures;
-  overreads = 0;
-  honest = v.honest;
-}
 
 -- The catalogue is that of the store; each block is in use exactly as often as the indexes and what is held list it, of
 -- which the indexes list it once at most; and as many blocks are free as the metadata takes.

@@ -98,6 +98,7 @@ fn write_closed<D: Disk>(alloc: Global, coverages: &mut Coverages<D>) -> Result<
     ensures spelled { IsTrue coverages.old.honest → KeepsSpelled coverages.old coverages.new }
     ensures honest { coverages.new.honest ≡ coverages.old.honest }
     ensures told { Tells (IsErrOf result CloseFault.DiskFault) coverages.old.failures coverages.new.failures }
+    ensures overreads { coverages.new.overreads ≡ coverages.old.overreads }
     ensures header { IsErrOf result CloseFault.NoMemory → KeepsHeader coverages.old.content coverages.new.content }
 {
     let metadata = metadata_of(alloc, coverages)?;
@@ -105,10 +106,11 @@ fn write_closed<D: Disk>(alloc: Global, coverages: &mut Coverages<D>) -> Result<
 }
 
 impl<D: Disk> Server<D> {
-    /// Writes the metadata into free blocks, and then the header of a closed file, so that the disk holds the store,
-    /// and gives the disk. Refused for memory, or where the disk has counted a failure, with the server.
+    /// Writes the metadata into free blocks, and then the header of a closed file, so that the disk lists the store,
+    /// and holds it where its tiles are intact, and gives the disk. Refused for memory, or where the disk has counted a
+    /// failure, with the server.
     pub fn close(self) -> Result<D, NotClosed<D>>
-        ensures closed { IfOk result (λ disk. IsClosedTo self.coverages (disk_view D.content D.honest D.failures disk)) }
+        ensures closed { IfOk result (λ disk. IsClosedTo self.coverages (disk_view D.Disk disk)) }
         ensures refused { IfErr result (λ refused. IsNotClosed refused.fault self.coverages refused.server.coverages) }
         ensures desk { IfErr result (λ refused. refused.server.desk ≡ self.desk) }
     {
@@ -140,7 +142,7 @@ impl<D: Disk> Server<D> {
     }
 
     /// Lets go what memory holds beside the coverages, so that a close may find some: the jobs, what is held for them,
-    /// what units work in, and the tiles and pages that are kept. Takes no memory.
+    /// what units work in, and the tiles and pages that are kept, of which none is kept from now on. Takes no memory.
     pub fn let_go(&mut self)
         ensures { self.new ≡ without_jobs self.old }
     {
@@ -152,7 +154,7 @@ impl<D: Disk> Server<D> {
     /// Closes as `close` does. Where memory was wanting it lets go what `let_go` does, and closes once more; where that
     /// is refused too, its fault is the one that is told.
     pub fn close_with_retry(self) -> Result<D, NotClosed<D>>
-        ensures closed { IfOk result (λ disk. IsClosedTo self.coverages (disk_view D.content D.honest D.failures disk)) }
+        ensures closed { IfOk result (λ disk. IsClosedTo self.coverages (disk_view D.Disk disk)) }
         ensures left { IfErr result (λ refused. IsLeft refused.fault self refused.server) }
     {
         match self.close() {

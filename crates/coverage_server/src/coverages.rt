@@ -4,6 +4,7 @@ ghost use Rattle.std.specs.Prelude.{IsErr, IsErrOf, IsTrue, option_copied, optio
 ghost use Rattle.arr_core.specs.Runs.{cells_of};
 ghost use Rattle.arr_core.specs.Stores.{deleted, found};
 ghost use Rattle.block_file.specs.Format.{HeaderTorn, KeepsHeader};
+ghost use Rattle.block_file.specs.State.{overreads_of};
 ghost use Rattle.catalogue.specs.Bytes.{catalogue_bytes};
 ghost use Rattle.metadata.specs.Metadata.{part_bytes};
 ghost use Rattle.catalogue.specs.Signatures.{IsCatalogue, listed};
@@ -59,6 +60,7 @@ impl<D: Disk> Model for Coverages<D> {
       content = s.cells.blocks.content;
       honest = s.cells.blocks.honest;
       failures = s.cells.blocks.failures;
+      overreads = s.cells.blocks.overreads;
       fetched = s.cells.fetched;
     } };
 
@@ -130,6 +132,7 @@ impl<D: Disk> Coverages<D> {
         ensures content { result.content ≡ cells.blocks.content }
         ensures honest { result.honest ≡ cells.blocks.honest }
         ensures failures { result.failures ≡ cells.blocks.failures }
+        ensures overreads { result.overreads ≡ cells.blocks.overreads }
     {
         Coverages { catalogue, cells }
     }
@@ -211,8 +214,8 @@ impl<D: Disk> Coverages<D> {
     }
 
     /// Writes cells into a box of a field, by its place. Refused for a box that is none of the coverage, then for
-    /// another number of cells than it has points, then for a cell that is none of the field's type, and then for
-    /// memory, the disk and room. A refusal changes nothing.
+    /// another number of cells than it has points, then for a cell that is none of the field's type; or for memory, the
+    /// disk, room, and damage of a tile that the box meets and does not cover. A refusal changes nothing.
     pub fn write(
         &mut self,
         name: &Name,
@@ -322,8 +325,8 @@ impl<D: Disk> Coverages<D> {
         self.cells.let_go();
     }
 
-    /// The place of the coverage with a name among those that a number reads: those that are held for it, or, for number
-    /// 0 where nothing is, those of the store.
+    /// The place of the coverage with a name among those that a number reads: those that are held for it, or, for
+    /// number 0 where nothing is, those of the store.
     pub fn place(&self, number: u64, name: &Name) -> Option<usize>
         requires { held_for number self.now.held ≡ None → number ≡ 0 }
         ensures some { IfSome result (IsPlaceOf name.now (store_for number self.now)) }
@@ -348,8 +351,8 @@ impl<D: Disk> Coverages<D> {
         self.cells.fetch_at(number, at, numbers)
     }
 
-    /// Makes `runs` the numbers of a tile of the coverages that a number reads, by its place there, as runs where the tile
-    /// lies so. It has a value for each of the tile's points, and keeps as many.
+    /// Makes `runs` the numbers of a tile of the coverages that a number reads, by its place there, as runs where the
+    /// tile lies so. It has a value for each of the tile's points, and keeps as many.
     pub fn fetch_runs(&mut self, number: u64, at: TileAt, runs: &mut RunList) -> Result<(), Fault>
         requires tile { HasTile at (store_for number self.old) }
         requires room { HasTileCount at (store_for number self.old) runs.old.values.items }
@@ -422,6 +425,7 @@ impl<D: Disk> Coverages<D> {
         ensures spelled { IsTrue self.old.honest → KeepsSpelled self.old self.new }
         ensures honest { self.new.honest ≡ self.old.honest }
         ensures told { Tells (IsErrOf result CloseFault.DiskFault) self.old.failures self.new.failures }
+        ensures overreads { self.new.overreads ≡ self.old.overreads }
         ensures header { IsErrOf result CloseFault.NoMemory → KeepsHeader self.old.content self.new.content }
     {
         let _catalogue = self.catalogue.len();
@@ -441,6 +445,7 @@ impl<D: Disk> Coverages<D> {
         ensures spelled { IsTrue self.old.honest → KeepsSpelled self.old self.new }
         ensures honest { self.new.honest ≡ self.old.honest }
         ensures told { Tells (IsErrOf result CloseFault.DiskFault) self.old.failures self.new.failures }
+        ensures overreads { self.new.overreads ≡ self.old.overreads }
         ensures memory { IsErrOf result CloseFault.NoMemory → ⊥ }
     {
         let _held = self.cells.len();
@@ -461,17 +466,19 @@ impl<D: Disk> Coverages<D> {
         ensures spelled { IsTrue self.old.honest → KeepsSpelled self.old self.new }
         ensures honest { self.new.honest ≡ self.old.honest }
         ensures told { Tells (IsErr result) self.old.failures self.new.failures }
+        ensures overreads { self.new.overreads ≡ self.old.overreads }
     {
         let _held = self.cells.len();
         self.cells.write_header(State::Open, 0, 0)
     }
 
-    /// The disk below. Once a closing has been written it holds the store.
+    /// The disk below. Once a closing has been written it lists the store, and holds it where its tiles are intact.
     pub fn into_disk(self) -> D
         ensures closed { HoldsClosed self (D.content result) }
         ensures content { D.content result ≡ self.content }
         ensures honest { D.honest result ≡ self.honest }
         ensures failures { D.failures result ≡ self.failures }
+        ensures overreads { overreads_of (D.honest result) (D.overreads result) ≡ self.overreads }
     {
         let Coverages { catalogue, cells } = self;
         let _catalogue = catalogue.len();

@@ -19,9 +19,9 @@ use arr_core::Refusal;
 use disk_face::Disk;
 use http_front::Reply;
 use itoa::Buffer;
-use job_desk::{Answer, FetchError, JobDesk, NoSuchJob, StepError, SubmitError};
+use job_desk::{FetchError, JobDesk, NoSuchJob, StepError, SubmitError};
 use std::alloc::Global;
-use tile_exec::Workspace;
+use tile_exec::{Answer, Workspace};
 use wcps_types::TypedQuery;
 
 /// More bytes than `job 1 left 5` has for any numbers.

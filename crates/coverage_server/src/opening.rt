@@ -132,6 +132,7 @@ fn claim_listed<D: Disk>(
     ensures refused { IfErr result (Departs (CannotClaim (items_of indexes.now) file.old.marks)) }
     ensures content { file.new.content ≡ file.old.content }
     ensures failures { file.new.failures ≡ file.old.failures }
+    ensures overreads { file.new.overreads ≡ file.old.overreads }
     ensures honest { file.new.honest ≡ file.old.honest }
 {
     let blocks = blocks_of(alloc, indexes)?;
@@ -156,6 +157,7 @@ fn claim_layout<D: Disk>(
     ensures refused { IfErr result (IsNoLayout file.old) }
     ensures content { file.new.content ≡ file.old.content }
     ensures failures { file.new.failures ≡ file.old.failures }
+    ensures overreads { file.new.overreads ≡ file.old.overreads }
     ensures honest { file.new.honest ≡ file.old.honest }
 {
     let layout = read_layout(alloc, version, metadata)?;
@@ -233,8 +235,7 @@ fn coverages_of<D: Disk>(alloc: Global, opened: Opened<D>) -> Result<Coverages<D
     ensures lists { IfOk result (ListsFile opened.file) }
     ensures shows { IfOk result (ShowsFile opened.file) }
     ensures refused { IfErr result (λ refused. IsNoLayout opened.file refused.fault) }
-    ensures disk { IfErr result (λ refused.
-        GivesBack opened.file (disk_view D.content D.honest D.failures refused.disk)) }
+    ensures disk { IfErr result (λ refused. GivesBack opened.file (disk_view D.Disk refused.disk)) }
 {
     let Opened {
         mut file,
@@ -276,8 +277,8 @@ impl<D: Disk> Server<D> {
         ensures unheld { IfOk result (λ server. server.coverages.held ≡ []) }
         ensures honest { IfOk result (λ server. server.coverages.honest ≡ D.honest disk) }
         ensures failures { IfOk result (λ server. server.coverages.failures ≡ D.failures disk) }
-        ensures refused { IfErr result (λ left.
-            LeavesUnopened D.content D.honest D.failures disk left.fault left.disk) }
+        ensures overreads { IfOk result (λ server. server.coverages.overreads ≡ (disk_view D.Disk disk).overreads) }
+        ensures refused { IfErr result (λ left. LeavesUnopened D.Disk disk left.fault left.disk) }
     {
         let opened = match BlockFile::open(alloc, disk) {
             Ok(opened) => opened,

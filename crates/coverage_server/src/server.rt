@@ -226,13 +226,14 @@ impl<D: Disk> Server<D> {
     }
 
     /// Answers a request: from each state of the machine that the server represents, with its tiles where they lie, one
-    /// step of it to one that it then represents, on an honest disk. In place of any reply want of memory, a disk fault,
-    /// want of room or damage may be told; damage only where a tile that is in the way of this very request is not
-    /// spelled. A refusal leaves the signatures, the indexes, the jobs and what is held for them as they were on any
-    /// disk, but for a fault that is fetched as the answer of a job, which is dropped then. The coverages are those of a
-    /// catalogue. Coverages are held for exactly the jobs that have units left. Tiles are fetched for ProcessCoverages,
-    /// ProcessTemplate and StepJob alone: no more than the boxes of the query's plan, or of the units that were done,
-    /// bound together, unless it fails.
+    /// step of it to one that it then represents, on an honest disk. In place of any reply want of memory, a disk
+    /// fault, want of room or damage may be told; damage only where a tile that is in the way of this very request is
+    /// not spelled. A refusal leaves the signatures, the indexes, the jobs and what is held for them as they were on
+    /// any disk, but that a step that is refused may have done units that its job still shows as left, and that a job
+    /// whose answer is the fault that is told is fetched. The coverages are those of a catalogue. Coverages are held
+    /// for exactly the jobs that have units left. Tiles are fetched for ProcessCoverages, ProcessTemplate and StepJob
+    /// alone: no more than the boxes of the query's plan, or of the units that were done, bound together, unless it
+    /// fails.
     pub fn answer(&mut self, request: &Request) -> Reply
         ensures step { Refines (λ p q. Steps (asks request.now) self.old self.new p result q) self.old self.new }
         ensures catalogue { IsCatalogue (signatures_of self.old.coverages.store) }
@@ -274,8 +275,8 @@ impl<D: Disk> Server<D> {
         self.cells.coverages.fetched()
     }
 
-    /// Serves a connection to its end: reads messages, answers each and writes the replies. `ReadFault` and `WriteFault`
-    /// are answered exactly where a read or a write failed in it.
+    /// Serves a connection to its end: reads messages, answers each and writes the replies. `ReadFault` and
+    /// `WriteFault` are answered exactly where a read or a write failed in it.
     pub fn serve_connection<R: Source, W: Sink>(
         &mut self,
         reader: &mut R,

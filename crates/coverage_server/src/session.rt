@@ -1,8 +1,8 @@
 //! A session: a disk is opened, connections are served one after the other, and the disk is closed.
-ghost use Rattle.std.specs.Prelude.{◌≡◌, ◌≤◌, length, IfOk, IsTrue};
+ghost use Rattle.std.specs.Prelude.{◌≡◌, length, IfOk, IsTrue};
 ghost use Rattle.coverage_server.specs.Disk.{ListsNone};
 ghost use Rattle.coverage_server.specs.Leaving.{Continues};
-ghost use Rattle.coverage_server.specs.Sessions.{AreServed, Composes, IsSession, IsUnopened, ends_all};
+ghost use Rattle.coverage_server.specs.Sessions.{AreServed, Composes, IsSession, IsUnopened, StaysHonest, ends_all};
 
 use crate::closing::{CloseFault, NotClosed};
 use crate::opening::{NotOpened, OpenFault};
@@ -11,8 +11,8 @@ use disk_face::Disk;
 use std::alloc::Global;
 use stream_face::{Sink, Source};
 
-/// Why a session did not end by a close: the disk was not opened, and is given back; or the server was not closed, which has
-/// its store and may be closed again.
+/// Why a session did not end by a close: the disk was not opened, and is given back; or the server was not closed,
+/// which has its store and may be closed again.
 #[derive(Drop)]
 pub enum SessionFault<D: Disk> {
     NotOpened(D, OpenFault),
@@ -30,16 +30,16 @@ fn serve_all<D: Disk, R: Source, W: Sink>(server: &mut Server<D>, connections: &
     }
 }
 
-/// Opens the store of a disk, serves each connection, its reader and its writer, to its end, one after the other, and closes
-/// the store. Gives the disk, which holds the store that the connections left; or the disk that was not opened; or the
-/// server that was not closed.
+/// Opens the store of a disk, serves each connection, its reader and its writer, to its end, one after the other, and
+/// closes the store. Gives the disk, which lists the store that the connections left, and holds it where its tiles are
+/// intact; or the disk that was not opened; or the server that was not closed.
 pub fn serve_session<D: Disk + Drop, R: Source, W: Sink>(
     alloc: Global,
     disk: D,
     streams: &mut [(R, W)],
 ) -> Result<D, SessionFault<D>>
-    ensures ends { IsSession D.content D.honest D.failures disk (ends_all R.view W.view streams.old streams.new) result }
-    ensures still { IfOk result (λ after. (D.honest after ≡ D.honest disk) × (D.failures disk ≤ D.failures after)) }
+    ensures ends { IsSession D.Disk disk (ends_all R.view W.view streams.old streams.new) result }
+    ensures still { IfOk result (StaysHonest D.Disk disk) }
     ensures untouched { IsUnopened result → streams.new ≡ streams.old }
     ensures no_store { IsTrue (D.honest disk) → ListsNone (D.content disk) → IsUnopened result }
     ensures count { length streams.new ≡ length streams.old }

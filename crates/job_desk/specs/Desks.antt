@@ -1,18 +1,13 @@
 -- The desk: the jobs that are held, in the order of their numbers, and the number that the next one gets.
-use Rattle.std.specs.Prelude.{◌≡◌, ℕ, ◌<◌, ◌≤◌, nat_eq, cond, ◌⊎◌, List, [], ◌∷◌, ◌++◌, length, Option, Some, None, Result, Ok, Err, string_bytes}
+use Rattle.std.specs.Prelude.{◌≡◌, ℕ, ◌<◌, ◌≤◌, nat_eq, cond, ◌⊎◌, List, [], ◌∷◌, ◌++◌, length, Option, Some, None}
 use Rattle.std.specs.List.{find, All, AllPairs}
 use Rattle.arr_core.specs.Numbers.{number_after}
-use Rattle.wcps_mean.specs.declared.cell.PointFault.{PointFault}
-use Rattle.wcps_mean.specs.declared.item.Item.{Item}
-use Rattle.csv_out.specs.Csv.{csv}
 use Rattle.plan_ir.specs.Plans.{PlanTree}
-use Rattle.plan_ir.specs.Planned.{planned}
 use Rattle.tile_exec.specs.declared.exec.Exec.{Exec}
-use Rattle.tile_exec.specs.Tasks.{Cells}
-use Rattle.tile_exec.specs.Standing.{StandsFor, IsBegun, plan_of, left_of}
+use Rattle.tile_exec.specs.declared.answer.Answer.{Answer}
+use Rattle.tile_exec.specs.Answering.{AnswersFor}
+use Rattle.tile_exec.specs.Standing.{IsBegun, left_of}
 use Rattle.job_desk.specs.declared.job.Job.{Job}
-use Rattle.job_desk.specs.declared.answer.Answer.{Answer}
-use Rattle.job_desk.specs.declared.answer.Answer.TheVariants.{Text, Refused}
 
 -- the jobs, and the number of the next one: none where the last `u64` has been given
 pub record DeskView : Type 0 where
@@ -66,17 +61,6 @@ pub record IsSubmitted (tree : PlanTree) (coverages : List (List ℕ)) (n units 
 -- what does a plan's units came to be a job, whatever the plan is
 abbrev pub IsTakenIn : Exec → List (List ℕ) → ℕ → ℕ → DeskView → DeskView → Type 0
 IsTakenIn exec coverages n units old new = (tree : PlanTree) → IsBegun tree exec → IsSubmitted tree coverages n units old new
-
--- the text of the items, or the fault
-abbrev pub IsAnswer : Result (List Item) PointFault → Answer → Type 0
-IsAnswer (Ok items) (Text text) = string_bytes text ≡ csv items
-IsAnswer (Err fault) (Refused refused) = refused ≡ fault
-IsAnswer (Ok items) (Refused refused) = ⊥
-IsAnswer (Err fault) (Text text) = ⊥
-
--- what an executor's plan gives over each store that it stands for is answered so
-abbrev pub AnswersFor : Exec → Answer → Type 0
-AnswersFor e given = (s : Cells) → StandsFor s e → IsAnswer (planned s (plan_of e)) given
 
 -- a job without units left was taken out, and its answer is what its plan gives over what its executor stands for
 pub record IsFetched (n : ℕ) (given : Answer) (old new : DeskView) : Type 0 where

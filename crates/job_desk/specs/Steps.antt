@@ -1,9 +1,9 @@
 -- What a step makes of a job.
-use Rattle.std.specs.Prelude.{◌≡◌, ℕ, zero, suc, ◌-◌, ◌<◌, ◌≤◌, min, List, drop, Some, None, Result, Ok, Err, IfSome}
+use Rattle.std.specs.Prelude.{◌≡◌, ℕ, zero, suc, ◌-◌, ◌<◌, min, List, Some, None, Result, Ok, Err, IfSome}
 use Rattle.arr_core.specs.declared.signature.Signature.{Signature}
-use Rattle.tile_columns.specs.Sources.{SourceState, OnlyReads, Tells, FetchesAtMost}
-use Rattle.tile_exec.specs.declared.exec.Exec.{Exec}
-use Rattle.tile_exec.specs.Standing.{StandsOn, plan_of, left_of, boxes_left, most_fetched}
+use Rattle.tile_columns.specs.Sources.{SourceState, OnlyReads, Tells}
+use Rattle.tile_exec.specs.Standing.{plan_of, left_of}
+use Rattle.tile_exec.specs.Running.{HasRun, FetchesWithin}
 use Rattle.job_desk.specs.declared.job.Job.{Job}
 use Rattle.job_desk.specs.declared.error.StepError.{StepError}
 use Rattle.job_desk.specs.declared.error.StepError.TheVariants.{NoSuchJob, Cells}
@@ -12,18 +12,6 @@ use Rattle.job_desk.specs.declared.error.FetchError.TheVariants as fetching
 use Rattle.job_desk.specs.declared.error.SubmitError.{SubmitError}
 use Rattle.job_desk.specs.declared.error.SubmitError.TheVariants as submitting
 use Rattle.job_desk.specs.Desks.{DeskView, job_of, replaced, IsFull}
-
--- Units of an executor were done, or none: it has the same plan and no more units left, each unit was on the next box, and
--- over the source it stands for what it stood for.
-pub record HasRun {K : Type 0} (source : SourceState K) (was is : Exec) : Type 0 where
-  pub plan : plan_of is ≡ plan_of was
-  pub fewer : left_of is ≤ left_of was
-  pub boxes : boxes_left is ≡ drop (left_of was - left_of is) (boxes_left was)
-  pub stands : StandsOn source was is
-
--- the units that an executor has done between two states fetched no more tiles than the bounds of their boxes together
-abbrev pub FetchesWithin : {K : Type 0} → Exec → Exec → SourceState K → SourceState K → Type 0
-FetchesWithin was is old new = FetchesAtMost (most_fetched was is) old new
 
 -- the same job, whose executor has done units, or none
 pub record IsSameJob {K : Type 0} (source : SourceState K) (was is : Job) : Type 0 where

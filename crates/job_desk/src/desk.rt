@@ -9,18 +9,17 @@ ghost use Rattle.arr_core.specs.Numbers.{number_after};
 ghost use Rattle.job_desk.specs.Desks.{job_of, taken_out, IsSubmitted, IsTakenIn, IsFetched, IsDesk};
 ghost use Rattle.job_desk.specs.Steps.{coverages_of, HasCoverages, IsLowered, IsChanged, IsRefusedStep, StepsSource, IsRefusedFetch, IsRefusedSubmit};
 
-use crate::answer::{Answer, answer_of};
 use crate::error::{FetchError, NoSuchJob, StepError, SubmitError};
 use crate::job::{Job, NameList, place_of};
-use crate::run::step_job;
 use crate::snapshots::Snapshots;
+use crate::step::step_job;
 use arr_core::{Name, Signature};
 use plan_ir::Plan;
 use std::alloc::{AllocError, Global};
 use std::marker::Model;
 use std::num::NonZeroU64;
 use tile_columns::Tiles;
-use tile_exec::{Exec, Workspace};
+use tile_exec::{Answer, Exec, Workspace, answer_of};
 
 /// How many jobs may be held.
 pub const MAX_JOBS: usize = 64;
@@ -64,9 +63,10 @@ impl JobDesk {
         }
     }
 
-    /// Takes a plan as a job, with the names of the coverages that it reads, and gives its number and how many units it has
-    /// left. Nothing is read and no other job goes on. Refused with `TooManyJobs` where 64 jobs are held or the last number
-    /// has been given, else with `NoMemory` where none was left; a refusal changes nothing.
+    /// Takes a plan as a job, with the names of the coverages that it reads, has the store hold these for it, and gives
+    /// its number and how many units it has left. Nothing is read and no other job goes on. Refused with `TooManyJobs`
+    /// where 64 jobs are held or the last number has been given, else with `NoMemory` where none was left; a refusal
+    /// changes nothing.
     pub fn submit<H: Snapshots>(
         &mut self,
         plan: Plan,
@@ -121,8 +121,8 @@ impl JobDesk {
         Ok((number, left))
     }
 
-    /// The coverages of a job's plan, in the plan's order; `None` where there is no such job. The desk's numbers rise, and
-    /// there are at most 64 jobs.
+    /// The coverages of a job's plan, in the plan's order; `None` where there is no such job. The desk's numbers rise,
+    /// and there are at most 64 jobs.
     pub fn coverages(&self, job: u64) -> Option<&[Signature]>
         ensures coverages { option_copied result ≡ option_map coverages_of (job_of job self.now.jobs) }
         ensures desk { IsDesk self.now }
@@ -139,8 +139,9 @@ impl JobDesk {
         Some(self.jobs[place].left)
     }
 
-    /// Lowers what a job shows as left by so many units, not below 0, does the units that this asks of its executor, and
-    /// gives what is left. Where a unit fails, what is shown stays; the units before it are not done again.
+    /// Lowers what a job shows as left by so many units, not below 0, does the units that this asks of its executor,
+    /// and gives what is left. Where nothing is left, what the store holds for the job is released. Where a unit fails,
+    /// what is shown stays; the units before it are not done again.
     pub fn step<S: Tiles + Snapshots>(
         &mut self,
         job: u64,
@@ -163,9 +164,9 @@ impl JobDesk {
         Ok(left)
     }
 
-    /// Gives the answer of a job that has no units left, and takes the job out. Refused with `NoSuchJob` where there is none,
-    /// else with `NotReady` where it has units left, else with `NoMemory` where none was left for the text; a refusal
-    /// changes nothing.
+    /// Gives the answer of a job that has no units left, and takes the job out. Refused with `NoSuchJob` where there is
+    /// none, else with `NotReady` where it has units left, else with `NoMemory` where none was left for the text; a
+    /// refusal changes nothing.
     pub fn fetch(&mut self, job: u64) -> Result<Answer, FetchError>
         ensures fetched { IfOk result (λ answer. IsFetched job answer self.old self.new) }
         ensures refused { IfErr result (λ e. IsRefusedFetch job self.old.jobs e) }
@@ -190,7 +191,7 @@ impl JobDesk {
         self.jobs = Vec::new(*self.jobs.allocator());
     }
 
-    /// Takes a job out. Takes no memory. Refused where there is none.
+    /// Takes a job out, and releases what the store holds for it. Takes no memory. Refused where there is no such job.
     pub fn cancel<H: Snapshots>(&mut self, job: u64, store: &mut H) -> Result<(), NoSuchJob>
         ensures held { OnOk result (IsSome (job_of job self.old.jobs)) }
         ensures taken_out { OnOk result (self.new ≡ taken_out job self.old) }

@@ -106,6 +106,16 @@ impl Ends {
         let bits = self.parts(alloc, len, Part::Bit)?;
         operated(alloc, BinaryOperator::Bit, &zeros, &bits)
     }
+
+    /// A column of these outcomes.
+    fn column(&self, alloc: Global, len: usize) -> Result<Column> {
+        if !self.has_fault()? {
+            return self.parts(alloc, len, Part::Value);
+        }
+        let quotients = self.quotients(alloc, len)?;
+        let bits = self.bits(alloc, len)?;
+        operated(alloc, BinaryOperator::Add, &quotients, &bits)
+    }
 }
 
 /// A column of values.
@@ -173,13 +183,7 @@ pub fn column(alloc: Global, len: usize, words: &str) -> Result<Column> {
     if let Some(word) = words.strip_prefix("~") {
         return narrow(alloc, &Ends::read(word)?.cells(alloc, len, Part::Value)?);
     }
-    let ends = Ends::read(words)?;
-    if !ends.has_fault()? {
-        return ends.parts(alloc, len, Part::Value);
-    }
-    let quotients = ends.quotients(alloc, len)?;
-    let bits = ends.bits(alloc, len)?;
-    operated(alloc, BinaryOperator::Add, &quotients, &bits)
+    Ends::read(words)?.column(alloc, len)
 }
 
 /// The outcomes of a column.

@@ -1,5 +1,5 @@
 -- How the program's session ends.
-use Rattle.std.specs.Prelude.{◌≡◌, ◌≤◌, ℕ, List, Option, Some, None, Result, Ok, Err, codes, ⊤}
+use Rattle.std.specs.Prelude.{◌≡◌, ℕ, List, Option, Some, None, Result, Ok, Err, codes, ⊤}
 use Rattle.disk_face.specs.declared.Disk.{Ghosts}
 use Rattle.stream_face.specs.Views.{SinkView}
 use Rattle.coverage_server.specs.Disk.{open_refusal, close_refusal}
@@ -32,11 +32,7 @@ disk_back (Err (NotClosed server fault)) = None
 pub record EndsAs {D E : Type 0} (g : Ghosts D) (disk : D) (ends : List Ends) (view : E → SinkView) (errors errors' : E)
     (outcome : ℕ × Option D) : Type 0 where
   pub end : Result D (SessionFault D)
-  pub session : IsSession g.content g.honest g.failures disk ends end
+  pub session : IsSession g disk ends end
   pub status : outcome.0 ≡ status_of end
   pub back : outcome.1 ≡ disk_back end
   pub line : SaysWhy (view errors) (view errors') end
-
--- a disk is as honest as it was, and has no fewer failures
-abbrev pub IsStill : {D : Type 0} → Ghosts D → D → D → Type 0
-IsStill g disk after = (g.honest after ≡ g.honest disk) × (g.failures disk ≤ g.failures after)

@@ -1,7 +1,7 @@
 //! One session of the program, with its status.
-ghost use Rattle.std.specs.Prelude.{◌≡◌, ◌≤◌, IsSomeAnd};
-ghost use Rattle.coverage_server.specs.Sessions.{ends_all};
-ghost use Rattle.rasterd.specs.Sessions.{EndsAs, IsStill};
+ghost use Rattle.std.specs.Prelude.{◌≡◌, IsSomeAnd};
+ghost use Rattle.coverage_server.specs.Sessions.{StaysHonest, ends_all};
+ghost use Rattle.rasterd.specs.Sessions.{EndsAs};
 
 use crate::lines::tell;
 use coverage_server::{SessionFault, serve_session};
@@ -28,7 +28,7 @@ pub fn session_status<D: Disk + Drop, R: Source, W: Sink, E: Sink>(
     errors: &mut E,
 ) -> (u8, Option<D>)
     ensures end { EndsAs D.Disk disk (ends_all R.view W.view streams.old streams.new) E.view errors.old errors.new result }
-    ensures still { result.0 ≡ 0 → IsSomeAnd result.1 (IsStill D.Disk disk) }
+    ensures still { result.0 ≡ 0 → IsSomeAnd result.1 (StaysHonest D.Disk disk) }
     ensures untouched { result.0 ≡ 3 → streams.new ≡ streams.old }
     ensures quiet { result.0 ≡ 0 → errors.new ≡ errors.old }
 {

@@ -13,3 +13,4 @@ pub mod Beginning
 pub mod Ending
 pub mod Sampling
 pub mod Knowing
+pub mod Runs

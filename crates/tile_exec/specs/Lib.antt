@@ -9,3 +9,5 @@ pub mod Fetching
 pub mod Rows
 pub mod Begun
 pub mod Keyed
+pub mod Running
+pub mod Answering

@@ -8,7 +8,7 @@ ghost use Rattle.tile_columns.specs.Fields.{HavePlaces};
 ghost use Rattle.tile_columns.specs.Meaning.{IsGroundOf, HasPlaceOver, IsColumnOf, Fetches};
 ghost use Rattle.tile_exec.specs.Fetching.{as_item, ItemHasPlace, AreItemColumns, FetchesBody, FetchesOver};
 
-use crate::workspace::Memory;
+use crate::buffers::Memory;
 use arr_core::Domain;
 use plan_ir::{Body, Item};
 use tile_columns::{Frame, Ground, Tiles, evaluate, evaluate_fields};

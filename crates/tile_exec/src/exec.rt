@@ -91,9 +91,10 @@ impl Exec {
                 fetched: 0,
             });
         }
-        let unit = self.state.unit(workspace, source)?;
+        let buffers = workspace.buffers()?;
+        let unit = self.state.unit(buffers, source)?;
         let fetched = source.count() - before;
-        self.state.keep(workspace, unit);
+        self.state.keep(buffers, unit);
         Ok(StepInfo {
             left: self.state.left,
             fetched,

@@ -12,11 +12,11 @@ ghost use Rattle.tile_exec.specs.declared.task.Status.TheVariants.{Giving};
 ghost use Rattle.tile_exec.specs.Units.{FitsItem, IsItemFound};
 ghost use Rattle.tile_exec.specs.Fetching.{as_item, IsPartOver, FetchesTile};
 
+use crate::buffers::Buffers;
 use crate::found::ItemTile;
 use crate::keyed::{ItemColumns, TileAt, item_columns};
 use crate::known::Known;
 use crate::row::first_fault;
-use crate::workspace::Workspace;
 use arr_core::Cell;
 use plan_ir::{Field, Item};
 use std::alloc::{AllocError, Global};
@@ -29,7 +29,7 @@ const FIELDS_END: usize = 4_294_967_296;
 
 /// What a tile of an item gives.
 pub(crate) fn item_tile<S: Tiles>(
-    workspace: &mut Workspace,
+    buffers: &mut Buffers,
     source: &mut S,
     ground: &Ground<'_>,
     item: &Item,
@@ -47,10 +47,10 @@ pub(crate) fn item_tile<S: Tiles>(
     if item.fields.len() >= FIELDS_END {
         return Err(CellError::NoMemory);
     }
-    let alloc = workspace.memory.alloc;
+    let alloc = buffers.memory.alloc;
     let part = item.domain.tile_box(alloc, tile)?;
     let _axes = part.axes();
-    let mut places = mem::replace(&mut workspace.places, Vec::new(alloc));
+    let mut places = mem::replace(&mut buffers.places, Vec::new(alloc));
     ranks(&mut places, &item.domain, &part)?;
     let at = TileAt {
         area: &item.domain,
@@ -58,7 +58,7 @@ pub(crate) fn item_tile<S: Tiles>(
         number: tile,
         known,
     };
-    let told = item_columns(workspace, source, ground, item, &at)?;
+    let told = item_columns(buffers, source, ground, item, &at)?;
     let ItemColumns {
         columns,
         known: found,

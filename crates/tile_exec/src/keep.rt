@@ -11,12 +11,12 @@ ghost use Rattle.tile_exec.specs.Progress.{after_condition};
 ghost use Rattle.tile_exec.specs.Standing.{IsSound, tasks_left};
 ghost use Rattle.tile_exec.specs.Units.{Fits, IsNotGiven, AfterSkipped, BeginsTile, Gives, Keeps};
 
+use crate::buffers::Buffers;
 use crate::found::{Found, ItemTile, Unit};
 use crate::known::Known;
 use crate::row::write_points;
 use crate::state::State;
 use crate::task::Status;
-use crate::workspace::Workspace;
 use arr_core::Cell;
 use std::mem;
 use tile_kernel::{Accumulator, FirstFault};
@@ -117,7 +117,7 @@ fn tested_by(o: Outcome) -> Status
     }
 }
 
-/// Whether there is no item: its condition was false.
+/// How it stands after an item that is not given: a fault stands, else the next combination may give one.
 fn after_skipped(status: Status) -> Status
     ensures { IsNotGiven status → AfterSkipped status result }
 {
@@ -130,7 +130,7 @@ fn after_skipped(status: Status) -> Status
 
 impl State {
     /// Keeps what a unit found.
-    pub(crate) fn keep(&mut self, workspace: &mut Workspace, unit: Unit)
+    pub(crate) fn keep(&mut self, buffers: &mut Buffers, unit: Unit)
         requires sound { IsSound self.old }
         requires fits { Fits self.old (tasks_left self.old) unit.last unit.found }
         requires left { 0 < self.old.left }
@@ -140,7 +140,7 @@ impl State {
         match found {
             Found::Pass(a) => self.keep_pass(last, a),
             Found::Condition(o) => self.keep_condition(o),
-            Found::Item(tile) => self.keep_item(workspace, last, tile),
+            Found::Item(tile) => self.keep_item(buffers, last, tile),
             Found::Fieldless(line) => self.keep_fieldless(line),
             Found::Skipped => self.keep_skipped(last),
         }
@@ -179,7 +179,7 @@ impl State {
     }
 
     /// The item at hand is told of its next tile. After its last one it is given, or its first fault stands.
-    fn keep_item(&mut self, workspace: &mut Workspace, last: bool, found: ItemTile)
+    fn keep_item(&mut self, buffers: &mut Buffers, last: bool, found: ItemTile)
         requires sound { IsSound self.old }
         requires fits { Fits self.old (tasks_left self.old) last (Found.Item found) }
         ensures { Keeps self.old self.new (Found.Item found) }
@@ -197,7 +197,7 @@ impl State {
         begin_cells(&mut self.cells, self.tile, fresh);
         begin_known(&mut self.known, self.tile, known);
         write_points(&mut self.cells, &places, &booleans, &columns);
-        workspace.take_back(places);
+        buffers.take_back(places);
         self.first = begin_first(self.first, self.tile).least(first);
         self.left -= 1;
         if last {
@@ -207,7 +207,7 @@ impl State {
         self.tile += 1;
     }
 
-    /// The item at hand is given, or its first fault stands.
+    /// The item at hand is given, or its first fault stands. Its cells and what is known of it are kept no longer.
     fn give_item(&mut self, line: u64, fields: u32)
         requires small { self.old.at + 1 < 2 ^ 64 }
         requires room { length self.old.items.items < vec_capacity self.old.items }
@@ -215,13 +215,14 @@ impl State {
     {
         self.at += 1;
         self.tile = 0;
+        self.known = None;
+        let cells = mem::replace(&mut self.cells, Vec::new(self.alloc));
         match self.first.fault {
             Some(f) => {
                 self.status = Status::Failed(f);
                 return;
             }
             None => {
-                let cells = mem::replace(&mut self.cells, Vec::new(self.alloc));
                 let cells = CellList::new(cells);
                 put_item(
                     &mut self.items,

@@ -12,10 +12,10 @@ ghost use Rattle.tile_exec.specs.Known.{Knows, KnowsFold, point_of, IsKnownBy, I
 ghost use Rattle.tile_exec.specs.Known.{IsColumnBy, IfColumnBy};
 ghost use Rattle.tile_exec.specs.Keyed.{IsKeyedColumn, AreColumnsKnown};
 
+use crate::buffers::Buffers;
 use crate::column::{column_over, columns_over};
 use crate::known::{Known, pairs_of};
 use crate::samples::{Sample, frame_of, samples_of};
-use crate::workspace::{Workspace, column_in};
 use arr_core::Domain;
 use plan_ir::Item;
 use std::alloc::{AllocError, Global};
@@ -55,7 +55,7 @@ fn item_key<'a>(item: &'a Item, part: &Domain) -> Option<Key<'a>>
 
 /// What is known of a fold of zones by samples of its key in a box.
 fn known_by<S: Tiles>(
-    workspace: &mut Workspace,
+    buffers: &mut Buffers,
     source: &mut S,
     ground: &Ground<'_>,
     key: &Key<'_>,
@@ -71,18 +71,17 @@ fn known_by<S: Tiles>(
     ensures reads { Reads S.Tiles result source.old source.new }
     ensures fetched { OnOk result (FetchesKeyed key.now (length samples.now) 1 S.Tiles source.old source.new) }
 {
-    let alloc = workspace.memory.alloc;
+    let alloc = buffers.memory.alloc;
     let mut frame = frame_of(alloc, samples, area.axes().len())?;
-    let column = column_in(alloc, &mut workspace.column)?;
     evaluate_keyed(
         source,
         ground,
         key,
         &mut frame,
-        &mut workspace.memory.scratch,
-        column,
+        &mut buffers.memory.scratch,
+        &mut buffers.column,
     )?;
-    let outcomes = pairs_of(alloc, samples, column)?;
+    let outcomes = pairs_of(alloc, samples, &buffers.column)?;
     Ok(Known {
         zones: key.zones,
         outcomes,
@@ -91,7 +90,7 @@ fn known_by<S: Tiles>(
 
 /// What is known of a fold of zones in a box: nothing where its key has too many numbers there, or none.
 fn known_over<S: Tiles>(
-    workspace: &mut Workspace,
+    buffers: &mut Buffers,
     source: &mut S,
     ground: &Ground<'_>,
     key: &Key<'_>,
@@ -103,21 +102,13 @@ fn known_over<S: Tiles>(
     ensures reads { Reads S.Tiles result source.old source.new }
     ensures fetched { OnOk result (FetchesKeyed key.now (count area.now + 4096) 1 S.Tiles source.old source.new) }
 {
-    let column = column_in(workspace.memory.alloc, &mut workspace.column)?;
-    match samples_of(
-        &mut workspace.memory,
-        source,
-        ground,
-        key.body,
-        area,
-        column,
-    )? {
+    match samples_of(buffers, source, ground, key.body, area)? {
         None => Ok(None),
         Some(samples) => {
             if samples.is_empty() {
                 return Ok(None);
             }
-            let known = known_by(workspace, source, ground, key, &samples, area)?;
+            let known = known_by(buffers, source, ground, key, &samples, area)?;
             Ok(Some(known))
         }
     }
@@ -125,7 +116,7 @@ fn known_over<S: Tiles>(
 
 /// The outcomes of a fold of zones at the points of a part, if they are known by the same key.
 fn known_column<S: Tiles>(
-    workspace: &mut Workspace,
+    buffers: &mut Buffers,
     source: &mut S,
     ground: &Ground<'_>,
     key: &Key<'_>,
@@ -147,11 +138,17 @@ fn known_column<S: Tiles>(
             if !same_zones(known.zones, key.zones) {
                 return Ok(None);
             }
-            let alloc = workspace.memory.alloc;
-            let keys = column_in(alloc, &mut workspace.column)?;
-            column_over(&mut workspace.memory, source, ground, part, key.body, keys)?;
-            keys.spread();
-            match known.outcomes_by(alloc, keys)? {
+            column_over(
+                &mut buffers.memory,
+                source,
+                ground,
+                part,
+                key.body,
+                &mut buffers.column,
+            )?;
+            buffers.column.spread();
+            let alloc = buffers.memory.alloc;
+            match known.outcomes_by(alloc, &buffers.column)? {
                 None => Ok(None),
                 Some(outcomes) => {
                     let mut column = Column::new(alloc)?;
@@ -165,7 +162,7 @@ fn known_column<S: Tiles>(
 
 /// The outcomes of a fold of zones at the points of a part, in one pass over its box.
 fn pass_column<S: Tiles>(
-    workspace: &mut Workspace,
+    buffers: &mut Buffers,
     source: &mut S,
     ground: &Ground<'_>,
     key: &Key<'_>,
@@ -179,7 +176,7 @@ fn pass_column<S: Tiles>(
     ensures reads { Reads S.Tiles result source.old source.new }
     ensures fetched { OnOk result (FetchesKeyed key.now (count part.now) 1 S.Tiles source.old source.new) }
 {
-    let alloc = workspace.memory.alloc;
+    let alloc = buffers.memory.alloc;
     let _axes = part.axes();
     let mut frame = Frame::of_box(alloc, part)?;
     let mut column = Column::new(alloc)?;
@@ -188,7 +185,7 @@ fn pass_column<S: Tiles>(
         ground,
         key,
         &mut frame,
-        &mut workspace.memory.scratch,
+        &mut buffers.memory.scratch,
         &mut column,
     )?;
     Ok(column)
@@ -196,7 +193,7 @@ fn pass_column<S: Tiles>(
 
 /// The outcomes of a fold of zones at the points of a part: those that are known, or of one pass over its box.
 fn keyed_column<S: Tiles>(
-    workspace: &mut Workspace,
+    buffers: &mut Buffers,
     source: &mut S,
     ground: &Ground<'_>,
     key: &Key<'_>,
@@ -211,9 +208,9 @@ fn keyed_column<S: Tiles>(
     ensures reads { Reads S.Tiles result source.old source.new }
     ensures fetched { OnOk result (FetchesKeyed key.now (count part.now + count part.now) 1 S.Tiles source.old source.new) }
 {
-    match known_column(workspace, source, ground, key, part, known)? {
+    match known_column(buffers, source, ground, key, part, known)? {
         Some(column) => Ok(column),
-        None => pass_column(workspace, source, ground, key, part),
+        None => pass_column(buffers, source, ground, key, part),
     }
 }
 
@@ -246,7 +243,7 @@ fn known_after<'a>(found: &'a Option<Known>, before: Option<&'a Known>) -> Optio
 
 /// What a tile finds of a fold of zones: what is known over the whole box, at the first one.
 fn found_at<S: Tiles>(
-    workspace: &mut Workspace,
+    buffers: &mut Buffers,
     source: &mut S,
     ground: &Ground<'_>,
     key: &Key<'_>,
@@ -261,7 +258,7 @@ fn found_at<S: Tiles>(
     if at.number > 0 {
         return Ok(None);
     }
-    known_over(workspace, source, ground, key, at.area)
+    known_over(buffers, source, ground, key, at.area)
 }
 
 /// A list of one column.
@@ -275,7 +272,7 @@ fn one_column(alloc: Global, column: Column) -> Result<Vec<Column>, AllocError>
 
 /// The column of an item's one field, a fold of zones, at the points of a tile.
 fn keyed_columns<S: Tiles>(
-    workspace: &mut Workspace,
+    buffers: &mut Buffers,
     source: &mut S,
     ground: &Ground<'_>,
     key: &Key<'_>,
@@ -293,10 +290,10 @@ fn keyed_columns<S: Tiles>(
     ensures fetched { OnOk result (FetchesKeyed key.now (count at.now.area.now + 12288) 2 S.Tiles source.old source.new) }
 {
     let _axes = at.part.axes();
-    let found = found_at(workspace, source, ground, key, at)?;
+    let found = found_at(buffers, source, ground, key, at)?;
     let known = known_after(&found, at.known);
-    let column = keyed_column(workspace, source, ground, key, at.part, known)?;
-    let columns = one_column(workspace.memory.alloc, column)?;
+    let column = keyed_column(buffers, source, ground, key, at.part, known)?;
+    let columns = one_column(buffers.memory.alloc, column)?;
     Ok(ItemColumns {
         columns,
         known: found,
@@ -305,7 +302,7 @@ fn keyed_columns<S: Tiles>(
 
 /// The columns of an item's fields at the points of a tile: by a key of its body where that pays.
 pub(crate) fn item_columns<S: Tiles>(
-    workspace: &mut Workspace,
+    buffers: &mut Buffers,
     source: &mut S,
     ground: &Ground<'_>,
     item: &Item,
@@ -325,12 +322,12 @@ pub(crate) fn item_columns<S: Tiles>(
     match item_key(item, at.part) {
         None => {
             let _axes = at.part.axes();
-            let columns = columns_over(&mut workspace.memory, source, ground, item, at.part)?;
+            let columns = columns_over(&mut buffers.memory, source, ground, item, at.part)?;
             Ok(ItemColumns {
                 columns,
                 known: None,
             })
         }
-        Some(key) => keyed_columns(workspace, source, ground, &key, at),
+        Some(key) => keyed_columns(buffers, source, ground, &key, at),
     }
 }

@@ -13,8 +13,8 @@ ghost use Rattle.tile_exec.specs.Passes.{ranks_of};
 ghost use Rattle.tile_exec.specs.Units.{IsFound};
 ghost use Rattle.tile_exec.specs.Fetching.{as_pass, as_condition, IsPartOver, FetchesBody, FetchesTile};
 
+use crate::buffers::Buffers;
 use crate::column::{column_at, column_over};
-use crate::workspace::{Workspace, column_in};
 use arr_core::Domain;
 use plan_ir::{Body, Fold};
 use std::alloc::{AllocError, Global};
@@ -42,8 +42,8 @@ fn list_places(alloc: Global, of: TileOf<'_>, places: &mut Vec<u64>) -> Result<(
     Ok(())
 }
 
-/// What a column of the cells of a tile tells a condenser. Their places in the box are listed only where a cell may have a
-/// fault.
+/// What a column of the cells of a tile tells a condenser. Their places in the box are listed only where a cell may
+/// have a fault.
 fn fold_part(
     alloc: Global,
     op: Aggregate,
@@ -93,7 +93,7 @@ fn fold_part_where(
 
 /// What a tile of a pass's box tells its condenser.
 pub(crate) fn pass_tile<S: Tiles>(
-    workspace: &mut Workspace,
+    buffers: &mut Buffers,
     source: &mut S,
     ground: &Ground<'_>,
     pass: &Fold,
@@ -108,44 +108,49 @@ pub(crate) fn pass_tile<S: Tiles>(
     ensures reads { Reads S.Tiles result source.old source.new }
     ensures fetched { FetchesTile result ground.now tile S.Tiles source.old source.new (as_pass pass.now) }
 {
-    let alloc = workspace.memory.alloc;
+    let alloc = buffers.memory.alloc;
     let area = &pass.domain;
     let of = TileOf { area, tile };
     let _axes = area.axes();
-    let chosen = column_in(alloc, &mut workspace.chosen)?;
-    let column = column_in(alloc, &mut workspace.column)?;
     let mut frame = Frame::of_tile(alloc, area, tile)?;
     match &pass.condition {
         None => {
             column_at(
-                &mut workspace.memory,
+                &mut buffers.memory,
                 source,
                 ground,
                 &mut frame,
                 &pass.body,
-                column,
+                &mut buffers.column,
             )?;
-            let told = fold_part(alloc, pass.op, column, of, &mut workspace.places)?;
+            let told = fold_part(alloc, pass.op, &buffers.column, of, &mut buffers.places)?;
             Ok(told)
         }
         Some(condition) => {
             column_at(
-                &mut workspace.memory,
+                &mut buffers.memory,
                 source,
                 ground,
                 &mut frame,
                 condition,
-                chosen,
+                &mut buffers.chosen,
             )?;
             column_at(
-                &mut workspace.memory,
+                &mut buffers.memory,
                 source,
                 ground,
                 &mut frame,
                 &pass.body,
-                column,
+                &mut buffers.column,
             )?;
-            let told = fold_part_where(alloc, pass.op, chosen, column, of, &mut workspace.places)?;
+            let told = fold_part_where(
+                alloc,
+                pass.op,
+                &buffers.chosen,
+                &buffers.column,
+                of,
+                &mut buffers.places,
+            )?;
             Ok(told)
         }
     }
@@ -153,7 +158,7 @@ pub(crate) fn pass_tile<S: Tiles>(
 
 /// The outcome of a condition.
 pub(crate) fn condition_of<S: Tiles>(
-    workspace: &mut Workspace,
+    buffers: &mut Buffers,
     source: &mut S,
     ground: &Ground<'_>,
     test: &Body,
@@ -164,14 +169,19 @@ pub(crate) fn condition_of<S: Tiles>(
     ensures reads { Reads S.Tiles result source.old source.new }
     ensures fetched { FetchesBody result ground.now [] test.now S.Tiles source.old source.new }
 {
-    let alloc = workspace.memory.alloc;
-    match Domain::new(Vec::new(alloc)) {
+    match Domain::new(Vec::new(buffers.memory.alloc)) {
         Err(_) => unreachable!(),
         Ok(point) => {
             let _axes = point.axes();
-            let column = column_in(alloc, &mut workspace.column)?;
-            column_over(&mut workspace.memory, source, ground, &point, test, column)?;
-            Ok(column.at(0))
+            column_over(
+                &mut buffers.memory,
+                source,
+                ground,
+                &point,
+                test,
+                &mut buffers.column,
+            )?;
+            Ok(buffers.column.at(0))
         }
     }
 }

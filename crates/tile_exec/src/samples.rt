@@ -7,8 +7,8 @@ ghost use Rattle.tile_columns.specs.Calling.{Reads};
 ghost use Rattle.tile_columns.specs.Meaning.{IsGroundOf};
 ghost use Rattle.tile_exec.specs.Known.{IsKeyPlaced, AreSamples, AddsPoint, AddsPoints, FetchesTimes, point_of};
 
+use crate::buffers::Buffers;
 use crate::column::column_over;
-use crate::workspace::Memory;
 use arr_core::Domain;
 use plan_ir::Body;
 use std::alloc::{AllocError, Global};
@@ -23,8 +23,8 @@ pub(crate) struct Sample {
     pub point: Vec<i32>,
 }
 
-/// Puts the number that a key has at a place of a box, with the point, among samples in the order of their numbers, where
-/// none has it.
+/// Puts the number that a key has at a place of a box, with the point, among samples in the order of their numbers,
+/// where none has it.
 fn add_point(
     alloc: Global,
     samples: &mut Vec<Sample>,
@@ -64,15 +64,14 @@ fn add_points(
     Ok(())
 }
 
-/// The different numbers of a key at the points of a box, each with one of these points; none where they are more than a
-/// column has places. The column is where the key is evaluated.
+/// The different numbers of a key at the points of a box, each with one of these points; none where they are more than
+/// a column has places.
 pub(crate) fn samples_of<S: Tiles>(
-    memory: &mut Memory,
+    buffers: &mut Buffers,
     source: &mut S,
     ground: &Ground<'_>,
     key: &Body,
     area: &Domain,
-    column: &mut Column,
 ) -> Result<Option<Vec<Sample>>, CellError>
     requires signatures { IsGroundOf (S.state source.old) ground.now }
     requires placed { IsKeyPlaced (S.state source.old) ground.now area.now key.now }
@@ -81,15 +80,22 @@ pub(crate) fn samples_of<S: Tiles>(
     ensures reads { Reads S.Tiles result source.old source.new }
     ensures fetched { OnOk result (FetchesTimes (count area.now) key.now S.Tiles source.old source.new) }
 {
-    let alloc = memory.alloc;
+    let alloc = buffers.memory.alloc;
     let _axes = area.axes();
     let mut samples = Vec::new(alloc);
     for tile in 0..area.tiles() {
         let part = area.tile_box(alloc, tile)?;
         let _part_axes = part.axes();
-        column_over(memory, source, ground, &part, key, column)?;
-        column.spread();
-        add_points(alloc, &mut samples, &part, column)?;
+        column_over(
+            &mut buffers.memory,
+            source,
+            ground,
+            &part,
+            key,
+            &mut buffers.column,
+        )?;
+        buffers.column.spread();
+        add_points(alloc, &mut samples, &part, &buffers.column)?;
         if samples.len() > MAX_PLACES {
             return Ok(None);
         }

@@ -11,13 +11,13 @@ ghost use Rattle.tile_exec.specs.Standing.{IsSound, plan_of, tasks_left};
 ghost use Rattle.tile_exec.specs.Units.{IsLast, Fits, FitsPart, FitsUnit, IsFoundBy, IsNextFound, IfPart, unit_bound};
 ghost use Rattle.tile_exec.specs.Fetching.{IsReady, FetchesTile};
 
+use crate::buffers::Buffers;
 use crate::found::{Found, Unit};
 use crate::item::item_tile;
 use crate::known::known_before;
 use crate::pass::{condition_of, pass_tile};
 use crate::state::State;
 use crate::task::{AtHand, Part, Status, Task};
-use crate::workspace::Workspace;
 use arr_core::Domain;
 use plan_ir::{Fold, Item};
 use tile_columns::{Ground, Tiles};
@@ -68,7 +68,7 @@ fn fieldless_of(item: &Item, status: Status) -> Found
 
 /// What a tile of a task gives.
 fn unit_of<S: Tiles>(
-    workspace: &mut Workspace,
+    buffers: &mut Buffers,
     source: &mut S,
     ground: &Ground<'_>,
     at: &AtHand<'_>,
@@ -84,7 +84,7 @@ fn unit_of<S: Tiles>(
         Part::Pass => match pass_at(&at.steps.passes, at.task.count) {
             None => unreachable!(),
             Some(pass) => {
-                let a = pass_tile(workspace, source, ground, pass, at.tile)?;
+                let a = pass_tile(buffers, source, ground, pass, at.tile)?;
                 Ok(Unit {
                     last: is_last(&pass.domain, at.tile),
                     found: Found::Pass(a),
@@ -94,7 +94,7 @@ fn unit_of<S: Tiles>(
         Part::Condition => match &at.steps.condition {
             None => unreachable!(),
             Some(condition) => {
-                let o = condition_of(workspace, source, ground, condition)?;
+                let o = condition_of(buffers, source, ground, condition)?;
                 Ok(Unit {
                     last: true,
                     found: Found::Condition(o),
@@ -105,14 +105,7 @@ fn unit_of<S: Tiles>(
             let last = is_last(&at.steps.item.domain, at.tile);
             match at.status {
                 Status::Giving => {
-                    let x = item_tile(
-                        workspace,
-                        source,
-                        ground,
-                        &at.steps.item,
-                        at.tile,
-                        at.known,
-                    )?;
+                    let x = item_tile(buffers, source, ground, &at.steps.item, at.tile, at.known)?;
                     Ok(Unit {
                         last,
                         found: Found::Item(x),
@@ -139,7 +132,7 @@ impl State {
     /// What the next unit gives.
     pub(crate) fn unit<S: Tiles>(
         &self,
-        workspace: &mut Workspace,
+        buffers: &mut Buffers,
         source: &mut S,
     ) -> Result<Unit, CellError>
         requires sound { IsSound self.now }
@@ -169,7 +162,7 @@ impl State {
                     status: self.status,
                     known: known_before(&self.known, self.tile),
                 };
-                unit_of(workspace, source, &ground, &hand)
+                unit_of(buffers, source, &ground, &hand)
             }
         }
     }

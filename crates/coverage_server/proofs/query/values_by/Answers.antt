@@ -2,7 +2,7 @@
 use Rattle.std.proofs.Common.{ℕ, ◌+◌, ◌≤◌, ◌∙◌, Err, ap, inl, inr, refl, sym, subst}
 use Rattle.std.proofs.lemmas.Result.{err_from_is_err_and}
 use Rattle.arr_core.specs.Stores.{Store}
-use Rattle.job_desk.specs.Desks.{IsAnswer}
+use Rattle.tile_exec.specs.Answering.{IsAnswer}
 use Rattle.plan_ir.specs.Planned.{planned}
 use Rattle.tile_exec.specs.Standing.{StandsFor, plan_of as plan_in}
 use Rattle.wcps_types.specs.TypedQueries.{query_view as typed_view}

@@ -1,5 +1,5 @@
 -- A session is an opening, connections, and a close or what is left without one.
-use Rattle.std.proofs.Common.{sym, subst}
+use Rattle.std.proofs.Common.{sym, subst, ◌∙◌, arith}
 use Rattle.std.specs.Prelude.{IsTrue}
 use Rattle.std.proofs.lemmas.List.Elements.{All-weaker}
 use Rattle.arr_core.specs.Stores.{Store}
@@ -39,7 +39,7 @@ returns-in-Ok-close_with_retry-clause-ends g c =
       λ spelled. subst (λ (l : Layout). AreIntact content run.0.state.store l.indexes) (sym run.1.layout)
           (subst (λ (s : Store). AreIntact content s later) (sym run.1.state.store)
           (close.intact (c.serve_all.ensures.continues.sound (sound spelled)))),
-      all-later (rose-by _ _ _ close.no_fewer) _ _ _ run.2,
+      all-later (rose-by _ _ _ (omega (arith, close.failures))) _ _ _ run.2,
     )
 
 pub returns-in-Err-close_with_retry-clause-ends : goal.returns-in-Err-close_with_retry-clause-ends
@@ -47,8 +47,19 @@ returns-in-Err-close_with_retry-clause-ends g c =
     unclosed_left c.in-Err-close_with_retry.field-0.fault _ _ c.serve_all.new.server _
     (λ first mid. unclosed first _ _ c.in-Ok.server c.serve_all.new.server mid
     c.in-Ok.ensures.opened c.in-Ok.ensures.desk c.in-Ok.ensures.unheld c.in-Ok.ensures.honest
-    c.in-Ok.ensures.failures c.serve_all.ensures.served c.serve_all.ensures.continues)
+    c.in-Ok.ensures.failures c.in-Ok.ensures.overreads c.serve_all.ensures.served c.serve_all.ensures.continues)
     c.in-Err-close_with_retry.ensures.left
+
+pub returns-in-Ok-close_with_retry-clause-still : goal.returns-in-Ok-close_with_retry-clause-still
+returns-in-Ok-close_with_retry-clause-still g c =
+    let opened = c.in-Ok.ensures in
+    let keeps = c.serve_all.ensures.continues in
+    let close = c.in-Ok-close_with_retry.ensures.closed in
+    record {
+      honest = close.honest ∙ keeps.honest ∙ opened.honest;
+      no_fewer = omega (arith, close.failures, keeps.no_fewer, opened.failures);
+      overreads = close.overreads ∙ keeps.overreads ∙ opened.overreads;
+    }
 
 pub returns-in-Err-close_with_retry-clause-no_store : goal.returns-in-Err-close_with_retry-clause-no_store
 returns-in-Err-close_with_retry-clause-no_store g c =

@@ -19,8 +19,8 @@ write_outcomes-requires g c =
     let many = pairs.many in
     omega (arith, many, ap length c.deref.ensures.value, ap length c.spread.ensures, c.in_ok-column_over-in-Some.ensures.places, length-points c.args.part.now, c.requires.few)
 
-pub returns-after-branch-4-clause-value : goal.returns-after-branch-4-clause-value
-returns-after-branch-4-clause-value g c =
+pub returns-after-branch-3-clause-value : goal.returns-after-branch-3-clause-value
+returns-after-branch-3-clause-value g c =
     let s = g.S.Tiles.state c.args.source.now in
     let ground = c.args.ground.now in
     let part = c.args.part.now in
@@ -28,7 +28,7 @@ returns-after-branch-4-clause-value g c =
     let known = c.in-Some.known.now in
     let keyed = c.requires.keyed in
     let P = λ (o : Option (List Outcome)). IfSome o (λ x. IsColumnBy s ground part k (option_copied c.args.known) x) in
-    elim c.match-branch-4.branch [
+    elim c.match-branch-3.branch [
       | in-None-2 w ↦ subst (λ r. IfOk r P) (sym w.result-is) tt
       | in-Some-2+in_ok-column-in-Some-2 w ↦ subst (λ r. IfOk r P) (sym w.result-is)
           (λ knows i.
@@ -38,8 +38,8 @@ returns-after-branch-4-clause-value g c =
           ∙ looked_up s ground part k known c.spread.new.self w.in-Some-2.outcomes.items c.axes-axes.ensures.domain.ordered keyed.found (c.same_zones.ensures (search rules)) holds (c.spread.ensures ∙ c.in_ok-column_over-in-Some.ensures.value i) pairs)
     ]
 
-pub returns-after-branch-4-clause-fetched : goal.returns-after-branch-4-clause-fetched
-returns-after-branch-4-clause-fetched g c =
+pub returns-after-branch-3-clause-fetched : goal.returns-after-branch-3-clause-fetched
+returns-after-branch-3-clause-fetched g c =
     let s = g.S.Tiles.state c.args.source.now in
     let now = g.S.Tiles.state c.column_over.new.source in
     let part = c.args.part.now in
@@ -47,7 +47,7 @@ returns-after-branch-4-clause-fetched g c =
     let f = c.in_ok-column_over-in-Some.ensures.fetched in
     let few = bound_few (chosen s c.args.ground.now) part (body_view k.body.now) in
     let all : now.fetched ≤ s.fetched + (bound_times (count part) (body_view k.body.now) + bound_times 0 (fold_view k.fold.now)) = omega (arith, f, few) in
-    elim c.match-branch-4.branch [
+    elim c.match-branch-3.branch [
       | in-None-2 w ↦ subst (λ r. OnOk r (now.fetched ≤ s.fetched + (bound_times (count part) (body_view k.body.now) + bound_times 0 (fold_view k.fold.now)))) (sym w.result-is) all
       | in-Some-2+in_ok-column-in-Some-2 w ↦ subst (λ r. OnOk r (now.fetched ≤ s.fetched + (bound_times (count part) (body_view k.body.now) + bound_times 0 (fold_view k.fold.now)))) (sym w.result-is) all
     ]

@@ -46,6 +46,7 @@ returns-clause-continues g c = record {
   ];
   honest = search rules;
   no_fewer = search rules;
+  overreads = search rules;
 }
 
 pub invariant_of-self : goal.invariant_of-self

@@ -30,7 +30,7 @@ pub returns-in-NoMemory-clause-closed : goal.returns-in-NoMemory-clause-closed
 returns-in-NoMemory-clause-closed g c =
     ok_weaker c.close-in-NoMemory.result _ _
     (λ disk closed. closed_again c.in-Err.refused.fault c.args.self.coverages c.in-Err.refused.server.coverages
-    (disk_view g.D.Disk.content g.D.Disk.honest g.D.Disk.failures disk) c.in-Err.ensures.refused
-    (subst (λ (v : SessionView). IsClosedTo v.coverages (disk_view g.D.Disk.content g.D.Disk.honest g.D.Disk.failures disk))
+    (disk_view g.D.Disk disk) c.in-NoMemory.is c.in-Err.ensures.refused
+    (subst (λ (v : SessionView). IsClosedTo v.coverages (disk_view g.D.Disk disk))
     c.let_go.ensures closed))
     c.close-in-NoMemory.ensures.closed

@@ -5,6 +5,7 @@ use Rattle.coverage_server.specs.Disk.{IsOpenFile}
 use Rattle.coverage_server.specs.Views.{ServerView, IsSound}
 use Rattle.coverage_server.proofs.SpelledLemmas.{opened_spelled}
 use Rattle.std.specs.Prelude.{IsTrue}
+use Rattle.block_file.proofs.Places.{same_overreads}
 use Rattle.coverage_server.proofs.OpeningLemmas.{not_opened}
 use Rattle.coverage_server.proofs.server.Server.open.Goals as goal
 
@@ -38,4 +39,5 @@ returns-in-Ok-write_open-clause-opened g c honest =
 
 pub returns-in-Err-clause-refused : goal.returns-in-Err-clause-refused
 returns-in-Err-clause-refused g c =
-    not_opened c.in-Err.field-0.fault c.chain_fault.result _ _ c.chain_fault.ensures c.in-Err.ensures.refused c.in-Err.ensures.same.same_content c.in-Err.ensures.same.same_honest c.in-Err.ensures.told
+    not_opened c.in-Err.field-0.fault c.chain_fault.result _ _ c.chain_fault.ensures c.in-Err.ensures.refused c.in-Err.ensures.same.same_content c.in-Err.ensures.same.same_honest
+    (same_overreads _ _ _ _ c.in-Err.ensures.same.same_honest c.in-Err.ensures.same.same_overreads) c.in-Err.ensures.told

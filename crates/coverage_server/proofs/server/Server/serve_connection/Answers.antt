@@ -22,6 +22,7 @@ serving-init g c = record {
       replies = [];
       run = refl;
       sent = Appends-nil _;
+      flushed = λ none. none;
       counted = c.new-conn.ensures.count;
     },
   );
@@ -81,7 +82,7 @@ returns-then-is_over-clause-served g c =
       z.1,
       answered y.2 (g.R.Source.view c.next.new.source) f.0 f.1 _ x.0 x.1 z.0 _ _
           (rose-by _ _ _ c.reply_to-reply.ensures.continues.no_fewer) (step-later (rose-since _ _ _ inv.continues.no_fewer) _ _ _ _ z.2) _ _
-          x.3 x.4 _ (sym c.is_over.ensures ∙ c.if-is_over.true) c.in-Ok.ensures.sent.0,
+          x.3 x.4 _ (sym c.is_over.ensures ∙ c.if-is_over.true) c.in-Ok.ensures.sent.0 c.in-Ok.ensures.flushed,
     )
 
 pub returns-then-is_over-clause-told : goal.returns-then-is_over-clause-told
@@ -110,7 +111,7 @@ serving-preserved-else-is_over g c =
             continued y.2 later f.0 f.1 _ x.0 x.1 z.0 _ _
                 (rose-by _ _ _ c.reply_to-reply.ensures.continues.no_fewer)
                 (step-later (rose-since _ _ _ inv.continues.no_fewer) _ _ _ _ z.2) _ _ x.3 x.4 _ _ counted goes_on
-                c.in-Ok.ensures.sent.0,
+                c.in-Ok.ensures.sent.0 c.in-Ok.ensures.flushed,
           );
       read = quiet_item (g.R.Source.view c.serving.reader) (g.R.Source.view c.next.new.source) c.next.result c.next.ensures.told c.in_default.not-Ended c.in_default.not-ReadFault ∙ inv.read;
       written = c.in-Ok.ensures.sent.1 ∙ inv.written;
@@ -136,7 +137,7 @@ serving-preserved-else-is_over-2 g c =
             continued y.2 later f.0 f.1 _ x.0 x.1 z.0 _ _
                 (rose-by _ _ _ c.reply_to-reply.ensures.continues.no_fewer)
                 (step-later (rose-since _ _ _ inv.continues.no_fewer) _ _ _ _ z.2) _ _ x.3 x.4 _ _ counted goes_on
-                c.in-Ok.ensures.sent.0,
+                c.in-Ok.ensures.sent.0 c.in-Ok.ensures.flushed,
           );
       read = quiet_item (g.R.Source.view c.serving.reader) (g.R.Source.view c.next.new.source) c.next.result c.next.ensures.told c.in_default.not-Ended c.in_default.not-ReadFault ∙ inv.read;
       written = c.in-Ok.ensures.sent.1 ∙ inv.written;
@@ -162,7 +163,7 @@ serving-preserved g c =
             continued y.2 later f.0 f.1 _ x.0 x.1 z.0 _ _
                 (rose-by _ _ _ c.reply_to-reply.ensures.continues.no_fewer)
                 (step-later (rose-since _ _ _ inv.continues.no_fewer) _ _ _ _ z.2) _ _ x.3 x.4 _ _ counted goes_on
-                c.in-Ok.ensures.sent.0,
+                c.in-Ok.ensures.sent.0 c.in-Ok.ensures.flushed,
           );
       read = quiet_item (g.R.Source.view c.serving.reader) (g.R.Source.view c.next.new.source) c.next.result c.next.ensures.told c.in_default.not-Ended c.in_default.not-ReadFault ∙ inv.read;
       written = c.in-Ok.ensures.sent.1 ∙ inv.written;

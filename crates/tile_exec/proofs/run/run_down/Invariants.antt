@@ -1,8 +1,8 @@
 use Rattle.std.proofs.Common.{◌≡◌, ◌≤◌, min}
 use Rattle.tile_columns.specs.Sources.{OnlyReads}
 use Rattle.tile_exec.specs.Standing.{left_of}
-use Rattle.job_desk.specs.Steps.{HasRun, FetchesWithin}
-use Rattle.job_desk.proofs.run.run_down.Given as goal
+use Rattle.tile_exec.specs.Running.{HasRun, FetchesWithin}
+use Rattle.tile_exec.proofs.run.run_down.Given as goal
 
 abbrev pub invariant-loop-exec : goal.invariant-loop-exec
 invariant-loop-exec g l = record {

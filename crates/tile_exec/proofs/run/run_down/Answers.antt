@@ -2,8 +2,8 @@
 use Rattle.std.proofs.Common.{arith, rules, ◌<◌, subst, sym, ◌∙◌}
 use Rattle.tile_columns.proofs.Calls.{reads_on}
 use Rattle.tile_exec.specs.Standing.{StandsFor, left_of}
-use Rattle.job_desk.proofs.Runs.{boxes_more, fetched_more}
-use Rattle.job_desk.proofs.run.run_down.Goals as goal
+use Rattle.tile_exec.proofs.Runs.{boxes_more, fetched_more}
+use Rattle.tile_exec.proofs.run.run_down.Goals as goal
 
 pub loop-exec-preserved : goal.loop-exec-preserved
 loop-exec-preserved g c =

@@ -1,12 +1,12 @@
-//! What a finished job answers.
+//! What an executor without units left answers.
 
 ghost use Rattle.std.specs.Prelude.{◌≡◌, IfOk};
 ghost use Rattle.tile_exec.specs.Standing.{left_of};
-ghost use Rattle.job_desk.specs.Desks.{AnswersFor};
+ghost use Rattle.tile_exec.specs.Answering.{AnswersFor};
 
+use crate::exec::Exec;
 use csv_out::csv_text;
 use std::alloc::{AllocError, Global};
-use tile_exec::Exec;
 use wcps_mean::PointFault;
 
 /// An answer: CSV text, or the fault of the first point that has one.
