@@ -1,6 +1,5 @@
 /* The layers of bench/queries.py, and a loop beside each of its lines. With the name of a layer it writes that layer's cells, two
- * bytes each; else it runs the loops that its words name, without a word all of them, and writes of each its name, its time, how
- * long its text is, and the text. */
+ * bytes each; else it reads names of loops, runs each once, and writes its time, how long its text is, and the text. */
 #include <stdint.h>
 #include <stdio.h>
 #include <stdlib.h>
@@ -9,7 +8,6 @@
 
 #define SIDE 4096
 #define N (SIDE * SIDE)
-#define TIMES 9
 
 typedef int16_t layer[N];
 static layer noise, terrain, land, parsed;
@@ -182,15 +180,15 @@ static const struct {
     {"ingest", ingest},
 };
 
-static int earlier(const void *a, const void *b) {
-    double x = *(double *)a, y = *(double *)b;
-    return (x > y) - (x < y);
-}
-
-static int is_asked(const char *name, int count, char **words) {
-    for (int i = 1; i < count; i++)
-        if (!strcmp(words[i], name)) return 1;
-    return count == 1;
+/* Runs a loop once, and writes its time and its text. */
+static void answer(char *(*run)(void)) {
+    double begun = now();
+    char *end = run();
+    __asm__ volatile("" : : : "memory");
+    double taken = now() - begun;
+    printf("%.9f %ld\n", taken, (long)(end - text));
+    fwrite(text, 1, end - text, stdout);
+    fflush(stdout);
 }
 
 int main(int count, char **words) {
@@ -200,19 +198,9 @@ int main(int count, char **words) {
     for (int i = 0; count == 2 && i < 3; i++)
         if (!strcmp(words[1], layers[i].name)) return fwrite(layers[i].cells, 2, N, stdout) != N;
     write_decimal();
-    for (unsigned n = 0; n < sizeof lines / sizeof *lines; n++) {
-        if (!is_asked(lines[n].name, count, words)) continue;
-        double times[TIMES];
-        char *end = text;
-        for (int t = 0; t < TIMES; t++) {
-            double begun = now();
-            end = lines[n].run();
-            __asm__ volatile("" : : : "memory");
-            times[t] = now() - begun;
-        }
-        qsort(times, TIMES, sizeof *times, earlier);
-        printf("%s %.9f %ld\n", lines[n].name, times[TIMES / 2], (long)(end - text));
-        fwrite(text, 1, end - text, stdout);
-    }
+    char name[32];
+    while (scanf("%31s", name) == 1)
+        for (unsigned n = 0; n < sizeof lines / sizeof *lines; n++)
+            if (!strcmp(lines[n].name, name)) answer(lines[n].run);
     return 0;
 }

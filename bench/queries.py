@@ -4,13 +4,13 @@
 usage: bench/queries.py [--again] [--beside] [WORD..]    only the rows that have all of these words
 
 The queries go to the built program over the store of layers.py, through a pipe. The time is that which the program is on a
-processor from the query to the end of its reply, the median of several; the loops of queries.c read cells of 16 bits in memory
-and write their own digits; they are compiled here by cc -O3, and their times are medians of processor time too. Small requests
-go over one connection on loopback, beside a server in C, echo.c, that finds the end of a message and writes the same reply.
-Each reply is compared with what the loop printed. The second column is what the program has had of memory at most until then.
-The aim is how many times C's time a query is to take at most, or how many times another row's, where that is printed too; the
-last lines say which aims were missed. Behind the queries stand small requests, and what a store of as many tiles as a file of
-4 GiB has room for takes to open and to close.
+processor from the query to the end of its reply; the loops of queries.c read cells of 16 bits in memory and write their own
+digits; they are compiled here by cc -O3, and their times are processor time too. A query and its loop take turns, and both
+times are medians of nine or more. Small requests go over one connection on loopback, by turns with those to a server in C,
+echo.c, that finds the end of a message and writes the same reply. Each reply is compared with what the loop printed. The
+second column is what the program has had of memory at most until then. The aim is how many times C's time a query is to take
+at most, or how many times another row's, where that is printed too; the last lines say which aims were missed. Behind the
+queries stand small requests, and what a store of as many tiles as a file of 4 GiB has room for takes to open and to close.
 
 With --beside the same is asked of PostGIS raster (by_postgis.py) and of numpy behind a small HTTP server (by_numpy.py), each
 where it is installed, and their processor times stand in columns of their own: that of the backend, and that of the server. A
@@ -132,11 +132,6 @@ class Table:
     def has(self, *names):
         return any(all(word in name for word in self.words) for name in names)
 
-    def loops(self):
-        """The loops in C that the rows need."""
-        rows = [(name, loop) for name, loop, *_ in QUERIES + SMALL] + [(INGEST, "ingest"), (INGEST, "add_noise")]
-        return {loop for name, loop in rows if self.has(name)}
-
     def row(self, name, taken, mebibytes=None, plain=None, others=None, aim=None):
         """Prints seconds: the program's, those of the loop in C, and those of the others."""
         self.taken[name] = taken
@@ -156,16 +151,25 @@ class Table:
         print(*([f"missed: {it}" for it in self.missed] or ["no aim was missed"]), sep="\n")
 
 
-def printed_by(loops, names):
-    """Of each loop in C that is named its time and what it printed."""
-    found = {}
-    left = subprocess.run([loops, *names], stdout=subprocess.PIPE, check=True).stdout if names else b""
-    while left:
-        line, left = left.split(b"\n", 1)
-        name, seconds, length = line.split()
-        found[name.decode()] = float(seconds), left[: int(length)]
-        left = left[int(length) :]
-    return found
+class Loops:
+    """The loops in C over the layers in memory, in one process, each run once whenever it is asked for."""
+
+    def __init__(self, program):
+        self.process = subprocess.Popen([program], stdin=subprocess.PIPE, stdout=subprocess.PIPE)
+
+    def __enter__(self):
+        return self
+
+    def __exit__(self, *_):
+        self.process.stdin.close()
+        self.process.wait()
+
+    def run(self, name):
+        """The processor time of a loop, and what it printed."""
+        self.process.stdin.write(f"{name}\n".encode())
+        self.process.stdin.flush()
+        seconds, length = self.process.stdout.readline().split()
+        return float(seconds), self.process.stdout.read(int(length))
 
 
 def timed(session, *requests):
@@ -183,33 +187,41 @@ def asked(session, request, wanted, together=1):
     return taken / together
 
 
-def median(session, request, wanted):
-    """The median of the seconds of five times that it is asked, or of more where it is quick."""
-    times, begun = [], time.monotonic()
-    while len(times) < 5 or (len(times) < 50 and sum(times) < 0.1):
-        times.append(asked(session, request, wanted))
+def medians(loops, loop, turns, text):
+    """The medians of the seconds of the first request, of the loop in C and of the other requests, which take turns nine
+    times, or more often where the first is quick. Each of the turns is whom it is asked of, and a request."""
+    first, *behind = turns
+    rounds, begun = [], time.monotonic()
+    while len(rounds) < 9 or (len(rounds) < 50 and sum(it[0] for it in rounds) < 0.1):
+        taken, plain = asked(*first, text), loops.run(loop)[0]
+        rounds.append([taken, plain] + [asked(*it, text) for it in behind])
         if time.monotonic() > begun + ENOUGH:
             break
-    return statistics.median(times)
+    return map(statistics.median, zip(*rounds))
 
 
-def queries(table, session, plain):
+def queries(table, session, loops):
     for name, loop, aim, request in QUERIES:
         if table.has(name):
-            seconds, text = plain[loop]
-            taken, most = median(session, request, text), session.resident(True) >> 10
-            others = [median(it, it.forms[loop], text) if loop in it.forms else None for it in table.beside]
-            table.row(name, taken, most, seconds, others, aim)
+            having = [it for it in table.beside if loop in it.forms]
+            turns = [(session, request)] + [(it, it.forms[loop]) for it in having]
+            taken, plain, *times = medians(loops, loop, turns, loops.run(loop)[1])
+            found = dict(zip(having, times))
+            most = session.resident(True) >> 10
+            table.row(name, taken, most, plain, [found.get(it) for it in table.beside], aim)
 
 
-def ingest(table, session, loops, plain):
-    """The first rows of noise are written once more, as text, beside a loop in C that reads that text."""
-    cells, sums = cells_of(loops, "noise"), query("for c in (noise) return add(c)")
-    taken = sum(timed(session, it)[0] for it in updates("noise", cells, SIDE, 0, WRITTEN))
+def ingest(table, session, loops, cells):
+    """The first rows of noise are written once more, as text, beside a loop in C that reads that text, by turns."""
+    taken, plain = 0, []
+    for update in updates("noise", cells, SIDE, 0, WRITTEN):
+        plain.append(loops.run("ingest")[0])
+        taken += timed(session, update)[0]
     others = [sum(timed(it, write)[0] for write in it.writes(cells, WRITTEN)) for it in table.beside]
+    sums, wanted = query("for c in (noise) return add(c)"), loops.run("add_noise")[1]
     for it, request in [(session, sums)] + [(it, it.forms["add_noise"]) for it in table.beside]:
-        asked(it, request, plain["add_noise"][1])
-    table.row(INGEST, taken, session.resident(True) >> 10, plain["ingest"][0], others, 4)
+        asked(it, request, wanted)
+    table.row(INGEST, taken, session.resident(True) >> 10, statistics.median(plain), others, 4)
 
 
 @contextlib.contextmanager
@@ -241,11 +253,11 @@ def echo(program, request, body):
     return listener(program, head + body, str(len(request.split(b"\r\n\r\n", 1)[1])))
 
 
-def small_requests(table, echoes, plain):
+def small_requests(table, echoes, loops):
     """Small requests over a connection, one at a time and many at a time, of all by turns."""
     for name, loop, aim, request, together in SMALL:
         if table.has(name):
-            text = plain[loop][1]
+            text = loops.run(loop)[1]
             with listener(PROGRAM, STORE, "listen") as session, echo(echoes, request, text) as server:
                 turns = [(session, request), (server, request)] + [(it, it.forms[loop]) for it in table.beside]
                 rounds = [[asked(*it, text, together) for it in turns] for _ in range(max(TURNS // together, 25))]
@@ -283,7 +295,7 @@ def opened_and_closed(table):
     os.remove(path)
 
 
-def others(stack, loops):
+def others(stack, program):
     """What is asked besides, as far as it is installed."""
     found = []
     for name, installed, begun in [
@@ -291,7 +303,7 @@ def others(stack, loops):
         ("numpy", by_numpy.interpreter(), by_numpy.numpy),
     ]:
         if installed:
-            found.append(stack.enter_context(begun(loops)))
+            found.append(stack.enter_context(begun(program)))
         else:
             print(f"{name} is not installed", flush=True)
     return found
@@ -311,20 +323,20 @@ def source(name):
 def main():
     options = {it for it in sys.argv[1:] if it in ("--again", "--beside")}
     with contextlib.ExitStack() as stack:
-        loops = stack.enter_context(compiled(source("queries.c"), "-O3"))
+        program = stack.enter_context(compiled(source("queries.c"), "-O3"))
         echoes = stack.enter_context(compiled(source("echo.c")))
         if "--again" in options or not is_made():
-            make_store(loops)
+            make_store(program)
         print(f"{processor()}, load {os.getloadavg()[0]:.1f}")
-        beside = others(stack, loops) if "--beside" in options else []
+        beside = others(stack, program) if "--beside" in options else []
         table = Table([it for it in sys.argv[1:] if it not in options], beside)
-        plain = printed_by(loops, table.loops())
+        loops = stack.enter_context(Loops(program))
         with Session() as session:
-            queries(table, session, plain)
+            queries(table, session, loops)
         if table.has(INGEST):
             with Session() as session:
-                ingest(table, session, loops, plain)
-        small_requests(table, echoes, plain)
+                ingest(table, session, loops, cells_of(program, "noise"))
+        small_requests(table, echoes, loops)
         if table.has(*BESIDE_MANY):
             beside_many(table)
         if table.has(MOST_TILES):
