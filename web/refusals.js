@@ -40,7 +40,7 @@ const ADVICE = {
   81: "The layers or the radius do not fit the template: zones need the same domain, a focal layer two axes.",
   90: "The server found no memory: ask for less.",
   91: "The disk refused.",
-  92: "There is no room on the disk.",
+  92: "The file has too few free blocks: delete coverages, or wait until jobs are done.",
   93: "The file is damaged: go back to a copy.",
 };
 

@@ -114,6 +114,13 @@ def items_of(csv):
     ]
 
 
+def has_come(sock):
+    """Whether something, or its end, has come on a connection; whatever its number, as `select` takes none from 1,024 on."""
+    poll = select.poll()
+    poll.register(sock, select.POLLIN)
+    return bool(poll.poll(0))
+
+
 def print_progress(done, whole):
     """A line on standard error that is written over until all is done."""
     print(f"\r{done:,} of {whole:,} units", end="\n" if done == whole else "", file=sys.stderr, flush=True)
@@ -162,7 +169,7 @@ class Session:
 
     def sent(self, body):
         """The status and the text of the reply to a form."""
-        if self.connection.sock and select.select([self.connection.sock], [], [], 0)[0]:
+        if self.connection.sock and has_come(self.connection.sock):
             # the server has ended it since the last reply
             self.close()
         try:

@@ -100,7 +100,7 @@ def asked(part, ask, patience=PATIENCE, turn=0):
 
 
 def read(part, field, box, patience=PATIENCE, turn=0):
-    """The cells of a box of a part, in the type of the field."""
+    """The cells of a box of a part."""
     shape = [hi - lo + 1 for lo, hi in box.values()]
     query = f"for c in ({part.coverage}) return encode(c.{field}[{rasterd.interval_list(box)}], csv)"
     return asked(part, lambda it: it.array(query, shape), patience, turn)
@@ -251,6 +251,9 @@ class Raster:
 
     def cells(self, field, box):
         """The cells of a box as an array of numpy, from all parts that it meets."""
+        bounds = zip(box.values(), self.domain.values())
+        if list(box) != list(self.domain) or any(lo < low or high < hi for (lo, hi), (low, high) in bounds):
+            raise ValueError(f"{rasterd.interval_list(box)} is no box inside {rasterd.interval_list(self.domain)}")
         kind = KINDS[self.fields[field]]
         made = numpy.empty([hi - lo + 1 for lo, hi in box.values()], kind)
         for part in self.parts:
@@ -355,20 +358,21 @@ def focal_sum(array, radius):
 def cut(domain, count):
     """A box in so many parts or a few more, in whole tiles, none of which is larger than a coverage may be; and of each part
     its place on each axis."""
-    pieces = {axis: 1 for axis in domain}
+    pieces, tile = {axis: 1 for axis in domain}, TILE[len(domain)]
 
     def length(axis):
         lo, hi = domain[axis]
-        return -(-(hi - lo + 1) // pieces[axis])
+        found = -(-(hi - lo + 1) // pieces[axis])
+        return -(-found // tile) * tile if pieces[axis] > 1 else found
 
     while numpy.prod(list(pieces.values())) < count or numpy.prod([length(it) for it in domain]) > MOST_POINTS:
         longest = max(domain, key=length)
         if length(longest) == 1:
             break
         pieces[longest] += 1
-    tile, intervals = TILE[len(domain)], []
+    intervals = []
     for axis, (lo, hi) in domain.items():
-        size = -(-length(axis) // tile) * tile if pieces[axis] > 1 else hi - lo + 1
+        size = length(axis)
         intervals.append([(at, min(hi, at + size - 1)) for at in range(lo, hi + 1, size)])
     for place in itertools.product(*(range(len(it)) for it in intervals)):
         yield place, {axis: those[k] for axis, those, k in zip(domain, intervals, place)}
@@ -410,7 +414,8 @@ def remove(parts):
         try:
             with session(server) as it:
                 it.delete(part.coverage)
-        except OSError as fault:
-            left.append(f"{part} at {server} ({fault})")
+        except (OSError, http.client.HTTPException, rasterd.NotUnderstood, rasterd.Refused) as fault:
+            if getattr(fault, "number", None) != 20:
+                left.append(f"{part} at {server} ({fault})")
     if left:
         raise NoAnswer(f"not deleted: {', '.join(left)}")

@@ -18,14 +18,16 @@ def words(doc):
 
 
 def session(given):
-    # longer than any request works, and others may be served before
-    return rasterd.Session(given.host, given.port, timeout=600)
+    # longer than the longest query works
+    return rasterd.Session(given.host, given.port, timeout=900)
 
 
 @contextlib.contextmanager
 def in_one_line(given):
     """Ends the program with a line where something goes wrong inside, or it is stopped."""
-    signal.signal(signal.SIGTERM, interrupted)
+    for number in (signal.SIGTERM, signal.SIGHUP):
+        if signal.getsignal(number) is not signal.SIG_IGN:
+            signal.signal(number, stopped)
     try:
         yield
     except rasterd.Refused as refusal:
@@ -45,5 +47,5 @@ def in_one_line(given):
         sys.exit("stopped")
 
 
-def interrupted(*_):
-    raise KeyboardInterrupt
+def stopped(*_):
+    sys.exit("stopped")

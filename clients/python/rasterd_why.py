@@ -253,11 +253,16 @@ def spelled_name(text):
 
 
 def spelled_interval(text):
+    name = text.partition("(")[0]
+    if name.lower() in language.KEYWORDS:
+        return spelled_name(name)
     return f"{shown(text)} is not spelled `axis(lowest:highest)`, with two whole numbers and no space"
 
 
 def spelled_field(text):
     name, colon, kind = text.partition(":")
+    if kind in machine.RANGES:
+        return spelled_name(name)
     if machine.name_in(name) and kind not in machine.RANGES:
         told = f"`{kind}` is no type" if colon else f"`{name}` has no type"
         return f"{told}: write {name}:i16, or another of {', '.join(machine.RANGES)}"

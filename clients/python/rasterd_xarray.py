@@ -111,8 +111,9 @@ class Backend(xarray.backends.BackendEntrypoint):
         raster = raster_of(filename_or_obj, patience)
         encoding, attributes = {"preferred_chunks": chunks_of(raster)}, {"grid_mapping": "spatial_ref"} if geo else {}
         variables = {}
+        dropped = [drop_variables] if isinstance(drop_variables, str) else drop_variables or ()
         for field in raster.fields:
-            if field not in (drop_variables or ()):
+            if field not in dropped:
                 lazy = xarray.core.indexing.LazilyIndexedArray(Field(raster, field))
                 variables[field] = xarray.Variable(list(raster.domain), lazy, attributes, encoding)
         return xarray.Dataset(variables, coordinates(raster, geo), {"coverage": raster.name})

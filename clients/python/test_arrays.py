@@ -288,6 +288,9 @@ class FourServers(unittest.TestCase):
         raster, v = self.found(), self.data.v.values.astype("int64")
         box = box_of(80, 110, 100, 150)
         numpy.testing.assert_array_equal(raster.cells("v", box), self.data.v.values[180:211, 100:151])
+        for other in (box_of(80, 10**6, 100, 150), dict(reversed(box.items()))):
+            with self.assertRaisesRegex(ValueError, "is no box inside"):
+                raster.cells("v", other)
         for radius in (1, 3):
             windows = numpy.lib.stride_tricks.sliding_window_view(numpy.pad(v, radius), (2 * radius + 1,) * 2)
             found = rasterd_parts.focal_sum(raster.array("v", {"y": 64, "x": 90}), radius)
@@ -413,6 +416,7 @@ class Cutting(unittest.TestCase):
     def test_parts_are_whole_tiles_and_small_enough(self):
         for domain, count in [
             (box_of(0, 9999, -5, 20000), 1),
+            (box_of(0, 9999, 0, 9999), 1),
             (box_of(0, 999, 0, 999), 7),
             ({"x": (0, 2**26)}, 3),
             (box_of(0, 0, 0, 5), 4),

@@ -319,7 +319,12 @@ class Shell(OverLoopback):
             with open(f"{folder}/a.csv") as file:
                 self.assertEqual(file.read(), "1,2,3\n4,5,6\n")
             with open(f"{folder}/a.png", "rb") as file:
-                self.assertEqual(file.read(16), b"\x89PNG\r\n\x1a\n\0\0\0\x0dIHDR")
+                picture = file.read()
+            self.assertEqual(picture[:16], b"\x89PNG\r\n\x1a\n\0\0\0\x0dIHDR")
+            none = "for c in (hill) where false return encode(c, csv)"
+            self.assertEqual(self.ask(none, f"\\png {folder}/a.png"), (0, "the last answer is empty\n"))
+            with open(f"{folder}/a.png", "rb") as file:
+                self.assertEqual(file.read(), picture)
 
     def test_a_server_that_is_not_there(self):
         status, said = self.tool("rasterd-ask", "for c in (hill) return 1", port=1)

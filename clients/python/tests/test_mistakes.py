@@ -92,6 +92,16 @@ REQUESTS = [
     ),
     ("InsertCoverage", dict(coverage="a", domain="x(0:9)", fields="v"), "`fields`: `v` has no type: write v:i16"),
     (
+        "InsertCoverage",
+        dict(coverage="a", domain="x(0:9)", fields="count:i16"),
+        "`fields`: `count` is a word of the lang",
+    ),
+    (
+        "InsertCoverage",
+        dict(coverage="a", domain="add(0:9)", fields="v:i16"),
+        "`domain`: `add` is a word of the language",
+    ),
+    (
         "UpdateCoverage",
         dict(coverage="hill", field="v", box="y(0:0),x(0:1)", values="1, 2"),
         "`values`: ` 2` is no cell",

@@ -150,6 +150,12 @@ class Rasters(InAFolder):
         self.assertEqual(answer.GetGeoTransform(), wanted)
         numpy.testing.assert_array_equal(answer.ReadAsArray(), cells[6:24:3, 9:36:3])
 
+    def test_cells_that_are_computed_are_written_as_they_come(self):
+        source = made(self.path("a.tif"), [numpy.array([[100, 200], [250, 7]], numpy.uint8)], gdal.GDT_Byte)
+        self.loads(source, "a", "--geo", self.path("geo"))
+        self.gets("for c in (a) return encode(c * 2, csv)", self.path("b.tif"), "--geo", self.path("geo"))
+        numpy.testing.assert_array_equal(gdal.Open(self.path("b.tif")).ReadAsArray(), [[200, 400], [500, 14]])
+
     def test_decimals(self):
         cells = (numpy.random.default_rng(4).integers(-90000, 90000, (50, 40)) / 100).astype(numpy.float32)
         cells[3, 4:9] = numpy.nan
@@ -203,12 +209,15 @@ class Rasters(InAFolder):
             ("large_1_1", "y(4096:4096),x(4096:4098)", "7,8,0\n"),
         ]:
             self.assertEqual(session.query(f"for c in ({name}) return encode(c[{box}], csv)"), wanted)
+        self.loads(made(self.path("small.tif"), [cells[:10, :10]], gdal.GDT_Byte), "large", "--parts", "--replace")
+        self.assertEqual(session.list(), ["large_0_0"])
 
 
 class Faults(InAFolder):
     def test_what_is_told_in_one_line(self):
         source = made(self.path("a.tif"), [numpy.ones((3, 4), numpy.uint8)], gdal.GDT_Byte)
         wide = made(self.path("c.tif"), [numpy.ones((3, 4), numpy.complex64)], gdal.GDT_CFloat32)
+        two = made(self.path("d.tif"), [numpy.ones((3, 4), numpy.uint8)] * 2, gdal.GDT_Byte)
         self.loads(source, "a")
         with open(self.path("list"), "w", encoding="utf-8") as file:
             file.write("[1]")
@@ -219,6 +228,7 @@ class Faults(InAFolder):
             ("rasterd-load", [source, "b", "--fields", "v,w"], "the raster has 1 bands, and 2 names are given"),
             ("rasterd-load", [source, "b", "--geo", self.path("none/geo")], "none/geo.new: No such file or directory"),
             ("rasterd-load", [wide, "b"], "no field type holds cells of CFloat32"),
+            ("rasterd-load", [two, "b", "--fields", "v,v"], "--fields v,v: a name is given twice"),
             ("rasterd-get", ["for c in (none) return 1", self.path("b.tif")], "refused 20 NoSuchCoverage: "),
             ("rasterd-get", ["for c in (a) return sum(c)", self.path("b.tif")], "1:21: `sum` does not fit"),
             ("rasterd-get", ["for c in (a, a) return 1", self.path("b.tif")], "the answer has 2 items"),

@@ -111,6 +111,12 @@ class Serving(unittest.TestCase):
             self.assertLess(time.monotonic() - begin, LONGEST)
         self.assertEqual(self.coverages(), ["c15", "c2", "c1"])
 
+    def test_it_stops_where_requests_go_to_a_proxy(self):
+        script = self.script(1000000, http_proxy="http://127.0.0.1:9")
+        insert(script, "a")
+        self.assertEqual(script.stop()[0], 0)
+        self.assertEqual(self.coverages(), ["a"])
+
     def test_a_signal_to_the_whole_group_ends_the_script_alone(self):
         """As a terminal sends it: the server has to take no heed of it, and is let close its file."""
         for number in [signal.SIGINT, signal.SIGTERM, signal.SIGHUP]:
@@ -199,8 +205,9 @@ class Serving(unittest.TestCase):
         self.assertEqual(status, 5)
         self.assertIn(f"\nserve: port {port} is in use, or not free for ", said)
         self.assertEqual(os.listdir(self.folder).count("picture.tif.closed"), 0)
-        status, said = self.script(KEEP="often").ended()
-        self.assertEqual((status, said), (2, "serve: KEEP is `no` or a number of minutes, and not `often`\n"))
+        for keep in ("often", "08"):
+            status, said = self.script(KEEP=keep).ended()
+            self.assertEqual((status, said), (2, f"serve: KEEP is `no` or a number of minutes, and not `{keep}`\n"))
         status, said = self.script(SERVER="/none/rasterd").ended()
         self.assertEqual(status, 2)
         self.assertIn("there is no program /none/rasterd", said)
