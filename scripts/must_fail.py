@@ -72,8 +72,11 @@ def recorded():
         return dict(line.split() for line in file if re.fullmatch(r"\w+ [0-9a-f]{64}\n", line))
 
 
-def record(now, names):
-    kept = {it: was for it, was in recorded().items() if it in now} | {it: now[it] for it in names}
+def record(now, refused, tried):
+    """Notes the crates whose edits were all refused, and of those that were tried no others."""
+    kept = {it: was for it, was in recorded().items() if it in now and it not in tried} | {
+        it: now[it] for it in refused
+    }
     with open(RECORD, "w", encoding="utf-8") as file:
         file.writelines(f"{it} {kept[it]}\n" for it in sorted(kept))
 
@@ -107,13 +110,15 @@ def closed(passed, faults):
 
 
 def main(verb="", *named):
+    if verb not in ("", "try"):
+        sys.exit(__doc__.strip())
     now, then = sums(), recorded()
     if unknown := [it for it in named if it not in now]:
         sys.exit(f"no edits of {', '.join(unknown)}")
     left = [*named] or [it for it in now if then.get(it) != now[it]]
     if verb == "try":
         refused, passed, failed = tried(left, builds=True)
-        record(now, refused)
+        record(now, refused, left)
         return closed(passed, failed)
     print(*left, sep="\n")
     return 0
