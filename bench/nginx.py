@@ -233,7 +233,7 @@ def main():
             site.stop_servers()
             for number, port in enumerate(site.readers):
                 shutil.copy(f"{folder}/store", f"{folder}/copy{number}")
-                site.serve(f"copy{number}", port, 10000)
+                site.serve(f"copy{number}", port, 1000000)
             site.serve("store", site.writer, 50)
             with concurrent.futures.ThreadPoolExecutor(64) as pool:
                 for found in pool.map(lambda _: ask_again(site, "/ows", SUM), range(256)):
