@@ -38,7 +38,7 @@ function bounds(numbers) {
 }
 
 // How far a number lies between two others, 0 to 1.
-const partOf = (it, low, high) => high > low ? Number(it - low) / Number(high - low) : 0;
+const partOf = (it, low, high) => high > low ? Number(it - low) / Number(high - low) : 0.5;
 
 function classed(texts, numbers) {
   const values = new Map(numbers.map((it, k) => [String(it), { text: texts[k], number: it }]));

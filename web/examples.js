@@ -46,13 +46,14 @@ async function histogram(name, cells) {
 return encode(coverage h over $k class(-8:7)
   values count(${cells} / ${2n ** 60n} = $k), csv)`;
   }
-  if (most - least < BigInt(CLASSES)) {
+  if (most - least < BigInt(CLASSES) && least >= -(2n ** 31n) && most < 2n ** 31n) {
     return `for c in (${name})
 return encode(coverage h over $k class(${least}:${most})
   values count(${cells} = $k), csv)`;
   }
   const wide = (most - least) / BigInt(CLASSES) + 1n;
-  const moved = least === 0n ? cells : `(${cells} ${least < 0n ? `+ ${-least}` : `- ${least}`})`;
+  const away = least === -(2n ** 63n) ? `+ ${2n ** 63n - 1n} + 1` : least < 0n ? `+ ${-least}` : `- ${least}`;
+  const moved = least === 0n ? cells : `(${cells} ${away})`;
   return `for c in (${name})
 return encode(coverage h over $k class(0:${CLASSES - 1})
   values count(${moved} / ${wide} = $k), csv)`;

@@ -8,6 +8,10 @@ function bound(query, coverages) {
   return new Map(query.binds.map(it => [it.variable.value, known(it.names)]));
 }
 
+// What the coverages of a variable have alike; undefined where they differ, or none is known.
+const alike = (them, key) =>
+  them?.every(it => JSON.stringify(it[key]) === JSON.stringify(them[0][key])) ? them[0]?.[key] : undefined;
+
 // The axes of an expression's value, each { name, low, high }; undefined where this side does not know.
 export function axesOf(node, query, coverages) {
   const variables = bound(query, coverages);
@@ -29,7 +33,7 @@ export function axesOf(node, query, coverages) {
 
   function axes(it) {
     switch (it.form) {
-      case "variable": return variables.has(it.token.value) ? variables.get(it.token.value)[0]?.axes : [];
+      case "variable": return variables.has(it.token.value) ? alike(variables.get(it.token.value), "axes") : [];
       case "bracket": return bracket(it);
       case "array": return it.over.map(over => within(over, over.axis.value));
       case "field": return axes(it.parts[0]);
@@ -48,7 +52,7 @@ export function fieldsOf(node, query, coverages) {
   if (node.form === "record") return node.names.map(it => it.value);
   if (node.form === "bracket") return fieldsOf(node.parts[0], query, coverages);
   if (node.form !== "variable") return undefined;
-  return bound(query, coverages).get(node.token.value)?.[0]?.fields.map(it => it.name);
+  return alike(bound(query, coverages).get(node.token.value), "fields")?.map(it => it.name);
 }
 
 // Walks over all nodes with the variables that are bound around each.
@@ -63,6 +67,10 @@ const at = (token, text) => new Fault(text, token.from, token.to);
 const namesOf = them => them.map(it => it.name).join(", ");
 const axisOf = (coverage, sub) => coverage.axes.find(it => it.name === sub.axis.value);
 const spelled = axes => axes.map(it => `${it.name}(${it.low}:${it.high})`).join(", ");
+
+// Whether a position is a number that lies inside its axis.
+const isInside = ({ form, token }, axis) =>
+  form === "number" && axis?.low <= token.value && token.value <= axis?.high;
 
 // For each refusal that names alone place, what tells it of a node: a fault, or something that is none.
 function checks(query, coverages) {
@@ -97,7 +105,7 @@ function checks(query, coverages) {
       return wrong && at(wrong.axis, "The first bound is above the second.");
     },
     61: node => node.token?.value === "/" && at(node.token, "This divisor may be the one, if there are several."),
-    62: ofSubs((it, sub) => !sub.trim && at(sub.axis, `${it.name} has ${spelled(it.axes)}.`)),
+    62: ofSubs((it, sub, axis) => !sub.trim && !isInside(sub.inner, axis) && at(sub.axis, `${it.name} has ${spelled(it.axes)}.`)),
   };
 }
 

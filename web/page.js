@@ -105,9 +105,10 @@ function suggest() {
   const found = examples(chosen, $("field").value, coverages);
   options($("examples"), [["choose one", ""], ...found.map(([title], k) => [title, k])]);
   $("examples").onchange = async () => {
-    const text = found[$("examples").value]?.[1];
+    const picked = $("examples").value, text = found[picked]?.[1];
     try {
-      if (text) $("text").value = await text();
+      const made = text && await text();
+      if (made && $("examples").value === picked) $("text").value = made;
     } catch (wrong) {
       complain(wrong);
     }
@@ -143,14 +144,14 @@ async function look(view = wholeOf(chosen)) {
   const isDifference = isAlike && $("how").value === "less", isBeside = Boolean(second) && !isDifference;
   $("beside").hidden = !isBeside;
   $("pictures").classList.toggle("two", isBeside);
-  for (const [it, one] of [[first, beside], [beside, first]]) {
-    it.onmove = isBeside && isAlike ? moved => one.show(one.layers, moved, one.positions) : null;
+  for (const [it, one, layers] of [[first, beside, [second]], [beside, first, [layer]]]) {
+    it.onmove = isBeside && isAlike ? moved => one.show(layers, moved, positions()) : null;
     it.onpoint = isBeside && isAlike ? cell => one.tell(cell) : null;
   }
   const mine = ++looks;
   await first.show(isDifference ? [layer, second] : [layer], view, positions());
   if (!isBeside || mine !== looks) return;
-  if (isAlike) await beside.show([second], view, positions());
+  if (isAlike) await beside.show([second], first.view, positions());
   else await beside.show([second], wholeOf(second.coverage));
 }
 
@@ -202,6 +203,10 @@ async function runJob(text) {
       const units = `${done.toLocaleString("en")} of ${whole.toLocaleString("en")} units`;
       tell(`Job ${job.number}: ${units}, some ${Math.ceil(left)} s left`);
     });
+  } catch (wrong) {
+    // a job that is not done would hold its place until the server's run ends
+    if (wrong.number !== 70) job.abandon();
+    throw wrong;
   } finally {
     $("cancel").hidden = $("progress").hidden = true;
     $("progress").value = 0;

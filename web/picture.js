@@ -121,6 +121,10 @@ export class Picture {
   }
 
   fail(text) {
+    Object.assign(this, { rows: null, mark: null });
+    this.canvas.width = this.canvas.height = 0;
+    this.cursor.hidden = true;
+    this.legend.replaceChildren();
     this.caption.replaceChildren(make("span", { className: "bad" }, text));
   }
 }
@@ -237,7 +241,7 @@ export class Look extends Picture {
     event.preventDefault();
     const box = this.canvas.getBoundingClientRect();
     const down = (event.clientY - box.top) / box.height, across = (event.clientX - box.left) / box.width;
-    this.zoom(event.deltaY < 0 ? 0.5 : 2, down, across);
+    if (event.deltaY) this.zoom(event.deltaY < 0 ? 0.5 : 2, down, across);
   }
 
   // One pointer drags and two pinch, until one of them is lifted.

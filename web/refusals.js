@@ -6,7 +6,7 @@ import { Fault, parsed } from "./syntax.js";
 
 // As docs/REFUSALS.md says it.
 const ADVICE = {
-  14: "A value is not spelled as its key asks.",
+  14: "A value is not spelled as its key asks; a query has at most 65,536 bytes.",
   20: "No coverage has this name; names are case-sensitive.",
   30: "Here stands something that begins no word of the language.",
   31: "A number is above 9223372036854775807.",
@@ -54,6 +54,8 @@ function placed(number, text, coverages) {
     return placeOf(number, parsed(text), coverages);
   } catch (fault) {
     if (fault instanceof Fault) return fault;
+    // too deep to be read here
+    if (fault instanceof RangeError) return undefined;
     throw fault;
   }
 }

@@ -17,7 +17,8 @@ const pause = milliseconds => new Promise(done => setTimeout(done, milliseconds)
 
 async function sent(path, keys) {
   try {
-    return await fetch(path, { method: "POST", body: new URLSearchParams(keys) });
+    const reply = await fetch(path, { method: "POST", body: new URLSearchParams(keys) });
+    return [reply, await reply.text()];
   } catch {
     throw new NoAnswer(`No answer from ${location.host}.`);
   }
@@ -26,7 +27,7 @@ async function sent(path, keys) {
 // A proxy answers 502 while the server behind it closes its file and opens it again: the request was not done, and is
 // sent again.
 async function request(path, keys, tries = 8) {
-  const reply = await sent(path, keys), text = await reply.text();
+  const [reply, text] = await sent(path, keys);
   if (reply.ok) return text;
   const [, number, name] = /^refused (\d+) (\w+)/.exec(text) ?? [];
   if (number) throw new Refused(Number(number), name);
@@ -85,7 +86,8 @@ export class Job {
     while (left > 0 && !this.stopped) {
       const began = performance.now(), due = Math.max(0, left - units);
       left = Number((await request(JOB_PATH, { ...this.keys("StepJob"), units })).split(" ")[1]);
-      if (left !== due) throw new NoAnswer(`Job ${this.number} is another one now: the server's run has ended.`);
+      this.isForeign = left !== due;
+      if (this.isForeign) throw new NoAnswer(`Job ${this.number} is another one now: the server's run has ended.`);
       progress(this.whole - left, this.whole);
       units = Math.max(1, Math.min(1000, Math.round(units * 100 / Math.max(5, performance.now() - began))));
     }
@@ -96,6 +98,6 @@ export class Job {
 
   // For a page that is being left, which cannot wait for an answer.
   abandon() {
-    navigator.sendBeacon(JOB_PATH, new URLSearchParams(this.keys("CancelJob")));
+    if (!this.isForeign) navigator.sendBeacon(JOB_PATH, new URLSearchParams(this.keys("CancelJob")));
   }
 }

@@ -251,6 +251,8 @@ class Page(unittest.TestCase):
             ("for c in (terrain) return c + 1", "refused 52.*encode", "return"),
             ("for c in (terrain) return max(c) / 0", "refused 61.*divisor", "/"),
             ("for c in (terrain) return max(c) * 9223372036854775807", "refused 60.*64 bits", None),
+            ("for c in (terrain) return c[y(159), x(160)]", r"refused 62.*x\(0:159\)", "x"),
+            (f"for c in (terrain) return {20000 * '-'}1", "refused 33.*brackets", None),
         ]:
             with self.subTest(query=query):
                 found = self.ask(query)
