@@ -72,8 +72,8 @@ CHANGES = [
     ("oracle/meaning.py", "= 6, 2**24,", "= 7, 2**24,", "oracle/meaning.py says 7 of the limit: axes of a domain"),
     (
         "docs/REFUSALS.md",
-        "no axis or more than 6",
-        "no axis or more than 4",
+        "more than 6 axes",
+        "more than 4 axes",
         "docs/REFUSALS.md says 4 of the limit: axes of a domain",
     ),
     (

@@ -349,7 +349,7 @@ def first_of_several(parts):
 # What is said of a part that was refused: by the part, the types of its parts, and what is bound there.
 SAID = {
     40: lambda e, parts, bound: f"nothing binds it; bound are {names(bound)}",
-    41: lambda e, parts, bound: f"a name in it is taken: choose another than {names(bound)}",
+    41: lambda e, parts, bound: f"a name in it stands twice, or is bound around it; bound are {names(bound)}",
     42: lambda e, parts, bound: f"there is no field `{e.data}`; there are {field_names(parts)}",
     43: lambda e, parts, bound: f"there is no such axis; there are {names(f'{a}({lo}:{hi})' for it in parts for a, lo, hi in it.axes)}",
     44: lambda e, parts, bound: "an axis is named twice",
@@ -369,10 +369,13 @@ def mistyped(number, text, describe):
     """The part of a query that has the wrong type, over the coverages as they are described."""
     parser = Pointing(text)
     binds, condition, encoded, item = parser.query()
+    variables = [variable for variable, _ in binds]
+    if twice := next((it for k, it in enumerate(variables) if it in variables[:k]), None):
+        return f"`for` binds `{twice}` twice"
     listed = dict.fromkeys(name for _, found in binds for name in found)
     store = {name: coverage_of(*describe(name)) for name in listed}
     for choice in itertools.product(*(found for _, found in binds)):
-        typing = Placing(dict(zip([variable for variable, _ in binds], (store[name] for name in choice))))
+        typing = Placing(dict(zip(variables, (store[name] for name in choice))))
         for e, needs_scalar in [(condition, True), (item, not encoded)]:
             try:
                 found = typing.typed(e, []) if e else None
