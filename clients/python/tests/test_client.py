@@ -160,7 +160,7 @@ class Jobs(OverLoopback):
         self.assertEqual((raised.exception.number, cancelled), (70, []))
 
     def test_another_client_beside_a_job(self):
-        session, waits, ended = self.session(), [], threading.Event()
+        session, waits, steps, ended = self.session(), [], [], threading.Event()
         session.insert("wide", {"y": (0, 399), "x": (0, 399)}, {"v": "i16"})
         session.fill("wide", "v", 2)
         unit = self.least_step(session)
@@ -174,12 +174,13 @@ class Jobs(OverLoopback):
         beside = threading.Thread(target=other)
         beside.start()
         try:
-            answer = session.run(FOCAL, progress=None)
+            answer = session.run(FOCAL, progress=lambda *done: steps.append(done))
         finally:
             ended.set()
             beside.join()
         self.assertEqual(set(answer.replace("\n", ",").split(",")), {"98", ""})
-        self.assertGreater(len(waits), 10)
+        self.assertGreater(len(steps), 2)
+        self.assertGreater(len(waits), len(steps) // 2)
         # of the half that other work of the machine has held up least; where that is much, a unit takes longer too
         self.assertLess(sorted(waits)[len(waits) // 2], max(LONGEST_WAIT, 3 * unit))
 

@@ -44,7 +44,7 @@ TEXTS = [
     (f"for c in (hill) return {'-' * 70}1", "nested more than 64 deep"),
     (f"for c in (hill) return {'(' * 513}1{')' * 513}", "more than 512 brackets"),
     ("for c in (hill) return d", "40 UnknownName: 1:24: `d`: nothing binds it; bound are c"),
-    ("for c in (hill), c in (land) return 1", "41 NameTaken"),
+    ("for c in (hill), c in (land) return 1", "41 NameTaken: `for` binds `c` twice"),
     ("for c in (land) return 2 * max(abs(c.moist) + 1)", "1:36: `c.moist`: there is no field `moist`"),
     ("for c in (land) return encode(c.moist, csv)", "1:31: `c.moist`: there is no field `moist`; there are kind, wet"),
     (
