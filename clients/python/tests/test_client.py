@@ -13,7 +13,7 @@ from over_loopback import OverLoopback, rasterd
 # How long a client may wait beside another one's job, in seconds.
 LONGEST_WAIT = 0.2
 FOCAL = (
-    "for c in (wide) return encode(coverage f over $y y(3:396), $x x(3:396) values"
+    "for c in (wide) return encode(coverage f over $y y(3:796), $x x(3:796) values"
     " condense + over $v y(-3:3), $u x(-3:3) using c[y($y + $v), x($x + $u)], csv)"
 )
 
@@ -160,8 +160,8 @@ class Jobs(OverLoopback):
         self.assertEqual((raised.exception.number, cancelled), (70, []))
 
     def test_another_client_beside_a_job(self):
-        session, waits, steps, ended = self.session(), [], [], threading.Event()
-        session.insert("wide", {"y": (0, 399), "x": (0, 399)}, {"v": "i16"})
+        session, waits, ended = self.session(), [], threading.Event()
+        session.insert("wide", {"y": (0, 799), "x": (0, 799)}, {"v": "i16"})
         session.fill("wide", "v", 2)
         unit = self.least_step(session)
 
@@ -174,13 +174,12 @@ class Jobs(OverLoopback):
         beside = threading.Thread(target=other)
         beside.start()
         try:
-            answer = session.run(FOCAL, progress=lambda *done: steps.append(done))
+            answer = session.run(FOCAL, progress=None)
         finally:
             ended.set()
             beside.join()
         self.assertEqual(set(answer.replace("\n", ",").split(",")), {"98", ""})
-        self.assertGreater(len(steps), 2)
-        self.assertGreater(len(waits), len(steps) // 2)
+        self.assertGreater(len(waits), 10)
         # of the half that other work of the machine has held up least; where that is much, a unit takes longer too
         self.assertLess(sorted(waits)[len(waits) // 2], max(LONGEST_WAIT, 3 * unit))
 
