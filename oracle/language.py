@@ -15,6 +15,7 @@ LEVELS = {"*": 4, "/": 4, "+": 3, "-": 3, "and": 1, "or": 0, "xor": 0} | dict.fr
     ["<", "<=", ">", ">=", "=", "!="], 2
 )
 MOST_NUMBER = 2**63 - 1
+MOST_NAME, MOST_DEPTH, MOST_FORMS, MOST_HEIGHT = 64, 512, 256, 64
 
 
 class Refused(Exception):
@@ -64,7 +65,7 @@ def tokens(text):
             end = at + 1
             while end < len(text) and is_more(text[end]):
                 end += 1
-            if end - at > 64:
+            if end - at > MOST_NAME:
                 raise Refused(30)
             name = text[at:end].decode()
             kind = "variable" if byte == 36 else "keyword" if name.lower() in KEYWORDS else "word"
@@ -96,7 +97,7 @@ def tokens(text):
 
 
 def too_deep(listed):
-    """More than 512 brackets open at once, or more than 256 words `condense` and `coverage`."""
+    """Whether too many brackets are open at once, or there are too many words `condense` and `coverage`."""
     depth = deepest = forms = 0
     for it in listed:
         if it.kind == "symbol" and it.value in "([{":
@@ -105,7 +106,7 @@ def too_deep(listed):
         elif it.kind == "symbol" and it.value in ")]}":
             depth = max(0, depth - 1)
         forms += it.kind == "keyword" and it.value in ("condense", "coverage")
-    return deepest > 512 or forms > 256
+    return deepest > MOST_DEPTH or forms > MOST_FORMS
 
 
 class Parser:
@@ -326,6 +327,6 @@ def parsed(text):
         raise Refused(33)
     query = Parser(listed).query()
     _, where, _, item = query
-    if max(item.height(), where.height() if where else 0) > 64:
+    if max(item.height(), where.height() if where else 0) > MOST_HEIGHT:
         raise Refused(33)
     return query

@@ -5,8 +5,11 @@ import re
 import urllib.parse
 from dataclasses import dataclass, replace
 
-from language import KEYWORDS, Refused
-from meaning import MOST_AXES, Coverage, Fault, answer, count, fits, points, rank, submitted
+from language import KEYWORDS, MOST_NAME, Refused
+from meaning import MOST_AXES, MOST_POINTS, Coverage, Fault, answer, count, fits, points, rank, submitted
+
+MOST_COVERAGES, MOST_FIELDS, MOST_JOBS, MOST_UNITS, MOST_RADIUS = 1024, 16, 64, 1000, 8
+MOST_QUERY, MOST_HEAD, MOST_HEAD_FIELDS, MOST_BODY, MOST_MESSAGES = 65536, 16384, 64, 2**20, 1000
 
 RANGES = {
     "bool": None,
@@ -47,7 +50,8 @@ def decoded(text):
 
 
 def name_in(text):
-    return text if re.fullmatch(r"[A-Za-z_][A-Za-z0-9_]{0,63}", text) and text.lower() not in KEYWORDS else None
+    is_name = re.fullmatch(r"[A-Za-z_][A-Za-z0-9_]*", text) and len(text) <= MOST_NAME
+    return text if is_name and text.lower() not in KEYWORDS else None
 
 
 def signed_in(text):
@@ -62,7 +66,7 @@ def number_in(text):
 
 def units_in(text):
     units = signed_in(text)
-    return units if units is not None and 1 <= units <= 1000 else None
+    return units if units is not None and 1 <= units <= MOST_UNITS else None
 
 
 def interval_in(text):
@@ -89,7 +93,7 @@ def listed_in(read):
 
 
 def query_in(text):
-    return text if len(text.encode()) <= 65536 else None
+    return text if len(text.encode()) <= MOST_QUERY else None
 
 
 def layer_in(text):
@@ -172,9 +176,9 @@ class Machine:
             raise Refused(21)
         if not is_domain(axes):
             raise Refused(22)
-        if len(fields) > 16 or len({field for field, _ in fields}) < len(fields):
+        if len(fields) > MOST_FIELDS or len({field for field, _ in fields}) < len(fields):
             raise Refused(23)
-        if len(self.store) == 1024:
+        if len(self.store) == MOST_COVERAGES:
             raise Refused(27)
         self.put(name, Coverage(axes, fields, [self.cells(axes, kind) for _, kind in fields]))
         return "plain", "ok\n"
@@ -244,7 +248,7 @@ class Machine:
     def SubmitQuery(self):
         query = self.key("query", query_in).encode()
         names, most = submitted(query, self.store)
-        if len(self.jobs) == 64 or self.next == 2**64:
+        if len(self.jobs) == MOST_JOBS or self.next == 2**64:
             raise Refused(72)
         number, left = self.next, self.units.get(self.next, 1)
         self.next += 1
@@ -293,7 +297,7 @@ class Machine:
         used = [(layer, first)] + ([(second, other)] if other else [])
         if any(not has_layer(it, c) for it, c in used) or (takes_second and not second):
             raise Refused(81)
-        if kind == "Focal" and (radius is None or not 1 <= radius <= 8 or len(first.axes) != 2):
+        if kind == "Focal" and (radius is None or not 1 <= radius <= MOST_RADIUS or len(first.axes) != 2):
             raise Refused(81)
         if kind == "Zonal" and first.axes != other.axes:
             raise Refused(81)
@@ -314,7 +318,7 @@ def is_domain(axes):
         len(axes) <= MOST_AXES
         and len(set(names)) == len(names)
         and all(fits(lo) and fits(hi) and lo <= hi for _, lo, hi in axes)
-        and count(axes) <= 2**24
+        and count(axes) <= MOST_POINTS
     )
 
 
@@ -397,14 +401,14 @@ def served(machine, stream):
     out, messages = b"", 0
     while stream:
         found = HEAD.match(stream)
-        if not found or found.end() > 16384 or not is_text(found[2]):
+        if not found or found.end() > MOST_HEAD or not is_text(found[2]):
             return out + reply_bytes(1, True, False)
         fields = [
             (name.lower(), value.strip(b" \t"))
             for name, _, value in (line.partition(b":") for line in found[4].replace(b"\r", b"").split(b"\n")[:-1])
         ]
         bare = found[1] == b"HEAD"
-        if len(fields) > 64:
+        if len(fields) > MOST_HEAD_FIELDS:
             return out + reply_bytes(1, True, False)
         lengths = [value for name, value in fields if name == b"content-length"]
         if any(name == b"transfer-encoding" for name, _ in fields):
@@ -415,7 +419,7 @@ def served(machine, stream):
         ):
             return out + reply_bytes(1, True, bare)
         length = int(lengths[0]) if lengths else 0
-        if length > 1048576:
+        if length > MOST_BODY:
             return out + reply_bytes(2, True, bare)
         body = stream[found.end() : found.end() + length]
         if len(body) < length:
@@ -426,7 +430,7 @@ def served(machine, stream):
             name == b"connection" and b"close" in [it.strip(b" \t").lower() for it in value.split(b",")]
             for name, value in fields
         )
-        last = closes or found[3] == b"0" or messages == 1000
+        last = closes or found[3] == b"0" or messages == MOST_MESSAGES
         path, mark, query = found[2].partition(b"?")
         if found[1] not in (b"GET", b"POST"):
             reply, last = 4, True

@@ -9,6 +9,7 @@ from typing import Callable
 from language import Refused, Tree, parsed
 
 MOST_AXES, MOST_POINTS, MOST_CELLS, MOST_WORK = 6, 2**24, 2**20, 2**32
+MOST_BOUND, MOST_COMBINATIONS = 2**31 - 1, 64
 WHOLE = {"add": "+", "max": "max", "min": "min", "some": "or", "all": "and", "avg": "avg", "count": "count"}
 
 
@@ -55,7 +56,7 @@ def rank(axes, point):
 
 
 def fits(number):
-    return -(2**31) <= number < 2**31
+    return -MOST_BOUND - 1 <= number <= MOST_BOUND
 
 
 def tested(number):
@@ -316,7 +317,7 @@ def combinations(query, store):
         needs(variable not in taken, 41)
         taken.append(variable)
         needs(all(name in store for name in names), 20)
-    needs(math.prod(len(names) for _, names in binds) <= 64, 56)
+    needs(math.prod(len(names) for _, names in binds) <= MOST_COMBINATIONS, 56)
     found = []
     for choice in itertools.product(*(names for _, names in binds)):
         typing = Typing(dict(zip(taken, (store[name] for name in choice))))

@@ -3,6 +3,7 @@
 import collections
 
 from language import Refused
+from machine import MOST_JOBS
 from meaning import Fault, answer
 from room import Roomy
 
@@ -53,7 +54,7 @@ class Met(Roomy):
 
     def SubmitQuery(self):
         reply = super().SubmitQuery()
-        self.met["64 jobs at once"] += len(self.jobs) == 64
+        self.met["64 jobs at once"] += len(self.jobs) == MOST_JOBS
         job = self.jobs[self.next - 1]
         versions = {name: {id(it.store[name]) for it in self.readers(name)} for name in job.names}
         self.met["coverages at several versions at once"] += any(len(it) > 1 for it in versions.values())

@@ -8,12 +8,12 @@ import struct
 import store
 from language import Refused
 from machine import Machine
-from meaning import count, points, rank
+from meaning import MOST_POINTS, count, points, rank
 
 LINK = 4092
 # in the nearly full file: one coverage in 2^21 tiles, of which each that is listed takes ten blocks
 FILLER = "full"
-FILLER_AXES = [("k", 0, 2**24 - 1), ("t", 0, 0), ("y", 0, 0), ("x", 0, 0)]
+FILLER_AXES = [("k", 0, MOST_POINTS - 1), ("t", 0, 0), ("y", 0, 0), ("x", 0, 0)]
 TILE_BLOCKS = store.LONGEST_RUNS // store.BLOCK
 
 

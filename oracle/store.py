@@ -4,13 +4,13 @@ import itertools
 import struct
 from dataclasses import dataclass
 
-from machine import is_domain, name_in
+from machine import MOST_COVERAGES, MOST_FIELDS, is_domain, name_in
 from meaning import MOST_AXES, count, needs, points, rank
 
-BLOCK, MOST_BLOCKS, MOST_COVERAGES, MOST_FIELDS = 4096, 2**20, 1024, 16
+BLOCK, MOST_BLOCKS, MOST_TILE, MOST_AXES_OF_ONE = 4096, 2**20, 4096, 4
 LONGEST_METADATA = 15_000_000
 RAW, LONGEST_RUNS, LONGEST_RAW = 2**31, 40960, 32768
-EDGES = {1: 4096, 2: 64, 3: 16, 4: 8, 5: 4, 6: 4}
+EDGES = {1: MOST_TILE, 2: 64, 3: 16, 4: 8, 5: 4, 6: 4}
 TYPES = ["bool", "u8", "i16", "i32", "i64"]
 RUNS = dict(zip(TYPES, ["<HB", "<HB", "<Hh", "<Hi", "<Hq"]))
 VALUES = dict(zip(TYPES, ["<B", "<B", "<h", "<i", "<q"]))
@@ -91,7 +91,7 @@ def values_in(kind, is_raw, data):
         return found
     found = []
     for times, value in struct.iter_unpack(spelling, data):
-        needs(1 <= times <= 4096 and found[-1:] != [value], 93)
+        needs(1 <= times <= MOST_TILE and found[-1:] != [value], 93)
         found += [value] * times
     return found
 
@@ -167,7 +167,7 @@ def catalogue(data, version):
     found = {}
     for _ in range(data.number("<I", 0, MOST_COVERAGES)):
         name = data.name()
-        axes = [axis(data) for _ in range(data.number("B", 1, MOST_AXES if version == 2 else 4))]
+        axes = [axis(data) for _ in range(data.number("B", 1, MOST_AXES if version == 2 else MOST_AXES_OF_ONE))]
         fields = [typed_field(data) for _ in range(data.number("B", 1, MOST_FIELDS))]
         needs(name not in found and is_domain(axes), 93)
         needs(len({it for it, _ in fields}) == len(fields), 93)

@@ -40,8 +40,9 @@ def table_faults():
     found += [f"docs/ARCHITECTURE.md has a row of {name}, which is no crate" for name in names if name not in crates]
     found += twice("ARCHITECTURE.md", names)
     for name, libraries, definitions in told:
-        given = crates.get(name, libraries)
+        given = [it for it in crates.get(name, libraries) if it in crates]
         found += [f"docs/ARCHITECTURE.md: {name} does not stand on {it}" for it in libraries if it not in given]
+        found += [f"docs/ARCHITECTURE.md: {name} stands on {it} too" for it in given if it not in libraries]
         for it in definitions:
             if not os.path.isfile(f"{TOP}/crates/{name}/specs/{it}.antt"):
                 found.append(f"docs/ARCHITECTURE.md: {name} has no specs/{it}.antt")

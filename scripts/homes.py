@@ -4,10 +4,11 @@
     scripts/homes.py
 
 The number, the name and the status of a refusal, a keyword, the name and the kind of a field type and a limit stand once in
-the code and once in the definitions, in the files that HOMES names; a limit stands where its constant does, which
-docs/LIMITS.md names. All else says these facts by their names. This reads `src` and `specs` of the crates that hold code,
-without comments, and prints every line that says one of them again, and every definition and every body of a function that
-stands letter for letter in two crates. `scripts/check.py` fails where there is one.
+the code and once in the definitions, in the files that HOMES names, and so do the edges of tiles and the distance of two
+coordinates; a limit stands where its constant does, which docs/LIMITS.md names. All else says these facts by their names.
+This reads `src` and `specs` of the crates that hold code, without comments, and prints every line that says one of them
+again; every arm that answers want of memory to another error; and every function, definition and enum that stands in two
+crates, whatever the names in it (`doubles.py`), but for those that KNOWN lists. `scripts/check.py` fails where there is one.
 """
 
 import functools
@@ -17,6 +18,8 @@ import sys
 
 sys.dont_write_bytecode = True
 
+import crate_table
+import doubles
 import limits
 import refusals
 from surface import TOP, crates, source
@@ -30,7 +33,54 @@ HOMES = {
     "the name of a field type": {"arr_core/src/cell.rt", "arr_core/specs/Cells.antt"},
     "the kind of a field type": {"arr_core/src/cell.rt", "arr_core/specs/Cells.antt"},
     "a limit": set(),
+    "the edge of a tile": {"arr_core/src/tile.rt", "arr_core/specs/Tiles.antt"},
+    "the distance of two coordinates": {"arr_core/src/axes.rt", "arr_core/specs/Domains.antt"},
+    "an error that is told as want of memory": set(),
 }
+
+# What stands in several crates and is known to: a function, a definition or an enum, by its files and its names there. What no
+# longer stands a second time has to go from here.
+KNOWN = [
+    # the magnitude of a product, where all above 2^63 counts as one
+    {"wcps_mean/src/product.rt capped", "tile_kernel/src/joined.rt capped"},
+    {"wcps_mean/src/product.rt are_unlike", "tile_kernel/src/joined.rt are_unlike"},
+    # what a list has at a place, or 0
+    {
+        "wcps_mean/src/eval.rt coverage_at",
+        "plan_ir/src/eval.rt coverage_at",
+        "plan_rewrite/src/hoisting/folds.rt place_at",
+        "tile_columns/src/ground.rt coverage_at",
+        "tile_columns/src/windows.rt coverage_at",
+    },
+    {"wcps_mean/src/eval.rt iterator", "plan_ir/src/eval.rt variable"},
+    # a truth value as a number, as a count and as an outcome
+    {"wcps_mean/src/running.rt weight", "tile_kernel/src/summaries.rt weight", "tile_kernel/src/reduce.rt weight"},
+    {"wcps_mean/src/cell.rt truth_value", "tile_kernel/src/summaries.rt truth"},
+    {"arr_core/specs/Cells.antt truth_of", "wcps_mean/specs/Cells.antt is_true"},
+    # how many fields there are, in 32 bits
+    {"plan_ir/src/items.rt count_of", "tile_exec/src/item.rt count_of"},
+    # a coordinate by its place along an axis, an axis by its name, the tile of a point, and the box of a tile
+    {"arr_core/src/domain.rt coordinate", "tile_columns/src/tiling.rt coordinate"},
+    {"arr_core/specs/Domains.antt place_of", "wcps_types/specs/Names.antt axis_place"},
+    {"plan_ir/specs/Units.antt tile_number", "tile_store/specs/Stored.antt tile_number"},
+    {"tile_columns/specs/TileOrder.antt tile_of", "tile_store/specs/Stored.antt tile_box"},
+    # the cells of coverages by their places, a field with a name, and which tiles are in which blocks
+    {
+        "wcps_mean/specs/Reading.antt CellsOf",
+        "map_templates/specs/Laws.antt Source",
+        "tile_exec/specs/Tasks.antt Cells",
+    },
+    {"catalogue/specs/Signatures.antt IsField", "map_templates/specs/Queries.antt IsField"},
+    # what each of these calls may fail of, with a law of its own
+    {
+        "run_tile/src/error.rt DecodeError",
+        "tile_index/src/error.rt IndexError",
+        "catalogue/src/error.rt ReadError",
+        "metadata/src/reading.rt ReadError",
+    },
+    {"block_file/src/fault.rt OpenFault", "coverage_server/src/opening.rt OpenFault"},
+    {"block_file/src/fault.rt ChainFault", "coverage_server/src/closing.rt CloseFault"},
+]
 
 # Words that are spelled as keywords and mean something else: the keys of requests, and the values of cells.
 NO_KEYWORDS = {"kvp_front": {"coverage", "values", "true", "false"}, "csv_out": {"true", "false"}}
@@ -38,22 +88,29 @@ NO_KEYWORDS = {"kvp_front": {"coverage", "values", "true", "false"}, "csv_out": 
 # In the definitions of these crates a number of two digits is that of a refusal, but behind these words.
 SPEAK_OF_REFUSALS = {"kvp_front", "http_front", "coverage_server", "rasterd"}
 NO_REFUSAL = re.compile(
-    r"(\bis_byte|\bcut_at|\b[bc] (==|≢|≡)|[Dd]igits(_in|_value)?|\bIsNumeral|number_at( \d+)?|Overflows|nat_l[et] (\w+|\([^()]*\))|[≤<]) $"
+    r"(\bis_byte|\bcut_at|\b[bc] (==|≢|≡)|[Dd]igits(_in|_value)?|\bIsNumeral|number_at( \d+)?|Overflows"
+    r"|nat_l[et] (\w+|\([^()]*\))|[≤<]|^max_\w+ =) $"
 )
 SAYS_REFUSAL = re.compile(
     r"(\b(\w*[Rr]efus\w*|[Nn]umbered|from_number|Err)\b[ (:=]*|\b(code|number)\w* (≡|==) |_[A-Z]+: u16 = )$"
 )
 NUMERAL = re.compile(r"(?<![\w.])(?<!\^ )\d[\d_]*(?!\w)")
 POWER = re.compile(r"(?<!\w)2 \^ (\d+)")
-DEFINED = re.compile(r"(max_\w+) = ")
+DEFINED = re.compile(r"(max_\w+) = (.*)")
+# What a clause or a definition compares with, and code the length of a list; a number in a sum or a product is another one.
+CLAUSE = re.compile(r" *(?:requires|ensures|ghost)\b")
+COMPARED = re.compile(r"[≤<] (\d+)\b(?! [\^*+-])|(?<![\^*+-] )(?<![\w.])(\d+) [≤<]")
+COUNTED = re.compile(r"\.len\(\) (?:[<>]=?|[=!]=) (\d+)\b")
 LITERAL = re.compile(r'"(\w+)"')
 COMMENT = re.compile(r"(^|\s)(//|--)(\s|[/!]|$).*")
 KIND = re.compile(r"\b(FieldType::|kinds?\.)(Bool|U8|I16|I32|I64)\b[^=]*=>? (true|false)\b")
-# The body of a function, and a definition behind whether others see it, as `rt fmt` lays them out.
-BODY = re.compile(
-    r"^( *)(?:pub(?:\([a-z]+\))? )?(?:const )?fn (?:(?!;\n).)*?(?:^\1|.)\{\n(?P<text>.*?)^\1\}", re.M | re.S
+NO_MEMORY = "NoMemory"
+ARM = rf"\b(?:%s)\b[^\n=]* =>\s*(?:\{{\s*)?(?:return )?[^\n,;]*\b(?:{NO_MEMORY}|AllocError)\b"
+# Coordinates have 32 bits, and their distance is taken in 64; in definitions it is the magnitude of a difference.
+DISTANCE = re.compile(
+    r"\bas i64\)? - \(?[\w.*]+ as i64\b|\bhi\b(?: as \w+)?\)? - |\bhi\.(?:\w+_)?sub\w*\(|\babs_diff\("
+    r"|\bnat_abs \([^()]*-ℤ|\bhi -ℤ |-ℤ [\w.]*\blo\b"
 )
-DEFINITION = re.compile(r"^(?!use |pub mod )(?:abbrev |unfoldable )?(?:pub )?(?P<text>\S.*\n(?:.+\n)*)", re.M)
 TYPE_NAME = re.compile(r'FieldType::\w+ => "(\w+)",')
 KEYWORD = re.compile(r'Keyword::\w+ => "(\w+)",')
 
@@ -74,13 +131,20 @@ def files(crate, part):
             yield path, read(f"crates/{path}")
 
 
+@functools.cache
+def texts(crate):
+    """The files of a crate's code and definitions, with their texts without comments."""
+    return [
+        (path, "".join(f"{COMMENT.sub('', it)}\n" for it in text.splitlines()))
+        for part in ("src", "specs")
+        for path, text in files(crate, part)
+    ]
+
+
 def lines(crate):
     """The lines of a crate's code and definitions without comments: the file, the number, the text."""
-    for part in ("src", "specs"):
-        for path, text in files(crate, part):
-            for number, line in enumerate(text.splitlines(), 1):
-                if bare := COMMENT.sub("", line):
-                    yield path, number, bare
+    for path, text in texts(crate):
+        yield from ((path, number, line) for number, line in enumerate(text.splitlines(), 1) if line)
 
 
 def numerals(text):
@@ -155,13 +219,67 @@ def owners():
     return found
 
 
+@functools.cache
+def few():
+    """Of each crate the small numbers, of two digits at least, that its definitions or those below it have a word for."""
+    own = {}
+    for crate in crates():
+        told = [DEFINED.match(text)[2] for path, _, text in lines(crate) if DEFINED.match(text) and "/specs/" in path]
+        own[crate] = {int(it) for it in told if it.isdigit() and 10 <= int(it) <= 1000}
+    return {it: own[it].union(*(own.get(other, ()) for other in crate_table.standing()[it])) for it in own}
+
+
+def compared(path, text):
+    """The numbers that a line compares something with, where these are limits."""
+    is_told = path.endswith(".antt") or CLAUSE.match(text)
+    told = [left or right for left, right in COMPARED.findall(text)] if is_told else []
+    return [int(it) for it in told + COUNTED.findall(text)]
+
+
 def says_limit(path, text):
-    """Whether a line has a limit as a number, in a crate that has no constant of that value."""
+    """Whether a line has a limit as a number: in a crate that has no constant of that value, or a small one in a comparison where
+    there is a word for it."""
+    crate = path.split("/")[0]
     found = [number for number, _ in numerals(text)] + [2 ** int(it) for it in POWER.findall(text) if it != "16"]
-    return any(path.split("/")[0] not in owners()[it] for it in found if it in owners())
+    return any(crate not in owners()[it] for it in found if it in owners()) or any(
+        it in few()[crate] for it in compared(path, text)
+    )
 
 
 SAYS = dict(zip(HOMES, (says_number, says_name, says_status, says_keyword, says_type, says_kind, says_limit)))
+
+
+@functools.cache
+def edges():
+    """What says the edge of a tile by a number of axes: an arm or a condition, or a list of them all."""
+    body = source("arr_core", "tile").partition("\nfn edge_of")[2].partition("\n}")[0]
+    there, told = limits.constants(), re.findall(r"^ +(\d) => (\w+),", body, re.M)
+    for k, (axes, edge) in enumerate(told):
+        if not edge.isdigit():
+            told[k] = (axes, f"(?:{edge}|{edge.lower()}|{there['arr_core/tile.rt', edge]})")
+    each = [rf"\b{axes}(?: =>|\)? then|\)? \{{)\s+{edge}\b" for axes, edge in told]
+    return re.compile("|".join([*each, r"(?:,| ∷)\s+".join(edge for _, edge in told)]))
+
+
+@functools.cache
+def arms():
+    """What answers want of memory to a variant of another name, of an error that has one for it."""
+    errors = [shape for crate in crates() for _, text in texts(crate) for *_, (_, shape) in doubles.enums(text)]
+    found = {re.match(r"\w+", it)[0] for shape in errors if NO_MEMORY in shape for it in shape}
+    return re.compile(ARM % "|".join(sorted(found - {NO_MEMORY})))
+
+
+def spread(path, text):
+    """What a text says, also over several lines: the fact, the number of the last line, the words."""
+    said = {
+        "the edge of a tile": edges(),
+        "the distance of two coordinates": DISTANCE,
+        "an error that is told as want of memory": arms(),
+    }
+    for fact, pattern in said.items():
+        if path not in HOMES[fact]:
+            for it in pattern.finditer(text):
+                yield fact, text.count("\n", 0, it.end()) + 1, " ".join(it[0].split())
 
 
 def unnamed():
@@ -174,27 +292,35 @@ def unnamed():
             yield what, f"{found[0][0]} does not begin with MAX_"
 
 
-def pieces(crate):
-    """The definitions and the bodies of functions of a crate that are longer than a line of code: what it is, where, its text."""
-    for part, what, pattern in (("src", "the body of a function", BODY), ("specs", "a definition", DEFINITION)):
-        for path, text in files(crate, part):
-            bare = "\n".join(COMMENT.sub("", it) for it in text.splitlines()) + "\n"
-            for it in pattern.finditer(bare):
-                if len(words := " ".join(it["text"].split())) > 60:
-                    yield what, f"{path}:{bare.count(chr(10), 0, it.start()) + 1}", words
+def shapes():
+    """Where each function, definition and enum stands, by its shape: the file and the name, and the line."""
+    found = {}
+    for crate in crates():
+        for path, text in texts(crate):
+            for read_all in (doubles.functions, doubles.enums) if path.endswith(".rt") else (doubles.definitions,):
+                for name, at, shape in read_all(text):
+                    found.setdefault(shape, {})[f"{path} {name}"] = text.count("\n", 0, at) + 1
+    return found
+
+
+def are_doubles(places):
+    """Whether places are of several crates."""
+    return len({it.split("/")[0] for it in places}) > 1
 
 
 def copies():
-    """What stands letter for letter in two crates."""
-    there = {}
-    for crate in crates():
-        for what, where, words in pieces(crate):
-            there.setdefault((what, words), []).append(where)
-    for (what, words), places in there.items():
-        if len({it.split("/")[0] for it in places}) > 1:
-            for it in places:
-                other = next(place for place in places if place != it)
-                yield f"{it}: {what}, as in {other}: {words[:60]}"
+    """What stands in two crates without being known, and what is known and no longer stands in two."""
+    there = {shape: places for shape, places in shapes().items() if are_doubles(places)}
+    for (what, _), places in there.items():
+        for it in sorted(min((places.keys() - known for known in [set(), *KNOWN]), key=len)):
+            path, name = it.split()
+            other = next(place for place in places if are_doubles([place, it])).split()
+            yield f"{path}:{places[it]}: {name}: {what}, as {other[1]} in {other[0]}"
+    for known in KNOWN:
+        stand = [places.keys() & known for places in there.values()]
+        for it in sorted(known):
+            if not any(it in found and are_doubles(found) for found in stand):
+                yield f"scripts/homes.py: KNOWN has {it}, which stands nowhere else"
 
 
 def faults():
@@ -208,6 +334,9 @@ def faults():
             for fact, says in SAYS.items():
                 if path not in HOMES[fact] and says(path, text):
                     yield f"{path}:{number}: {fact}: {text.strip()}"
+        for path, text in texts(crate):
+            for fact, number, said in spread(path, text):
+                yield f"{path}:{number}: {fact}: {said}"
     for name, places in defined.items():
         if len(places) > 1:
             yield from (f"{it}: {name} is defined {len(places)} times" for it in places)

@@ -1,6 +1,6 @@
 #!/usr/bin/env python3
-"""Tests the check of the documents and the finder of second homes: in a copy of this tree a fact of each kind is said once
-more, or otherwise in a document; each has to be told, and the check has to fail.
+"""Tests the check of the documents and the finder of second homes. It has to pass on a copy of this tree; then a fact of each
+kind is said once more there, or otherwise in a document, and each has to be told, and the check has to fail.
 
     scripts/homes_test.py
 """
@@ -17,44 +17,87 @@ TOP = os.path.dirname(os.path.dirname(os.path.abspath(__file__)))
 
 # A name that no file has, this one neither.
 NOWHERE = "is" + "_" + "low"
-# What is written behind the end of a file: that line has to be told.
+# What is written behind the end of a file, and what has to be told of it.
+NUMBER, NAME, STATUS = "the number of a refusal", "the name of a refusal", "the status of a refusal"
+KEYWORD, TYPE, KIND = "a keyword", "the name of a field type", "the kind of a field type"
+LIMIT, EDGE, DISTANCE = "a limit", "the edge of a tile", "the distance of two coordinates"
+WANT = "an error that is told as want of memory"
 LINES = [
-    ("crates/wcps_types/src/refusal.rt", "            TypeRefusal::NoSuchField => 42,"),
-    ("crates/tile_exec/src/exec.rt", "    Err(refused(70))"),
-    ("crates/rasterd/src/main.rt", "const BAD_VALUE: u16 = 14;"),
-    ("crates/coverage_server/specs/Machine.antt", "    (Unless (AreFields fields) 23"),
-    ("crates/http_front/specs/Head.antt", "framing_of Coding.Chunked length = Err 4"),
-    ("crates/kvp_front/specs/Requests.antt", "number_of e = if is_key e then 12 else 13"),
-    ("crates/job_desk/src/desk.rt", '    text.push_str("NoSuchJob")?;'),
-    ("crates/http_front/src/reply.rt", "        3 | 20 | 70 => 404,"),
-    ("crates/http_front/specs/Replies.antt", "status_of code = if code < 20 then 400 else 503"),
-    ("crates/wcps_parse/src/query.rt", '    b"condense",'),
-    ("crates/wcps_print/specs/Printing.antt", 'condense_word = codes "condense"'),
-    ("crates/catalogue/src/reading.rt", '        "i16" => FieldType::I16,'),
-    ("crates/kvp_front/specs/Spelling.antt", 'name_of kind.I16 = codes "i16"'),
-    ("crates/raster_store/src/writing.rt", "        FieldType::Bool => true,"),
-    ("crates/metadata/src/reading.rt", "    requires { count area.now ≤ 2 ^ 24 }"),
-    ("crates/csv_out/src/cells.rt", "const MOST_POINTS: u64 = 16_777_216;"),
-    ("crates/plan_rewrite/specs/Lowering.antt", "max_work = 4294967296"),
-    ("crates/wcps_print/specs/Printed.antt", "max_points = 16777216"),
-    ("crates/coverage_server/specs/Machine.antt", "    (Unless (length old < 1024) TooManyCoverages"),
-    ("crates/coverage_server/specs/Asking.antt", "AreFew text = length text ≤ 65536"),
+    ("wcps_types/src/refusal.rt", "            TypeRefusal::NoSuchField => 42,", NUMBER),
+    ("tile_exec/src/exec.rt", "    Err(refused(70))", NUMBER),
+    ("rasterd/src/main.rt", "const BAD_VALUE: u16 = 14;", NUMBER),
+    ("coverage_server/specs/Machine.antt", "    (Unless (AreFields fields) 23", NUMBER),
+    ("http_front/specs/Head.antt", "framing_of Coding.Chunked length = Err 4", NUMBER),
+    ("kvp_front/specs/Requests.antt", "number_of e = if is_key e then 12 else 13", NUMBER),
+    ("job_desk/src/desk.rt", '    text.push_str("NoSuchJob")?;', NAME),
+    ("http_front/src/reply.rt", "        3 | 20 | 70 => 404,", STATUS),
+    ("http_front/specs/Replies.antt", "status_of code = if code < 20 then 400 else 503", STATUS),
+    ("wcps_parse/src/query.rt", '    b"condense",', KEYWORD),
+    ("wcps_print/specs/Printing.antt", 'condense_word = codes "condense"', KEYWORD),
+    ("catalogue/src/reading.rt", '        "i16" => FieldType::I16,', TYPE),
+    ("kvp_front/specs/Spelling.antt", 'name_of kind.I16 = codes "i16"', TYPE),
+    ("raster_store/src/writing.rt", "        FieldType::Bool => true,", KIND),
+    ("metadata/src/reading.rt", "    requires { count area.now ≤ 2 ^ 24 }", LIMIT),
+    ("csv_out/src/cells.rt", "const MOST_POINTS: u64 = 16_777_216;", LIMIT),
+    ("plan_rewrite/specs/Lowering.antt", "max_work = 4294967296", "max_work is defined 2 times"),
+    ("wcps_print/specs/Printed.antt", "max_points = 16777216", "max_points is defined 2 times"),
+    ("coverage_server/specs/Machine.antt", "    (Unless (length old < 1024) TooManyCoverages", LIMIT),
+    ("coverage_server/specs/Asking.antt", "AreFew text = length text ≤ 65536", LIMIT),
+    ("job_desk/src/desk.rt", "    requires few { length jobs.now ≤ 64 }", LIMIT),
+    ("job_desk/src/step.rt", "        if self.jobs.len() >= 64 {", LIMIT),
+    ("job_desk/specs/Steps.antt", "AreFull jobs = 64 ≤ length jobs", LIMIT),
+    ("kvp_front/specs/Contents.antt", "AreSome fields = (1 ≤ length fields) × (length fields ≤ 16)", LIMIT),
+    ("tile_columns/src/part.rt", "    match axes {\n        2 => 64,\n        _ => 4,\n    }", EDGE),
+    ("raster_store/src/sizes.rt", "        1 => 4096,", EDGE),
+    ("tile_exec/src/task.rt", "    let side = if axes.len() == 3 { 16 } else { 8 };", EDGE),
+    ("tile_store/src/reserve.rt", "const SIDES: [u64; 5] = [4096, 64, 16, 8, 4];", EDGE),
+    ("tile_store/specs/Stored.antt", "side_of n = if n == 1 then max_tile else (if n == 2 then 64 else 16)", EDGE),
+    ("tile_store/specs/Room.antt", "side_at n = if n == 3 then 16 else 8", EDGE),
+    ("wcps_mean/src/points.rt", "    let size = (axis.hi as i64 - axis.lo as i64) as u64 + 1;", DISTANCE),
+    ("raster_store/src/reading.rt", "    let above = (x as i64 - lo as i64) as usize;", DISTANCE),
+    ("csv_out/src/csv.rt", "    let line = axis.hi - axis.lo + 1;", DISTANCE),
+    ("csv_out/specs/Csv.antt", "width_of a = nat_abs (a.hi -ℤ a.lo) + 1", DISTANCE),
+    ("tile_store/src/fault.rt", "            DecodeError::Damaged => Fault::NoMemory,", WANT),
+    ("coverage_server/src/coverages.rt", "        Err(Fault::NoRoom) => return Err(AllocError),", WANT),
+    # what no crate has yet, in two
     (
-        "crates/page_pool/src/page.rt",
+        "page_pool/src/page.rt",
         "fn known(blocks: &[u32]) -> u64 {\n    blocks.iter().map(|block| BLOCK_BYTES as u64 * *block as u64).sum()\n}",
+        "known: a function, as sum in disk_face/src/lib.rt",
     ),
     (
-        "crates/disk_face/src/lib.rt",
-        "fn sum(list: &[u32]) -> u64 {\n    blocks.iter().map(|block| BLOCK_BYTES as u64 * *block as u64).sum()\n}",
+        "disk_face/src/lib.rt",
+        "fn sum(list: &[u32]) -> u64 {\n    list.iter().map(|it| BLOCK_BYTES as u64 * *it as u64).sum()\n}",
+        "sum: a function, as known in page_pool/src/page.rt",
     ),
     (
-        "crates/stream_face/specs/Views.antt",
+        "stream_face/specs/Views.antt",
         "\nabbrev pub both : ℕ → ℕ → ℕ\nboth n m = if n == m then n + m else n * m + n * m + n * m",
+        "both: a definition, as of_two in tile_index/specs/Index.antt",
     ),
     (
-        "crates/tile_index/specs/Index.antt",
-        "\nunfoldable both : ℕ → ℕ → ℕ\nboth n m = if n == m then n + m else n * m + n * m + n * m",
+        "tile_index/specs/Index.antt",
+        "\nunfoldable of_two : ℕ → ℕ → ℕ\nof_two a b = if a == b then a + b else a * b + a * b + a * b",
+        "of_two: a definition, as both in stream_face/specs/Views.antt",
     ),
+]
+# Functions, definitions and enums of one crate that are written once more in another one: where from, what, where to, and its
+# names there behind those of the home.
+COPIES = [
+    ("arr_core/src/signature.rt", "fn copy", "catalogue/src/writing.rt", "self signature alloc a"),
+    ("arr_core/src/signature.rt", "fn copy", "wcps_types/src/source.rt", "Signature Head name id fields rows"),
+    ("arr_core/src/axes.rt", "fn size", "tile_kernel/src/windows.rt", "size size_of"),
+    ("arr_core/src/axes.rt", "fn count_points", "tile_store/src/numbers.rt", "count_points product axis a"),
+    ("arr_core/src/axes.rt", "fn rank_of", "wcps_mean/src/points.rt", "rank_of place_of axes box rest more"),
+    ("arr_core/specs/Domains.antt", "rank_of", "tile_index/specs/Entries.antt", "rank_of place_in axes box"),
+    ("arr_core/specs/Domains.antt", "size_of", "metadata/specs/Parts.antt", "size_of width a axis"),
+    ("tile_kernel/src/first_fault.rt", "fn least", "tile_exec/src/found.rt", "least earlier self a other b"),
+    ("tile_kernel/src/first_fault.rt", "fn least", "tile_exec/src/row.rt", "FirstFault First fault told place at"),
+    ("plan_rewrite/src/inlining/body.rt", "fn inline_body", "plan_ir/src/body.rt", "inline_body rebuilt e tree"),
+    ("plan_rewrite/specs/Everywhere.antt", "InBody", "job_desk/specs/Places.antt", "InBody Holds r rule"),
+    ("tile_index/src/error.rt", "enum IndexError", "page_pool/src/page.rt", "IndexError PageError"),
+    ("block_file/src/fault.rt", "enum TakeFault", "file_bytes/src/form.rt", "TakeFault FormFault"),
+    ("wcps_mean/src/product.rt", "fn capped", "csv_out/src/cells.rt", "capped limited m a n b"),
 ]
 # What is written in place of something, and what the check has to say of it.
 CHANGES = [
@@ -95,16 +138,78 @@ CHANGES = [
         "`MOST_UNITS` in",
         "docs/LIMITS.md: units of one StepJob: MOST_UNITS does not begin with MAX_",
     ),
+    (
+        "oracle/language.py",
+        "= 64, 512, 256, 64",
+        "= 64, 512, 256, 65",
+        "oracle/language.py says 65 of the limit: height of a tree",
+    ),
+    ("oracle/machine.py", "16, 64, 1000,", "16, 65, 1000,", "oracle/machine.py says 65 of the limit: jobs held"),
+    (
+        "oracle/store.py",
+        "\nLONGEST_METADATA =",
+        "\nMOST_TILES = 7\nLONGEST_METADATA =",
+        "oracle/store.py: MOST_TILES is compared with no limit",
+    ),
+    (
+        "docs/ARCHITECTURE.md",
+        "| `tile_index` | `file_bytes` |",
+        "| `tile_index` | |",
+        "docs/ARCHITECTURE.md: tile_index stands on file_bytes too",
+    ),
+    (
+        "docs/ARCHITECTURE.md",
+        "| `stream_face` | |",
+        "| `stream_face` | `disk_face` |",
+        "docs/ARCHITECTURE.md: stream_face does not stand on disk_face",
+    ),
+    (
+        "docs/ARCHITECTURE.md",
+        "| `Index`, `Entries`, `Bytes` |",
+        "| `Index`, `Pairs`, `Bytes` |",
+        "docs/ARCHITECTURE.md: tile_index has no specs/Pairs.antt",
+    ),
+    (
+        "crates/tile_kernel/src/summaries.rt",
+        "if is_set(x) { 1 } else { 0 }",
+        "if is_set(x) { 2 } else { 0 }",
+        "scripts/homes.py: KNOWN has tile_kernel/src/summaries.rt weight, which stands nowhere else",
+    ),
 ]
 
 
+def copied(tree, path, name, names):
+    """A function, a definition or an enum of a file, with other names. A method is one of no type."""
+    with open(f"{tree}/crates/{path}", encoding="utf-8") as file:
+        text = file.read()
+    if path.endswith(".antt"):
+        found = re.search(rf"^(?:abbrev |unfoldable )?(?:pub )?{name} .*\n(?:.+\n)*", text, re.M)
+    else:
+        found = re.search(rf"^( *)(?:pub(?:\([a-z]+\))? )?{name}\b.*?^\1\}}\n", text, re.M | re.S)
+    if not found:
+        sys.exit(f"{path} has no {name}")
+    owners = re.findall(r"^impl (\w+)", text[: found.start()], re.M)
+    text = re.sub(r"\((&?)self\b(?=[,)])", lambda it: f"(self: {it[1]}{owners[-1]}", found[0], count=1)
+    return re.sub(r"\w+", lambda it: names.get(it[0], it[0]), text).rstrip("\n")
+
+
+def behind(tree, path, text, told):
+    """Writes a text behind the end of a file, and tells what may be found for it: the same of each of its lines."""
+    with open(f"{tree}/crates/{path}", "r+", encoding="utf-8") as file:
+        first = file.read().count("\n") + 1
+        file.write(f"{text}\n")
+    return [f"{path}:{first + k}: {told}" for k in range(text.count("\n") + 1)]
+
+
 def planted(tree):
-    """Says each fact once more in a tree, and tells what has to be found for it."""
-    for path, line in LINES:
-        with open(f"{tree}/{path}", "r+", encoding="utf-8") as file:
-            number = file.read().count("\n") + line.startswith("\n") + 1
-            file.write(f"{line}\n")
-        yield f"{path.removeprefix('crates/')}:{number}: "
+    """Says each fact once more in a tree, and tells for each what may be found for it."""
+    texts = []
+    for home, name, path, names in COPIES:
+        words = names.split()
+        others, own = dict(zip(words[::2], words[1::2])), name.split()[-1]
+        texts.append((path, "\n" + copied(tree, home, name, others), f"{others.get(own, own)}: a"))
+    for path, text, told in LINES + texts:
+        yield behind(tree, path, text, told)
     for path, old, new, told in CHANGES:
         with open(f"{tree}/{path}", "r+", encoding="utf-8") as file:
             text = file.read()
@@ -113,23 +218,31 @@ def planted(tree):
             file.seek(0)
             file.truncate()
             file.write(text.replace(old, new))
-        yield told
+        yield [told]
+
+
+def checked(tree):
+    """The status of the check of a tree, and what it says."""
+    done = subprocess.run([f"{tree}/scripts/check.py"], capture_output=True, text=True, check=False)
+    return done.returncode, done.stdout + done.stderr
 
 
 def main():
     with tempfile.TemporaryDirectory(prefix="homes-") as room:
-        left_out = shutil.ignore_patterns("out", "proofs", "must-fail", "__pycache__", ".git")
-        shutil.copytree(TOP, f"{room}/tree", ignore=left_out, symlinks=True)
-        wanted = list(planted(f"{room}/tree"))
-        found, checked = (
-            subprocess.run([f"{room}/tree/scripts/{it}"], capture_output=True, text=True, check=False)
-            for it in ("homes.py", "check.py")
-        )
-    missing = [it for it in wanted if it not in found.stdout + checked.stdout]
+        tree = f"{room}/tree"
+        left_out = shutil.ignore_patterns("out", "must-fail", "__pycache__", ".git")
+        shutil.copytree(TOP, tree, ignore=left_out, symlinks=True)
+        status, said = checked(tree)
+        if status:
+            print(said, "second homes: the check fails where nothing is planted", sep="")
+            return 1
+        wanted = list(planted(tree))
+        status, said = checked(tree)
+    lines = said.splitlines()
+    missing = [it[0] for it in wanted if not any(line.startswith(tuple(it)) for line in lines)]
     print(*(f"not found: {it}" for it in missing), sep="\n", end="\n" if missing else "")
-    print(found.stderr, checked.stderr, sep="", end="")
-    print(f"second homes: {len(wanted)} planted, {len(missing)} not found")
-    return 1 if missing or not checked.returncode else 0
+    print(f"second homes: {len(wanted)} planted, {len(missing)} not found, the check ends with status {status}")
+    return 1 if missing or not status else 0
 
 
 if __name__ == "__main__":

@@ -17,7 +17,8 @@ AXES, POINTS = "axes of a domain, iterators of a list", "points of a domain or o
 BRACKETS, FORMS, HEIGHT = "brackets open at once", "words `condense` and `coverage`", "height of a tree"
 COMBINATIONS, CELLS, WORK = "combinations of listed coverages", "cells of a result", "work"
 NAME, QUERY, FIELDS, COVERAGES = "bytes of a name", "bytes of a query's text", "fields of a coverage", "coverages"
-HEAD, HEAD_FIELDS, BODY, JOBS = "bytes of a head", "fields of a head", "bytes of a body", "jobs held"
+HEAD, HEAD_FIELDS, BODY = "bytes of a head", "fields of a head", "bytes of a body"
+JOBS, UNITS = "jobs held", "units of one StepJob"
 
 # Where a page says limits, and which rows of docs/LIMITS.md these are.
 PAGES = [
@@ -41,7 +42,7 @@ PAGES = [
     ("REFUSALS", r"\| (\d+) jobs are held", JOBS),
     ("REQUESTS", r"may have ([\d,]+) bytes and a head ([\d,]+)", BODY, HEAD),
     ("REQUESTS", r"at most (2\^\d+) points", POINTS),
-    ("REQUESTS", r"1 to ([\d,]+), and answers", "units of one StepJob"),
+    ("REQUESTS", r"1 to ([\d,]+), and answers", UNITS),
     ("REQUESTS", r"(\d+) jobs are held at most", JOBS),
     ("FILE-FORMAT", r"of 4,096 bytes, at most ([\d,]+) of them", "blocks of a file"),
     ("FILE-FORMAT", r"in bytes, at most ([\d,]+) in a closed file", "bytes of metadata"),
@@ -49,14 +50,32 @@ PAGES = [
 # The same for the constants of the independent reading, by module and name.
 READING = {
     ("language", "MOST_NUMBER"): "a number",
+    ("language", "MOST_NAME"): NAME,
+    ("language", "MOST_DEPTH"): BRACKETS,
+    ("language", "MOST_FORMS"): FORMS,
+    ("language", "MOST_HEIGHT"): HEIGHT,
     ("meaning", "MOST_AXES"): AXES,
     ("meaning", "MOST_POINTS"): POINTS,
     ("meaning", "MOST_CELLS"): CELLS,
     ("meaning", "MOST_WORK"): WORK,
+    ("meaning", "MOST_BOUND"): "bounds of an axis",
+    ("meaning", "MOST_COMBINATIONS"): COMBINATIONS,
+    ("machine", "MOST_COVERAGES"): COVERAGES,
+    ("machine", "MOST_FIELDS"): FIELDS,
+    ("machine", "MOST_JOBS"): JOBS,
+    ("machine", "MOST_UNITS"): UNITS,
+    ("machine", "MOST_RADIUS"): "radius of a focal template",
+    ("machine", "MOST_QUERY"): QUERY,
+    ("machine", "MOST_HEAD"): HEAD,
+    ("machine", "MOST_HEAD_FIELDS"): HEAD_FIELDS,
+    ("machine", "MOST_BODY"): BODY,
+    ("machine", "MOST_MESSAGES"): "messages of a connection",
     ("store", "MOST_BLOCKS"): "blocks of a file",
-    ("store", "MOST_COVERAGES"): COVERAGES,
-    ("store", "MOST_FIELDS"): FIELDS,
+    ("store", "MOST_TILE"): "cells of a tile, and of a run",
+    ("store", "MOST_AXES_OF_ONE"): "axes of a domain in a file of version 1",
     ("store", "LONGEST_METADATA"): "bytes of metadata",
+    ("store", "LONGEST_RUNS"): "bytes of a tile of runs",
+    ("store", "LONGEST_RAW"): "bytes of a tile of raw cells",
 }
 
 
@@ -72,6 +91,15 @@ def unlike(where, what, told, there):
     return [f"{where} lacks the {what} {it}" for it in sorted(there - told)] + [
         f"{where} has the {what} {it}, which is none" for it in sorted(told - there)
     ]
+
+
+def uncompared(modules):
+    """The limits of the independent reading that nothing is compared with."""
+    told = {name for _, name in READING}
+    for module, there in modules.items():
+        for name in vars(there):
+            if name.startswith(("MOST_", "LONGEST_")) and name not in told:
+                yield f"oracle/{module}.py: {name} is compared with no limit"
 
 
 def value(text):
@@ -107,4 +135,5 @@ def faults():
             for where, what, told in limits_said(modules)
             if told != there.get(what)
         ),
+        *uncompared(modules),
     ]

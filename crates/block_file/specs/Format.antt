@@ -7,7 +7,7 @@ use Rattle.file_bytes.specs.declared.form.Version.TheVariants.{One, Two}
 use Rattle.block_file.specs.State.{block_at}
 use Rattle.block_file.specs.declared.header.State.{State}
 use Rattle.block_file.specs.declared.header.State.TheVariants.{Open, Closed}
-use Rattle.block_file.specs.Limits.{max_blocks}
+use Rattle.block_file.specs.Limits.{block_bytes, max_blocks, max_metadata}
 
 -- the number in the n bytes from place `at` on, the lowest first
 unfoldable pub number_at : ℕ → ℕ → List ℕ → ℕ
@@ -35,7 +35,7 @@ TellsVersion version content = number_at 8 4 content ≡ version_number version
 
 -- a header is there, of a store file of one of the two versions
 pub record IsStoreFile (content : List ℕ) : Type 0 where
-  pub whole : 4096 ≤ length content
+  pub whole : block_bytes ≤ length content
   pub magic : take 8 content ≡ magic_bytes
   pub version : (version : Version) × TellsVersion version content
 
@@ -51,7 +51,7 @@ pub record IsHeader (content : List ℕ) (in_state : State) (block_count from by
   pub blocks : number_at 16 4 content ≡ block_count
   pub first : number_at 20 4 content ≡ from
   pub size : number_at 24 8 content ≡ byte_count
-  pub zeros : (i : ℕ) → 32 ≤ i → i < 4096 → slice_index content i ≡ 0
+  pub zeros : (i : ℕ) → 32 ≤ i → i < block_bytes → slice_index content i ≡ 0
 
 -- the block after block k in a chain, or 0 at the last: the number in its first four bytes
 abbrev pub next_of : (ℕ → List ℕ) → ℕ → ℕ
@@ -71,7 +71,7 @@ chain_blocks size = (size + 4091) / 4092
 pub record IsChain (block : ℕ → List ℕ) (first : ℕ) (metadata : List ℕ) : Type 0 where
   pub some : 0 < length metadata
   pub above_zero : (i : ℕ) → i < chain_blocks (length metadata) → 0 < link block first i
-  pub whole : (i : ℕ) → i < chain_blocks (length metadata) → length (block (link block first i)) ≡ 4096
+  pub whole : (i : ℕ) → i < chain_blocks (length metadata) → length (block (link block first i)) ≡ block_bytes
   pub distinct : (i j : ℕ) → i < chain_blocks (length metadata) → j < chain_blocks (length metadata)
       → link block first i ≡ link block first j → i ≡ j
   pub ends : link block first (chain_blocks (length metadata)) ≡ 0
@@ -90,9 +90,9 @@ first_of content = number_at 20 4 content
 
 -- a closed store file with this metadata
 pub record IsClosed (content metadata : List ℕ) : Type 0 where
-  pub header : IsHeader content Closed (length content / 4096) (first_of content) (length metadata)
-  pub whole : 4096 * (length content / 4096) ≡ length content
-  pub few : length content / 4096 ≤ max_blocks
+  pub header : IsHeader content Closed (length content / block_bytes) (first_of content) (length metadata)
+  pub whole : block_bytes * (length content / block_bytes) ≡ length content
+  pub few : length content / block_bytes ≤ max_blocks
   pub chain : IsChain (block_at content) (first_of content) metadata
 
 -- a store file that is not open, and that is not closed with any metadata of at most 15,000,000 bytes: its header or its
@@ -100,25 +100,25 @@ pub record IsClosed (content metadata : List ℕ) : Type 0 where
 pub record IsDamaged (content : List ℕ) : Type 0 where
   pub store : IsStoreFile content
   pub not_open : number_at 12 4 content ≢ 1
-  pub not_closed : (metadata : List ℕ) → length metadata ≤ 15000000 → IsClosed content metadata → ⊥
+  pub not_closed : (metadata : List ℕ) → length metadata ≤ max_metadata → IsClosed content metadata → ⊥
 
 -- How a header is written, as one of version 2: the file then has whole blocks, as few as hold what it held and the
 -- header. What was added past its end are zeros, and no byte outside the header has changed.
 pub record HeaderWritten (state : State) (first size : ℕ) (old new : List ℕ) : Type 0 where
-  pub header : IsHeader new state (length new / 4096) first size
+  pub header : IsHeader new state (length new / block_bytes) first size
   pub version : TellsVersion Two new
-  pub whole : 4096 * (length new / 4096) ≡ length new
-  pub fewest : length new / 4096 ≡ max 1 ((length old + 4095) / 4096)
-  pub kept : (i : ℕ) → 4096 ≤ i → i < length old → slice_index new i ≡ slice_index old i
-  pub filled : (i : ℕ) → 4096 ≤ i → length old ≤ i → slice_index new i ≡ 0
-  pub few : length new / 4096 ≤ max_blocks
-  pub inside : (k : ℕ) → length (block_at old k) ≡ 4096 → k < length new / 4096
+  pub whole : block_bytes * (length new / block_bytes) ≡ length new
+  pub fewest : length new / block_bytes ≡ max 1 ((length old + 4095) / block_bytes)
+  pub kept : (i : ℕ) → block_bytes ≤ i → i < length old → slice_index new i ≡ slice_index old i
+  pub filled : (i : ℕ) → block_bytes ≤ i → length old ≤ i → slice_index new i ≡ 0
+  pub few : length new / block_bytes ≤ max_blocks
+  pub inside : (k : ℕ) → length (block_at old k) ≡ block_bytes → k < length new / block_bytes
 
 -- However the write of a header ended: no byte behind the header has changed, and no block was begun but the header.
 pub record HeaderTorn (old new : List ℕ) : Type 0 where
   pub no_shorter : length old ≤ length new
-  pub no_longer : length new ≤ 4096 * max 1 ((length old + 4095) / 4096)
-  pub kept : (i : ℕ) → 4096 ≤ i → i < length old → slice_index new i ≡ slice_index old i
+  pub no_longer : length new ≤ block_bytes * max 1 ((length old + 4095) / block_bytes)
+  pub kept : (i : ℕ) → block_bytes ≤ i → i < length old → slice_index new i ≡ slice_index old i
 
 -- a header that was there still is
 abbrev pub KeepsHeader : List ℕ → List ℕ → Type 0
@@ -140,18 +140,18 @@ Closes first size old new =
 
 -- a last block that was cut short is filled with zeros; the number of blocks counts the header
 pub record Filled (old new : List ℕ) (blocks : ℕ) : Type 0 where
-  pub whole : length new ≡ 4096 * ((length old + 4095) / 4096)
-  pub count : blocks ≡ max 1 ((length old + 4095) / 4096)
+  pub whole : length new ≡ block_bytes * ((length old + 4095) / block_bytes)
+  pub count : blocks ≡ max 1 ((length old + 4095) / block_bytes)
   pub zeros : (i : ℕ) → length old ≤ i → slice_index new i ≡ 0
 
 -- what was there still is, and no block was begun
 pub record Extends (old new : List ℕ) : Type 0 where
   pub no_shorter : length old ≤ length new
-  pub no_longer : length new ≤ 4096 * ((length old + 4095) / 4096)
+  pub no_longer : length new ≤ block_bytes * ((length old + 4095) / block_bytes)
   pub kept : (i : ℕ) → i < length old → slice_index new i ≡ slice_index old i
 
 -- A byte of the header has changed only where all that lies behind the header was synced before.
 abbrev pub HeaderLast : List ℕ → List ℕ → List ℕ → Type 0
 HeaderLast old new synced =
-    (i : ℕ) → i < 4096 → i < length old → slice_index new i ≢ slice_index old i
-    → (j : ℕ) → 4096 ≤ j → slice_index synced j ≡ slice_index new j
+    (i : ℕ) → i < block_bytes → i < length old → slice_index new i ≢ slice_index old i
+    → (j : ℕ) → block_bytes ≤ j → slice_index synced j ≡ slice_index new j

@@ -8,12 +8,13 @@ use Rattle.block_file.specs.declared.header.State.TheVariants.{Closed}
 use Rattle.block_file.specs.State.{BlocksState, block, block_at}
 use Rattle.block_file.specs.Format.{number_at, TellsVersion, IsStoreFile, IsHeader, IsChain}
 use Rattle.block_file.specs.Uses.{IsFresh, MarksChain}
+use Rattle.block_file.specs.Limits.{block_bytes}
 
 -- the header of a closed file whose length is the number of blocks that it tells, and its version
 pub record IsClosedHeader (header : Header) (content : List ℕ) : Type 0 where
   pub is : IsHeader content Closed header.blocks header.first header.length
   pub version : TellsVersion header.version content
-  pub whole : length content ≡ 4096 * header.blocks
+  pub whole : length content ≡ block_bytes * header.blocks
 
 -- why a block of bytes is no header of a closed file
 abbrev pub IsNoHeader : OpenFault → List ℕ → Type 0
@@ -57,7 +58,7 @@ pub record AddsLink (bytes : List ℕ) (following part : ℕ) (old new : List �
 -- These are the bytes of the block at place i of a chain that lies in the blocks ks: the number of the next one, or 0
 -- at the last, then its part of the metadata, and zeros.
 pub record HoldsLink (bytes : List ℕ) (i : ℕ) (ks metadata : List ℕ) : Type 0 where
-  pub whole : length bytes ≡ 4096
+  pub whole : length bytes ≡ block_bytes
   pub next : number_at 0 4 bytes ≡ slice_index ks (i + 1)
   pub part : (j : ℕ) → j < 4092 → slice_index bytes (4 + j) ≡ slice_index metadata (4092 * i + j)
 

@@ -1,5 +1,6 @@
 -- What is known of the blocks of a file, as of one moment.
 use Rattle.std.specs.Prelude.{◌≡◌, ℕ, zero, suc, ◌+◌, ◌-◌, ◌*◌, ◌<◌, nat_eq, if◌then◌else◌, Bool, List, take, drop, sum_by}
+use Rattle.block_file.specs.Limits.{block_bytes}
 
 -- The bytes of the file, and those that are there whatever comes; how often each block is in use; how many blocks there
 -- are at most; how many calls of the disk have failed; an honest disk's count of reads past the end; and whether it
@@ -19,7 +20,7 @@ overreads_of honest count = if honest then count else 0
 
 -- block k of a file's bytes: 4,096 of them where the file reaches so far, else fewer
 unfoldable pub block_at : List ℕ → ℕ → List ℕ
-block_at content k = take 4096 (drop (4096 * k) content)
+block_at content k = take block_bytes (drop (block_bytes * k) content)
 
 -- what a block holds
 abbrev pub block : BlocksState → ℕ → List ℕ

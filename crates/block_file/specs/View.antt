@@ -7,7 +7,7 @@ use Rattle.block_file.specs.declared.fault.OpenFault.TheVariants.{NoMemory, Disk
 use Rattle.block_file.specs.State.{BlocksState, block_at, overreads_of}
 use Rattle.block_file.specs.Format.{number_at, first_of, TellsVersion, IsStoreFile, IsClosed, IsDamaged}
 use Rattle.block_file.specs.Uses.{uses_of, MarksChain}
-use Rattle.block_file.specs.Limits.{max_blocks}
+use Rattle.block_file.specs.Limits.{block_bytes, max_blocks, max_metadata}
 
 -- The file's bytes and those that are synced, a mark for each of its blocks, and what is known of the disk.
 -- A mark is how often the block is in use, or 4294967295 for a free block that holds metadata and may not be claimed.
@@ -45,11 +45,11 @@ pub record Shows {D : Type 0} (content synced : D → List ℕ) (honest : D → 
 pub record IsOpened (content metadata marks : List ℕ) : Type 0 where
   pub new_file : content ≡ [] → metadata ≡ []
   pub closed : 0 < length content → IsClosed content metadata
-  pub short : length metadata ≤ 15000000
+  pub short : length metadata ≤ max_metadata
   pub unique : (other : List ℕ) → IsClosed content other → metadata ≡ other
   pub marked : 0 < length content → MarksChain (block_at content) (first_of content) (length metadata) marks
-  pub blocks : length marks ≡ max 1 (length content / 4096)
-  pub whole : (k : ℕ) → 0 < k → k < length marks → length (block_at content k) ≡ 4096
+  pub blocks : length marks ≡ max 1 (length content / block_bytes)
+  pub whole : (k : ℕ) → 0 < k → k < length marks → length (block_at content k) ≡ block_bytes
 
 -- what an opened file says of the content of an honest disk
 abbrev pub Opens : Bool → List ℕ → List ℕ → List ℕ → Type 0
@@ -72,4 +72,4 @@ IsRefused Damaged content = IsDamaged content
 pub record IsWithin (content : List ℕ) (honest : Bool) (marks : List ℕ) : Type 0 where
   pub some : 0 < length marks
   pub few : length marks ≤ max_blocks
-  pub bytes : IsTrue honest → length content ≤ 4096 * length marks
+  pub bytes : IsTrue honest → length content ≤ block_bytes * length marks

@@ -1,10 +1,11 @@
 -- What calls do to blocks. Blocks are given up and taken by counts: so many uses of each block.
-use Rattle.std.specs.Prelude.{◌≡◌, ◌≢◌, ℕ, ◌+◌, ◌<◌, ◌≤◌, IsTrue, List, length}
-use Rattle.std.specs.List.{flat_map}
+use Rattle.std.specs.Prelude.{◌≡◌, ◌≢◌, ℕ, ◌+◌, ◌/◌, ◌<◌, ◌≤◌, IsTrue, List, length}
+use Rattle.std.specs.List.{flat_map, range_with_len}
 use Rattle.block_file.specs.declared.header.State.{State}
 use Rattle.block_file.specs.declared.header.State.TheVariants.{Closed}
 use Rattle.block_file.specs.State.{BlocksState, block, IsFree, times}
 use Rattle.block_file.specs.Format.{IsChain, IsPadded, link, chain_blocks, HeaderWritten, HeaderTorn, HeaderLast, Closes}
+use Rattle.block_file.specs.Limits.{block_bytes}
 
 -- Blocks were asked for, so often each. Nothing has changed but the count of failures; and where they are whole, none was
 -- read past the end of an honest disk.
@@ -14,7 +15,7 @@ pub record OnlyReads (asked : ℕ → ℕ) (old new : BlocksState) : Type 0 wher
   pub uses : new.uses ≡ old.uses
   pub size : new.size ≡ old.size
   pub honest : new.honest ≡ old.honest
-  pub overreads : (IsTrue old.honest → (k : ℕ) → 0 < asked k → length (block old k) ≡ 4096)
+  pub overreads : (IsTrue old.honest → (k : ℕ) → 0 < asked k → length (block old k) ≡ block_bytes)
       → new.overreads ≡ old.overreads
 
 -- uses were given up and taken, and nothing else has changed
@@ -31,11 +32,15 @@ pub record Recounts (given taken : ℕ → ℕ) (old new : BlocksState) : Type 0
 -- does the header; and no read went past the end of an honest disk.
 pub record Moves (given taken : ℕ → ℕ) (old new : BlocksState) : Type 0 where
   pub uses : (k : ℕ) → new.uses k + given k ≡ old.uses k + taken k
-  pub kept : (k : ℕ) → given k < old.uses k → length (block old k) ≡ 4096 → block new k ≡ block old k
-  pub header : length (block old 0) ≡ 4096 → block new 0 ≡ block old 0
+  pub kept : (k : ℕ) → given k < old.uses k → length (block old k) ≡ block_bytes → block new k ≡ block old k
+  pub header : length (block old 0) ≡ block_bytes → block new 0 ≡ block old 0
   pub overreads : new.overreads ≡ old.overreads
   pub size : new.size ≡ old.size
   pub honest : new.honest ≡ old.honest
+
+-- as many blocks, from one on, as bytes have room for
+abbrev pub blocks_from : ℕ → List ℕ → List ℕ
+blocks_from k bytes = range_with_len k (length bytes / block_bytes)
 
 -- on an honest disk the bytes are what these blocks hold, one behind the other
 abbrev pub AreBytesOf : List ℕ → BlocksState → List ℕ → Type 0
@@ -59,7 +64,7 @@ AreUsed ks s = (k : ℕ) → 0 < times ks k → 0 < s.uses k
 -- Each block but k that was whole holds what it held. A block that a write has not filled may lie in the gap of a later
 -- write.
 abbrev pub OthersKept : ℕ → (ℕ → List ℕ) → (ℕ → List ℕ) → Type 0
-OthersKept k old new = (j : ℕ) → j ≢ k → length (old j) ≡ 4096 → new j ≡ old j
+OthersKept k old new = (j : ℕ) → j ≢ k → length (old j) ≡ block_bytes → new j ≡ old j
 
 -- The write of a header, which is in no use, was tried. No use has changed; on an honest disk each other whole block
 -- holds what it held, no byte behind the header has changed, and one of the header only after all the rest was synced.

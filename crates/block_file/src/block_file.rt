@@ -1,7 +1,7 @@
 //! A store file in a disk.
 ghost use Rattle.std.specs.Prelude.{◌≡◌, ◌≤◌, ◌<◌, ◌*◌, length, IfOk, IfErr, IsErr, OnOk, OnErr, IsErrOf, IsTrue};
 ghost use Rattle.disk_face.specs.Disk.{Tells, OnlyRead};
-ghost use Rattle.block_file.specs.Limits.{max_blocks};
+ghost use Rattle.block_file.specs.Limits.{block_bytes, max_blocks, max_metadata};
 ghost use Rattle.block_file.specs.State.{times, none, overreads_of};
 ghost use Rattle.block_file.specs.Words.{Recounts};
 ghost use Rattle.block_file.specs.Format.{Filled, Extends};
@@ -131,7 +131,7 @@ impl<D: Disk> Blocks for BlockFile<D> {
     ghost state = { λ s. state_of s };
 
     fn read(&mut self, k: u32, bytes: &mut [u8; 4096]) -> Result<(), DiskFault> {
-        self.disk.read_at(4096 * k as u64, bytes)?;
+        self.disk.read_at(BLOCK_BYTES as u64 * k as u64, bytes)?;
         Ok(())
     }
 
@@ -139,13 +139,13 @@ impl<D: Disk> Blocks for BlockFile<D> {
         if bytes.len() == 0 {
             return Ok(());
         }
-        let from = 4096 * k as u64;
+        let from = BLOCK_BYTES as u64 * k as u64;
         self.disk.read_at(from, bytes)?;
         Ok(())
     }
 
     fn write(&mut self, k: u32, bytes: &[u8; 4096]) -> Result<(), DiskFault> {
-        self.disk.write_at(4096 * k as u64, bytes)?;
+        self.disk.write_at(BLOCK_BYTES as u64 * k as u64, bytes)?;
         Ok(())
     }
 
@@ -197,7 +197,7 @@ impl<D: Disk> Blocks for BlockFile<D> {
 
 /// Fills a last block that is cut short with zeros. Gives the number of blocks, the header counted.
 fn fill_last_block<D: Disk>(disk: &mut D) -> Result<u32, DiskFault>
-    requires { IsTrue (D.honest disk.old) → length (D.content disk.old) ≤ 4096 * max_blocks }
+    requires { IsTrue (D.honest disk.old) → length (D.content disk.old) ≤ block_bytes * max_blocks }
     ensures filled { IfOk result (λ n.
         IsTrue (D.honest disk.old) → Filled (D.content disk.old) (D.content disk.new) n) }
     ensures extends { IsTrue (D.honest disk.old) → Extends (D.content disk.old) (D.content disk.new) }
@@ -206,12 +206,14 @@ fn fill_last_block<D: Disk>(disk: &mut D) -> Result<u32, DiskFault>
     ensures told { Tells (IsErr result) (D.failures disk.old) (D.failures disk.new) }
 {
     let length = disk.len();
-    let blocks = length.div_ceil(4096).clamp(1, MAX_BLOCKS as u64) as u32;
-    let over = (length % 4096) as usize;
+    let blocks = length
+        .div_ceil(BLOCK_BYTES as u64)
+        .clamp(1, MAX_BLOCKS as u64) as u32;
+    let over = (length % BLOCK_BYTES as u64) as usize;
     if over == 0 {
         return Ok(blocks);
     }
-    disk.write_at(length, &[0u8; 4096][over..])?;
+    disk.write_at(length, &[0u8; BLOCK_BYTES][over..])?;
     Ok(blocks)
 }
 
@@ -244,7 +246,7 @@ fn read_header<D: Disk>(disk: &mut D) -> Result<Header, OpenFault>
     ensures header { IfOk result (λ header. IsTrue (D.honest disk.old) → IsClosedHeader header (D.content disk.old)) }
     ensures some { IfOk result (λ header. 0 < header.blocks) }
     ensures few { IfOk result (λ header. header.blocks ≤ max_blocks) }
-    ensures short { IfOk result (λ header. header.length ≤ 15000000) }
+    ensures short { IfOk result (λ header. header.length ≤ max_metadata) }
     ensures refused { IfErr result (λ fault. IsTrue (D.honest disk.old) → IsRefused fault (D.content disk.old)) }
     ensures same { OnlyRead D.content D.synced D.honest D.overreads disk.old disk.new }
     ensures told { Tells (IsErrOf result OpenFault.DiskFault) (D.failures disk.old) (D.failures disk.new) }
@@ -253,10 +255,10 @@ fn read_header<D: Disk>(disk: &mut D) -> Result<Header, OpenFault>
     if length < BLOCK_BYTES as u64 {
         return Err(OpenFault::NotAStore);
     }
-    let mut bytes = [0u8; 4096];
+    let mut bytes = [0u8; BLOCK_BYTES];
     disk.read_at(0, &mut bytes)?;
     let header = parse_header(&bytes)?;
-    if 4096 * header.blocks as u64 != length || header.blocks as usize > MAX_BLOCKS {
+    if BLOCK_BYTES as u64 * header.blocks as u64 != length || header.blocks as usize > MAX_BLOCKS {
         return Err(OpenFault::Damaged);
     }
     if header.length > MAX_METADATA {

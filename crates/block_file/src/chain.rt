@@ -1,7 +1,7 @@
 //! The chain of metadata blocks: how it is read and how it is written.
 ghost use Rattle.std.specs.Prelude.{◌≡◌, ◌≤◌, ◌<◌, ◌+◌, ◌*◌, ℕ, length, slice_index, IsTrue, IsErr, IfOk, IfErr, OnOk, IsErrOf};
 ghost use Rattle.disk_face.specs.Disk.{Tells, OnlyRead};
-ghost use Rattle.block_file.specs.Limits.{max_blocks};
+ghost use Rattle.block_file.specs.Limits.{block_bytes, max_blocks};
 ghost use Rattle.block_file.specs.State.{free_of, times, none};
 ghost use Rattle.block_file.specs.Words.{Moves, HoldsChain};
 ghost use Rattle.block_file.specs.Format.{number_at, chain_blocks};
@@ -9,7 +9,7 @@ ghost use Rattle.block_file.specs.Links.{IsNoChain, IsLayoutOf, ReadsChain, Adds
 
 use crate::header::{Header, put_number, u32_at};
 use crate::marks::Marks;
-use crate::{Blocks, CHAIN_BYTES, ChainFault, OpenFault, TakeFault};
+use crate::{BLOCK_BYTES, Blocks, CHAIN_BYTES, ChainFault, OpenFault, TakeFault};
 use disk_face::{Disk, DiskFault};
 use file_bytes::Version;
 use std::alloc::{AllocError, Global};
@@ -42,7 +42,7 @@ pub(crate) fn read_chain<D: Disk>(
 ) -> Result<Layout, OpenFault>
     requires some { 0 < header.blocks }
     requires few { header.blocks ≤ max_blocks }
-    requires whole { IsTrue (D.honest disk.old) → length (D.content disk.old) ≡ 4096 * header.blocks }
+    requires whole { IsTrue (D.honest disk.old) → length (D.content disk.old) ≡ block_bytes * header.blocks }
     ensures read { IfOk result (λ layout. IsTrue (D.honest disk.old) → ReadsChain (D.content disk.old) header layout) }
     ensures layout { IfOk result (λ layout. IsLayoutOf header layout) }
     ensures refused { IfErr result (λ fault. IsTrue (D.honest disk.old) → IsNoChain fault (D.content disk.old) header) }
@@ -62,8 +62,8 @@ pub(crate) fn read_chain<D: Disk>(
             return Err(OpenFault::Damaged);
         }
         let part = CHAIN_BYTES.min(length - CHAIN_BYTES * i);
-        let mut bytes = [0u8; 4096];
-        disk.read_at(4096 * k as u64, &mut bytes)?;
+        let mut bytes = [0u8; BLOCK_BYTES];
+        disk.read_at(BLOCK_BYTES as u64 * k as u64, &mut bytes)?;
         k = push_link(&bytes, part, &mut metadata)?;
     }
     if k != 0 {
@@ -131,7 +131,7 @@ fn link_bytes(next: u32, part: &[u8]) -> [u8; 4096]
     ensures next { number_at 0 4 result ≡ next }
     ensures part { (j : ℕ) → slice_index result (4 + j) ≡ slice_index part.now j }
 {
-    let mut bytes = [0u8; 4096];
+    let mut bytes = [0u8; BLOCK_BYTES];
     bytes[4..4 + part.len()].copy_from_slice(part);
     put_number(&mut bytes, 0, 4, next as u64);
     bytes

@@ -5,7 +5,7 @@ ghost use Rattle.file_bytes.specs.declared.form.Version.TheVariants.{Two};
 ghost use Rattle.block_file.specs.Format.{number_at, magic_bytes, state_number, version_number, TellsVersion, Put, IsHeader};
 ghost use Rattle.block_file.specs.Links.{IsNoHeader};
 
-use crate::OpenFault;
+use crate::{BLOCK_BYTES, OpenFault};
 use byteorder::{ByteOrder, LittleEndian};
 use file_bytes::Version;
 
@@ -85,7 +85,7 @@ fn blank_header() -> [u8; 4096]
     ensures magic { take 8 result ≡ magic_bytes }
     ensures zeros { (i : ℕ) → 8 ≤ i → slice_index result i ≡ 0 }
 {
-    let mut bytes = [0u8; 4096];
+    let mut bytes = [0u8; BLOCK_BYTES];
     bytes[..8].copy_from_slice(MAGIC);
     bytes
 }

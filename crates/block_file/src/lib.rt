@@ -2,11 +2,11 @@
 //! of a closed store file. Block 0 is the header.
 #![tactic(auto)]
 
-ghost use Rattle.std.specs.Prelude.{◌≡◌, ℕ, ◌+◌, ◌*◌, ◌/◌, ◌%◌, ◌<◌, ◌↔◌, length, IsTrue, IsErr, OnOk, OnErr, IfOk, IsErrOf};
-ghost use Rattle.std.specs.List.{range_with_len};
+ghost use Rattle.std.specs.Prelude.{◌≡◌, ℕ, ◌+◌, ◌*◌, ◌%◌, ◌<◌, ◌↔◌, length, IsTrue, IsErr, OnOk, OnErr, IfOk, IsErrOf};
 ghost use Rattle.disk_face.specs.Disk.{Torn, Tells};
+ghost use Rattle.block_file.specs.Limits.{block_bytes};
 ghost use Rattle.block_file.specs.State.{BlocksState, block, free_of, one, times, none};
-ghost use Rattle.block_file.specs.Words.{OnlyReads, Recounts, Moves, AreLowestFree, AreUsed, AreBytesOf, Covers, OthersKept, OnlyHeader, WritesHeader};
+ghost use Rattle.block_file.specs.Words.{OnlyReads, Recounts, Moves, AreLowestFree, AreUsed, AreBytesOf, blocks_from, Covers, OthersKept, OnlyHeader, WritesHeader};
 
 mod block_file;
 mod chain;
@@ -49,11 +49,10 @@ pub trait Blocks {
     /// What neighbouring blocks hold, from block k on, one behind the other: as many as the bytes have room for. Refused
     /// only where the disk has counted a failure.
     fn read_run(&mut self, k: u32, bytes: &mut [u8]) -> Result<(), DiskFault>
-        requires whole { length bytes.old % 4096 ≡ 0 }
-        requires used { (i : ℕ) → 4096 * i < length bytes.old → 0 < (state self.old).uses (k + i) }
-        ensures value { OnOk result
-            (AreBytesOf (range_with_len k (length bytes.old / 4096)) (state self.old) bytes.new) }
-        ensures frame { OnlyReads (times (range_with_len k (length bytes.old / 4096))) (state self.old) (state self.new) }
+        requires whole { length bytes.old % block_bytes ≡ 0 }
+        requires used { (i : ℕ) → block_bytes * i < length bytes.old → 0 < (state self.old).uses (k + i) }
+        ensures value { OnOk result (AreBytesOf (blocks_from k bytes.old) (state self.old) bytes.new) }
+        ensures frame { OnlyReads (times (blocks_from k bytes.old)) (state self.old) (state self.new) }
         ensures told { Tells (IsErr result) (state self.old).failures (state self.new).failures };
 
     /// Writes block k, which is in use once, and nothing else but zeros in a gap before it. A write that fails leaves
@@ -63,7 +62,7 @@ pub trait Blocks {
         requires { (state self.old).uses k ≡ 1 }
         ensures written { OnOk result (IsTrue (state self.old).honest → block (state self.new) k ≡ bytes.now) }
         ensures others { OthersKept k (block (state self.old)) (block (state self.new)) }
-        ensures torn { Torn (4096 * k) 4096 (state self.old).content (state self.new).content }
+        ensures torn { Torn (block_bytes * k) block_bytes (state self.old).content (state self.new).content }
         ensures frame { Moves (one k) (one k) (state self.old) (state self.new) }
         ensures told { Tells (IsErr result) (state self.old).failures (state self.new).failures };
 

@@ -59,6 +59,7 @@ places_jobless v p r = record {
   intact = r.intact;
   held = λ sure. tt;
   blocks = λ sure k more. absurd (let none : listed_snapshots [] k ≡ 0 = lists_none k in omega (arith, none, more));
+  failures = r.failures;
 }
 
 -- two things that are told of a refusal, together

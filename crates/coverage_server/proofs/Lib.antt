@@ -4,6 +4,7 @@ pub mod ServingLemmas
 pub mod MachineLemmas
 pub mod RemovalLemmas
 pub mod FaultLemmas
+pub mod ToldLemmas
 pub mod HeldLemmas
 pub mod LettingLemmas
 pub mod FreeLemmas

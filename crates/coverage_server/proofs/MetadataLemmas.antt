@@ -1,6 +1,5 @@
 -- The metadata of a closed file is short, since it lists each block of a tile once.
 use Rattle.std.proofs.Common.{◌≡◌, ℕ, ◌+◌, ◌<◌, ◌≤◌, List, [], ◌∷◌, length, arith, sym, ◌∙◌, ap, inl, inr}
-use Rattle.std.specs.List.{flat_map}
 use Rattle.std.proofs.lemmas.Bool.{cases_lt}
 use Rattle.std.proofs.lemmas.List.Concat.{flat_map-cons}
 use Rattle.std.proofs.lemmas.List.Sums.{sum_by-cons}
@@ -12,22 +11,15 @@ use Rattle.tile_index.specs.declared.entry.Entry.{Entry}
 use Rattle.metadata.proofs.Bounds.{index_blocks, fields_blocks, all_blocks, metadata_short}
 use Rattle.tile_store.specs.Listing.{listed}
 use Rattle.raster_store.specs.Views.{Index, listed_fields, listed_all}
-use Rattle.raster_store.proofs.Totals.{listed_none, listed_fields-cons, listed_all-nil, listed_all-cons}
+use Rattle.raster_store.proofs.Totals.{listed_fields-cons, listed_all-nil, listed_all-cons}
+use Rattle.raster_store.proofs.Snapshots.{times_listed}
 use Rattle.coverage_server.specs.Disk.{IsLaidOut}
 
 listed-cons : (x : ℕ × Entry) (index : Index) (k : ℕ) → listed (x ∷ index) k ≡ times x.1.blocks k + listed index k
 unfolding listed
 listed-cons x index k = sum_by-cons (λ (y : ℕ × Entry). times y.1.blocks k) x index
 
--- the blocks of an index are those that it lists
-pub times_listed : (index : Index) (k : ℕ) → times (flat_map (λ (x : ℕ × Entry). x.1.blocks) index) k ≡ listed index k
-times_listed [] k = times_none k ∙ sym (listed_none k)
-times_listed (x ∷ index) k =
-    ap (λ (l : List ℕ). times l k) (flat_map-cons (λ (y : ℕ × Entry). y.1.blocks) x index)
-    ∙ times_append x.1.blocks (flat_map (λ (y : ℕ × Entry). y.1.blocks) index) k
-    ∙ ap (λ (n : ℕ). times x.1.blocks k + n) (times_listed index k) ∙ sym (listed-cons x index k)
-
--- and so are those of fields, and of all coverages
+-- the blocks of fields, and of all coverages, are those that they list
 times_fields : (fields : List Index) (k : ℕ) → times (fields_blocks fields) k ≡ listed_fields fields k
 unfolding listed_fields
 times_fields [] k = times_none k

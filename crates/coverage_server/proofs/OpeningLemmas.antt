@@ -4,7 +4,6 @@ use Rattle.std.specs.Prelude.{◌⊎◌, IsTrue}
 use Rattle.std.specs.declared.alloc.Global.{Global}
 use Rattle.std.proofs.lemmas.Bool.{cases_lt}
 use Rattle.std.proofs.lemmas.List.{take_more, take_all, map-append, length_push}
-use Rattle.std.proofs.lemmas.List.Sums.{sum_by_more}
 use Rattle.arr_core.specs.declared.signature.Signature.{Signature}
 use Rattle.arr_core.specs.Names.{AreDistinct}
 use Rattle.arr_core.specs.Stores.{Store, found}
@@ -42,17 +41,6 @@ use Rattle.coverage_server.proofs.ClosingLemmas.{metadata_length}
 use Rattle.coverage_server.proofs.HeldLemmas.{lists_none}
 use Rattle.coverage_server.proofs.FreeLemmas.{IsReady, free_unlisted}
 use Rattle.coverage_server.proofs.StoreLemmas.{fresh_found}
-
--- the fields whose blocks are listed so far: none at first, and then one more
-pub no_field_lists : (k : ℕ) → listed_fields [] k ≡ 0
-unfolding listed_fields
-no_field_lists k = refl
-
-pub one_field_more : (k : ℕ) (fields : List Index) (j : ℕ) (d : Index) → j < length fields → d ≡ get_or fields j d → listed_fields (take (j + 1) fields) k ≡ listed_fields (take j fields) k + listed d k
-unfolding listed_fields
-one_field_more k fields j d h is =
-    let F : Index → ℕ = λ (i : Index). listed i k in
-    omega (arith, sum_by_more F fields j d h, ap F is)
 
 -- one more coverage of those whose blocks are listed
 pub items_more : (indexes : List (Vec TileIndex Global)) (j : ℕ) (d : Vec TileIndex Global) → j < length indexes → items_of (take (j + 1) indexes) ≡ items_of (take j indexes) ++ (get_or indexes j d).items ∷ []

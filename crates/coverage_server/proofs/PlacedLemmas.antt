@@ -10,6 +10,7 @@ use Rattle.arr_core.specs.Names.{AreDistinct}
 use Rattle.arr_core.specs.Stores.{Coverage, Store, found}
 use Rattle.block_file.specs.State.{block_at}
 use Rattle.catalogue.specs.Signatures.{IsCatalogue, names_of}
+use Rattle.disk_face.specs.Disk.{Rose}
 use Rattle.http_front.specs.declared.reply.Reply.{Reply}
 use Rattle.http_front.specs.declared.reply.Reply.TheVariants.{Text, Csv, Refused}
 use Rattle.job_desk.specs.declared.job.Job.{Job as Held}
@@ -21,7 +22,7 @@ use Rattle.raster_store.specs.Views.{SnapshotView, listed_all, listed_snapshots}
 use Rattle.wcps_types.specs.Typed.{TypedTree}
 use Rattle.coverage_server.specs.declared.error.AnswerError.{AnswerError}
 use Rattle.coverage_server.specs.declared.error.AnswerError.TheVariants.{Named, NoMemory, DiskFault, NoRoom, Damaged}
-use Rattle.coverage_server.specs.Answered.{AnsweredIn, IsAnswer}
+use Rattle.coverage_server.specs.Answered.{AnsweredIn, IsAnswer, TellsFailures}
 use Rattle.coverage_server.specs.Asking.{TextTyped}
 use Rattle.coverage_server.specs.Damage.{AreHeldWhole, AreIntactHeld, IsIntactNamed, KeepsSpelled, Spoils}
 use Rattle.coverage_server.specs.Holding.{IsHolding, HoldsFor, ReleasesFor, reading}
@@ -31,7 +32,7 @@ use Rattle.kvp_front.specs.declared.request.Interval.{Interval}
 use Rattle.coverage_server.specs.Machine.{Job, State, Serves, axes_of}
 use Rattle.coverage_server.specs.Represents.{AreJobs, Represents, Places, Steps}
 use Rattle.coverage_server.specs.Room.{LacksRoom}
-use Rattle.coverage_server.specs.Runs.{Placed, reading as numbers_of, intact_after, intact_with, HoldsNames, HoldsNamesBy, without_number}
+use Rattle.coverage_server.specs.Runs.{Placed, reading as numbers_of, intact_after, intact_with, HoldsNames, HoldsNamesBy, with_failures, without_number}
 use Rattle.coverage_server.specs.Views.{ServerView, SessionView, IsUnchanged, still_of, signatures_of}
 use Rattle.coverage_server.proofs.HoldingLemmas.{more_left, none_left}
 use Rattle.coverage_server.proofs.IntactLemmas.{held_kept, held_left, held_numbers, held_push, picked_intact, whole_kept, whole_left, whole_push}
@@ -100,15 +101,17 @@ blocks_same v w same keeps whole =
     let blocks : AreHeldWhole v.content w.held = subst (AreHeldWhole v.content) (sym same) whole in
     whole_kept v.content w.content w.held (λ k more. keeps.held k more (blocks k more)) blocks
 
--- what leaves all of it as it was
+-- what leaves all of it as it was, but for the count of failures
 pub places-same : (v w : SessionView) → IsTrue v.coverages.honest → IsUnchanged v.coverages w.coverages
-    → KeepsSpelled v.coverages w.coverages → w.desk ≡ v.desk → (p : Placed) → Places v p → Places w p
+    → KeepsSpelled v.coverages w.coverages → w.desk ≡ v.desk → (p : Placed) → Places v p
+    → Places w (with_failures w.coverages.failures p)
 places-same v w sure same keeps desk p r = record {
   state = represents-same v w (same.store sure) (same.held.values sure) desk p.state r.state;
   layout = r.layout ∙ sym (laid_same v.coverages w.coverages sure same);
   intact = λ still. intact_kept v.coverages w.coverages keeps p.intact (r.intact sure);
   held = λ still. held_same v.coverages w.coverages (same.held.values sure) keeps p.held (r.held sure) (r.blocks sure);
   blocks = λ still. blocks_same v.coverages w.coverages (same.held.values sure) keeps (r.blocks sure);
+  failures = refl;
 }
 
 -- a coverage that came is intact, and those that were are
@@ -261,9 +264,16 @@ module _ (asks : Asks) (old new : SessionView) (sure : IsTrue old.coverages.hone
   placed : (reply : Reply) (t : State) → Represents new t → Serves asks p.state reply t
       → LaysBy asks reply old.coverages.store old.desk.next new.coverages.store (layout_of old.coverages)
       (layout_of new.coverages) → KeepsSpelled old.coverages new.coverages
-      → (q : Placed) × Places new q × Steps asks old new p reply q
-  placed reply t r serves lays keeps = (
-    record { state = t; layout = layout_of new.coverages; intact = intact_after asks reply p.intact; held = names.0 },
+      → new.coverages.failures ≡ old.coverages.failures
+      → (q : Placed) × Places new q × Steps asks old p reply q
+  placed reply t r serves lays keeps quiet = (
+    record {
+      state = t;
+      layout = layout_of new.coverages;
+      intact = intact_after asks reply p.intact;
+      held = names.0;
+      failures = new.coverages.failures;
+    },
     record {
       state = r;
       layout = refl;
@@ -272,6 +282,7 @@ module _ (asks : Asks) (old new : SessionView) (sure : IsTrue old.coverages.hone
           asks reply serves;
       held = λ still. held_kept old.coverages.content new.coverages.content new.coverages.held names.0 kept names.2;
       blocks = λ still. whole_kept old.coverages.content new.coverages.content new.coverages.held kept names.3;
+      failures = refl;
     },
     inl (
       serves,
@@ -283,6 +294,7 @@ module _ (asks : Asks) (old new : SessionView) (sure : IsTrue old.coverages.hone
         jobs = holding.jobs ∙ sym (numbers_read new.coverages.held new.desk.jobs t.jobs r.jobs);
         held = held_numbers old.coverages.content new.coverages.held names.0 names.2;
       },
+      quiet ∙ sym at.failures,
     ),
   )
     where
@@ -311,7 +323,7 @@ module _ (asks : Asks) (old new : SessionView) (sure : IsTrue old.coverages.hone
 
   -- a refusal leaves both
   stayed : Represents new p.state → IsUnchanged old.coverages new.coverages → KeepsSpelled old.coverages new.coverages
-      → Places new p
+      → Places new (with_failures new.coverages.failures p)
   stayed r same keeps = record {
     state = r;
     layout = at.layout ∙ sym (laid_same old.coverages new.coverages sure same);
@@ -319,7 +331,12 @@ module _ (asks : Asks) (old new : SessionView) (sure : IsTrue old.coverages.hone
     held = λ still. held_same old.coverages new.coverages (same.held.values sure) keeps p.held (at.held sure)
         (at.blocks sure);
     blocks = λ still. blocks_same old.coverages new.coverages (same.held.values sure) keeps (at.blocks sure);
+    failures = refl;
   }
+
+  -- where no call failed it is what it was
+  as_was : new.coverages.failures ≡ old.coverages.failures → with_failures new.coverages.failures p ≡ p
+  as_was quiet = ap (λ (n : ℕ). with_failures n p) (quiet ∙ sym at.failures)
 
   wanting : LacksRoom asks old.coverages.store (layout_of old.coverages) → LacksRoom asks p.state.store p.layout
   wanting x =
@@ -339,26 +356,34 @@ module _ (asks : Asks) (old new : SessionView) (sure : IsTrue old.coverages.hone
       (Spoils asks old.coverages) old new r
       → (IsTrue old.coverages.honest → OnOk r (Lays asks old.coverages.store old.desk.next new.coverages.store
       (layout_of old.coverages) (layout_of new.coverages)) × KeepsSpelled old.coverages new.coverages)
-      → IfErr r (λ e. Leaves asks (refusal_number e) old new) → IfOk r IsAnswer → (q : Placed) × Places new q
-      × Steps asks old new p (reply_of r) q
-  stepped (Ok reply) x lays same is =
+      → IfErr r (λ e. Leaves asks (refusal_number e) old new) → IfOk r IsAnswer → TellsFailures r old.coverages new.coverages
+      → (q : Placed) × Places new q × Steps asks old p (reply_of r) q
+  stepped (Ok reply) x lays same is told =
       let y = x sure p.state at.state in
       let z = lays sure in
-      placed reply y.0 y.1 y.2 (answer_lays reply is z.0) z.1
-  stepped (Err (Named refusal)) x lays same is =
+      placed reply y.0 y.1 y.2 (answer_lays reply is z.0) z.1 (told.quiet (λ f. absurd cc))
+  stepped (Err (Named refusal)) x lays same is told =
       let y = x sure p.state at.state in
       placed (Refused (number_of refusal)) y.0 y.1 y.2 (laid_same old.coverages new.coverages sure same.coverages) (lays sure).1
-  stepped (Err NoMemory) x lays same is =
-      (p, stayed (x sure p.state at.state) same.coverages (lays sure).1, inr (inl (inl (refl, refl))))
-  stepped (Err DiskFault) x lays same is =
-      (p, stayed (x.1 sure p.state at.state) same.coverages (lays sure).1, inr (inl (inr (inl (x.0, (refl, refl))))))
-  stepped (Err NoRoom) x lays same is = (
-    p,
-    stayed (x.1 sure p.state at.state) same.coverages (lays sure).1,
-    inr (inl (inr (inr (wanting (x.0 sure), (refl, refl))))),
+      (told.quiet (λ f. absurd cc))
+  stepped (Err NoMemory) x lays same is told = (
+    with_failures new.coverages.failures p,
+    stayed (x sure p.state at.state) same.coverages (lays sure).1,
+    inr (inl (inl (refl, as_was (told.quiet (λ f. absurd cc))))),
   )
-  stepped (Err Damaged) x lays same is = (
-    p,
+  stepped (Err DiskFault) x lays same is told =
+      let rose : Rose p.failures new.coverages.failures = subst (λ (n : ℕ). Rose n new.coverages.failures) (sym at.failures) x.0 in (
+        with_failures new.coverages.failures p,
+        stayed (x.1 sure p.state at.state) same.coverages (lays sure).1,
+        inr (inl (inr (inl (rose, (refl, refl))))),
+      )
+  stepped (Err NoRoom) x lays same is told = (
+    with_failures new.coverages.failures p,
     stayed (x.1 sure p.state at.state) same.coverages (lays sure).1,
-    inr (inr (x.0 sure p.state at.state, (refl, refl))),
+    inr (inl (inr (inr (wanting (x.0 sure), (refl, as_was (told.quiet (λ f. absurd cc))))))),
+  )
+  stepped (Err Damaged) x lays same is told = (
+    with_failures new.coverages.failures p,
+    stayed (x.1 sure p.state at.state) same.coverages (lays sure).1,
+    inr (inr (x.0 sure p.state at.state, (refl, as_was (told.quiet (λ f. absurd cc))))),
   )

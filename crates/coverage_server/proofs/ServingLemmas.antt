@@ -1,10 +1,9 @@
 -- A connection that is being served, and how it ends.
-use Rattle.std.proofs.Common.{◌≡◌, ◌≢◌, ℕ, ◌+◌, ◌<◌, ◌≤◌, Result, Ok, Err, inl, inr, Bool, true, false, List, [], ◌∷◌, ◌++◌, length, Option, refl, sym, ap, ◌∙◌, subst, arith, append_assoc, append-nil}
+use Rattle.std.proofs.Common.{◌≡◌, ◌≢◌, ℕ, ◌+◌, ◌<◌, Bool, true, false, List, [], ◌∷◌, ◌++◌, length, Option, refl, sym, ap, ◌∙◌, subst, arith, append_assoc, append-nil}
 use Rattle.std.proofs.lemmas.List.{length-append}
 use Rattle.std.specs.List.{concat}
 use Rattle.std.specs.Io.KnownBytes.{Appends, Consumes, IsAtEnd}
 use Rattle.std.proofs.KnownBytes.{Appends-trans, Consumes-trans}
-use Rattle.arr_core.specs.declared.refusal.Refusal.{Refusal}
 use Rattle.stream_face.specs.Faults.{AppendsPrefix}
 use Rattle.stream_face.specs.Views.{SourceView, SinkView}
 use Rattle.stream_face.specs.Waiting.{IsFlushed}
@@ -14,57 +13,11 @@ use Rattle.http_front.specs.declared.reply.Reply.{Reply}
 use Rattle.http_front.specs.Replies.{reply_bytes}
 use Rattle.http_front.specs.Stream.{HasNoMessage, Item, at_end, at_fault, Messages, Taken, Fronts, TellsNext}
 use Rattle.http_front.proofs.TakenLemmas.{Taken-append, Taken-push, Messages-after, Begins-after, rest_of, rest_at_end, all_of, last_message, one_message, whole_message, room_after}
-use Rattle.coverage_server.specs.declared.server.ConnEnd.{ConnEnd}
 use Rattle.coverage_server.specs.declared.server.ConnEnd.TheVariants.{Finished, ReadFault, WriteFault}
-use Rattle.disk_face.specs.Disk.{Rose}
-use Rattle.kvp_front.specs.Requests.{Asks, spelled}
-use Rattle.kvp_front.specs.declared.request.RequestError.{RequestError}
-use Rattle.coverage_server.specs.Runs.{Placed, SpelledStep, MessageStep, Run}
+use Rattle.coverage_server.specs.Runs.{Placed, MessageStep, Run}
 use Rattle.coverage_server.specs.Leaving.{Continues}
 use Rattle.coverage_server.specs.Serves.{Ends, ServesConnection}
 use Rattle.coverage_server.specs.Views.{ServerView}
-
--- what may be told by the one may be told by the other
-abbrev pub Allows : Type 0 → Type 0 → Type 0
-Allows P Q = P → Q
-
--- what the machine may tell where the disk may have failed holds where that is told of a longer time too
-spelled-later : {P Q : Type 0} → Allows P Q → (r : Result Asks RequestError) (old : Placed) (reply : Reply)
-    (new : Placed)
-    → SpelledStep P r old reply new
-    → SpelledStep Q r old reply new
-spelled-later f (Ok asks) old reply new (inl x) = inl x
-spelled-later f (Ok asks) old reply new (inr (inl (inl x))) = inr (inl (inl x))
-spelled-later f (Ok asks) old reply new (inr (inl (inr (inl x)))) = inr (inl (inr (inl (f x.0, x.1))))
-spelled-later f (Ok asks) old reply new (inr (inl (inr (inr x)))) = inr (inl (inr (inr x)))
-spelled-later f (Ok asks) old reply new (inr (inr x)) = inr (inr x)
-spelled-later f (Err e) old reply new x = x
-
-pub step-later : {P Q : Type 0} → Allows P Q → (old : Placed) (asked : Result (List ℕ) Refusal) (reply : Reply) (new : Placed)
-    → MessageStep P old asked reply new
-    → MessageStep Q old asked reply new
-step-later f old (Ok pairs) reply new x = spelled-later f (spelled pairs) old reply new x
-step-later f old (Err refusal) reply new x = x
-
-run-later : {P Q : Type 0} → Allows P Q → (old : Placed) (items : List Item) (replies : List (List ℕ)) (new : Placed)
-    → Run P old items replies new → Run Q old items replies new
-run-later f old [] [] new x = x
-run-later f old [] (bytes ∷ replies) new x = x
-run-later f old (item ∷ items) [] new x = x
-run-later f old (item ∷ items) (bytes ∷ replies) new x =
-    (x.0, x.1, step-later f old item.asked x.1 x.0 x.2, x.3, run-later f x.0 items replies new x.4)
-
-pub connection-later : {P Q : Type 0} → Allows P Q → (e : Ends) (old new : Placed) (end : ConnEnd)
-    → ServesConnection P e old new end
-    → ServesConnection Q e old new end
-connection-later f e old new end x = record {
-  bytes = x.bytes;
-  items = x.items;
-  replies = x.replies;
-  asked = x.asked;
-  run = run-later f old x.items x.replies new x.run;
-  sent = x.sent;
-}
 
 -- what is neither the end nor a fault was found without a fault
 pub quiet_item : (old new : SourceView) (found : Next) → TellsNext old new found → found ≢ next.Ended
@@ -78,22 +31,16 @@ quiet_item old new next.ReadFault x a b = absurd (b refl)
 abbrev pub ends : SourceView → SourceView → SinkView → SinkView → Ends
 ends source later sink gone = record { source = source; source_after = later; sink = sink; sink_after = gone }
 
--- a count that rose by some time has risen by a later one, and since an earlier one
-pub rose-by : (old mid new : ℕ) → mid ≤ new → Rose old mid → Rose old new
-rose-by old mid new later rose = omega (arith, rose)
-
-pub rose-since : (old mid new : ℕ) → old ≤ mid → Rose mid new → Rose old new
-rose-since old mid new later rose = omega (arith, rose)
-
-pub Run-push : (P : Type 0) (items : List Item) (replies : List (List ℕ)) (old mid new : Placed) (item : Item)
-    (reply : Reply) → Run P old items replies mid → MessageStep P mid item.asked reply new
-    → Run P old (items ++ item ∷ []) (replies ++ reply_bytes item.last item.bare reply ∷ []) new
-Run-push P [] [] old mid new item reply x s =
-    (new, reply, subst (λ o. MessageStep P o item.asked reply new) x s, refl, refl)
-Run-push P [] (bytes ∷ replies) old mid new item reply x s = absurd x
-Run-push P (first ∷ items) [] old mid new item reply x s = absurd x
-Run-push P (first ∷ items) (bytes ∷ replies) old mid new item reply x s =
-    (x.0, x.1, x.2, x.3, Run-push P items replies x.0 mid new item reply x.4 s)
+-- one message more
+pub Run-push : (items : List Item) (replies : List (List ℕ)) (old mid new : Placed) (item : Item) (reply : Reply)
+    → Run old items replies mid → MessageStep mid item.asked reply new
+    → Run old (items ++ item ∷ []) (replies ++ reply_bytes item.last item.bare reply ∷ []) new
+Run-push [] [] old mid new item reply x s =
+    (new, reply, subst (λ o. MessageStep o item.asked reply new) x s, refl, refl)
+Run-push [] (bytes ∷ replies) old mid new item reply x s = absurd x
+Run-push (first ∷ items) [] old mid new item reply x s = absurd x
+Run-push (first ∷ items) (bytes ∷ replies) old mid new item reply x s =
+    (x.0, x.1, x.2, x.3, Run-push items replies x.0 mid new item reply x.4 s)
 
 -- one reply more
 concat_push : (replies : List (List ℕ)) (bytes : List ℕ) → concat (replies ++ bytes ∷ []) ≡ concat replies ++ bytes
@@ -102,20 +49,20 @@ concat_push (first ∷ replies) bytes =
     ap (λ (l : List ℕ). first ++ l) (concat_push replies bytes) ∙ sym (append_assoc first (concat replies) bytes)
 
 -- What has come, the messages in it, and their replies, which went out and do not wait.
-pub record Serving (may : Type 0) (before now : SourceView) (held holds : SinkView) (old new : Placed)
-    (buffer : List ℕ) (count : ℕ) : Type 0 where
+pub record Serving (before now : SourceView) (held holds : SinkView) (old new : Placed) (buffer : List ℕ) (count : ℕ)
+    : Type 0 where
   pub came : List ℕ
   pub took : Consumes before.remaining now.remaining came
   pub items : List Item
   pub taken : Taken 0 came items buffer
   pub replies : List (List ℕ)
-  pub run : Run may old items replies new
+  pub run : Run old items replies new
   pub sent : Appends held.contents holds.contents (concat replies)
   pub flushed : IsFlushed held.waiting → IsFlushed holds.waiting
   pub counted : count ≡ length items
 
-module _ {may : Type 0} {before now : SourceView} {held holds : SinkView} {old new : Placed} {buffer : List ℕ} {count : ℕ}
-    (s : Serving may before now held holds old new buffer count) (later : SourceView) (more : List ℕ)
+module _ {before now : SourceView} {held holds : SinkView} {old new : Placed} {buffer : List ℕ} {count : ℕ}
+    (s : Serving before now held holds old new buffer count) (later : SourceView) (more : List ℕ)
     (took : Consumes now.remaining later.remaining more) where
   taken_all : Taken 0 ((s.came ++ more) ++ rest_of later.remaining) s.items ((buffer ++ more) ++ rest_of later.remaining)
   taken_all =
@@ -129,7 +76,7 @@ module _ {may : Type 0} {before now : SourceView} {held holds : SinkView} {old n
   from_zero = omega (arith, s.counted)
 
   pub ended : IsAtEnd later.remaining → buffer ++ more ≡ []
-      → ServesConnection may (ends before later held holds) old new Finished
+      → ServesConnection (ends before later held holds) old new Finished
   ended end none =
       let nothing : (buffer ++ more) ++ rest_of later.remaining ≡ [] =
       ap (λ (l : List ℕ). (buffer ++ more) ++ l) (rest_at_end later.remaining end) ∙ append-nil (buffer ++ more) ∙ none in
@@ -146,7 +93,7 @@ module _ {may : Type 0} {before now : SourceView} {held holds : SinkView} {old n
         sent = (s.sent, s.flushed);
       }
 
-  pub faulted : HasNoMessage (buffer ++ more) → ServesConnection may (ends before later held holds) old new ReadFault
+  pub faulted : HasNoMessage (buffer ++ more) → ServesConnection (ends before later held holds) old new ReadFault
   faulted none =
       let messages = Messages-after at_fault 0 count _ s.items [] _ from_zero (Taken-append 0 s.came s.items buffer more s.taken) none in
       record {
@@ -159,12 +106,10 @@ module _ {may : Type 0} {before now : SourceView} {held holds : SinkView} {old n
       }
 
   module _ (left : List ℕ) (item : Item) (x : Fronts count (buffer ++ more) left later.remaining item) (newer : Placed)
-      (reply : Reply)
-      (fails : Type 0) (since : Allows may fails) (step : MessageStep fails new item.asked reply newer)
+      (reply : Reply) (step : MessageStep new item.asked reply newer)
       (last bare : Bool) (is : last ≡ item.last) (shown : bare ≡ item.bare) (gone : SinkView) where
-    ran : Run fails old (s.items ++ item ∷ []) (s.replies ++ reply_bytes item.last item.bare reply ∷ []) newer
-    ran =
-        Run-push fails s.items s.replies old new newer item reply (run-later since old s.items s.replies new s.run) step
+    ran : Run old (s.items ++ item ∷ []) (s.replies ++ reply_bytes item.last item.bare reply ∷ []) newer
+    ran = Run-push s.items s.replies old new newer item reply s.run step
 
     gone_out : Appends holds.contents gone.contents (reply_bytes last bare reply)
         → Appends held.contents gone.contents (concat (s.replies ++ reply_bytes item.last item.bare reply ∷ []))
@@ -176,7 +121,7 @@ module _ {may : Type 0} {before now : SourceView} {held holds : SinkView} {old n
         (subst (λ d. Appends holds.contents gone.contents (reply_bytes last d reply)) shown sent)))
 
     pub answered : last ≡ true → Appends holds.contents gone.contents (reply_bytes last bare reply) → IsFlushed gone.waiting
-        → ServesConnection fails (ends before later held gone) old newer Finished
+        → ServesConnection (ends before later held gone) old newer Finished
     answered closed sent flushed = record {
       bytes = (s.came ++ more) ++ rest_of later.remaining;
       items = s.items ++ item ∷ [];
@@ -191,7 +136,7 @@ module _ {may : Type 0} {before now : SourceView} {held holds : SinkView} {old n
     }
 
     pub unwritten : AppendsPrefix holds.contents gone.contents (reply_bytes last bare reply)
-        → ServesConnection fails (ends before later held gone) old newer WriteFault
+        → ServesConnection (ends before later held gone) old newer WriteFault
     unwritten sent = record {
       bytes = (s.came ++ more) ++ rest_of later.remaining;
       items = s.items ++ item ∷ [];
@@ -215,7 +160,7 @@ module _ {may : Type 0} {before now : SourceView} {held holds : SinkView} {old n
 
     pub continued : (number : ℕ) → number ≡ count + 1 → last ≡ false
         → Appends holds.contents gone.contents (reply_bytes last bare reply) → IsFlushed gone.waiting
-        → Serving fails before later held gone old newer left number
+        → Serving before later held gone old newer left number
     continued number numbered goes_on sent flushed =
         let whole = whole_message count (buffer ++ more) left later.remaining item x (sym is ∙ goes_on) in
         record {

@@ -5,7 +5,7 @@ use Rattle.std.proofs.lemmas.List.Elements.{All-weaker}
 use Rattle.std.proofs.lemmas.List.{take_more, take_more_set, get_or-drop, drop-set-lt, drop-drop}
 use Rattle.arr_core.specs.Stores.{Store}
 use Rattle.block_file.specs.declared.header.State.TheVariants.{Open}
-use Rattle.disk_face.specs.Disk.{Rose}
+use Rattle.disk_face.specs.Disk.{Rose, Tells}
 use Rattle.stream_face.specs.Views.{SourceView, SinkView}
 use Rattle.coverage_server.specs.declared.server.ConnEnd.{ConnEnd}
 use Rattle.coverage_server.specs.declared.closing.CloseFault.{CloseFault}
@@ -13,48 +13,21 @@ use Rattle.coverage_server.specs.declared.closing.CloseFault.TheVariants as clos
 use Rattle.coverage_server.specs.Damage.{IsIntactIn, IsIntactNamed}
 use Rattle.coverage_server.specs.Disk.{DiskView, ListsStore}
 use Rattle.coverage_server.specs.Leaving.{Continues}
-use Rattle.coverage_server.specs.Runs.{Placed, begun_with, jobless}
+use Rattle.coverage_server.specs.Runs.{Placed, begun_with, jobless, with_failures}
 use Rattle.raster_store.specs.Views.{Index, AreIntact, listed_snapshots}
 use Rattle.coverage_server.specs.Represents.{Places}
 use Rattle.coverage_server.specs.Serves.{Ends, ServesConnection, TellsEnd, ends_of}
 use Rattle.coverage_server.specs.Sessions.{AreServed, IsNotClosed, IsLeft, IsOpenedFrom, ServesAll, ServesUnclosed, Sessions, ServesSessions, ends_all}
 use Rattle.coverage_server.specs.Views.{ServerView, SessionView, IsSound, without_held, without_jobs}
-use Rattle.coverage_server.proofs.ServingLemmas.{Allows, connection-later, rose-by}
 use Rattle.coverage_server.proofs.HeldLemmas.{lists_none}
 use Rattle.coverage_server.proofs.LettingLemmas.{sound_unheld, places_jobless}
 use Rattle.coverage_server.proofs.PlacedLemmas.{places-same}
 
--- what is told of a time is told of a longer one
-pub all-later : {P Q : Type 0} → Allows P Q → (ends : List Ends) (old new : Placed) → ServesAll P ends old new
-    → ServesAll Q ends old new
-all-later f [] old new x = x
-all-later f (e ∷ ends) old new x = (x.0, x.1, x.2, connection-later f e old x.0 x.1 x.3, all-later f ends x.0 new x.4)
-
 -- connections and then others
-pub all-append : (P : Type 0) (first second : List Ends) (old mid new : Placed) → ServesAll P first old mid
-    → ServesAll P second mid new
-    → ServesAll P (first ++ second) old new
-all-append P [] second old mid new x y = subst (λ (s : Placed). ServesAll P second s new) x y
-all-append P (e ∷ first) second old mid new x y = (x.0, x.1, x.2, x.3, all-append P first second x.0 mid new x.4 y)
-
--- the count of failures rose in a longer time
-rose-within : (a b c d : ℕ) → a ≤ b → c ≤ d → Rose b c → Rose a d
-rose-within a b c d x y r = omega (arith, x, y, r)
-
-sessions_rise : (sessions : List (List Ends)) (old new : DiskView) → Sessions sessions old new → old.failures ≤ new.failures
-sessions_rise [] old new x = let e = ap (λ (v : DiskView). v.failures) x in omega (arith, e)
-sessions_rise (ends ∷ sessions) old new x = let e = sessions_rise sessions x.0 new x.4 in let m = x.3 in omega (arith, e, m)
-
-sessions-later : {P Q : Type 0} → Allows P Q
-    → (sessions : List (List Ends)) (store : Store) (indexes : List (List Index))
-    (intact : List (List ℕ)) (last : Placed) → ServesSessions P sessions store indexes intact last
-    → ServesSessions Q sessions store indexes intact last
-sessions-later f [] store indexes intact last x = x
-sessions-later f (ends ∷ sessions) store indexes intact last x = (
-  x.0,
-  all-later f ends (begun_with store indexes intact) x.0 x.1,
-  sessions-later f sessions x.0.state.store x.0.layout.indexes x.0.intact last x.2,
-)
+pub all-append : (first second : List Ends) (old mid new : Placed) → ServesAll first old mid → ServesAll second mid new
+    → ServesAll (first ++ second) old new
+all-append [] second old mid new x y = subst (λ (s : Placed). ServesAll second s new) x y
+all-append (e ∷ first) second old mid new x y = (x.0, x.1, x.2, x.3, all-append first second x.0 mid new x.4 y)
 
 -- all sessions of a list are what one machine does
 pub composed : (sessions : List (List Ends)) (old new : DiskView) → Sessions sessions old new → IsTrue old.honest
@@ -63,12 +36,13 @@ pub composed : (sessions : List (List Ends)) (old new : DiskView) → Sessions s
     → (last : Placed) × ListsStore new.content last.state.store last.layout.indexes
     × All (IsIntactIn new.content last.state.store last.layout.indexes) last.intact
     × (AreIntact old.content store indexes → AreIntact new.content last.state.store last.layout.indexes)
-    × ServesSessions (Rose old.failures new.failures) sessions store indexes intact last
+    × (new.failures ≡ last.failures) × ServesSessions sessions store indexes intact old.failures last
 composed [] old new x honest store indexes lists intact whole = (
-  begun_with store indexes intact,
+  begun_with store indexes intact old.failures,
   subst (λ (v : DiskView). ListsStore v.content store indexes) (sym x) lists,
   subst (λ (v : DiskView). All (IsIntactIn v.content store indexes) intact) (sym x) whole,
   λ spelled. subst (λ (v : DiskView). AreIntact v.content store indexes) (sym x) spelled,
+  ap (λ (v : DiskView). v.failures) x,
   refl,
 )
 composed (ends ∷ sessions) old new x honest store indexes lists intact whole =
@@ -77,22 +51,16 @@ composed (ends ∷ sessions) old new x honest store indexes lists intact whole =
     let then_store = first.0.state.store in
     let then_indexes = first.0.layout.indexes in
     let kept : AreIntact old.content store indexes → AreIntact mid.content then_store then_indexes = first.3 in
-    let later = composed sessions mid new x.4 (subst IsTrue (sym x.2) honest) then_store then_indexes first.1
+    let later = composed sessions mid new x.3 (subst IsTrue (sym x.2) honest) then_store then_indexes first.1
     first.0.intact first.2 in
-    let more = sessions_rise sessions mid new x.4 in
-    let here : Allows (Rose old.failures mid.failures) (Rose old.failures new.failures) =
-    rose-within old.failures old.failures mid.failures new.failures (omega arith) more in
-    let there : Allows (Rose mid.failures new.failures) (Rose old.failures new.failures) =
-    rose-within old.failures mid.failures new.failures new.failures x.3 (omega arith) in (
+    let then_on : ServesSessions sessions then_store then_indexes first.0.intact first.0.failures later.0 = subst
+    (λ (n : ℕ). ServesSessions sessions then_store then_indexes first.0.intact n later.0) first.4 later.5 in (
       later.0,
       later.1,
       later.2,
       λ spelled. later.3 (kept spelled),
-      (
-        first.0,
-        all-later here ends (begun_with store indexes intact) first.0 first.4,
-        sessions-later there sessions then_store then_indexes first.0.intact later.0 later.4,
-      ),
+      later.4,
+      (first.0, first.5, then_on),
     )
 
 -- a server without jobs, for which nothing is held, has the state and the layout with which a session begins
@@ -100,8 +68,8 @@ pub begins : (v : SessionView) → v.desk ≡ record { jobs = []; next = Some 1 
     → (store : Store) (indexes : List (List Index)) → v.coverages.store ≡ store → v.coverages.indexes ≡ indexes
     → (content : List ℕ) → ((name : List ℕ) → IsIntactIn content v.coverages.store v.coverages.indexes name
     → IsIntactNamed v.coverages name) → (intact : List (List ℕ)) → All (IsIntactIn content store indexes) intact
-    → Places v (begun_with store indexes intact)
-begins v none unheld store indexes is alike content spelled intact whole = record {
+    → (failures : ℕ) → v.coverages.failures ≡ failures → Places v (begun_with store indexes intact failures)
+begins v none unheld store indexes is alike content spelled intact whole failures count = record {
   state = record { store = sym is; jobs = rw none tt; next = rw none refl };
   layout = rw (unheld, alike) refl;
   intact = λ sure.
@@ -112,6 +80,7 @@ begins v none unheld store indexes is alike content spelled intact whole = recor
   held = λ sure. rw unheld tt;
   blocks = λ sure k more. absurd (let lists : listed_snapshots v.coverages.held k ≡ 0 = rw unheld (lists_none k) in
       omega (arith, lists, more));
+  failures = sym count;
 }
 
 -- where each tile that the disk lists is spelled, what was opened is sound
@@ -119,6 +88,18 @@ pub sound_from : (content : List ℕ) (v : ServerView) (store : Store) (indexes 
     → (AreIntact content v.store v.indexes → IsSound v) → AreIntact content store indexes → IsSound v
 sound_from content v store indexes same alike sound intact =
     sound (subst (λ (s : Store). AreIntact content s v.indexes) (sym same) (subst (λ (i : List (List Index)). AreIntact content store i) (sym alike) intact))
+
+-- what a refused close tells of the disk's failures, since the last connection
+close_tells : (fault : CloseFault) (old left : ServerView) (n : ℕ) → n ≡ old.failures → IsNotClosed fault old left
+    → Tells (fault ≡ closing.DiskFault) n left.failures
+close_tells closing.NoMemory old left n is refused = record {
+  told = λ e. absurd (let no : closing.NoMemory ≡ closing.DiskFault = e in cc);
+  quiet = λ none. (refused.no_memory refl).1 ∙ sym is;
+}
+close_tells closing.DiskFault old left n is refused = record {
+  told = λ e. subst (λ (k : ℕ). Rose k left.failures) (sym is) (refused.disk_fault refl);
+  quiet = λ none. absurd (none refl);
+}
 
 -- a session whose server was not closed
 pub unclosed : (fault : CloseFault) (ends : List Ends) (disk : DiskView) (opened served left : SessionView)
@@ -128,7 +109,6 @@ pub unclosed : (fault : CloseFault) (ends : List Ends) (disk : DiskView) (opened
     → opened.coverages.overreads ≡ disk.overreads → AreServed ends opened served → Continues opened.coverages served.coverages
     → IsNotClosed fault served.coverages left.coverages → left.desk ≡ served.desk → ServesUnclosed fault ends disk left
 unclosed fault ends disk opened served left opens desk unheld honest count inside serves keeps refused same_desk =
-    let rises : disk.failures ≤ opened.coverages.failures = omega (arith, count) in
     let more : opened.coverages.failures ≤ served.coverages.failures = keeps.no_fewer in
     record {
       served = λ truly store indexes lists intact whole.
@@ -138,16 +118,13 @@ unclosed fault ends disk opened served left opens desk unheld honest count insid
           let kept : IsTrue served.coverages.honest = subst IsTrue (sym keeps.honest) sure in
           let sound = sound_from disk.content opened.coverages store indexes found.0 found.1 from.sound in
           let began = begins opened desk unheld store indexes found.0 found.1 disk.content from.spelled intact
-          whole in
-          let run = serves sure (begun_with store indexes intact) began in
-          let allows : Allows (Rose opened.coverages.failures served.coverages.failures)
-          (Rose disk.failures left.coverages.failures) =
-          rose-within disk.failures opened.coverages.failures served.coverages.failures left.coverages.failures rises
-          refused.no_fewer in (
+          whole disk.failures count in
+          let run = serves sure (begun_with store indexes intact disk.failures) began in (
             λ spelled. refused.sound (keeps.sound (sound spelled)),
             run.0,
             inl (places-same served left kept refused.unchanged (refused.spelled kept) same_desk run.0 run.1),
-            all-later allows ends (begun_with store indexes intact) run.0 run.2,
+            close_tells fault served.coverages left.coverages run.0.failures run.1.failures refused,
+            run.2,
           );
       disk_fault = λ e.
           let rose : Rose served.coverages.failures left.coverages.failures = refused.disk_fault e in
@@ -173,15 +150,17 @@ unclosed_again fault ends disk mid left before refused jobs =
       served = λ truly store indexes lists intact whole.
           let was = before.served truly store indexes lists intact whole in
           let sure : IsTrue mid.coverages.honest = subst IsTrue (sym before.honest) truly in
-          let here : Places (without_jobs mid) (jobless was.1) = elim was.2 [
-            | inl with_jobs ↦ places_jobless mid was.1 with_jobs
-            | inr without ↦ places_jobless mid (jobless was.1) without
-          ] in (
+          let n = mid.coverages.failures in
+          let here : Places (without_jobs mid) (with_failures n (jobless was.1)) = elim was.2 [
+            | inl with_jobs ↦ places_jobless mid (with_failures n was.1) with_jobs
+            | inr without ↦ places_jobless mid (with_failures n (jobless was.1)) without
+          ] in
+          let quiet : n ≡ was.1.failures = was.3.quiet (λ e. absurd (let no : closing.NoMemory ≡ closing.DiskFault = e in cc)) in (
             λ spelled. refused.sound (sound_unheld mid.coverages (was.0 spelled)),
             was.1,
-            inr (places-same (without_jobs mid) left sure refused.unchanged (refused.spelled sure) jobs (jobless was.1) here),
-            all-later (rose-by disk.failures mid.coverages.failures left.coverages.failures more) ends
-                (begun_with store indexes intact) was.1 was.3,
+            inr (places-same (without_jobs mid) left sure refused.unchanged (refused.spelled sure) jobs (with_failures n (jobless was.1)) here),
+            close_tells fault (without_held mid.coverages) left.coverages was.1.failures (sym quiet) refused,
+            was.4,
           );
       disk_fault = λ e.
           let rose : Rose mid.coverages.failures left.coverages.failures = refused.disk_fault e in
@@ -244,30 +223,13 @@ module _ {R W : Type 0} where
         take_long (suc i) (a ∷ first) (b ∷ second) e = ap suc (take_long i first second (omega (arith, e)))
 
     -- one connection more is served
-    pub served-more : (xs ys : List (R × W)) (i : ℕ) (d y : R × W) (begin now end : ℕ)
-        (old mid new : Placed) (conn : ConnEnd)
-        → length ys ≡ length xs → i < length xs → drop i ys ≡ drop i xs → begin ≤ now → now ≤ end
-        → ServesAll (Rose begin now) (ends_all source sink (take i xs) (take i ys)) old
-        mid
+    pub served-more : (xs ys : List (R × W)) (i : ℕ) (d y : R × W) (old mid new : Placed) (conn : ConnEnd)
+        → length ys ≡ length xs → i < length xs → drop i ys ≡ drop i xs
+        → ServesAll (ends_all source sink (take i xs) (take i ys)) old mid
         → TellsEnd (ends_of source sink (get_or ys i d).0 y.0 (get_or ys i d).1 y.1) conn
-        → ServesConnection (Rose now end)
-        (ends_of source sink (get_or ys i d).0 y.0 (get_or ys i d).1 y.1) mid new conn
-        → ServesAll (Rose begin end) (ends_all source sink (take (i + 1) xs)
-        (take (i + 1) (slice_set ys i y))) old new
-    served-more xs ys i d y begin now end old mid new conn long inside e up rest x told c =
-        let first : Allows (Rose begin now) (Rose begin end) =
-        rose-within begin begin now end (omega arith) rest in
-        let then_on : Allows (Rose now end) (Rose begin end) =
-        rose-within begin now end end up (omega arith) in
-        subst (λ (ends : List Ends). ServesAll (Rose begin end) ends old new)
-        (sym (ends-more xs ys i d y long inside e))
-        (all-append (Rose begin end) (ends_all source sink (take i xs) (take i ys))
-        (ends_of source sink (get_or ys i d).0 y.0 (get_or ys i d).1 y.1 ∷ []) old mid new
-        (all-later first (ends_all source sink (take i xs) (take i ys)) old mid x) (
-          new,
-          conn,
-          told,
-          connection-later then_on
-              (ends_of source sink (get_or ys i d).0 y.0 (get_or ys i d).1 y.1) mid new conn c,
-          refl,
-        ))
+        → ServesConnection (ends_of source sink (get_or ys i d).0 y.0 (get_or ys i d).1 y.1) mid new conn
+        → ServesAll (ends_all source sink (take (i + 1) xs) (take (i + 1) (slice_set ys i y))) old new
+    served-more xs ys i d y old mid new conn long inside e x told c =
+        subst (λ (ends : List Ends). ServesAll ends old new) (sym (ends-more xs ys i d y long inside e))
+        (all-append (ends_all source sink (take i xs) (take i ys))
+        (ends_of source sink (get_or ys i d).0 y.0 (get_or ys i d).1 y.1 ∷ []) old mid new x (new, conn, told, c, refl))

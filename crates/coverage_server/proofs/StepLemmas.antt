@@ -321,7 +321,7 @@ abbrev pub StepTold : StepError → Type 0 → ℕ → ℕ → Type 0
 StepTold stepping.NoSuchJob Spelled before after = after ≡ before
 StepTold (stepping.Cells e) Spelled before after = TellsError e Spelled before after
 
-step_told : {K : Type 0} (e : StepError) (spelled : K → Type 0) (before after : SourceState K) → StepReports (Err e) spelled before after → StepTold e (spelled before.kept) before.failures after.failures
+pub step_told : {K : Type 0} (e : StepError) (spelled : K → Type 0) (before after : SourceState K) → StepReports (Err e) spelled before after → StepTold e (spelled before.kept) before.failures after.failures
 step_told stepping.NoSuchJob spelled before after x = x
 step_told (stepping.Cells e) spelled before after x = x
 
@@ -364,6 +364,11 @@ ends_others : (n left : ℕ) (m w : ServerView) → Ends (Ok left) (w ≡ m) (Re
 ends_others n zero m w gone = (gone.others, gone.sound)
 ends_others n (suc left) m w same = (ap without_held same, λ sound. subst IsSound (sym same) sound)
 
+-- a step that was done leaves the count of failures as it was
+pub step_quiet : (n left : ℕ) (v u m w : ServerView) → u ≡ v → m.failures ≡ u.failures → Ends (Ok left) (w ≡ m) (ReleasesFor n m w) → w.failures ≡ v.failures
+step_quiet n left v u m w same quiet ends =
+    ap (λ (x : ServerView). x.failures) (ends_others n left m w ends).0 ∙ quiet ∙ ap (λ (x : ServerView). x.failures) same
+
 module _ (v w' : ServerView) (old new : DeskView) (n units left : ℕ) (asked : List Signature) (places : List ℕ) (job : ℕ) (same : w' ≡ v) (is : job ≡ n)
     (read : AreRead (store_for n v) asked places) (desk : IsDesk old) (holding : IsHolding old v.held) (told : Some left ≡ option_map (λ (j : Held). j.left) (desks.job_of n old.jobs))
     (plan : Some asked ≡ option_map (λ (j : Held). (plan_of j.exec).coverages) (desks.job_of n old.jobs)) (none : left ≡ 0 → ⊥) (m : ServerView) (kept : still_of m ≡ still_of w') where
@@ -394,7 +399,7 @@ module _ (v w' : ServerView) (old new : DeskView) (n units left : ℕ) (asked : 
         holding = holding_after v m still old new asked (store_for n v) n units source reads are desk w after x (a.coverages, a.is) a.some ends holding;
         others = ap still_of others.0 ∙ ap without_held still;
         sound = λ sound. others.1 (still_sound v m still sound);
-        no_fewer = (let f = ap (λ (u : ServerView). u.failures) others.0 in let g = ap (λ (u : ServerView). u.failures) same in omega (arith, f, g, quiet));
+        no_fewer = (let f = step_quiet n after v w' m w same quiet ends in omega (arith, f));
       }
 
   asks_as : (was : Held) → desks.job_of n old.jobs ≡ Some was → IsAsked v m still old new asked (store_for n v) n units source reads are was

@@ -1,7 +1,7 @@
 -- What the parts of the server answer.
-use Rattle.std.specs.Prelude.{ℕ, List, Option, IsTrue, Result, Ok, Err, OnOk, ⊤}
+use Rattle.std.specs.Prelude.{ℕ, List, Option, IsTrue, IsErrOf, Result, Ok, Err, OnOk, ⊤}
 use Rattle.arr_core.specs.Refusals.{number_of}
-use Rattle.disk_face.specs.Disk.{Rose}
+use Rattle.disk_face.specs.Disk.{Rose, Tells}
 use Rattle.arr_core.specs.Stores.{Store}
 use Rattle.job_desk.specs.Desks.{DeskView}
 use Rattle.wcps_types.specs.Typed.{TypedTree}
@@ -32,6 +32,10 @@ Answered step lacks spoils old new (Err NoMemory) = ⊤
 Answered step lacks spoils old new (Err DiskFault) = Rose old.failures new.failures
 Answered step lacks spoils old new (Err NoRoom) = IsTrue old.honest → lacks
 Answered step lacks spoils old new (Err Damaged) = IsTrue old.honest → spoils
+
+-- What an answer tells of the disk's failures: a fault only where their count rose, and any other answer leaves it as it was.
+abbrev pub TellsFailures : {T : Type 0} → Result T AnswerError → ServerView → ServerView → Type 0
+TellsFailures result old new = Tells (IsErrOf result DiskFault) old.failures new.failures
 
 -- the answers to requests on the coverages: an insertion, an update, the text of a query, a template
 abbrev pub AnswersInsertion : Insertion → ServerView → ServerView → Result Reply AnswerError → Type 0

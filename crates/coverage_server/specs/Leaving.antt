@@ -104,6 +104,10 @@ abbrev pub reply_of : Result Reply AnswerError → Reply
 reply_of (Ok reply) = reply
 reply_of (Err e) = Refused (refusal_number e)
 
+-- a reply that tells no disk fault leaves the count of the disk's failures as it was
+abbrev pub LeavesFailures : Reply → ServerView → ServerView → Type 0
+LeavesFailures reply old new = (reply ≡ Refused (number_of refusal.DiskFault) → ⊥) → new.failures ≡ old.failures
+
 -- what follows of a reply that is a refusal
 abbrev pub IfRefused : Reply → (ℕ → Type 0) → Type 0
 IfRefused (Text text) P = ⊤

@@ -5,7 +5,7 @@ use Rattle.std.specs.Fmt.{decimal}
 use Rattle.std.specs.Int.{w32}
 use Rattle.std.specs.List.{find, flat_map}
 use Rattle.arr_core.specs.declared.refusal.Refusal.{Refusal}
-use Rattle.arr_core.specs.declared.refusal.Refusal.TheVariants.{BadDomain, BadField, CoverageExists, DiskFault, NoMemory, NoRoom, NoSuchCoverage, NoSuchField, NoSuchJob, NotReady, OutsideDomain, TooManyCoverages, TooManyJobs, ValueCount, ValueRange}
+use Rattle.arr_core.specs.declared.refusal.Refusal.TheVariants.{BadDomain, BadField, CoverageExists, NoSuchCoverage, NoSuchField, NoSuchJob, NotReady, OutsideDomain, TooManyCoverages, TooManyJobs, ValueCount, ValueRange}
 use Rattle.arr_core.specs.Refusals.{number_of}
 use Rattle.arr_core.specs.declared.cell.FieldType.{FieldType}
 use Rattle.arr_core.specs.declared.domain.Axis.{Axis}
@@ -17,6 +17,7 @@ use Rattle.arr_core.specs.Fields.{AreFields, place_of as field_place}
 use Rattle.arr_core.specs.Limits.{max_coverages}
 use Rattle.arr_core.specs.Numbers.{number_after}
 use Rattle.arr_core.specs.Stores.{Coverage, Store, found, inserted, deleted, updated}
+use Rattle.job_desk.specs.Desks.{max_jobs}
 use Rattle.kvp_front.specs.Contents.{Cells, fill, values}
 use Rattle.kvp_front.specs.Requests.{Asks, insert_coverage, update_coverage, delete_coverage, list_coverages, describe_coverage, process_coverages, submit_query, step_job, fetch_job, cancel_job, expand_template, process_template}
 use Rattle.kvp_front.specs.Templates.{Template}
@@ -203,12 +204,12 @@ Adds q number old reply new =
       next = number_after number;
     })
 
--- SubmitQuery: the refusals of the query's text, and then TooManyJobs where 64 jobs are held or no number is left
+-- SubmitQuery: the refusals of the query's text, and then TooManyJobs where as many jobs are held as may be or no number is left
 abbrev pub SubmitsTyped : TypedAnswer → State → Reply → State → Type 0
 SubmitsTyped (Err refusal) old reply new = Refuses refusal old reply new
 SubmitsTyped (Ok q) old reply new =
     MatchOption old.next (Refuses TooManyJobs old reply new)
-    (λ number. Unless (length old.jobs < 64) TooManyJobs (Adds q number) old reply new)
+    (λ number. Unless (length old.jobs < max_jobs) TooManyJobs (Adds q number) old reply new)
 
 abbrev pub Submits : List ℕ → State → Reply → State → Type 0
 Submits query old reply new = (r : TypedAnswer) × TextTyped old.store query r × SubmitsTyped r old reply new
@@ -252,9 +253,3 @@ Serves (fetch_job number) old = Fetches number old
 Serves (cancel_job number) old = Cancels number old
 Serves (expand_template template) old = OnStore (Expands template) old
 Serves (process_template template) old = OnStore (AnswersTemplate template) old
-
--- Want of memory, a disk fault or want of room, which change nothing. A disk fault is told only where the disk may have failed,
--- and want of room only where it is wanting.
-abbrev pub Fails : {S : Type 0} → Type 0 → Type 0 → S → Reply → S → Type 0
-Fails failed wanting old reply new =
-    Refuses NoMemory old reply new ⊎ (failed × Refuses DiskFault old reply new) ⊎ (wanting × Refuses NoRoom old reply new)

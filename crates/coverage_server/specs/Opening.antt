@@ -82,13 +82,14 @@ IsUnread version metadata = (0 < length metadata) × ((signatures : List Signatu
 abbrev pub ListsFile : BlockFileView → ServerView → Type 0
 ListsFile file v = IsTrue file.honest → Lists file.content v.store v.indexes
 
--- the disk of a file, with nothing held for jobs
+-- the disk of a file, with nothing held for jobs, and no tile fetched
 pub record ShowsFile (file : BlockFileView) (v : ServerView) : Type 0 where
   pub content : v.content ≡ file.content
   pub honest : v.honest ≡ file.honest
   pub unheld : v.held ≡ []
   pub failures : v.failures ≡ file.failures
   pub overreads : v.overreads ≡ file.overreads
+  pub unfetched : v.fetched ≡ 0
 
 -- the disk that a file is on, as it was
 pub record GivesBack (file : BlockFileView) (disk : DiskView) : Type 0 where

@@ -2,7 +2,6 @@
 -- executor has over the cells for which the executor stands.
 use Rattle.std.specs.Prelude.{◌≡◌, ◌⊎◌, ℕ, ◌<◌, ℤ, List, [], ◌∷◌, All, IsSomeAnd, IsTrue}
 use Rattle.arr_core.specs.declared.refusal.Refusal.TheVariants.{Damaged}
-use Rattle.disk_face.specs.Disk.{Rose}
 use Rattle.http_front.specs.declared.reply.Reply.{Reply}
 use Rattle.job_desk.specs.declared.job.Job.{Job as Held}
 use Rattle.kvp_front.specs.Requests.{Asks}
@@ -13,8 +12,8 @@ use Rattle.tile_exec.specs.Standing.{StandsFor, plan_of}
 use Rattle.coverage_server.specs.Asking.{cells_of, items_answer}
 use Rattle.coverage_server.specs.Damage.{IsIntactNamed, AreIntactHeld, AreHeldWhole, Spoils}
 use Rattle.coverage_server.specs.Layouts.{layout_of}
-use Rattle.coverage_server.specs.Machine.{Job, State, Fails, Refuses}
-use Rattle.coverage_server.specs.Runs.{Placed, ServesPlaced, LacksRoomAt}
+use Rattle.coverage_server.specs.Machine.{Job, State, Refuses}
+use Rattle.coverage_server.specs.Runs.{Placed, Fails, ServesPlaced, LacksRoomAt}
 use Rattle.coverage_server.specs.Views.{SessionView}
 
 -- these are the cells, of what is held for a job, that the job reads
@@ -45,14 +44,15 @@ pub record Represents (v : SessionView) (s : State) : Type 0 where
   pub jobs : AreJobs v.coverages.held v.desk.jobs s.jobs
   pub next : s.next ≡ v.desk.next
 
--- So is the state, its tiles lie as those of the server do, and where the disk is honest the coverages that are told to
--- be intact are, and the blocks of what is held are whole.
+-- So is the state, its tiles lie as those of the server do, its count of failures is the disk's, and where the disk is
+-- honest the coverages that are told to be intact are, and the blocks of what is held are whole.
 pub record Places (v : SessionView) (p : Placed) : Type 0 where
   pub state : Represents v p.state
   pub layout : p.layout ≡ layout_of v.coverages
   pub intact : IsTrue v.coverages.honest → All (IsIntactNamed v.coverages) p.intact
   pub held : IsTrue v.coverages.honest → AreIntactHeld v.coverages.content v.coverages.held p.held
   pub blocks : IsTrue v.coverages.honest → AreHeldWhole v.coverages.content v.coverages.held
+  pub failures : p.failures ≡ v.coverages.failures
 
 -- Refinement: on an honest disk each state of the machine that the server represents, with its tiles where they lie, leads
 -- by a step to one that it then represents.
@@ -63,8 +63,7 @@ Refines step old new =
 -- A reply of the machine, or a failure: want of memory at any time, a disk fault where the disk's count of failures rose or
 -- stands at its last value, want of room where the request asks for more blocks than are free, and damage where a tile that
 -- is in the way of the request is not spelled.
-abbrev pub Steps : Asks → SessionView → SessionView → Placed → Reply → Placed → Type 0
-Steps asks old new p reply q =
-    ServesPlaced asks p reply q
-    ⊎ Fails (Rose old.coverages.failures new.coverages.failures) (LacksRoomAt asks p) p reply q
+abbrev pub Steps : Asks → SessionView → Placed → Reply → Placed → Type 0
+Steps asks old p reply q =
+    ServesPlaced asks p reply q ⊎ Fails (LacksRoomAt asks p) p reply q
     ⊎ (Spoils asks old.coverages p.state × Refuses Damaged p reply q)

@@ -1,11 +1,13 @@
 -- Runs of the machine. Beside its state a run carries where the tiles lie, so that want of room is told only where a
--- request asks for more blocks than are free; and which coverages are intact, so that damage is told only of others.
+-- request asks for more blocks than are free; which coverages are intact, so that damage is told only of others; and how
+-- many calls of the disk have failed, so that a disk fault is told where one failed, and only there.
 use Rattle.std.specs.Prelude.{◌≡◌, ◌⊎◌, ℕ, nat_eq, nat_lt, cond, List, [], ◌∷◌, ◌++◌, map, All, Contains, Option, Result, Ok, Err, IsSomeAnd}
 use Rattle.std.specs.List.{filter}
 use Rattle.arr_core.specs.declared.refusal.Refusal.{Refusal}
-use Rattle.arr_core.specs.declared.refusal.Refusal.TheVariants.{Damaged, NoMemory}
+use Rattle.arr_core.specs.declared.refusal.Refusal.TheVariants.{Damaged, DiskFault, NoMemory, NoRoom}
 use Rattle.arr_core.specs.declared.signature.Signature.{Signature}
 use Rattle.arr_core.specs.Stores.{Coverage, Store}
+use Rattle.disk_face.specs.Disk.{Rose}
 use Rattle.http_front.specs.Replies.{reply_bytes}
 use Rattle.http_front.specs.Stream.{Item}
 use Rattle.http_front.specs.declared.reply.Reply.{Reply}
@@ -18,25 +20,28 @@ use Rattle.raster_store.specs.Views.{Index, SnapshotView}
 use Rattle.wcps_types.specs.Typed.{TypedTree}
 use Rattle.coverage_server.specs.Asking.{TextTyped}
 use Rattle.coverage_server.specs.Layouts.{Layout, LaysBy}
-use Rattle.coverage_server.specs.Machine.{Job, State, Serves, Fails, Refuses, begun}
+use Rattle.coverage_server.specs.Machine.{Job, State, Serves, Refuses, begun}
 use Rattle.coverage_server.specs.Room.{LacksRoom}
 use Rattle.coverage_server.specs.Templates.{expansion}
 
--- The state, where its tiles lie, and the names of coverages that are intact, each of whose tiles is spelled: those of
--- the store, and for each job that coverages are held for, by its number, those that were when it came.
+-- The state, where its tiles lie, the names of coverages that are intact, each of whose tiles is spelled: those of the
+-- store, and for each job that coverages are held for, by its number, those that were when it came; and the disk's count of
+-- failures.
 pub record Placed : Type 0 where
   pub state : State
   pub layout : Layout
   pub intact : List (List ℕ)
   pub held : List (ℕ × List (List ℕ))
+  pub failures : ℕ
 
 -- a session begins with a store as it lies, and nothing is held for jobs
-abbrev pub begun_with : Store → List (List Index) → List (List ℕ) → Placed
-begun_with store indexes intact = record {
+abbrev pub begun_with : Store → List (List Index) → List (List ℕ) → ℕ → Placed
+begun_with store indexes intact failures = record {
   state = begun store;
   layout = record { indexes = indexes; held = [] };
   intact = intact;
   held = [];
+  failures = failures;
 }
 
 -- the jobs were let go, and nothing is held for one
@@ -46,7 +51,12 @@ jobless p = record {
   layout = record { indexes = p.layout.indexes; held = [] };
   intact = p.intact;
   held = [];
+  failures = p.failures;
 }
+
+-- the same with another count of failures
+abbrev pub with_failures : ℕ → Placed → Placed
+with_failures failures p = record p { failures = failures }
 
 -- the numbers of the jobs that have units left, in their order
 abbrev pub reading : List Job → List ℕ
@@ -112,13 +122,14 @@ HoldsNamesBy asks (Text text) next intact old new = HoldsNames asks next intact 
 HoldsNamesBy asks (Csv text) next intact old new = HoldsNames asks next intact old new
 HoldsNamesBy asks (Refused code) next intact old new = new ≡ old
 
--- what the machine does, and what becomes of the layout and of the coverages that are intact
+-- what the machine does, and what becomes of the layout and of the coverages that are intact; no call of the disk failed
 abbrev pub ServesPlaced : Asks → Placed → Reply → Placed → Type 0
 ServesPlaced asks old reply new =
     Serves asks old.state reply new.state
     × LaysBy asks reply old.state.store old.state.next new.state.store old.layout new.layout
     × (new.intact ≡ intact_after asks reply old.intact)
     × HoldsNamesBy asks reply old.state.next old.intact old.held new.held × IsPlaced new
+    × (new.failures ≡ old.failures)
 
 -- the request asks for more blocks than are free
 abbrev pub LacksRoomAt : Asks → Placed → Type 0
@@ -149,29 +160,38 @@ MayBeDamaged (expand_template template) p = ⊥
 MayBeDamaged (process_template template) p =
     (text : List ℕ) × (expansion template p.state.store ≡ Ok text) × NamesDamaged text p
 
+-- Want of memory, a disk fault or want of room, which change nothing else. A disk fault is told only where the count of
+-- failures rose, or stands at its last value; the others leave it, and want of room is told only where it is wanting.
+abbrev pub Fails : Type 0 → Placed → Reply → Placed → Type 0
+Fails wanting old reply new =
+    Refuses NoMemory old reply new
+    ⊎ (Rose old.failures new.failures × Refuses DiskFault (with_failures new.failures old) reply new)
+    ⊎ (wanting × Refuses NoRoom old reply new)
+
 -- A step: in place of any reply a failure may be told, want of room only where the request asks for more blocks than
 -- are free, and damage only where it may be in the way of the request, with the state and the layout unchanged.
-abbrev pub Step : Type 0 → Asks → Placed → Reply → Placed → Type 0
-Step failed asks old reply new =
-    ServesPlaced asks old reply new ⊎ Fails failed (LacksRoomAt asks old) old reply new
+abbrev pub Step : Asks → Placed → Reply → Placed → Type 0
+Step asks old reply new =
+    ServesPlaced asks old reply new ⊎ Fails (LacksRoomAt asks old) old reply new
     ⊎ (MayBeDamaged asks old × Refuses Damaged old reply new)
 
 -- the step of what the pairs of a message spell, or of their refusal
-abbrev pub SpelledStep : Type 0 → Result Asks RequestError → Placed → Reply → Placed → Type 0
-SpelledStep failed (Ok asks) old reply new = Step failed asks old reply new
-SpelledStep failed (Err e) old reply new = Refuses (refusal_of e) old reply new ⊎ Refuses NoMemory old reply new
+abbrev pub SpelledStep : Result Asks RequestError → Placed → Reply → Placed → Type 0
+SpelledStep (Ok asks) old reply new = Step asks old reply new
+SpelledStep (Err e) old reply new = Refuses (refusal_of e) old reply new ⊎ Refuses NoMemory old reply new
 
 -- the step of a message: its pairs are read, or it is refused
-abbrev pub MessageStep : Type 0 → Placed → Result (List ℕ) Refusal → Reply → Placed → Type 0
-MessageStep failed old (Ok pairs) reply new = SpelledStep failed (spelled pairs) old reply new
-MessageStep failed old (Err refusal) reply new = Refuses refusal old reply new ⊎ Refuses NoMemory old reply new
+abbrev pub MessageStep : Placed → Result (List ℕ) Refusal → Reply → Placed → Type 0
+MessageStep old (Ok pairs) reply new = SpelledStep (spelled pairs) old reply new
+MessageStep old (Err refusal) reply new = Refuses refusal old reply new ⊎ Refuses NoMemory old reply new
 
--- The messages lead from one state to the other, and these are the bytes of the reply to each. Disk faults are among them
--- only where the disk may have failed, damage only where it may be in the way, and want of room only where it is wanting.
-abbrev pub Run : Type 0 → Placed → List Item → List (List ℕ) → Placed → Type 0
-Run failed old [] [] new = new ≡ old
-Run failed old (item ∷ items) (bytes ∷ replies) new =
-    (mid : Placed) × (reply : Reply) × MessageStep failed old item.asked reply mid
-    × (bytes ≡ reply_bytes item.last item.bare reply) × Run failed mid items replies new
-Run failed old [] (bytes ∷ replies) new = ⊥
-Run failed old (item ∷ items) [] new = ⊥
+-- The messages lead from one state to the other, and these are the bytes of the reply to each. A disk fault is among them
+-- where a call of the disk failed for that message, and only there; damage only where it may be in the way, and want of room
+-- only where it is wanting.
+abbrev pub Run : Placed → List Item → List (List ℕ) → Placed → Type 0
+Run old [] [] new = new ≡ old
+Run old (item ∷ items) (bytes ∷ replies) new =
+    (mid : Placed) × (reply : Reply) × MessageStep old item.asked reply mid
+    × (bytes ≡ reply_bytes item.last item.bare reply) × Run mid items replies new
+Run old [] (bytes ∷ replies) new = ⊥
+Run old (item ∷ items) [] new = ⊥

@@ -3,7 +3,6 @@ use Rattle.std.specs.Prelude.{◌≡◌, ℕ, List, [], ◌∷◌, ◌++◌, Opt
 use Rattle.std.specs.List.{concat}
 use Rattle.std.specs.Io.KnownBytes.{Appends, Consumes}
 use Rattle.arr_core.specs.declared.refusal.Refusal.{Refusal}
-use Rattle.disk_face.specs.Disk.{Rose}
 use Rattle.stream_face.specs.Faults.{AppendsPrefix, fault_told}
 use Rattle.stream_face.specs.Views.{SourceView, SinkView}
 use Rattle.stream_face.specs.Waiting.{IsFlushed}
@@ -58,23 +57,20 @@ AreSent e WriteFault replies =
     × AppendsPrefix sent e.sink_after.contents last
 
 -- A connection that ended so: the bytes that were read, the messages in them, and the bytes of the reply to each. The
--- replies are those of one run of the machine over the messages that were asked, and they went out. Disk faults are told
--- only where the disk may have failed, damage only where it may be in the way.
-pub record ServesConnection (failed : Type 0) (e : Ends) (old new : Placed) (end : ConnEnd) : Type 0 where
+-- replies are those of one run of the machine over the messages that were asked, and they went out.
+pub record ServesConnection (e : Ends) (old new : Placed) (end : ConnEnd) : Type 0 where
   pub bytes : List ℕ
   pub items : List Item
   pub replies : List (List ℕ)
   pub asked : AreAsked e end bytes items
-  pub run : Run failed old items replies new
+  pub run : Run old items replies new
   pub sent : AreSent e end replies
 
 -- serving a connection, which ended so, refines the machine's
 abbrev pub IsServed : Ends → ConnEnd → SessionView → SessionView → Type 0
-IsServed e end old new =
-    Refines (λ p q. ServesConnection (Rose old.coverages.failures new.coverages.failures) e p q end) old new
+IsServed e end old new = Refines (λ p q. ServesConnection e p q end) old new
 
 -- the reply to what a connection shows refines the machine's step of the message that is asked
 abbrev pub IsReply : Next → SessionView → Reply → SessionView → Type 0
 IsReply next old reply new =
-    (asked : Result (List ℕ) Refusal) → Shows asked next
-    → Refines (λ p q. MessageStep (Rose old.coverages.failures new.coverages.failures) p asked reply q) old new
+    (asked : Result (List ℕ) Refusal) → Shows asked next → Refines (λ p q. MessageStep p asked reply q) old new

@@ -3,7 +3,7 @@ use Rattle.std.specs.Prelude.{◌≡◌, ◌≢◌, ◌⊎◌, ℕ, ◌≤◌, I
 use Rattle.arr_core.specs.Stores.{Store}
 use Rattle.block_file.specs.Format.{IsHeader, HeaderTorn, KeepsHeader}
 use Rattle.block_file.specs.declared.header.State.TheVariants.{Open}
-use Rattle.disk_face.specs.Disk.{Rose}
+use Rattle.disk_face.specs.Disk.{Rose, Tells}
 use Rattle.disk_face.specs.declared.Disk.{Ghosts}
 use Rattle.coverage_server.specs.declared.opening.OpenFault.{OpenFault}
 use Rattle.coverage_server.specs.declared.opening.OpenFault.TheVariants as opening
@@ -16,7 +16,7 @@ use Rattle.stream_face.specs.Views.{SourceView, SinkView}
 use Rattle.raster_store.specs.Views.{Index, AreIntact}
 use Rattle.coverage_server.specs.Damage.{IsIntactIn, IsIntactNamed, KeepsSpelled}
 use Rattle.coverage_server.specs.Disk.{DiskView, IsOpenFile, Lists, ListsStore, HoldsStore, IsWant, IsNoStore, disk_view}
-use Rattle.coverage_server.specs.Runs.{Placed, begun_with, jobless}
+use Rattle.coverage_server.specs.Runs.{Placed, begun_with, jobless, with_failures}
 use Rattle.coverage_server.specs.Represents.{Places, Refines}
 use Rattle.coverage_server.specs.Serves.{Ends, ServesConnection, TellsEnd, ends_of}
 use Rattle.coverage_server.specs.Views.{ServerView, SessionView, IsSound, IsUnchanged, without_held, without_jobs}
@@ -46,7 +46,7 @@ abbrev pub LeavesUnopened : {D : Type 0} → Ghosts D → D → OpenFault → D 
 LeavesUnopened g disk fault left = IsNotOpened fault (disk_view g disk) (disk_view g left)
 
 -- A disk to which a server was closed: it lists the server's coverages, intact where they were, and holds the store of a
--- sound server. No call of it has failed.
+-- sound server. No call of the close has failed.
 pub record IsClosedTo (server : ServerView) (disk : DiskView) : Type 0 where
   pub lists : IsTrue server.honest → ListsStore disk.content server.store server.indexes
   pub intact : IsSound server → AreIntact disk.content server.store server.indexes
@@ -93,20 +93,18 @@ ends_all source sink (old ∷ olds) (new ∷ news) =
 
 -- Connections one after the other: each is served from the state that the one before left, so that the replies of all are those of
 -- one run of the machine. Each has its end, by a fault exactly where one came.
-abbrev pub ServesAll : Type 0 → List Ends → Placed → Placed → Type 0
-ServesAll failed [] old new = new ≡ old
-ServesAll failed (e ∷ ends) old new =
-    (mid : Placed) × (end : ConnEnd) × TellsEnd e end × ServesConnection failed e old mid end
-    × ServesAll failed ends mid new
+abbrev pub ServesAll : List Ends → Placed → Placed → Type 0
+ServesAll [] old new = new ≡ old
+ServesAll (e ∷ ends) old new =
+    (mid : Placed) × (end : ConnEnd) × TellsEnd e end × ServesConnection e old mid end × ServesAll ends mid new
 
 -- serving connections one after the other refines the machine's
 abbrev pub AreServed : List Ends → SessionView → SessionView → Type 0
-AreServed ends old new =
-    Refines (λ p q. ServesAll (Rose old.coverages.failures new.coverages.failures) ends p q) old new
+AreServed ends old new = Refines (ServesAll ends) old new
 
--- A session that ended by a close: it began with the store that the disk listed, and with any coverages of it that were
--- intact, and the disk lists the store that it left, whose coverages are intact that are told to be. Where each listed
--- tile was spelled it is so again: a disk that held a store holds the next one.
+-- A session that ended by a close: it began with the store that the disk listed, with any coverages of it that were intact,
+-- and with the disk's count of failures, and the disk lists the store that it left, whose coverages are intact that are told to
+-- be, and has its count. Where each listed tile was spelled it is so again: a disk that held a store holds the next one.
 abbrev pub ServesSession : List Ends → DiskView → DiskView → Type 0
 ServesSession ends old new =
     IsTrue old.honest → (store : Store) (indexes : List (List Index)) → ListsStore old.content store indexes
@@ -114,16 +112,22 @@ ServesSession ends old new =
     → (next : Placed) × ListsStore new.content next.state.store next.layout.indexes
     × All (IsIntactIn new.content next.state.store next.layout.indexes) next.intact
     × (AreIntact old.content store indexes → AreIntact new.content next.state.store next.layout.indexes)
-    × ServesAll (Rose old.failures new.failures) ends (begun_with store indexes intact) next
+    × (new.failures ≡ next.failures) × ServesAll ends (begun_with store indexes intact old.failures) next
 
--- A session that did not end by a close: the server represents the next state, or that without its jobs, which were let
--- go where memory was wanting. A disk fault is told where the count of failures has risen
--- since the opening, and where memory was wanting the header still is that of an open file.
+-- a server represents a state, but for the count of failures
+abbrev pub IsLeftAs : SessionView → Placed → Type 0
+IsLeftAs server p = Places server (with_failures server.coverages.failures p)
+
+-- A session that did not end by a close: the server represents the next state, or that without its jobs, which were let go
+-- where memory was wanting, with the count of failures that the close left. That rose where a disk fault is told, and else is as
+-- it was; and where memory was wanting the header still is that of an open file.
 pub record ServesUnclosed (fault : CloseFault) (ends : List Ends) (old : DiskView) (server : SessionView) : Type 0 where
   pub served : IsTrue old.honest → (store : Store) (indexes : List (List Index)) → ListsStore old.content store indexes
       → (intact : List (List ℕ)) → All (IsIntactIn old.content store indexes) intact
-      → (AreIntact old.content store indexes → IsSound server.coverages) × (next : Placed) × (Places server next ⊎ Places server (jobless next))
-      × ServesAll (Rose old.failures server.coverages.failures) ends (begun_with store indexes intact) next
+      → (AreIntact old.content store indexes → IsSound server.coverages) × (next : Placed)
+      × (IsLeftAs server next ⊎ IsLeftAs server (jobless next))
+      × Tells (fault ≡ closing.DiskFault) next.failures server.coverages.failures
+      × ServesAll ends (begun_with store indexes intact old.failures) next
   pub disk_fault : fault ≡ closing.DiskFault → Rose old.failures server.coverages.failures
   pub no_memory : fault ≡ closing.NoMemory → IsTrue old.honest → (blocks : ℕ) × IsHeader server.coverages.content Open blocks 0 0
   pub honest : server.coverages.honest ≡ old.honest
@@ -158,15 +162,15 @@ IsUnopened (Err (NotClosed server fault)) = ⊥
 abbrev pub Sessions : List (List Ends) → DiskView → DiskView → Type 0
 Sessions [] old new = new ≡ old
 Sessions (ends ∷ sessions) old new =
-    (mid : DiskView) × ServesSession ends old mid × (mid.honest ≡ old.honest) × (old.failures ≤ mid.failures) × Sessions sessions mid new
+    (mid : DiskView) × ServesSession ends old mid × (mid.honest ≡ old.honest) × Sessions sessions mid new
 
 -- What one machine does in sessions one after the other: each begins with the store that the one before left, as its
--- tiles lie, with the coverages that are intact, and without jobs.
-abbrev pub ServesSessions : Type 0 → List (List Ends) → Store → List (List Index) → List (List ℕ) → Placed → Type 0
-ServesSessions failed [] store indexes intact last = last ≡ begun_with store indexes intact
-ServesSessions failed (ends ∷ sessions) store indexes intact last =
-    (next : Placed) × ServesAll failed ends (begun_with store indexes intact) next
-    × ServesSessions failed sessions next.state.store next.layout.indexes next.intact last
+-- tiles lie, with the coverages that are intact, with the count of failures, and without jobs.
+abbrev pub ServesSessions : List (List Ends) → Store → List (List Index) → List (List ℕ) → ℕ → Placed → Type 0
+ServesSessions [] store indexes intact failures last = last ≡ begun_with store indexes intact failures
+ServesSessions (ends ∷ sessions) store indexes intact failures last =
+    (next : Placed) × ServesAll ends (begun_with store indexes intact failures) next
+    × ServesSessions sessions next.state.store next.layout.indexes next.intact next.failures last
 
 -- Sessions compose: all of them together are what one machine does, from a disk that listed a store to one that lists
 -- the next, and from one that held a store to one that holds it. A disk without a byte holds the store without coverages.
@@ -177,5 +181,5 @@ pub record Composes : Type 0 where
       → (last : Placed) × ListsStore new.content last.state.store last.layout.indexes
       × All (IsIntactIn new.content last.state.store last.layout.indexes) last.intact
       × (AreIntact old.content store indexes → AreIntact new.content last.state.store last.layout.indexes)
-      × ServesSessions (Rose old.failures new.failures) sessions store indexes intact last
+      × (new.failures ≡ last.failures) × ServesSessions sessions store indexes intact old.failures last
   pub begin : HoldsStore [] []

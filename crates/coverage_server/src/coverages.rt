@@ -133,6 +133,7 @@ impl<D: Disk> Coverages<D> {
         ensures honest { result.honest ≡ cells.blocks.honest }
         ensures failures { result.failures ≡ cells.blocks.failures }
         ensures overreads { result.overreads ≡ cells.blocks.overreads }
+        ensures fetched { result.fetched ≡ cells.fetched }
     {
         Coverages { catalogue, cells }
     }
@@ -459,11 +460,10 @@ impl<D: Disk> Coverages<D> {
     pub(crate) fn write_open(&mut self) -> Result<(), DiskFault>
         ensures header { OnOk result (IsTrue self.old.honest → IsOpenFile self.new.content) }
         ensures torn { IsTrue self.old.honest → HeaderTorn self.old.content self.new.content }
-        ensures indexes { self.new.indexes ≡ self.old.indexes }
-        ensures store { IsTrue self.old.honest → self.new.store ≡ self.old.store }
-        ensures held { KeepsHeld self.old self.new }
+        ensures unchanged { IsUnchanged self.old self.new }
         ensures sound { IsSound self.old → IsSound self.new }
         ensures spelled { IsTrue self.old.honest → KeepsSpelled self.old self.new }
+        ensures fetched { self.new.fetched ≡ self.old.fetched }
         ensures honest { self.new.honest ≡ self.old.honest }
         ensures told { Tells (IsErr result) self.old.failures self.new.failures }
         ensures overreads { self.new.overreads ≡ self.old.overreads }

@@ -2,7 +2,7 @@
 ghost use Rattle.std.specs.Prelude.{◌≡◌, ◌+◌, ◌≤◌, All, List, [], ◌++◌, codes, decimal, length};
 ghost use Rattle.std.specs.Prelude.{string_bytes, string_len, string_capacity, IfOk, IfErr, OnOk, OnErr};
 ghost use Rattle.raster_store.specs.Views.{SnapshotView};
-ghost use Rattle.coverage_server.specs.Answered.{AnswersJob, AnswersTree, LaysTree, IsAnswer};
+ghost use Rattle.coverage_server.specs.Answered.{AnswersJob, AnswersTree, LaysTree, IsAnswer, TellsFailures};
 ghost use Rattle.coverage_server.specs.Layouts.{LaysQuery, LetsGo, layout_of};
 ghost use Rattle.coverage_server.specs.Stages.{submit_refusal, step_refusal, fetch_refusal};
 ghost use Rattle.coverage_server.specs.Fetching.{FetchesForJob};
@@ -153,6 +153,7 @@ pub fn step_job<D: Disk>(
     ensures answer { IfOk result IsAnswer }
     ensures holding { IsHolding desk.new cells.new.coverages.held }
     ensures reads { ReadsHeld cells.old.coverages cells.new.coverages }
+    ensures told { TellsFailures result cells.old.coverages cells.new.coverages }
     ensures refused { OnErr result (still_of cells.new.coverages ≡ still_of cells.old.coverages) }
     ensures jobs { OnErr result (LeavesJob number desk.old desk.new) }
     ensures fetches { FetchesForJob number cells.old.coverages desk.old cells.new.coverages desk.new result }

@@ -13,6 +13,7 @@ mod laws;
 mod named;
 mod opening;
 mod query;
+mod requests;
 mod server;
 mod session;
 mod templates;

@@ -199,6 +199,7 @@ fn attach_all<B: Blocks>(
     ensures attached { OnOk result
         (Attaches (B.state cells.old.blocks) catalogue.now (items_of indexes.items) cells.new) }
     ensures unheld { cells.new.snapshots ≡ [] }
+    ensures fetched { cells.new.fetched ≡ cells.old.fetched }
     ensures refused { IfErr result (Departs (AreTiles catalogue.now (items_of indexes.items) → ⊥)) }
     ensures blocks { cells.new.blocks ≡ cells.old.blocks }
 {
@@ -278,6 +279,7 @@ impl<D: Disk> Server<D> {
         ensures honest { IfOk result (λ server. server.coverages.honest ≡ D.honest disk) }
         ensures failures { IfOk result (λ server. server.coverages.failures ≡ D.failures disk) }
         ensures overreads { IfOk result (λ server. server.coverages.overreads ≡ (disk_view D.Disk disk).overreads) }
+        ensures fetched { IfOk result (λ server. server.coverages.fetched ≡ 0) }
         ensures refused { IfErr result (λ left. LeavesUnopened D.Disk disk left.fault left.disk) }
     {
         let opened = match BlockFile::open(alloc, disk) {

@@ -9,7 +9,7 @@ ghost use Rattle.plan_ir.specs.Plans.{plan_view};
 ghost use Rattle.tile_exec.specs.Standing.{IsBegun, plan_of as plan_in};
 ghost use Rattle.raster_store.specs.Snapshots.{held_for};
 ghost use Rattle.coverage_server.specs.Stages.{GivesTokens, GivesQuery, GivesTyped, GivesText, GivesAnswer, FailsReading};
-ghost use Rattle.coverage_server.specs.Answered.{AnswersQuery, IsAnswer};
+ghost use Rattle.coverage_server.specs.Answered.{AnswersQuery, IsAnswer, TellsFailures};
 ghost use Rattle.coverage_server.specs.Fetching.{FetchesBoxes, FetchesForText, FetchesPlan, IsPlanOf, UnlessFails};
 ghost use Rattle.coverage_server.specs.Views.{IsHeld, still_of};
 
@@ -139,7 +139,7 @@ fn values_by<D: Disk>(
     ensures values { GivesAnswer (typed_view typed.now) cells.old.coverages result }
     ensures faults { IfErr result (FailsReading typed.now.coverages.items cells.old.coverages cells.new.coverages) }
     ensures still { still_of cells.new.coverages ≡ still_of cells.old.coverages }
-    ensures no_fewer { cells.old.coverages.failures ≤ cells.new.coverages.failures }
+    ensures told { TellsFailures result cells.old.coverages cells.new.coverages }
     ensures fetched { UnlessFails result
         (FetchesBoxes (plan_in exec.old) cells.old.coverages cells.new.coverages) }
 {
@@ -163,7 +163,7 @@ fn values_of<D: Disk>(
     ensures values { GivesAnswer (typed_view typed.now) cells.old.coverages result }
     ensures faults { IfErr result (FailsReading typed.now.coverages.items cells.old.coverages cells.new.coverages) }
     ensures still { still_of cells.new.coverages ≡ still_of cells.old.coverages }
-    ensures no_fewer { cells.old.coverages.failures ≤ cells.new.coverages.failures }
+    ensures told { TellsFailures result cells.old.coverages cells.new.coverages }
     ensures fetched { UnlessFails result (FetchesPlan (typed_view typed.now) cells.old.coverages cells.new.coverages) }
 {
     let plan = plan_of(cells.alloc, typed)?;
@@ -182,7 +182,7 @@ pub fn process<D: Disk>(
     ensures answered { AnswersQuery text.now cells.old.coverages cells.new.coverages result }
     ensures answer { IfOk result IsAnswer }
     ensures still { still_of cells.new.coverages ≡ still_of cells.old.coverages }
-    ensures no_fewer { cells.old.coverages.failures ≤ cells.new.coverages.failures }
+    ensures told { TellsFailures result cells.old.coverages cells.new.coverages }
     ensures fetched { FetchesForText text.now cells.old.coverages cells.new.coverages result }
 {
     let typed = typed_text(cells.alloc, &cells.coverages, text)?;

@@ -1,32 +1,26 @@
 //! The server: requests act on the coverages, and each gets a reply.
-ghost use Rattle.std.specs.Prelude.{◌≡◌, IfOk, IfErr, OnOk, OnErr, IsTrue};
+ghost use Rattle.std.specs.Prelude.{◌≡◌, IfOk, IfErr};
 ghost use Rattle.kvp_front.specs.Requests.{asks};
-ghost use Rattle.coverage_server.specs.Layouts.{LaysChange, LaysInsertion, LaysRest, layout_of};
-ghost use Rattle.coverage_server.specs.Machine.{Deletes, Lists, Describes};
-ghost use Rattle.coverage_server.specs.Answered.{Answered, AnsweredAs, AnswersInsertion, AnswersUpdate, IsAnswer};
-ghost use Rattle.coverage_server.specs.Answered.{LeavesTiles};
-ghost use Rattle.coverage_server.specs.Damage.{KeepsSpelled};
+ghost use Rattle.http_front.specs.declared.conn.Next.TheVariants.{Ended, ReadFault};
+ghost use Rattle.coverage_server.specs.Answered.{AnsweredAs, IsAnswer, LeavesTiles, TellsFailures};
 ghost use Rattle.coverage_server.specs.Fetching.{FetchesBounded};
 ghost use Rattle.coverage_server.specs.Holding.{IsHolding};
-ghost use Rattle.coverage_server.specs.Leaving.{Continues, KeepsDisk, Leaves, IfRefused, refusal_number, reply_of};
+ghost use Rattle.coverage_server.specs.Leaving.{Continues, Leaves, LeavesFailures, IfRefused, refusal_number, reply_of};
 ghost use Rattle.coverage_server.specs.Represents.{Refines, Steps};
 ghost use Rattle.coverage_server.specs.Serves.{IsReply, IsServed, TellsEnd, ends_of};
 ghost use Rattle.catalogue.specs.Signatures.{IsCatalogue};
-ghost use Rattle.coverage_server.specs.Views.{IsUnchanged, KeepsHeld, signatures_of};
+ghost use Rattle.coverage_server.specs.Views.{signatures_of};
 
-use crate::arguments::{copied_fields, domain_of};
 use crate::cells::AskedCells;
-use crate::coverages::Coverages;
-use crate::describing::description;
 use crate::error::AnswerError;
 use crate::jobs::{cancel_job, fetch_job, step_job, submit_query};
 use crate::query::process;
+use crate::requests::{delete, describe, insert, list, update};
 use crate::templates::{expand_template, process_template};
-use arr_core::{Name, Refusal, Signature};
 use disk_face::Disk;
 use http_front::{Conn, Next, Reply, WriteFault};
 use job_desk::JobDesk;
-use kvp_front::{Insertion, Request, Update, read_request};
+use kvp_front::{Request, read_request};
 use std::alloc::Global;
 use std::marker::Model;
 use stream_face::{Sink, Source};
@@ -63,113 +57,6 @@ impl<D: Disk> Model for Server<D> {
     ghost invariant = { λ s. IsHolding s.desk s.cells.coverages.held };
 }
 
-/// Adds a coverage.
-fn insert<D: Disk>(
-    alloc: Global,
-    coverages: &mut Coverages<D>,
-    insertion: &Insertion,
-) -> Result<Reply, AnswerError>
-    ensures answered { AnswersInsertion insertion.now coverages.old coverages.new result }
-    ensures lays { OnOk result (LaysInsertion insertion.now coverages.old coverages.new) }
-    ensures answer { IfOk result IsAnswer }
-    ensures unchanged { OnErr result (IsUnchanged coverages.old coverages.new) }
-    ensures keeps { KeepsDisk coverages.old coverages.new }
-{
-    if coverages.signature(&insertion.coverage).is_some() {
-        return Err(AnswerError::Named(Refusal::CoverageExists));
-    }
-    let domain = domain_of(alloc, &insertion.intervals, Refusal::BadDomain)?;
-    let fields = copied_fields(alloc, &insertion.fields)?;
-    let name = insertion.coverage.copy(alloc)?;
-    let reply = String::from_str(alloc, "ok\n")?;
-    let signature = Signature {
-        name,
-        domain,
-        fields,
-    };
-    coverages.insert(alloc, &signature)?;
-    Ok(Reply::Text(reply))
-}
-
-/// Writes new cells into a box of a field. What is held for jobs stays as it is.
-fn update<D: Disk>(
-    alloc: Global,
-    coverages: &mut Coverages<D>,
-    update: &Update,
-) -> Result<Reply, AnswerError>
-    ensures answered { AnswersUpdate update.now coverages.old coverages.new result }
-    ensures lays { OnOk result (IsTrue coverages.old.honest → LaysChange update.now coverages.old coverages.new) }
-    ensures answer { IfOk result IsAnswer }
-    ensures unchanged { OnErr result (IsUnchanged coverages.old coverages.new) }
-    ensures continues { Continues coverages.old coverages.new }
-    ensures spelled { IsTrue coverages.old.honest → KeepsSpelled coverages.old coverages.new }
-    ensures held { KeepsHeld coverages.old coverages.new }
-    ensures fetched { coverages.new.fetched ≡ coverages.old.fetched }
-{
-    let Some(signature) = coverages.signature(&update.coverage) else {
-        return Err(AnswerError::Named(Refusal::NoSuchCoverage));
-    };
-    let Some(field) = signature.fields.place_of(update.field.as_str()) else {
-        return Err(AnswerError::Named(Refusal::NoSuchField));
-    };
-    let area = domain_of(alloc, &update.intervals, Refusal::OutsideDomain)?;
-    let reply = String::from_str(alloc, "ok\n")?;
-    coverages.write(&update.coverage, field, &area, &update.content)?;
-    Ok(Reply::Text(reply))
-}
-
-/// Takes a coverage out. What is held for jobs stays as it is.
-fn delete<D: Disk>(
-    alloc: Global,
-    coverages: &mut Coverages<D>,
-    name: &Name,
-) -> Result<Reply, AnswerError>
-    ensures answered { Answered (Deletes name.now) ⊥ ⊥ coverages.old coverages.new result }
-    ensures lays { OnOk result
-        (LaysRest name.now coverages.old.store (layout_of coverages.old) (layout_of coverages.new)) }
-    ensures answer { IfOk result IsAnswer }
-    ensures unchanged { OnErr result (IsUnchanged coverages.old coverages.new) }
-    ensures keeps { KeepsDisk coverages.old coverages.new }
-{
-    let Some(_) = coverages.signature(name) else {
-        return Err(AnswerError::Named(Refusal::NoSuchCoverage));
-    };
-    let reply = String::from_str(alloc, "ok\n")?;
-    coverages.remove(name);
-    Ok(Reply::Text(reply))
-}
-
-/// The axes and the fields of a coverage, each on a line.
-fn describe<D: Disk>(
-    alloc: Global,
-    coverages: &Coverages<D>,
-    name: &Name,
-) -> Result<Reply, AnswerError>
-    ensures answered { Answered (Describes name.now) ⊥ ⊥ coverages.now coverages.now result }
-    ensures answer { IfOk result IsAnswer }
-{
-    let Some(signature) = coverages.signature(name) else {
-        return Err(AnswerError::Named(Refusal::NoSuchCoverage));
-    };
-    let text = description(alloc, signature)?;
-    Ok(Reply::Text(text))
-}
-
-/// The names of the coverages, each on a line.
-fn list<D: Disk>(alloc: Global, coverages: &Coverages<D>) -> Result<Reply, AnswerError>
-    ensures answered { Answered Lists ⊥ ⊥ coverages.now coverages.now result }
-    ensures answer { IfOk result IsAnswer }
-{
-    let mut text = String::new(alloc);
-    let listed = coverages.signatures(alloc)?;
-    let signatures = listed.as_slice();
-    for signature in signatures {
-        text.push_str(signature.name.as_str())?;
-        text.push_str("\n")?;
-    }
-    Ok(Reply::Text(text))
-}
-
 /// What was answered, or the refusal that is told in its place.
 fn reply_of(answered: Result<Reply, AnswerError>) -> Reply
     ensures { result ≡ reply_of answered }
@@ -187,6 +74,7 @@ impl<D: Disk> Server<D> {
         ensures tiles { LeavesTiles (asks request.now) result self.old self.new }
         ensures answer { IfOk result IsAnswer }
         ensures leaves { IfErr result (λ e. Leaves (asks request.now) (refusal_number e) self.old self.new) }
+        ensures told { TellsFailures result self.old.coverages self.new.coverages }
         ensures continues { Continues self.old.coverages self.new.coverages }
         ensures holding { IsHolding self.new.desk self.new.coverages.held }
         ensures fetches { FetchesBounded (asks request.now) (reply_of result) self.old self.new }
@@ -227,17 +115,18 @@ impl<D: Disk> Server<D> {
 
     /// Answers a request: from each state of the machine that the server represents, with its tiles where they lie, one
     /// step of it to one that it then represents, on an honest disk. In place of any reply want of memory, a disk
-    /// fault, want of room or damage may be told; damage only where a tile that is in the way of this very request is
-    /// not spelled. A refusal leaves the signatures, the indexes, the jobs and what is held for them as they were on
-    /// any disk, but that a step that is refused may have done units that its job still shows as left, and that a job
-    /// whose answer is the fault that is told is fetched. The coverages are those of a catalogue. Coverages are held
-    /// for exactly the jobs that have units left. Tiles are fetched for ProcessCoverages, ProcessTemplate and StepJob
-    /// alone: no more than the boxes of the query's plan, or of the units that were done, bound together, unless it
-    /// fails.
+    /// fault, want of room or damage may be told: a disk fault where a call of the disk failed, and only there; damage
+    /// only where a tile that is in the way of this very request is not spelled. A refusal leaves the signatures, the
+    /// indexes, the jobs and what is held for them as they were on any disk, but that a step that is refused may have
+    /// done units that its job still shows as left, and that a job whose answer is the fault that is told is fetched.
+    /// The coverages are those of a catalogue. Coverages are held for exactly the jobs that have units left. Tiles are
+    /// fetched for ProcessCoverages, ProcessTemplate and StepJob alone: no more than the boxes of the query's plan, or
+    /// of the units that were done, bound together, unless it fails.
     pub fn answer(&mut self, request: &Request) -> Reply
-        ensures step { Refines (λ p q. Steps (asks request.now) self.old self.new p result q) self.old self.new }
+        ensures step { Refines (λ p q. Steps (asks request.now) self.old p result q) self.old self.new }
         ensures catalogue { IsCatalogue (signatures_of self.old.coverages.store) }
         ensures leaves { IfRefused result (λ code. Leaves (asks request.now) code self.old self.new) }
+        ensures failures { LeavesFailures result self.old.coverages self.new.coverages }
         ensures continues { Continues self.old.coverages self.new.coverages }
         ensures holding { IsHolding self.new.desk self.new.coverages.held }
         ensures fetches { FetchesBounded (asks request.now) result self.old self.new }
@@ -250,6 +139,8 @@ impl<D: Disk> Server<D> {
 
     /// The reply to what a connection asks.
     fn reply_to(&mut self, next: Next) -> Reply
+        requires ended { next ≡ Ended → ⊥ }
+        requires read { next ≡ ReadFault → ⊥ }
         ensures step { IsReply next self.old result self.new }
         ensures continues { Continues self.old.coverages self.new.coverages }
     {
@@ -264,7 +155,8 @@ impl<D: Disk> Server<D> {
                 Err(error) => Reply::Refused(error.refusal().number()),
             },
             Next::Refused(code) => Reply::Refused(code),
-            _ => Reply::Refused(Refusal::NoMemory.number()),
+            Next::Ended => unreachable!(),
+            Next::ReadFault => unreachable!(),
         }
     }
 

@@ -3,7 +3,7 @@ ghost use Rattle.std.specs.Prelude.{◌≡◌, ◌≤◌, None, IfOk};
 ghost use Rattle.kvp_front.specs.Templates.{template_view};
 ghost use Rattle.map_templates.specs.Expansion.{asked, as_text};
 ghost use Rattle.raster_store.specs.Snapshots.{held_for};
-ghost use Rattle.coverage_server.specs.Answered.{Answered, AnswersAsked, IsAnswer};
+ghost use Rattle.coverage_server.specs.Answered.{Answered, AnswersAsked, IsAnswer, TellsFailures};
 ghost use Rattle.coverage_server.specs.Fetching.{FetchesForTemplate};
 ghost use Rattle.coverage_server.specs.Machine.{Expands};
 ghost use Rattle.coverage_server.specs.Templates.{GivesExpansion, expansion, layer_of, params_of};
@@ -119,7 +119,7 @@ pub fn process_template<D: Disk>(
     ensures answered { AnswersAsked (template_view request.now) cells.old.coverages cells.new.coverages result }
     ensures answer { IfOk result IsAnswer }
     ensures still { still_of cells.new.coverages ≡ still_of cells.old.coverages }
-    ensures no_fewer { cells.old.coverages.failures ≤ cells.new.coverages.failures }
+    ensures told { TellsFailures result cells.old.coverages cells.new.coverages }
     ensures fetched { FetchesForTemplate (template_view request.now) cells.old.coverages cells.new.coverages result }
 {
     let text = expansion(cells.alloc, &cells.coverages, request)?;

@@ -4,6 +4,7 @@ use Rattle.std.specs.Io.KnownBytes.{Consumes, IsAtEnd}
 use Rattle.httparse.specs.Grammar.{HasNoRequest}
 use Rattle.stream_face.specs.Faults.{fault_told}
 use Rattle.stream_face.specs.Views.{SourceView}
+use Rattle.http_front.specs.Limits.{max_head, max_body}
 use Rattle.http_front.specs.Head.{IsHeadAt}
 use Rattle.http_front.specs.Stream.{NeverHasHead, Finds}
 use Rattle.http_front.specs.declared.ahead.Ahead.{Ahead}
@@ -30,7 +31,7 @@ IsAhead known future Fault = HasNoRequest known
 -- the bytes that were held and those that came, no more than a head may have, and what stands at their front
 abbrev pub LooksAhead : SourceView → SourceView → List ℕ → List ℕ → Ahead → Type 0
 LooksAhead before after held now ahead =
-    (came : List ℕ) × Consumes before.remaining after.remaining came × (now ≡ held ++ came) × (length now ≤ 16384)
+    (came : List ℕ) × Consumes before.remaining after.remaining came × (now ≡ held ++ came) × (length now ≤ max_head)
     × IsAhead now after.remaining ahead
 
 -- a read failed in a look ahead exactly where it says so
@@ -47,7 +48,7 @@ abbrev pub Takes : SourceView → SourceView → ℕ → List ℕ → List ℕ �
 Takes before after n held now taken bare =
     (came : List ℕ) × Consumes before.remaining after.remaining came
     × Finds n (held ++ came) now after.remaining taken.next taken.over bare
-    × (length (held ++ came) ≤ 16384 + 1048576)
+    × (length (held ++ came) ≤ max_head + max_body)
 
 -- what a look for the next message does to a connection
 abbrev pub TakesNext : SourceView → SourceView → ConnView → ConnView → Next → Type 0

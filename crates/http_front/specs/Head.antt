@@ -13,6 +13,7 @@ use Rattle.http1.specs.declared.fields.ContentLength.{ContentLength}
 use Rattle.http1.specs.declared.fields.ContentLength.TheVariants as Length
 use Rattle.http1.specs.declared.fields.TransferEncoding.{TransferEncoding}
 use Rattle.http1.specs.declared.fields.TransferEncoding.TheVariants as Coding
+use Rattle.http_front.specs.Limits.{max_head_fields, max_body}
 use Rattle.http_front.specs.declared.head.Asked.{Asked}
 use Rattle.http_front.specs.declared.head.Asked.TheVariants.{Query, Body, Refuses}
 use Rattle.http_front.specs.declared.head.WholeHead.{WholeHead}
@@ -47,7 +48,7 @@ known_of h = known_fields (map name_and_value h.fields)
 -- BadHead for a Content-Length that is no number of 64 bits, or two that differ; BodyTooLong for a length above 1,048,576.
 abbrev pub framing_of : TransferEncoding → ContentLength → Result ℕ Refusal
 framing_of Coding.Absent Length.Absent = Ok 0
-framing_of Coding.Absent (Length.Value n) = if nat_le n 1048576 then Ok n else Err BodyTooLong
+framing_of Coding.Absent (Length.Value n) = if nat_le n max_body then Ok n else Err BodyTooLong
 framing_of Coding.Absent Length.Invalid = Err BadHead
 framing_of Coding.Chunked length = Err NotServed
 framing_of Coding.Other length = Err NotServed
@@ -100,7 +101,7 @@ pub record IsHeadAt (bytes : List ℕ) (front : WholeHead) : Type 0 where
   pub h : RequestHead
   pub reads : ReadsRequest bytes h (drop front.len bytes)
   pub len : length (print_request h) ≡ front.len
-  pub few : length h.fields ≤ 64
+  pub few : length h.fields ≤ max_head_fields
   pub within : front.len ≤ length bytes
   pub placed : IsPlaced bytes front.asked
   pub asked : IsAsked bytes front.asked (asked_by h)
@@ -112,4 +113,4 @@ pub record IsHeadAt (bytes : List ℕ) (front : WholeHead) : Type 0 where
 abbrev pub FrontOf : List ℕ → Front → Type 0
 FrontOf bytes (Whole front) = IsHeadAt bytes front
 FrontOf bytes Partial = HasNoRequest bytes
-FrontOf bytes Bad = RequestOverflows 64 bytes × (0 < length bytes)
+FrontOf bytes Bad = RequestOverflows max_head_fields bytes × (0 < length bytes)

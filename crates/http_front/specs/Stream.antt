@@ -1,5 +1,5 @@
 -- The messages of a stream, one after another, until one ends the connection or the stream stops.
-use Rattle.std.specs.Prelude.{◌≡◌, ◌≢◌, ℕ, ◌+◌, ◌≤◌, ◌||◌, ◌==◌, ◌⊎◌, Bool, true, false, List, [], ◌∷◌, ◌++◌, length, Option, Result, Ok, Err, IsOk, MatchBool, ⊤}
+use Rattle.std.specs.Prelude.{◌≡◌, ◌≢◌, ℕ, ◌+◌, ◌-◌, ◌≤◌, ◌||◌, ◌==◌, ◌⊎◌, Bool, true, false, List, [], ◌∷◌, ◌++◌, length, Option, Result, Ok, Err, IsOk, MatchBool, ⊤}
 use Rattle.std.specs.Io.KnownBytes.{IsAtEnd}
 use Rattle.arr_core.specs.declared.refusal.Refusal.{Refusal}
 use Rattle.arr_core.specs.declared.refusal.Refusal.TheVariants.{BadHead, NoMemory}
@@ -7,6 +7,7 @@ use Rattle.arr_core.specs.Refusals.{number_of}
 use Rattle.httparse.specs.Grammar.{RequestHead, print_request, ReadsRequest}
 use Rattle.stream_face.specs.Faults.{fault_told}
 use Rattle.stream_face.specs.Views.{SourceView}
+use Rattle.http_front.specs.Limits.{max_head, max_head_fields, max_messages}
 use Rattle.http_front.specs.Head.{asked_by, framing, is_last, is_bare}
 use Rattle.http_front.specs.declared.conn.Next.{Next}
 use Rattle.http_front.specs.declared.conn.Next.TheVariants.{Message, Refused, Ended, ReadFault}
@@ -14,8 +15,8 @@ use Rattle.http_front.specs.declared.conn.Next.TheVariants.{Message, Refused, En
 -- a head of at most 16,384 bytes and 64 fields stands at the front
 pub record ReadsHead (bytes : List ℕ) (h : RequestHead) (rest : List ℕ) : Type 0 where
   pub reads : ReadsRequest bytes h rest
-  pub short : length (print_request h) ≤ 16384
-  pub few : length h.fields ≤ 64
+  pub short : length (print_request h) ≤ max_head
+  pub few : length h.fields ≤ max_head_fields
 
 -- no such head stands at the front, whatever follows
 abbrev pub NeverHasHead : List ℕ → Type 0
@@ -35,7 +36,7 @@ pub record Item : Type 0 where
 
 -- The item of the message with this number, from 0. The thousandth is the last.
 abbrev pub item_of : ℕ → RequestHead → List ℕ → Item
-item_of n h body = record { asked = asked_by h body; last = is_last h || (n == 999); bare = is_bare h }
+item_of n h body = record { asked = asked_by h body; last = is_last h || (n == max_messages - 1); bare = is_bare h }
 
 -- a refusal that ends the connection
 abbrev pub refusal_item : Refusal → Bool → Item

@@ -1,5 +1,6 @@
 //! What has come of a stream and is not yet used.
 ghost use Rattle.std.specs.Prelude.{◌≡◌, ◌<◌, ◌≤◌, [], length, drop};
+ghost use Rattle.http_front.specs.Limits.{max_head};
 ghost use Rattle.http_front.specs.Bytes.{Fills, TellsFilled};
 
 use std::marker::Model;
@@ -26,12 +27,13 @@ pub struct Buffer {
 
 impl Model for Buffer {
     ghost use Rattle.std.specs.Prelude.{◌≤◌, List, ℕ, slice_range};
+    ghost use Rattle.http_front.specs.Limits.{max_head};
 
     ghost Value = { List ℕ };
 
     ghost view = { λ a. slice_range a.bytes a.start a.end };
 
-    ghost invariant = { λ a. (a.start ≤ a.end) × (a.end ≤ 16384) };
+    ghost invariant = { λ a. (a.start ≤ a.end) × (a.end ≤ max_head) };
 }
 
 impl Buffer {
@@ -48,7 +50,7 @@ impl Buffer {
     /// The bytes that are held.
     pub fn held(&self) -> &[u8]
         ensures value { result.now ≡ self.now }
-        ensures fits { length self.now ≤ 16384 }
+        ensures fits { length self.now ≤ max_head }
     {
         &self.bytes[self.start..self.end]
     }
@@ -61,7 +63,7 @@ impl Buffer {
 
     /// Reads once, behind what is held, at most so many bytes.
     pub fn fill<S: Source>(&mut self, source: &mut S, most: usize) -> Filled
-        requires room { length self.old < 16384 }
+        requires room { length self.old < max_head }
         requires some { 0 < most }
         ensures bytes { Fills (S.view source.old) (S.view source.new) self.old self.new most result }
         ensures told { TellsFilled (S.view source.old) (S.view source.new) result }

@@ -38,13 +38,14 @@ pub struct Conn {
 
 impl Model for Conn {
     ghost use Rattle.std.specs.Prelude.{◌≡◌, ◌<◌, false};
+    ghost use Rattle.http_front.specs.Limits.{max_messages};
     ghost use Rattle.http_front.specs.Connection.{ConnView};
 
     ghost Value = { ConnView };
 
     ghost view = { λ c. record { buffer = c.buffer; over = c.over; bare = c.bare; count = c.count } };
 
-    ghost invariant = { λ c. c.over ≡ false → c.count < 1000 };
+    ghost invariant = { λ c. c.over ≡ false → c.count < max_messages };
 }
 
 impl Conn {

@@ -1,6 +1,7 @@
 //! The message whose head stands at the front of a stream.
-ghost use Rattle.std.specs.Prelude.{◌≡◌, ◌≢◌, ℕ, List, true, false, ◌||◌, Result, Ok};
+ghost use Rattle.std.specs.Prelude.{◌≡◌, ◌≢◌, ℕ, ◌-◌, List, true, false, ◌||◌, Result, Ok};
 ghost use Rattle.arr_core.specs.declared.refusal.Refusal.{Refusal};
+ghost use Rattle.http_front.specs.Limits.{max_messages};
 ghost use Rattle.http_front.specs.Head.{IsHeadAt, IsPlaced, asked_at};
 ghost use Rattle.http_front.specs.Stream.{Shows, TellsNext};
 ghost use Rattle.http_front.specs.Connection.{Takes};
@@ -33,7 +34,7 @@ pub fn take_message<S: Source>(
 ) -> Taken
     requires { IsHeadAt buffer.old head }
     ensures found { Takes (S.view source.old) (S.view source.new) number buffer.old buffer.new result head.bare }
-    ensures goes_on { result.over ≡ false → number ≢ 999 }
+    ensures goes_on { result.over ≡ false → number ≢ max_messages - 1 }
     ensures told { TellsNext (S.view source.old) (S.view source.new) result.next }
 {
     let prepared = prepare(alloc, buffer.held(), head.asked);

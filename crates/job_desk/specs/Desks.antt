@@ -32,25 +32,29 @@ without n (j ∷ jobs) = cond (nat_eq j.number n) jobs (j ∷ without n jobs)
 abbrev pub taken_out : ℕ → DeskView → DeskView
 taken_out n desk = record { jobs = without n desk.jobs; next = desk.next }
 
--- no job is taken: 64 are held, or no number is left
+-- how many jobs are held at most
+abbrev pub max_jobs : ℕ
+max_jobs = 64
+
+-- no job is taken: so many are held, or no number is left
 abbrev pub IsFull : DeskView → Type 0
-IsFull desk = (64 ≤ length desk.jobs) ⊎ (desk.next ≡ None)
+IsFull desk = (max_jobs ≤ length desk.jobs) ⊎ (desk.next ≡ None)
 
 -- A job that is held: its executor has no more units left than it shows.
 pub record IsJob (j : Job) : Type 0 where
   pub ahead : left_of j.exec ≤ j.left
 
--- at most 64 jobs, whose numbers rise and are below the next one
+-- no more jobs than that, whose numbers rise and are below the next one
 pub record IsDesk (desk : DeskView) : Type 0 where
   pub each : All IsJob desk.jobs
-  pub few : length desk.jobs ≤ 64
+  pub few : length desk.jobs ≤ max_jobs
   pub rising : AllPairs (λ (a b : Job). a.number < b.number) desk.jobs
   pub below : (n : ℕ) → desk.next ≡ Some n → All (λ (j : Job). j.number < n) desk.jobs
 
 -- a plan was taken as a job: it stands last, has the next number, those names, and an executor that has done nothing
 pub record IsSubmitted (tree : PlanTree) (coverages : List (List ℕ)) (n units : ℕ) (old new : DeskView) : Type 0 where
   pub job : Job
-  pub room : length old.jobs < 64
+  pub room : length old.jobs < max_jobs
   pub given : old.next ≡ Some n
   pub number : job.number ≡ n
   pub names : job.names ≡ coverages

@@ -6,7 +6,7 @@ ghost use Rattle.std.specs.List.{remove};
 ghost use Rattle.plan_ir.specs.Plans.{plan_view};
 ghost use Rattle.plan_ir.specs.Placed.{IsPlan};
 ghost use Rattle.arr_core.specs.Numbers.{number_after};
-ghost use Rattle.job_desk.specs.Desks.{job_of, taken_out, IsSubmitted, IsTakenIn, IsFetched, IsDesk};
+ghost use Rattle.job_desk.specs.Desks.{job_of, taken_out, IsSubmitted, IsTakenIn, IsFetched, IsDesk, max_jobs};
 ghost use Rattle.job_desk.specs.Steps.{coverages_of, HasCoverages, IsLowered, IsChanged, IsRefusedStep, StepsSource, IsRefusedFetch, IsRefusedSubmit};
 
 use crate::error::{FetchError, NoSuchJob, StepError, SubmitError};
@@ -100,7 +100,7 @@ impl JobDesk {
         store: &mut H,
     ) -> Result<(u64, u64), SubmitError>
         requires next { self.old.next ≡ Some number }
-        requires room { length self.old.jobs < 64 }
+        requires room { length self.old.jobs < max_jobs }
         requires names { H.may_hold store.old number names.items }
         ensures submitted { IfOk result (λ r. IsTakenIn exec names.items r.0 r.1 self.old self.new) }
         ensures held { IfOk result (λ r. H.holds store.old r.0 names.items store.new) }

@@ -7,7 +7,7 @@ use Rattle.arr_core.specs.Domains.{IsDomain}
 use Rattle.arr_core.specs.Names.{IsName}
 use Rattle.wcps_text.specs.Lexing.{Piece, Lexed, tokens_of}
 use Rattle.wcps_text.specs.Tree.{QueryTree}
-use Rattle.wcps_text.specs.Limits.{query_height}
+use Rattle.wcps_text.specs.Limits.{max_height, query_height}
 use Rattle.wcps_text.specs.Grammar.{IsSpelled}
 use Rattle.wcps_parse.specs.Outcome.{IsWithinLimits}
 use Rattle.wcps_types.specs.Typed.{TypedTree}
@@ -40,7 +40,7 @@ pub record IsText (text : List ℕ) (q : QueryTree) : Type 0 where
   pub lexed : Lexed 0 text pieces
   pub within : IsWithinLimits (tokens_of pieces)
   pub spelled : IsSpelled (tokens_of pieces) q
-  pub low : query_height q ≤ 64
+  pub low : query_height q ≤ max_height
 
 -- Where the types of the query are accepted, its answer over cells of 64 bits is the array that the operation gives, or
 -- Overflow where a value of that leaves 64 bits somewhere. The cells are named as the coverages are.

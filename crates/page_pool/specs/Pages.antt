@@ -2,6 +2,7 @@
 use Rattle.std.specs.Prelude.{◌≡◌, ◌≢◌, ℕ, Bool, IsTrue, List, [], length, Option, Some, None, nat_eq}
 use Rattle.std.specs.Map.{lookup}
 use Rattle.lru.specs.LruCache.{LruCache}
+use Rattle.block_file.specs.Limits.{block_bytes}
 use Rattle.block_file.specs.State.{block_at}
 
 -- the pages of a cache that may be left out
@@ -33,6 +34,6 @@ pub record Renews (k : ℕ) (bytes : List ℕ) (old new : List (ℕ × List ℕ)
 
 -- each page is whole, and has what its block holds where the disk is honest
 pub record ArePages (content : List ℕ) (honest : Bool) (pages : List (ℕ × List ℕ)) : Type 0 where
-  pub whole : (k : ℕ) (page : List ℕ) → page_of pages k ≡ Some page → length page ≡ 4096
+  pub whole : (k : ℕ) (page : List ℕ) → page_of pages k ≡ Some page → length page ≡ block_bytes
   pub held : IsTrue honest
       → (k : ℕ) (page : List ℕ) → page_of pages k ≡ Some page → page ≡ block_at content k

@@ -1,6 +1,7 @@
 //! One page.
 ghost use Rattle.std.specs.Prelude.{◌≡◌, IfOk};
 
+use block_file::BLOCK_BYTES;
 use std::alloc::{AllocError, Global};
 use std::marker::Model;
 
@@ -12,12 +13,13 @@ pub(crate) struct Page {
 
 impl Model for Page {
     ghost use Rattle.std.specs.Prelude.{◌≡◌, ℕ, List, length};
+    ghost use Rattle.block_file.specs.Limits.{block_bytes};
 
     ghost Value = { List ℕ };
 
     ghost view = { λ p. p.bytes.items };
 
-    ghost invariant = { λ p. length p.bytes.items ≡ 4096 };
+    ghost invariant = { λ p. length p.bytes.items ≡ block_bytes };
 }
 
 impl Page {
@@ -25,7 +27,7 @@ impl Page {
     pub(crate) fn new(alloc: Global, bytes: &[u8; 4096]) -> Result<Page, AllocError>
         ensures { IfOk result (λ page. page ≡ bytes.now) }
     {
-        let mut page = Vec::with_capacity(alloc, 4096)?;
+        let mut page = Vec::with_capacity(alloc, BLOCK_BYTES)?;
         page.extend_from_slice(bytes)?;
         Ok(Page { bytes: page })
     }

@@ -9,5 +9,6 @@ mod Written
 mod Cells
 pub mod Snapshots
 mod Picked
+mod ReadFor
 pub mod Versions
 pub mod Stored

@@ -203,12 +203,15 @@ unheld_position job xs e =
       | inr past ↦ fails_before_first p xs k d (omega (arith, l, past))
     ])
 
-pub ruleset held_places = (held_position, unheld_position)
-
 pub held_within : (job : ℕ) (xs : List Snapshot) (i : ℕ) → IsHeldAt job xs i → i < length xs
 held_within job [] i at = absurd at
 held_within job (x ∷ xs) zero at = omega arith
 held_within job (x ∷ xs) (suc i) at = omega (arith, held_within job xs i at.1)
+
+pub within_position : (job : ℕ) (xs : List Snapshot) (i : ℕ) → position (λ (x : Snapshot). nat_eq x.job job) xs ≡ Some i → i < length xs
+within_position job xs i e = held_within job xs i (held_position job xs i e)
+
+pub ruleset held_places = (held_position, within_position, unheld_position)
 
 pub held_there : (content : List ℕ) (job : ℕ) (xs : List Snapshot) (i : ℕ) → IsHeldAt job xs i → (held_for job (snapshots_of content xs) ≡ slice_get (snapshots_of content xs) i) × (snapshots_of content (remove xs i) ≡ without_job job (snapshots_of content xs))
 held_there content job [] i at = absurd at

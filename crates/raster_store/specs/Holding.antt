@@ -1,5 +1,5 @@
 -- How a store is held: for each coverage its signature, and the index of each field.
-use Rattle.std.specs.Prelude.{◌≡◌, ◌⊎◌, ℤ, ℕ, zero, suc, ◌+◌, ◌^◌, ◌<◌, ◌≤◌, nat_eq, Bool, true, false, IsTrue, Option, Some, None}
+use Rattle.std.specs.Prelude.{◌≡◌, ◌⊎◌, ℤ, ℕ, zero, suc, ◌+◌, ◌^◌, ◌<◌, ◌≤◌, nat_eq, cond, Bool, true, false, IsTrue, Option, Some, None}
 use Rattle.std.specs.Prelude.{List, [], ◌∷◌, map, length, slice_index_or, sum_by, All}
 use Rattle.std.specs.List.{AllByRecursion as Each, AllPairs}
 use Rattle.std.specs.Str.{bytes_eq}
@@ -88,6 +88,11 @@ abbrev pub IsHeldAt : ℕ → List Snapshot → ℕ → Type 0
 IsHeldAt job [] place = ⊥
 IsHeldAt job (x ∷ snapshots) zero = nat_eq x.job job ≡ true
 IsHeldAt job (x ∷ snapshots) (suc place) = (nat_eq x.job job ≡ false) × IsHeldAt job snapshots place
+
+-- what a number reads: the coverages that are held for it, and where nothing is, those of the store
+abbrev pub coverages_for : ℕ → List Held → List Snapshot → List Held
+coverages_for job own [] = own
+coverages_for job own (x ∷ snapshots) = cond (nat_eq x.job job) x.coverages.items (coverages_for job own snapshots)
 
 -- What is true of all that is held for jobs: each is a store by itself, and each block is in use as often as all of it
 -- lists it, besides its uses by others.

@@ -30,10 +30,7 @@ job_view job v = option_map (as_held v) (held_for job v.snapshots)
 abbrev pub held_view : {B : Type 0} → ℕ → RasterView B → Option (RasterView B)
 held_view job v = option_or (job_view job v) (cond (nat_eq job 0) (Some v) None)
 
--- something is held at a place, or there is what a number reads, and a fact is true of it
-abbrev pub OnHeldAt : {B : Type 0} → ℕ → RasterView B → (RasterView B → Type 0) → Type 0
-OnHeldAt place v fact = IsSomeAnd (slice_get v.snapshots place) (λ x. fact (as_held v x))
-
+-- there is what a number reads, and a fact is true of it
 abbrev pub OnHeldFor : {B : Type 0} → ℕ → RasterView B → (RasterView B → Type 0) → Type 0
 OnHeldFor job v fact = IsSomeAnd (held_view job v) fact
 

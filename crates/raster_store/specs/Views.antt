@@ -6,15 +6,11 @@ use Rattle.arr_core.specs.declared.field.Field.{Field}
 use Rattle.arr_core.specs.declared.signature.Signature.{Signature}
 use Rattle.arr_core.specs.Stores.{Coverage, Store}
 use Rattle.arr_core.specs.Tiles.{tile_boxes}
-use Rattle.tile_index.specs.declared.entry.Entry.{Entry}
 use Rattle.tile_index.specs.Bytes.{index_bytes}
 use Rattle.block_file.specs.Format.{chain_blocks}
 use Rattle.tile_store.specs.Listing.{listed, IsBelow}
+pub use Rattle.tile_store.specs.Listing.{Index}
 use Rattle.tile_store.specs.Stored.{field_values, IsSpelled}
-
--- which entry has each tile of a field
-abbrev pub Index : Type 0
-Index = List (ℕ × Entry)
 
 -- the values of fields, each by its index
 abbrev pub values_in : List ℕ → List Axis → List Field → List Index → List (List ℤ)

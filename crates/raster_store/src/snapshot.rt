@@ -5,7 +5,7 @@ ghost use Rattle.block_file.specs.State.{times, none};
 ghost use Rattle.block_file.specs.Words.{Recounts, Covers};
 ghost use Rattle.raster_store.specs.declared.snapshot.Snapshot.{Snapshot};
 ghost use Rattle.raster_store.specs.Views.{listed_fields, listed_all};
-ghost use Rattle.raster_store.specs.Holding.{indexes_of, AreApart, NoneNamed, NoneHeld, IsHeldAt};
+ghost use Rattle.raster_store.specs.Holding.{indexes_of, coverages_for, AreApart, NoneNamed, NoneHeld, IsHeldAt};
 ghost use Rattle.raster_store.specs.Picking.{ArePickedFrom, AddsCopy};
 
 use crate::held::{Held, named, place_of};
@@ -32,11 +32,22 @@ fn position_of(snapshots: &[Snapshot], job: u64) -> Option<usize>
 #[tactic(auto, using(crate::proofs::Snapshots::held_places))]
 pub(crate) fn place_for(snapshots: &[Snapshot], job: u64) -> Option<usize>
     ensures some { IfSome result (IsHeldAt job snapshots.now) }
+    ensures within { IfSome result (λ place. place < length snapshots.now) }
     ensures none { IfNone result (NoneHeld job snapshots.now) }
 {
     match position_of(snapshots, job) {
         Some(place) => Some(place),
         None => None,
+    }
+}
+
+/// The coverages that a number reads: those that are held for it, or, where nothing is, those of the store.
+pub(crate) fn coverages_for<'a>(own: &'a [Held], snapshots: &'a [Snapshot], job: u64) -> &'a [Held]
+    ensures { result.now ≡ coverages_for job own.now snapshots.now }
+{
+    match place_for(snapshots, job) {
+        Some(place) => &snapshots[place].coverages,
+        None => own,
     }
 }
 

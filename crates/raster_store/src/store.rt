@@ -16,7 +16,7 @@ ghost use Rattle.raster_store.specs.Fetches.{HasRanks, ArePicked, IsDamagedTile,
 ghost use Rattle.raster_store.specs.Fields.{HasPatch, Puts, RefusesPut, PutsCells, RefusesPutCells};
 ghost use Rattle.raster_store.specs.Words.{OnBlocks, TellsFault, OnlyFetches, SameCoverages, Stays};
 ghost use Rattle.raster_store.specs.Words.{Keeps, Attaches, Creates, LacksRoomToCreate, IsCell, AreBoxCells};
-ghost use Rattle.raster_store.specs.Snapshots.{AreNames, held_for, OnHeldFor, OnHeldAt, Holds, HoldsNone, KeepsSnapshots, Releases};
+ghost use Rattle.raster_store.specs.Snapshots.{AreNames, held_for, OnHeldFor, Holds, HoldsNone, KeepsSnapshots, Releases};
 ghost use Rattle.raster_store.specs.Words.{FetchesBox, WritesBox, FillsBox, RefusesBox, RefusesFill, Removes};
 
 mod runs;
@@ -28,7 +28,7 @@ use crate::held::{Held, give_back_fields, named, place_held, place_of, renewed};
 use crate::picking::{RanksOf, pick_of};
 use crate::reading::TileAt;
 use crate::sizes::{created_size, has_room, rest_size};
-use crate::snapshot::{Snapshot, blocks_of, copies_of, place_for, release_all};
+use crate::snapshot::{Snapshot, blocks_of, copies_of, coverages_for, place_for, release_all};
 use crate::writing::{Cells, kind_of, numbers_for};
 use arr_core::{Cell, Domain, Name, Signature};
 use block_file::{Blocks, ChainFault, State, write_chain};
@@ -215,44 +215,6 @@ impl<B: Blocks> RasterStore<B> {
             tile: at.tile,
         };
         fetch_of(
-            self.alloc,
-            &mut self.blocks,
-            of,
-            &mut self.decoded,
-            &mut self.bytes,
-            cells,
-        )?;
-        self.fetched = self.fetched.saturating_add(1);
-        Ok(())
-    }
-
-    /// Reads the stored numbers of a tile at ranks of its points in row-major order into `cells`, one for each rank,
-    /// whatever it held before: the same as `fetch_tile_into` gives there, without the others where the tile was read
-    /// so before. `Damaged` comes where `fetch_tile_into` tells it. It counts as a tile that was fetched.
-    #[tactic(auto, using(crate::proofs::Readings::placed, crate::proofs::Readings::place_within))]
-    pub fn pick_tile_into(
-        &mut self,
-        at: TileAt,
-        ranks: &[u64],
-        cells: &mut Vec<i64>,
-    ) -> Result<(), Fault>
-        requires tile { HasTile at self.old.coverages }
-        requires ranks { HasRanks at ranks.now self.old.coverages }
-        ensures read { OnOk result (ArePicked B.state at ranks.now self.old cells.new.items) }
-        ensures why { Refuses result (IsDamagedAt B.state at self.old) ⊥ }
-        ensures frame { OnlyFetches B.state self.old self.new }
-        ensures fetched { OnOk result (Fetched 1 self.old.fetched self.new.fetched) }
-        ensures unfetched { OnErr result (self.new.fetched ≡ self.old.fetched) }
-        ensures told { TellsFault (IsErrOf result Fault.DiskFault) B.state self.old self.new }
-    {
-        let coverage = &self.coverages[at.coverage];
-        let tile = TileOf {
-            coverage,
-            field: at.field,
-            tile: at.tile,
-        };
-        let of = RanksOf { tile, ranks };
-        pick_of(
             self.alloc,
             &mut self.blocks,
             of,
@@ -457,7 +419,7 @@ impl<B: Blocks> RasterStore<B> {
     }
 
     /// Lets go the tiles that are kept decoded, the marks of those that were tested, the buffer of bytes and what the
-    /// blocks keep. Callers see no difference. Takes no memory.
+    /// blocks keep; from now on no tile is kept. Callers see no difference. Takes no memory.
     pub fn let_go(&mut self)
         ensures { self.new ≡ self.old }
     {
@@ -466,19 +428,20 @@ impl<B: Blocks> RasterStore<B> {
         self.blocks.let_go();
     }
 
-    /// Reads a tile as `fetch_tile_into` does, of the coverages that are held at a place.
-    fn fetch_held(&mut self, place: usize, at: TileAt, cells: &mut Vec<i64>) -> Result<(), Fault>
-        requires tile { OnHeldAt place self.old (λ v. HasTile at v.coverages) }
-        ensures read { OnOk result (OnHeldAt place self.old (λ v. IsFetched B.state at v cells.new.items)) }
-        ensures why { Refuses result (OnHeldAt place self.old (λ v. IsDamagedAt B.state at v)) ⊥ }
+    /// Reads a tile as `fetch_tile_into` does, of the coverages that are held for a job, by their places there. For
+    /// number 0, where nothing is held for it, of those of the store as it is.
+    pub fn fetch_at(&mut self, job: u64, at: TileAt, cells: &mut Vec<i64>) -> Result<(), Fault>
+        requires tile { OnHeldFor job self.old (λ v. HasTile at v.coverages) }
+        ensures read { OnOk result (OnHeldFor job self.old (λ v. IsFetched B.state at v cells.new.items)) }
+        ensures why { Refuses result (OnHeldFor job self.old (λ v. IsDamagedAt B.state at v)) ⊥ }
         ensures frame { OnlyFetches B.state self.old self.new }
         ensures fetched { OnOk result (Fetched 1 self.old.fetched self.new.fetched) }
         ensures unfetched { OnErr result (self.new.fetched ≡ self.old.fetched) }
         ensures told { TellsFault (IsErrOf result Fault.DiskFault) B.state self.old self.new }
     {
-        let held = &self.snapshots[place].coverages[at.coverage];
+        let coverages = coverages_for(&self.coverages, &self.snapshots, job);
         let of = TileOf {
-            coverage: held,
+            coverage: &coverages[at.coverage],
             field: at.field,
             tile: at.tile,
         };
@@ -494,61 +457,9 @@ impl<B: Blocks> RasterStore<B> {
         Ok(())
     }
 
-    /// Reads a tile as `fetch_tile_into` does, of the coverages that are held for a job, by their places there. For
-    /// number 0, where nothing is held for it, of those of the store as it is.
-    pub fn fetch_at(&mut self, job: u64, at: TileAt, cells: &mut Vec<i64>) -> Result<(), Fault>
-        requires tile { OnHeldFor job self.old (λ v. HasTile at v.coverages) }
-        ensures read { OnOk result (OnHeldFor job self.old (λ v. IsFetched B.state at v cells.new.items)) }
-        ensures why { Refuses result (OnHeldFor job self.old (λ v. IsDamagedAt B.state at v)) ⊥ }
-        ensures frame { OnlyFetches B.state self.old self.new }
-        ensures fetched { OnOk result (Fetched 1 self.old.fetched self.new.fetched) }
-        ensures unfetched { OnErr result (self.new.fetched ≡ self.old.fetched) }
-        ensures told { TellsFault (IsErrOf result Fault.DiskFault) B.state self.old self.new }
-    {
-        match place_for(&self.snapshots, job) {
-            Some(place) => self.fetch_held(place, at, cells),
-            None => self.fetch_tile_into(at, cells),
-        }
-    }
-
-    /// Reads cells of a tile as `pick_tile_into` does, of the coverages that are held at a place.
-    fn pick_held(
-        &mut self,
-        place: usize,
-        at: TileAt,
-        ranks: &[u64],
-        cells: &mut Vec<i64>,
-    ) -> Result<(), Fault>
-        requires tile { OnHeldAt place self.old (λ v. HasTile at v.coverages) }
-        requires ranks { OnHeldAt place self.old (λ v. HasRanks at ranks.now v.coverages) }
-        ensures read { OnOk result (OnHeldAt place self.old (λ v. ArePicked B.state at ranks.now v cells.new.items)) }
-        ensures why { Refuses result (OnHeldAt place self.old (λ v. IsDamagedAt B.state at v)) ⊥ }
-        ensures frame { OnlyFetches B.state self.old self.new }
-        ensures fetched { OnOk result (Fetched 1 self.old.fetched self.new.fetched) }
-        ensures unfetched { OnErr result (self.new.fetched ≡ self.old.fetched) }
-        ensures told { TellsFault (IsErrOf result Fault.DiskFault) B.state self.old self.new }
-    {
-        let coverage = &self.snapshots[place].coverages[at.coverage];
-        let tile = TileOf {
-            coverage,
-            field: at.field,
-            tile: at.tile,
-        };
-        let of = RanksOf { tile, ranks };
-        pick_of(
-            self.alloc,
-            &mut self.blocks,
-            of,
-            &mut self.decoded,
-            &mut self.bytes,
-            cells,
-        )?;
-        self.fetched = self.fetched.saturating_add(1);
-        Ok(())
-    }
-
-    /// Reads cells of a tile as `pick_tile_into` does, of the coverages that are held for a job, by their places there.
-    /// For number 0, where nothing is held for it, of those of the store as it is.
+    /// Reads the stored numbers of a tile at ranks of its points in row-major order into `cells`, one for each rank,
+    /// whatever it held before: the same as `fetch_at` gives there, without the others where the tile was read so
+    /// before. `Damaged` comes where `fetch_at` tells it. It counts as a tile that was fetched.
     pub fn pick_at(
         &mut self,
         job: u64,
@@ -565,10 +476,24 @@ impl<B: Blocks> RasterStore<B> {
         ensures unfetched { OnErr result (self.new.fetched ≡ self.old.fetched) }
         ensures told { TellsFault (IsErrOf result Fault.DiskFault) B.state self.old self.new }
     {
-        match place_for(&self.snapshots, job) {
-            Some(place) => self.pick_held(place, at, ranks, cells),
-            None => self.pick_tile_into(at, ranks, cells),
-        }
+        let coverages = coverages_for(&self.coverages, &self.snapshots, job);
+        let coverage = &coverages[at.coverage];
+        let tile = TileOf {
+            coverage,
+            field: at.field,
+            tile: at.tile,
+        };
+        let of = RanksOf { tile, ranks };
+        pick_of(
+            self.alloc,
+            &mut self.blocks,
+            of,
+            &mut self.decoded,
+            &mut self.bytes,
+            cells,
+        )?;
+        self.fetched = self.fetched.saturating_add(1);
+        Ok(())
     }
 
     /// Whether something is held for a job. Takes no memory.
@@ -589,12 +514,9 @@ impl<B: Blocks> RasterStore<B> {
         ensures some { IfSome result (λ place. OnHeldFor job self.now (λ v. IsPlaceOf name.now v.coverages place)) }
         ensures none { IfNone result (OnHeldFor job self.now (λ v. found name.now v.coverages ≡ None)) }
     {
-        match place_for(&self.snapshots, job) {
-            Some(held) => match place_of(&self.snapshots[held].coverages, name) {
-                Some(found) => Some(found),
-                None => None,
-            },
-            None => self.place(name),
+        match place_of(coverages_for(&self.coverages, &self.snapshots, job), name) {
+            Some(found) => Some(found),
+            None => None,
         }
     }
 
@@ -604,12 +526,10 @@ impl<B: Blocks> RasterStore<B> {
         requires { held_for job self.now.snapshots ≡ None → job ≡ 0 }
         ensures { OnHeldFor job self.now (λ v. option_copied result ≡ signature_in name.now v.coverages) }
     {
-        match place_for(&self.snapshots, job) {
-            Some(held) => match place_of(&self.snapshots[held].coverages, name) {
-                Some(place) => Some(&self.snapshots[held].coverages[place].signature),
-                None => None,
-            },
-            None => self.signature(name),
+        let coverages = coverages_for(&self.coverages, &self.snapshots, job);
+        match place_of(coverages, name) {
+            Some(place) => Some(&coverages[place].signature),
+            None => None,
         }
     }
 
@@ -633,19 +553,15 @@ impl<B: Blocks> RasterStore<B> {
         ensures unfetched { OnErr result (self.new.fetched ≡ self.old.fetched) }
         ensures told { TellsFault (IsErrOf result Fault.DiskFault) B.state self.old self.new }
     {
-        match place_for(&self.snapshots, job) {
-            Some(place) => {
-                let coverage = place_held(&self.snapshots[place].coverages, name);
-                let at = TileAt {
-                    coverage,
-                    field,
-                    tile,
-                };
-                self.fetch_held(place, at, cells)?;
-                Ok(())
-            }
-            None => self.fetch_tile(name, field, tile, cells),
-        }
+        let coverages = coverages_for(&self.coverages, &self.snapshots, job);
+        let coverage = place_held(coverages, name);
+        let at = TileAt {
+            coverage,
+            field,
+            tile,
+        };
+        self.fetch_at(job, at, cells)?;
+        Ok(())
     }
 
     /// Writes the metadata as a chain into blocks that stay free, and gives the first of them. As many have to be free

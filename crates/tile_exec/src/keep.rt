@@ -31,7 +31,7 @@ fn put_register(registers: &mut Vec<Outcome>, o: Outcome)
 {
     match registers.push(o) {
         Ok(()) => (),
-        Err(_) => (),
+        Err(_) => unreachable!(),
     }
 }
 
@@ -43,7 +43,7 @@ fn put_item(items: &mut Vec<Item>, item: Item)
 {
     match items.push(item) {
         Ok(()) => (),
-        Err(_) => (),
+        Err(_) => unreachable!(),
     }
 }
 

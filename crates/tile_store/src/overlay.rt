@@ -2,14 +2,13 @@
 //! row-major order of its points.
 
 ghost use Rattle.std.specs.Prelude.{◌≡◌, ℕ, ◌+◌, ◌-◌, ◌*◌, ◌<◌, ◌≤◌, ◌^◌, ◌≤ℤ◌, List, length, slice_index_or, pos, if◌then◌else◌};
-ghost use Rattle.arr_core.specs.Domains.{gap, size_of, count, AreOrdered};
-ghost use Rattle.arr_core.specs.Domains.{rank_of};
+ghost use Rattle.arr_core.specs.Domains.{count, AreOrdered, rank_of};
 ghost use Rattle.arr_core.specs.Limits.{max_points};
 ghost use Rattle.tile_store.specs.Numbers.{HasNumbers, number_of};
 ghost use Rattle.tile_store.specs.Overlays.{IsCommon, Overlaid, FirstIs, HasRun, KeepsBelow, KeepsFrom};
 
 use crate::numbers::Numbers;
-use arr_core::Axis;
+use arr_core::{Axis, count_points, distance};
 
 /// Where the coordinates that two axes have in common begin, counted from the lower bound of each, and how many there
 /// are.
@@ -18,37 +17,6 @@ pub(crate) struct Common {
     pub to: usize,
     pub from: usize,
     pub count: usize,
-}
-
-/// How far a coordinate is above another.
-fn gap_between(lo: i32, x: i32) -> usize
-    requires { lo ≤ℤ x }
-    ensures gap { result ≡ gap lo x }
-    ensures small { result < 2 ^ 32 }
-{
-    (x as i64 - lo as i64) as usize
-}
-
-/// How many coordinates an axis has.
-fn size_of(axis: &Axis) -> usize
-    requires { axis.now.lo ≤ℤ axis.now.hi }
-    ensures value { result ≡ size_of axis.now }
-    ensures small { result ≤ 2 ^ 32 }
-{
-    gap_between(axis.lo, axis.hi) + 1
-}
-
-/// How many points a box with these axes has.
-pub(crate) fn count_of(axes: &[Axis]) -> usize
-    requires ordered { AreOrdered axes.now }
-    requires few { count axes.now ≤ max_points }
-    ensures count { result ≡ count axes.now }
-    ensures small { result ≤ max_points }
-{
-    match axes {
-        [] => 1,
-        [axis, rest @ ..] => size_of(axis) * count_of(rest),
-    }
 }
 
 /// The coordinates that two axes have in common.
@@ -67,13 +35,10 @@ fn common_of(to: &Axis, from: &Axis) -> Common
             count: 0,
         };
     }
-    let to_first = gap_between(to.lo, lo);
-    let from_first = gap_between(from.lo, lo);
-    let count = gap_between(lo, hi) + 1;
     Common {
-        to: to_first,
-        from: from_first,
-        count,
+        to: distance(to.lo, lo) as usize,
+        from: distance(from.lo, lo) as usize,
+        count: distance(lo, hi) as usize + 1,
     }
 }
 
@@ -98,8 +63,8 @@ pub(crate) fn overlay(to: &mut [i64], to_axes: &[Axis], numbers: &Numbers, at: u
                     write_run(to, numbers, at, common);
                     return;
                 }
-                let to_row = count_of(to_rest);
-                let row = count_of(rest);
+                let to_row = count_points(to_rest) as usize;
+                let row = count_points(rest) as usize;
                 for step in 0..common.count {
                     let to_at = (common.to + step) * to_row;
                     let from_at = at + (common.from + step) * row;

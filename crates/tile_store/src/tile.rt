@@ -16,8 +16,7 @@ ghost use Rattle.tile_store.specs.Written.{IsRead, IsEntryDamaged, IsNewTile, Ar
 
 use crate::bytes::{read_bytes, write_bytes};
 use crate::fault::Fault;
-use crate::overlay::count_of;
-use arr_core::{Domain, FieldType};
+use arr_core::{Domain, FieldType, count_points};
 use block_file::{BLOCK_BYTES, Blocks};
 use run_tile::{decode_into, encode};
 use std::alloc::{AllocError, Global};
@@ -30,7 +29,7 @@ pub(crate) fn cell_count(tile: &Domain) -> usize
     ensures ordered { AreOrdered tile.now }
     ensures some { 0 < result }
 {
-    count_of(tile.axes())
+    count_points(tile.axes()) as usize
 }
 
 /// Reads the cells of a tile with `count` points into a buffer, its bytes by way of another, whatever the two held

@@ -1,6 +1,7 @@
 -- Units of a job are done, or one of them fails.
 use Rattle.std.proofs.Common.{List, rules, ◌≡◌, ◌++◌, ◌∙◌, ◌-◌, Ok, inl, inr, refl, sym, ap}
 use Rattle.std.specs.Prelude.{string_bytes, codes, decimal, ℕ}
+use Rattle.std.proofs.lemmas.Result.{err_from_is_err_and}
 use Rattle.job_desk.specs.Desks.{job_of}
 use Rattle.job_desk.specs.Steps.{Ends}
 use Rattle.coverage_server.specs.Holding.{ReleasesFor}
@@ -9,7 +10,8 @@ use Rattle.coverage_server.specs.Views.{ServerView, still_of}
 use Rattle.coverage_server.proofs.FaultLemmas.{any_err}
 use Rattle.coverage_server.proofs.FetchingLemmas.{refused_units, units_fetched, unless_any}
 use Rattle.coverage_server.proofs.PlacedLemmas.{ends_lay}
-use Rattle.coverage_server.proofs.StepLemmas.{absent_left, step_absent, job_told, is_asked, asked_signatures, step_done, ends_as, step_ok, step_err, refused_reads, step_leaves}
+use Rattle.coverage_server.proofs.StepLemmas.{absent_left, step_absent, job_told, is_asked, asked_signatures, step_done, ends_as, step_ok, step_err, refused_reads, step_leaves, step_quiet, step_told}
+use Rattle.coverage_server.proofs.ToldLemmas.{refused_told, told_done, told_none}
 use Rattle.coverage_server.proofs.jobs.step_job.Goals as goal
 
 pub returns-in_default-clause-answered : goal.returns-in_default-clause-answered
@@ -151,3 +153,44 @@ returns-in-Ok-clause-lays g c =
     let still : still_of x.read.coverages ≡ still_of v = ap (λ (k : ServerView × ℕ × List ℕ). k.0) x.reads.kept ∙ ap
     still_of c.in_ok-ask.ensures.coverages in
     ends_lay c.args.number c.in-Ok.field-0 v x.read.coverages w still ends
+
+pub returns-in_default-clause-told : goal.returns-in_default-clause-told
+returns-in_default-clause-told g c = told_none _ _ _ (λ f. absurd cc) refl
+
+pub returns-in_default-coverages-clause-told : goal.returns-in_default-coverages-clause-told
+returns-in_default-coverages-clause-told g c = told_none _ _ _ (λ f. absurd cc) refl
+
+pub returns-in_err-reply-clause-told : goal.returns-in_err-reply-clause-told
+returns-in_err-reply-clause-told g c =
+    let p = err_from_is_err_and c.from_residual.result c.from_residual.ensures.1 in
+    rw (p.1, p.2) (told_none _ _ _ (λ f. absurd cc) refl)
+
+pub returns-then-left-eq0-clause-told : goal.returns-then-left-eq0-clause-told
+returns-then-left-eq0-clause-told g c = told_done _ _ _ refl
+
+pub returns-in_err-ask-clause-told : goal.returns-in_err-ask-clause-told
+returns-in_err-ask-clause-told g c =
+    let p = err_from_is_err_and c.from_residual-in_err-ask.result c.from_residual-in_err-ask.ensures.1 in
+    rw (p.1, p.2) (told_none _ _ _ (λ f. absurd cc) (ap (λ (v : ServerView). v.failures) c.ask.ensures.coverages))
+
+pub returns-in-Ok-clause-told : goal.returns-in-Ok-clause-told
+returns-in-Ok-clause-told g c =
+    let x = c.in-Ok.ensures.source in
+    let w = c.step.new.source.coverages in
+    let ends : Ends (Ok c.in-Ok.field-0) (w ≡ x.read.coverages) (ReleasesFor c.args.number x.read.coverages w) = ends_as
+    (Ok c.in-Ok.field-0) (λ e. rw e refl) (λ r. r) x.ends in
+    told_done _ _ _
+    (step_quiet c.args.number c.in-Ok.field-0 c.args.cells.now.coverages c.ask.new.self.coverages x.read.coverages w
+    c.in_ok-ask.ensures.coverages x.reports ends)
+
+pub returns-in-Err-clause-told : goal.returns-in-Err-clause-told
+returns-in-Err-clause-told g c =
+    let x = c.in-Err.ensures.source in
+    let e = c.in-Err.error in
+    let ends : c.step.new.source.coverages ≡ x.read.coverages = rw x.ends refl in
+    let told = step_told e (λ (k : AskedKept). ReadsSpelled k.0 k.1 k.2)
+    (asked_state c.ask.new.self.job c.ask.new.self.places.items c.ask.new.self.coverages)
+    (asked_state x.read.job x.read.places.items x.read.coverages) x.reports in
+    rw c.step_refusal.ensures
+    (refused_told e _ c.args.cells.now.coverages c.ask.new.self.coverages x.read.coverages c.step.new.source.coverages
+    c.in_ok-ask.ensures.coverages ends told)

@@ -9,7 +9,7 @@ use Rattle.coverage_server.proofs.OpeningLemmas.{IsAttached, items_split, place_
 use Rattle.coverage_server.proofs.opening.attach_all.Goals as goal
 
 pub loop-fields-init : goal.loop-fields-init
-loop-fields-init g c = (record { values = c.requires.coverages; listed = c.requires.indexes; count = refl; tiles = tt }, refl, sym c.into_iter-fields-iterator.ensures.into_iter_gives.0, c.requires.unheld)
+loop-fields-init g c = (record { values = c.requires.coverages; listed = c.requires.indexes; count = refl; tiles = tt }, refl, sym c.into_iter-fields-iterator.ensures.into_iter_gives.0, c.requires.unheld, refl)
 
 pub index-requires : goal.index-requires
 index-requires g c =
@@ -49,6 +49,7 @@ loop-fields-preserved g c =
       c.attach.ensures.blocks ∙ c.loop-fields.invariant.1,
       c.loop-fields.invariant.2 ∙ ap (λ (r : List (Vec TileIndex Global)). c.loop-fields.yielded ++ r) (c.in-Some.ensures.steps.0) ∙ sym (append_assoc c.loop-fields.yielded (c.in-Some.fields ∷ []) c.next.new.self.rest.items),
       c.attach.ensures.snapshots ∙ c.loop-fields.invariant.3,
+      c.in_default.ensures.attached.fetched ∙ c.loop-fields.invariant.4,
     )
 
 pub returns-in-Err-clause-refused : goal.returns-in-Err-clause-refused

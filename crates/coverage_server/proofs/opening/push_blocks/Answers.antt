@@ -4,8 +4,7 @@ use Rattle.std.proofs.lemmas.List.{take_all}
 use Rattle.block_file.specs.State.{times}
 use Rattle.block_file.proofs.Times.{times_append}
 use Rattle.raster_store.specs.Views.{Index, listed_fields}
-use Rattle.coverage_server.proofs.MetadataLemmas.{times_listed}
-use Rattle.coverage_server.proofs.OpeningLemmas.{no_field_lists, one_field_more}
+use Rattle.raster_store.proofs.Snapshots.{no_field_lists, one_field_more, times_listed}
 use Rattle.coverage_server.proofs.opening.push_blocks.Goals as goal
 
 pub loop-index-init : goal.loop-index-init

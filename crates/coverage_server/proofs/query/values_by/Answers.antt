@@ -14,6 +14,9 @@ use Rattle.coverage_server.proofs.FetchingLemmas.{cells_fail, plan_bounded}
 use Rattle.coverage_server.proofs.StepLemmas.{asked_cells, asked_honest}
 use Rattle.coverage_server.proofs.TileLemmas.{reads_store}
 use Rattle.coverage_server.proofs.ValueLemmas.{reading_failed, text_given, fault_given}
+use Rattle.coverage_server.specs.Answered.{TellsFailures}
+use Rattle.coverage_server.specs.Stages.{cell_refusal}
+use Rattle.coverage_server.proofs.ToldLemmas.{report_told, told_done, told_none}
 use Rattle.coverage_server.proofs.query.values_by.Goals as goal
 
 pub returns-in_err-run_down-clause-faults : goal.returns-in_err-run_down-clause-faults
@@ -77,3 +80,32 @@ returns-in-Refused-clause-values g c = λ sure.
     let answer = c.in_ok-text.ensures (cells_of v.store asked) (subst (λ f. StandsFor f exec) cells stands) in
     fault_given v.store (typed_view c.args.typed.now) (plan_in c.args.exec.now) (plan_in exec) c.requires.plan run.plan asked c.coverages.ensures c.in-Refused.fault
     (subst (IsAnswer (planned (cells_of v.store asked) (plan_in exec))) c.in-Refused.is answer) ∙ ap Err (sym c.refusal.ensures)
+
+pub returns-in_err-ask-clause-told : goal.returns-in_err-ask-clause-told
+returns-in_err-ask-clause-told g c =
+    let p = err_from_is_err_and c.from_residual.result c.from_residual.ensures.1 in
+    rw (p.1, p.2) (told_none _ _ _ (λ f. absurd cc) (ap (λ (v : ServerView). v.failures) c.ask.ensures.coverages))
+
+pub returns-in_err-run_down-clause-told : goal.returns-in_err-run_down-clause-told
+returns-in_err-run_down-clause-told g c =
+    let p = err_from_is_err_and c.from_residual-in_err-run_down.result c.from_residual-in_err-run_down.ensures.1 in
+    let e = c.in_err-run_down.field-0.0 in
+    let w = c.run_down.new.source.coverages in
+    rw (p.1, p.2)
+    (subst (λ (v : ServerView). TellsFailures (Err (cell_refusal e)) v w) c.in_ok-ask.ensures.coverages
+    (report_told e _ c.ask.new.self.coverages.failures w.failures c.in_err-run_down.ensures.reports))
+
+pub returns-in_err-text-clause-told : goal.returns-in_err-text-clause-told
+returns-in_err-text-clause-told g c =
+    let p = err_from_is_err_and c.from_residual-in_err-text.result c.from_residual-in_err-text.ensures.1 in
+    rw (p.1, p.2)
+    (told_none _ _ _ (λ f. absurd cc) (c.in_ok-run_down.ensures.reports ∙ ap (λ (v : ServerView). v.failures) c.in_ok-ask.ensures.coverages))
+
+pub returns-in-Text-clause-told : goal.returns-in-Text-clause-told
+returns-in-Text-clause-told g c =
+    told_done _ _ _ (c.in_ok-run_down.ensures.reports ∙ ap (λ (v : ServerView). v.failures) c.in_ok-ask.ensures.coverages)
+
+pub returns-in-Refused-clause-told : goal.returns-in-Refused-clause-told
+returns-in-Refused-clause-told g c =
+    told_none _ _ _ (λ f. absurd cc)
+    (c.in_ok-run_down.ensures.reports ∙ ap (λ (v : ServerView). v.failures) c.in_ok-ask.ensures.coverages)

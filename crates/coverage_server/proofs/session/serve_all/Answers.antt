@@ -12,8 +12,6 @@ loop-connection-preserved g c =
     let i = c.loop-connection.connection-index in
     let inside : i < length c.loop-connection.connections = omega arith in
     let first : i < length c.args.connections.now = omega (arith, inside, v.count) in
-    let fewer = c.serve_connection-end.ensures.continues.no_fewer in
-    let so_far = v.continues.no_fewer in
     record {
       served = λ sure s r.
           let before = v.served sure s r in
@@ -21,8 +19,8 @@ loop-connection-preserved g c =
             after.0,
             after.1,
             served-more g.R.Source.view g.W.Sink.view c.args.connections.now c.loop-connection.connections i
-                c.connection-item.result (c.serve_connection-end.new.reader, c.serve_connection-end.new.writer) _ _ _ s
-                before.0 after.0 _ v.count first v.rest so_far fewer before.2
+                c.connection-item.result (c.serve_connection-end.new.reader, c.serve_connection-end.new.writer) s
+                before.0 after.0 _ v.count first v.rest before.2
                 c.serve_connection-end.ensures.told after.2,
           );
       rest = rest_kept c.args.connections.now c.loop-connection.connections i (c.serve_connection-end.new.reader, c.serve_connection-end.new.writer) v.rest;

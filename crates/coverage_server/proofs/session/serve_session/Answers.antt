@@ -8,8 +8,7 @@ use Rattle.coverage_server.specs.Damage.{IsIntactIn, IsIntactNamed}
 use Rattle.coverage_server.specs.Disk.{ListsStore}
 use Rattle.coverage_server.specs.Layouts.{Layout}
 use Rattle.coverage_server.specs.Runs.{begun_with}
-use Rattle.coverage_server.proofs.ServingLemmas.{rose-by}
-use Rattle.coverage_server.proofs.SessionLemmas.{all-later, begins, sound_from, unclosed, unclosed_left}
+use Rattle.coverage_server.proofs.SessionLemmas.{begins, sound_from, unclosed, unclosed_left}
 use Rattle.coverage_server.proofs.session.serve_session.Goals as goal
 
 pub returns-in-Ok-close_with_retry-clause-ends : goal.returns-in-Ok-close_with_retry-clause-ends
@@ -21,13 +20,12 @@ returns-in-Ok-close_with_retry-clause-ends g c =
     let after = subst IsTrue (sym c.serve_all.ensures.continues.honest) sure in
     let sound = sound_from _ c.in-Ok.server.coverages store indexes found.0 found.1 from.sound in
     let began = begins c.in-Ok.server c.in-Ok.ensures.desk c.in-Ok.ensures.unheld store indexes found.0 found.1 _
-    from.spelled intact whole in
-    let run = c.serve_all.ensures.served sure (begun_with store indexes intact) began in
+    from.spelled intact whole (g.D.Disk.failures c.args.disk) c.in-Ok.ensures.failures in
+    let run = c.serve_all.ensures.served sure (begun_with store indexes intact (g.D.Disk.failures c.args.disk)) began in
     let served = c.serve_all.new.server.coverages in
     let later = served.indexes in
     let content = g.D.Disk.content c.in-Ok-close_with_retry.disk in
-    let close = c.in-Ok-close_with_retry.ensures.closed in
-    rw (← c.in-Ok.ensures.failures) (
+    let close = c.in-Ok-close_with_retry.ensures.closed in (
       run.0,
       subst (λ (l : Layout). ListsStore content run.0.state.store l.indexes) (sym run.1.layout)
           (subst (λ (s : Store). ListsStore content s later) (sym run.1.state.store) (close.lists after)),
@@ -39,7 +37,8 @@ returns-in-Ok-close_with_retry-clause-ends g c =
       λ spelled. subst (λ (l : Layout). AreIntact content run.0.state.store l.indexes) (sym run.1.layout)
           (subst (λ (s : Store). AreIntact content s later) (sym run.1.state.store)
           (close.intact (c.serve_all.ensures.continues.sound (sound spelled)))),
-      all-later (rose-by _ _ _ (omega (arith, close.failures))) _ _ _ run.2,
+      close.failures ∙ sym run.1.failures,
+      run.2,
     )
 
 pub returns-in-Err-close_with_retry-clause-ends : goal.returns-in-Err-close_with_retry-clause-ends

@@ -31,26 +31,26 @@ pub overlay-requires : goal.overlay-requires
 overlay-requires t c =
     let a_is = by_first c.args.to_axes.now c.a-item.result c.in-len1-up.len_at_least c.a-item.is in
     let b_is = by_first c.args.axes.now c.b-item.result c.in-len1-up-axes.len_at_least c.b-item.is in
-    let to_within = row_within c.a-item.result _ _ c.count_of-to_row.result c.common_of-common.result.to c.common_of-common.result.count c.loop-step.step (length c.loop-step.to) a_is c.count_of-to_row.ensures.count c.common_of-common.ensures.common.to_within c.loop-step-test.true (omega arith) in
-    let within = row_within c.b-item.result _ _ c.count_of-row.result c.common_of-common.result.from c.common_of-common.result.count c.loop-step.step (count c.args.axes.now) b_is c.count_of-row.ensures.count c.common_of-common.ensures.common.from_within c.loop-step-test.true refl in
-    let row = c.count_of-to_row.result in
+    let to_within = row_within c.a-item.result _ _ c.count_points-to_row.result c.common_of-common.result.to c.common_of-common.result.count c.loop-step.step (length c.loop-step.to) a_is c.count_points-to_row.ensures.count c.common_of-common.ensures.common.to_within c.loop-step-test.true (omega arith) in
+    let within = row_within c.b-item.result _ _ c.count_points-row.result c.common_of-common.result.from c.common_of-common.result.count c.loop-step.step (count c.args.axes.now) b_is c.count_points-row.ensures.count c.common_of-common.ensures.common.from_within c.loop-step-test.true refl in
+    let row = c.count_points-to_row.result in
     let at = (c.common_of-common.result.to + c.loop-step.step) * row in
-    let long = length_lent at (at + row - at) row c.loop-step.to _ refl (omega arith) to_within ∙ c.count_of-to_row.ensures.count in
-    let some = has_fewer c.args.numbers.now _ _ (omega (arith, within, c.count_of-row.ensures.count)) c.requires.from in
+    let long = length_lent at (at + row - at) row c.loop-step.to _ refl (omega arith) to_within ∙ c.count_points-to_row.ensures.count in
+    let some = has_fewer c.args.numbers.now _ _ (omega (arith, within, c.count_points-row.ensures.count)) c.requires.from in
     let small = rest_few c.a-item.result _ _ a_is c.requires.to_few in
     (search rules, (long, (some, ((rw a_is at c.requires.to_ordered).1, ((rw b_is at c.requires.ordered).1, (small, omega (arith, within)))))))
 
 pub loop-step-preserved : goal.loop-step-preserved
 loop-step-preserved t c =
-    let within = row_within c.a-item.result _ _ c.count_of-to_row.result c.common_of-common.result.to c.common_of-common.result.count c.loop-step.step (length c.loop-step.to)
-    (by_first c.args.to_axes.now c.a-item.result c.in-len1-up.len_at_least c.a-item.is) c.count_of-to_row.ensures.count c.common_of-common.ensures.common.to_within c.loop-step-test.true (omega arith) in
-    let row = c.count_of-to_row.result in
+    let within = row_within c.a-item.result _ _ c.count_points-to_row.result c.common_of-common.result.to c.common_of-common.result.count c.loop-step.step (length c.loop-step.to)
+    (by_first c.args.to_axes.now c.a-item.result c.in-len1-up.len_at_least c.a-item.is) c.count_points-to_row.ensures.count c.common_of-common.ensures.common.to_within c.loop-step-test.true (omega arith) in
+    let row = c.count_points-to_row.result in
     let at = (c.common_of-common.result.to + c.loop-step.step) * row in
-    rows_step _ _ _ _ _ _ _ _ _ c.overlay.new.to c.count_of-to_row.ensures.count c.loop-step.invariant within (omega arith)
+    rows_step _ _ _ _ _ _ _ _ _ c.overlay.new.to c.count_points-to_row.ensures.count c.loop-step.invariant within (omega arith)
     (length_lent at (at + row - at) row c.loop-step.to c.overlay.new.to c.overlay.auto.to (omega arith) within) c.overlay.ensures
 
 pub returns-after-loop-step : goal.returns-after-loop-step
 returns-after-loop-step t c =
     let all : c.loop-step.step ≡ c.common_of-common.result.count = omega arith in
     written_all _ _ _ _ _ _ _ _ _ _ (number_of c.args.numbers.now) _ _ (by_first c.args.to_axes.now c.a-item.result c.in-len1-up.len_at_least c.a-item.is) (by_first c.args.axes.now c.b-item.result c.in-len1-up-axes.len_at_least c.b-item.is)
-    c.count_of-to_row.ensures.count c.count_of-row.ensures.count c.common_of-common.ensures.common (rw all at c.loop-step.invariant)
+    c.count_points-to_row.ensures.count c.count_points-row.ensures.count c.common_of-common.ensures.common (rw all at c.loop-step.invariant)

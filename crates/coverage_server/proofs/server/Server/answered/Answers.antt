@@ -1,14 +1,17 @@
 -- What the parts on the coverages answer, over states.
-use Rattle.std.proofs.Common.{rules, ◌≡◌, ℕ, List, refl, ap, subst}
+use Rattle.std.proofs.Common.{rules, ◌≡◌, ℕ, List, Result, Err, refl, ap, subst}
 use Rattle.std.specs.Prelude.{◌⊎◌, string_bytes}
 use Rattle.kvp_front.specs.Contents.{content_view}
-use Rattle.kvp_front.specs.Requests.{submit_query}
+use Rattle.kvp_front.specs.Requests.{cancel_job, fetch_job, submit_query}
 use Rattle.kvp_front.specs.Templates.{template_view}
-use Rattle.coverage_server.specs.Answered.{Answered, AnswersJob}
+use Rattle.http_front.specs.declared.reply.Reply.{Reply}
+use Rattle.coverage_server.specs.declared.error.AnswerError.{AnswerError}
+use Rattle.coverage_server.specs.declared.error.AnswerError.TheVariants.{DiskFault}
+use Rattle.coverage_server.specs.Answered.{Answered, AnswersInsertion, AnswersJob}
 use Rattle.coverage_server.specs.Damage.{SpoilsText}
 use Rattle.coverage_server.specs.Fetching.{FetchesNone, FetchesText, UnlessFails}
 use Rattle.coverage_server.specs.Layouts.{LaysHeld, layout_of}
-use Rattle.coverage_server.specs.Machine.{Answers, AnswersTemplate, Inserts, Updates, Deletes}
+use Rattle.coverage_server.specs.Machine.{Answers, AnswersTemplate, Deletes, Describes, Expands, Inserts, Lists, Updates}
 use Rattle.coverage_server.specs.Views.{ServerView}
 use Rattle.coverage_server.proofs.FaultLemmas.{any_err, any_ok, each_err, err_each, on_err, on_ok}
 use Rattle.coverage_server.proofs.FetchingLemmas.{unless_told}
@@ -17,6 +20,7 @@ use Rattle.coverage_server.proofs.HoldingLemmas.{unheld_zero, holding_same}
 use Rattle.coverage_server.proofs.PlacedLemmas.{refused_leaves, still_laid}
 use Rattle.coverage_server.proofs.SpelledLemmas.{insert_keeps, delete_keeps, still_spelled, stepped_spelled, unheld_spelled}
 use Rattle.coverage_server.proofs.StandingLemmas.{lifted}
+use Rattle.coverage_server.proofs.ToldLemmas.{told_quiet}
 use Rattle.coverage_server.proofs.server.Server.answered.Goals as goal
 
 pub returns-in-InsertCoverage-clause-answered : goal.returns-in-InsertCoverage-clause-answered
@@ -348,3 +352,81 @@ returns-in-ProcessCoverages-clause-fetches g c =
     rw (← c.self.view_is, c.in-ProcessCoverages.is)
     (unless_told c.process.result _
     (subst (λ (q : List ℕ). UnlessFails c.process.result (FetchesNone v w ⊎ FetchesText q v w)) is c.process.ensures.fetched))
+
+pub returns-in-InsertCoverage-clause-told : goal.returns-in-InsertCoverage-clause-told
+returns-in-InsertCoverage-clause-told g c =
+    let v = c.self.inside.cells.coverages in
+    let w = c.insert.new.coverages in
+    rw (← c.self.view_is) (told_quiet _ v.failures w.failures
+    (λ f. subst (AnswersInsertion c.in-InsertCoverage.insertion v w) f c.insert.ensures.answered) c.insert.ensures.keeps.failures)
+
+pub returns-in-UpdateCoverage-clause-told : goal.returns-in-UpdateCoverage-clause-told
+returns-in-UpdateCoverage-clause-told g c =
+    rw (← c.self.view_is) c.update.ensures.told
+
+pub returns-in-DeleteCoverage-clause-told : goal.returns-in-DeleteCoverage-clause-told
+returns-in-DeleteCoverage-clause-told g c =
+    let v = c.self.inside.cells.coverages in
+    let w = c.delete.new.coverages in
+    rw (← c.self.view_is) (told_quiet _ v.failures w.failures
+    (λ f. subst (λ (r : Result Reply AnswerError). Answered (Deletes c.in-DeleteCoverage.name) ⊥ ⊥ v w r) f c.delete.ensures.answered)
+    c.delete.ensures.keeps.failures)
+
+pub returns-in-ListCoverages-clause-told : goal.returns-in-ListCoverages-clause-told
+returns-in-ListCoverages-clause-told g c =
+    let v = c.self.inside.cells.coverages in
+    rw (← c.self.view_is) (told_quiet _ v.failures v.failures
+    (λ f. subst (λ (r : Result Reply AnswerError). Answered Lists ⊥ ⊥ v v r) f c.list.ensures.answered) refl)
+
+pub returns-in-DescribeCoverage-clause-told : goal.returns-in-DescribeCoverage-clause-told
+returns-in-DescribeCoverage-clause-told g c =
+    let v = c.self.inside.cells.coverages in
+    rw (← c.self.view_is) (told_quiet _ v.failures v.failures
+    (λ f. subst (λ (r : Result Reply AnswerError). Answered (Describes c.in-DescribeCoverage.name) ⊥ ⊥ v v r) f c.describe.ensures.answered) refl)
+
+pub returns-in-ExpandTemplate-clause-told : goal.returns-in-ExpandTemplate-clause-told
+returns-in-ExpandTemplate-clause-told g c =
+    let v = c.self.inside.cells.coverages in
+    let t = template_view c.in-ExpandTemplate.template in
+    rw (← c.self.view_is) (told_quiet _ v.failures v.failures
+    (λ f. subst (λ (r : Result Reply AnswerError). Answered (Expands t) ⊥ ⊥ v v r) f c.expand_template.ensures.answered) refl)
+
+pub returns-in-ProcessCoverages-clause-told : goal.returns-in-ProcessCoverages-clause-told
+returns-in-ProcessCoverages-clause-told g c =
+    rw (← c.self.view_is) c.process.ensures.told
+
+pub returns-in-ProcessTemplate-clause-told : goal.returns-in-ProcessTemplate-clause-told
+returns-in-ProcessTemplate-clause-told g c =
+    rw (← c.self.view_is) c.process_template.ensures.told
+
+pub returns-in-StepJob-clause-told : goal.returns-in-StepJob-clause-told
+returns-in-StepJob-clause-told g c =
+    rw (← c.self.view_is) c.step_job.ensures.told
+
+pub returns-in-SubmitQuery-clause-told : goal.returns-in-SubmitQuery-clause-told
+returns-in-SubmitQuery-clause-told g c =
+    let v = c.self.inside.cells.coverages in
+    let w = c.submit_query.new.cells.coverages in
+    let q = c.as_str-in-SubmitQuery.result.now in
+    rw (← c.self.view_is) (told_quiet _ v.failures w.failures
+    (λ f. let told : AnswersJob (submit_query q) v c.self.inside.desk w c.submit_query.new.desk (Err DiskFault) = subst
+    (AnswersJob (submit_query q) v c.self.inside.desk w c.submit_query.new.desk) f c.submit_query.ensures.answered in told.0)
+    (ap (λ (u : ServerView). u.failures) c.submit_query.ensures.changes.others))
+
+pub returns-in-CancelJob-clause-told : goal.returns-in-CancelJob-clause-told
+returns-in-CancelJob-clause-told g c =
+    let v = c.self.inside.cells.coverages in
+    let w = c.cancel_job.new.cells.coverages in
+    rw (← c.self.view_is) (told_quiet _ v.failures w.failures
+    (λ f. let told : AnswersJob (cancel_job c.in-CancelJob.job) v c.self.inside.desk w c.cancel_job.new.desk (Err DiskFault) = subst
+    (AnswersJob (cancel_job c.in-CancelJob.job) v c.self.inside.desk w c.cancel_job.new.desk) f c.cancel_job.ensures.answered
+    in told.0)
+    (ap (λ (u : ServerView). u.failures) c.cancel_job.ensures.changes.others))
+
+pub returns-in-FetchJob-clause-told : goal.returns-in-FetchJob-clause-told
+returns-in-FetchJob-clause-told g c =
+    let v = c.self.inside.cells.coverages in
+    rw (← c.self.view_is) (told_quiet _ v.failures v.failures
+    (λ f. let told : AnswersJob (fetch_job c.in-FetchJob.job) v c.self.inside.desk v c.fetch_job.new.desk (Err DiskFault) = subst
+    (AnswersJob (fetch_job c.in-FetchJob.job) v c.self.inside.desk v c.fetch_job.new.desk) f (c.fetch_job.ensures.answered v)
+    in told.0) refl)

@@ -15,8 +15,8 @@ returns-in-Ok-write_open-clause-opened g c honest =
     let file = subst (λ (b : Bool). IsTrue b) (sym c.in-Ok.ensures.shows.same_honest) honest in
     let kept = subst (λ (b : Bool). IsTrue b) (sym shows.honest) file in
     let lists = rw c.in-Ok.ensures.shows.same_content at (c.in-Ok-coverages_of.ensures.lists file) in
-    let store = ap (λ (v : ServerView). v.store) c.new.ensures ∙ c.write_open.ensures.store kept in
-    let indexes = ap (λ (v : ServerView). v.indexes) c.new.ensures ∙ c.write_open.ensures.indexes in
+    let store = ap (λ (v : ServerView). v.store) c.new.ensures ∙ c.write_open.ensures.unchanged.store kept in
+    let indexes = ap (λ (v : ServerView). v.indexes) c.new.ensures ∙ c.write_open.ensures.unchanged.indexes in
     record {
       lists = record {
         lists = rw (store, indexes) lists.lists;
@@ -32,8 +32,8 @@ returns-in-Ok-write_open-clause-opened g c honest =
           let indexes_now = ap (λ (v : ServerView). v.indexes) c.new.ensures in
           subst (λ (v : ServerView). IsIntactNamed v name) (sym c.new.ensures)
           (opened_spelled _ c.in-Ok-coverages_of.coverages c.write_open.new.self
-          (shows.content ∙ c.in-Ok.ensures.shows.same_content) (c.write_open.ensures.store kept)
-          c.write_open.ensures.indexes (c.write_open.ensures.spelled kept) name (rw (← store_now, ← indexes_now) whole));
+          (shows.content ∙ c.in-Ok.ensures.shows.same_content) (c.write_open.ensures.unchanged.store kept)
+          c.write_open.ensures.unchanged.indexes (c.write_open.ensures.spelled kept) name (rw (← store_now, ← indexes_now) whole));
       header = subst (λ (v : ServerView). IsOpenFile v.content) (sym c.new.ensures) (c.in-Ok-write_open.ensures.header kept);
     }
 

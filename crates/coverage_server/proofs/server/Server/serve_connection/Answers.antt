@@ -4,7 +4,7 @@ use Rattle.std.specs.Prelude.{IsTrue}
 use Rattle.std.proofs.KnownBytes.{Appends-nil, Consumes-nil}
 use Rattle.stream_face.specs.Faults.{fault_told}
 use Rattle.http_front.proofs.TakenLemmas.{found_item}
-use Rattle.coverage_server.proofs.ServingLemmas.{ended, faulted, answered, unwritten, continued, roomy, step-later, rose-by, rose-since, quiet_item, Continues-trans, Continues-refl}
+use Rattle.coverage_server.proofs.ServingLemmas.{ended, faulted, answered, unwritten, continued, roomy, quiet_item, Continues-trans, Continues-refl}
 use Rattle.coverage_server.proofs.server.Server.serve_connection.Goals as goal
 
 pub serving-init : goal.serving-init
@@ -58,8 +58,7 @@ returns-in-Err-clause-served g c =
     let z = c.reply_to-reply.ensures.step x.0.asked x.2 (subst IsTrue (sym inv.continues.honest) sure) y.0 y.1 in (
       z.0,
       z.1,
-      unwritten y.2 (g.R.Source.view c.next.new.source) f.0 f.1 _ x.0 x.1 z.0 _ _
-          (rose-by _ _ _ c.reply_to-reply.ensures.continues.no_fewer) (step-later (rose-since _ _ _ inv.continues.no_fewer) _ _ _ _ z.2) _ _
+      unwritten y.2 (g.R.Source.view c.next.new.source) f.0 f.1 _ x.0 x.1 z.0 _ z.2 _ _
           x.3 x.4 _ c.in-Err.ensures.sent.0,
     )
 
@@ -80,8 +79,7 @@ returns-then-is_over-clause-served g c =
     let z = c.reply_to-reply.ensures.step x.0.asked x.2 (subst IsTrue (sym inv.continues.honest) sure) y.0 y.1 in (
       z.0,
       z.1,
-      answered y.2 (g.R.Source.view c.next.new.source) f.0 f.1 _ x.0 x.1 z.0 _ _
-          (rose-by _ _ _ c.reply_to-reply.ensures.continues.no_fewer) (step-later (rose-since _ _ _ inv.continues.no_fewer) _ _ _ _ z.2) _ _
+      answered y.2 (g.R.Source.view c.next.new.source) f.0 f.1 _ x.0 x.1 z.0 _ z.2 _ _
           x.3 x.4 _ (sym c.is_over.ensures ∙ c.if-is_over.true) c.in-Ok.ensures.sent.0 c.in-Ok.ensures.flushed,
     )
 
@@ -108,9 +106,7 @@ serving-preserved-else-is_over g c =
           let z = c.reply_to-reply.ensures.step x.0.asked x.2 (subst IsTrue (sym inv.continues.honest) sure) y.0 y.1 in (
             z.0,
             z.1,
-            continued y.2 later f.0 f.1 _ x.0 x.1 z.0 _ _
-                (rose-by _ _ _ c.reply_to-reply.ensures.continues.no_fewer)
-                (step-later (rose-since _ _ _ inv.continues.no_fewer) _ _ _ _ z.2) _ _ x.3 x.4 _ _ counted goes_on
+            continued y.2 later f.0 f.1 _ x.0 x.1 z.0 _ z.2 _ _ x.3 x.4 _ _ counted goes_on
                 c.in-Ok.ensures.sent.0 c.in-Ok.ensures.flushed,
           );
       read = quiet_item (g.R.Source.view c.serving.reader) (g.R.Source.view c.next.new.source) c.next.result c.next.ensures.told c.in_default.not-Ended c.in_default.not-ReadFault ∙ inv.read;
@@ -134,9 +130,7 @@ serving-preserved-else-is_over-2 g c =
           let z = c.reply_to-reply.ensures.step x.0.asked x.2 (subst IsTrue (sym inv.continues.honest) sure) y.0 y.1 in (
             z.0,
             z.1,
-            continued y.2 later f.0 f.1 _ x.0 x.1 z.0 _ _
-                (rose-by _ _ _ c.reply_to-reply.ensures.continues.no_fewer)
-                (step-later (rose-since _ _ _ inv.continues.no_fewer) _ _ _ _ z.2) _ _ x.3 x.4 _ _ counted goes_on
+            continued y.2 later f.0 f.1 _ x.0 x.1 z.0 _ z.2 _ _ x.3 x.4 _ _ counted goes_on
                 c.in-Ok.ensures.sent.0 c.in-Ok.ensures.flushed,
           );
       read = quiet_item (g.R.Source.view c.serving.reader) (g.R.Source.view c.next.new.source) c.next.result c.next.ensures.told c.in_default.not-Ended c.in_default.not-ReadFault ∙ inv.read;
@@ -160,9 +154,7 @@ serving-preserved g c =
           let z = c.reply_to-reply.ensures.step x.0.asked x.2 (subst IsTrue (sym inv.continues.honest) sure) y.0 y.1 in (
             z.0,
             z.1,
-            continued y.2 later f.0 f.1 _ x.0 x.1 z.0 _ _
-                (rose-by _ _ _ c.reply_to-reply.ensures.continues.no_fewer)
-                (step-later (rose-since _ _ _ inv.continues.no_fewer) _ _ _ _ z.2) _ _ x.3 x.4 _ _ counted goes_on
+            continued y.2 later f.0 f.1 _ x.0 x.1 z.0 _ z.2 _ _ x.3 x.4 _ _ counted goes_on
                 c.in-Ok.ensures.sent.0 c.in-Ok.ensures.flushed,
           );
       read = quiet_item (g.R.Source.view c.serving.reader) (g.R.Source.view c.next.new.source) c.next.result c.next.ensures.told c.in_default.not-Ended c.in_default.not-ReadFault ∙ inv.read;

@@ -1,5 +1,4 @@
 use Rattle.std.proofs.Common.{◌≡◌, ◌<◌, ◌-◌, false}
-use Rattle.disk_face.specs.Disk.{Rose}
 use Rattle.coverage_server.specs.Leaving.{Continues}
 use Rattle.coverage_server.specs.Represents.{Refines}
 use Rattle.coverage_server.proofs.ServingLemmas.{Serving}
@@ -9,8 +8,7 @@ abbrev pub invariant-serving : goal.invariant-serving
 invariant-serving g l = record {
   going : l.conn.over ≡ false;
   few : l.conn.count < 1000;
-  served : Refines (λ s t. Serving (Rose l.initial.self.coverages.failures l.self.coverages.failures)
-      (g.R.Source.view l.initial.reader) (g.R.Source.view l.reader) (g.W.Sink.view l.initial.writer)
+  served : Refines (λ s t. Serving (g.R.Source.view l.initial.reader) (g.R.Source.view l.reader) (g.W.Sink.view l.initial.writer)
       (g.W.Sink.view l.writer) s t l.conn.buffer l.conn.count) l.initial.self l.self;
   read : (g.R.Source.view l.reader).failed ≡ (g.R.Source.view l.initial.reader).failed;
   written : (g.W.Sink.view l.writer).failed ≡ (g.W.Sink.view l.initial.writer).failed;

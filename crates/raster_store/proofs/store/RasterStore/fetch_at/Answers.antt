@@ -1,45 +1,55 @@
--- What is held for the job stands at its place, and where nothing is held the number is 0.
-use Rattle.raster_store.proofs.Snapshots.{at_job, at_place, the_held, held_within, unheld, reads_present}
+-- The coverage at the place is one that the number reads, and its tile is fetched.
+use Rattle.std.proofs.Common.{arith}
+use Rattle.std.proofs.lemmas.Result.{err_from_is_err_and}
+use Rattle.raster_store.proofs.Readings.{place_within}
+use Rattle.raster_store.proofs.ReadFor.{reads_for, reads_tile}
+use Rattle.raster_store.proofs.Stored.{store_fetched}
 use Rattle.raster_store.proofs.store.RasterStore.fetch_at.Goals as goal
 
-pub fetch_held-requires : goal.fetch_held-requires
-fetch_held-requires g c =
-    let job = rw c.deref.ensures.value at c.in-Some.ensures.some in
-    let x = the_held _ _ _ job in
-    let held = at_job _ _ _ c.args.job c.in-Some.place x.0 c.self.invariant.snapshots job x.1 in
-    let there = at_place _ _ _ c.in-Some.place x.0 c.self.invariant.snapshots (held_within _ _ _ job) x.1 in
-    rw (← c.self.view_is, there.found) (record { tile = rw held.found at (rw (← c.self.view_is) at c.requires.tile) })
+pub bounds-coverages-at : goal.bounds-coverages-at
+bounds-coverages-at g c =
+    let told = rw (c.deref.ensures.value, c.deref-2.ensures.value) at c.coverages_for-coverages.ensures in
+    let r = reads_for g.B.Blocks.state c.self.inside.blocks c.self.inside.fetched _ _ c.self.inside.coverages.items c.self.inside.snapshots.items c.args.job _ c.self.invariant told _ (rw (← c.self.view_is) at c.requires.tile) in
+    let within = place_within _ _ c.args.at (rw r.found at (rw (← c.self.view_is) at c.requires.tile)) in omega (arith, within)
 
-pub returns-in-Some-clause-read : goal.returns-in-Some-clause-read
-returns-in-Some-clause-read g c =
-    let job = rw c.deref.ensures.value at c.in-Some.ensures.some in
-    let x = the_held _ _ _ job in
-    let held = at_job _ _ _ c.args.job c.in-Some.place x.0 c.self.invariant.snapshots job x.1 in
-    let there = at_place _ _ _ c.in-Some.place x.0 c.self.invariant.snapshots (held_within _ _ _ job) x.1 in
-    rw (← c.self.view_is, held.found) (rw there.found at (rw (← c.self.view_is) at c.fetch_held.ensures.read))
+pub offset_bounds-coverages-at : goal.offset_bounds-coverages-at
+offset_bounds-coverages-at g c =
+    let told = rw (c.deref.ensures.value, c.deref-2.ensures.value) at c.coverages_for-coverages.ensures in
+    let r = reads_for g.B.Blocks.state c.self.inside.blocks c.self.inside.fetched _ _ c.self.inside.coverages.items c.self.inside.snapshots.items c.args.job _ c.self.invariant told _ (rw (← c.self.view_is) at c.requires.tile) in
+    let within = place_within _ _ c.args.at (rw r.found at (rw (← c.self.view_is) at c.requires.tile)) in omega (arith, within, c.coverages_for-coverages.type_inv.1)
 
-pub returns-in-Some-clause-why : goal.returns-in-Some-clause-why
-returns-in-Some-clause-why g c =
-    let job = rw c.deref.ensures.value at c.in-Some.ensures.some in
-    let x = the_held _ _ _ job in
-    let held = at_job _ _ _ c.args.job c.in-Some.place x.0 c.self.invariant.snapshots job x.1 in
-    let there = at_place _ _ _ c.in-Some.place x.0 c.self.invariant.snapshots (held_within _ _ _ job) x.1 in
-    rw (← c.self.view_is, held.found) (rw there.found at (rw (← c.self.view_is) at c.fetch_held.ensures.why))
+pub fetch_of-requires : goal.fetch_of-requires
+fetch_of-requires g c =
+    let told = rw (c.deref.ensures.value, c.deref-2.ensures.value) at c.coverages_for-coverages.ensures in
+    let t = reads_tile g.B.Blocks.state c.self.inside.blocks c.self.inside.fetched _ _ c.self.inside.coverages.items c.self.inside.snapshots.items c.args.job _ c.self.invariant told c.args.at c.index-coverages-at.result (rw (← c.self.view_is) at c.requires.tile) c.index-coverages-at.is in
+    let one = t.alone in
+    record { held = one.is_held; tile = one.tile; kept = t.serves.kept }
 
-pub fetch_tile_into-requires : goal.fetch_tile_into-requires
-fetch_tile_into-requires g c =
-    let none = (unheld (g.B.Blocks.state c.self.inside.blocks).content c.args.job c.self.inside.snapshots.items (rw c.deref.ensures.value at c.in-None.ensures.none)).0 in
-    let some = rw none at (rw (← c.self.view_is) at c.requires.tile) in
-    rw (← c.self.view_is) (record { tile = rw (reads_present _ _ _ some) at some })
+pub invariant_of-self : goal.invariant_of-self
+invariant_of-self g c =
+    let told = rw (c.deref.ensures.value, c.deref-2.ensures.value) at c.coverages_for-coverages.ensures in
+    let t = reads_tile g.B.Blocks.state c.self.inside.blocks c.self.inside.fetched _ _ c.self.inside.coverages.items c.self.inside.snapshots.items c.args.job _ c.self.invariant told c.args.at c.index-coverages-at.result (rw (← c.self.view_is) at c.requires.tile) c.index-coverages-at.is in
+    store_fetched _ _ _ _ _ _ _ _ c.self.invariant t.serves c.fetch_of.ensures.kept c.fetch_of.ensures.frame
 
-pub returns-in-None-clause-read : goal.returns-in-None-clause-read
-returns-in-None-clause-read g c =
-    let none = (unheld (g.B.Blocks.state c.self.inside.blocks).content c.args.job c.self.inside.snapshots.items (rw c.deref.ensures.value at c.in-None.ensures.none)).0 in
-    let some = rw none at (rw (← c.self.view_is) at c.requires.tile) in
-    rw (← c.self.view_is, none, reads_present _ _ _ some) (rw (← c.self.view_is) at c.fetch_tile_into.ensures.read)
+pub invariant_of-self-2 : goal.invariant_of-self-2
+invariant_of-self-2 g c =
+    let told = rw (c.deref.ensures.value, c.deref-2.ensures.value) at c.coverages_for-coverages.ensures in
+    let t = reads_tile g.B.Blocks.state c.self.inside.blocks c.self.inside.fetched _ _ c.self.inside.coverages.items c.self.inside.snapshots.items c.args.job _ c.self.invariant told c.args.at c.index-coverages-at.result (rw (← c.self.view_is) at c.requires.tile) c.index-coverages-at.is in
+    store_fetched _ _ _ _ _ _ _ _ c.self.invariant t.serves c.fetch_of.ensures.kept c.fetch_of.ensures.frame
 
-pub returns-in-None-clause-why : goal.returns-in-None-clause-why
-returns-in-None-clause-why g c =
-    let none = (unheld (g.B.Blocks.state c.self.inside.blocks).content c.args.job c.self.inside.snapshots.items (rw c.deref.ensures.value at c.in-None.ensures.none)).0 in
-    let some = rw none at (rw (← c.self.view_is) at c.requires.tile) in
-    rw (← c.self.view_is, none, reads_present _ _ _ some) (rw (← c.self.view_is) at c.fetch_tile_into.ensures.why)
+pub returns-in_err-fetch_of-clause-why : goal.returns-in_err-fetch_of-clause-why
+returns-in_err-fetch_of-clause-why g c =
+    let told = rw (c.deref.ensures.value, c.deref-2.ensures.value) at c.coverages_for-coverages.ensures in
+    let t = reads_tile g.B.Blocks.state c.self.inside.blocks c.self.inside.fetched _ _ c.self.inside.coverages.items c.self.inside.snapshots.items c.args.job _ c.self.invariant told c.args.at c.index-coverages-at.result (rw (← c.self.view_is) at c.requires.tile) c.index-coverages-at.is in
+    let p = err_from_is_err_and c.from_residual.result c.from_residual.ensures.1 in
+    let why = c.in_err-fetch_of.ensures.why in
+    rw (← c.self.view_is, p.1, p.2, t.found) (record {
+      for_damage = λ err sure spelled. why.for_damage err sure (t.alone.spelled spelled);
+      for_room = why.for_room;
+    })
+
+pub returns-clause-read : goal.returns-clause-read
+returns-clause-read g c =
+    let told = rw (c.deref.ensures.value, c.deref-2.ensures.value) at c.coverages_for-coverages.ensures in
+    let t = reads_tile g.B.Blocks.state c.self.inside.blocks c.self.inside.fetched _ _ c.self.inside.coverages.items c.self.inside.snapshots.items c.args.job _ c.self.invariant told c.args.at c.index-coverages-at.result (rw (← c.self.view_is) at c.requires.tile) c.index-coverages-at.is in
+    rw (← c.self.view_is, t.found) (t.alone.there _ c.in_ok-fetch_of.ensures.read)

@@ -1,48 +1,26 @@
--- The signature of the coverage with the name among what is held for the job, or in the store where nothing is held.
-use Rattle.std.proofs.Common.{◌<◌, length, refl, subst, arith}
-use Rattle.raster_store.specs.declared.snapshot.Snapshot.{Snapshot}
-use Rattle.raster_store.specs.Holding.{IsNamedAt}
+-- The signature of the coverage with the name among what the number reads.
+use Rattle.std.proofs.Common.{Some, ap, refl, sym}
+use Rattle.raster_store.specs.declared.held.Held.{Held}
 use Rattle.raster_store.proofs.Contents.{found_named, found_none}
 use Rattle.raster_store.proofs.Readings.{known}
-use Rattle.raster_store.proofs.Snapshots.{at_job, held_within, the_one, unheld, reads_zero}
+use Rattle.raster_store.proofs.ReadFor.{reads_known}
 use Rattle.raster_store.proofs.store.RasterStore.signature_at.Goals as goal
-
-pub index-requires : goal.index-requires
-index-requires g c = let within = held_within _ _ _ (rw c.deref.ensures.value at c.in-Some.ensures.some) in omega (arith, within)
 
 pub place_of-requires : goal.place_of-requires
 place_of-requires g c =
-    let job = rw c.deref.ensures.value at c.in-Some.ensures.some in
-    let held = at_job _ _ _ c.args.job c.in-Some.held c.index.result.now c.self.invariant.snapshots job c.index.ensures in
-    rw c.deref-in-Some.ensures.value held.held.apart
+    let told = rw (c.deref.ensures.value, c.deref-2.ensures.value) at c.coverages_for-coverages.ensures in
+    let r = reads_known g.B.Blocks.state c.self.inside.blocks c.self.inside.fetched _ _ c.self.inside.coverages.items c.self.inside.snapshots.items c.args.job _ c.self.invariant told (rw (← c.self.view_is) at c.requires) in
+    r.is_held.apart
+
+pub returns-in-Some : goal.returns-in-Some
+returns-in-Some g c =
+    let told = rw (c.deref.ensures.value, c.deref-2.ensures.value) at c.coverages_for-coverages.ensures in
+    let r = reads_known g.B.Blocks.state c.self.inside.blocks c.self.inside.fetched _ _ c.self.inside.coverages.items c.self.inside.snapshots.items c.args.job _ c.self.invariant told (rw (← c.self.view_is) at c.requires) in
+    let k = known _ _ c.in-Some.place _ r.is_held c.in-Some.ensures.within c.index-coverages-place.is in
+    rw (← c.self.view_is, r.found, (found_named (g.B.Blocks.state c.self.inside.blocks).content c.args.name.now 0 _ c.in-Some.place c.in-Some.ensures.some).0, k.at) (ap (λ (h : Held). Some h.signature) (sym c.index-coverages-place.is))
 
 pub returns-in-None : goal.returns-in-None
 returns-in-None g c =
-    let none = (unheld (g.B.Blocks.state c.self.inside.blocks).content c.args.job c.self.inside.snapshots.items (rw c.deref.ensures.value at c.in-None.ensures.none)).0 in
-    rw (← c.self.view_is, none, reads_zero _ _ (rw (← c.self.view_is) at c.requires none)) (rw (← c.self.view_is) at c.signature.ensures)
-
-pub index-requires-in-Some-place_of : goal.index-requires-in-Some-place_of
-index-requires-in-Some-place_of g c = let within = held_within _ _ _ (rw c.deref.ensures.value at c.in-Some.ensures.some) in omega (arith, within)
-
-pub index-requires-in-Some-place_of-2 : goal.index-requires-in-Some-place_of-2
-index-requires-in-Some-place_of-2 g c =
-    let job = rw c.deref.ensures.value at c.in-Some.ensures.some in
-    let one = the_one _ c.in-Some.held c.index.result.now c.index-in-Some-place_of.result.now (held_within _ _ _ job) c.index.ensures c.index-in-Some-place_of.ensures in
-    let within = subst (λ (x : Snapshot). c.in-Some-place_of.place < length x.coverages.items) one (rw c.deref-in-Some.ensures.value at c.in-Some-place_of.ensures.within) in
-    omega (arith, within)
-
-pub returns-in-Some-place_of : goal.returns-in-Some-place_of
-returns-in-Some-place_of g c =
-    let job = rw c.deref.ensures.value at c.in-Some.ensures.some in
-    let held = at_job _ _ _ c.args.job c.in-Some.held c.index-in-Some-place_of.result.now c.self.invariant.snapshots job c.index-in-Some-place_of.ensures in
-    let one = the_one _ c.in-Some.held c.index.result.now c.index-in-Some-place_of.result.now (held_within _ _ _ job) c.index.ensures c.index-in-Some-place_of.ensures in
-    let within = subst (λ (x : Snapshot). c.in-Some-place_of.place < length x.coverages.items) one (rw c.deref-in-Some.ensures.value at c.in-Some-place_of.ensures.within) in
-    let named = subst (λ (x : Snapshot). IsNamedAt c.args.name.now x.coverages.items c.in-Some-place_of.place) one (rw c.deref-in-Some.ensures.value at c.in-Some-place_of.ensures.some) in
-    let k = known _ _ c.in-Some-place_of.place _ held.held within c.index-in-Some-place_of-2.ensures in
-    rw (← c.self.view_is, held.found, (found_named (g.B.Blocks.state c.self.inside.blocks).content c.args.name.now 0 _ c.in-Some-place_of.place named).0, k.at) refl
-
-pub returns-in-None-place_of : goal.returns-in-None-place_of
-returns-in-None-place_of g c =
-    let job = rw c.deref.ensures.value at c.in-Some.ensures.some in
-    let held = at_job _ _ _ c.args.job c.in-Some.held c.index.result.now c.self.invariant.snapshots job c.index.ensures in
-    rw (← c.self.view_is, held.found, found_none (g.B.Blocks.state c.self.inside.blocks).content c.args.name.now _ (rw c.deref-in-Some.ensures.value at c.in-None-place_of.ensures.none)) refl
+    let told = rw (c.deref.ensures.value, c.deref-2.ensures.value) at c.coverages_for-coverages.ensures in
+    let r = reads_known g.B.Blocks.state c.self.inside.blocks c.self.inside.fetched _ _ c.self.inside.coverages.items c.self.inside.snapshots.items c.args.job _ c.self.invariant told (rw (← c.self.view_is) at c.requires) in
+    rw (← c.self.view_is, r.found, found_none (g.B.Blocks.state c.self.inside.blocks).content c.args.name.now _ c.in-None.ensures.none) refl

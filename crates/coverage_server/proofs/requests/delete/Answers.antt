@@ -1,7 +1,7 @@
 -- A refusal changes nothing.
 use Rattle.std.proofs.Common.{refl}
 use Rattle.coverage_server.proofs.FreeLemmas.{unchanged, none_changed}
-use Rattle.coverage_server.proofs.server.delete.Goals as goal
+use Rattle.coverage_server.proofs.requests.delete.Goals as goal
 
 pub returns-in_default-clause-unchanged : goal.returns-in_default-clause-unchanged
 returns-in_default-clause-unchanged g c = unchanged c.args.coverages.now c.args.coverages.now refl

@@ -5,7 +5,7 @@ use Rattle.std.specs.List.{flat_map}
 use Rattle.std.proofs.lemmas.List.{take_all}
 use Rattle.arr_core.specs.declared.signature.Signature.{Signature}
 use Rattle.coverage_server.proofs.MachineLemmas.{lines_alike}
-use Rattle.coverage_server.proofs.server.list.Goals as goal
+use Rattle.coverage_server.proofs.requests.list.Goals as goal
 
 pub returns-clause-answered : goal.returns-clause-answered
 returns-clause-answered g c =

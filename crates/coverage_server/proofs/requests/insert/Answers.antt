@@ -11,7 +11,7 @@ use Rattle.coverage_server.specs.Writing.{InsertRefused}
 use Rattle.coverage_server.proofs.FreeLemmas.{unchanged, none_changed}
 use Rattle.coverage_server.proofs.InsertLemmas.{signature_alike, insert_refused, insert_done}
 use Rattle.coverage_server.proofs.WriteLemmas.{not_there}
-use Rattle.coverage_server.proofs.server.insert.Goals as goal
+use Rattle.coverage_server.proofs.requests.insert.Goals as goal
 
 pub returns-in_err-insert-clause-answered : goal.returns-in_err-insert-clause-answered
 returns-in_err-insert-clause-answered g c =

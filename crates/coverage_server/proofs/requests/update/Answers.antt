@@ -12,7 +12,8 @@ use Rattle.coverage_server.proofs.FreeLemmas.{unchanged, none_changed, same_kept
 use Rattle.coverage_server.proofs.ListLemmas.{position_within}
 use Rattle.coverage_server.proofs.MachineLemmas.{at_field}
 use Rattle.coverage_server.proofs.UpdateLemmas.{has_field, area_refused, lays_update, write_answered, write_done}
-use Rattle.coverage_server.proofs.server.update.Goals as goal
+use Rattle.coverage_server.proofs.ToldLemmas.{told_as, told_done, told_none, told_refused}
+use Rattle.coverage_server.proofs.requests.update.Goals as goal
 
 pub write-requires : goal.write-requires
 write-requires g c =
@@ -97,3 +98,27 @@ returns-clause-lays g c =
     λ sure. lays_update v w u.coverage u.field u.intervals.items x.0 x.1 k place
     (subst (λ (a : List Axis). LaysBox u.coverage k a v.store w.store (layout_of v) (layout_of w)) area
     (c.in_ok-write.ensures.done.lays sure))
+
+pub returns-in_default-clause-told : goal.returns-in_default-clause-told
+returns-in_default-clause-told g c = told_none _ _ _ (λ f. absurd cc) refl
+
+pub returns-in_default-place_of-clause-told : goal.returns-in_default-place_of-clause-told
+returns-in_default-place_of-clause-told g c = told_none _ _ _ (λ f. absurd cc) refl
+
+pub returns-in_err-area-clause-told : goal.returns-in_err-area-clause-told
+returns-in_err-area-clause-told g c =
+    let p = err_from_is_err_and c.from_residual.result c.from_residual.ensures.1 in
+    rw (p.1, p.2) (told_refused _ _ c.in_err-area.field-0.0 _ c.in_err-area.ensures.err)
+
+pub returns-in_err-reply-clause-told : goal.returns-in_err-reply-clause-told
+returns-in_err-reply-clause-told g c =
+    let p = err_from_is_err_and c.from_residual-in_err-reply.result c.from_residual-in_err-reply.ensures.1 in
+    rw (p.1, p.2) (told_none _ _ _ (λ f. absurd cc) refl)
+
+pub returns-in_err-write-clause-told : goal.returns-in_err-write-clause-told
+returns-in_err-write-clause-told g c =
+    let p = err_from_is_err_and c.from_residual-in_err-write.result c.from_residual-in_err-write.ensures.1 in
+    rw (p.1, p.2) (told_as c.in_err-write.field-0.0 _ _ c.in_err-write.ensures.told)
+
+pub returns-clause-told : goal.returns-clause-told
+returns-clause-told g c = told_done _ _ _ (c.in_ok-write.ensures.told.quiet (λ f. absurd cc))
