@@ -5,6 +5,7 @@ use Rattle.arr_core.specs.declared.signature.Signature.{Signature}
 use Rattle.arr_core.specs.Domains.{IsBoxOf}
 use Rattle.arr_core.specs.Fields.{place_of as field_place}
 use Rattle.arr_core.specs.Stores.{Coverage, Store, found}
+use Rattle.block_file.specs.Limits.{block_bytes}
 use Rattle.block_file.specs.State.{block_at}
 use Rattle.tile_store.specs.Reading.{Meets}
 use Rattle.tile_store.specs.Stored.{tile_box}
@@ -34,7 +35,7 @@ IsIntactNamed v name = IsIntactIn v.content v.store v.indexes name
 pub record KeepsSpelled (old new : ServerView) : Type 0 where
   pub tiles : (name : List ℕ) (field tile : ℕ) → IsSpelledOf name field tile old.content old.store old.indexes
       → IsSpelledOf name field tile new.content new.store new.indexes
-  pub held : (k : ℕ) → 0 < listed_snapshots new.held k → length (block_at old.content k) ≡ 4096
+  pub held : (k : ℕ) → 0 < listed_snapshots new.held k → length (block_at old.content k) ≡ block_bytes
       → block_at new.content k ≡ block_at old.content k
 
 -- each tile of the coverage at a place is spelled
@@ -58,11 +59,11 @@ AreIntactHeld content (x ∷ held) [] = ⊥
 
 -- the blocks that indexes list are whole
 abbrev pub AreListedWhole : List ℕ → List (List Index) → Type 0
-AreListedWhole content indexes = (k : ℕ) → 0 < listed_all indexes k → length (block_at content k) ≡ 4096
+AreListedWhole content indexes = (k : ℕ) → 0 < listed_all indexes k → length (block_at content k) ≡ block_bytes
 
 -- the blocks of what is held are whole
 abbrev pub AreHeldWhole : List ℕ → List SnapshotView → Type 0
-AreHeldWhole content held = (k : ℕ) → 0 < listed_snapshots held k → length (block_at content k) ≡ 4096
+AreHeldWhole content held = (k : ℕ) → 0 < listed_snapshots held k → length (block_at content k) ≡ block_bytes
 
 -- so is each tile of the coverages of the store that have a name
 abbrev pub IsSpelledNamed : List ℕ → ServerView → Type 0

@@ -9,6 +9,7 @@ use Rattle.arr_core.specs.declared.signature.Signature.{Signature}
 use Rattle.arr_core.specs.Cells.{Holds}
 use Rattle.arr_core.specs.Domains.{count, IsBoxOf}
 use Rattle.arr_core.specs.Stores.{Coverage, Store, found}
+use Rattle.block_file.specs.Limits.{block_bytes}
 use Rattle.block_file.specs.State.{BlocksState, block, free_of}
 use Rattle.block_file.specs.Words.{Covers}
 use Rattle.tile_index.specs.Bytes.{index_bytes}
@@ -44,12 +45,12 @@ pub record AreListed (s : BlocksState) (coverages : Store) (indexes : List (List
   pub values : coverages ≡ coverages_in s.content (map signature_of coverages) indexes
   pub each : AreWhole coverages indexes
   pub counted : Covers s (listed_all indexes)
-  pub whole : IsTrue s.honest → (k : ℕ) → 0 < listed_all indexes k → length (block s k) ≡ 4096
+  pub whole : IsTrue s.honest → (k : ℕ) → 0 < listed_all indexes k → length (block s k) ≡ block_bytes
 
 -- the blocks that new indexes list are in use as often as these and the old ones list them, and whole on an honest disk
 pub record MayAttach (s : BlocksState) (old : List (List Index)) (new : List Index) : Type 0 where
   pub counted : Covers s (λ k. listed_all old k + listed_fields new k)
-  pub whole : IsTrue s.honest → (k : ℕ) → 0 < listed_fields new k → length (block s k) ≡ 4096
+  pub whole : IsTrue s.honest → (k : ℕ) → 0 < listed_fields new k → length (block s k) ≡ block_bytes
 
 -- there is a coverage with the name, and it has a field at the place
 abbrev pub HasField : List ℕ → ℕ → Store → Type 0

@@ -5,6 +5,7 @@ use Rattle.std.specs.List.{AllByRecursion as Each, AllPairs}
 use Rattle.std.specs.Str.{bytes_eq}
 use Rattle.arr_core.specs.declared.signature.Signature.{Signature}
 use Rattle.arr_core.specs.Stores.{Coverage, Store}
+use Rattle.block_file.specs.Limits.{block_bytes}
 use Rattle.block_file.specs.State.{BlocksState, block}
 use Rattle.block_file.specs.Words.{Covers}
 use Rattle.tile_index.specs.Index.{IsIndex}
@@ -63,7 +64,7 @@ pub record IsHeld (s : BlocksState) (held : List Held) : Type 0 where
   pub each : All IsWhole held
   pub apart : AreApart held
   pub counted : Covers s (listed_all (indexes_of held))
-  pub whole : IsTrue s.honest → (k : ℕ) → 0 < listed_all (indexes_of held) k → length (block s k) ≡ 4096
+  pub whole : IsTrue s.honest → (k : ℕ) → 0 < listed_all (indexes_of held) k → length (block s k) ≡ block_bytes
 
 -- what is held for jobs, by the blocks' content
 abbrev pub snapshot_of : List ℕ → Snapshot → SnapshotView

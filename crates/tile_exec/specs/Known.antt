@@ -1,6 +1,7 @@
 -- What is known of an item whose body has a key.
 use Rattle.std.specs.Prelude.{◌≡◌, ℕ, ◌+◌, ◌-◌, ◌*◌, ◌<◌, ◌≤◌, ◌⊎◌, ℤ, List, [], ◌∷◌, length, slice_get, Option, Some, None, IfSome}
 use Rattle.std.specs.List.{All, Contains}
+use Rattle.arr_core.specs.Limits.{max_tile}
 use Rattle.arr_core.specs.declared.domain.Axis.{Axis}
 use Rattle.arr_core.specs.Domains.{points, count, IsInside, IsBoxOf}
 use Rattle.wcps_mean.specs.declared.cell.Outcome.{Outcome}
@@ -118,7 +119,7 @@ pub record ArePairs (samples : List Sample) (outcomes : List Outcome) (pairs : L
 
 -- a box is part of another one, and small enough for a column
 abbrev pub IsTilePart : List Axis → List Axis → Type 0
-IsTilePart area part = IsBoxOf area part × (count part ≤ 4096)
+IsTilePart area part = IsBoxOf area part × (count part ≤ max_tile)
 
 -- a key has its place over a box
 abbrev pub IsKeyPlaced : {K : Type 0} → SourceState K → Ground → List Axis → Body → Type 0
@@ -137,8 +138,8 @@ pub record IsKeyedAt {K : Type 0} (s : SourceState K) (g : Ground) (part : List 
   pub key : HasPlaceOver s g (body_view k.body.now) (points part)
 
 -- at most so many tiles are fetched as so many evaluations of a key, and of its fold, ask for
-abbrev pub FetchesKeyed : {S : Type 0} → Key → ℕ → ℕ → Ghosts S → S → S → Type 0
-FetchesKeyed k keys folds t old new =
+abbrev pub FetchesBy : {S : Type 0} → Key → ℕ → ℕ → Ghosts S → S → S → Type 0
+FetchesBy k keys folds t old new =
     FetchesAtMost (bound_times keys (body_view k.body.now) + bound_times folds (fold_of k)) (t.state old) (t.state new)
 
 -- all that is done with a key at the first tile of a box costs no more than the body at the points of the tile

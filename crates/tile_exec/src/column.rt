@@ -1,6 +1,7 @@
 //! A body at all points of a box.
 
 ghost use Rattle.std.specs.Prelude.{◌≡◌, ◌≤◌, length, IfOk, OnOk};
+ghost use Rattle.arr_core.specs.Limits.{max_tile};
 ghost use Rattle.arr_core.specs.Domains.{points, count};
 ghost use Rattle.plan_ir.specs.Bodies.{body_view};
 ghost use Rattle.tile_columns.specs.Calling.{Reads};
@@ -48,7 +49,7 @@ pub(crate) fn column_over<S: Tiles>(
 ) -> Result<(), CellError>
     requires signatures { IsGroundOf (S.state source.old) ground.now }
     requires place { HasPlaceOver (S.state source.old) ground.now (body_view body.now) (points at.now) }
-    requires few { count at.now ≤ 4096 }
+    requires few { count at.now ≤ max_tile }
     ensures value { OnOk result (IsColumnOf (S.state source.old) ground.now (body_view body.now) (points at.now) out.new) }
     ensures places { OnOk result (length out.new ≡ length (points at.now)) }
     ensures reads { Reads S.Tiles result source.old source.new }
@@ -70,7 +71,7 @@ pub(crate) fn columns_over<S: Tiles>(
 ) -> Result<Vec<Column>, CellError>
     requires signatures { IsGroundOf (S.state source.old) ground.now }
     requires place { ItemHasPlace (S.state source.old) ground.now item.now at.now }
-    requires few { count at.now ≤ 4096 }
+    requires few { count at.now ≤ max_tile }
     ensures value { IfOk result (λ v. AreItemColumns (S.state source.old) ground.now item.now at.now v.items) }
     ensures fields { IfOk result (λ v. length v.items ≡ length item.now.fields.items) }
     ensures places { IfOk result (λ v. HavePlaces (length (points at.now)) v.items) }

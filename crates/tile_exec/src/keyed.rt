@@ -2,13 +2,14 @@
 
 ghost use Rattle.std.specs.Prelude.{◌≡◌, ◌+◌, ◌<◌, ◌≤◌, [], ◌∷◌, length, option_copied, Some, IsTrue, IfOk, IfSome, IfNone, OnOk};
 ghost use Rattle.std.specs.List.{All};
+ghost use Rattle.arr_core.specs.Limits.{max_tile};
 ghost use Rattle.arr_core.specs.Domains.{points, count, IsInside};
 ghost use Rattle.tile_columns.specs.Calling.{Reads};
 ghost use Rattle.tile_columns.specs.Fields.{HavePlaces};
 ghost use Rattle.tile_columns.specs.Keys.{fold_of};
 ghost use Rattle.tile_columns.specs.Meaning.{IsGroundOf, IsColumnOf};
 ghost use Rattle.tile_exec.specs.Fetching.{as_item, IsPartOver, AreItemColumns, FetchesOver};
-ghost use Rattle.tile_exec.specs.Known.{Knows, KnowsFold, point_of, IsKnownBy, IsKeyedOver, IsKeyedAt, IsTilePart, FetchesKeyed, Pays, IsKeyOfItem};
+ghost use Rattle.tile_exec.specs.Known.{Knows, KnowsFold, point_of, IsKnownBy, IsKeyedOver, IsKeyedAt, IsTilePart, FetchesBy, Pays, IsKeyOfItem};
 ghost use Rattle.tile_exec.specs.Known.{IsColumnBy, IfColumnBy};
 ghost use Rattle.tile_exec.specs.Keyed.{IsKeyedColumn, AreColumnsKnown};
 
@@ -66,10 +67,10 @@ fn known_by<S: Tiles>(
     requires keyed { IsKeyedOver (S.state source.old) ground.now area.now key.now }
     requires inside { All (λ (x : Sample). IsInside area.now (point_of x)) samples.now }
     requires some { 0 < length samples.now }
-    requires few { length samples.now ≤ 4096 }
+    requires few { length samples.now ≤ max_tile }
     ensures value { IfOk result (IsKnownBy (S.state source.old) ground.now area.now key.now samples.now) }
     ensures reads { Reads S.Tiles result source.old source.new }
-    ensures fetched { OnOk result (FetchesKeyed key.now (length samples.now) 1 S.Tiles source.old source.new) }
+    ensures fetched { OnOk result (FetchesBy key.now (length samples.now) 1 S.Tiles source.old source.new) }
 {
     let alloc = buffers.memory.alloc;
     let mut frame = frame_of(alloc, samples, area.axes().len())?;
@@ -100,7 +101,7 @@ fn known_over<S: Tiles>(
     requires keyed { IsKeyedOver (S.state source.old) ground.now area.now key.now }
     ensures value { IfOk result (KnowsFold (S.state source.old) ground.now area.now key.now) }
     ensures reads { Reads S.Tiles result source.old source.new }
-    ensures fetched { OnOk result (FetchesKeyed key.now (count area.now + 4096) 1 S.Tiles source.old source.new) }
+    ensures fetched { OnOk result (FetchesBy key.now (count area.now + max_tile) 1 S.Tiles source.old source.new) }
 {
     match samples_of(buffers, source, ground, key.body, area)? {
         None => Ok(None),
@@ -125,11 +126,11 @@ fn known_column<S: Tiles>(
 ) -> Result<Option<Column>, CellError>
     requires signatures { IsGroundOf (S.state source.old) ground.now }
     requires keyed { IsKeyedAt (S.state source.old) ground.now part.now key.now }
-    requires few { count part.now ≤ 4096 }
+    requires few { count part.now ≤ max_tile }
     ensures value { IfOk result (IfColumnBy (S.state source.old) ground.now part.now key.now (option_copied known.entry)) }
     ensures places { IfOk result (λ o. IfSome o (λ c. length c ≡ length (points part.now))) }
     ensures reads { Reads S.Tiles result source.old source.new }
-    ensures fetched { OnOk result (FetchesKeyed key.now (count part.now) 0 S.Tiles source.old source.new) }
+    ensures fetched { OnOk result (FetchesBy key.now (count part.now) 0 S.Tiles source.old source.new) }
 {
     let _axes = part.axes();
     match known {
@@ -170,11 +171,11 @@ fn pass_column<S: Tiles>(
 ) -> Result<Column, CellError>
     requires signatures { IsGroundOf (S.state source.old) ground.now }
     requires keyed { IsKeyedAt (S.state source.old) ground.now part.now key.now }
-    requires few { count part.now ≤ 4096 }
+    requires few { count part.now ≤ max_tile }
     ensures value { IfOk result (IsColumnOf (S.state source.old) ground.now (fold_of key.now) (points part.now)) }
     ensures places { IfOk result (λ c. length c ≡ length (points part.now)) }
     ensures reads { Reads S.Tiles result source.old source.new }
-    ensures fetched { OnOk result (FetchesKeyed key.now (count part.now) 1 S.Tiles source.old source.new) }
+    ensures fetched { OnOk result (FetchesBy key.now (count part.now) 1 S.Tiles source.old source.new) }
 {
     let alloc = buffers.memory.alloc;
     let _axes = part.axes();
@@ -202,11 +203,11 @@ fn keyed_column<S: Tiles>(
 ) -> Result<Column, CellError>
     requires signatures { IsGroundOf (S.state source.old) ground.now }
     requires keyed { IsKeyedAt (S.state source.old) ground.now part.now key.now }
-    requires few { count part.now ≤ 4096 }
+    requires few { count part.now ≤ max_tile }
     ensures value { IfOk result (IsColumnBy (S.state source.old) ground.now part.now key.now (option_copied known.entry)) }
     ensures places { IfOk result (λ c. length c ≡ length (points part.now)) }
     ensures reads { Reads S.Tiles result source.old source.new }
-    ensures fetched { OnOk result (FetchesKeyed key.now (count part.now + count part.now) 1 S.Tiles source.old source.new) }
+    ensures fetched { OnOk result (FetchesBy key.now (count part.now + count part.now) 1 S.Tiles source.old source.new) }
 {
     match known_column(buffers, source, ground, key, part, known)? {
         Some(column) => Ok(column),
@@ -253,7 +254,7 @@ fn found_at<S: Tiles>(
     requires keyed { IsKeyedOver (S.state source.old) ground.now at.now.area.now key.now }
     ensures value { IfOk result (KnowsFold (S.state source.old) ground.now at.now.area.now key.now) }
     ensures reads { Reads S.Tiles result source.old source.new }
-    ensures fetched { OnOk result (FetchesKeyed key.now (count at.now.area.now + 4096) 1 S.Tiles source.old source.new) }
+    ensures fetched { OnOk result (FetchesBy key.now (count at.now.area.now + max_tile) 1 S.Tiles source.old source.new) }
 {
     if at.number > 0 {
         return Ok(None);
@@ -287,7 +288,7 @@ fn keyed_columns<S: Tiles>(
     ensures places { IfOk result (λ x. HavePlaces (length (points at.now.part.now)) x.columns.items) }
     ensures one { IfOk result (λ x. length x.columns.items ≡ 1) }
     ensures reads { Reads S.Tiles result source.old source.new }
-    ensures fetched { OnOk result (FetchesKeyed key.now (count at.now.area.now + 12288) 2 S.Tiles source.old source.new) }
+    ensures fetched { OnOk result (FetchesBy key.now (count at.now.area.now + 12288) 2 S.Tiles source.old source.new) }
 {
     let _axes = at.part.axes();
     let found = found_at(buffers, source, ground, key, at)?;

@@ -2,6 +2,7 @@
 
 ghost use Rattle.std.specs.Prelude.{◌≡◌, ◌<◌, ◌≤◌, ℕ, pos, length, map, slice_index_or, IfOk, IfSome, OnOk};
 ghost use Rattle.std.specs.List.{All};
+ghost use Rattle.arr_core.specs.Limits.{max_tile};
 ghost use Rattle.arr_core.specs.Domains.{points, count};
 ghost use Rattle.tile_columns.specs.Calling.{Reads};
 ghost use Rattle.tile_columns.specs.Meaning.{IsGroundOf};
@@ -76,7 +77,7 @@ pub(crate) fn samples_of<S: Tiles>(
     requires signatures { IsGroundOf (S.state source.old) ground.now }
     requires placed { IsKeyPlaced (S.state source.old) ground.now area.now key.now }
     ensures value { IfOk result (λ o. IfSome o (λ v. AreSamples (S.state source.old) ground.now area.now key.now v.items)) }
-    ensures few { IfOk result (λ o. IfSome o (λ v. length v.items ≤ 4096)) }
+    ensures few { IfOk result (λ o. IfSome o (λ v. length v.items ≤ max_tile)) }
     ensures reads { Reads S.Tiles result source.old source.new }
     ensures fetched { OnOk result (FetchesTimes (count area.now) key.now S.Tiles source.old source.new) }
 {
@@ -117,7 +118,7 @@ fn coordinates(alloc: Global, samples: &[Sample], axis: usize) -> Result<Vec<i32
 
 /// A frame whose places are the points of samples.
 pub(crate) fn frame_of(alloc: Global, samples: &[Sample], depth: usize) -> Result<Frame, AllocError>
-    requires few { length samples.now ≤ 4096 }
+    requires few { length samples.now ≤ max_tile }
     requires deep { All (λ (x : Sample). length x.point.items ≡ depth) samples.now }
     ensures { IfOk result (λ f. f ≡ map point_of samples.now) }
 {

@@ -1,5 +1,6 @@
 -- Which blocks tiles, indexes and changes list: how often each block stands there.
 use Rattle.std.specs.Prelude.{◌≡◌, ℕ, ◌+◌, ◌-◌, ◌<◌, ◌≤◌, max, IsTrue, List, length, map, sum_by, All, Option, Some, None}
+use Rattle.block_file.specs.Limits.{block_bytes}
 use Rattle.block_file.specs.State.{BlocksState, block, times, none, free_of}
 use Rattle.block_file.specs.Words.{Moves, Covers}
 use Rattle.arr_core.specs.declared.domain.Axis.{Axis}
@@ -52,7 +53,7 @@ IsBelow tiles index = All (λ (x : ℕ × Entry). x.0 < tiles) index
 pub record IsSound (domain : List Axis) (s : BlocksState) (index : List (ℕ × Entry)) : Type 0 where
   pub below : IsBelow (length (tile_boxes domain)) index
   pub counted : Covers s (listed index)
-  pub whole : IsTrue s.honest → (k : ℕ) → 0 < listed index k → length (block s k) ≡ 4096
+  pub whole : IsTrue s.honest → (k : ℕ) → 0 < listed index k → length (block s k) ≡ block_bytes
 
 -- the uses of one index became those of another, and nothing else in use has changed
 abbrev pub Relists : Index → Index → BlocksState → BlocksState → Type 0

@@ -1,6 +1,7 @@
 -- Cells of a tile at ranks, read without the others.
 use Rattle.std.specs.Prelude.{◌≡◌, ℕ, ◌<◌, ℤ, pos, IsTrue, List, length, slice_index_or, Option, Some}
 use Rattle.arr_core.specs.declared.cell.FieldType.{FieldType}
+use Rattle.block_file.specs.Limits.{block_bytes}
 use Rattle.block_file.specs.State.{BlocksState, block, times}
 use Rattle.block_file.specs.Words.{Covers}
 use Rattle.file_bytes.specs.declared.form.Form.{Form}
@@ -13,7 +14,7 @@ use Rattle.tile_store.specs.Stored.{entry_data, cells_read}
 pub record IsEntryIn (s : BlocksState) (e : Entry) : Type 0 where
   pub is_entry : IsEntry e
   pub used : Covers s (times e.blocks)
-  pub whole : IsTrue s.honest → (k : ℕ) → 0 < times e.blocks k → length (block s k) ≡ 4096
+  pub whole : IsTrue s.honest → (k : ℕ) → 0 < times e.blocks k → length (block s k) ≡ block_bytes
 
 -- the cells that the bytes of an entry read as in a form
 abbrev pub cells_as : Form → FieldType → BlocksState → Entry → List ℤ

@@ -5,6 +5,7 @@ use Rattle.arr_core.specs.declared.cell.FieldType.{FieldType}
 use Rattle.arr_core.specs.Cells.{Fits}
 use Rattle.arr_core.specs.Domains.{count, IsDomain, IsInside, is_inside}
 use Rattle.arr_core.specs.Limits.{max_points, max_tile}
+use Rattle.block_file.specs.Limits.{block_bytes}
 use Rattle.block_file.specs.State.{BlocksState, block, times, none, free_of}
 use Rattle.block_file.specs.Words.{Recounts, Covers}
 use Rattle.tile_index.specs.declared.entry.Entry.{Entry}
@@ -24,10 +25,10 @@ use Rattle.tile_store.specs.Stored.{SpellsMany, entry_data, IsPadded, tile_cells
 
 -- a block holds the part of some bytes that stands at a place, counted in blocks, and zeros behind the last of them
 pub record HoldsPart (block : List ℕ) (place : ℕ) (bytes : List ℕ) : Type 0 where
-  pub whole : length block ≡ 4096
-  pub part : (j : ℕ) → j < 4096 → 4096 * place + j < length bytes
-      → slice_index_or block j 0 ≡ slice_index_or bytes (4096 * place + j) 0
-  pub padded : (j : ℕ) → j < 4096 → length bytes ≤ 4096 * place + j → slice_index_or block j 0 ≡ 0
+  pub whole : length block ≡ block_bytes
+  pub part : (j : ℕ) → j < block_bytes → block_bytes * place + j < length bytes
+      → slice_index_or block j 0 ≡ slice_index_or bytes (block_bytes * place + j) 0
+  pub padded : (j : ℕ) → j < block_bytes → length bytes ≤ block_bytes * place + j → slice_index_or block j 0 ≡ 0
 
 -- each block is the one behind the one before it
 abbrev pub AreNeighbours : List ℕ → Type 0
@@ -82,7 +83,7 @@ AreFresh ks s = (k : ℕ) → 0 < times ks k → (s.uses k ≡ 1) × (times ks k
 pub record HoldsBytes (ks bytes : List ℕ) (s : BlocksState) : Type 0 where
   pub bytes_are : IsTrue s.honest → take (length bytes) (flat_map (block s) ks) ≡ bytes
   pub padded : IsTrue s.honest → All (λ b. b ≡ 0) (drop (length bytes) (flat_map (block s) ks))
-  pub whole : IsTrue s.honest → (k : ℕ) → 0 < times ks k → length (block s k) ≡ 4096
+  pub whole : IsTrue s.honest → (k : ℕ) → 0 < times ks k → length (block s k) ≡ block_bytes
 
 -- a tile was written to the blocks that came to those taken
 pub record IsNewTile (kind : FieldType) (s : BlocksState) (taken taken' : List ℕ) (cells : List ℤ)
@@ -91,7 +92,7 @@ pub record IsNewTile (kind : FieldType) (s : BlocksState) (taken taken' : List �
   pub added : (k : ℕ) → times taken' k ≡ times taken k + entry_times entry k
   pub size : length taken' ≡ length taken + entry_blocks entry
   pub written : IsTrue s.honest → IsWritten kind s.content entry cells
-  pub whole : IsTrue s.honest → (k : ℕ) → 0 < entry_times entry k → length (block s k) ≡ 4096
+  pub whole : IsTrue s.honest → (k : ℕ) → 0 < entry_times entry k → length (block s k) ≡ block_bytes
 
 -- the cells of a tile before a write: those inside the box may be any, and none was read where it has them all
 pub record AreBefore (u : Patch) (s : BlocksState) (index : Index) (tile : ℕ) (cells : List ℤ) : Type 0 where
@@ -121,7 +122,7 @@ pub record AreWritten (u : Patch) (old : BlocksState) (index : Index) (tiles : L
   pub entries : All (λ (x : ℕ × Option Entry). (e : Entry) → x.1 ≡ Some e → IsEntry e) fresh.changes.items
   pub counted : (k : ℕ) → times fresh.blocks.items k ≡ given fresh.changes.items k
   pub size : length fresh.blocks.items ≡ sum_by (λ (x : ℕ × Option Entry). entry_blocks x.1) fresh.changes.items
-  pub whole : IsTrue old.honest → (k : ℕ) → 0 < times fresh.blocks.items k → length (block new k) ≡ 4096
+  pub whole : IsTrue old.honest → (k : ℕ) → 0 < times fresh.blocks.items k → length (block new k) ≡ block_bytes
   pub written : IsTrue old.honest
       → All (λ (x : ℕ × Option Entry). IsWritten u.kind new.content x.1 (patched u old index x.0)) fresh.changes.items
   pub read : IsTrue old.honest

@@ -2,6 +2,7 @@
 
 ghost use Rattle.std.specs.Prelude.{◌+◌, ◌*◌, ◌<◌, ◌≤◌, ◌^◌, length, IsErr, IsErrOf, OnOk, IsTrue};
 ghost use Rattle.disk_face.specs.Disk.{Tells};
+ghost use Rattle.block_file.specs.Limits.{block_bytes};
 ghost use Rattle.block_file.specs.State.{times};
 ghost use Rattle.block_file.specs.Words.{OnlyReads, Moves, Covers, AreBytesOf};
 ghost use Rattle.tile_store.specs.Faults.{Refuses};
@@ -121,7 +122,7 @@ pub(crate) fn write_bytes<B: Blocks>(
     bytes: &[u8],
 ) -> Result<(), DiskFault>
     requires fresh { AreFresh numbers.now (B.state blocks.old) }
-    requires enough { length bytes.now ≤ 4096 * length numbers.now }
+    requires enough { length bytes.now ≤ block_bytes * length numbers.now }
     requires few { length numbers.now < 2 ^ 32 }
     ensures written { OnOk result (HoldsBytes numbers.now bytes.now (B.state blocks.new)) }
     ensures frame { Moves (times numbers.now) (times numbers.now) (B.state blocks.old) (B.state blocks.new) }
