@@ -64,22 +64,13 @@ KNOWN = [
     {"arr_core/specs/Domains.antt place_of", "wcps_types/specs/Names.antt axis_place"},
     {"plan_ir/specs/Units.antt tile_number", "tile_store/specs/Stored.antt tile_number"},
     {"tile_columns/specs/TileOrder.antt tile_of", "tile_store/specs/Stored.antt tile_box"},
-    # the cells of coverages by their places, a field with a name, and which tiles are in which blocks
+    # the cells of coverages by their places, and a field with a name
     {
         "wcps_mean/specs/Reading.antt CellsOf",
         "map_templates/specs/Laws.antt Source",
         "tile_exec/specs/Tasks.antt Cells",
     },
     {"catalogue/specs/Signatures.antt IsField", "map_templates/specs/Queries.antt IsField"},
-    # what each of these calls may fail of, with a law of its own
-    {
-        "run_tile/src/error.rt DecodeError",
-        "tile_index/src/error.rt IndexError",
-        "catalogue/src/error.rt ReadError",
-        "metadata/src/reading.rt ReadError",
-    },
-    {"block_file/src/fault.rt OpenFault", "coverage_server/src/opening.rt OpenFault"},
-    {"block_file/src/fault.rt ChainFault", "coverage_server/src/closing.rt CloseFault"},
 ]
 
 # Words that are spelled as keywords and mean something else: the keys of requests, and the values of cells.

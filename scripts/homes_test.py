@@ -57,7 +57,7 @@ LINES = [
     ("raster_store/src/reading.rt", "    let above = (x as i64 - lo as i64) as usize;", DISTANCE),
     ("csv_out/src/csv.rt", "    let line = axis.hi - axis.lo + 1;", DISTANCE),
     ("csv_out/specs/Csv.antt", "width_of a = nat_abs (a.hi -ℤ a.lo) + 1", DISTANCE),
-    ("tile_store/src/fault.rt", "            DecodeError::Damaged => Fault::NoMemory,", WANT),
+    ("tile_store/src/fault.rt", "            ReadError::Damaged => Fault::NoMemory,", WANT),
     ("coverage_server/src/coverages.rt", "        Err(Fault::NoRoom) => return Err(AllocError),", WANT),
     # what no crate has yet, in two
     (
@@ -95,7 +95,7 @@ COPIES = [
     ("tile_kernel/src/first_fault.rt", "fn least", "tile_exec/src/row.rt", "FirstFault First fault told place at"),
     ("plan_rewrite/src/inlining/body.rt", "fn inline_body", "plan_ir/src/body.rt", "inline_body rebuilt e tree"),
     ("plan_rewrite/specs/Everywhere.antt", "InBody", "job_desk/specs/Places.antt", "InBody Holds r rule"),
-    ("tile_index/src/error.rt", "enum IndexError", "page_pool/src/page.rt", "IndexError PageError"),
+    ("file_bytes/src/error.rt", "enum ReadError", "page_pool/src/page.rt", "ReadError PageError"),
     ("block_file/src/fault.rt", "enum TakeFault", "file_bytes/src/form.rt", "TakeFault FormFault"),
     ("wcps_mean/src/product.rt", "fn capped", "csv_out/src/cells.rt", "capped limited m a n b"),
 ]

@@ -5,3 +5,4 @@ pub mod Uses
 pub mod View
 pub mod Links
 pub mod Limits
+pub mod Faults

@@ -55,7 +55,7 @@ pub struct Opened<D: Disk> {
 
 /// A disk that was not opened, and why.
 #[derive(Drop)]
-pub struct Refused<D: Disk> {
+pub struct NotOpened<D: Disk> {
     pub disk: D,
     pub fault: OpenFault,
 }
@@ -67,7 +67,7 @@ impl<D: Disk> BlockFile<D> {
     /// The refusals, with the disk, in this order: not a store for fewer bytes than a header, another magic or
     /// another version; not closed for the state of an open file; damaged for any other departure from the format.
     /// Want of memory and a fault of the disk may come at any time.
-    pub fn open(alloc: Global, mut disk: D) -> Result<Opened<D>, Refused<D>>
+    pub fn open(alloc: Global, mut disk: D) -> Result<Opened<D>, NotOpened<D>>
         ensures opened { IfOk result (λ it. Opens (D.honest disk) (D.content disk) it.metadata.items it.file.marks) }
         ensures version { IfOk result (λ it. IsTrue (D.honest disk) → IsOfVersion it.version (D.content disk)) }
         ensures fresh { IfOk result (λ it. IsFresh it.file.marks) }
@@ -78,7 +78,7 @@ impl<D: Disk> BlockFile<D> {
         ensures told { IfErr result (λ r. Tells (r.fault ≡ OpenFault.DiskFault) (D.failures disk) (D.failures r.disk)) }
     {
         match read_layout(alloc, &mut disk) {
-            Err(fault) => Err(Refused { disk, fault }),
+            Err(fault) => Err(NotOpened { disk, fault }),
             Ok(
                 Layout {
                     version,

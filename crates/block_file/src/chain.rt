@@ -9,7 +9,7 @@ ghost use Rattle.block_file.specs.Links.{IsNoChain, IsLayoutOf, ReadsChain, Adds
 
 use crate::header::{Header, put_number, u32_at};
 use crate::marks::Marks;
-use crate::{BLOCK_BYTES, Blocks, CHAIN_BYTES, ChainFault, OpenFault, TakeFault};
+use crate::{BLOCK_BYTES, Blocks, CHAIN_BYTES, CloseFault, OpenFault, TakeFault};
 use disk_face::{Disk, DiskFault};
 use file_bytes::Version;
 use std::alloc::{AllocError, Global};
@@ -78,16 +78,16 @@ pub(crate) fn read_chain<D: Disk>(
 
 /// Writes metadata, of at least one byte, as a chain into blocks that are free and stay so, and gives the first of
 /// them. As many blocks have to be free as it fills. Refused for memory, or for a fault of the disk.
-pub fn write_chain<B: Blocks>(file: &mut B, metadata: &[u8]) -> Result<u32, ChainFault>
+pub fn write_chain<B: Blocks>(file: &mut B, metadata: &[u8]) -> Result<u32, CloseFault>
     requires some { 0 < length metadata.now }
     requires room { chain_blocks (length metadata.now) ≤ free_of (B.state file.old) }
     ensures chain { IfOk result (λ first. HoldsChain first metadata.now (B.state file.new)) }
     ensures frame { Moves none none (B.state file.old) (B.state file.new) }
-    ensures told { Tells (IsErrOf result ChainFault.DiskFault) (B.state file.old).failures (B.state file.new).failures }
+    ensures told { Tells (IsErrOf result CloseFault.DiskFault) (B.state file.old).failures (B.state file.new).failures }
 {
     let taken = match file.take(metadata.len().div_ceil(CHAIN_BYTES)) {
         Ok(taken) => taken,
-        Err(TakeFault::NoMemory) => return Err(ChainFault::NoMemory),
+        Err(TakeFault::NoMemory) => return Err(CloseFault::NoMemory),
         Err(TakeFault::NoRoom) => unreachable!(),
     };
     let ks: &[u32] = &taken;
@@ -95,7 +95,7 @@ pub fn write_chain<B: Blocks>(file: &mut B, metadata: &[u8]) -> Result<u32, Chai
     file.give_back(ks);
     match written {
         Ok(()) => Ok(ks[0]),
-        Err(DiskFault) => Err(ChainFault::DiskFault),
+        Err(DiskFault) => Err(CloseFault::DiskFault),
     }
 }
 

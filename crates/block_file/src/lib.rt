@@ -14,10 +14,10 @@ mod fault;
 mod header;
 mod marks;
 
-pub use block_file::{BlockFile, Opened, Refused};
+pub use block_file::{BlockFile, NotOpened, Opened};
 pub use chain::write_chain;
 use disk_face::DiskFault;
-pub use fault::{ChainFault, Damaged, OpenFault, TakeFault};
+pub use fault::{CloseFault, Damaged, OpenFault, TakeFault};
 pub use header::State;
 use std::alloc::AllocError;
 

@@ -2,7 +2,6 @@
 
 ghost use Rattle.std.specs.Prelude.{◌≡◌};
 ghost use Rattle.catalogue.specs.declared.error.InsertError.TheVariants.{NoMemory};
-ghost use Rattle.catalogue.specs.declared.error.ReadError.TheVariants.{NoMemory as NoMemoryToRead};
 
 use std::alloc::{AllocError, AllocFailed};
 use thiserror::Error;
@@ -47,30 +46,3 @@ impl<T: Drop> From<AllocFailed<T>> for InsertError {
 #[derive(Clone, Copy, PartialEq, Eq, Debug, Error)]
 #[error("no such coverage")]
 pub struct NoSuchCoverage;
-
-/// Why bytes are not read as a catalogue.
-#[derive(Clone, Copy, PartialEq, Eq, Debug, Error)]
-pub enum ReadError {
-    /// The bytes are those of no catalogue.
-    #[error("damaged")]
-    Damaged,
-    /// No memory was left.
-    #[error("out of memory")]
-    NoMemory,
-}
-
-impl From<AllocError> for ReadError {
-    ghost from_gives = { λ _ e. e ≡ NoMemoryToRead };
-
-    fn from(_error: AllocError) -> ReadError {
-        ReadError::NoMemory
-    }
-}
-
-impl<T: Drop> From<AllocFailed<T>> for ReadError {
-    ghost from_gives = { λ _ e. e ≡ NoMemoryToRead };
-
-    fn from(_error: AllocFailed<T>) -> ReadError {
-        ReadError::NoMemory
-    }
-}

@@ -9,4 +9,4 @@ mod reading;
 mod writing;
 
 pub use catalogue::Catalogue;
-pub use error::{InsertError, NoSuchCoverage, ReadError};
+pub use error::{InsertError, NoSuchCoverage};

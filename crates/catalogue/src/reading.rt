@@ -11,12 +11,11 @@ ghost use Rattle.catalogue.specs.Bytes.{name_bytes, type_number, axis_bytes, dom
 ghost use Rattle.catalogue.specs.Reading.{AreMany, AreManyRead, IsCatalogueOf, AreOfNoCatalogue, AreOfNoOther};
 
 use crate::catalogue::Catalogue;
-use crate::error::ReadError;
 use arr_core::domain::MAX_AXES;
 use arr_core::{
     Axis, Domain, Field, FieldType, Fields, MAX_COVERAGES, MAX_FIELDS, Name, NameError, Signature,
 };
-use file_bytes::{Reader, Version};
+use file_bytes::{ReadError, Reader, Version};
 use std::alloc::Global;
 use std::str::from_utf8;
 

@@ -3,8 +3,8 @@ use Rattle.std.proofs.Common.{◌≡◌, ◌∙◌, ℕ, List, IsTrue, sym, ap, 
 use Rattle.arr_core.specs.Stores.{Store}
 use Rattle.metadata.specs.Metadata.{metadata_bytes}
 use Rattle.raster_store.specs.Views.{Index, AreIntact}
-use Rattle.coverage_server.specs.declared.closing.CloseFault.{CloseFault}
-use Rattle.coverage_server.specs.declared.closing.CloseFault.TheVariants as closing
+use Rattle.block_file.specs.declared.fault.CloseFault.{CloseFault}
+use Rattle.block_file.specs.declared.fault.CloseFault.TheVariants as closing
 use Rattle.coverage_server.specs.Closing.{HoldsClosed, IsWritten, WritesHeld, metadata_held}
 use Rattle.coverage_server.specs.Damage.{KeepsSpelled}
 use Rattle.coverage_server.specs.Disk.{DiskView, HoldsStore, ListsStore}

@@ -28,14 +28,9 @@ use Rattle.raster_store.specs.Calls.{index_of, AreWhole, AreListed}
 use Rattle.coverage_server.specs.Damage.{IsIntactIn, IsIntactNamed}
 use Rattle.coverage_server.specs.Sessions.{IsNotClosed}
 use Rattle.coverage_server.specs.Views.{ServerView, signatures_of, uses_in, IsClosable}
-use Rattle.disk_face.specs.Disk.{Tells}
-use Rattle.tile_store.specs.declared.fault.Fault.{Fault}
-use Rattle.tile_store.specs.declared.fault.Fault.TheVariants as device
-use Rattle.coverage_server.specs.declared.closing.CloseFault.{CloseFault}
-use Rattle.coverage_server.specs.declared.closing.CloseFault.TheVariants as closing
-use Rattle.coverage_server.specs.Closing.{indexes_named, field_indexes, bytes_named, bytes_written, IsWritten, TellsClose}
+use Rattle.block_file.specs.declared.fault.CloseFault.{CloseFault}
+use Rattle.coverage_server.specs.Closing.{indexes_named, field_indexes, bytes_named, bytes_written, IsWritten}
 use Rattle.coverage_server.specs.Disk.{AreTiles, ListsStore, HoldsStore}
-use Rattle.coverage_server.proofs.FaultLemmas.{tells_as, tells_none}
 use Rattle.coverage_server.proofs.FreeLemmas.{free_unlisted}
 
 -- the index of a field is one of those of its coverage
@@ -214,14 +209,6 @@ nothing_written bytes = sym (append-nil bytes)
 pub nothing_named : (bytes name : List ℕ) (store : Store) (indexes : List (List Index)) → found name store ≡ None → bytes ≡ bytes ++ bytes_named name store indexes
 nothing_named bytes name store indexes none =
     nothing_written bytes ∙ ap (λ (o : Option Coverage). bytes ++ indexes_bytes (field_indexes o (indexes_named name store indexes))) (sym none)
-
--- what a refused closing tells of the disk
-pub close_told : (T U : Type 0) (fault : Fault) (told : CloseFault) (old new : ℕ) → TellsClose fault told
-    → Tells (IsErrOf {T = T} (Err fault) device.DiskFault) old new → Tells (IsErrOf {T = U} (Err told) closing.DiskFault) old new
-close_told T U device.NoMemory told old new is t = tells_none _ _ old new (λ e. absurd cc) (λ e. absurd cc) t
-close_told T U device.DiskFault told old new is t = tells_as _ _ old new (λ e. ap Err is) (λ e. refl) t
-close_told T U device.NoRoom told old new is t = absurd is
-close_told T U device.Damaged told old new is t = absurd is
 
 -- a close that was refused, and then another
 pub spelled_again : (fault : CloseFault) (old mid : ServerView) (content : List ℕ) → IsNotClosed fault old mid

@@ -7,7 +7,7 @@ use Rattle.raster_store.specs.Snapshots.{without_job}
 use Rattle.job_desk.specs.Desks.{DeskView}
 use Rattle.coverage_server.specs.Holding.{IsHolding}
 use Rattle.arr_core.specs.Stores.{Store}
-use Rattle.coverage_server.specs.declared.closing.CloseFault.{CloseFault}
+use Rattle.block_file.specs.declared.fault.CloseFault.{CloseFault}
 use Rattle.coverage_server.specs.Disk.{HoldsStore, ListsStore}
 use Rattle.coverage_server.specs.Sessions.{IsNotClosed}
 use Rattle.coverage_server.specs.Represents.{Places}

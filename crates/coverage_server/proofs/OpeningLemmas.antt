@@ -13,8 +13,6 @@ use Rattle.file_bytes.specs.declared.form.Version.TheVariants.{One, Two}
 use Rattle.block_file.specs.Format.{TellsVersion, IsClosed, IsDamaged, HeaderTorn, number_at, link, first_of, chain_blocks}
 use Rattle.block_file.specs.Uses.{CanClaim, Claims, IsFresh, use_count, uses_of}
 use Rattle.block_file.specs.View.{BlockFileView, IsOpened, IsRefused, IsOfVersion as HasVersion}
-use Rattle.block_file.specs.declared.fault.OpenFault.{OpenFault as ChainFault}
-use Rattle.block_file.specs.declared.fault.OpenFault.TheVariants as chain
 use Rattle.disk_face.specs.Disk.{Tells}
 use Rattle.block_file.proofs.Free.{free_enough}
 use Rattle.block_file.proofs.Places.{whole_inside}
@@ -30,9 +28,9 @@ use Rattle.raster_store.proofs.Totals.{listed_all-nil, listed_all-push}
 use Rattle.coverage_server.specs.Disk.{AreTiles, DiskView, IsTileBlock, IsLaidOut, HoldsStore, IsWant, IsNoStore, Lists}
 use Rattle.tile_store.specs.declared.fault.Fault.{Fault}
 use Rattle.tile_store.specs.declared.fault.Fault.TheVariants as device
-use Rattle.coverage_server.specs.Opening.{items_of, IsListed, ClaimsListed, CannotClaim, ClaimsLayout, IsNotLaidOut, Departs, TellsAttach, chain_fault}
-use Rattle.coverage_server.specs.declared.opening.OpenFault.{OpenFault}
-use Rattle.coverage_server.specs.declared.opening.OpenFault.TheVariants as opening
+use Rattle.coverage_server.specs.Opening.{items_of, IsListed, ClaimsListed, CannotClaim, ClaimsLayout, IsNotLaidOut, Departs, TellsAttach}
+use Rattle.block_file.specs.declared.fault.OpenFault.{OpenFault}
+use Rattle.block_file.specs.declared.fault.OpenFault.TheVariants as opening
 use Rattle.coverage_server.specs.Sessions.{IsNotOpened}
 use Rattle.coverage_server.specs.Views.{signatures_of, uses_in, free_in}
 use Rattle.coverage_server.proofs.LayoutLemmas.{claimed_blocks, laid_claims, one_layout}
@@ -402,33 +400,25 @@ torn_none content = record {
 }
 
 -- why a disk is not opened whose header or chain is refused
-early_refused : (content : List ℕ) (fault : ChainFault) → IsRefused fault content → IsNoStore content (chain_fault fault)
-early_refused content chain.NoMemory r = tt
-early_refused content chain.DiskFault r = tt
-early_refused content chain.Damaged r = damaged_none content r
-early_refused content chain.NotAStore r = r
-early_refused content chain.NotClosed r = r
-
--- a fault of the disk is told as one
-disk_fault : (fault : ChainFault) → chain_fault fault ≡ opening.DiskFault → fault ≡ chain.DiskFault
-disk_fault chain.NoMemory e = absurd cc
-disk_fault chain.DiskFault e = refl
-disk_fault chain.Damaged e = absurd cc
-disk_fault chain.NotAStore e = absurd cc
-disk_fault chain.NotClosed e = absurd cc
+early_refused : (content : List ℕ) (fault : OpenFault) → IsRefused fault content → IsNoStore content fault
+early_refused content opening.NoMemory r = tt
+early_refused content opening.DiskFault r = tt
+early_refused content opening.Damaged r = damaged_none content r
+early_refused content opening.NotAStore r = r
+early_refused content opening.NotClosed r = r
 
 -- what is left of such a disk is what it was
-pub not_opened : (fault : ChainFault) (told : OpenFault) (old left : DiskView) → told ≡ chain_fault fault → (IsTrue old.honest → IsRefused fault old.content) → left.content ≡ old.content → left.honest ≡ old.honest
-    → left.overreads ≡ old.overreads → Tells (fault ≡ chain.DiskFault) old.failures left.failures → IsNotOpened told old left
-not_opened fault told old left is why content honest inside tells = rw is (record {
+pub not_opened : (fault : OpenFault) (old left : DiskView) → (IsTrue old.honest → IsRefused fault old.content) → left.content ≡ old.content → left.honest ≡ old.honest
+    → left.overreads ≡ old.overreads → Tells (fault ≡ opening.DiskFault) old.failures left.failures → IsNotOpened fault old left
+not_opened fault old left why content honest inside tells = record {
   why = λ truly. early_refused old.content fault (why truly);
-  want = λ truly store held. want_of old.content (chain_fault fault) store (early_refused old.content fault (why truly)) held;
-  disk_fault = λ e. tells.told (disk_fault fault e);
-  others = λ ne. (content, tells.quiet (λ e. ne (ap chain_fault e)));
+  want = λ truly store held. want_of old.content fault store (early_refused old.content fault (why truly)) held;
+  disk_fault = tells.told;
+  others = λ ne. (content, tells.quiet ne);
   torn = λ truly. rw content (torn_none old.content);
   honest = honest;
   overreads = inside;
-})
+}
 
 -- the coverages that are attached, the next one, and those that are left
 pub items_split : (all yielded rest later : List (Vec TileIndex Global)) (x : Vec TileIndex Global) → all ≡ yielded ++ rest → rest ≡ x ∷ later → items_of all ≡ items_of yielded ++ x.items ∷ items_of later

@@ -8,8 +8,8 @@ use Rattle.block_file.specs.declared.header.State.TheVariants.{Open}
 use Rattle.disk_face.specs.Disk.{Rose, Tells}
 use Rattle.stream_face.specs.Views.{SourceView, SinkView}
 use Rattle.coverage_server.specs.declared.server.ConnEnd.{ConnEnd}
-use Rattle.coverage_server.specs.declared.closing.CloseFault.{CloseFault}
-use Rattle.coverage_server.specs.declared.closing.CloseFault.TheVariants as closing
+use Rattle.block_file.specs.declared.fault.CloseFault.{CloseFault}
+use Rattle.block_file.specs.declared.fault.CloseFault.TheVariants as closing
 use Rattle.coverage_server.specs.Damage.{IsIntactIn, IsIntactNamed}
 use Rattle.coverage_server.specs.Disk.{DiskView, ListsStore}
 use Rattle.coverage_server.specs.Leaving.{Continues}

@@ -10,11 +10,7 @@ use Rattle.block_file.specs.Format.{IsClosed, Closes, TellsVersion, link, first_
 use Rattle.catalogue.specs.Bytes.{catalogue_bytes}
 use Rattle.metadata.specs.Metadata.{part_bytes, indexes_bytes, metadata_bytes}
 use Rattle.raster_store.specs.Views.{Index, AreIntact, listed_all}
-use Rattle.tile_store.specs.declared.fault.Fault.{Fault}
-use Rattle.tile_store.specs.declared.fault.Fault.TheVariants as device
 use Rattle.coverage_server.specs.Disk.{HoldsStore, ListsStore}
-use Rattle.coverage_server.specs.declared.closing.CloseFault.{CloseFault}
-use Rattle.coverage_server.specs.declared.closing.CloseFault.TheVariants as closing
 use Rattle.coverage_server.specs.Views.{ServerView, IsSound, signatures_of}
 
 -- the indexes of the fields of the coverage with a name
@@ -64,10 +60,3 @@ pub record HoldsClosed (v : ServerView) (content : List ℕ) : Type 0 where
   pub lists : IsWritten content (metadata_held v) v.indexes → IsTrue v.honest → ListsStore content v.store v.indexes
   pub held : IsWritten content (metadata_held v) v.indexes → IsSound v → HoldsStore content v.store
   pub intact : IsSound v → AreIntact content v.store v.indexes
-
--- how it is told why a server is not closed; room is never wanting then, and no tile is read
-abbrev pub TellsClose : Fault → CloseFault → Type 0
-TellsClose device.NoMemory told = told ≡ closing.NoMemory
-TellsClose device.DiskFault told = told ≡ closing.DiskFault
-TellsClose device.NoRoom told = ⊥
-TellsClose device.Damaged told = ⊥

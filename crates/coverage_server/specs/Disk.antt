@@ -1,9 +1,8 @@
 -- What it is that a disk holds a store.
 use Rattle.std.specs.Prelude.{◌≡◌, ◌≢◌, ℕ, ◌/◌, ◌<◌, ◌⊎◌, Bool, List, [], ◌∷◌, length, ⊤}
-use Rattle.arr_core.specs.declared.refusal.Refusal.{Refusal}
-use Rattle.arr_core.specs.declared.refusal.Refusal.TheVariants.{Damaged, DiskFault, NoMemory, NotAStore, NotClosed}
 use Rattle.arr_core.specs.declared.signature.Signature.{Signature}
 use Rattle.arr_core.specs.Stores.{Store}
+use Rattle.block_file.specs.Limits.{block_bytes}
 use Rattle.block_file.specs.State.{block_at, overreads_of}
 use Rattle.disk_face.specs.declared.Disk.{Ghosts}
 use Rattle.block_file.specs.declared.header.State.TheVariants.{Open}
@@ -11,10 +10,8 @@ use Rattle.file_bytes.specs.declared.form.Version.{Version}
 use Rattle.file_bytes.specs.declared.form.Version.TheVariants.{Two}
 use Rattle.block_file.specs.Format.{IsHeader, IsStoreFile, TellsVersion, IsClosed, number_at, link, first_of, chain_blocks}
 use Rattle.metadata.specs.Metadata.{IsMetadata, IsOfVersion}
-use Rattle.coverage_server.specs.declared.opening.OpenFault.{OpenFault}
-use Rattle.coverage_server.specs.declared.opening.OpenFault.TheVariants as opening
-use Rattle.coverage_server.specs.declared.closing.CloseFault.{CloseFault}
-use Rattle.coverage_server.specs.declared.closing.CloseFault.TheVariants as closing
+use Rattle.block_file.specs.declared.fault.OpenFault.{OpenFault}
+use Rattle.block_file.specs.declared.fault.OpenFault.TheVariants as opening
 use Rattle.raster_store.specs.Views.{Index, AreBelow, AreIntact, coverages_in, listed_all}
 
 -- What a disk tells: the bytes that it holds, whether it is honest, how many of its calls have failed, and how often an honest
@@ -44,7 +41,7 @@ AreTiles (s ∷ signatures) (i ∷ indexes) = AreBelow s.domain i × AreTiles si
 pub record IsTileBlock (content : List ℕ) (size : ℕ) (indexes : List (List Index)) (k : ℕ) : Type 0 where
   pub once : listed_all indexes k ≡ 1
   pub above_zero : 0 < k
-  pub within : k < length content / 4096
+  pub within : k < length content / block_bytes
   pub apart : (i : ℕ) → i < chain_blocks size → link (block_at content) (first_of content) i ≢ k
 
 -- A closed file: its metadata is that of these signatures and indexes, which are such as a file of its version has, and
@@ -84,19 +81,7 @@ pub record HoldsStore (content : List ℕ) (store : Store) : Type 0 where
 
 -- the header is that of an open file of version 2 with as many blocks as there are
 abbrev pub IsOpenFile : List ℕ → Type 0
-IsOpenFile content = IsHeader content Open (length content / 4096) 0 0 × TellsVersion Two content
-
--- the refusals of an opening and of a closing
-abbrev pub open_refusal : OpenFault → Refusal
-open_refusal opening.NoMemory = NoMemory
-open_refusal opening.DiskFault = DiskFault
-open_refusal opening.Damaged = Damaged
-open_refusal opening.NotAStore = NotAStore
-open_refusal opening.NotClosed = NotClosed
-
-abbrev pub close_refusal : CloseFault → Refusal
-close_refusal closing.NoMemory = NoMemory
-close_refusal closing.DiskFault = DiskFault
+IsOpenFile content = IsHeader content Open (length content / block_bytes) 0 0 × TellsVersion Two content
 
 -- what may be told of any disk
 abbrev pub IsWant : OpenFault → Type 0

@@ -5,8 +5,6 @@ use Rattle.arr_core.specs.declared.signature.Signature.{Signature}
 use Rattle.block_file.specs.State.{BlocksState, times}
 use Rattle.block_file.specs.Uses.{CanClaim, Claims, uses_of}
 use Rattle.block_file.specs.View.{BlockFileView}
-use Rattle.block_file.specs.declared.fault.OpenFault.{OpenFault as ChainFault}
-use Rattle.block_file.specs.declared.fault.OpenFault.TheVariants as chain
 use Rattle.catalogue.specs.Bytes.{catalogue_bytes}
 use Rattle.file_bytes.specs.declared.form.Version.{Version}
 use Rattle.metadata.specs.Metadata.{IsMetadata, IsOfVersion}
@@ -16,8 +14,8 @@ use Rattle.tile_store.specs.declared.fault.Fault.{Fault}
 use Rattle.tile_store.specs.declared.fault.Fault.TheVariants as device
 use Rattle.raster_store.specs.Calls.{MayAttach}
 use Rattle.raster_store.specs.Views.{Index, RasterView, coverages_in, listed_all, reserve}
-use Rattle.coverage_server.specs.declared.opening.OpenFault.{OpenFault}
-use Rattle.coverage_server.specs.declared.opening.OpenFault.TheVariants as opening
+use Rattle.block_file.specs.declared.fault.OpenFault.{OpenFault}
+use Rattle.block_file.specs.declared.fault.OpenFault.TheVariants as opening
 use Rattle.coverage_server.specs.Disk.{AreTiles, DiskView, IsLaidOut, Lists}
 use Rattle.coverage_server.specs.Views.{ServerView, free_in}
 
@@ -109,14 +107,6 @@ Departs departure opening.NotClosed = ⊥
 -- why an opened file holds no store, if its disk is honest
 abbrev pub IsNoLayout : BlockFileView → OpenFault → Type 0
 IsNoLayout file fault = Departs (IsTrue file.honest → (0 < length file.content) × IsNotLaidOut file.content) fault
-
--- why a file is not opened
-abbrev pub chain_fault : ChainFault → OpenFault
-chain_fault chain.NoMemory = opening.NoMemory
-chain_fault chain.DiskFault = opening.DiskFault
-chain_fault chain.Damaged = opening.Damaged
-chain_fault chain.NotAStore = opening.NotAStore
-chain_fault chain.NotClosed = opening.NotClosed
 
 -- how it is told why coverages are not attached; the disk is not asked then, and room is never wanting
 abbrev pub TellsAttach : Fault → OpenFault → Type 0

@@ -5,10 +5,10 @@ use Rattle.block_file.specs.Format.{IsHeader, HeaderTorn, KeepsHeader}
 use Rattle.block_file.specs.declared.header.State.TheVariants.{Open}
 use Rattle.disk_face.specs.Disk.{Rose, Tells}
 use Rattle.disk_face.specs.declared.Disk.{Ghosts}
-use Rattle.coverage_server.specs.declared.opening.OpenFault.{OpenFault}
-use Rattle.coverage_server.specs.declared.opening.OpenFault.TheVariants as opening
-use Rattle.coverage_server.specs.declared.closing.CloseFault.{CloseFault}
-use Rattle.coverage_server.specs.declared.closing.CloseFault.TheVariants as closing
+use Rattle.block_file.specs.declared.fault.OpenFault.{OpenFault}
+use Rattle.block_file.specs.declared.fault.OpenFault.TheVariants as opening
+use Rattle.block_file.specs.declared.fault.CloseFault.{CloseFault}
+use Rattle.block_file.specs.declared.fault.CloseFault.TheVariants as closing
 use Rattle.coverage_server.specs.declared.server.ConnEnd.{ConnEnd}
 use Rattle.coverage_server.specs.declared.session.SessionFault.{SessionFault}
 use Rattle.coverage_server.specs.declared.session.SessionFault.TheVariants.{NotOpened, NotClosed}

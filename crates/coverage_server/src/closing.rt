@@ -11,45 +11,12 @@ ghost use Rattle.coverage_server.specs.Views.{IsSound, IsUnchanged, without_jobs
 use crate::cells::AskedCells;
 use crate::coverages::Coverages;
 use crate::server::Server;
-use arr_core::{Name, Refusal};
+use arr_core::Name;
+use block_file::CloseFault;
 use disk_face::Disk;
 use metadata::push_part;
 use std::alloc::{AllocError, Global};
-use thiserror::Error;
 use tile_exec::Workspace;
-
-/// Why a server is not closed.
-#[derive(Clone, Copy, Debug, PartialEq, Eq, Error)]
-pub enum CloseFault {
-    #[error("out of memory")]
-    NoMemory,
-    #[error("the disk failed")]
-    DiskFault,
-}
-
-impl From<AllocError> for CloseFault {
-    ghost use Rattle.coverage_server.specs.declared.closing.CloseFault.TheVariants.{NoMemory};
-
-    ghost from_gives = { λ _ e. e ≡ NoMemory };
-
-    fn from(_error: AllocError) -> CloseFault {
-        CloseFault::NoMemory
-    }
-}
-
-impl CloseFault {
-    ghost use Rattle.coverage_server.specs.Disk.{close_refusal};
-
-    /// The refusal that is told of it.
-    pub fn refusal(self) -> Refusal
-        ensures { result ≡ close_refusal self }
-    {
-        match self {
-            CloseFault::NoMemory => Refusal::NoMemory,
-            CloseFault::DiskFault => Refusal::DiskFault,
-        }
-    }
-}
 
 /// A server that was not closed, and why. It has its store, and may be closed again.
 #[derive(Drop)]

@@ -19,7 +19,7 @@ ghost use Rattle.coverage_server.specs.Leaving.{Continues, KeepsDisk};
 ghost use Rattle.coverage_server.specs.Tiles.{ArePickedFor, IsSpelledFor, store_for};
 ghost use Rattle.disk_face.specs.Disk.{Tells};
 ghost use Rattle.kvp_front.specs.Contents.{content_view};
-ghost use Rattle.coverage_server.specs.Closing.{bytes_written, ClosesFile, HoldsClosed, TellsClose, WritesHeld};
+ghost use Rattle.coverage_server.specs.Closing.{bytes_written, ClosesFile, HoldsClosed, WritesHeld};
 ghost use Rattle.tile_store.specs.declared.fault.Fault.TheVariants as device;
 ghost use Rattle.kvp_front.specs.Contents as contents;
 ghost use Rattle.coverage_server.specs.Disk.{IsOpenFile};
@@ -27,10 +27,9 @@ ghost use Rattle.coverage_server.specs.Views.{IsSound, IsUnchanged, KeepsHeld, s
 ghost use Rattle.coverage_server.specs.Writing.{device_refusal, write_refusal, insert_refusal, FindsCoverage};
 ghost use Rattle.coverage_server.specs.Writing.{InsertsCoverage, InsertRefused, WritesCells, WriteRefused};
 
-use crate::closing::CloseFault;
 use crate::error::AnswerError;
 use arr_core::{Cell, Domain, Name, Refusal, RunList, Signature};
-use block_file::State;
+use block_file::{CloseFault, State};
 use catalogue::{Catalogue, InsertError};
 use disk_face::{Disk, DiskFault};
 use kvp_front::Content;
@@ -102,20 +101,6 @@ fn device_refusal(fault: Fault) -> AnswerError
         Fault::DiskFault => AnswerError::DiskFault,
         Fault::NoRoom => AnswerError::NoRoom,
         Fault::Damaged => AnswerError::Damaged,
-    }
-}
-
-/// Why a server is not closed. Room is never wanting then, and no tile is read.
-fn close_fault(fault: Fault) -> CloseFault
-    requires room { fault ≡ device.NoRoom → ⊥ }
-    requires damage { fault ≡ device.Damaged → ⊥ }
-    ensures { TellsClose fault result }
-{
-    match fault {
-        Fault::NoMemory => CloseFault::NoMemory,
-        Fault::DiskFault => CloseFault::DiskFault,
-        Fault::NoRoom => unreachable!(),
-        Fault::Damaged => unreachable!(),
     }
 }
 
@@ -431,29 +416,24 @@ impl<D: Disk> Coverages<D> {
     {
         let _catalogue = self.catalogue.len();
         let _whole = self.cells.len();
-        match self.cells.write_meta(metadata) {
-            Err(fault) => Err(close_fault(fault)),
-            Ok(first) => self.write_header(first, metadata.len() as u64),
-        }
+        let first = self.cells.write_meta(metadata)?;
+        self.write_header(first, metadata.len() as u64)?;
+        Ok(())
     }
 
-    /// Writes the header of a closed file.
-    fn write_header(&mut self, first: u32, length: u64) -> Result<(), CloseFault>
+    /// Writes the header of a closed file. Refused where the disk has counted a failure.
+    fn write_header(&mut self, first: u32, length: u64) -> Result<(), DiskFault>
         ensures closes { OnOk result
             (IsTrue self.old.honest → ClosesFile first length self.old.content self.new.content) }
         ensures unchanged { IsUnchanged self.old self.new }
         ensures sound { IsSound self.old → IsSound self.new }
         ensures spelled { IsTrue self.old.honest → KeepsSpelled self.old self.new }
         ensures honest { self.new.honest ≡ self.old.honest }
-        ensures told { Tells (IsErrOf result CloseFault.DiskFault) self.old.failures self.new.failures }
+        ensures told { Tells (IsErr result) self.old.failures self.new.failures }
         ensures overreads { self.new.overreads ≡ self.old.overreads }
-        ensures memory { IsErrOf result CloseFault.NoMemory → ⊥ }
     {
         let _held = self.cells.len();
-        match self.cells.write_header(State::Closed, first, length) {
-            Ok(()) => Ok(()),
-            Err(_) => Err(CloseFault::DiskFault),
-        }
+        self.cells.write_header(State::Closed, first, length)
     }
 
     /// Writes the header of an open file of version 2. Refused where the disk has counted a failure.

@@ -18,9 +18,8 @@ mod server;
 mod session;
 mod templates;
 
-pub use closing::{CloseFault, NotClosed};
+pub use closing::NotClosed;
 pub use laws::one_answer;
-pub use opening::{NotOpened, OpenFault};
 pub use server::{ConnEnd, Server};
 pub use session::{SessionFault, serve_session, sessions_compose};
 pub use templates::templates_are_tomlins;

@@ -9,78 +9,28 @@ ghost use Rattle.raster_store.specs.Views.{listed_all, listed_fields};
 ghost use Rattle.coverage_server.specs.Disk.{AreTiles, disk_view};
 ghost use Rattle.coverage_server.specs.Opening.{items_of, IsListed, IsUnread, ClaimsListed, CannotClaim, ClaimsRead};
 ghost use Rattle.coverage_server.specs.Opening.{Attaches, MayAttachAll, ListsFile, ShowsFile, GivesBack};
-ghost use Rattle.coverage_server.specs.Opening.{Departs, IsNoLayout, TellsAttach, chain_fault};
+ghost use Rattle.coverage_server.specs.Opening.{Departs, IsNoLayout, TellsAttach};
 ghost use Rattle.tile_store.specs.declared.fault.Fault.TheVariants as device;
 ghost use Rattle.coverage_server.specs.Sessions.{IsOpenedFrom, LeavesUnopened};
 
 use crate::cells::AskedCells;
 use crate::coverages::Coverages;
 use crate::server::Server;
-use arr_core::{Refusal, Signature};
-use block_file::{BlockFile, Blocks, CHAIN_BYTES, Opened, Refused, State};
+use arr_core::Signature;
+use block_file::{BlockFile, Blocks, CHAIN_BYTES, NotOpened, OpenFault, Opened, State};
 use catalogue::Catalogue;
 use disk_face::Disk;
-use file_bytes::Version;
+use file_bytes::{ReadError, Version};
 use job_desk::JobDesk;
-use metadata::{Metadata, ReadError, read_metadata};
+use metadata::{Metadata, read_metadata};
 use page_pool::PagePool;
 use raster_store::{Fault, RasterStore};
 use std::alloc::{AllocError, Global};
-use thiserror::Error;
 use tile_exec::Workspace;
 use tile_index::TileIndex;
 
 /// How many pages of a file are kept.
 const PAGES: usize = 256;
-
-/// Why a disk is not opened.
-#[derive(Clone, Copy, Debug, PartialEq, Eq, Error)]
-pub enum OpenFault {
-    #[error("out of memory")]
-    NoMemory,
-    #[error("the disk failed")]
-    DiskFault,
-    #[error("damaged")]
-    Damaged,
-    #[error("not a store file")]
-    NotAStore,
-    #[error("not closed")]
-    NotClosed,
-}
-
-impl OpenFault {
-    ghost use Rattle.coverage_server.specs.Disk.{open_refusal};
-
-    /// The refusal that is told of it.
-    pub fn refusal(self) -> Refusal
-        ensures { result ≡ open_refusal self }
-    {
-        match self {
-            OpenFault::NoMemory => Refusal::NoMemory,
-            OpenFault::DiskFault => Refusal::DiskFault,
-            OpenFault::Damaged => Refusal::Damaged,
-            OpenFault::NotAStore => Refusal::NotAStore,
-            OpenFault::NotClosed => Refusal::NotClosed,
-        }
-    }
-}
-
-impl From<AllocError> for OpenFault {
-    ghost use Rattle.coverage_server.specs.declared.opening.OpenFault.TheVariants.{NoMemory};
-
-    ghost from_gives = { λ _ e. e ≡ NoMemory };
-
-    fn from(_error: AllocError) -> OpenFault {
-        OpenFault::NoMemory
-    }
-}
-
-/// A disk that was not opened, and why.
-#[derive(Drop)]
-pub struct NotOpened<D: Disk> {
-    pub disk: D,
-    pub fault: OpenFault,
-}
 
 /// Puts the blocks that the indexes of fields list behind others.
 fn push_blocks(alloc: Global, fields: &[TileIndex], blocks: &mut Vec<u32>) -> Result<(), AllocError>
@@ -215,19 +165,6 @@ fn attach_all<B: Blocks>(
     Ok(())
 }
 
-/// Why the file of a disk is not opened.
-fn chain_fault(fault: block_file::OpenFault) -> OpenFault
-    ensures { result ≡ chain_fault fault }
-{
-    match fault {
-        block_file::OpenFault::NoMemory => OpenFault::NoMemory,
-        block_file::OpenFault::DiskFault => OpenFault::DiskFault,
-        block_file::OpenFault::Damaged => OpenFault::Damaged,
-        block_file::OpenFault::NotAStore => OpenFault::NotAStore,
-        block_file::OpenFault::NotClosed => OpenFault::NotClosed,
-    }
-}
-
 /// The coverages of a file that was opened. Nothing is written.
 fn coverages_of<D: Disk>(alloc: Global, opened: Opened<D>) -> Result<Coverages<D>, NotOpened<D>>
     requires opened { IsTrue opened.file.honest → IsOpened opened.file.content opened.metadata.items opened.file.marks }
@@ -282,19 +219,8 @@ impl<D: Disk> Server<D> {
         ensures fetched { IfOk result (λ server. server.coverages.fetched ≡ 0) }
         ensures refused { IfErr result (λ left. LeavesUnopened D.Disk disk left.fault left.disk) }
     {
-        let opened = match BlockFile::open(alloc, disk) {
-            Ok(opened) => opened,
-            Err(Refused { disk, fault }) => {
-                return Err(NotOpened {
-                    disk,
-                    fault: chain_fault(fault),
-                });
-            }
-        };
-        let mut coverages = match coverages_of(alloc, opened) {
-            Ok(coverages) => coverages,
-            Err(refused) => return Err(refused),
-        };
+        let opened = BlockFile::open(alloc, disk)?;
+        let mut coverages = coverages_of(alloc, opened)?;
         match coverages.write_open() {
             Ok(()) => Ok(Server {
                 cells: AskedCells::new(alloc, coverages),

@@ -4,9 +4,9 @@ ghost use Rattle.coverage_server.specs.Disk.{ListsNone};
 ghost use Rattle.coverage_server.specs.Leaving.{Continues};
 ghost use Rattle.coverage_server.specs.Sessions.{AreServed, Composes, IsSession, IsUnopened, StaysHonest, ends_all};
 
-use crate::closing::{CloseFault, NotClosed};
-use crate::opening::{NotOpened, OpenFault};
+use crate::closing::NotClosed;
 use crate::server::Server;
+use block_file::{CloseFault, NotOpened, OpenFault};
 use disk_face::Disk;
 use std::alloc::Global;
 use stream_face::{Sink, Source};

@@ -6,9 +6,11 @@ ghost use Rattle.std.specs.Prelude.{◌≡◌, ◌<◌, ◌≤◌, ◌^◌, ℕ,
 ghost use Rattle.byteorder.specs.Endian.{little_bytes};
 ghost use Rattle.file_bytes.specs.Codes.{signed_bytes, Splits, IsRead, ReadsSigned};
 
+mod error;
 mod form;
 
 use byteorder::{ByteOrder, LittleEndian};
+pub use error::ReadError;
 pub use form::{Form, Version};
 use std::alloc::AllocError;
 use std::marker::Model;

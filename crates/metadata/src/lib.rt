@@ -4,5 +4,5 @@
 mod reading;
 mod writing;
 
-pub use reading::{Metadata, ReadError, read_metadata};
+pub use reading::{Metadata, read_metadata};
 pub use writing::{catalogue_part, push_part};

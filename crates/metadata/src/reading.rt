@@ -3,7 +3,6 @@
 ghost use Rattle.std.specs.Prelude.{◌≡◌, length, IfOk, IsErrOf, MatchOption};
 ghost use Rattle.byteorder.specs.Endian.{little_bytes};
 ghost use Rattle.file_bytes.specs.Codes.{IsRead, NoneIsRead};
-ghost use Rattle.metadata.specs.declared.reading.ReadError.TheVariants.{NoMemory};
 ghost use Rattle.metadata.specs.Metadata.{indexes_of, IsMetadata, IsOfVersion, AreOfNoMetadata, AreOfNoOther};
 ghost use Rattle.metadata.specs.Parts.{catalogue_part_bytes, index_part_bytes, IsCatalogueIn, IsIndexIn, IsPartRead, NoPartIsRead};
 ghost use Rattle.metadata.specs.Parts.{AreFieldsRead, NoFieldsAreRead, AreIndexesRead, NoIndexesAreRead};
@@ -11,37 +10,9 @@ ghost use Rattle.metadata.specs.Parts.{AreFieldsRead, NoFieldsAreRead, AreIndexe
 use arr_core::Signature;
 use byteorder::{ByteOrder, LittleEndian};
 use catalogue::Catalogue;
-use file_bytes::{Reader, Version};
-use std::alloc::{AllocError, AllocFailed, Global};
-use thiserror::Error;
-use tile_index::{IndexError, TileIndex};
-
-/// Why bytes are not read as metadata.
-#[derive(Clone, Copy, Debug, PartialEq, Eq, Error)]
-pub enum ReadError {
-    /// The bytes are those of no metadata.
-    #[error("damaged")]
-    Damaged,
-    /// No memory was left.
-    #[error("out of memory")]
-    NoMemory,
-}
-
-impl From<AllocError> for ReadError {
-    ghost from_gives = { λ _ e. e ≡ NoMemory };
-
-    fn from(_error: AllocError) -> ReadError {
-        ReadError::NoMemory
-    }
-}
-
-impl<T: Drop> From<AllocFailed<T>> for ReadError {
-    ghost from_gives = { λ _ e. e ≡ NoMemory };
-
-    fn from(_error: AllocFailed<T>) -> ReadError {
-        ReadError::NoMemory
-    }
-}
+use file_bytes::{ReadError, Reader, Version};
+use std::alloc::Global;
+use tile_index::TileIndex;
 
 /// A catalogue, and for each coverage in order the index of each of its fields.
 #[derive(Drop)]
@@ -85,11 +56,7 @@ fn read_catalogue(
     let Some(part) = read_part(bytes) else {
         return Err(ReadError::Damaged);
     };
-    match Catalogue::from_bytes(alloc, version, part) {
-        Ok(catalogue) => Ok(catalogue),
-        Err(catalogue::ReadError::Damaged) => Err(ReadError::Damaged),
-        Err(catalogue::ReadError::NoMemory) => Err(ReadError::NoMemory),
-    }
+    Catalogue::from_bytes(alloc, version, part)
 }
 
 /// The index of a file of a version that the next part is.
@@ -101,11 +68,7 @@ fn read_index(alloc: Global, version: Version, bytes: &mut Reader) -> Result<Til
     let Some(part) = read_part(bytes) else {
         return Err(ReadError::Damaged);
     };
-    match TileIndex::from_bytes(alloc, version, part) {
-        Ok(index) => Ok(index),
-        Err(IndexError::Damaged) => Err(ReadError::Damaged),
-        Err(IndexError::NoMemory) => Err(ReadError::NoMemory),
-    }
+    TileIndex::from_bytes(alloc, version, part)
 }
 
 /// The indexes of the next `count` fields.

@@ -31,7 +31,7 @@ use crate::sizes::{created_size, has_room, rest_size};
 use crate::snapshot::{Snapshot, blocks_of, copies_of, coverages_for, place_for, release_all};
 use crate::writing::{Cells, kind_of, numbers_for};
 use arr_core::{Cell, Domain, Name, Signature};
-use block_file::{Blocks, ChainFault, State, write_chain};
+use block_file::{Blocks, CloseFault, State, write_chain};
 use disk_face::DiskFault;
 use std::alloc::{AllocError, Global};
 use std::marker::Model;
@@ -566,21 +566,16 @@ impl<B: Blocks> RasterStore<B> {
 
     /// Writes the metadata as a chain into blocks that stay free, and gives the first of them. As many have to be free
     /// as it fills. Refused for memory, or for a fault of the disk.
-    pub fn write_meta(&mut self, metadata: &[u8]) -> Result<u32, Fault>
+    pub fn write_meta(&mut self, metadata: &[u8]) -> Result<u32, CloseFault>
         requires some { 0 < length metadata.now }
         requires room { chain_blocks (length metadata.now) ≤ free_of (B.state self.old.blocks) }
         ensures chain { IfOk result (λ first. HoldsChain first metadata.now (B.state self.new.blocks)) }
         ensures frame { Stays B.state self.old self.new }
         ensures intact { Keeps B.state self.old self.new }
         ensures snapshots { KeepsSnapshots B.state self.old self.new }
-        ensures why { Refuses result ⊥ ⊥ }
-        ensures told { TellsFault (IsErrOf result Fault.DiskFault) B.state self.old self.new }
+        ensures told { TellsFault (IsErrOf result CloseFault.DiskFault) B.state self.old self.new }
     {
-        match write_chain(&mut self.blocks, metadata) {
-            Ok(first) => Ok(first),
-            Err(ChainFault::NoMemory) => Err(Fault::NoMemory),
-            Err(ChainFault::DiskFault) => Err(Fault::DiskFault),
-        }
+        write_chain(&mut self.blocks, metadata)
     }
 
     /// Writes the header of the file below, as its blocks do.

@@ -2,7 +2,7 @@
 use Rattle.std.specs.Prelude.{◌≡◌, ℕ, List, Option, Some, None, Result, Ok, Err, codes, ⊤}
 use Rattle.disk_face.specs.declared.Disk.{Ghosts}
 use Rattle.stream_face.specs.Views.{SinkView}
-use Rattle.coverage_server.specs.Disk.{open_refusal, close_refusal}
+use Rattle.block_file.specs.Faults.{open_refusal, close_refusal}
 use Rattle.coverage_server.specs.Serves.{Ends}
 use Rattle.coverage_server.specs.Sessions.{IsSession}
 use Rattle.coverage_server.specs.declared.session.SessionFault.{SessionFault}

@@ -5,13 +5,12 @@ ghost use Rattle.arr_core.specs.Runs.{cells_of};
 ghost use Rattle.run_tile.specs.Listing.{counts_in};
 ghost use Rattle.run_tile.specs.Raw.{Spells, IsOfNone};
 
-use crate::error::DecodeError;
 use crate::listing::list_runs;
 use crate::narrow::list_raw;
 use crate::raw::read_raw;
 use crate::reading::read_cells;
 use arr_core::{FieldType, RunList};
-use file_bytes::Form;
+use file_bytes::{Form, ReadError};
 use std::alloc::Global;
 
 /// Whether the bytes spell as many cells in a form as there is room for, which are written then.
@@ -36,18 +35,18 @@ pub fn decode_into(
     form: Form,
     bytes: &[u8],
     cells: &mut Vec<i64>,
-) -> Result<(), DecodeError>
+) -> Result<(), ReadError>
     ensures spelled { OnOk result (Spells form kind bytes.now cells.new.items) }
     ensures counted { OnOk result (length cells.new.items ≡ count) }
-    ensures damaged { IsErrOf result DecodeError.Damaged → IsOfNone count form kind bytes.now }
-    ensures no_memory { IsErrOf result DecodeError.NoMemory → vec_capacity cells.old < count }
+    ensures damaged { IsErrOf result ReadError.Damaged → IsOfNone count form kind bytes.now }
+    ensures no_memory { IsErrOf result ReadError.NoMemory → vec_capacity cells.old < count }
     ensures capacity { vec_capacity cells.old ≤ vec_capacity cells.new }
 {
     cells.resize(count, 0)?;
     if read_form(kind, form, bytes, cells) {
         Ok(())
     } else {
-        Err(DecodeError::Damaged)
+        Err(ReadError::Damaged)
     }
 }
 
@@ -58,10 +57,10 @@ pub fn decode(
     count: usize,
     form: Form,
     bytes: &[u8],
-) -> Result<Vec<i64>, DecodeError>
+) -> Result<Vec<i64>, ReadError>
     ensures spelled { IfOk result (λ cells. Spells form kind bytes.now cells.items) }
     ensures counted { IfOk result (λ cells. length cells.items ≡ count) }
-    ensures damaged { IsErrOf result DecodeError.Damaged → IsOfNone count form kind bytes.now }
+    ensures damaged { IsErrOf result ReadError.Damaged → IsOfNone count form kind bytes.now }
 {
     let mut cells = Vec::new(alloc);
     decode_into(kind, count, form, bytes, &mut cells)?;
@@ -77,13 +76,13 @@ pub fn decode_runs(
     form: Form,
     bytes: &[u8],
     runs: &mut RunList,
-) -> Result<(), DecodeError>
+) -> Result<(), ReadError>
     ensures spelled { OnOk result (Spells form kind bytes.now (cells_of runs.new)) }
     ensures counted { OnOk result (length (cells_of runs.new) ≡ length runs.old.values.items) }
     ensures counts { OnOk result (length runs.new.counts.items ≡ counts_in form kind bytes.now) }
-    ensures damaged { IsErrOf result DecodeError.Damaged
+    ensures damaged { IsErrOf result ReadError.Damaged
         → IsOfNone (length runs.old.values.items) form kind bytes.now }
-    ensures no_memory { IsErrOf result DecodeError.NoMemory
+    ensures no_memory { IsErrOf result ReadError.NoMemory
         → vec_capacity runs.old.counts < length runs.old.values.items }
     ensures capacity { vec_capacity runs.old.counts ≤ vec_capacity runs.new.counts }
     ensures room { length runs.new.values.items ≡ length runs.old.values.items }
@@ -94,7 +93,7 @@ pub fn decode_runs(
             if list_raw(kind, bytes, runs) {
                 Ok(())
             } else {
-                Err(DecodeError::Damaged)
+                Err(ReadError::Damaged)
             }
         }
     }

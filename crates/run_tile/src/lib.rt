@@ -4,7 +4,6 @@
 
 mod decoding;
 mod encoding;
-mod error;
 mod listing;
 mod narrow;
 mod number;
@@ -15,6 +14,5 @@ mod run;
 
 pub use decoding::{decode, decode_into, decode_runs};
 pub use encoding::encode;
-pub use error::DecodeError;
 pub use picking::{pick_runs, raw_cell};
 pub use run::width;

@@ -5,9 +5,9 @@ ghost use Rattle.arr_core.specs.Runs.{runs_of, cells_of};
 ghost use Rattle.run_tile.specs.Runs.{run_count, run_size, IsRun, IsSpelling, IsNoSpelling};
 ghost use Rattle.run_tile.specs.Listing.{AreListed, IsPart};
 
-use crate::error::DecodeError;
 use crate::run::{Run, width};
 use arr_core::{FieldType, RunList};
+use file_bytes::ReadError;
 
 /// What some runs are: whether each is sound and differs from the one before it, and how many cells they have.
 #[derive(Clone, Copy)]
@@ -134,13 +134,13 @@ fn read_values(kind: FieldType, bytes: &[u8], values: &mut [i64], counts: &mut [
 }
 
 /// Lists the runs that the bytes spell, of as many cells of a type as the list has values, which it keeps.
-pub fn list_runs(kind: FieldType, bytes: &[u8], runs: &mut RunList) -> Result<(), DecodeError>
+pub fn list_runs(kind: FieldType, bytes: &[u8], runs: &mut RunList) -> Result<(), ReadError>
     ensures spelled { OnOk result (IsSpelling kind bytes.now (cells_of runs.new)) }
     ensures counted { OnOk result (length (cells_of runs.new) ≡ length runs.old.values.items) }
     ensures counts { OnOk result (length runs.new.counts.items ≡ run_count kind bytes.now) }
-    ensures damaged { IsErrOf result DecodeError.Damaged
+    ensures damaged { IsErrOf result ReadError.Damaged
         → IsNoSpelling (length runs.old.values.items) kind bytes.now }
-    ensures no_memory { IsErrOf result DecodeError.NoMemory
+    ensures no_memory { IsErrOf result ReadError.NoMemory
         → vec_capacity runs.old.counts < length runs.old.values.items }
     ensures capacity { vec_capacity runs.old.counts ≤ vec_capacity runs.new.counts }
     ensures room { length runs.new.values.items ≡ length runs.old.values.items }
@@ -148,13 +148,13 @@ pub fn list_runs(kind: FieldType, bytes: &[u8], runs: &mut RunList) -> Result<()
     let size = 2 + width(kind);
     let count = bytes.len() / size;
     if bytes.len() % size != 0 || runs.values.len() < count {
-        return Err(DecodeError::Damaged);
+        return Err(ReadError::Damaged);
     }
     runs.is_narrow = false;
     runs.counts.resize(count, 0)?;
     if read_values(kind, bytes, &mut runs.values, &mut runs.counts) {
         Ok(())
     } else {
-        Err(DecodeError::Damaged)
+        Err(ReadError::Damaged)
     }
 }

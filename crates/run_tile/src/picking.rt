@@ -5,10 +5,10 @@ ghost use Rattle.file_bytes.specs.declared.form.Form.TheVariants.{Runs};
 ghost use Rattle.run_tile.specs.Raw.{cells_in, raw_cells, raw_count};
 ghost use Rattle.run_tile.specs.Picking.{picked, AreRanks, IsStart, IsBefore};
 
-use crate::error::DecodeError;
 use crate::raw::value_at;
 use crate::run::{Run, width};
 use arr_core::FieldType;
+use file_bytes::ReadError;
 
 /// Where a run begins: behind so many runs, which have so many cells.
 #[derive(Clone, Copy)]
@@ -92,17 +92,17 @@ pub fn pick_runs(
     bytes: &[u8],
     ranks: &[u64],
     cells: &mut Vec<i64>,
-) -> Result<(), DecodeError>
+) -> Result<(), ReadError>
     ensures picked { OnOk result (cells.new.items ≡ picked (cells_in Runs kind bytes.now) ranks.now) }
     ensures within { OnOk result (AreRanks (cells_in Runs kind bytes.now) ranks.now) }
-    ensures damaged { IsErrOf result DecodeError.Damaged → AreRanks (cells_in Runs kind bytes.now) ranks.now → ⊥ }
-    ensures no_memory { IsErrOf result DecodeError.NoMemory → vec_capacity cells.old < length ranks.now }
+    ensures damaged { IsErrOf result ReadError.Damaged → AreRanks (cells_in Runs kind bytes.now) ranks.now → ⊥ }
+    ensures no_memory { IsErrOf result ReadError.NoMemory → vec_capacity cells.old < length ranks.now }
 {
     cells.resize(ranks.len(), 0)?;
     if pick_cells(kind, bytes, ranks, cells) {
         Ok(())
     } else {
-        Err(DecodeError::Damaged)
+        Err(ReadError::Damaged)
     }
 }
 

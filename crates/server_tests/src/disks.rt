@@ -4,7 +4,8 @@ use crate::growths::Script;
 use crate::storage::disks::TestDisk;
 use crate::storage::site;
 use anyhow::{Context, Result};
-use coverage_server::{NotOpened, Server};
+use block_file::NotOpened;
+use coverage_server::Server;
 use std::alloc::Global;
 use test_rows::{cut, number, refusal, yes};
 

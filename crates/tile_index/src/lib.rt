@@ -4,11 +4,9 @@
 
 mod changes;
 mod entry;
-mod error;
 mod index;
 mod reading;
 mod writing;
 
 pub use entry::{BlockList, Entry};
-pub use error::IndexError;
 pub use index::TileIndex;

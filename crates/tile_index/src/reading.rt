@@ -7,9 +7,8 @@ ghost use Rattle.tile_index.specs.Entries.{most_bytes, AreOf};
 ghost use Rattle.tile_index.specs.Bytes.{number_bytes, length_number, entry_bytes, index_bytes, IsOfNoIndex, IsOfNoOther};
 
 use crate::entry::{BlockList, Entry};
-use crate::error::IndexError;
 use crate::index::TileIndex;
-use file_bytes::{Form, Reader, Version};
+use file_bytes::{Form, ReadError, Reader, Version};
 use std::alloc::Global;
 
 /// What a number that tells a form and a length has besides the length for raw cells: its highest bit.
@@ -92,21 +91,21 @@ fn read_entries(
     alloc: Global,
     bytes: &mut Reader,
     count: u32,
-) -> Result<Vec<(u64, Entry)>, IndexError>
+) -> Result<Vec<(u64, Entry)>, ReadError>
     ensures read { IfOk result (λ entries. bytes.old ≡ flat_map entry_bytes entries.items ++ bytes.new) }
     ensures counted { IfOk result (λ entries. length entries.items ≡ count) }
     ensures index { IfOk result (λ entries. ArePairs entries.items) }
-    ensures damaged { IsErrOf result IndexError.Damaged
+    ensures damaged { IsErrOf result ReadError.Damaged
         → NoneIsRead (AreSoMany count) (flat_map entry_bytes) bytes.old }
 {
     let mut entries = Vec::new(alloc);
     let mut after = 0;
     for _ in 0..count {
         let Some((tile, entry)) = read_entry(bytes) else {
-            return Err(IndexError::Damaged);
+            return Err(ReadError::Damaged);
         };
         if tile < after {
-            return Err(IndexError::Damaged);
+            return Err(ReadError::Damaged);
         }
         after = tile + 1;
         entries.push((tile, entry))?;
@@ -127,27 +126,23 @@ fn are_of(version: Version, entries: &[(u64, Entry)]) -> bool
 impl TileIndex {
     /// The index whose bytes these are in a file of a version: `Damaged` where they are those of none.
     #[tactic(auto, unfolding(crate::specs::Bytes::index_bytes))]
-    pub fn from_bytes(
-        alloc: Global,
-        version: Version,
-        bytes: &[u8],
-    ) -> Result<TileIndex, IndexError>
+    pub fn from_bytes(alloc: Global, version: Version, bytes: &[u8]) -> Result<TileIndex, ReadError>
         ensures read { IfOk result (λ index. bytes.now ≡ index_bytes index) }
         ensures index { IfOk result (λ index. IsIndex index) }
         ensures version { IfOk result (λ index. AreOf version index) }
         ensures only { IfOk result (λ index. IsOfNoOther bytes.now index) }
-        ensures damaged { IsErrOf result IndexError.Damaged → IsOfNoIndex version bytes.now }
+        ensures damaged { IsErrOf result ReadError.Damaged → IsOfNoIndex version bytes.now }
     {
         let mut bytes = Reader::new(bytes);
         let Some(count) = bytes.read_u32() else {
-            return Err(IndexError::Damaged);
+            return Err(ReadError::Damaged);
         };
         let entries = read_entries(alloc, &mut bytes, count)?;
         if bytes.len() != 0 {
-            return Err(IndexError::Damaged);
+            return Err(ReadError::Damaged);
         }
         if !are_of(version, &entries) {
-            return Err(IndexError::Damaged);
+            return Err(ReadError::Damaged);
         }
         Ok(TileIndex::from_entries(entries))
     }

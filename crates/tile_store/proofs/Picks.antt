@@ -22,10 +22,10 @@ use Rattle.block_file.proofs.Times.{times_at}
 use Rattle.tile_index.specs.declared.entry.Entry.{Entry}
 use Rattle.tile_index.specs.Entries.{IsEntry}
 use Rattle.tile_index.specs.Index.{IsIndex, found_at}
-use Rattle.run_tile.specs.declared.error.DecodeError.{DecodeError}
-use Rattle.run_tile.specs.declared.error.DecodeError.TheVariants as decode
+use Rattle.file_bytes.specs.declared.error.ReadError.{ReadError}
+use Rattle.file_bytes.specs.declared.error.ReadError.TheVariants as reading
 use Rattle.tile_store.specs.declared.fault.Fault.{Fault}
-use Rattle.tile_store.specs.Faults.{Refuses, of_decode}
+use Rattle.tile_store.specs.Faults.{Refuses, of_read}
 use Rattle.tile_store.specs.declared.field.FieldTiles.{FieldTiles}
 use Rattle.tile_store.specs.Listing.{entry_times, IsSound}
 use Rattle.tile_store.specs.Picking.{IsEntryIn, cells_as, IsLast, ArePicks, LackPicks}
@@ -249,10 +249,10 @@ picks_more form k s s' e ranks place cells z reads within honest was here =
     (λ i h. (let ne : i ≢ place = omega arith in rw get_or-set_other (was i h)))
     (rw get_or-set_same value)
 
--- a refusal to decode is handed on
-pub refuses_decode : {T D : Type 0} (result : Result T Fault) (e : DecodeError) → result ≡ Err (of_decode e) → (e ≡ decode.Damaged → D) → Refuses result D ⊥
-refuses_decode result decode.NoMemory same why = record { for_damage = λ is. absurd (let no = sym same ∙ is in cc); for_room = λ is. (let no = sym same ∙ is in cc) }
-refuses_decode result decode.Damaged same why = record { for_damage = λ is. why refl; for_room = λ is. (let no = sym same ∙ is in cc) }
+-- a refusal to read is handed on
+pub refuses_read : {T D : Type 0} (result : Result T Fault) (e : ReadError) → result ≡ Err (of_read e) → (e ≡ reading.Damaged → D) → Refuses result D ⊥
+refuses_read result reading.NoMemory same why = record { for_damage = λ is. absurd (let no = sym same ∙ is in cc); for_room = λ is. (let no = sym same ∙ is in cc) }
+refuses_read result reading.Damaged same why = record { for_damage = λ is. why refl; for_room = λ is. (let no = sym same ∙ is in cc) }
 
 pub ok_both : {T E : Type 0} (r : Result T E) (P Q R : Type 0) → (P → Q → R) → OnOk r P → OnOk r Q → OnOk r R
 ok_both (Ok x) P Q R f p q = f p q

@@ -2,8 +2,8 @@
 use Rattle.std.specs.Prelude.{Result, IsErrOf}
 use Rattle.block_file.specs.declared.fault.TakeFault.{TakeFault}
 use Rattle.block_file.specs.declared.fault.TakeFault.TheVariants as take
-use Rattle.run_tile.specs.declared.error.DecodeError.{DecodeError}
-use Rattle.run_tile.specs.declared.error.DecodeError.TheVariants as decode
+use Rattle.file_bytes.specs.declared.error.ReadError.{ReadError}
+use Rattle.file_bytes.specs.declared.error.ReadError.TheVariants as reading
 use Rattle.tile_store.specs.declared.fault.Fault.{Fault}
 use Rattle.tile_store.specs.declared.fault.Fault.TheVariants.{NoMemory, NoRoom, Damaged}
 
@@ -12,10 +12,10 @@ abbrev pub of_take : TakeFault → Fault
 of_take take.NoMemory = NoMemory
 of_take take.NoRoom = NoRoom
 
--- the refusal of a decoding
-abbrev pub of_decode : DecodeError → Fault
-of_decode decode.NoMemory = NoMemory
-of_decode decode.Damaged = Damaged
+-- the refusal of a reading
+abbrev pub of_read : ReadError → Fault
+of_read reading.NoMemory = NoMemory
+of_read reading.Damaged = Damaged
 
 -- a refusal as damaged comes only where something was, and one for room only where it was wanting
 pub record Refuses {T : Type 0} (result : Result T Fault) (damaged room : Type 0) : Type 0 where

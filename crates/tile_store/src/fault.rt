@@ -2,7 +2,7 @@
 
 use block_file::TakeFault;
 use disk_face::DiskFault;
-use run_tile::DecodeError;
+use file_bytes::ReadError;
 use std::alloc::{AllocError, AllocFailed};
 use thiserror::Error;
 
@@ -66,16 +66,16 @@ impl From<TakeFault> for Fault {
     }
 }
 
-impl From<DecodeError> for Fault {
+impl From<ReadError> for Fault {
     ghost use Rattle.std.specs.Prelude.{◌≡◌};
-    ghost use Rattle.tile_store.specs.Faults.{of_decode};
+    ghost use Rattle.tile_store.specs.Faults.{of_read};
 
-    ghost from_gives = { λ f e. e ≡ of_decode f };
+    ghost from_gives = { λ f e. e ≡ of_read f };
 
-    fn from(fault: DecodeError) -> Self {
+    fn from(fault: ReadError) -> Self {
         match fault {
-            DecodeError::NoMemory => Fault::NoMemory,
-            DecodeError::Damaged => Fault::Damaged,
+            ReadError::NoMemory => Fault::NoMemory,
+            ReadError::Damaged => Fault::Damaged,
         }
     }
 }

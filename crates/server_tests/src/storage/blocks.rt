@@ -3,9 +3,7 @@
 use crate::storage::disks::{AnyDisk, TestDisk, say_done};
 use crate::storage::words::{DAMAGED, DISK_FAULT, NO_MEMORY, NO_ROOM, block_numbers};
 use anyhow::{Context, Result, bail};
-use block_file::{
-    BlockFile, Blocks, CHAIN_BYTES, ChainFault, OpenFault, State, TakeFault, write_chain,
-};
+use block_file::{BlockFile, Blocks, CHAIN_BYTES, State, TakeFault, write_chain};
 use page_pool::PagePool;
 use std::alloc::Global;
 use std::marker::Model;
@@ -31,28 +29,10 @@ impl Model for Volume {
     ghost invariant = { λ v. AreFresh v.taken.items (state_of v.file) };
 }
 
-/// The refusal of an opening.
-fn open_number(fault: OpenFault) -> u16 {
-    match fault {
-        OpenFault::NoMemory => NO_MEMORY,
-        OpenFault::DiskFault => DISK_FAULT,
-        OpenFault::Damaged => DAMAGED,
-        OpenFault::NotAStore => 94,
-        OpenFault::NotClosed => 95,
-    }
-}
-
 fn take_number(fault: TakeFault) -> u16 {
     match fault {
         TakeFault::NoMemory => NO_MEMORY,
         TakeFault::NoRoom => NO_ROOM,
-    }
-}
-
-fn chain_number(fault: ChainFault) -> u16 {
-    match fault {
-        ChainFault::NoMemory => NO_MEMORY,
-        ChainFault::DiskFault => DISK_FAULT,
     }
 }
 
@@ -209,7 +189,7 @@ impl Volume {
                 self.first = block;
                 answer.say("ok");
             }
-            Err(fault) => answer.refusal(chain_number(fault)),
+            Err(fault) => answer.refusal(fault.refusal().number()),
         }
     }
 
@@ -314,7 +294,7 @@ pub fn open(
         }
         Err(refused) => {
             *disk = Some(AnyDisk::Test(refused.disk));
-            answer.refusal(open_number(refused.fault));
+            answer.refusal(refused.fault.refusal().number());
         }
     }
     Ok(())

@@ -1,9 +1,9 @@
 //! Catalogues.
 
-use crate::storage::words::{DAMAGED, NO_MEMORY, say_signature, signature};
+use crate::storage::words::{NO_MEMORY, say_signature, signature, unread};
 use anyhow::Result;
 use arr_core::Name;
-use catalogue::{Catalogue, InsertError, ReadError};
+use catalogue::{Catalogue, InsertError};
 use file_bytes::Version;
 use std::alloc::Global;
 use test_rows::{Answer, Files, number};
@@ -17,13 +17,6 @@ fn refused(error: InsertError) -> u16 {
         InsertError::BadField => 23,
         InsertError::TooManyCoverages => 27,
         InsertError::NoMemory => NO_MEMORY,
-    }
-}
-
-fn unread(error: ReadError) -> u16 {
-    match error {
-        ReadError::Damaged => DAMAGED,
-        ReadError::NoMemory => NO_MEMORY,
     }
 }
 

@@ -1,19 +1,12 @@
 //! The metadata of a file.
 
-use crate::storage::words::{DAMAGED, NO_MEMORY, say_list};
+use crate::storage::words::{say_list, unread};
 use anyhow::Result;
 use file_bytes::Version;
-use metadata::{Metadata, ReadError, catalogue_part, push_part, read_metadata};
+use metadata::{Metadata, catalogue_part, push_part, read_metadata};
 use std::alloc::{AllocError, Global};
 use test_rows::{Answer, Files};
 use tile_index::TileIndex;
-
-fn unread(error: ReadError) -> u16 {
-    match error {
-        ReadError::Damaged => DAMAGED,
-        ReadError::NoMemory => NO_MEMORY,
-    }
-}
 
 /// Adds the blocks that indexes list.
 fn add_blocks(

@@ -3,11 +3,11 @@
 ghost use Rattle.std.specs.Prelude.{All, IsTrue};
 ghost use Rattle.arr_core.specs.Cells.{Fits};
 
-use crate::storage::words::{DAMAGED, NO_MEMORY, form_of, say_form, say_list, say_runs};
+use crate::storage::words::{form_of, say_form, say_list, say_runs, unread};
 use anyhow::{Result, bail};
 use arr_core::{FieldType, RunList};
 use file_bytes::{Reader, push_i32, push_u32};
-use run_tile::{DecodeError, decode, decode_into, decode_runs, encode};
+use run_tile::{decode, decode_into, decode_runs, encode};
 use std::alloc::Global;
 use test_rows::{Answer, Files, coordinate, cut, cut_at, kind, number, numbers, text};
 
@@ -69,20 +69,13 @@ fn write_numbers(alloc: Global, answer: &mut Answer, words: &str, bytes: &[u8]) 
     Ok(())
 }
 
-fn refused(error: DecodeError) -> u16 {
-    match error {
-        DecodeError::Damaged => DAMAGED,
-        DecodeError::NoMemory => NO_MEMORY,
-    }
-}
-
 /// The cells of the bytes of a tile, of a type and so many, as `i16:2`; of a raw tile as `raw:i16:2`.
 fn decoded(alloc: Global, answer: &mut Answer, words: &str, bytes: &[u8]) -> Result<()> {
     let (form, words) = form_of(words);
     let (type_name, count) = cut_at(words, ':');
     match decode(alloc, kind(type_name)?, number(count) as usize, form, bytes) {
         Ok(cells) => say_list(alloc, answer, &cells),
-        Err(error) => answer.refusal(refused(error)),
+        Err(error) => answer.refusal(unread(error)),
     }
     Ok(())
 }
@@ -95,7 +88,7 @@ fn decoded_into(alloc: Global, answer: &mut Answer, words: &str, bytes: &[u8]) -
     let mut cells = vec![in alloc; 3i64; 5]?;
     match decode_into(kind, number(count) as usize, form, bytes, &mut cells) {
         Ok(()) => say_list(alloc, answer, &cells),
-        Err(error) => answer.refusal(refused(error)),
+        Err(error) => answer.refusal(unread(error)),
     }
     Ok(())
 }
@@ -110,7 +103,7 @@ fn decoded_runs(alloc: Global, answer: &mut Answer, words: &str, bytes: &[u8]) -
     let mut runs = RunList::of(alloc, values, counts);
     match decode_runs(kind, form, bytes, &mut runs) {
         Ok(()) => say_runs(alloc, answer, &runs),
-        Err(error) => answer.refusal(refused(error)),
+        Err(error) => answer.refusal(unread(error)),
     }
     Ok(())
 }

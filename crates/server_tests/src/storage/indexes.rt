@@ -5,22 +5,15 @@ ghost use Rattle.tile_index.specs.declared.entry.Entry.{Entry};
 ghost use Rattle.tile_index.specs.Entries.{IsEntry, most_bytes};
 ghost use Rattle.tile_index.specs.Index.{found_at};
 
-use crate::storage::words::{DAMAGED, NO_MEMORY, block_numbers, form_of, say_form, say_list};
+use crate::storage::words::{block_numbers, form_of, say_form, say_list, unread};
 use anyhow::{Result, bail};
 use file_bytes::{Form, Version};
 use std::alloc::{AllocError, Global};
 use test_rows::{Answer, Files, cut, number};
-use tile_index::{BlockList, Entry, IndexError, TileIndex};
+use tile_index::{BlockList, Entry, TileIndex};
 
 /// The last tile number of 32 bits. An index has room for another tile as long as this one is not listed.
 const LAST: u64 = 4294967295;
-
-fn unread(error: IndexError) -> u16 {
-    match error {
-        IndexError::Damaged => DAMAGED,
-        IndexError::NoMemory => NO_MEMORY,
-    }
-}
 
 /// Reads the index of bytes in a file of a version into one.
 fn read(

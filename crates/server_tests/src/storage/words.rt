@@ -2,7 +2,7 @@
 
 use anyhow::Result;
 use arr_core::{Cell, Field, FieldType, Name, RunList, Signature};
-use file_bytes::Form;
+use file_bytes::{Form, ReadError};
 use std::alloc::{AllocError, Global};
 use std::fmt::Display;
 use test_rows::{Answer, cell, cut, cut_at, domain, fields, integer, say_domain, text};
@@ -15,6 +15,14 @@ pub const DISK_FAULT: u16 = 91;
 pub const NO_ROOM: u16 = 92;
 
 pub const DAMAGED: u16 = 93;
+
+/// The refusal of a reading.
+pub fn unread(error: ReadError) -> u16 {
+    match error {
+        ReadError::Damaged => DAMAGED,
+        ReadError::NoMemory => NO_MEMORY,
+    }
+}
 
 /// The form of a tile and the words behind it: raw as `raw:i16:2`, else runs.
 pub fn form_of(words: &str) -> (Form, &str) {

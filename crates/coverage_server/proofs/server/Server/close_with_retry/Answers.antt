@@ -1,6 +1,6 @@
 -- What the second close leaves, it leaves of what the first one left, without its jobs.
 use Rattle.std.proofs.Common.{◌∙◌, ap, subst, inl, inr}
-use Rattle.coverage_server.specs.declared.closing.CloseFault.{CloseFault}
+use Rattle.block_file.specs.declared.fault.CloseFault.{CloseFault}
 use Rattle.coverage_server.specs.Disk.{disk_view}
 use Rattle.coverage_server.specs.Sessions.{IsClosedTo, IsNotClosed}
 use Rattle.coverage_server.specs.Views.{SessionView}
