@@ -1,9 +1,9 @@
 #!/usr/bin/env python3
-"""The gate, on a copy of this tree: `rt ci` without the must-fail edits, then, over the program that it built, what
-TRIALS lists, and over its libraries the edits.
+"""The gate, on a copy of this tree: the layout of the crates, `rt ci` without the must-fail edits, then, over the program
+that it built, what `trials` lists, and over its libraries the edits.
 
 In CI's clone those edits alone are tried that are not recorded as refused on the text that stands here, and those of
-about one crate in eight besides, which the commit decides.
+some crates besides, which the commit decides: as many as have a twelfth of all edits.
 """
 
 import contextlib
@@ -15,7 +15,7 @@ import sys
 import tempfile
 
 sys.dont_write_bytecode = True
-from must_fail import closed, recorded, said_by, sum_of, sums, tried
+from must_fail import closed, dependencies, recorded, said_by, sum_of, sums, texts_below, tried
 
 
 def minutes():
@@ -45,6 +45,15 @@ def copied():
             os.chdir(home)
 
 
+def not_laid_out():
+    """The crates that `rt fmt` changes, in a tree where it may: `rt ci` proves none of them, and tells so in its turn."""
+    for it in dependencies():
+        was = texts_below(f"crates/{it}")
+        subprocess.run(["rt", "fmt"], cwd=f"crates/{it}", stdin=subprocess.DEVNULL, capture_output=True, check=True)
+        if texts_below(f"crates/{it}") != was:
+            yield it
+
+
 def without_edits(names):
     """Runs `rt ci` with the edits of these crates set aside. Returns its status and its last line."""
     for name in names:
@@ -58,6 +67,18 @@ def without_edits(names):
     for name in names:
         shutil.move(f"../aside/{name}", f"crates/{name}/must-fail")
     return ran.returncode, last
+
+
+def to_try(now, then, commit):
+    """The crates whose edits are not recorded, and of the others, in an order that the commit decides, as many as have a
+    twelfth of all edits: so the last of them may bring more, and no run tries much more than that."""
+    edits = {it: len(os.listdir(f"crates/{it}/must-fail")) for it in now}
+    names, count = [it for it in now if then.get(it) != now[it]], 0
+    for it in sorted(now.keys() - names, key=lambda it: sum_of(commit, it)):
+        if 12 * count >= sum(edits.values()):
+            break
+        names, count = [*names, it], count + edits[it]
+    return names
 
 
 def lacking(*commands):
@@ -107,12 +128,13 @@ def run_trials(seed):
 
 def gate():
     now, then, commit = sums(), recorded(), said_by("git", "rev-parse", "HEAD").strip()
-    is_left_out = (
-        lambda it: os.environ.get("CI") == "true" and then.get(it) == now[it] and int(sum_of(commit, it), 16) % 8
-    )
+    names = to_try(now, then, commit) if os.environ.get("CI") == "true" else list(now)
     with copied():
         import must_fail_groups_test
 
+        if unlike := list(not_laid_out()):
+            print(f"run rt fmt in the folders of {', '.join(unlike)}", flush=True)
+            return 1
         status, last = without_edits(now)
         proved = re.fullmatch(r"(\d+) passed, 0 failed\n", last)
         print(f"without edits: {minutes()}", flush=True)
@@ -121,7 +143,7 @@ def gate():
         wrong = [f"the trier of edits: {it}" for it in must_fail_groups_test.faults()]
         print(*wrong or ["the trier of edits and its control: ok"], sep="\n", flush=True)
         faults = wrong + run_trials(str(int(sum_of(commit)[:8], 16)))
-        _, passed, failed = tried([it for it in now if not is_left_out(it)], builds=False)
+        _, passed, failed = tried(names, builds=False)
         print(f"with these edits: {minutes()}", flush=True)
         return closed(int(proved[1]) + passed, faults + failed)
 

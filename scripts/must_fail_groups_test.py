@@ -1,5 +1,6 @@
 #!/usr/bin/env python3
-"""Tests the trier of must-fail edits over a crate of its own: each of the edits below comes out as it has to."""
+"""Tests the trier of must-fail edits over a crate of its own: each of the edits below comes out as it has to. And which
+crates' edits CI tries: those that are not recorded, and of the others each at some commit, and few at any."""
 
 import os
 import sys
@@ -7,6 +8,8 @@ import tempfile
 from unittest import mock
 
 sys.dont_write_bytecode = True
+import gate
+import must_fail
 import must_fail_groups as groups
 
 CODE = """\
@@ -68,9 +71,26 @@ def outcome(*edits):
     return [(is_well, text) for is_well, text in sorted(told, key=lambda it: it[1])]
 
 
+def draws():
+    """What is wrong with the choice of crates in the tree that this runs in."""
+    now = must_fail.sums()
+    edits = {it: len(os.listdir(f"crates/{it}/must-fail")) for it in now}
+    stale, *others = sorted(now)
+    drawn = [gate.to_try(now, now | {stale: ""}, str(commit)) for commit in range(200)]
+    if any(it[0] != stale for it in drawn):
+        yield f"{stale}, whose edits are not recorded, is left out"
+    for it in set(others).difference(*drawn):
+        yield f"{it} is tried at no commit of 200"
+    enough = sum(edits.values()) / 12
+    for _, *names in drawn:
+        *before, last = [edits[it] for it in names]
+        if not sum(before) < enough <= sum(before) + last:
+            yield f"of the recorded crates {', '.join(names)} are tried"
+
+
 def faults():
-    """What is wrong with the trier: nothing, if all is well."""
-    found = []
+    """What is wrong with the trier and with the choice: nothing, if all is well."""
+    found = [*draws()]
 
     def expect(what, told, *wanted):
         if len(told) != len(wanted) or any(a != b or words not in text for (a, text), (b, words) in zip(told, wanted)):
