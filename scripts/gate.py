@@ -2,8 +2,8 @@
 """The gate, on a copy of this tree: the layout of the crates, `rt ci` without the must-fail edits, then, over the program
 that it built, what `trials` lists, and over its libraries the edits.
 
-In CI's clone those edits alone are tried that are not recorded as refused on the text that stands here, and those of
-some crates besides, which the commit decides: as many as have a twelfth of all edits.
+In CI's clone those edits alone are tried that are not recorded as refused on the text that stands here. Where these are less
+than a twelfth of all edits, those of some crates are tried besides, which the commit decides.
 """
 
 import contextlib
@@ -70,10 +70,11 @@ def without_edits(names):
 
 
 def to_try(now, then, commit):
-    """The crates whose edits are not recorded, and of the others, in an order that the commit decides, as many as have a
-    twelfth of all edits: so the last of them may bring more, and no run tries much more than that."""
+    """The crates whose edits are not recorded, and where these have less than a twelfth of all edits, others besides, in an order
+    that the commit decides, until they have so many: the last of them may bring more."""
     edits = {it: len(os.listdir(f"crates/{it}/must-fail")) for it in now}
-    names, count = [it for it in now if then.get(it) != now[it]], 0
+    names = [it for it in now if then.get(it) != now[it]]
+    count = sum(edits[it] for it in names)
     for it in sorted(now.keys() - names, key=lambda it: sum_of(commit, it)):
         if 12 * count >= sum(edits.values()):
             break

@@ -75,17 +75,19 @@ def draws():
     """What is wrong with the choice of crates in the tree that this runs in."""
     now = must_fail.sums()
     edits = {it: len(os.listdir(f"crates/{it}/must-fail")) for it in now}
-    stale, *others = sorted(now)
+    enough = sum(edits.values()) / 12
+    stale, *others, largest = sorted(now, key=edits.get)
     drawn = [gate.to_try(now, now | {stale: ""}, str(commit)) for commit in range(200)]
     if any(it[0] != stale for it in drawn):
         yield f"{stale}, whose edits are not recorded, is left out"
-    for it in set(others).difference(*drawn):
+    for it in {*others, largest}.difference(*drawn):
         yield f"{it} is tried at no commit of 200"
-    enough = sum(edits.values()) / 12
-    for _, *names in drawn:
+    for names in drawn:
         *before, last = [edits[it] for it in names]
         if not sum(before) < enough <= sum(before) + last:
-            yield f"of the recorded crates {', '.join(names)} are tried"
+            yield f"beside {stale}, {', '.join(names[1:])} are tried"
+    if edits[largest] >= enough and gate.to_try(now, now | {largest: ""}, "") != [largest]:
+        yield f"others are tried beside {largest}, which has a twelfth of all edits"
 
 
 def faults():
