@@ -41,35 +41,12 @@ HOMES = {
 # What stands in several crates and is known to: a function, a definition or an enum, by its files and its names there. What no
 # longer stands a second time has to go from here.
 KNOWN = [
-    # the magnitude of a product, where all above 2^63 counts as one
-    {"wcps_mean/src/product.rt capped", "tile_kernel/src/joined.rt capped"},
-    {"wcps_mean/src/product.rt are_unlike", "tile_kernel/src/joined.rt are_unlike"},
-    # what a list has at a place, or 0
-    {
-        "wcps_mean/src/eval.rt coverage_at",
-        "plan_ir/src/eval.rt coverage_at",
-        "plan_rewrite/src/hoisting/folds.rt place_at",
-        "tile_columns/src/ground.rt coverage_at",
-        "tile_columns/src/windows.rt coverage_at",
-    },
-    {"wcps_mean/src/eval.rt iterator", "plan_ir/src/eval.rt variable"},
-    # a truth value as a number, as a count and as an outcome
-    {"wcps_mean/src/running.rt weight", "tile_kernel/src/summaries.rt weight", "tile_kernel/src/reduce.rt weight"},
-    {"wcps_mean/src/cell.rt truth_value", "tile_kernel/src/summaries.rt truth"},
-    {"arr_core/specs/Cells.antt truth_of", "wcps_mean/specs/Cells.antt is_true"},
-    # how many fields there are, in 32 bits
-    {"plan_ir/src/items.rt count_of", "tile_exec/src/item.rt count_of"},
     # a coordinate by its place along an axis, an axis by its name, the tile of a point, and the box of a tile
     {"arr_core/src/domain.rt coordinate", "tile_columns/src/tiling.rt coordinate"},
     {"arr_core/specs/Domains.antt place_of", "wcps_types/specs/Names.antt axis_place"},
     {"plan_ir/specs/Units.antt tile_number", "tile_store/specs/Stored.antt tile_number"},
     {"tile_columns/specs/TileOrder.antt tile_of", "tile_store/specs/Stored.antt tile_box"},
-    # the cells of coverages by their places, and a field with a name
-    {
-        "wcps_mean/specs/Reading.antt CellsOf",
-        "map_templates/specs/Laws.antt Source",
-        "tile_exec/specs/Tasks.antt Cells",
-    },
+    # a field with a name
     {"catalogue/specs/Signatures.antt IsField", "map_templates/specs/Queries.antt IsField"},
 ]
 
@@ -212,11 +189,11 @@ def owners():
 
 @functools.cache
 def few():
-    """Of each crate the small numbers, of two digits at least, that its definitions or those below it have a word for."""
+    """Of each crate the numbers from two digits up to the cells of a tile that its definitions or those below it have a word for."""
     own = {}
     for crate in crates():
         told = [DEFINED.match(text)[2] for path, _, text in lines(crate) if DEFINED.match(text) and "/specs/" in path]
-        own[crate] = {int(it) for it in told if it.isdigit() and 10 <= int(it) <= 1000}
+        own[crate] = {int(it) for it in told if it.isdigit() and 10 <= int(it) <= 4096}
     return {it: own[it].union(*(own.get(other, ()) for other in crate_table.standing()[it])) for it in own}
 
 
@@ -228,8 +205,7 @@ def compared(path, text):
 
 
 def says_limit(path, text):
-    """Whether a line has a limit as a number: in a crate that has no constant of that value, or a small one in a comparison where
-    there is a word for it."""
+    """Whether a line has a limit as a number: in a crate that has no constant of that value, or one that `few` has in a comparison."""
     crate = path.split("/")[0]
     found = [number for number, _ in numerals(text)] + [2 ** int(it) for it in POWER.findall(text) if it != "16"]
     return any(crate not in owners()[it] for it in found if it in owners()) or any(

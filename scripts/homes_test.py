@@ -98,6 +98,9 @@ COPIES = [
     ("file_bytes/src/error.rt", "enum ReadError", "page_pool/src/page.rt", "ReadError PageError"),
     ("block_file/src/fault.rt", "enum TakeFault", "file_bytes/src/form.rt", "TakeFault FormFault"),
     ("wcps_mean/src/product.rt", "fn capped", "csv_out/src/cells.rt", "capped limited m a n b"),
+    ("wcps_mean/src/lookup.rt", "fn place_at", "tile_columns/src/ground.rt", "place_at coverage_at places list"),
+    ("wcps_mean/src/cell.rt", "fn weight", "tile_kernel/src/reduce.rt", "weight weight_of x z"),
+    ("wcps_mean/specs/Reading.antt", "CellsOf", "tile_exec/specs/Tasks.antt", "CellsOf Given"),
 ]
 # What is written in place of something, and what the check has to say of it.
 CHANGES = [
@@ -170,10 +173,10 @@ CHANGES = [
         "docs/ARCHITECTURE.md: tile_index has no specs/Pairs.antt",
     ),
     (
-        "crates/tile_kernel/src/summaries.rt",
-        "if is_set(x) { 1 } else { 0 }",
-        "if is_set(x) { 2 } else { 0 }",
-        "scripts/homes.py: KNOWN has tile_kernel/src/summaries.rt weight, which stands nowhere else",
+        "crates/tile_columns/src/tiling.rt",
+        "fn coordinate(axis: &Axis, steps: u64) -> i32",
+        "fn coordinate(axis: &Axis, steps: u32) -> i32",
+        "scripts/homes.py: KNOWN has tile_columns/src/tiling.rt coordinate, which stands nowhere else",
     ),
 ]
 

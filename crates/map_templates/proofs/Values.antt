@@ -10,7 +10,8 @@ use Rattle.wcps_text.specs.declared.operator.BinaryOperator.TheVariants as binar
 use Rattle.wcps_types.specs.Typed.{Typed, binary, bracket}
 use Rattle.wcps_mean.specs.declared.cell.Outcome.TheVariants.{Value}
 use Rattle.wcps_mean.specs.Cells as cells
-use Rattle.wcps_mean.specs.Cells.{fits_64, ranged, truth, is_true, int_eq, operate2, at_position}
+use Rattle.arr_core.specs.Cells.{truth_of}
+use Rattle.wcps_mean.specs.Cells.{fits_64, ranged, truth, int_eq, operate2, at_position}
 use Rattle.wcps_mean.specs.Condensers.{larger, smaller, condensed, combined}
 use Rattle.wcps_mean.specs.Meaning.{val}
 use Rattle.map_templates.specs.declared.template.LocalOperation.{LocalOperation}
@@ -18,7 +19,8 @@ use Rattle.map_templates.specs.declared.template.LocalOperation.TheVariants as l
 use Rattle.map_templates.specs.declared.template.Summary.{Summary}
 use Rattle.map_templates.specs.Tomlin.{Raster, local, focal, zonal, are_near}
 use Rattle.map_templates.specs.TypedTrees.{condenser_of, local_tree, located, iterators, zonal_tree, windows_of, literal, edge_tree, first_moved, second_moved, focal_tree}
-use Rattle.map_templates.specs.Laws.{Source, Reads, IsSmall}
+use Rattle.wcps_mean.specs.Reading.{CellsOf}
+use Rattle.map_templates.specs.Laws.{Reads, IsSmall}
 use Rattle.map_templates.proofs.Sets.{Every, every-of, every-map, every-all, map-map, cons-nil}
 use Rattle.map_templates.proofs.Summaries.{condensed-values, kept, combined-summary}
 use Rattle.map_templates.proofs.Windows.{Decides-int_le, Decides-int_lt, not-decided, le-true, is_on}
@@ -87,7 +89,7 @@ lesser-value x y fx fy =
     by_lt_z y x (λ lt. rw (le-false x y lt, lt-true y x lt) (right-alone x y fy))
     (λ le. rw (le-true x y le, lt-false y x le) (left-alone x y fx))
 
-pub local-value : (op : LocalOperation) (s : Source) (ta tb : Typed) (a b : Raster) (p : List ℤ) → val s ta [] p ≡ Value (a p) → val s tb [] p ≡ Value (b p) → fits_64 (a p) ≡ true → fits_64 (b p) ≡ true
+pub local-value : (op : LocalOperation) (s : CellsOf) (ta tb : Typed) (a b : Raster) (p : List ℤ) → val s ta [] p ≡ Value (a p) → val s tb [] p ≡ Value (b p) → fits_64 (a p) ≡ true → fits_64 (b p) ≡ true
     → val s (local_tree op ta tb) [] p ≡ ranged (local op a b p)
 local-value locals.Sum s ta tb a b p ha hb fa fb = rw (ha, hb) refl
 local-value locals.Difference s ta tb a b p ha hb fa fb = rw (ha, hb) refl
@@ -98,7 +100,7 @@ local-value locals.Minimum s ta tb a b p ha hb fa fb = rw (ha, hb) (lesser-value
 -- ---- a layer at positions
 
 -- the positions have these values, one on each axis
-abbrev pub Placed : Source → List ℤ → List Axis → List Typed → List ℤ → Type 0
+abbrev pub Placed : CellsOf → List ℤ → List Axis → List Typed → List ℤ → Type 0
 Placed s env [] [] [] = Unit {0}
 Placed s env (a ∷ axes) (t ∷ ts) (x ∷ xs) = (val s t env [] ≡ Value x) × (a.lo ≤ℤ x) × (x ≤ℤ a.hi) × Placed s env axes ts xs
 Placed s env [] [] (x ∷ xs) = ⊥
@@ -118,7 +120,7 @@ longer [] x (suc k) e = absurd (omega arith)
 longer (y ∷ q) x zero e = absurd (omega arith)
 longer (y ∷ q) x (suc k) e = ap suc (longer q x k (omega arith))
 
-pub located-value : (s : Source) (e : Typed) (a : Raster) → Reads s e a → (env : List ℤ) (axes : List Axis) (ts : List Typed) (xs q : List ℤ) (k : ℕ) → length q ≡ k → Placed s env axes ts xs
+pub located-value : (s : CellsOf) (e : Typed) (a : Raster) → Reads s e a → (env : List ℤ) (axes : List Axis) (ts : List Typed) (xs q : List ℤ) (k : ℕ) → length q ≡ k → Placed s env axes ts xs
     → val s (located e k axes ts) env q ≡ Value (a (q ++ xs))
 located-value s e a reads env [] [] [] q k n h = reads env q ∙ ap (λ (p : List ℤ). Value (a p)) (sym (append-nil q))
 located-value s e a reads env [] [] (x ∷ xs) q k n h = absurd h
@@ -136,7 +138,7 @@ at-end [] rest x (suc k) e = absurd (omega arith)
 at-end (y ∷ front) rest x zero e = absurd (omega arith)
 at-end (y ∷ front) rest x (suc k) e = at-end front rest x k (omega arith)
 
-pub iterators-placed : (s : Source) (front back : List ℤ) (axes : List Axis) (xs : List ℤ) (k : ℕ) → length front ≡ k → IsInside axes xs → Placed s (front ++ (xs ++ back)) axes (iterators k axes) xs
+pub iterators-placed : (s : CellsOf) (front back : List ℤ) (axes : List Axis) (xs : List ℤ) (k : ℕ) → length front ≡ k → IsInside axes xs → Placed s (front ++ (xs ++ back)) axes (iterators k axes) xs
 iterators-placed s front back [] [] k n h = tt
 iterators-placed s front back [] (x ∷ xs) k n h = absurd h
 iterators-placed s front back (a ∷ axes) [] k n h = absurd h
@@ -185,20 +187,20 @@ some-location axes p c v inside passes none =
 -- ---- zonal
 
 -- a layer at the location whose coordinates stand at the end of the environment
-at-other : (s : Source) (e : Typed) (a : Raster) → Reads s e a → (axes : List Axis) (p x : List ℤ) → IsInside axes p → IsInside axes x
+at-other : (s : CellsOf) (e : Typed) (a : Raster) → Reads s e a → (axes : List Axis) (p x : List ℤ) → IsInside axes p → IsInside axes x
     → val s (located e 0 axes (iterators (length axes) axes)) (p ++ x) [] ≡ Value (a x)
 at-other s e a reads axes p x hp hx =
     let placed = iterators-placed s p [] axes x (length axes) (inside-length axes p hp) hx in
     located-value s e a reads (p ++ x) axes (iterators (length axes) axes) x [] 0 refl (subst (λ (y : List ℤ). Placed s (p ++ y) axes (iterators (length axes) axes) x) (append-nil x) placed)
 
 -- a layer at the location whose coordinates stand first
-at-own : (s : Source) (e : Typed) (a : Raster) → Reads s e a → (axes : List Axis) (p x : List ℤ) → IsInside axes p → val s (located e 0 axes (iterators 0 axes)) (p ++ x) [] ≡ Value (a p)
+at-own : (s : CellsOf) (e : Typed) (a : Raster) → Reads s e a → (axes : List Axis) (p x : List ℤ) → IsInside axes p → val s (located e 0 axes (iterators 0 axes)) (p ++ x) [] ≡ Value (a p)
 at-own s e a reads axes p x hp = located-value s e a reads (p ++ x) axes (iterators 0 axes) p [] 0 refl (iterators-placed s [] x axes p 0 refl hp)
 
 pub int_eq-same : (x : ℤ) → int_eq x x ≡ true
 int_eq-same x = rw (le-true x x (omega (arith, ints))) refl
 
-pub zonal-value : (op : Summary) (s : Source) (axes : List Axis) (ta tz : Typed) (a z : Raster) (p : List ℤ) → AreOrdered axes → Reads s ta a → Reads s tz z → ((q : List ℤ) → fits_64 (a q) ≡ true) → IsInside axes p
+pub zonal-value : (op : Summary) (s : CellsOf) (axes : List Axis) (ta tz : Typed) (a z : Raster) (p : List ℤ) → AreOrdered axes → Reads s ta a → Reads s tz z → ((q : List ℤ) → fits_64 (a q) ≡ true) → IsInside axes p
     → val s (zonal_tree op axes ta tz) [] p ≡ ranged (zonal op axes a z p)
 zonal-value op s axes ta tz a z p ordered ra rz fits inside =
     let same : List ℤ → Bool = λ q. int_eq (z q) (z p) in
@@ -217,16 +219,16 @@ pub small-fits : (z : ℤ) → negsuc 4294967296 ≤ℤ z → z ≤ℤ pos 42949
 small-fits (pos n) low high = let h : n ≤ 4294967296 = omega (arith, ints) in grind (arith, nat_tests)
 small-fits (negsuc n) low high = let h : n ≤ 4294967296 = omega (arith, ints) in grind (arith, nat_tests)
 
-literal-value : (s : Source) (z : ℤ) (env : List ℤ) → fits_64 z ≡ true → val s (literal z) env [] ≡ Value z
+literal-value : (s : CellsOf) (z : ℤ) (env : List ℤ) → fits_64 z ≡ true → val s (literal z) env [] ≡ Value z
 literal-value s (pos n) env h = refl
 literal-value s (negsuc n) env h = rw h refl
 
-is_true-number : (b : Bool) → is_true (cells.number b) ≡ b
-is_true-number true = refl
-is_true-number false = refl
+truth_of-number : (b : Bool) → truth_of (cells.number b) ≡ b
+truth_of-number true = refl
+truth_of-number false = refl
 
 and-truth : (a b : Bool) → operate2 binaries.And (truth a) (truth b) ≡ truth (a && b)
-and-truth a b = rw (is_true-number a, is_true-number b) refl
+and-truth a b = rw (truth_of-number a, truth_of-number b) refl
 
 four : (a b c d : Bool) → ((a && b) && c) && d ≡ (a && b) && ((c && d) && true)
 four true true true true = refl
@@ -268,16 +270,16 @@ near-same r (a ∷ axes) (x ∷ p) h = rw (none x, near-same r axes p h.2) (here
     here n = grind (arith, nat_tests)
 
 -- the condition and the body at an offset
-focal-test : (s : Source) (x y : Axis) (r : ℕ) (c d u v : ℤ) → r ≤ 8 → x.lo ≤ℤ x.hi → y.lo ≤ℤ y.hi → Near x r c u → Near y r d v
+focal-test : (s : CellsOf) (x y : Axis) (r : ℕ) (c d u v : ℤ) → r ≤ 8 → x.lo ≤ℤ x.hi → y.lo ≤ℤ y.hi → Near x r c u → Near y r d v
     → val s (binary binaries.And (binary binaries.And (edge_tree first_moved x) (binary binaries.GreaterEqual second_moved (literal y.lo))) (binary binaries.LessEqual second_moved (literal y.hi))) (c ∷ d ∷ u ∷ v ∷ []) [] ≡ truth (stays (x ∷ y ∷ []) (c ∷ d ∷ []) (u ∷ v ∷ []))
 focal-test s x y r c d u v few ox oy nx ny =
     let fx = bounds-fit x nx.small ox in
     let fy = bounds-fit y ny.small oy in
     let env = c ∷ d ∷ u ∷ v ∷ [] in
     rw (sum-fits x r c u few nx, sum-fits y r d v few ny, literal-value s x.lo env fx.0, literal-value s x.hi env fx.1, literal-value s y.lo env fy.0, literal-value s y.hi env fy.1)
-    (rw (is_true-number (int_le x.lo (c +ℤ u)), is_true-number (int_le (c +ℤ u) x.hi))
-    (rw (is_true-number (int_le x.lo (c +ℤ u) && int_le (c +ℤ u) x.hi), is_true-number (int_le y.lo (d +ℤ v)))
-    (rw (is_true-number ((int_le x.lo (c +ℤ u) && int_le (c +ℤ u) x.hi) && int_le y.lo (d +ℤ v)), is_true-number (int_le (d +ℤ v) y.hi))
+    (rw (truth_of-number (int_le x.lo (c +ℤ u)), truth_of-number (int_le (c +ℤ u) x.hi))
+    (rw (truth_of-number (int_le x.lo (c +ℤ u) && int_le (c +ℤ u) x.hi), truth_of-number (int_le y.lo (d +ℤ v)))
+    (rw (truth_of-number ((int_le x.lo (c +ℤ u) && int_le (c +ℤ u) x.hi) && int_le y.lo (d +ℤ v)), truth_of-number (int_le (d +ℤ v) y.hi))
     (ap truth (four (int_le x.lo (c +ℤ u)) (int_le (c +ℤ u) x.hi) (int_le y.lo (d +ℤ v)) (int_le (d +ℤ v) y.hi))))))
 
 and-true : (a b : Bool) → a && b ≡ true → (a ≡ true) × (b ≡ true)
@@ -290,7 +292,7 @@ le-from a b e = (Decides-int_le a b).0 e
 ranged-value : (z : ℤ) → fits_64 z ≡ true → ranged z ≡ Value z
 ranged-value z h = rw h refl
 
-focal-body : (s : Source) (ta : Typed) (a : Raster) → Reads s ta a → (x y : Axis) (r : ℕ) (c d u v : ℤ) → r ≤ 8 → Near x r c u → Near y r d v → stays (x ∷ y ∷ []) (c ∷ d ∷ []) (u ∷ v ∷ []) ≡ true
+focal-body : (s : CellsOf) (ta : Typed) (a : Raster) → Reads s ta a → (x y : Axis) (r : ℕ) (c d u v : ℤ) → r ≤ 8 → Near x r c u → Near y r d v → stays (x ∷ y ∷ []) (c ∷ d ∷ []) (u ∷ v ∷ []) ≡ true
     → val s (bracket (located ta 0 (x ∷ y ∷ []) (first_moved ∷ second_moved ∷ []))) (c ∷ d ∷ u ∷ v ∷ []) [] ≡ Value (a (moved (c ∷ d ∷ []) (u ∷ v ∷ [])))
 focal-body s ta a reads x y r c d u v few nx ny stay =
     let parts = and-true (is_on x (c +ℤ u)) (is_on y (d +ℤ v) && true) stay in
@@ -305,11 +307,11 @@ focal-body s ta a reads x y r c d u v few nx ny stay =
     )
 
 -- what the condenser is given at an offset
-record AtOffset (s : Source) (ta : Typed) (a : Raster) (x y : Axis) (p q : List ℤ) : Type 0 where
+record AtOffset (s : CellsOf) (ta : Typed) (a : Raster) (x y : Axis) (p q : List ℤ) : Type 0 where
   test : val s (binary binaries.And (binary binaries.And (edge_tree first_moved x) (binary binaries.GreaterEqual second_moved (literal y.lo))) (binary binaries.LessEqual second_moved (literal y.hi))) (p ++ q) [] ≡ truth (stays (x ∷ y ∷ []) p q)
   body : stays (x ∷ y ∷ []) p q ≡ true → val s (bracket (located ta 0 (x ∷ y ∷ []) (first_moved ∷ second_moved ∷ []))) (p ++ q) [] ≡ Value (a (moved p q))
 
-at-offset : (s : Source) (ta : Typed) (a : Raster) → Reads s ta a → (x y : Axis) (r : ℕ) → r ≤ 8 → IsSmall x → IsSmall y → AreOrdered (x ∷ y ∷ []) → (p q : List ℤ) → IsInside (x ∷ y ∷ []) p → IsInside (windows_of r (x ∷ y ∷ [])) q
+at-offset : (s : CellsOf) (ta : Typed) (a : Raster) → Reads s ta a → (x y : Axis) (r : ℕ) → r ≤ 8 → IsSmall x → IsSmall y → AreOrdered (x ∷ y ∷ []) → (p q : List ℤ) → IsInside (x ∷ y ∷ []) p → IsInside (windows_of r (x ∷ y ∷ [])) q
     → AtOffset s ta a x y p q
 at-offset s ta a reads x y r few sx sy ordered [] q hp hq = absurd hp
 at-offset s ta a reads x y r few sx sy ordered (c ∷ []) q hp hq = absurd hp.2
@@ -329,7 +331,7 @@ windows-ordered : (r : ℕ) (axes : List Axis) → AreOrdered (windows_of r axes
 windows-ordered r [] = tt
 windows-ordered r (a ∷ axes) = (omega (arith, ints), windows-ordered r axes)
 
-pub focal-value : (op : Summary) (s : Source) (x y : Axis) (r : ℕ) (ta : Typed) (a : Raster) (p : List ℤ) → r ≤ 8 → IsSmall x → IsSmall y → AreOrdered (x ∷ y ∷ []) → Reads s ta a → ((q : List ℤ) → fits_64 (a q) ≡ true) → IsInside (x ∷ y ∷ []) p
+pub focal-value : (op : Summary) (s : CellsOf) (x y : Axis) (r : ℕ) (ta : Typed) (a : Raster) (p : List ℤ) → r ≤ 8 → IsSmall x → IsSmall y → AreOrdered (x ∷ y ∷ []) → Reads s ta a → ((q : List ℤ) → fits_64 (a q) ≡ true) → IsInside (x ∷ y ∷ []) p
     → val s (focal_tree op x y r ta) [] p ≡ ranged (focal op (x ∷ y ∷ []) r a p)
 focal-value op s x y r ta a p few sx sy ordered ra fits inside =
     let axes : List Axis = x ∷ y ∷ [] in

@@ -7,7 +7,7 @@ use Rattle.wcps_mean.specs.declared.cell.PointFault.TheVariants.{OutOfDomain}
 use Rattle.wcps_mean.specs.declared.cell.Outcome.{Outcome}
 use Rattle.wcps_mean.specs.declared.cell.Outcome.TheVariants.{Value, Fault}
 use Rattle.wcps_mean.specs.declared.item.Item.{Item}
-use Rattle.wcps_mean.specs.Cells.{is_true}
+use Rattle.arr_core.specs.Cells.{truth_of}
 use Rattle.wcps_mean.specs.Answer.{then_of, given, joined, cell_of, line_of, field_count}
 use Rattle.plan_ir.specs.Bodies.{Tree, fold}
 use Rattle.plan_ir.specs.Run.{run}
@@ -55,7 +55,7 @@ item_planned s regs i = then_of (item_cells s regs i) (λ cells. Ok (record { li
 -- whether there is an item: there is no condition, or it is true
 abbrev pub chosen : (ℕ → ℕ → List ℤ → ℤ) → List Outcome → Option Tree → Result Bool PointFault
 chosen s regs None = Ok true
-chosen s regs (Some c) = given is_true (run s regs c [])
+chosen s regs (Some c) = given truth_of (run s regs c [])
 
 -- the item of steps, nothing where their condition is false, or the first fault
 abbrev pub given_out : (ℕ → ℕ → List ℤ → ℤ) → List Outcome → StepsTree → Result (List Item) PointFault

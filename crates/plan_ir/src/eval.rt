@@ -14,7 +14,8 @@ use crate::body::{Body, Fold, Index, Interval};
 use arr_core::rank_of;
 use std::alloc::{AllocError, Global};
 use wcps_mean::{
-    CellError, Cells, Outcome, PointFault, Running, item_at, operate, operate_both, push_point,
+    CellError, Cells, Outcome, PointFault, Running, coordinate_at, item_at, operate, operate_both,
+    place_at, push_point,
 };
 
 /// What bodies of one combination stand over: its coverages, by their places in the plan, and the outcomes of its passes.
@@ -41,7 +42,7 @@ pub(crate) fn eval<C: Cells>(
 {
     match e {
         Body::Lit(z) => Ok(Outcome::Value(*z)),
-        Body::Var(k) => Ok(Outcome::Value(variable(vars, *k))),
+        Body::Var(k) => Ok(Outcome::Value(coordinate_at(vars, *k))),
         Body::Reg(k) => Ok(register(&frame.registers, *k)),
         Body::Op1(op, e) => {
             let x = eval(alloc, cells, frame, e, vars)?;
@@ -58,7 +59,7 @@ pub(crate) fn eval<C: Cells>(
             indexes,
         } => {
             let point = numbers(alloc, vars, indexes)?;
-            let place = coverage_at(&frame.coverages, *coverage);
+            let place = place_at(&frame.coverages, *coverage);
             let z = cells.cell(place, *field, &point)?;
             Ok(Outcome::Value(z))
         }
@@ -206,16 +207,6 @@ fn number(vars: &[i32], index: Index) -> i32
     }
 }
 
-/// The number of a variable.
-fn variable(vars: &[i32], k: usize) -> i64
-    ensures { result ≡ slice_index_or vars.now k (pos 0) }
-{
-    match vars.get(k) {
-        Some(x) => *x as i64,
-        None => 0,
-    }
-}
-
 /// What a register holds.
 pub fn register(registers: &[Outcome], k: usize) -> Outcome
     ensures { result ≡ slice_index_or registers.now k (Outcome.Value (pos 0)) }
@@ -223,16 +214,6 @@ pub fn register(registers: &[Outcome], k: usize) -> Outcome
     match registers.get(k) {
         Some(o) => *o,
         None => Outcome::Value(0),
-    }
-}
-
-/// A coverage by its place in the plan.
-fn coverage_at(coverages: &[usize], k: usize) -> usize
-    ensures { result ≡ slice_index_or coverages.now k 0 }
-{
-    match coverages.get(k) {
-        Some(c) => *c,
-        None => 0,
     }
 }
 

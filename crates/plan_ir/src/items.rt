@@ -18,7 +18,8 @@ use crate::plan::{Bind, Combination, Field, Item as PlannedItem, Plan, Steps};
 use arr_core::Cell;
 use std::alloc::{AllocError, Global};
 use wcps_mean::{
-    CellError, CellList, Cells, EvalError, Item, Outcome, cell_of, is_set, push_point, run_length,
+    CellError, CellList, Cells, EvalError, Item, Outcome, cell_of, field_count, is_set, push_point,
+    run_length,
 };
 
 /// The items of a plan: combinations in order, for each its condition, and where that is true the cells of its item,
@@ -171,16 +172,9 @@ fn item_of<C: Cells>(
     }
     Ok(Item {
         line: run_length(item.domain.axes()),
-        fields: count_of(&item.fields),
+        fields: field_count(item.fields.len()),
         cells: CellList::new(list),
     })
-}
-
-/// How many fields an item tells.
-fn count_of(fields: &[Field]) -> u32
-    ensures { result ≡ field_count (length fields.now) }
-{
-    fields.len().min(4_294_967_295) as u32
 }
 
 /// Puts the cells of the fields at a point at the end of a list. The variables of the binds are left behind the point.

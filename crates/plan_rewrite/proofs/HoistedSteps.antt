@@ -9,7 +9,7 @@ use Rattle.wcps_mean.specs.declared.cell.PointFault.{PointFault}
 use Rattle.wcps_mean.specs.declared.cell.Outcome.{Outcome}
 use Rattle.wcps_mean.specs.declared.cell.Outcome.TheVariants.{Value}
 use Rattle.wcps_mean.specs.declared.item.Item.{Item}
-use Rattle.wcps_mean.specs.Cells.{is_true}
+use Rattle.arr_core.specs.Cells.{truth_of}
 use Rattle.wcps_mean.specs.Condensers.{condensed, demanded}
 use Rattle.wcps_mean.specs.Answer.{then_of, given, joined, cell_of, line_of, field_count}
 use Rattle.plan_ir.specs.declared.body.Interval.{Interval}
@@ -181,7 +181,7 @@ condition-hoists (Some c) s cs w old u p =
       extends = a.extends;
       passes_placed = a.passes_placed;
       placed = λ rest. placed-later cs h.passes rest [] h.body a.placed;
-      means = λ rest. ap (given is_true) (run-later s cs h.passes rest [] h.body [] a.placed ∙ a.means [] refl);
+      means = λ rest. ap (given truth_of) (run-later s cs h.passes rest [] h.body [] a.placed ∙ a.means [] refl);
     }
 
 fields-count : (fields : List FieldBody) (regs : List ℕ) (n : ℕ) (passes : List PassTree) → length (hoisted_fields regs n passes fields).fields ≡ length fields

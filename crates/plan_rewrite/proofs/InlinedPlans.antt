@@ -10,7 +10,7 @@ use Rattle.wcps_mean.specs.declared.cell.PointFault.TheVariants.{OutOfDomain}
 use Rattle.wcps_mean.specs.declared.cell.Outcome.{Outcome}
 use Rattle.wcps_mean.specs.declared.cell.Outcome.TheVariants.{Value, Fault}
 use Rattle.wcps_mean.specs.declared.item.Item.{Item}
-use Rattle.wcps_mean.specs.Cells.{is_true}
+use Rattle.arr_core.specs.Cells.{truth_of}
 use Rattle.wcps_mean.specs.Answer.{then_of, given, joined, cell_of, line_of, field_count}
 use Rattle.plan_ir.specs.declared.body.Index.{Index}
 use Rattle.plan_ir.specs.declared.body.Index.TheVariants.{Var}
@@ -37,7 +37,7 @@ registers-inlined s regs (p ∷ ps) =
 
 chosen-inlined : (s : ℕ → ℕ → List ℤ → ℤ) (regs : List Outcome) (c : Option Tree) → chosen s regs (option_map (inlining [] []) c) ≡ chosen s regs c
 chosen-inlined s regs None = refl
-chosen-inlined s regs (Some c) = ap (given is_true) (inlined-means c s regs [] [] [] [] tt tt)
+chosen-inlined s regs (Some c) = ap (given truth_of) (inlined-means c s regs [] [] [] [] tt tt)
 
 -- the intervals of the old variables after some binds
 abbrev pub behind : List Interval → List BindTree → List Interval

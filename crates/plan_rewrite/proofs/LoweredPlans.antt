@@ -16,7 +16,8 @@ use Rattle.wcps_types.specs.Renamed.{renamed, renamed_field, renamed_item, renam
 use Rattle.wcps_types.specs.WellTyped.{FieldsAreTyped, ConditionIsTyped, CombinationIsTyped}
 use Rattle.wcps_mean.specs.declared.cell.PointFault.{PointFault}
 use Rattle.wcps_mean.specs.declared.item.Item.{Item}
-use Rattle.wcps_mean.specs.Cells.{operate1, operate2, at_position, is_true}
+use Rattle.arr_core.specs.Cells.{truth_of}
+use Rattle.wcps_mean.specs.Cells.{operate1, operate2, at_position}
 use Rattle.wcps_mean.specs.Condensers.{condensed, demanded}
 use Rattle.wcps_mean.specs.Meaning.{val}
 use Rattle.wcps_mean.specs.Answer.{then_of, given, joined, cell_of, line_of, field_count, cells_at, item_cells, item_answer, chosen, combination_answer}
@@ -82,7 +83,7 @@ item-over i ks s =
 
 chosen-over : (c : Option Typed) (ks : List ℕ) (s : ℕ → ℕ → List ℤ → ℤ) → chosen (cells_of s ks) c ≡ chosen s (option_map (renamed ks) c)
 chosen-over None ks s = refl
-chosen-over (Some c) ks s = ap (given is_true) (val-over c ks s [] [])
+chosen-over (Some c) ks s = ap (given truth_of) (val-over c ks s [] [])
 
 abbrev out_of : Result Bool PointFault → Result Item PointFault → Result (List Item) PointFault
 out_of c i = then_of c (λ b. cond b (then_of i (λ x. Ok (x ∷ []))) (Ok []))

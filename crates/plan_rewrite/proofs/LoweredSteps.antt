@@ -12,7 +12,7 @@ use Rattle.wcps_types.specs.WellTyped.{FieldsAreTyped, ConditionIsTyped, Combina
 use Rattle.wcps_types.specs.Work.{work_of, fields_work, item_work, condition_work}
 use Rattle.wcps_mean.specs.declared.cell.PointFault.{PointFault}
 use Rattle.wcps_mean.specs.declared.item.Item.{Item}
-use Rattle.wcps_mean.specs.Cells.{is_true}
+use Rattle.arr_core.specs.Cells.{truth_of}
 use Rattle.wcps_mean.specs.Answer.{then_of, given, chosen as answer_chosen, combination_answer}
 use Rattle.plan_ir.specs.Plans.{BindTree, FieldBody}
 use Rattle.plan_ir.specs.Planned.{chosen, item_planned, steps_planned}
@@ -26,7 +26,7 @@ use Rattle.plan_rewrite.proofs.LoweredItems.{chain_views, chain-views, end-views
 
 condition-lowered : (s : ℕ → ℕ → List ℤ → ℤ) (o : Option (Box Node Global)) → chosen s [] (option_map boxed_scalar o) ≡ answer_chosen s (option_map boxed_tree o)
 condition-lowered s None = refl
-condition-lowered s (Some e) = ap (given is_true) (outer-means (boxed_tree e) [] [] s [] [] [] refl refl)
+condition-lowered s (Some e) = ap (given truth_of) (outer-means (boxed_tree e) [] [] s [] [] [] refl refl)
 
 abbrev out_of : Result Bool PointFault → Result Item PointFault → Result (List Item) PointFault
 out_of c i = then_of c (λ b. cond b (then_of i (λ x. Ok (x ∷ []))) (Ok []))

@@ -11,7 +11,8 @@ use Rattle.wcps_mean.specs.declared.running.Running.{Running}
 use Rattle.wcps_mean.specs.declared.cell.PointFault.{PointFault}
 use Rattle.wcps_mean.specs.declared.cell.Outcome.{Outcome}
 use Rattle.wcps_mean.specs.declared.cell.Outcome.TheVariants.{Value, Fault}
-use Rattle.wcps_mean.specs.Cells.{is_true, int_eq, truth, operate1, operate2}
+use Rattle.arr_core.specs.Cells.{truth_of}
+use Rattle.wcps_mean.specs.Cells.{int_eq, truth, operate1, operate2}
 use Rattle.wcps_mean.specs.Condensers.{values, total, any, trues}
 use Rattle.wcps_mean.specs.Feeding.{Keeps}
 use Rattle.wcps_text.specs.declared.operator.UnaryOperator.TheVariants.{Plus}
@@ -33,11 +34,11 @@ total_first (Value z) a b h = ap (λ s. z +ℤ s) h
 
 any_first : (o : Outcome) (a b : List Outcome) → any (values a) ≡ any (values b) → any (values (o ∷ a)) ≡ any (values (o ∷ b))
 any_first (Fault f) a b h = h
-any_first (Value z) a b h = ap (λ s. is_true z || s) h
+any_first (Value z) a b h = ap (λ s. truth_of z || s) h
 
 trues_first : (o : Outcome) (a b : List Outcome) → trues (values a) ≡ trues (values b) → trues (values (o ∷ a)) ≡ trues (values (o ∷ b))
 trues_first (Fault f) a b h = h
-trues_first (Value z) a b h = ap (λ s. cond (is_true z) 1 0 + s) h
+trues_first (Value z) a b h = ap (λ s. cond (truth_of z) 1 0 + s) h
 
 total_zeros : {told more : List Told} → AddsZeros told more → total (values (outcomes told)) ≡ total (values (outcomes more))
 total_zeros none = refl

@@ -9,7 +9,7 @@ use Rattle.std.proofs.lemmas.List.FromFn.{fill_by_all}
 use Rattle.wcps_text.specs.declared.operator.Aggregate.{Aggregate}
 use Rattle.wcps_mean.specs.declared.cell.Outcome.{Outcome}
 use Rattle.wcps_mean.specs.declared.cell.Outcome.TheVariants.{Value, Fault}
-use Rattle.wcps_mean.specs.Cells.{is_true}
+use Rattle.arr_core.specs.Cells.{truth_of}
 use Rattle.wcps_mean.specs.Condensers.{condensed, demanded}
 use Rattle.tile_kernel.specs.declared.accumulator.Accumulator.{Accumulator}
 use Rattle.tile_kernel.specs.Columns.{outcome_at}
@@ -61,7 +61,7 @@ chosen_first n false o told a r = r
 
 rising_first : (n : ℕ) (c o : Outcome) (told : List Told) → All (λ (u : Told). suc n ≤ u.0) told → AreRising told → AreRising (demanded_of n c o ++ told)
 rising_first n (Fault f) o told a r = (a, r)
-rising_first n (Value z) o told a r = chosen_first n (is_true z) o told a r
+rising_first n (Value z) o told a r = chosen_first n (truth_of z) o told a r
 
 -- the points are told in the order of their places
 pub rising_told : (c e : List ℤ → Outcome) (n : ℕ) (xs : List (List ℤ)) → AreRising (told_of c e n xs)

@@ -7,7 +7,7 @@ use Rattle.arr_core.specs.Limits.{max_points}
 use Rattle.wcps_text.specs.declared.operator.Aggregate.{Aggregate}
 use Rattle.wcps_mean.specs.declared.cell.Outcome.{Outcome}
 use Rattle.wcps_mean.specs.declared.cell.Outcome.TheVariants.{Value, Fault}
-use Rattle.wcps_mean.specs.Cells.{is_true}
+use Rattle.arr_core.specs.Cells.{truth_of}
 use Rattle.tile_kernel.specs.declared.accumulator.Accumulator.{Accumulator}
 use Rattle.wcps_mean.specs.Condensers.{condensed}
 use Rattle.tile_kernel.specs.Told.{Told, demanded_of, outcomes, AreRising}
@@ -29,7 +29,7 @@ told_ranked box c e vars x = demanded_of (rank_of box x) (under_vars c vars x) (
 -- whether a point adds something under a condition with this outcome: its fault, or what the body gives
 abbrev pub demands : Outcome → Bool
 demands (Fault f) = true
-demands (Value z) = is_true z
+demands (Value z) = truth_of z
 
 -- the accumulator at a place takes in what another one was told, and the others stay as they are
 pub record MergesAt (place : ℕ) (found : Accumulator) (before after : List Accumulator) : Type 0 where

@@ -1,6 +1,7 @@
 -- Frames: the numbers of all variables at each place of a column.
 use Rattle.std.specs.Prelude.{◌≡◌, ℕ, ◌+◌, ◌/◌, ◌%◌, ◌<◌, ◌≤◌, ℤ, pos, ◌+ℤ◌, ◌≤ℤ◌, List, [], ◌∷◌, ◌++◌, map, length, slice_index_or}
 use Rattle.std.specs.List.{All, range_with_len}
+use Rattle.arr_core.specs.Limits.{max_tile}
 use Rattle.arr_core.specs.declared.domain.Axis.{Axis}
 use Rattle.arr_core.specs.Domains.{gap, count}
 use Rattle.tile_columns.specs.declared.frame.Variable.{Variable}
@@ -53,7 +54,7 @@ abbrev pub StayWhole : ℕ → List Variable → List Variable → Type 0
 StayWhole places old new = All (HasPlaces places) old → All (HasPlaces places) new
 
 pub record IsFrame (places : ℕ) (variables : List Variable) : Type 0 where
-  pub few : places ≤ 4096
+  pub few : places ≤ max_tile
   pub whole : All (HasPlaces places) variables
 
 -- with further variables, which have the same numbers at each place

@@ -1,6 +1,7 @@
 -- Folds of windows: at each place of a box they condense the cells within reach of it, as far as these lie within bounds.
 use Rattle.std.specs.Prelude.{◌≡◌, ℕ, ◌+◌, ◌*◌, ◌<◌, ◌≤◌, ◌≤ℤ◌, ℤ, pos, List, [], ◌∷◌, ◌++◌, map, length, slice_get, slice_index_or, IsSomeAnd, Bool, true, false, ◌||◌}
 use Rattle.std.specs.List.{All, flat_map}
+use Rattle.arr_core.specs.Limits.{max_tile}
 use Rattle.arr_core.specs.declared.signature.Signature.{Signature}
 use Rattle.arr_core.specs.Domains.{count}
 use Rattle.wcps_text.specs.declared.operator.BinaryOperator.TheVariants.{Add, LessEqual, GreaterEqual, And}
@@ -24,6 +25,10 @@ use Rattle.tile_columns.specs.Reaching.{between, cross, extent, reached_by, IsRe
 use Rattle.tile_columns.specs.declared.gather.Reading.{Reading}
 use Rattle.tile_columns.specs.Sources.{SourceState}
 use Rattle.tile_columns.specs.Readings.{cell_read}
+
+-- how many variables the places around a fold of windows have at most
+abbrev pub max_levels : ℕ
+max_levels = 1024
 
 -- a body has these outcomes, whatever the cells and the registers are
 abbrev pub Means : Tree → (List ℤ → Outcome) → Type 0
@@ -99,9 +104,9 @@ window_places w = extent w.rows.places * extent w.columns.places
 
 -- the halo has few cells, and there are few places
 pub record IsNear (w : Window) : Type 0 where
-  pub wide : extent w.columns.halo ≤ 4096
+  pub wide : extent w.columns.halo ≤ max_tile
   pub many : halo_cells w ≤ 16384
-  pub places : window_places w ≤ 4096
+  pub places : window_places w ≤ max_tile
 
 -- a coverage has the field, and two axes, on which the halo lies
 pub record Covers (w : Window) (c : Signature) : Type 0 where
@@ -169,7 +174,7 @@ pub record AreRowsOf (w : Window) (rows : Interval) : Type 0 where
   pub ordered : rows.lo ≤ℤ rows.hi
   pub within : LiesWithin rows w.rows.halo
   pub columns : w.columns.halo.lo ≤ℤ w.columns.halo.hi
-  pub few : extent rows * extent w.columns.halo ≤ 4096
+  pub few : extent rows * extent w.columns.halo ≤ max_tile
 
 -- a list gets the cells of these rows at its end
 abbrev pub AddsRows : {K : Type 0} → SourceState K → Window → Interval → List ℤ → List ℤ → Type 0

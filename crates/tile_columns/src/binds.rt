@@ -2,6 +2,7 @@
 
 ghost use Rattle.std.specs.Prelude.{◌≡◌, ◌≤◌, int_le, ◌&&◌, length, map, IsTrue, OnOk, IfOk};
 ghost use Rattle.std.specs.List.{All};
+ghost use Rattle.arr_core.specs.Limits.{max_tile};
 ghost use Rattle.wcps_mean.specs.Cells.{at_position};
 ghost use Rattle.tile_columns.specs.Binding.{coordinate_or_lo, IsSettled};
 ghost use Rattle.tile_columns.specs.Fields.{settled_by};
@@ -124,7 +125,7 @@ fn settle_each(
 ) -> Result<(), AllocError>
     requires { length column.now ≡ length positions.now }
     ensures value { OnOk result (outcomes.new.items ≡ settled_by positions.now interval.lo interval.hi column.now) }
-    ensures few { OnOk result (length outcomes.new.items ≤ 4096) }
+    ensures few { OnOk result (length outcomes.new.items ≤ max_tile) }
 {
     outcomes.clear();
     for place in 0..positions.len() {

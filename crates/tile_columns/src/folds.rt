@@ -1,6 +1,7 @@
 //! The accumulators of a fold, one for each place of a column.
 
 ghost use Rattle.std.specs.Prelude.{◌≡◌, ◌*◌, ◌++◌, ◌<◌, ◌≤◌, Bool, false, List, [], length, map, slice_index_or, IfOk, OnOk, IsTrue, nat_lt};
+ghost use Rattle.arr_core.specs.Limits.{max_tile};
 ghost use Rattle.arr_core.specs.Domains.{points, count, IsInside};
 ghost use Rattle.arr_core.specs.Tiles.{tile_boxes};
 ghost use Rattle.tile_kernel.specs.Selected.{Chooses};
@@ -86,7 +87,7 @@ pub(crate) fn part_frame(
     area: &Domain,
 ) -> Result<Frame, AllocError>
     requires place { place < length frame.now }
-    requires few { count area.now ≤ 4096 }
+    requires few { count area.now ≤ max_tile }
     ensures { IfOk result (λ f. f ≡ map (λ p. slice_index_or frame.now place [] ++ p) (points area.now)) }
 {
     let numbers = place_numbers(alloc, frame, place)?;
@@ -128,7 +129,7 @@ pub(crate) fn is_never(condition: &Column) -> bool
 /// Whether a fold takes fewer column operations a tile box at a time, one for each tile box and place of the frame, than
 /// a point at a time, one for each point of its box. Over all places and points both have as many cells.
 pub(crate) fn goes_by_tiles(places: usize, area: &Domain) -> bool
-    requires { places ≤ 4096 }
+    requires { places ≤ max_tile }
     ensures { result ≡ nat_lt (places * length (tile_boxes area.now)) (count area.now) }
 {
     places as u64 * area.tiles() < area.points()

@@ -2,6 +2,7 @@
 
 ghost use Rattle.std.specs.Prelude.{◌≡◌, ℕ, ◌+◌, ◌*◌, ◌<◌, ◌≤◌, ◌^◌, ◌≤ℤ◌, ◌+ℤ◌, ℤ, pos, List, [], ◌++◌, length, take, map, slice_index_or, replicate, IsTrue, IfSome, OnOk, IfOk};
 ghost use Rattle.std.specs.List.{All};
+ghost use Rattle.arr_core.specs.Limits.{max_tile};
 ghost use Rattle.arr_core.specs.Domains.{gap, size_of, points, count, AreOrdered};
 ghost use Rattle.arr_core.specs.Tiles.{tile_boxes};
 ghost use Rattle.plan_ir.specs.Run.{number_at, numbers_at};
@@ -217,7 +218,7 @@ fn turn_as(variables: &[Variable], indexes: &[Index], axes: &[Axis], total: u64)
 impl Frame {
     /// So many places, at most 4,096, without variables.
     pub fn of_places(alloc: Global, places: usize) -> Result<Frame, AllocError>
-        requires { places ≤ 4096 }
+        requires { places ≤ max_tile }
         ensures { IfOk result (λ f. f ≡ replicate places []) }
     {
         let variables = Vec::new(alloc);
@@ -226,7 +227,7 @@ impl Frame {
 
     /// The coordinates of a box of at most 4,096 points, in row-major order.
     pub fn of_box(alloc: Global, area: &Domain) -> Result<Frame, AllocError>
-        requires { count area.now ≤ 4096 }
+        requires { count area.now ≤ max_tile }
         ensures { IfOk result (λ f. f ≡ points area.now) }
     {
         Frame::of_box_under(alloc, &[], area)
@@ -234,7 +235,7 @@ impl Frame {
 
     /// The same numbers at every place, then the coordinates of a box of at most 4,096 points, in row-major order.
     pub fn of_box_under(alloc: Global, numbers: &[i32], area: &Domain) -> Result<Frame, AllocError>
-        requires { count area.now ≤ 4096 }
+        requires { count area.now ≤ max_tile }
         ensures { IfOk result (λ f. f ≡ map (λ p. numbers.now ++ p) (points area.now)) }
     {
         let places = area.points();
@@ -263,7 +264,7 @@ impl Frame {
     /// How many places there are.
     pub fn places(&self) -> usize
         ensures value { result ≡ length self.now }
-        ensures few { result ≤ 4096 }
+        ensures few { result ≤ max_tile }
     {
         self.places
     }

@@ -2,6 +2,7 @@
 //! one tile after the other is copied to all places that read it; else the places are put in the order of their tiles.
 
 ghost use Rattle.std.specs.Prelude.{◌≡◌, ◌≢◌, ◌<◌, ◌≤◌, pos, length, slice_index_or, IfSome, OnOk};
+ghost use Rattle.arr_core.specs.Limits.{max_tile};
 ghost use Rattle.arr_core.specs.Domains.{count};
 ghost use Rattle.tile_columns.specs.Sources.{OneMore, box_in};
 ghost use Rattle.tile_columns.specs.Calling.{Reads, FetchesOnce};
@@ -163,7 +164,7 @@ fn whole_tile(reading: &Reading<'_>, frame: &Frame) -> Option<u64>
 
 /// Gives a list of runs as many values as a column has places at most.
 fn make_room(runs: &mut RunList) -> Result<(), AllocError>
-    ensures { OnOk result (length runs.new.values.items ≡ 4096) }
+    ensures { OnOk result (length runs.new.values.items ≡ max_tile) }
 {
     runs.values.resize(MAX_PLACES, 0)?;
     Ok(())
@@ -189,9 +190,9 @@ fn read_runs<S: Tiles>(
     out: &mut Column,
 ) -> Result<(), CellError>
     requires tile { IsTileRead (S.state source.old) reading.now number }
-    requires points { count (box_in (S.state source.old) reading.now.coverage number) ≡ 4096 }
+    requires points { count (box_in (S.state source.old) reading.now.coverage number) ≡ max_tile }
     ensures value { OnOk result (IsTileColumn (S.state source.old) reading.now number out.new) }
-    ensures places { OnOk result (length out.new ≡ 4096) }
+    ensures places { OnOk result (length out.new ≡ max_tile) }
     ensures fetched { OnOk result (OneMore (S.state source.old).fetched (S.state source.new).fetched) }
     ensures reads { Reads S.Tiles result source.old source.new }
 {
@@ -213,7 +214,7 @@ fn read_tile<S: Tiles>(
 ) -> Result<(), CellError>
     requires tile { IsTileRead (S.state source.old) reading.now number }
     requires points { count (box_in (S.state source.old) reading.now.coverage number) ≡ points }
-    requires few { points ≤ 4096 }
+    requires few { points ≤ max_tile }
     ensures value { OnOk result (IsTileColumn (S.state source.old) reading.now number out.new) }
     ensures places { OnOk result (length out.new ≡ points) }
     ensures fetched { OnOk result (OneMore (S.state source.old).fetched (S.state source.new).fetched) }

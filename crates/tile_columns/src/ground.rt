@@ -1,6 +1,6 @@
 //! What bodies stand over.
 
-ghost use Rattle.std.specs.Prelude.{◌≡◌, length, slice_index_or, OnOk};
+ghost use Rattle.std.specs.Prelude.{◌≡◌, length, OnOk};
 ghost use Rattle.tile_columns.specs.Calling.{Reads};
 ghost use Rattle.tile_columns.specs.Meaning.{IsGroundOf, HasPlaceOver, IsColumnOf};
 ghost use Rattle.tile_columns.specs.BodyReads.{read_view, FetchesTilesOf};
@@ -12,7 +12,7 @@ use crate::source::Tiles;
 use arr_core::Signature;
 use plan_ir::Index;
 use tile_kernel::Column;
-use wcps_mean::{CellError, Outcome};
+use wcps_mean::{CellError, Outcome, place_at};
 
 /// What bodies of one combination stand over: the coverages of the plan, which of them the combination chooses, by their
 /// places in the plan, and the outcomes of its passes.
@@ -21,16 +21,6 @@ pub struct Ground<'a> {
     pub signatures: &'a [Signature],
     pub coverages: &'a [usize],
     pub registers: &'a [Outcome],
-}
-
-/// A coverage by its place in the plan.
-fn coverage_at(coverages: &[usize], k: usize) -> usize
-    ensures { result ≡ slice_index_or coverages.now k 0 }
-{
-    match coverages.get(k) {
-        Some(c) => *c,
-        None => 0,
-    }
 }
 
 /// A read of a body: a coverage by its place among those that are chosen, a field by its place, and an index for each axis.
@@ -57,7 +47,7 @@ pub(crate) fn read_cells<S: Tiles>(
     ensures reads { Reads S.Tiles result source.old source.new }
     ensures fetched { OnOk result (FetchesTilesOf ground.now what.now frame.now S.Tiles source.old source.new) }
 {
-    let place = coverage_at(ground.coverages, what.coverage);
+    let place = place_at(ground.coverages, what.coverage);
     let reading = Reading {
         coverage: place,
         field: what.field,

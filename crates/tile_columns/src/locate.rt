@@ -2,7 +2,7 @@
 
 ghost use Rattle.std.specs.Prelude.{◌≡◌, ◌<◌, ◌≤◌, ◌^◌, ◌≤ℤ◌, pos, length, replicate, OnOk};
 ghost use Rattle.arr_core.specs.Domains.{gap};
-ghost use Rattle.arr_core.specs.Limits.{max_points};
+ghost use Rattle.arr_core.specs.Limits.{max_points, max_tile};
 ghost use Rattle.tile_columns.specs.Readings.{ReadsInside, tiles_of, ranks_of};
 ghost use Rattle.tile_columns.specs.Locating.{AreInside, tile_along, rank_along, LieAlong, CountedOn, CountsFew, HaveLength, CountedFrom, CountsFewFrom};
 
@@ -31,7 +31,7 @@ pub(crate) struct Located {
 /// With the coordinate of one more axis.
 fn located_along(at: Located, along: Along, x: i64) -> Located
     requires edge { 0 < along.edge }
-    requires last { (along.last < 2 ^ 32) × (along.edge ≤ 4096) }
+    requires last { (along.last < 2 ^ 32) × (along.edge ≤ max_tile) }
     requires inside { (along.lo ≤ℤ x) × (gap along.lo x ≤ along.last) }
     requires tile { tile_along along x at.tile < max_points }
     requires rank { rank_along along x at.rank < max_points }
@@ -51,7 +51,7 @@ fn located_along(at: Located, along: Along, x: i64) -> Located
 /// Counts tiles and ranks along one more axis, at each place.
 fn add_axis(along: Along, coordinates: &[i64], tiles: &mut Vec<u64>, ranks: &mut Vec<u64>)
     requires edge { 0 < along.edge }
-    requires last { (along.last < 2 ^ 32) × (along.edge ≤ 4096) }
+    requires last { (along.last < 2 ^ 32) × (along.edge ≤ max_tile) }
     requires places { HaveLength (length coordinates.now) tiles.old.items ranks.old.items }
     requires inside { LieAlong along coordinates.now }
     requires few_tiles { CountsFew coordinates.now (pos 0) (tile_along along) tiles.old.items }
@@ -81,7 +81,7 @@ fn add_axes(
     frame: &Frame,
     scratch: &mut Scratch,
 ) -> Result<(), AllocError>
-    requires edge { (0 < edge) × (edge ≤ 4096) }
+    requires edge { (0 < edge) × (edge ≤ max_tile) }
     requires inside { AreInside axes.now indexes.now frame.now }
     requires places { HaveLength (length frame.now) scratch.old.numbers.items scratch.old.ranks.items }
     requires few { CountsFewFrom edge axes.now indexes.now frame.now scratch.old }

@@ -2,6 +2,7 @@
 
 ghost use Rattle.std.specs.Prelude.{◌≡◌, ◌<◌, slice_get, length, OnOk};
 ghost use Rattle.std.specs.List.{All};
+ghost use Rattle.arr_core.specs.Limits.{max_tile};
 ghost use Rattle.arr_core.specs.Domains.{count};
 ghost use Rattle.arr_core.specs.Runs.{cells_of};
 ghost use Rattle.tile_columns.specs.Sources.{SourceState, OneMore, HasTile, box_in, AreOfTile, ArePicked, OnlyReads, Tells};
@@ -47,11 +48,11 @@ pub trait Tiles {
         runs: &mut RunList,
     ) -> Result<(), CellError>
         requires tile { HasTile (slice_get (state self.old).coverages coverage) field tile }
-        requires points { count (box_in (state self.old) coverage tile) ≡ 4096 }
-        requires room { length runs.old.values.items ≡ 4096 }
+        requires points { count (box_in (state self.old) coverage tile) ≡ max_tile }
+        requires room { length runs.old.values.items ≡ max_tile }
         ensures value { OnOk result (AreOfTile (state self.old) coverage field tile (cells_of runs.new)) }
-        ensures places { OnOk result (length (cells_of runs.new) ≡ 4096) }
-        ensures room { OnOk result (length runs.new.values.items ≡ 4096) }
+        ensures places { OnOk result (length (cells_of runs.new) ≡ max_tile) }
+        ensures room { OnOk result (length runs.new.values.items ≡ max_tile) }
         ensures fetched { OnOk result (OneMore (state self.old).fetched (state self.new).fetched) }
         ensures reads { OnlyReads (state self.old) (state self.new) }
         ensures reports { Tells spelled result (state self.old) (state self.new) };

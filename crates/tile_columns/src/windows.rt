@@ -1,7 +1,7 @@
 //! Folds of windows, as those of focal sums: at each place of a box they condense the cells within reach of it, as far
 //! as these lie within bounds.
 
-ghost use Rattle.std.specs.Prelude.{◌≡◌, ◌+◌, ◌*◌, ◌<◌, ◌≤◌, ◌≤ℤ◌, [], ◌∷◌, length, slice_index_or, IfSome, IfOk, IsTrue};
+ghost use Rattle.std.specs.Prelude.{◌≡◌, ◌+◌, ◌*◌, ◌<◌, ◌≤◌, ◌≤ℤ◌, [], ◌∷◌, length, IfSome, IfOk, IsTrue};
 ghost use Rattle.arr_core.specs.Domains.{count};
 ghost use Rattle.wcps_text.specs.declared.operator.BinaryOperator.TheVariants.{Add, And};
 ghost use Rattle.wcps_text.specs.declared.operator.UnaryOperator.TheVariants.{Negate};
@@ -9,14 +9,15 @@ ghost use Rattle.wcps_mean.specs.declared.cell.Outcome.TheVariants.{Value};
 ghost use Rattle.plan_ir.specs.declared.body.Index.TheVariants.{Var};
 ghost use Rattle.plan_ir.specs.Bodies.{body_view, var, op1, op2, read, bind};
 ghost use Rattle.plan_ir.specs.Placed.{LiesWithin};
-ghost use Rattle.tile_columns.specs.Windows.{Means, moved, low_edge, high_edge, either_edges, some_edges, edges, cell_tree, column_tree, window_tree, halo_cells, IsPattern, GoesOver, IsNear, Covers, CanRead, IsWindow};
+ghost use Rattle.tile_columns.specs.Windows.{max_levels, Means, moved, low_edge, high_edge, either_edges, some_edges, edges, cell_tree, column_tree, window_tree, halo_cells, IsPattern, GoesOver, IsNear, Covers, CanRead, IsWindow};
 
 use crate::frame::Frame;
 use crate::ground::Ground;
 use crate::reach::{Extents, Reach, extents_of, grid, reach_of, size_of};
-use arr_core::{Domain, Signature};
+use arr_core::{Domain, MAX_TILE, Signature};
 use plan_ir::{Body, Fold, Index, Interval};
 use std::alloc::{AllocError, Global};
+use wcps_mean::place_at;
 use wcps_text::{Aggregate, BinaryOperator, UnaryOperator};
 
 /// Along an axis of windows: the variable of the places, and the bounds outside of which nothing is read.
@@ -167,7 +168,7 @@ const NO_EDGES: Edges = Edges {
 
 /// The edge of windows that a body is.
 fn edge_of(body: &Body, pattern: &Pattern, depth: usize) -> Option<Edges>
-    requires { depth ≤ 1024 }
+    requires { depth ≤ max_levels }
     ensures { IfSome result (λ found. Means (body_view body.now) (some_edges pattern.now depth found)) }
 {
     if is_low_edge(body, pattern.rows, depth) {
@@ -211,7 +212,7 @@ fn either_edges(a: Edges, b: Edges) -> Edges
 
 /// The edges of windows whose conjunction a body is.
 fn edges_of(body: &Body, pattern: &Pattern, depth: usize) -> Option<Edges>
-    requires { depth ≤ 1024 }
+    requires { depth ≤ max_levels }
     ensures { IfSome result (λ found. Means (body_view body.now) (some_edges pattern.now depth found)) }
 {
     match body {
@@ -229,7 +230,7 @@ fn edges_of(body: &Body, pattern: &Pattern, depth: usize) -> Option<Edges>
 
 /// Whether a body is the conjunction of all edges of windows, in any order.
 fn are_edges(body: &Body, pattern: &Pattern, depth: usize) -> bool
-    requires { depth ≤ 1024 }
+    requires { depth ≤ max_levels }
     ensures { IsTrue result → Means (body_view body.now) (edges pattern.now depth) }
 {
     match edges_of(body, pattern, depth) {
@@ -293,7 +294,7 @@ fn is_same(a: Interval, b: Interval) -> bool
 
 /// Whether a body is the cell of windows behind the bind of its columns.
 fn is_behind_columns(body: &Body, pattern: &Pattern, depth: usize) -> bool
-    requires { depth ≤ 1024 }
+    requires { depth ≤ max_levels }
     ensures { IsTrue result → body_view body.now ≡ column_tree pattern.now depth }
 {
     match body {
@@ -316,7 +317,7 @@ fn is_behind_columns(body: &Body, pattern: &Pattern, depth: usize) -> bool
 
 /// Whether a body is the cell of windows behind the binds of its rows and its columns.
 fn is_behind_rows(body: &Body, pattern: &Pattern, depth: usize) -> bool
-    requires { depth ≤ 1024 }
+    requires { depth ≤ max_levels }
     ensures { IsTrue result → body_view body.now ≡ window_tree pattern.now depth }
 {
     match body {
@@ -475,10 +476,10 @@ fn is_near(window: &Window, pairs: u64) -> bool
     let height = size_of(window.rows.halo);
     let across = size_of(window.columns.places);
     let down = size_of(window.rows.places);
-    if width > 4096 || height > MAX_HALO || across > 4096 || down > 4096 {
+    if width > MAX_TILE || height > MAX_HALO || across > MAX_TILE || down > MAX_TILE {
         return false;
     }
-    height * width <= MAX_HALO && height * width <= pairs && down * across <= 4096
+    height * width <= MAX_HALO && height * width <= pairs && down * across <= MAX_TILE
 }
 
 /// Whether one interval lies within another.
@@ -516,16 +517,6 @@ fn can_read(ground: &Ground<'_>, window: &Window) -> bool
     }
 }
 
-/// A coverage by its place in the plan.
-fn coverage_at(coverages: &[usize], k: usize) -> usize
-    ensures { result ≡ slice_index_or coverages.now k 0 }
-{
-    match coverages.get(k) {
-        Some(c) => *c,
-        None => 0,
-    }
-}
-
 /// The windows of a fold at the places of a frame, if it is one of windows that lie within few cells.
 pub(crate) fn window_of(
     alloc: Global,
@@ -552,7 +543,7 @@ pub(crate) fn window_of(
     };
     let window = Window {
         op: fold.op,
-        place: coverage_at(ground.coverages, pattern.coverage),
+        place: place_at(ground.coverages, pattern.coverage),
         pattern,
         rows,
         columns,

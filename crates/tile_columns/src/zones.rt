@@ -4,7 +4,7 @@
 
 ghost use Rattle.std.specs.Prelude.{◌≡◌, ℕ, ◌+◌, ◌-◌, ◌*◌, ◌<◌, ◌≤◌, [], length, map, IfSome, IfOk, OnOk, IsTrue, nat_le};
 ghost use Rattle.arr_core.specs.Domains.{count};
-ghost use Rattle.arr_core.specs.Limits.{max_points};
+ghost use Rattle.arr_core.specs.Limits.{max_points, max_tile};
 ghost use Rattle.wcps_text.specs.declared.operator.BinaryOperator.TheVariants.{Equal};
 ghost use Rattle.wcps_mean.specs.declared.cell.Outcome.TheVariants.{Value};
 ghost use Rattle.plan_ir.specs.Bodies.{body_view, condition_view, fold_view, always, op2};
@@ -55,7 +55,7 @@ const MANY: u64 = 4096;
 
 /// Whether there are so many pairs of a place and a point of a box.
 fn are_many(places: usize, area: &Domain) -> bool
-    requires { places ≤ 4096 }
+    requires { places ≤ max_tile }
     ensures { result ≡ nat_le 4096 (places * count area.now) }
 {
     places as u64 * area.points() >= MANY
@@ -415,7 +415,7 @@ fn tell_places(folds: &mut [Accumulator], pool: &Pooled<'_>, work: &mut Work)
     requires keys { length folds.old ≡ length pool.now.keys.now.column }
     requires shared { AreShared pool.now.op pool.now.slots.now pool.now.seen.now pool.now.shared.now }
     requires op { AreOf pool.now.op folds.old }
-    requires few { length pool.now.seen.now.column.now ≤ 4096 }
+    requires few { length pool.now.seen.now.column.now ≤ max_tile }
     requires room { HaveAtMost (max_points - length pool.now.seen.now.column.now) folds.old }
     ensures told { EachTakesIn folds.old folds.new (added_for pool.now) }
     ensures room { (n : ℕ) → HaveAtMost n folds.old → HaveAtMost (n + length pool.now.seen.now.column.now) folds.new }

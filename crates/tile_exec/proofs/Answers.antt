@@ -5,7 +5,7 @@ use Rattle.wcps_mean.specs.declared.cell.PointFault.{PointFault}
 use Rattle.wcps_mean.specs.declared.cell.Outcome.{Outcome}
 use Rattle.wcps_mean.specs.declared.cell.Outcome.TheVariants.{Value, Fault}
 use Rattle.wcps_mean.specs.declared.item.Item.{Item}
-use Rattle.wcps_mean.specs.Cells.{is_true}
+use Rattle.arr_core.specs.Cells.{truth_of}
 use Rattle.wcps_mean.specs.Answer.{joined, then_of, given}
 use Rattle.plan_ir.specs.Bodies.{Tree}
 use Rattle.plan_ir.specs.Plans.{PassTree, FieldBody, ItemTree, StepsTree, Choice, PlanTree}
@@ -110,9 +110,9 @@ chosen_settled regs items false r = ap (giving regs) (sym (append-nil items))
 
 -- after a condition that was tested the item comes
 tested_settled : (regs : List Outcome) (items : List Item) (o : Outcome) (r : Result Item PointFault)
-    → after_item (record { registers = regs; items = items; status = tested o }) (tested o) r ≡ settled regs items (then_of (given is_true o) (λ b. cond b (then_of r (λ i. Ok (i ∷ []))) (Ok [])))
+    → after_item (record { registers = regs; items = items; status = tested o }) (tested o) r ≡ settled regs items (then_of (given truth_of o) (λ b. cond b (then_of r (λ i. Ok (i ∷ []))) (Ok [])))
 tested_settled regs items (Fault f) r = refl
-tested_settled regs items (Value z) r = chosen_settled regs items (is_true z) r
+tested_settled regs items (Value z) r = chosen_settled regs items (truth_of z) r
 
 -- with fields or without, an item gives what it gives
 item_after : (i : ItemTree) (fields : List FieldBody) (s : ℕ → ℕ → List ℤ → ℤ) (regs : List Outcome) (g : Progress) → after_part s regs g (item_part i fields) ≡ after_item g g.status (item_planned s regs i)

@@ -14,7 +14,8 @@ use Rattle.tile_exec.specs.declared.task.Status.{Status}
 use Rattle.tile_exec.specs.declared.task.Status.TheVariants.{Giving, Skipping, Failed}
 use Rattle.tile_exec.specs.declared.task.Task.{Task}
 use Rattle.tile_exec.specs.declared.state.State.{State}
-use Rattle.tile_exec.specs.Tasks.{Cells, PartTree, TaskTree, pass, condition, item, fieldless, area_of, stages_of, registers_made, tasks_of, AreReady}
+use Rattle.wcps_mean.specs.Reading.{CellsOf}
+use Rattle.tile_exec.specs.Tasks.{PartTree, TaskTree, pass, condition, item, fieldless, area_of, stages_of, registers_made, tasks_of, AreReady}
 use Rattle.tile_exec.specs.Progress.{start, read_by, after, after_all}
 use Rattle.tile_exec.specs.Standing.{plan_of, tasks_done, tasks_left, boxes_left, progress_of, AtItem, AtPart, AtTask, StandsFor, HasCells, IsUnder, IsAt, AreTasks, IsLeft, HasRoom, IsSound}
 use Rattle.tile_exec.specs.Units.{LosesFirst}
@@ -78,18 +79,18 @@ pub at_start : (ts : List TaskTree) (e : State) → e.tile ≡ 0 → IsAt ts e
 at_start [] e z = z
 at_start (t ∷ ts) e z = ((let k = tiles-pos (area_of t.part) in omega (arith, k, z)), under_start t.part e z)
 
-item_start : (s : Cells) (regs : List Outcome) (i : ItemTree) (e : State) (st : Status) → e.tile ≡ 0 → AtItem s regs i e st
+item_start : (s : CellsOf) (regs : List Outcome) (i : ItemTree) (e : State) (st : Status) → e.tile ≡ 0 → AtItem s regs i e st
 item_start s regs i e Giving z = λ lt. absurd (omega arith)
 item_start s regs i e Skipping z = tt
 item_start s regs i e (Failed f) z = tt
 
-part_start : (s : Cells) (regs : List Outcome) (e : State) (p : PartTree) → e.tile ≡ 0 → AtPart s regs e p
+part_start : (s : CellsOf) (regs : List Outcome) (e : State) (p : PartTree) → e.tile ≡ 0 → AtPart s regs e p
 part_start s regs e (pass p) z = λ lt. absurd (omega arith)
 part_start s regs e (condition c) z = tt
 part_start s regs e (item i) z = item_start s regs i e e.status z
 part_start s regs e (fieldless i) z = tt
 
-pub stands_start : (s : Cells) (e : State) (ts : List TaskTree) → e.tile ≡ 0 → AtTask s e ts
+pub stands_start : (s : CellsOf) (e : State) (ts : List TaskTree) → e.tile ≡ 0 → AtTask s e ts
 stands_start s e [] z = tt
 stands_start s e (t ∷ ts) z = part_start (cells_of s t.coverages) (read_by t e.registers.items) e t.part z
 
@@ -128,7 +129,7 @@ sound_next e d t ts g n room h =
           (elim more [ inl e1 ↦ inl (omega (arith, e1, k, l, z, last)) | inr e2 ↦ (let e3 = e2.0 in absurd (omega (arith, e3, k, some))) ]);
     }
 
-pub stands_next : (s : Cells) (e d : State) (t : TaskTree) (ts : List TaskTree) → GoesOn e d t ts → progress_of d ≡ after s (progress_of e) t → StandsFor s e → StandsFor s d
+pub stands_next : (s : CellsOf) (e d : State) (t : TaskTree) (ts : List TaskTree) → GoesOn e d t ts → progress_of d ≡ after s (progress_of e) t → StandsFor s e → StandsFor s d
 stands_next s e d t ts g p st =
     let done : tasks_done d ≡ tasks_done e ++ t ∷ [] = ap (λ p. take d.at (tasks_of (plan_view p))) g.plan ∙ ap (λ k. take k (tasks_of (plan_of e))) g.at ∙ take_next e.at (tasks_of (plan_of e)) t ts g.hand in
     record {
@@ -183,7 +184,7 @@ sound_further e d t ts g under h =
           (elim h.left [ inl e1 ↦ inl (omega (arith, e1, l, z)) | inr e2 ↦ (let e3 = e2.0 in let e4 = ap (λ l. length (flat_map stages_of l)) g.hand in absurd (omega (arith, e3, e4, k, some))) ]);
     }
 
-pub stands_further : (s : Cells) (e d : State) (t : TaskTree) (ts : List TaskTree) → GoesFurther e d t ts → AtPart (cells_of s t.coverages) (read_by t e.registers.items) d t.part → StandsFor s e → StandsFor s d
+pub stands_further : (s : CellsOf) (e d : State) (t : TaskTree) (ts : List TaskTree) → GoesFurther e d t ts → AtPart (cells_of s t.coverages) (read_by t e.registers.items) d t.part → StandsFor s e → StandsFor s d
 stands_further s e d t ts g part st =
     let same = left_further e d t ts g in
     let done : tasks_done d ≡ tasks_done e = ap (λ p. take d.at (tasks_of (plan_view p))) g.plan ∙ ap (λ k. take k (tasks_of (plan_of e))) g.at in
@@ -207,5 +208,5 @@ boxes_further e d t ts g =
 pub at_hand : (e : State) (t : TaskTree) (ts : List TaskTree) → tasks_left e ≡ t ∷ ts → IsSound e → (e.tile < length (tile_boxes (area_of t.part))) × IsUnder t.part e
 at_hand e t ts h sound = subst (λ l. IsAt l e) h sound.at_hand
 
-pub stands_at : (s : Cells) (e : State) (t : TaskTree) (ts : List TaskTree) → tasks_left e ≡ t ∷ ts → StandsFor s e → AtPart (cells_of s t.coverages) (read_by t e.registers.items) e t.part
+pub stands_at : (s : CellsOf) (e : State) (t : TaskTree) (ts : List TaskTree) → tasks_left e ≡ t ∷ ts → StandsFor s e → AtPart (cells_of s t.coverages) (read_by t e.registers.items) e t.part
 stands_at s e t ts h st = subst (AtTask s e) h st.at_hand

@@ -7,7 +7,7 @@ use Rattle.arr_core.specs.Tiles.{tile_boxes}
 use Rattle.arr_core.proofs.Points.{rank-point}
 use Rattle.wcps_mean.specs.declared.cell.Outcome.{Outcome}
 use Rattle.wcps_mean.specs.declared.cell.Outcome.TheVariants.{Value, Fault}
-use Rattle.wcps_mean.specs.Cells.{is_true}
+use Rattle.arr_core.specs.Cells.{truth_of}
 use Rattle.wcps_mean.specs.Condensers.{demanded, condensed}
 use Rattle.plan_ir.specs.Plans.{PassTree}
 use Rattle.plan_ir.specs.Run.{run}
@@ -42,7 +42,7 @@ chosen_place n false o told h r = (r, λ k d lt. let w = h k d lt in omega (arit
 
 one_place : (n : ℕ) (c o : Outcome) (told : List Told) → All (λ (t : Told). n + 1 ≤ t.0) told → AreRising told → AreRising (demanded_of n c o ++ told) × All (λ (t : Told). n ≤ t.0) (demanded_of n c o ++ told)
 one_place n (Fault f) o told h r = (((λ k d lt. let w = h k d lt in omega (arith, w)), r), All-cons (λ (t : Told). n ≤ t.0) (n, Fault f) told (omega arith) (λ k d lt. let w = h k d lt in omega (arith, w)))
-one_place n (Value z) o told h r = chosen_place n (is_true z) o told h r
+one_place n (Value z) o told h r = chosen_place n (truth_of z) o told h r
 
 rising_from : (s : ℕ → ℕ → List ℤ → ℤ) (regs : List Outcome) (p : PassTree) (a n : ℕ) → a + n ≤ count p.domain
     → AreRising (flat_map (told_to_pass s regs p) (map (point_at p.domain) (range_with_len a n))) × All (λ (t : Told). a ≤ t.0) (flat_map (told_to_pass s regs p) (map (point_at p.domain) (range_with_len a n)))

@@ -7,7 +7,7 @@ use Rattle.plan_ir.specs.Planned.{planned}
 use Rattle.tile_exec.specs.declared.state.State.{State}
 use Rattle.tile_exec.specs.declared.answer.Answer.{Answer}
 use Rattle.tile_exec.specs.declared.answer.Answer.TheVariants.{Text, Refused}
-use Rattle.tile_exec.specs.Tasks.{Cells}
+use Rattle.wcps_mean.specs.Reading.{CellsOf}
 use Rattle.tile_exec.specs.Standing.{StandsFor, plan_of}
 
 -- the text of the items, or the fault
@@ -19,4 +19,4 @@ IsAnswer (Err fault) (Text text) = ⊥
 
 -- what an executor's plan gives over each store that it stands for is answered so
 abbrev pub AnswersFor : State → Answer → Type 0
-AnswersFor e given = (s : Cells) → StandsFor s e → IsAnswer (planned s (plan_of e)) given
+AnswersFor e given = (s : CellsOf) → StandsFor s e → IsAnswer (planned s (plan_of e)) given

@@ -12,22 +12,22 @@ use Rattle.tile_kernel.specs.Told.{Told, IsFirstOf}
 use Rattle.tile_columns.specs.Fields.{behind}
 use Rattle.tile_columns.specs.TileOrder.{points_to}
 pub use Rattle.tile_columns.specs.Windows.{value_of}
-use Rattle.tile_exec.specs.Tasks.{Cells}
+use Rattle.wcps_mean.specs.Reading.{CellsOf}
 
 -- the outcomes of all fields at a point
-abbrev pub row : Cells → List Outcome → ItemTree → List ℤ → List Outcome
+abbrev pub row : CellsOf → List Outcome → ItemTree → List ℤ → List Outcome
 row s regs i q = map (λ (f : FieldBody). run s regs (behind i.binds f.body) q) i.fields
 
 -- the cells of all fields at a point; at a fault they mean nothing
-abbrev pub row_cells : Cells → List Outcome → ItemTree → List ℤ → List Cell
+abbrev pub row_cells : CellsOf → List Outcome → ItemTree → List ℤ → List Cell
 row_cells s regs i q = map (λ (f : FieldBody). cell_of f.boolean (value_of (run s regs (behind i.binds f.body) q))) i.fields
 
 -- the cells of all points in row-major order, the fields of a point in order
-abbrev pub all_cells : Cells → List Outcome → ItemTree → List Cell
+abbrev pub all_cells : CellsOf → List Outcome → ItemTree → List Cell
 all_cells s regs i = flat_map (row_cells s regs i) (points i.domain)
 
 -- what a point tells an item: the outcome of each field, with the place of its cell
-abbrev pub told_to_item : Cells → List Outcome → ItemTree → List ℤ → List Told
+abbrev pub told_to_item : CellsOf → List Outcome → ItemTree → List ℤ → List Told
 told_to_item s regs i q = enumerate_from (rank_of i.domain q * length i.fields) (row s regs i q)
 
 -- the places of a point's cells
@@ -60,6 +60,6 @@ abbrev pub IsFirstAfter : FirstFault → FirstFault → List Told → Type 0
 IsFirstAfter old new more = (told : List Told) → IsFirstOf old told → IsFirstOf new (told ++ more)
 
 -- the cells and the first fault of the first t tiles of an item's domain
-pub record Fills (s : Cells) (regs : List Outcome) (i : ItemTree) (t : ℕ) (cells : List Cell) (least : FirstFault) : Type 0 where
+pub record Fills (s : CellsOf) (regs : List Outcome) (i : ItemTree) (t : ℕ) (cells : List Cell) (least : FirstFault) : Type 0 where
   pub written : AreWritten (all_cells s regs i) cells (flat_map (places_of i) (points_to i.domain t))
   pub first : IsFirstOf least (flat_map (told_to_item s regs i) (points_to i.domain t))

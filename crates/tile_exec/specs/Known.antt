@@ -25,18 +25,18 @@ use Rattle.tile_columns.specs.Keys.{key_in, fold_of, IsFoundKey}
 use Rattle.tile_exec.specs.declared.known.KnownOutcome.{KnownOutcome}
 use Rattle.tile_exec.specs.declared.known.Known.{Known}
 use Rattle.tile_exec.specs.declared.samples.Sample.{Sample}
-use Rattle.tile_exec.specs.Tasks.{Cells}
+use Rattle.wcps_mean.specs.Reading.{CellsOf}
 
 -- where the key has the number, the body has the outcome beside it
-abbrev pub IsKnownAt : Cells → List Outcome → ℕ → Tree → Tree → KnownOutcome → Type 0
+abbrev pub IsKnownAt : CellsOf → List Outcome → ℕ → Tree → Tree → KnownOutcome → Type 0
 IsKnownAt s regs depth key body k = (q : List ℤ) → length q ≡ depth → run s regs key q ≡ Value k.number → run s regs body q ≡ k.outcome
 
 -- what is known of a body under so many variables, by the key that is found where it was
-abbrev pub IsKnownOf : Cells → List Outcome → ℕ → Tree → Known → Type 0
+abbrev pub IsKnownOf : CellsOf → List Outcome → ℕ → Tree → Known → Type 0
 IsKnownOf s regs depth body k = All (IsKnownAt s regs depth (key_in k.zones body) body) k.outcomes.items
 
 -- what is known of an item, if anything is
-abbrev pub IsKnown : Cells → List Outcome → ItemTree → Option Known → Type 0
+abbrev pub IsKnown : CellsOf → List Outcome → ItemTree → Option Known → Type 0
 IsKnown s regs i None = Unit {0}
 IsKnown s regs i (Some k) = All (λ (f : FieldBody). IsKnownOf s regs (length i.domain) f.body k) i.fields
 

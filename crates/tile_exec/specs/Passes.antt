@@ -8,14 +8,14 @@ use Rattle.plan_ir.specs.Run.{run}
 use Rattle.tile_kernel.specs.Told.{Told, demanded_of}
 use Rattle.tile_columns.specs.TileOrder.{tile_of}
 use Rattle.tile_exec.specs.declared.pass.TileOf.{TileOf}
-use Rattle.tile_exec.specs.Tasks.{Cells}
+use Rattle.wcps_mean.specs.Reading.{CellsOf}
 
 -- what a point tells a pass: the condition's fault, or nothing, or the body's outcome, at the point's place in the box
-abbrev pub told_to_pass : Cells → List Outcome → PassTree → List ℤ → List Told
+abbrev pub told_to_pass : CellsOf → List Outcome → PassTree → List ℤ → List Told
 told_to_pass s regs p q = demanded_of (rank_of p.domain q) (run s regs p.condition q) (run s regs p.body q)
 
 -- what a tile of its box tells a pass
-abbrev pub told_by_tile : Cells → List Outcome → PassTree → ℕ → List Told
+abbrev pub told_by_tile : CellsOf → List Outcome → PassTree → ℕ → List Told
 told_by_tile s regs p tile = flat_map (told_to_pass s regs p) (points (tile_of p.domain tile))
 
 -- the places of a tile's points in the row-major list of the points of its box

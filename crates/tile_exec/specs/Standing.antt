@@ -19,7 +19,8 @@ use Rattle.tile_exec.specs.declared.task.Task.{Task}
 use Rattle.tile_exec.specs.declared.task.Part.{Part}
 use Rattle.tile_exec.specs.declared.task.Part.TheVariants as part
 use Rattle.tile_exec.specs.declared.state.State.{State}
-use Rattle.tile_exec.specs.Tasks.{Cells, PartTree, TaskTree, pass, condition, item, fieldless, area_of, stages_of, tasks_of, AreReady}
+use Rattle.wcps_mean.specs.Reading.{CellsOf}
+use Rattle.tile_exec.specs.Tasks.{PartTree, TaskTree, pass, condition, item, fieldless, area_of, stages_of, tasks_of, AreReady}
 use Rattle.tile_exec.specs.Progress.{Progress, start, read_by, after_all}
 use Rattle.tile_columns.specs.Sources.{SourceState}
 use Rattle.tile_columns.specs.TileOrder.{points_to}
@@ -51,25 +52,25 @@ abbrev pub boxes_left : State → List Stage
 boxes_left e = drop e.tile (flat_map stages_of (tasks_left e))
 
 -- the tiles of an item that are done, and what is known of it: nothing is kept of one that is not given
-abbrev pub AtItem : Cells → List Outcome → ItemTree → State → Status → Type 0
+abbrev pub AtItem : CellsOf → List Outcome → ItemTree → State → Status → Type 0
 AtItem s regs i e Giving = 0 < e.tile → Fills s regs i e.tile e.cells.items e.first × IsKnown s regs i e.known
 AtItem s regs i e Skipping = Unit {0}
 AtItem s regs i e (Failed f) = Unit {0}
 
 -- what is kept of the task at hand, once a tile of it is done
-abbrev pub AtPart : Cells → List Outcome → State → PartTree → Type 0
+abbrev pub AtPart : CellsOf → List Outcome → State → PartTree → Type 0
 AtPart s regs e (pass p) = 0 < e.tile → Stands e.accumulator (flat_map (told_to_pass s regs p) (points_to p.domain e.tile))
 AtPart s regs e (condition c) = Unit {0}
 AtPart s regs e (item i) = AtItem s regs i e e.status
 AtPart s regs e (fieldless i) = Unit {0}
 
-abbrev pub AtTask : Cells → State → List TaskTree → Type 0
+abbrev pub AtTask : CellsOf → State → List TaskTree → Type 0
 AtTask s e [] = Unit {0}
 AtTask s e (t ∷ tasks) = AtPart (cells_of s t.coverages) (read_by t e.registers.items) e t.part
 
 -- It stands for a store, where s gives the cells of the plan's coverages: its progress is that of the tasks that are done, and
 -- what it keeps of the task at hand is that of the tiles that are done.
-pub record StandsFor (s : Cells) (e : State) : Type 0 where
+pub record StandsFor (s : CellsOf) (e : State) : Type 0 where
   pub progress : progress_of e ≡ after_all s start (tasks_done e)
   pub at_hand : AtTask s e (tasks_left e)
 
@@ -79,7 +80,7 @@ StandsOn source was is = source.intact → StandsFor source.cells was → Stands
 
 -- what its plan gives over each store that it stands for
 abbrev pub Answers : State → Result (List Item) PointFault → Type 0
-Answers e r = (s : Cells) → StandsFor s e → planned s (plan_of e) ≡ r
+Answers e r = (s : CellsOf) → StandsFor s e → planned s (plan_of e) ≡ r
 
 -- of an item: there is a cell for each point and field
 abbrev pub HasCells : ItemTree → State → Status → Type 0
@@ -163,7 +164,7 @@ HasFetched n old new = new.fetched ≡ min (2 ^ 64 - 1) (old.fetched + n)
 pub record IsBegun (tree : PlanTree) (e : State) : Type 0 where
   pub sound : IsSound e
   pub plan : plan_of e ≡ tree
-  pub stands : (s : Cells) → StandsFor s e
+  pub stands : (s : CellsOf) → StandsFor s e
   pub boxes : boxes_left e ≡ boxes (plan_of e)
   pub some : 1 ≤ left_of e
   pub few : left_of e ≤ max 1 (units (plan_of e))

@@ -1,5 +1,5 @@
 -- The tasks of a plan: its passes, conditions and items in the order in which they are done, each a tile at a time.
-use Rattle.std.specs.Prelude.{◌≡◌, ℕ, ◌+◌, ◌<◌, ◌≤◌, ℤ, List, [], ◌∷◌, ◌++◌, map, length, Option, Some, None, slice_get}
+use Rattle.std.specs.Prelude.{◌≡◌, ℕ, ◌+◌, ◌<◌, ◌≤◌, List, [], ◌∷◌, ◌++◌, map, length, Option, Some, None, slice_get}
 use Rattle.arr_core.specs.declared.domain.Axis.{Axis}
 use Rattle.arr_core.specs.declared.signature.Signature.{Signature}
 use Rattle.arr_core.specs.Domains.{IsDomain}
@@ -7,10 +7,6 @@ use Rattle.plan_ir.specs.Bodies.{Tree}
 use Rattle.plan_ir.specs.Plans.{PassTree, BindTree, FieldBody, ItemTree, StepsTree, Choice, PlanTree, signature_of}
 use Rattle.plan_ir.specs.Placed.{IsPlaced, ItemIsPlaced, spans}
 use Rattle.plan_ir.specs.Units.{Stage, tile_stages}
-
--- the cells of coverages: by the coverage's place, the field's place and the point
-abbrev pub Cells : Type 0
-Cells = ℕ → ℕ → List ℤ → ℤ
 
 -- what a task does
 pub data PartTree : Type 0 where

@@ -23,7 +23,8 @@ use Rattle.tile_exec.specs.declared.found.Found.{Found}
 use Rattle.tile_exec.specs.declared.found.Found.TheVariants as found
 use Rattle.tile_exec.specs.declared.known.Known.{Known}
 use Rattle.tile_exec.specs.declared.state.State.{State}
-use Rattle.tile_exec.specs.Tasks.{Cells, PartTree, TaskTree, pass, condition, item, fieldless, area_of}
+use Rattle.wcps_mean.specs.Reading.{CellsOf}
+use Rattle.tile_exec.specs.Tasks.{PartTree, TaskTree, pass, condition, item, fieldless, area_of}
 use Rattle.tile_exec.specs.Progress.{read_by}
 use Rattle.tile_columns.specs.declared.ground.Ground.{Ground}
 use Rattle.tile_columns.specs.Sources.{SourceState}
@@ -93,14 +94,14 @@ Fits e [] last _ = ⊥
 Fits e (t ∷ tasks) last x = FitsUnit e.tile e.status t.part last x
 
 -- the cells and the first fault of a tile of an item, and what is known of it
-pub record TellsItem (s : Cells) (regs : List Outcome) (i : ItemTree) (t : ℕ) (x : ItemTile) : Type 0 where
+pub record TellsItem (s : CellsOf) (regs : List Outcome) (i : ItemTree) (t : ℕ) (x : ItemTile) : Type 0 where
   pub places : places_written (cells_placed x) ≡ flat_map (places_of i) (points (tile_of i.domain t))
   pub cells : ArePlaced (all_cells s regs i) (cells_placed x)
   pub first : IsFirstOf x.first (flat_map (told_to_item s regs i) (points (tile_of i.domain t)))
   pub known : IsKnown s regs i x.known
 
 -- what is found is that of the tile at hand
-abbrev pub TellsPart : Cells → List Outcome → ℕ → PartTree → Found → Type 0
+abbrev pub TellsPart : CellsOf → List Outcome → ℕ → PartTree → Found → Type 0
 TellsPart s regs tile (pass p) (found.Pass a) = Stands a (told_by_tile s regs p tile)
 TellsPart s regs tile (condition c) (found.Condition o) = o ≡ run s regs c []
 TellsPart s regs tile (item i) (found.Item x) = TellsItem s regs i tile x
@@ -116,7 +117,7 @@ abbrev pub IsFound : {K : Type 0} → SourceState K → Ground → ℕ → Found
 IsFound source g tile x p = source.intact → TellsPart (cells_of source.cells g.coverages.now) g.registers.now tile p x
 
 -- what is known of an item at hand that is given is so, over an intact source
-abbrev pub KnowsPartOf : Cells → List Outcome → Type 0 → Status → PartTree → Option Known → Type 0
+abbrev pub KnowsPartOf : CellsOf → List Outcome → Type 0 → Status → PartTree → Option Known → Type 0
 KnowsPartOf s regs intact status (pass p) known = Unit {0}
 KnowsPartOf s regs intact status (condition c) known = Unit {0}
 KnowsPartOf s regs intact status (item i) known = status ≡ Giving → intact → IsKnown s regs i known
@@ -130,7 +131,7 @@ abbrev pub IsFoundBy : {K : Type 0} → SourceState K → Ground → AtHand → 
 IsFoundBy source g hand x p = KnowsPart source g hand.status p (option_copied hand.known) → IsFound source g hand.tile x p
 
 -- what is found is that of the next unit
-abbrev pub TellsTask : Cells → State → List TaskTree → Found → Type 0
+abbrev pub TellsTask : CellsOf → State → List TaskTree → Found → Type 0
 TellsTask s e [] x = Unit {0}
 TellsTask s e (t ∷ tasks) x = TellsPart (cells_of s t.coverages) (read_by t e.registers.items) e.tile t.part x
 
@@ -148,7 +149,7 @@ pub record Keeps (old new : State) (x : Found) : Type 0 where
   pub plan : new.plan ≡ old.plan
   pub left : new.left + 1 ≡ old.left
   pub boxes : LosesFirst (boxes_left old) (boxes_left new)
-  pub stands : (s : Cells) → StandsFor s old → TellsTask s old (tasks_left old) x → StandsFor s new
+  pub stands : (s : CellsOf) → StandsFor s old → TellsTask s old (tasks_left old) x → StandsFor s new
 
 -- how many tiles the next unit may fetch
 abbrev pub first_bound : PlanTree → List Stage → ℕ

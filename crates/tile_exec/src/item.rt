@@ -3,7 +3,6 @@
 ghost use Rattle.std.specs.Prelude.{◌≡◌, ◌*◌, ◌<◌, ◌^◌, length, map, option_copied, IfOk};
 ghost use Rattle.arr_core.specs.Domains.{count};
 ghost use Rattle.arr_core.specs.Tiles.{tile_boxes};
-ghost use Rattle.wcps_mean.specs.Answer.{field_count};
 ghost use Rattle.plan_ir.specs.declared.plan.Field.{Field};
 ghost use Rattle.plan_ir.specs.Plans.{item_view};
 ghost use Rattle.tile_columns.specs.Calling.{Reads};
@@ -22,7 +21,7 @@ use plan_ir::{Field, Item};
 use std::alloc::{AllocError, Global};
 use std::mem;
 use tile_columns::{Ground, Tiles, ranks};
-use wcps_mean::{CellError, run_length};
+use wcps_mean::{CellError, field_count, run_length};
 
 /// So many fields find no memory for their columns.
 const FIELDS_END: usize = 4_294_967_296;
@@ -74,7 +73,7 @@ pub(crate) fn item_tile<S: Tiles>(
         fresh,
         known: found,
         line: run_length(item.domain.axes()),
-        fields: count_of(&item.fields),
+        fields: field_count(item.fields.len()),
     })
 }
 
@@ -100,11 +99,4 @@ fn fresh_cells(alloc: Global, item: &Item, tile: u64) -> Result<Vec<Cell>, Alloc
         fresh.resize(cells as usize, Cell::Int(0))?;
     }
     Ok(fresh)
-}
-
-/// How many fields an item tells.
-fn count_of(fields: &[Field]) -> u32
-    ensures { result ≡ field_count (length fields.now) }
-{
-    fields.len().min(4_294_967_295) as u32
 }

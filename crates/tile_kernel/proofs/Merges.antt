@@ -1,21 +1,18 @@
 -- What is kept of two lists of points at once.
-use Rattle.std.proofs.Common.{◌≡◌, ℕ, zero, suc, ◌+◌, ◌*◌, ◌^◌, ◌<◌, ◌≤◌, min, arith, List, [], ◌∷◌, ◌++◌, refl, sym, ap, ◌∙◌, subst, ℤ, pos, negsuc, ◌+ℤ◌, Bool, true, false, ◌&&◌, ◌||◌, inl, inr, mul_assoc, mul_comm, length-append}
+use Rattle.std.proofs.Common.{◌≡◌, ℕ, ◌+◌, arith, List, [], ◌∷◌, ◌++◌, refl, sym, ap, ◌∙◌, subst, ℤ, ◌+ℤ◌, Bool, true, false, ◌&&◌, ◌||◌, length-append}
 use Rattle.std.specs.List.Sorted.{IsPermutation}
-use Rattle.std.proofs.Math.Nat.{mul-le-mul_right, le-mul_of_pos_right}
 use Rattle.std.proofs.lemmas.Int.{ints}
-use Rattle.std.proofs.lemmas.Bool.{cases_lt}
 use Rattle.std.proofs.lemmas.List.{length-map, map-append}
 use Rattle.std.proofs.lemmas.List.Sorted.{length_permutation}
 use Rattle.wcps_text.specs.declared.operator.Aggregate.{Aggregate}
 use Rattle.wcps_text.specs.declared.operator.Aggregate.TheVariants.{Sum, Product, Greatest, Least, Every, Any, Count, Average}
 use Rattle.wcps_mean.specs.declared.running.Running.{Running}
-use Rattle.wcps_mean.specs.declared.product.Product as kept
 use Rattle.wcps_mean.specs.declared.cell.Outcome.{Outcome}
 use Rattle.wcps_mean.specs.declared.cell.Outcome.TheVariants.{Value, Fault}
-use Rattle.wcps_mean.specs.Cells.{is_true, differ}
+use Rattle.arr_core.specs.Cells.{truth_of}
 use Rattle.wcps_mean.specs.Condensers.{values, total, every, any, trues}
 use Rattle.wcps_mean.specs.Best.{greatest_of, least_of}
-use Rattle.wcps_mean.specs.Magnitudes.{cap, is_zero, is_negative, magnitude_of, has_zero_of, sign_of, size_of}
+use Rattle.wcps_mean.specs.Magnitudes.{cap}
 use Rattle.wcps_mean.specs.Products.{StandsFor}
 use Rattle.wcps_mean.specs.Feeding.{Keeps, Fed}
 use Rattle.tile_kernel.specs.declared.accumulator.Accumulator.{Accumulator}
@@ -44,84 +41,18 @@ and_assoc : (a b c : Bool) → (a && b) && c ≡ a && (b && c)
 and_assoc true b c = refl
 and_assoc false b c = refl
 
-differ_assoc : (a b c : Bool) → differ (differ a b) c ≡ differ a (differ b c)
-differ_assoc false b c = refl
-differ_assoc true true true = refl
-differ_assoc true true false = refl
-differ_assoc true false true = refl
-differ_assoc true false false = refl
-
 pub every-append : (zs ws : List ℤ) → every (zs ++ ws) ≡ (every zs && every ws)
 every-append [] ws = refl
-every-append (z ∷ zs) ws = ap (λ b. is_true z && b) (every-append zs ws) ∙ sym (and_assoc (is_true z) (every zs) (every ws))
+every-append (z ∷ zs) ws = ap (λ b. truth_of z && b) (every-append zs ws) ∙ sym (and_assoc (truth_of z) (every zs) (every ws))
 
 pub any-append : (zs ws : List ℤ) → any (zs ++ ws) ≡ (any zs || any ws)
 any-append [] ws = refl
-any-append (z ∷ zs) ws = ap (λ b. is_true z || b) (any-append zs ws) ∙ sym (or_assoc (is_true z) (any zs) (any ws))
-
-has_zero-append : (zs ws : List ℤ) → has_zero_of (zs ++ ws) ≡ (has_zero_of zs || has_zero_of ws)
-has_zero-append [] ws = refl
-has_zero-append (z ∷ zs) ws = ap (λ b. is_zero z || b) (has_zero-append zs ws) ∙ sym (or_assoc (is_zero z) (has_zero_of zs) (has_zero_of ws))
-
-sign-append : (zs ws : List ℤ) → sign_of (zs ++ ws) ≡ differ (sign_of zs) (sign_of ws)
-sign-append [] ws = refl
-sign-append (z ∷ zs) ws = ap (differ (is_negative z)) (sign-append zs ws) ∙ sym (differ_assoc (is_negative z) (sign_of zs) (sign_of ws))
-
-size-append : (zs ws : List ℤ) → size_of (zs ++ ws) ≡ size_of zs * size_of ws
-size-append [] ws = omega arith
-size-append (z ∷ zs) ws = ap (λ n. magnitude_of z * n) (size-append zs ws) ∙ sym (mul_assoc (magnitude_of z) (size_of zs) (size_of ws))
+any-append (z ∷ zs) ws = ap (λ b. truth_of z || b) (any-append zs ws) ∙ sym (or_assoc (truth_of z) (any zs) (any ws))
 
 pub values-append : (a b : List Outcome) → values (a ++ b) ≡ values a ++ values b
 values-append [] b = refl
 values-append (Fault f ∷ a) b = values-append a b
 values-append (Value z ∷ a) b = ap (λ l. z ∷ l) (values-append a b)
-
--- ---- magnitudes that are capped
-
-by_lt : {P : Type 0} (m n : ℕ) → (m < n → P) → (n ≤ m → P) → P
-by_lt m n f g = elim (cases_lt m n) [ inl h ↦ f h | inr h ↦ g h ]
-
-positive_one : (z : ℤ) → 0 < magnitude_of z
-positive_one (pos zero) = omega arith
-positive_one (pos (suc n)) = omega arith
-positive_one (negsuc n) = omega arith
-
-positive_product : (m n : ℕ) → 0 < m → 0 < n → 0 < m * n
-positive_product zero n p q = absurd (omega arith)
-positive_product (suc m) n p q = omega arith
-
-positive_all : (zs : List ℤ) → 0 < size_of zs
-positive_all [] = omega arith
-positive_all (z ∷ zs) = positive_product (magnitude_of z) (size_of zs) (positive_one z) (positive_all zs)
-
-small : (c m : ℕ) → m < c → min m c ≡ m
-small c m h = omega arith
-
-large : (c m : ℕ) → c ≤ m → min m c ≡ c
-large c m h = omega arith
-
--- a factor capped before a product changes nothing after it
-cap_left : (c m n : ℕ) → 0 < n → min (min m c * n) c ≡ min (m * n) c
-cap_left c m n p =
-    by_lt m c
-    (λ l. ap (λ k. min (k * n) c) (small c m l))
-    (λ g.
-    let whole : c ≤ c * n = le-mul_of_pos_right c p in
-    let more : c * n ≤ m * n = mul-le-mul_right n g in
-    ap (λ k. min (k * n) c) (large c m g) ∙ large c (c * n) whole ∙ sym (large c (m * n) (omega arith)))
-
-cap_both : (c m n : ℕ) → 0 < c → 0 < m → 0 < n → min (min m c * min n c) c ≡ min (m * n) c
-cap_both c m n r p q =
-    cap_left c m (min n c) (omega arith)
-    ∙ ap (λ k. min k c) (mul_comm m (min n c)) ∙ cap_left c n m p ∙ ap (λ k. min k c) (mul_comm n m)
-
-pub product_joined : (a b r : kept.Product) (zs ws : List ℤ) → r.has_zero ≡ (a.has_zero || b.has_zero) → r.negative ≡ differ a.negative b.negative → r.magnitude ≡ cap (a.magnitude * b.magnitude) → StandsFor a zs → StandsFor b ws → StandsFor r (zs ++ ws)
-product_joined a b r zs ws x y z h g = record {
-  zero_kept = x ∙ ap (λ c. c || b.has_zero) h.zero_kept ∙ ap (λ c. has_zero_of zs || c) g.zero_kept ∙ sym (has_zero-append zs ws);
-  sign_kept = y ∙ ap (λ c. differ c b.negative) h.sign_kept ∙ ap (differ (sign_of zs)) g.sign_kept ∙ sym (sign-append zs ws);
-  size_kept = z ∙ ap (λ n. cap (n * b.magnitude)) h.size_kept ∙ ap (λ n. cap (cap (size_of zs) * n)) g.size_kept
-      ∙ cap_both (2 ^ 63 + 1) (size_of zs) (size_of ws) (omega arith) (positive_all zs) (positive_all ws) ∙ ap cap (sym (size-append zs ws));
-}
 
 -- ---- two condensers
 

@@ -6,7 +6,8 @@ use Rattle.std.proofs.lemmas.List.Sorted.{IsPermutation-keeps}
 use Rattle.std.proofs.lemmas.Int.{ints}
 use Rattle.wcps_mean.specs.declared.cell.Outcome.{Outcome}
 use Rattle.wcps_mean.specs.declared.cell.Outcome.TheVariants.{Value, Fault}
-use Rattle.wcps_mean.specs.Cells.{is_true, differ}
+use Rattle.arr_core.specs.Cells.{truth_of}
+use Rattle.wcps_mean.specs.Cells.{differ}
 use Rattle.wcps_mean.specs.Condensers.{values, total, every, any, trues}
 use Rattle.wcps_mean.specs.Best.{greatest_of, least_of}
 use Rattle.wcps_mean.specs.Magnitudes.{is_zero, is_negative, magnitude_of, has_zero_of, sign_of, size_of}
@@ -94,13 +95,13 @@ pub length-permuted : (told more : List Told) → IsPermutation told more → le
 length-permuted = values_permuted (λ z b. suc b) length (λ z zs. refl) (λ x y b. refl)
 
 pub trues-permuted : (told more : List Told) → IsPermutation told more → trues (values (outcomes told)) ≡ trues (values (outcomes more))
-trues-permuted = values_permuted (λ z b. cond (is_true z) 1 0 + b) trues (λ z zs. refl) (λ x y b. omega arith)
+trues-permuted = values_permuted (λ z b. cond (truth_of z) 1 0 + b) trues (λ z zs. refl) (λ x y b. omega arith)
 
 pub every-permuted : (told more : List Told) → IsPermutation told more → every (values (outcomes told)) ≡ every (values (outcomes more))
-every-permuted = values_permuted (λ z b. is_true z && b) every (λ z zs. refl) (λ x y b. and_exchange (is_true x) (is_true y) b)
+every-permuted = values_permuted (λ z b. truth_of z && b) every (λ z zs. refl) (λ x y b. and_exchange (truth_of x) (truth_of y) b)
 
 pub any-permuted : (told more : List Told) → IsPermutation told more → any (values (outcomes told)) ≡ any (values (outcomes more))
-any-permuted = values_permuted (λ z b. is_true z || b) any (λ z zs. refl) (λ x y b. or_exchange (is_true x) (is_true y) b)
+any-permuted = values_permuted (λ z b. truth_of z || b) any (λ z zs. refl) (λ x y b. or_exchange (truth_of x) (truth_of y) b)
 
 pub has_zero-permuted : (told more : List Told) → IsPermutation told more → has_zero_of (values (outcomes told)) ≡ has_zero_of (values (outcomes more))
 has_zero-permuted = values_permuted (λ z b. is_zero z || b) has_zero_of (λ z zs. refl) (λ x y b. or_exchange (is_zero x) (is_zero y) b)

@@ -10,7 +10,8 @@ use Rattle.std.proofs.lemmas.Simd.{get_or-put_chunk_below, get_or-put_chunk_at}
 use Rattle.wcps_text.specs.declared.operator.BinaryOperator.TheVariants.{Add, Subtract}
 use Rattle.wcps_mean.specs.declared.cell.Outcome.{Outcome}
 use Rattle.wcps_mean.specs.declared.cell.Outcome.TheVariants.{Value}
-use Rattle.wcps_mean.specs.Cells.{number, truth, is_true, differ, exact2}
+use Rattle.arr_core.specs.Cells.{truth_of}
+use Rattle.wcps_mean.specs.Cells.{number, truth, differ, exact2}
 use Rattle.tile_kernel.specs.Columns.{exact_at, AreValues}
 use Rattle.tile_kernel.specs.Lanes.{first, second, IsPair, AreAt, AreEach, AreSure, AreTried, GoesOn}
 use Rattle.tile_kernel.proofs.Signs.{below_64, mask_below, or_left, or_right, sum_kept, difference_kept}
@@ -182,17 +183,17 @@ turned exact xs ys values marks h g t =
 
 -- ---- logic of truth values
 
-logic_lane : (f : ℕ → ℕ → ℕ) (b : Bool → Bool → Bool) → ((p q : Bool) → to_z w64 (f (of_z w64 (number p)) (of_z w64 (number q))) ≡ number (b p q)) → (x y u v : ℤ) → u ≡ number (is_true x) → v ≡ number (is_true y) → truth (b (is_true x) (is_true y)) ≡ Value (to_z w64 (f (of_z w64 u) (of_z w64 v)))
+logic_lane : (f : ℕ → ℕ → ℕ) (b : Bool → Bool → Bool) → ((p q : Bool) → to_z w64 (f (of_z w64 (number p)) (of_z w64 (number q))) ≡ number (b p q)) → (x y u v : ℤ) → u ≡ number (truth_of x) → v ≡ number (truth_of y) → truth (b (truth_of x) (truth_of y)) ≡ Value (to_z w64 (f (of_z w64 u) (of_z w64 v)))
 logic_lane f b law x y u v h g =
-    ap Value (sym (ap (λ z. to_z w64 (f (of_z w64 z) (of_z w64 v))) h ∙ ap (λ z. to_z w64 (f (of_z w64 (number (is_true x))) (of_z w64 z))) g ∙ law (is_true x) (is_true y)))
+    ap Value (sym (ap (λ z. to_z w64 (f (of_z w64 z) (of_z w64 v))) h ∙ ap (λ z. to_z w64 (f (of_z w64 (number (truth_of x))) (of_z w64 z))) g ∙ law (truth_of x) (truth_of y)))
 
 pub logic_tried : (f : ℕ → ℕ → ℕ) (b : Bool → Bool → Bool) → ((p q : Bool) → to_z w64 (f (of_z w64 (number p)) (of_z w64 (number q))) ≡ number (b p q)) → (xs ys us vs : List ℤ) → IsPair xs → IsPair ys → IsPair us → IsPair vs
-    → AreEach (λ z. number (is_true z)) (map (to_z w64) (map (of_z w64) xs)) us → AreEach (λ z. number (is_true z)) (map (to_z w64) (map (of_z w64) ys)) vs
-    → AreTried (λ x y. truth (b (is_true x) (is_true y))) xs ys (map (to_z w64) (zip2 f (map (of_z w64) us) (map (of_z w64) vs))) (pos 0 ∷ pos 0 ∷ [])
+    → AreEach (λ z. number (truth_of z)) (map (to_z w64) (map (of_z w64) xs)) us → AreEach (λ z. number (truth_of z)) (map (to_z w64) (map (of_z w64) ys)) vs
+    → AreTried (λ x y. truth (b (truth_of x) (truth_of y))) xs ys (map (to_z w64) (zip2 f (map (of_z w64) us) (map (of_z w64) vs))) (pos 0 ∷ pos 0 ∷ [])
 logic_tried f b law xs ys us vs h g i j p q =
-    let k : AreEach (λ z. number (is_true z)) xs us = subst (λ l. AreEach (λ z. number (is_true z)) l us) (again xs h) p in
-    let l : AreEach (λ z. number (is_true z)) ys vs = subst (λ l. AreEach (λ z. number (is_true z)) l vs) (again ys g) q in
-    by_lanes (λ us vs. AreEach (λ z. number (is_true z)) xs us → AreEach (λ z. number (is_true z)) ys vs → AreTried (λ x y. truth (b (is_true x) (is_true y))) xs ys (map (to_z w64) (zip2 f (map (of_z w64) us) (map (of_z w64) vs))) (pos 0 ∷ pos 0 ∷ []))
+    let k : AreEach (λ z. number (truth_of z)) xs us = subst (λ l. AreEach (λ z. number (truth_of z)) l us) (again xs h) p in
+    let l : AreEach (λ z. number (truth_of z)) ys vs = subst (λ l. AreEach (λ z. number (truth_of z)) l vs) (again ys g) q in
+    by_lanes (λ us vs. AreEach (λ z. number (truth_of z)) xs us → AreEach (λ z. number (truth_of z)) ys vs → AreTried (λ x y. truth (b (truth_of x) (truth_of y))) xs ys (map (to_z w64) (zip2 f (map (of_z w64) us) (map (of_z w64) vs))) (pos 0 ∷ pos 0 ∷ []))
     (λ a b' c d _ _ _ _ m n. record {
       here = λ _. logic_lane f b law (first xs) (first ys) a c m.here n.here;
       next = λ _. logic_lane f b law (second xs) (second ys) b' d m.next n.next;

@@ -11,7 +11,7 @@ use Rattle.wcps_text.specs.declared.operator.Aggregate.{Aggregate}
 use Rattle.wcps_text.specs.declared.operator.Aggregate.TheVariants as aggregates
 use Rattle.wcps_mean.specs.declared.running.Running.{Running}
 use Rattle.wcps_mean.specs.Feeding.{Keeps}
-use Rattle.wcps_mean.specs.Cells.{is_true}
+use Rattle.arr_core.specs.Cells.{truth_of}
 use Rattle.wcps_mean.specs.Condensers.{total, trues, every, any, larger, smaller, greatest, least}
 use Rattle.wcps_mean.specs.Best.{greatest_of, least_of}
 use Rattle.wcps_mean.specs.Products.{StandsFor}
@@ -21,7 +21,7 @@ total-push : (zs : List ℤ) (x : ℤ) → total (zs ++ x ∷ []) ≡ total zs +
 total-push [] x = omega (arith, ints)
 total-push (z ∷ zs) x = let e = total-push zs x in omega (arith, ints)
 
-trues-push : (zs : List ℤ) (x : ℤ) → trues (zs ++ x ∷ []) ≡ trues zs + cond (is_true x) 1 0
+trues-push : (zs : List ℤ) (x : ℤ) → trues (zs ++ x ∷ []) ≡ trues zs + cond (truth_of x) 1 0
 trues-push [] x = omega arith
 trues-push (z ∷ zs) x = let e = trues-push zs x in omega arith
 
@@ -57,7 +57,7 @@ length-selected t v (suc n) =
     let b = length-replicate (t n) (v n) in
     omega (arith, e, a, b)
 
-trues_step : (n : ℕ) (zs : List ℤ) (x : ℤ) → trues (zs ++ replicate n x) ≡ trues zs + n * cond (is_true x) 1 0
+trues_step : (n : ℕ) (zs : List ℤ) (x : ℤ) → trues (zs ++ replicate n x) ≡ trues zs + n * cond (truth_of x) 1 0
 trues_step zero zs x = ap trues (append-nil zs) ∙ omega arith
 trues_step (suc n) zs x =
     let e = trues_step n zs x in
@@ -65,7 +65,7 @@ trues_step (suc n) zs x =
     let q = trues-push (zs ++ replicate n x) x in
     omega (arith, e, p, q)
 
-pub trues_next : (t : ℕ → ℕ) (v : ℕ → ℤ) (k : ℕ) → trues (selected t v (k + 1)) ≡ trues (selected t v k) + t k * cond (is_true (v k)) 1 0
+pub trues_next : (t : ℕ → ℕ) (v : ℕ → ℤ) (k : ℕ) → trues (selected t v (k + 1)) ≡ trues (selected t v k) + t k * cond (truth_of (v k)) 1 0
 trues_next t v k = ap trues (selected_next t v k) ∙ trues_step (t k) (selected t v k) (v k)
 
 -- the halves of a sum, with so many more copies of a value
@@ -228,7 +228,7 @@ every_more false n m h = sym (ne_eqb (0 + n) (suc m) (λ q. absurd (omega arith)
 
 pub every_trues : (zs : List ℤ) → every zs ≡ nat_eq (trues zs) (length zs)
 every_trues [] = refl
-every_trues (z ∷ zs) = ap (λ b. is_true z && b) (every_trues zs) ∙ every_more (is_true z) (trues zs) (length zs) (few_trues zs)
+every_trues (z ∷ zs) = ap (λ b. truth_of z && b) (every_trues zs) ∙ every_more (truth_of z) (trues zs) (length zs) (few_trues zs)
 
 any_more : (b : Bool) (n : ℕ) → b || nat_lt 0 n ≡ nat_lt 0 (cond b 1 0 + n)
 any_more true n = sym (lt-ltb 0 (1 + n) (omega arith))
@@ -236,7 +236,7 @@ any_more false n = ap (nat_lt 0) (omega arith)
 
 pub any_trues : (zs : List ℤ) → any zs ≡ nat_lt 0 (trues zs)
 any_trues [] = refl
-any_trues (z ∷ zs) = ap (λ b. is_true z || b) (any_trues zs) ∙ any_more (is_true z) (trues zs)
+any_trues (z ∷ zs) = ap (λ b. truth_of z || b) (any_trues zs) ∙ any_more (truth_of z) (trues zs)
 
 pub keeps_every : (op : Aggregate) (r : Running) (zs : List ℤ) → op ≡ aggregates.Every → r.all ≡ every zs → Keeps op r zs
 keeps_every op r zs o e = subst (λ op. Keeps op r zs) (sym o) e
@@ -249,7 +249,7 @@ keeps_any op r zs o e = subst (λ op. Keeps op r zs) (sym o) e
 pub total_more : (zs : List ℤ) (k : ℕ) → k < length zs → total (take (k + 1) zs) ≡ total (take k zs) +ℤ get_or zs k (pos 0)
 total_more zs k lt = ap total (take_more zs k (pos 0) lt) ∙ total-push (take k zs) (get_or zs k (pos 0))
 
-pub trues_more : (zs : List ℤ) (k : ℕ) → k < length zs → trues (take (k + 1) zs) ≡ trues (take k zs) + cond (is_true (get_or zs k (pos 0))) 1 0
+pub trues_more : (zs : List ℤ) (k : ℕ) → k < length zs → trues (take (k + 1) zs) ≡ trues (take k zs) + cond (truth_of (get_or zs k (pos 0))) 1 0
 trues_more zs k lt = ap trues (take_more zs k (pos 0) lt) ∙ trues-push (take k zs) (get_or zs k (pos 0))
 
 greatest_of-push : (zs : List ℤ) (b x : ℤ) → greatest_of zs ≡ Some b → greatest_of (zs ++ x ∷ []) ≡ Some (larger b x)

@@ -8,7 +8,7 @@ use Rattle.wcps_mean.specs.declared.running.Running.{Running}
 use Rattle.wcps_text.specs.declared.operator.Aggregate.{Aggregate}
 use Rattle.wcps_mean.specs.declared.cell.Outcome.{Outcome}
 use Rattle.wcps_mean.specs.declared.cell.Outcome.TheVariants.{Value, Fault}
-use Rattle.wcps_mean.specs.Cells.{is_true}
+use Rattle.arr_core.specs.Cells.{truth_of}
 use Rattle.wcps_mean.specs.Condensers.{values, demanded}
 use Rattle.wcps_mean.specs.Feeding.{Keeps}
 use Rattle.tile_kernel.specs.declared.accumulator.Accumulator.{Accumulator}
@@ -148,20 +148,20 @@ chosen_none true o os = refl
 chosen_none false o os = refl
 
 -- the same condition for each outcome of a run
-kept-same : (n : ℕ) (z : ℤ) (o : Outcome) (cs os : List Outcome) → kept (replicate n (Value z) ++ cs) (replicate n o ++ os) ≡ replicate (cond (is_true z) n 0) o ++ kept cs os
-kept-same zero z o cs os = chosen_none (is_true z) o (kept cs os)
-kept-same (suc n) z o cs os = ap (λ l. cond (is_true z) (o ∷ []) [] ++ l) (kept-same n z o cs os) ∙ chosen_more (is_true z) n o (kept cs os)
+kept-same : (n : ℕ) (z : ℤ) (o : Outcome) (cs os : List Outcome) → kept (replicate n (Value z) ++ cs) (replicate n o ++ os) ≡ replicate (cond (truth_of z) n 0) o ++ kept cs os
+kept-same zero z o cs os = chosen_none (truth_of z) o (kept cs os)
+kept-same (suc n) z o cs os = ap (λ l. cond (truth_of z) (o ∷ []) [] ++ l) (kept-same n z o cs os) ∙ chosen_more (truth_of z) n o (kept cs os)
 
-pub kept-where : (cs os : List Outcome) (v : ℕ → ℤ) → length cs ≡ length os → ((k : ℕ) → k < length cs → outcome_at cs k ≡ Value (v k)) → kept cs os ≡ taken (λ k. cond (is_true (v k)) 1 0) os
+pub kept-where : (cs os : List Outcome) (v : ℕ → ℤ) → length cs ≡ length os → ((k : ℕ) → k < length cs → outcome_at cs k ≡ Value (v k)) → kept cs os ≡ taken (λ k. cond (truth_of (v k)) 1 0) os
 kept-where [] [] v h at = refl
 kept-where [] (o ∷ os) v h at = absurd (omega arith)
 kept-where (c ∷ cs) [] v h at = absurd (omega arith)
 kept-where (c ∷ cs) (o ∷ os) v h at =
-    ap (λ d. demanded d o ++ kept cs os) (at 0 (omega arith)) ∙ ap (λ l. l ++ kept cs os) (chosen_once (is_true (v 0)) o)
-    ∙ ap (λ l. replicate (cond (is_true (v 0)) 1 0) o ++ l) (kept-where cs os (λ k. v (suc k)) (omega arith) (λ k lt. at (suc k) (omega arith)))
+    ap (λ d. demanded d o ++ kept cs os) (at 0 (omega arith)) ∙ ap (λ l. l ++ kept cs os) (chosen_once (truth_of (v 0)) o)
+    ∙ ap (λ l. replicate (cond (truth_of (v 0)) 1 0) o ++ l) (kept-where cs os (λ k. v (suc k)) (omega arith) (λ k lt. at (suc k) (omega arith)))
 
 pub kept-counted : (cs os : List Outcome) (ns : List ℕ) (v : ℕ → ℤ) → length cs ≡ length ns → length os ≡ length ns → ((k : ℕ) → k < length cs → outcome_at cs k ≡ Value (v k))
-    → kept (repeated cs ns) (repeated os ns) ≡ taken (λ k. cond (is_true (v k)) (get_or ns k 0) 0) os
+    → kept (repeated cs ns) (repeated os ns) ≡ taken (λ k. cond (truth_of (v k)) (get_or ns k 0) 0) os
 kept-counted [] [] ns v h g at = refl
 kept-counted [] (o ∷ os) [] v h g at = absurd (omega arith)
 kept-counted [] (o ∷ os) (n ∷ ns) v h g at = absurd (omega arith)
@@ -170,7 +170,7 @@ kept-counted (c ∷ cs) [] (n ∷ ns) v h g at = absurd (omega arith)
 kept-counted (c ∷ cs) (o ∷ os) (n ∷ ns) v h g at =
     ap (λ d. kept (replicate n d ++ repeated cs ns) (replicate n o ++ repeated os ns)) (at 0 (omega arith))
     ∙ kept-same n (v 0) o (repeated cs ns) (repeated os ns)
-    ∙ ap (λ l. replicate (cond (is_true (v 0)) n 0) o ++ l) (kept-counted cs os ns (λ k. v (suc k)) (omega arith) (omega arith) (λ k lt. at (suc k) (omega arith)))
+    ∙ ap (λ l. replicate (cond (truth_of (v 0)) n 0) o ++ l) (kept-counted cs os ns (λ k. v (suc k)) (omega arith) (omega arith) (λ k lt. at (suc k) (omega arith)))
 
 -- the values that are selected, from the first one on
 selected-cons : (t : ℕ → ℕ) (v : ℕ → ℤ) (n : ℕ) → selected t v (suc n) ≡ replicate (t 0) (v 0) ++ selected (λ k. t (suc k)) (λ k. v (suc k)) n
@@ -268,17 +268,17 @@ runs_anywhere None heads ns l f = f
 runs_anywhere (Some a) heads ns l f = λ places h. f (told_at places (repeated heads ns)) (outcomes-told_at places (repeated heads ns) h ∙ sym (taken-counted heads ns l))
 
 pub each_where : (r : Option Accumulator) (op : Aggregate) (cs os : List Outcome) (v : ℕ → ℤ) → length cs ≡ length os → ((k : ℕ) → k < length cs → outcome_at cs k ≡ Value (v k))
-    → IfSome r (IsCondensed (λ k. cond (is_true (v k)) 1 0) os) → IfSome r (λ a. a.running.op ≡ op) → IfSome r (IsCondensedWhere op cs os)
+    → IfSome r (IsCondensed (λ k. cond (truth_of (v k)) 1 0) os) → IfSome r (λ a. a.running.op ≡ op) → IfSome r (IsCondensedWhere op cs os)
 each_where None op cs os v h at f o = f
 each_where (Some a) op cs os v h at f o = λ places g. (o, f (demanded_at places cs os) (outcomes-demanded_at places cs os g ∙ kept-where cs os v h at))
 
 pub runs_where : (r : Option Accumulator) (op : Aggregate) (cs os : List Outcome) (ns : List ℕ) (v : ℕ → ℤ) → length cs ≡ length ns → length os ≡ length ns → ((k : ℕ) → k < length cs → outcome_at cs k ≡ Value (v k))
-    → IfSome r (IsCondensed (λ k. cond (is_true (v k)) (get_or ns k 0) 0) os) → IfSome r (λ a. a.running.op ≡ op) → IfSome r (IsCondensedWhere op (repeated cs ns) (repeated os ns))
+    → IfSome r (IsCondensed (λ k. cond (truth_of (v k)) (get_or ns k 0) 0) os) → IfSome r (λ a. a.running.op ≡ op) → IfSome r (IsCondensedWhere op (repeated cs ns) (repeated os ns))
 runs_where None op cs os ns v h l at f o = f
 runs_where (Some a) op cs os ns v h l at f o = λ places g. (o, f (demanded_at places (repeated cs ns) (repeated os ns)) (outcomes-demanded_at places (repeated cs ns) (repeated os ns) g ∙ kept-counted cs os ns v h l at))
 
 -- a condition that is true everywhere
-all_demanded : (ps : List ℕ) (cs os : List Outcome) (x : ℤ) → length cs ≡ length os → ((k : ℕ) → k < length cs → outcome_at cs k ≡ Value x) → is_true x ≡ true → demanded_at ps cs os ≡ told_at ps os
+all_demanded : (ps : List ℕ) (cs os : List Outcome) (x : ℤ) → length cs ≡ length os → ((k : ℕ) → k < length cs → outcome_at cs k ≡ Value x) → truth_of x ≡ true → demanded_at ps cs os ≡ told_at ps os
 all_demanded [] cs os x h at t = refl
 all_demanded (p ∷ ps) [] [] x h at t = refl
 all_demanded (p ∷ ps) [] (o ∷ os) x h at t = absurd (omega arith)
@@ -288,33 +288,33 @@ all_demanded (p ∷ ps) (c ∷ cs) (o ∷ os) x h at t =
     ∙ ap (λ b. map (λ (e : Outcome). (p, e)) (cond b (o ∷ []) []) ++ demanded_at ps cs os) t
     ∙ ap (λ l. (p, o) ∷ l) (all_demanded ps cs os x (omega arith) (λ k lt. at (suc k) (omega arith)) t)
 
-pub each_where_true : (r : Option Accumulator) (op : Aggregate) (cs os : List Outcome) (x : ℤ) → length cs ≡ length os → ((k : ℕ) → k < length cs → outcome_at cs k ≡ Value x) → is_true x ≡ true
+pub each_where_true : (r : Option Accumulator) (op : Aggregate) (cs os : List Outcome) (x : ℤ) → length cs ≡ length os → ((k : ℕ) → k < length cs → outcome_at cs k ≡ Value x) → truth_of x ≡ true
     → IfSome r (λ a. StandsAnywhere a os) → IfSome r (λ a. a.running.op ≡ op) → IfSome r (IsCondensedWhere op cs os)
 each_where_true None op cs os x h at t f o = f
 each_where_true (Some a) op cs os x h at t f o = λ places g. (o, subst (Stands a) (sym (all_demanded places cs os x h at t)) (f places g))
 
-pub runs_where_true : (r : Option Accumulator) (op : Aggregate) (cs os : List Outcome) (ns : List ℕ) (x : ℤ) → length cs ≡ length ns → length os ≡ length ns → ((k : ℕ) → k < length cs → outcome_at cs k ≡ Value x) → is_true x ≡ true
+pub runs_where_true : (r : Option Accumulator) (op : Aggregate) (cs os : List Outcome) (ns : List ℕ) (x : ℤ) → length cs ≡ length ns → length os ≡ length ns → ((k : ℕ) → k < length cs → outcome_at cs k ≡ Value x) → truth_of x ≡ true
     → IfSome r (IsCondensed (λ k. get_or ns k 0) os) → IfSome r (λ a. a.running.op ≡ op) → IfSome r (IsCondensedWhere op (repeated cs ns) (repeated os ns))
 runs_where_true None op cs os ns x h l at t f o = f
 runs_where_true (Some a) op cs os ns x h l at t f o = λ places g. (
   o,
   f (demanded_at places (repeated cs ns) (repeated os ns)) (outcomes-demanded_at places (repeated cs ns) (repeated os ns) g ∙ kept-counted cs os ns (λ k. x) h l at
-      ∙ taken-alike (λ k. cond (is_true x) (get_or ns k 0) 0) (λ k. get_or ns k 0) os (λ k. ap (λ b. cond b (get_or ns k 0) 0) t)),
+      ∙ taken-alike (λ k. cond (truth_of x) (get_or ns k 0) 0) (λ k. get_or ns k 0) os (λ k. ap (λ b. cond b (get_or ns k 0) 0) t)),
 )
 
 -- a condition that is false everywhere
-pub each_where_false : (a : Accumulator) (op : Aggregate) (cs os : List Outcome) (x : ℤ) → length cs ≡ length os → ((k : ℕ) → k < length cs → outcome_at cs k ≡ Value x) → is_true x ≡ false
+pub each_where_false : (a : Accumulator) (op : Aggregate) (cs os : List Outcome) (x : ℤ) → length cs ≡ length os → ((k : ℕ) → k < length cs → outcome_at cs k ≡ Value x) → truth_of x ≡ false
     → a.running.op ≡ op → Stands a [] → IsCondensedWhere op cs os a
 each_where_false a op cs os x h at t o s = λ places g.
-    let none : outcomes (demanded_at places cs os) ≡ [] = outcomes-demanded_at places cs os g ∙ kept-where cs os (λ k. x) h at ∙ taken-none (λ k. cond (is_true x) 1 0) os (λ k. ap (λ b. cond b 1 0) t) in
+    let none : outcomes (demanded_at places cs os) ≡ [] = outcomes-demanded_at places cs os g ∙ kept-where cs os (λ k. x) h at ∙ taken-none (λ k. cond (truth_of x) 1 0) os (λ k. ap (λ b. cond b 1 0) t) in
     (o, subst (Stands a) (sym (told_none (demanded_at places cs os) none)) s)
 
-pub runs_where_false : (a : Accumulator) (op : Aggregate) (cs os : List Outcome) (ns : List ℕ) (x : ℤ) → length cs ≡ length ns → length os ≡ length ns → ((k : ℕ) → k < length cs → outcome_at cs k ≡ Value x) → is_true x ≡ false
+pub runs_where_false : (a : Accumulator) (op : Aggregate) (cs os : List Outcome) (ns : List ℕ) (x : ℤ) → length cs ≡ length ns → length os ≡ length ns → ((k : ℕ) → k < length cs → outcome_at cs k ≡ Value x) → truth_of x ≡ false
     → a.running.op ≡ op → Stands a [] → IsCondensedWhere op (repeated cs ns) (repeated os ns) a
 runs_where_false a op cs os ns x h l at t o s = λ places g.
     let told = demanded_at places (repeated cs ns) (repeated os ns) in
     let none : outcomes told ≡ [] = outcomes-demanded_at places (repeated cs ns) (repeated os ns) g ∙ kept-counted cs os ns (λ k. x) h l at
-    ∙ taken-none (λ k. cond (is_true x) (get_or ns k 0) 0) os (λ k. ap (λ b. cond b (get_or ns k 0) 0) t) in
+    ∙ taken-none (λ k. cond (truth_of x) (get_or ns k 0) 0) os (λ k. ap (λ b. cond b (get_or ns k 0) 0) t) in
     (o, subst (Stands a) (sym (told_none told none)) s)
 
 few_chosen : (b : Bool) (p : ℕ) (o : Outcome) (told : List Told) (n : ℕ) → length told ≤ n → length {A = Told} (map (λ (d : Outcome). (p, d)) (cond b (o ∷ []) []) ++ told) ≤ suc n
@@ -325,7 +325,7 @@ pub few_demanded : (ps : List ℕ) (cs os : List Outcome) → length (demanded_a
 few_demanded [] cs os = omega arith
 few_demanded (p ∷ ps) [] os = omega arith
 few_demanded (p ∷ ps) (c ∷ cs) [] = omega arith
-few_demanded (p ∷ ps) (Value z ∷ cs) (o ∷ os) = few_chosen (is_true z) p o (demanded_at ps cs os) (length os) (few_demanded ps cs os)
+few_demanded (p ∷ ps) (Value z ∷ cs) (o ∷ os) = few_chosen (truth_of z) p o (demanded_at ps cs os) (length os) (few_demanded ps cs os)
 few_demanded (p ∷ ps) (Fault f ∷ cs) (o ∷ os) = let h = few_demanded ps cs os in omega arith
 
 -- ---- an accumulator at each place

@@ -1,5 +1,6 @@
 -- Columns as lists of outcomes.
 use Rattle.std.specs.Prelude.{◌≡◌, ℕ, ◌<◌, ◌≤◌, ℤ, pos, ◌≤ℤ◌, List, [], ◌∷◌, map, length, take, replicate, slice_index_or, Vec, vec_capacity, Option, Some, None}
+use Rattle.arr_core.specs.Limits.{max_tile}
 use Rattle.wcps_text.specs.declared.operator.UnaryOperator.{UnaryOperator}
 use Rattle.wcps_text.specs.declared.operator.BinaryOperator.{BinaryOperator}
 use Rattle.wcps_mean.specs.declared.cell.PointFault.{PointFault}
@@ -35,7 +36,7 @@ HasNarrow Mixed n ws = Unit {0}
 
 -- a column has at most 4,096 places, and a value and a fault for each
 pub record IsRoomy (form : Form) (n : ℕ) (zs : List ℤ) (fs : List (Option PointFault)) (ws : List ℤ) : Type 0 where
-  pub few : n ≤ 4096
+  pub few : n ≤ max_tile
   pub values : n ≤ length zs
   pub faults : n ≤ length fs
   pub narrow : HasNarrow form n ws

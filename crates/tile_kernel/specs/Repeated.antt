@@ -1,6 +1,7 @@
 -- Outcomes that stand for runs.
 use Rattle.std.specs.Prelude.{◌≡◌, ℕ, ◌+◌, ◌<◌, ◌≤◌, ℤ, List, [], ◌∷◌, ◌++◌, map, length, take, replicate, sum, slice_index, Vec, vec_capacity, Bool, true, false, Option, Some, None}
 use Rattle.std.specs.declared.alloc.Global.{Global}
+use Rattle.arr_core.specs.Limits.{max_tile}
 use Rattle.arr_core.specs.Runs.{spread}
 use Rattle.wcps_mean.specs.declared.cell.PointFault.{PointFault}
 use Rattle.wcps_mean.specs.declared.cell.Outcome.{Outcome}
@@ -25,21 +26,21 @@ column_of (Some r) form n zs fs ws ns = repeated (map Value (take r zs)) (take r
 -- the runs, if there are some, cover all places
 abbrev pub AreRuns : Option ℕ → ℕ → List ℕ → Type 0
 AreRuns None n ns = Unit {0}
-AreRuns (Some r) n ns = (r ≤ 4096) × (r ≤ length ns) × (sum (take r ns) ≡ n)
+AreRuns (Some r) n ns = (r ≤ max_tile) × (r ≤ length ns) × (sum (take r ns) ≡ n)
 
 -- where there are runs, there are as many values and faults as there can be
 abbrev pub AreAll : Option ℕ → List ℤ → List (Option PointFault) → Type 0
 AreAll None zs fs = Unit {0}
-AreAll (Some r) zs fs = (length zs ≡ 4096) × (4096 ≤ length fs)
+AreAll (Some r) zs fs = (length zs ≡ max_tile) × (max_tile ≤ length fs)
 
 -- a column has at most 4,096 places, runs that cover them, and lists with room for as many
 pub record IsColumn (runs : Option ℕ) (form : Form) (n : ℕ) (values : Vec ℤ Global) (faults : Vec (Option PointFault) Global) (ws : List ℤ) (ns : List ℕ) : Type 0 where
   pub roomy : IsRoomy form n values.items faults.items ws
   pub covered : AreRuns runs n ns
   pub whole : AreAll runs values.items faults.items
-  pub few_values : length values.items ≤ 4096
-  pub value_room : 4096 ≤ vec_capacity values
-  pub fault_room : 4096 ≤ vec_capacity faults
+  pub few_values : length values.items ≤ max_tile
+  pub value_room : max_tile ≤ vec_capacity values
+  pub fault_room : max_tile ≤ vec_capacity faults
 
 -- the outcomes that are lent
 abbrev pub runs_shown : Runs → List Outcome

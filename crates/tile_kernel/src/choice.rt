@@ -1,7 +1,7 @@
 //! How often a condenser takes in the value at a place.
 
 ghost use Rattle.std.specs.Prelude.{◌≡◌, ℕ, ◌<◌, ◌≤◌, length, slice_index, cond};
-ghost use Rattle.wcps_mean.specs.Cells.{is_true};
+ghost use Rattle.arr_core.specs.Cells.{truth_of};
 
 use crate::operand::Operand;
 use wcps_mean::is_set;
@@ -41,7 +41,7 @@ pub(crate) struct Where<V: Operand> {
 }
 
 impl<V: Operand> Choice for Where<V> {
-    ghost times = { λ s k. cond (is_true (V.value s.condition k)) 1 0 };
+    ghost times = { λ s k. cond (truth_of (V.value s.condition k)) 1 0 };
 
     ghost places = { λ s. V.places s.condition };
 
@@ -76,7 +76,7 @@ pub(crate) struct CountedWhere<'a, V: Operand> {
 }
 
 impl<V: Operand> Choice for CountedWhere<'_, V> {
-    ghost times = { λ s k. cond (is_true (V.value s.condition k)) (slice_index s.counts.now k) 0 };
+    ghost times = { λ s k. cond (truth_of (V.value s.condition k)) (slice_index s.counts.now k) 0 };
 
     ghost places = { λ s. length s.counts.now };
 

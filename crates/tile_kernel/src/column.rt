@@ -1,6 +1,7 @@
 //! Columns: the outcomes at the places of a tile.
 
 ghost use Rattle.std.specs.Prelude.{◌≡◌, ◌<◌, ◌≤◌, [], length, map, replicate, slice_get, sum, take, max, vec_capacity, Some, IfOk, IfSome, IsTrue};
+ghost use Rattle.arr_core.specs.Limits.{max_tile};
 ghost use Rattle.arr_core.specs.Runs.{cells_of, runs_of};
 ghost use Rattle.wcps_mean.specs.declared.cell.Outcome.TheVariants.{Value};
 ghost use Rattle.tile_kernel.specs.Columns.{outcome_at, AreOutcomes, IsAsRoomy};
@@ -68,7 +69,7 @@ impl Column {
     /// How many places it has.
     pub fn len(&self) -> usize
         ensures places { result ≡ length self.now }
-        ensures few { result ≤ 4096 }
+        ensures few { result ≤ max_tile }
     {
         self.len
     }
@@ -76,7 +77,7 @@ impl Column {
     /// What it keeps, lent.
     pub(crate) fn seen(&self) -> Seen<'_>
         ensures value { shown result ≡ self.now }
-        ensures few { length self.now ≤ 4096 }
+        ensures few { length self.now ≤ max_tile }
     {
         match self.runs {
             None => {
@@ -126,7 +127,7 @@ impl Column {
 
     /// Makes it one outcome at each of `len` places.
     pub fn fill(&mut self, len: usize, o: Outcome)
-        requires { len ≤ 4096 }
+        requires { len ≤ max_tile }
         ensures { self.new ≡ replicate len o }
     {
         grow(&mut self.values, len, 0);
@@ -138,7 +139,7 @@ impl Column {
 
     /// Makes it the values of these cells.
     pub fn write(&mut self, cells: &[i64])
-        requires { length cells.now ≤ 4096 }
+        requires { length cells.now ≤ max_tile }
         ensures { self.new ≡ map Value cells.now }
     {
         grow(&mut self.values, cells.len(), 0);
@@ -151,9 +152,9 @@ impl Column {
 
     /// Makes it the values of as many cells as it has places at most, and gives what it held for their list.
     pub fn exchange(&mut self, cells: &mut Vec<i64>)
-        requires { length cells.old.items ≡ 4096 }
+        requires { length cells.old.items ≡ max_tile }
         ensures value { self.new ≡ map Value cells.old.items }
-        ensures length { length cells.new.items ≡ 4096 }
+        ensures length { length cells.new.items ≡ max_tile }
     {
         grow(&mut self.values, MAX_PLACES, 0);
         grow(&mut self.faults, MAX_PLACES, None);
@@ -166,10 +167,10 @@ impl Column {
     /// Makes it the values of as many cells as it has places at most, which come as runs or in 32 bits each, and gives
     /// what it held for their values. Without memory for the counts of runs their cells are written place by place.
     pub fn exchange_runs(&mut self, cells: &mut RunList)
-        requires room { length cells.old.values.items ≡ 4096 }
-        requires places { length (cells_of cells.old) ≡ 4096 }
+        requires room { length cells.old.values.items ≡ max_tile }
+        requires places { length (cells_of cells.old) ≡ max_tile }
         ensures value { self.new ≡ map Value (cells_of cells.old) }
-        ensures room { length cells.new.values.items ≡ 4096 }
+        ensures room { length cells.new.values.items ≡ max_tile }
     {
         if cells.is_narrow {
             self.exchange_narrow(&mut cells.narrow);
@@ -180,7 +181,7 @@ impl Column {
 
     /// The same of cells of 32 bits.
     fn exchange_narrow(&mut self, cells: &mut Vec<i32>)
-        requires { length cells.old.items ≡ 4096 }
+        requires { length cells.old.items ≡ max_tile }
         ensures { self.new ≡ map Value cells.old.items }
     {
         grow(&mut self.values, MAX_PLACES, 0);
@@ -193,10 +194,10 @@ impl Column {
 
     /// The same of cells that come as runs.
     fn exchange_wide(&mut self, cells: &mut RunList)
-        requires room { length cells.old.values.items ≡ 4096 }
-        requires places { length (runs_of cells.old.values.items cells.old.counts.items) ≡ 4096 }
+        requires room { length cells.old.values.items ≡ max_tile }
+        requires places { length (runs_of cells.old.values.items cells.old.counts.items) ≡ max_tile }
         ensures value { self.new ≡ map Value (runs_of cells.old.values.items cells.old.counts.items) }
-        ensures room { length cells.new.values.items ≡ 4096 }
+        ensures room { length cells.new.values.items ≡ max_tile }
     {
         grow(&mut self.values, MAX_PLACES, 0);
         grow(&mut self.faults, MAX_PLACES, None);
@@ -223,7 +224,7 @@ impl Column {
 
     /// Makes it these outcomes.
     pub fn write_outcomes(&mut self, outcomes: &[Outcome])
-        requires { length outcomes.now ≤ 4096 }
+        requires { length outcomes.now ≤ max_tile }
         ensures { self.new ≡ outcomes.now }
     {
         grow(&mut self.values, outcomes.len(), 0);
@@ -239,7 +240,7 @@ impl Column {
     pub(crate) fn repeat(&mut self, counts: &[u32], len: usize) -> bool
         requires even { length counts.now ≡ length self.old }
         requires total { sum counts.now ≡ len }
-        requires few { len ≤ 4096 }
+        requires few { len ≤ max_tile }
         ensures { RepeatsIf result counts.now self.old self.new }
     {
         match self.runs {

@@ -1,7 +1,7 @@
 //! Condensers over columns.
 
 ghost use Rattle.std.specs.Prelude.{◌≡◌, ℕ, ◌+◌, ◌<◌, ◌≤◌, [], ◌∷◌, length, map, sum, IfSome};
-ghost use Rattle.arr_core.specs.Limits.{max_points};
+ghost use Rattle.arr_core.specs.Limits.{max_points, max_tile};
 ghost use Rattle.wcps_text.specs.declared.operator.Aggregate.{Aggregate};
 ghost use Rattle.wcps_mean.specs.declared.cell.Outcome.TheVariants.{Value};
 ghost use Rattle.tile_kernel.specs.Columns.{outcome_at};
@@ -35,7 +35,7 @@ fn condense_operand<V: Operand, C: Choice>(
     values: &V,
     choice: &C,
 ) -> Accumulator
-    requires few { taken_in (C.times choice.now) len ≤ 4096 }
+    requires few { taken_in (C.times choice.now) len ≤ max_tile }
     requires values { len ≤ V.places values.now }
     requires choice { len ≤ C.places choice.now }
     ensures stands { IsCondensedOf (C.times choice.now) len (V.value values.now) result }
@@ -48,7 +48,7 @@ fn condense_operand<V: Operand, C: Choice>(
 /// What a condenser keeps of outcomes, each as often as it counts, where none is a fault.
 fn condense_view<C: Choice>(op: Aggregate, view: &View<'_>, choice: &C) -> Option<Accumulator>
     requires places { length view.now ≤ C.places choice.now }
-    requires few { taken_in (C.times choice.now) (length view.now) ≤ 4096 }
+    requires few { taken_in (C.times choice.now) (length view.now) ≤ max_tile }
     ensures stands { IfSome result (IsCondensed (C.times choice.now) view.now) }
     ensures op { IfSome result (λ a. a.running.op ≡ op) }
 {
@@ -84,7 +84,7 @@ fn condense_column(op: Aggregate, column: &Column) -> Option<Accumulator>
 
 /// What a condenser keeps of values of 32 bits.
 fn condense_values_narrow(op: Aggregate, values: &[i32]) -> Accumulator
-    requires { length values.now ≤ 4096 }
+    requires { length values.now ≤ max_tile }
     ensures stands { StandsAnywhere result (map Value values.now) }
     ensures op { result.running.op ≡ op }
 {
@@ -318,7 +318,7 @@ fn condense_counted<V: Operand + Drop>(
 ) -> Option<Accumulator>
     requires condition { length counts.now ≤ V.places condition }
     requires column { length column.now ≡ length counts.now }
-    requires few { sum counts.now ≤ 4096 }
+    requires few { sum counts.now ≤ max_tile }
     ensures { IsCondensedByRuns op counts.now (V.value condition) column.now result }
 {
     condense_view(op, column, &CountedWhere { condition, counts })
@@ -333,7 +333,7 @@ fn condense_heads_where(
 ) -> Option<Accumulator>
     requires condition { length chosen.now ≡ length counts.now }
     requires column { length column.now ≡ length counts.now }
-    requires few { sum counts.now ≤ 4096 }
+    requires few { sum counts.now ≤ max_tile }
     ensures { IfSome result (IsCondensedWhere op (repeated chosen.now counts.now) (repeated column.now counts.now)) }
 {
     match chosen.form {

@@ -1,15 +1,12 @@
 //! What is kept of two lists of values at once.
 
-ghost use Rattle.std.specs.Prelude.{◌≡◌, ◌+◌, ◌*◌, ◌<◌, ◌≤◌, ◌^◌, ◌&&◌, ◌||◌};
+ghost use Rattle.std.specs.Prelude.{◌≡◌, ◌+◌, ◌≤◌, ◌&&◌, ◌||◌};
 ghost use Rattle.arr_core.specs.Limits.{max_points};
-ghost use Rattle.wcps_mean.specs.Cells.{differ};
 ghost use Rattle.wcps_mean.specs.Condensers.{larger, smaller};
-ghost use Rattle.wcps_mean.specs.Magnitudes.{cap};
-ghost use Rattle.wcps_mean.specs.Products.{StandsFor};
 ghost use Rattle.wcps_mean.specs.Feeding.{Keeps};
 ghost use Rattle.tile_kernel.specs.Joins.{HoldsOfBoth, better, best_both};
 
-use wcps_mean::{PointFault, Product, Running};
+use wcps_mean::{PointFault, Running};
 use wcps_text::Aggregate;
 
 /// What two condensers of one kind keep together, and the fault that stands for both.
@@ -27,36 +24,11 @@ pub(crate) fn joined(a: &Running, b: &Running, fault: Option<PointFault>) -> Run
         trues: a.trues + b.trues,
         fault,
         sum: a.sum + b.sum,
-        product: product_of(a.product, b.product),
+        product: a.product.with(b.product),
         best: best_of(a.op, a.best, b.best),
         all: both(a.all, b.all),
         some: either(a.some, b.some),
     }
-}
-
-/// The product of two products.
-pub(crate) fn product_of(a: Product, b: Product) -> Product
-    ensures { HoldsOfBoth (StandsFor a) (StandsFor b) (StandsFor result) }
-{
-    Product {
-        has_zero: either(a.has_zero, b.has_zero),
-        negative: are_unlike(a.negative, b.negative),
-        magnitude: capped(a.magnitude, b.magnitude),
-    }
-}
-
-/// The magnitude that stands for all above 2^63.
-const BEYOND: u64 = 9_223_372_036_854_775_809;
-
-/// The product of two magnitudes, where anything above 2^63 counts as 2^63 + 1.
-fn capped(m: u64, n: u64) -> u64
-    requires left { 0 < m }
-    requires right { 0 < n }
-    ensures value { result ≡ cap (m * n) }
-    ensures positive { 0 < result }
-    ensures capped { result ≤ 2 ^ 63 + 1 }
-{
-    m.saturating_mul(n).min(BEYOND)
 }
 
 /// The better of two values, where there are such.
@@ -108,11 +80,4 @@ pub(crate) fn either(a: bool, b: bool) -> bool
     ensures { result ≡ (a || b) }
 {
     if a { true } else { b }
-}
-
-/// Whether two truth values differ.
-fn are_unlike(a: bool, b: bool) -> bool
-    ensures { result ≡ differ a b }
-{
-    if a { !b } else { b }
 }

@@ -1,6 +1,7 @@
 //! The cell operations as trials in lanes.
 
-ghost use Rattle.wcps_mean.specs.Cells.{number, is_true};
+ghost use Rattle.arr_core.specs.Cells.{truth_of};
+ghost use Rattle.wcps_mean.specs.Cells.{number};
 ghost use Rattle.tile_kernel.specs.Lanes.{IsPair, AreEach};
 
 use crate::lanes::{LaneTrial, TriedPair};
@@ -14,7 +15,7 @@ use std::simd::prelude::*;
 fn truths(x: i64x2) -> i64x2
     requires { IsPair x }
     ensures lanes { IsPair result }
-    ensures truths { AreEach (λ z. number (is_true z)) x result }
+    ensures truths { AreEach (λ z. number (truth_of z)) x result }
 {
     x.simd_ne(i64x2::splat(0))
         .select(i64x2::splat(1), i64x2::splat(0))

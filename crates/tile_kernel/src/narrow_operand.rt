@@ -1,6 +1,7 @@
 //! Operands of a kernel in 32 bits.
 
 ghost use Rattle.std.specs.Prelude.{◌≡◌, ℕ, ℤ, pos, ◌<◌, length, slice_index_or};
+ghost use Rattle.arr_core.specs.Limits.{max_tile};
 
 use crate::operand::{EachNarrow, Literal};
 
@@ -35,7 +36,7 @@ pub(crate) struct SameNarrow {
 impl NarrowOperand for SameNarrow {
     ghost value = { λ s k. s.value };
 
-    ghost places = { λ s. 4096 };
+    ghost places = { λ s. max_tile };
 
     fn value(&self, _: usize) -> i32 {
         self.value
@@ -45,7 +46,7 @@ impl NarrowOperand for SameNarrow {
 impl<const VALUE: u16> NarrowOperand for Literal<VALUE> {
     ghost value = { λ s k. pos VALUE };
 
-    ghost places = { λ s. 4096 };
+    ghost places = { λ s. max_tile };
 
     fn value(&self, _: usize) -> i32 {
         VALUE as i32

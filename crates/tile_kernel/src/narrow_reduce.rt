@@ -1,7 +1,8 @@
 //! What a condenser keeps of values of 32 bits.
 
 ghost use Rattle.std.specs.Prelude.{◌≡◌, ◌*◌, ◌≤◌, ◌^◌, pos, neg_ℤ, ◌+ℤ◌, ◌≤ℤ◌, length, cond, None};
-ghost use Rattle.wcps_mean.specs.Cells.{is_true};
+ghost use Rattle.arr_core.specs.Limits.{max_tile};
+ghost use Rattle.arr_core.specs.Cells.{truth_of};
 ghost use Rattle.wcps_mean.specs.Condensers.{total, trues, larger, smaller};
 ghost use Rattle.wcps_mean.specs.Best.{greatest_of, least_of};
 ghost use Rattle.wcps_mean.specs.Products.{StandsFor};
@@ -15,7 +16,7 @@ use wcps_text::Aggregate;
 
 /// What a condenser keeps of values of 32 bits, each taken in once.
 pub(crate) fn condense_narrow(op: Aggregate, values: &[i32]) -> Running
-    requires { length values.now ≤ 4096 }
+    requires { length values.now ≤ max_tile }
     ensures kept { Keeps op result values.now }
     ensures op { result.op ≡ op }
     ensures count { result.count ≡ length values.now }
@@ -62,7 +63,7 @@ pub(crate) fn condense_narrow(op: Aggregate, values: &[i32]) -> Running
 
 /// The sum of values of 32 bits: so few of them fit 64.
 fn narrow_sum(values: &[i32]) -> i64
-    requires { length values.now ≤ 4096 }
+    requires { length values.now ≤ max_tile }
     ensures value { result ≡ total values.now }
     ensures from_below { neg_ℤ (pos (length values.now * 2 ^ 31)) ≤ℤ result }
     ensures from_above { (result +ℤ pos (length values.now)) ≤ℤ pos (length values.now * 2 ^ 31) }
@@ -126,7 +127,7 @@ fn narrow_least(values: &[i32]) -> Option<i64>
 
 /// How many of the values are true.
 fn narrow_trues(values: &[i32]) -> u32
-    requires { length values.now ≤ 4096 }
+    requires { length values.now ≤ max_tile }
     ensures value { result ≡ trues values.now }
     ensures few { result ≤ length values.now }
 {
@@ -139,7 +140,7 @@ fn narrow_trues(values: &[i32]) -> u32
 
 /// 1 for true and 0 for false.
 fn narrow_weight(x: i32) -> u32
-    ensures value { result ≡ cond (is_true x) 1 0 }
+    ensures value { result ≡ cond (truth_of x) 1 0 }
     ensures small { result ≤ 1 }
 {
     if x != 0 { 1 } else { 0 }

@@ -1,6 +1,7 @@
 //! Operands of a kernel: a value at each place, or one at every place.
 
 ghost use Rattle.std.specs.Prelude.{◌≡◌, ℕ, ℤ, pos, ◌+◌, ◌<◌, ◌≤◌, length, slice_index_or};
+ghost use Rattle.arr_core.specs.Limits.{max_tile};
 ghost use Rattle.tile_kernel.specs.Lanes.{IsPair, AreAt};
 
 use std::simd::prelude::*;
@@ -72,7 +73,7 @@ pub(crate) struct Same {
 impl Operand for Same {
     ghost value = { λ s k. s.value };
 
-    ghost places = { λ s. 4096 };
+    ghost places = { λ s. max_tile };
 
     fn value(&self, _: usize) -> i64 {
         self.value
@@ -90,7 +91,7 @@ pub(crate) struct Literal<const VALUE: u16>;
 impl<const VALUE: u16> Operand for Literal<VALUE> {
     ghost value = { λ s k. pos VALUE };
 
-    ghost places = { λ s. 4096 };
+    ghost places = { λ s. max_tile };
 
     fn value(&self, _: usize) -> i64 {
         VALUE as i64

@@ -1,6 +1,7 @@
 //! A cell operation over columns.
 
 ghost use Rattle.std.specs.Prelude.{◌≡◌, ◌≤◌, length, IsTrue};
+ghost use Rattle.arr_core.specs.Limits.{max_tile};
 ghost use Rattle.wcps_mean.specs.Cells.{exact2};
 ghost use Rattle.wcps_text.specs.declared.operator.BinaryOperator.TheVariants.{Multiply, Divide};
 ghost use Rattle.tile_kernel.specs.Columns.{operate_all, each2, each_with, AreValues, AreOutcomes, IsAsRoomy};
@@ -239,7 +240,7 @@ fn try_scalar<L: Operand>(
     value: i64,
     out: &mut [i64],
 ) -> bool
-    requires few { len ≤ 4096 }
+    requires few { len ≤ max_tile }
     requires left { len ≤ L.places left.now }
     requires out { len ≤ length out.old }
     ensures { IsTrue result → AreValues len (λ k. exact2 op (L.value left.now k) value) out.new }
@@ -253,7 +254,7 @@ fn try_scalar<L: Operand>(
 /// Tries quotients by one divisor; tells whether each result is the quotient. A division by a number that the compiler
 /// knows is shifts, or a multiplication.
 fn try_quotient<L: Operand>(len: usize, left: &L, divisor: i64, out: &mut [i64]) -> bool
-    requires few { len ≤ 4096 }
+    requires few { len ≤ max_tile }
     requires left { len ≤ L.places left.now }
     requires out { len ≤ length out.old }
     ensures { IsTrue result → AreValues len (λ k. exact2 Divide (L.value left.now k) divisor) out.new }

@@ -1,6 +1,7 @@
 //! A cell operation over columns of 32 bits.
 
 ghost use Rattle.std.specs.Prelude.{◌≡◌, ◌≤◌, ◌≤ℤ◌, pos, length, map, IfSome, IsTrue};
+ghost use Rattle.arr_core.specs.Limits.{max_tile};
 ghost use Rattle.wcps_mean.specs.declared.cell.Outcome.TheVariants.{Value};
 ghost use Rattle.wcps_mean.specs.Cells.{exact2};
 ghost use Rattle.wcps_text.specs.declared.operator.BinaryOperator.TheVariants.{Divide};
@@ -108,7 +109,7 @@ fn try_narrow_scalar<L: NarrowOperand>(
     value: i32,
     out: &mut Vec<i32>,
 ) -> bool
-    requires few { len ≤ 4096 }
+    requires few { len ≤ max_tile }
     requires left { len ≤ L.places left.now }
     ensures { IsWritten result len (λ k. exact2 op (L.value left.now k) value) out.old.items out.new.items }
 {
@@ -126,7 +127,7 @@ fn try_narrow_scalar<L: NarrowOperand>(
 /// Writes quotients by one divisor above 0 in 32 bits; tells whether it did. A division by a number that the compiler
 /// knows is shifts, or a multiplication.
 fn write_quotient<L: NarrowOperand>(len: usize, left: &L, divisor: i32, out: &mut Vec<i32>) -> bool
-    requires few { len ≤ 4096 }
+    requires few { len ≤ max_tile }
     requires left { len ≤ L.places left.now }
     requires divisor { pos 1 ≤ℤ divisor }
     ensures { IsWritten result len (λ k. exact2 Divide (L.value left.now k) divisor) out.old.items out.new.items }

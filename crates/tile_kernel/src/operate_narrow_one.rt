@@ -1,6 +1,7 @@
 //! A cell operation over one column of 32 bits.
 
 ghost use Rattle.std.specs.Prelude.{◌≡◌, ◌≤◌, length, map, IsTrue};
+ghost use Rattle.arr_core.specs.Limits.{max_tile};
 ghost use Rattle.wcps_mean.specs.Cells.{exact1, operate1};
 ghost use Rattle.tile_kernel.specs.Columns.{each1};
 ghost use Rattle.tile_kernel.specs.Narrow.{IsWritten};
@@ -51,7 +52,7 @@ fn try_narrow_one<V: NarrowOperand>(
     out: &mut Vec<i32>,
 ) -> bool
     requires operand { len ≤ V.places operand.now }
-    requires few { len ≤ 4096 }
+    requires few { len ≤ max_tile }
     ensures { IsWritten result len (λ k. exact1 op (V.value operand.now k)) out.old.items out.new.items }
 {
     let none = SameNarrow { value: 0 };

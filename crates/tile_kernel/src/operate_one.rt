@@ -1,6 +1,7 @@
 //! A cell operation over one column.
 
 ghost use Rattle.std.specs.Prelude.{◌≡◌, ◌≤◌, length, map, IsTrue};
+ghost use Rattle.arr_core.specs.Limits.{max_tile};
 ghost use Rattle.wcps_mean.specs.Cells.{exact1, operate1};
 ghost use Rattle.tile_kernel.specs.Columns.{each1, AreValues, AreOutcomes, IsAsRoomy};
 ghost use Rattle.tile_kernel.specs.Repeated.{runs_shown};
@@ -102,7 +103,7 @@ fn try_column(op: UnaryOperator, operand: &View<'_>, out: &mut Vec<i64>) -> bool
 /// Tries an operation at the first `len` places; tells whether each result is its value.
 fn try_one<V: Operand>(op: UnaryOperator, len: usize, operand: &V, out: &mut [i64]) -> bool
     requires operand { len ≤ V.places operand.now }
-    requires few { len ≤ 4096 }
+    requires few { len ≤ max_tile }
     requires out { len ≤ length out.old }
     ensures { IsTrue result → AreValues len (λ k. exact1 op (V.value operand.now k)) out.new }
 {

@@ -1,6 +1,7 @@
 //! Outcomes of two columns for each of the same runs.
 
 ghost use Rattle.std.specs.Prelude.{◌≡◌, ◌≤◌, length, sum};
+ghost use Rattle.arr_core.specs.Limits.{max_tile};
 
 use crate::view::View;
 
@@ -14,5 +15,5 @@ pub(crate) struct Pair<'a> {
     ghost left_even: { length left ≡ length counts.now },
     ghost right_even: { length right ≡ length counts.now },
     ghost total: { sum counts.now ≡ len },
-    ghost few: { len ≤ 4096 },
+    ghost few: { len ≤ max_tile },
 }

@@ -2,7 +2,7 @@
 
 ghost use Rattle.std.specs.Prelude.{◌≡◌, ◌+◌, ◌*◌, ◌≤◌, ◌^◌, ℤ, pos, neg_ℤ, ◌+ℤ◌, ◌≤ℤ◌, List, ◌++◌, ◌∷◌, []};
 ghost use Rattle.std.specs.Prelude.{◌<◌, length, replicate, None, IfSome, cond, nat_lt};
-ghost use Rattle.wcps_mean.specs.Cells.{is_true};
+ghost use Rattle.arr_core.specs.Limits.{max_tile};
 ghost use Rattle.wcps_mean.specs.Condensers.{total, trues, larger, smaller};
 ghost use Rattle.wcps_mean.specs.Best.{greatest_of, least_of};
 ghost use Rattle.wcps_mean.specs.Products.{StandsFor};
@@ -12,7 +12,7 @@ ghost use Rattle.tile_kernel.specs.Selected.{selected, taken_in};
 use crate::choice::Choice;
 use crate::joined::{larger, smaller};
 use crate::operand::Operand;
-use wcps_mean::{Product, Running, is_set};
+use wcps_mean::{Product, Running, weight};
 use wcps_text::Aggregate;
 
 /// What a condenser keeps of the values at the first `len` places, each as often as it counts.
@@ -22,7 +22,7 @@ pub(crate) fn condense_values<V: Operand, C: Choice>(
     values: &V,
     choice: &C,
 ) -> Running
-    requires few { taken_in (C.times choice.now) len ≤ 4096 }
+    requires few { taken_in (C.times choice.now) len ≤ max_tile }
     requires values { len ≤ V.places values.now }
     requires choice { len ≤ C.places choice.now }
     ensures kept { Keeps op result (selected (C.times choice.now) (V.value values.now) len) }
@@ -71,10 +71,10 @@ pub(crate) fn condense_values<V: Operand, C: Choice>(
 
 /// How often the first `len` places count.
 fn places_over<V: Operand, C: Choice>(len: usize, values: &V, choice: &C) -> u64
-    requires few { taken_in (C.times choice.now) len ≤ 4096 }
+    requires few { taken_in (C.times choice.now) len ≤ max_tile }
     requires choice { len ≤ C.places choice.now }
     ensures value { result ≡ length (selected (C.times choice.now) (V.value values.now) len) }
-    ensures few { result ≤ 4096 }
+    ensures few { result ≤ max_tile }
 {
     let mut count: u64 = 0;
     for place in 0..len {
@@ -92,7 +92,7 @@ fn raised(x: i64) -> u64
 
 /// The exact sum of so many values, in one loop of sums where all of them lie near 0.
 fn sum_over<V: Operand, C: Choice>(len: usize, values: &V, choice: &C, count: u64) -> i128
-    requires few { taken_in (C.times choice.now) len ≤ 4096 }
+    requires few { taken_in (C.times choice.now) len ≤ max_tile }
     requires values { len ≤ V.places values.now }
     requires choice { len ≤ C.places choice.now }
     requires count { count ≡ length (selected (C.times choice.now) (V.value values.now) len) }
@@ -123,7 +123,7 @@ fn near_sum_over<V: Operand, C: Choice>(
     choice: &C,
     count: u64,
 ) -> Option<i128>
-    requires few { taken_in (C.times choice.now) len ≤ 4096 }
+    requires few { taken_in (C.times choice.now) len ≤ max_tile }
     requires values { len ≤ V.places values.now }
     requires choice { len ≤ C.places choice.now }
     requires count { count ≡ length (selected (C.times choice.now) (V.value values.now) len) }
@@ -146,7 +146,7 @@ fn near_sum_over<V: Operand, C: Choice>(
 
 /// The sum of so many values of any size: the low and the high halves of the raised values are summed apart.
 fn far_sum_over<V: Operand, C: Choice>(len: usize, values: &V, choice: &C, count: u64) -> i128
-    requires few { taken_in (C.times choice.now) len ≤ 4096 }
+    requires few { taken_in (C.times choice.now) len ≤ max_tile }
     requires values { len ≤ V.places values.now }
     requires choice { len ≤ C.places choice.now }
     requires count { count ≡ length (selected (C.times choice.now) (V.value values.now) len) }
@@ -244,26 +244,18 @@ fn least_over<V: Operand, C: Choice>(len: usize, values: &V, choice: &C, count: 
 
 /// How many of the values are true.
 fn trues_over<V: Operand, C: Choice>(len: usize, values: &V, choice: &C) -> u64
-    requires few { taken_in (C.times choice.now) len ≤ 4096 }
+    requires few { taken_in (C.times choice.now) len ≤ max_tile }
     requires values { len ≤ V.places values.now }
     requires choice { len ≤ C.places choice.now }
     ensures value { result ≡ trues (selected (C.times choice.now) (V.value values.now) len) }
-    ensures few { result ≤ 4096 }
+    ensures few { result ≤ max_tile }
     ensures some { result ≤ length (selected (C.times choice.now) (V.value values.now) len) }
 {
     let mut count: u64 = 0;
     for place in 0..len {
         let times = choice.times(place);
-        let one = weight(values.value(place));
+        let one = weight(values.value(place)) as u64;
         count += times * one;
     }
     count
-}
-
-/// 1 for true and 0 for false.
-fn weight(x: i64) -> u64
-    ensures value { result ≡ cond (is_true x) 1 0 }
-    ensures small { result ≤ 1 }
-{
-    if is_set(x) { 1 } else { 0 }
 }

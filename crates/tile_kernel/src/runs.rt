@@ -1,6 +1,7 @@
 //! Values that stand for runs.
 
 ghost use Rattle.std.specs.Prelude.{◌≡◌, ◌+◌, ◌<◌, ◌≤◌, ◌++◌, length, replicate, slice_get, sum, take, map, Some, IfSome, IsTrue};
+ghost use Rattle.arr_core.specs.Limits.{max_tile};
 ghost use Rattle.wcps_mean.specs.declared.cell.Outcome.TheVariants.{Value};
 ghost use Rattle.tile_kernel.specs.Repeated.{shown, runs_shown, IsSpread, StandsIn};
 
@@ -35,7 +36,7 @@ impl<'a> Runs<'a> {
 
     /// The outcomes at all places, by their values in `room`.
     pub fn spread<'b>(&'b self, room: &'b mut [i64]) -> View<'b>
-        requires { length room.old ≡ 4096 }
+        requires { length room.old ≡ max_tile }
         ensures { result ≡ runs_shown self.now }
     {
         spread_over(self.values, self.counts, room);
@@ -69,7 +70,7 @@ impl<'a> Runs<'a> {
 impl<'a> Seen<'a> {
     /// The outcomes at all places, by their values in `room` where they are kept as runs.
     pub fn spread<'b>(&'b self, room: &'b mut [i64]) -> View<'b>
-        requires { length room.old ≡ 4096 }
+        requires { length room.old ≡ max_tile }
         ensures { result ≡ shown self.now }
     {
         match self {

@@ -1,6 +1,7 @@
 //! What a column keeps, lent: an outcome for each place, or runs.
 
 ghost use Rattle.std.specs.Prelude.{◌≡◌, ◌≤◌, length, sum};
+ghost use Rattle.arr_core.specs.Limits.{max_tile};
 
 use crate::form::Form;
 use crate::view::View;
@@ -14,10 +15,10 @@ pub(crate) struct Runs<'a> {
     pub faults: &'a [Option<PointFault>],
     pub counts: &'a [u32],
     ghost total: { sum counts.now ≡ len },
-    ghost few: { len ≤ 4096 },
-    ghost values_room: { length values.now ≡ 4096 },
-    ghost faults_room: { 4096 ≤ length faults.now },
-    ghost counted: { length counts.now ≤ 4096 },
+    ghost few: { len ≤ max_tile },
+    ghost values_room: { length values.now ≡ max_tile },
+    ghost faults_room: { max_tile ≤ length faults.now },
+    ghost counted: { length counts.now ≤ max_tile },
 }
 
 /// What a column keeps.

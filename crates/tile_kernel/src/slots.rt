@@ -3,6 +3,7 @@
 ghost use Rattle.std.specs.Prelude.{◌≡◌, ◌↔◌, ℕ, ℤ, ◌+◌, ◌-◌, ◌<◌, ◌≤◌, ◌≤ℤ◌, ◌+ℤ◌, pos, [], Contains, length, IfOk, IfSome, IfNone};
 ghost use Rattle.std.specs.Ordering.{int_cmp};
 ghost use Rattle.std.specs.List.Sorted.{IsStrictlySortedBy};
+ghost use Rattle.arr_core.specs.Limits.{max_tile};
 ghost use Rattle.wcps_mean.specs.Condensers.{values};
 ghost use Rattle.tile_kernel.specs.Repeated.{runs_shown};
 ghost use Rattle.tile_kernel.specs.Keyed.{AreValuesOf, LieFrom, IsPlaceOf, IsTable};
@@ -86,7 +87,7 @@ impl Slots {
     /// Rising numbers, with a table where they lie near each other.
     fn of_rising(alloc: Global, numbers: Vec<i64>) -> Result<Slots, AllocError>
         requires rising { IsStrictlySortedBy int_cmp numbers.items }
-        requires few { length numbers.items ≤ 4096 }
+        requires few { length numbers.items ≤ max_tile }
         ensures { IfOk result (λ s. s ≡ numbers.items) }
     {
         match range(&numbers) {
@@ -159,7 +160,7 @@ fn steps(low: i64, z: i64) -> usize
 fn table_of(alloc: Global, low: i64, span: usize, numbers: &[i64]) -> Result<Vec<u32>, AllocError>
     requires rising { IsStrictlySortedBy int_cmp numbers.now }
     requires near { LieFrom low span numbers.now }
-    requires few { length numbers.now ≤ 4096 }
+    requires few { length numbers.now ≤ max_tile }
     ensures { IfOk result (λ table. IsTable low table.items numbers.now) }
 {
     let mut table = vec![in alloc; 0u32; span]?;

@@ -1,16 +1,17 @@
 //! The summary of each condenser.
 
 ghost use Rattle.std.specs.Prelude.{◌≡◌, ◌+◌, ◌*◌, ◌≤◌, ◌^◌, ℤ, pos, neg_ℤ, ◌+ℤ◌, ◌≤ℤ◌, List, length};
-ghost use Rattle.std.specs.Prelude.{None, cond};
+ghost use Rattle.std.specs.Prelude.{None};
 ghost use Rattle.arr_core.specs.Limits.{max_points};
 ghost use Rattle.wcps_mean.specs.Best.{greatest_of, least_of};
-ghost use Rattle.wcps_mean.specs.Cells.{truth, is_true};
 ghost use Rattle.wcps_mean.specs.Condensers.{combined, total, every, any, trues};
 ghost use Rattle.wcps_text.specs.declared.operator.Aggregate.TheVariants as kind;
 
-use crate::joined::{best_of, both, either, product_of};
+use crate::joined::{best_of, both, either};
 use crate::summary::Summary;
-use wcps_mean::{Outcome, PointFault, Product, Running, is_set, value_or_empty};
+use wcps_mean::{
+    Outcome, PointFault, Product, Running, is_set, truth_value, value_or_empty, weight,
+};
 use wcps_text::Aggregate;
 
 /// Of a sum: the exact sum of so many values.
@@ -64,21 +65,6 @@ pub struct SomeTrue {
 pub struct Trues {
     trues: u32,
     ghost few: { trues ≤ max_points },
-}
-
-/// A truth value as a number: 1 or 0.
-fn truth(b: bool) -> Outcome
-    ensures { result ≡ truth b }
-{
-    Outcome::Value(if b { 1 } else { 0 })
-}
-
-/// How many of one value are true.
-fn weight(x: i64) -> u32
-    ensures value { result ≡ cond (is_true x) 1 0 }
-    ensures small { result ≤ 1 }
-{
-    if is_set(x) { 1 } else { 0 }
 }
 
 impl Summary for Total {
@@ -189,7 +175,7 @@ impl Summary for Factors {
 
     fn with(self, other: Factors) -> Factors {
         Factors {
-            product: product_of(self.product, other.product),
+            product: self.product.with(other.product),
         }
     }
 
@@ -304,7 +290,7 @@ impl Summary for AllTrue {
     }
 
     fn outcome(self) -> Outcome {
-        truth(self.all)
+        truth_value(self.all)
     }
 }
 
@@ -338,7 +324,7 @@ impl Summary for SomeTrue {
     }
 
     fn outcome(self) -> Outcome {
-        truth(self.some)
+        truth_value(self.some)
     }
 }
 

@@ -1,6 +1,7 @@
 //! The outcomes of a column, lent.
 
 ghost use Rattle.std.specs.Prelude.{◌≡◌, ◌<◌, ◌≤◌, length, slice_get, Some};
+ghost use Rattle.arr_core.specs.Limits.{max_tile};
 ghost use Rattle.wcps_mean.specs.declared.cell.Outcome.TheVariants.{Value};
 ghost use Rattle.tile_kernel.specs.Columns.{outcome_of};
 
@@ -55,7 +56,7 @@ impl<'a> View<'a> {
     /// How many there are.
     pub fn len(&self) -> usize
         ensures places { result ≡ length self.now }
-        ensures few { result ≤ 4096 }
+        ensures few { result ≤ max_tile }
     {
         self.len
     }

@@ -1,5 +1,5 @@
 -- What is kept of a product is enough.
-use Rattle.std.proofs.Common.{◌≡◌, ℕ, zero, suc, ◌+◌, ◌*◌, ◌^◌, ◌<◌, ◌≤◌, min, List, [], ◌∷◌, ◌++◌, refl, sym, ap, ◌∙◌, arith, cond, not, Bool, true, false, ◌||◌, ℤ, pos, negsuc, ◌*ℤ◌, neg_ℤ, nat_abs, inl, inr, mul_assoc}
+use Rattle.std.proofs.Common.{◌≡◌, ℕ, zero, suc, ◌+◌, ◌*◌, ◌^◌, ◌<◌, ◌≤◌, min, List, [], ◌∷◌, ◌++◌, refl, sym, ap, ◌∙◌, arith, cond, not, Bool, true, false, ◌||◌, ℤ, pos, negsuc, ◌*ℤ◌, neg_ℤ, nat_abs, inl, inr, mul_assoc, mul_comm}
 use Rattle.std.proofs.Math.Nat.{mul-le-mul_right, le-mul_of_pos_right}
 use Rattle.std.proofs.lemmas.Int.{ints}
 use Rattle.std.proofs.lemmas.Bool.{cases_lt, le-ltb}
@@ -39,17 +39,26 @@ differ_false : (a : Bool) → differ a false ≡ a
 differ_false true = refl
 differ_false false = refl
 
+has_zero-append : (zs ws : List ℤ) → has_zero_of (zs ++ ws) ≡ has_zero_of zs || has_zero_of ws
+has_zero-append [] ws = refl
+has_zero-append (z ∷ zs) ws = ap (λ b. is_zero z || b) (has_zero-append zs ws) ∙ sym (or_assoc (is_zero z) (has_zero_of zs) (has_zero_of ws))
+
+sign-append : (zs ws : List ℤ) → sign_of (zs ++ ws) ≡ differ (sign_of zs) (sign_of ws)
+sign-append [] ws = refl
+sign-append (z ∷ zs) ws = ap (differ (is_negative z)) (sign-append zs ws) ∙ sym (differ_assoc (is_negative z) (sign_of zs) (sign_of ws))
+
+size-append : (zs ws : List ℤ) → size_of (zs ++ ws) ≡ size_of zs * size_of ws
+size-append [] ws = omega arith
+size-append (z ∷ zs) ws = ap (λ n. magnitude_of z * n) (size-append zs ws) ∙ sym (mul_assoc (magnitude_of z) (size_of zs) (size_of ws))
+
 has_zero-push : (zs : List ℤ) (x : ℤ) → has_zero_of (zs ++ x ∷ []) ≡ has_zero_of zs || is_zero x
-has_zero-push [] x = or_false (is_zero x)
-has_zero-push (z ∷ zs) x = ap (λ b. is_zero z || b) (has_zero-push zs x) ∙ sym (or_assoc (is_zero z) (has_zero_of zs) (is_zero x))
+has_zero-push zs x = has_zero-append zs (x ∷ []) ∙ ap (λ b. has_zero_of zs || b) (or_false (is_zero x))
 
 sign-push : (zs : List ℤ) (x : ℤ) → sign_of (zs ++ x ∷ []) ≡ differ (sign_of zs) (is_negative x)
-sign-push [] x = differ_false (is_negative x)
-sign-push (z ∷ zs) x = ap (differ (is_negative z)) (sign-push zs x) ∙ sym (differ_assoc (is_negative z) (sign_of zs) (is_negative x))
+sign-push zs x = sign-append zs (x ∷ []) ∙ ap (differ (sign_of zs)) (differ_false (is_negative x))
 
 size-push : (zs : List ℤ) (x : ℤ) → size_of (zs ++ x ∷ []) ≡ size_of zs * magnitude_of x
-size-push [] x = omega arith
-size-push (z ∷ zs) x = ap (λ n. magnitude_of z * n) (size-push zs x) ∙ sym (mul_assoc (magnitude_of z) (size_of zs) (magnitude_of x))
+size-push zs x = size-append zs (x ∷ []) ∙ ap (λ n. size_of zs * n) (omega arith)
 
 positive_one : (z : ℤ) → 0 < magnitude_of z
 positive_one (pos zero) = omega arith
@@ -80,6 +89,11 @@ cap_product c m n p =
     let more : c * n ≤ m * n = mul-le-mul_right n large in
     ap (λ k. min (k * n) c) (cap_large c m large) ∙ cap_large c (c * n) whole ∙ sym (cap_large c (m * n) (omega arith)))
 
+cap_both : (c m n : ℕ) → 0 < c → 0 < m → 0 < n → min (min m c * min n c) c ≡ min (m * n) c
+cap_both c m n r p q =
+    cap_product c m (min n c) (omega arith)
+    ∙ ap (λ k. min k c) (mul_comm m (min n c)) ∙ cap_product c n m p ∙ ap (λ k. min k c) (mul_comm n m)
+
 magnitude_is : (x : ℤ) → (x ≡ pos 0 → ⊥) → magnitude_of x ≡ nat_abs x
 magnitude_is (pos zero) h = absurd (h refl)
 magnitude_is (pos (suc n)) h = refl
@@ -103,6 +117,14 @@ stands_more p q zs x n a b c h = record {
   sign_kept = b ∙ ap (λ s. differ s (is_negative x)) h.sign_kept ∙ sym (sign-push zs x);
   size_kept = c ∙ ap (λ m. cap (m * nat_abs x)) h.size_kept ∙ ap (λ k. cap (cap (size_of zs) * k)) (sym (magnitude_is x n))
       ∙ cap_product (2 ^ 63 + 1) (size_of zs) (magnitude_of x) (positive_one x) ∙ ap cap (sym (size-push zs x));
+}
+
+pub stands_both : (a b r : Product) (zs ws : List ℤ) → r.has_zero ≡ (a.has_zero || b.has_zero) → r.negative ≡ differ a.negative b.negative → r.magnitude ≡ cap (a.magnitude * b.magnitude) → StandsFor a zs → StandsFor b ws → StandsFor r (zs ++ ws)
+stands_both a b r zs ws x y z h g = record {
+  zero_kept = x ∙ ap (λ c. c || b.has_zero) h.zero_kept ∙ ap (λ c. has_zero_of zs || c) g.zero_kept ∙ sym (has_zero-append zs ws);
+  sign_kept = y ∙ ap (λ c. differ c b.negative) h.sign_kept ∙ ap (differ (sign_of zs)) g.sign_kept ∙ sym (sign-append zs ws);
+  size_kept = z ∙ ap (λ n. cap (n * b.magnitude)) h.size_kept ∙ ap (λ n. cap (cap (size_of zs) * n)) g.size_kept
+      ∙ cap_both (2 ^ 63 + 1) (size_of zs) (size_of ws) (omega arith) (positive_all zs) (positive_all ws) ∙ ap cap (sym (size-append zs ws));
 }
 
 -- ---- the exact product

@@ -10,7 +10,7 @@ use Rattle.wcps_text.specs.declared.operator.Aggregate.TheVariants.{Sum, Product
 use Rattle.wcps_mean.specs.declared.cell.Outcome.{Outcome}
 use Rattle.wcps_mean.specs.declared.cell.Outcome.TheVariants.{Value, Fault}
 use Rattle.wcps_mean.specs.declared.cell.PointFault.{PointFault}
-use Rattle.wcps_mean.specs.Cells.{is_true}
+use Rattle.arr_core.specs.Cells.{truth_of}
 use Rattle.wcps_mean.specs.Condensers.{first_fault, values, total, larger, smaller, greatest, least, every, any, trues, combined, condensed, demanded, fault_or}
 use Rattle.wcps_mean.specs.Best.{greatest_of, least_of, top_of, bottom_of}
 use Rattle.wcps_mean.specs.Products.{StandsFor}
@@ -75,15 +75,15 @@ or_assoc : (a b c : Bool) → (a || b) || c ≡ a || (b || c)
 or_assoc true b c = refl
 or_assoc false b c = refl
 
-every-push : (zs : List ℤ) (x : ℤ) → every (zs ++ x ∷ []) ≡ every zs && is_true x
-every-push [] x = and_true (is_true x)
-every-push (z ∷ zs) x = ap (λ b. is_true z && b) (every-push zs x) ∙ sym (and_assoc (is_true z) (every zs) (is_true x))
+every-push : (zs : List ℤ) (x : ℤ) → every (zs ++ x ∷ []) ≡ every zs && truth_of x
+every-push [] x = and_true (truth_of x)
+every-push (z ∷ zs) x = ap (λ b. truth_of z && b) (every-push zs x) ∙ sym (and_assoc (truth_of z) (every zs) (truth_of x))
 
-any-push : (zs : List ℤ) (x : ℤ) → any (zs ++ x ∷ []) ≡ any zs || is_true x
-any-push [] x = or_false (is_true x)
-any-push (z ∷ zs) x = ap (λ b. is_true z || b) (any-push zs x) ∙ sym (or_assoc (is_true z) (any zs) (is_true x))
+any-push : (zs : List ℤ) (x : ℤ) → any (zs ++ x ∷ []) ≡ any zs || truth_of x
+any-push [] x = or_false (truth_of x)
+any-push (z ∷ zs) x = ap (λ b. truth_of z || b) (any-push zs x) ∙ sym (or_assoc (truth_of z) (any zs) (truth_of x))
 
-trues-push : (zs : List ℤ) (x : ℤ) → trues (zs ++ x ∷ []) ≡ trues zs + cond (is_true x) 1 0
+trues-push : (zs : List ℤ) (x : ℤ) → trues (zs ++ x ∷ []) ≡ trues zs + cond (truth_of x) 1 0
 trues-push [] x = omega arith
 trues-push (z ∷ zs) x = let e = trues-push zs x in omega arith
 
@@ -103,14 +103,14 @@ keeps_greatest r s zs x o e h = subst (λ op. Keeps op s (zs ++ x ∷ [])) (sym 
 pub keeps_least : (r s : Running) (zs : List ℤ) (x : ℤ) → r.op ≡ Least → s.best ≡ Some (bottom_of r.best x) → Keeps r.op r zs → Keeps r.op s (zs ++ x ∷ [])
 keeps_least r s zs x o e h = subst (λ op. Keeps op s (zs ++ x ∷ [])) (sym o) (let k : r.best ≡ least_of zs = subst (λ op. Keeps op r zs) o h in e ∙ ap (λ b. Some (bottom_of b x)) k ∙ sym (least_of-push zs x))
 
-pub keeps_every : (r s : Running) (zs : List ℤ) (x : ℤ) → r.op ≡ Every → s.all ≡ (r.all && is_true x) → Keeps r.op r zs → Keeps r.op s (zs ++ x ∷ [])
-keeps_every r s zs x o e h = subst (λ op. Keeps op s (zs ++ x ∷ [])) (sym o) (let k : r.all ≡ every zs = subst (λ op. Keeps op r zs) o h in e ∙ ap (λ b. b && is_true x) k ∙ sym (every-push zs x))
+pub keeps_every : (r s : Running) (zs : List ℤ) (x : ℤ) → r.op ≡ Every → s.all ≡ (r.all && truth_of x) → Keeps r.op r zs → Keeps r.op s (zs ++ x ∷ [])
+keeps_every r s zs x o e h = subst (λ op. Keeps op s (zs ++ x ∷ [])) (sym o) (let k : r.all ≡ every zs = subst (λ op. Keeps op r zs) o h in e ∙ ap (λ b. b && truth_of x) k ∙ sym (every-push zs x))
 
-pub keeps_any : (r s : Running) (zs : List ℤ) (x : ℤ) → r.op ≡ Any → s.some ≡ (r.some || is_true x) → Keeps r.op r zs → Keeps r.op s (zs ++ x ∷ [])
-keeps_any r s zs x o e h = subst (λ op. Keeps op s (zs ++ x ∷ [])) (sym o) (let k : r.some ≡ any zs = subst (λ op. Keeps op r zs) o h in e ∙ ap (λ b. b || is_true x) k ∙ sym (any-push zs x))
+pub keeps_any : (r s : Running) (zs : List ℤ) (x : ℤ) → r.op ≡ Any → s.some ≡ (r.some || truth_of x) → Keeps r.op r zs → Keeps r.op s (zs ++ x ∷ [])
+keeps_any r s zs x o e h = subst (λ op. Keeps op s (zs ++ x ∷ [])) (sym o) (let k : r.some ≡ any zs = subst (λ op. Keeps op r zs) o h in e ∙ ap (λ b. b || truth_of x) k ∙ sym (any-push zs x))
 
-pub keeps_count : (r s : Running) (zs : List ℤ) (x : ℤ) → r.op ≡ Count → s.trues ≡ r.trues + cond (is_true x) 1 0 → Keeps r.op r zs → Keeps r.op s (zs ++ x ∷ [])
-keeps_count r s zs x o e h = subst (λ op. Keeps op s (zs ++ x ∷ [])) (sym o) (let k : r.trues ≡ trues zs = subst (λ op. Keeps op r zs) o h in e ∙ ap (λ n. n + cond (is_true x) 1 0) k ∙ sym (trues-push zs x))
+pub keeps_count : (r s : Running) (zs : List ℤ) (x : ℤ) → r.op ≡ Count → s.trues ≡ r.trues + cond (truth_of x) 1 0 → Keeps r.op r zs → Keeps r.op s (zs ++ x ∷ [])
+keeps_count r s zs x o e h = subst (λ op. Keeps op s (zs ++ x ∷ [])) (sym o) (let k : r.trues ≡ trues zs = subst (λ op. Keeps op r zs) o h in e ∙ ap (λ n. n + cond (truth_of x) 1 0) k ∙ sym (trues-push zs x))
 
 -- one more value
 pub fed_value : (r s : Running) (outs : List Outcome) (x : ℤ) → s.op ≡ r.op → s.count ≡ r.count + 1 → s.fault ≡ r.fault → ((zs : List ℤ) → Keeps r.op r zs → Keeps r.op s (zs ++ x ∷ [])) → Fed r outs → Fed s (outs ++ Value x ∷ [])

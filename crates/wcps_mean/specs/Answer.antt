@@ -9,7 +9,7 @@ use Rattle.wcps_mean.specs.declared.cell.PointFault.{PointFault}
 use Rattle.wcps_mean.specs.declared.cell.Outcome.{Outcome}
 use Rattle.wcps_mean.specs.declared.cell.Outcome.TheVariants.{Value, Fault}
 use Rattle.wcps_mean.specs.declared.item.Item.{Item}
-use Rattle.wcps_mean.specs.Cells.{is_true}
+use Rattle.arr_core.specs.Cells.{truth_of}
 use Rattle.wcps_mean.specs.Meaning.{val}
 
 -- goes on with a value, or stops at a fault
@@ -29,7 +29,7 @@ joined (r ∷ rs) = then_of r (λ xs. then_of (joined rs) (λ ys. Ok (xs ++ ys))
 
 -- a value of a field as a cell: a Boolean or an integer
 abbrev pub cell_of : Bool → ℤ → Cell
-cell_of true z = cells.Bool (is_true z)
+cell_of true z = cells.Bool (truth_of z)
 cell_of false z = cells.Int z
 
 -- the cells of all fields at a point, in order, or the first fault
@@ -57,7 +57,7 @@ item_answer s i = then_of (item_cells s i) (λ cells. Ok (record { line = line_o
 -- whether a combination gives an item: it has no condition, or its condition is true
 abbrev pub chosen : (ℕ → ℕ → List ℤ → ℤ) → Option Typed → Result Bool PointFault
 chosen s None = Ok true
-chosen s (Some c) = given is_true (val s c [] [])
+chosen s (Some c) = given truth_of (val s c [] [])
 
 -- the item of a combination, nothing where its condition is false, or the first fault
 abbrev pub combination_answer : (ℕ → ℕ → List ℤ → ℤ) → CombinationTree → Result (List Item) PointFault

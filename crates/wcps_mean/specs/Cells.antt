@@ -1,6 +1,7 @@
 -- Operations on cells: exact, and then tested. A Boolean stands as 0 or 1.
 use Rattle.std.specs.Prelude.{ℕ, zero, suc, ◌/◌, ◌%◌, ◌^◌, ℤ, pos, negsuc, ◌+ℤ◌, ◌-ℤ◌, ◌*ℤ◌, neg_ℤ, nat_abs, int_div, int_le, int_lt, nat_lt, nat_eq, cond, Bool, true, false, not, ◌&&◌, ◌||◌, ◌≡◌, Result, Ok, Err}
 use Rattle.std.specs.Int.{w64, cast_unsigned}
+use Rattle.arr_core.specs.Cells.{truth_of}
 use Rattle.wcps_text.specs.declared.operator.UnaryOperator.{UnaryOperator}
 use Rattle.wcps_text.specs.declared.operator.UnaryOperator.TheVariants.{Negate, Plus, Not, Absolute}
 use Rattle.wcps_text.specs.declared.operator.BinaryOperator.{BinaryOperator}
@@ -26,12 +27,6 @@ number false = pos 0
 
 abbrev pub truth : Bool → Outcome
 truth b = Value (number b)
-
--- whether a number that stands for a truth value says true
-abbrev pub is_true : ℤ → Bool
-is_true (pos zero) = false
-is_true (pos (suc n)) = true
-is_true (negsuc n) = true
 
 abbrev pub int_eq : ℤ → ℤ → Bool
 int_eq x y = int_le x y && int_le y x
@@ -60,7 +55,7 @@ differ false b = b
 abbrev pub exact1 : UnaryOperator → ℤ → Outcome
 exact1 Negate x = ranged (neg_ℤ x)
 exact1 Plus x = Value x
-exact1 Not x = truth (not (is_true x))
+exact1 Not x = truth (not (truth_of x))
 exact1 Absolute x = ranged (pos (nat_abs x))
 
 -- of two values
@@ -75,9 +70,9 @@ exact2 Greater x y = truth (int_lt y x)
 exact2 GreaterEqual x y = truth (int_le y x)
 exact2 Equal x y = truth (int_eq x y)
 exact2 NotEqual x y = truth (not (int_eq x y))
-exact2 And x y = truth (is_true x && is_true y)
-exact2 Or x y = truth (is_true x || is_true y)
-exact2 Xor x y = truth (differ (is_true x) (is_true y))
+exact2 And x y = truth (truth_of x && truth_of y)
+exact2 Or x y = truth (truth_of x || truth_of y)
+exact2 Xor x y = truth (differ (truth_of x) (truth_of y))
 exact2 Bit x y = bit x y
 
 -- the operand's fault, else the operation's own outcome

@@ -6,7 +6,8 @@ use Rattle.wcps_mean.specs.declared.cell.PointFault.{PointFault}
 use Rattle.wcps_mean.specs.declared.cell.PointFault.TheVariants.{EmptyCondense}
 use Rattle.wcps_mean.specs.declared.cell.Outcome.{Outcome}
 use Rattle.wcps_mean.specs.declared.cell.Outcome.TheVariants.{Value, Fault}
-use Rattle.wcps_mean.specs.Cells.{ranged, truth, is_true}
+use Rattle.arr_core.specs.Cells.{truth_of}
+use Rattle.wcps_mean.specs.Cells.{ranged, truth}
 
 -- the first fault in the list
 abbrev pub first_fault : List Outcome → Option PointFault
@@ -49,17 +50,17 @@ least m (z ∷ zs) = least (smaller m z) zs
 -- whether all say true
 abbrev pub every : List ℤ → Bool
 every [] = true
-every (z ∷ zs) = is_true z && every zs
+every (z ∷ zs) = truth_of z && every zs
 
 -- whether some one says true
 abbrev pub any : List ℤ → Bool
 any [] = false
-any (z ∷ zs) = is_true z || any zs
+any (z ∷ zs) = truth_of z || any zs
 
 -- how many say true
 abbrev pub trues : List ℤ → ℕ
 trues [] = 0
-trues (z ∷ zs) = cond (is_true z) 1 0 + trues zs
+trues (z ∷ zs) = cond (truth_of z) 1 0 + trues zs
 
 -- the quotient by a number above 0, rounded down
 abbrev pub floor_of : ℤ → ℕ → ℤ
@@ -93,4 +94,4 @@ condensed op outs = fault_or (first_fault outs) (combined op (values outs))
 -- and the value is not demanded; or the value's outcome
 abbrev pub demanded : Outcome → Outcome → List Outcome
 demanded (Fault f) value = Fault f ∷ []
-demanded (Value c) value = cond (is_true c) (value ∷ []) []
+demanded (Value c) value = cond (truth_of c) (value ∷ []) []

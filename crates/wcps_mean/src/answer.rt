@@ -231,6 +231,13 @@ fn count_fields(item: &TypedItem) -> u32
     item.booleans.len() as u32
 }
 
+/// The number of fields of an item as 32 bits hold it: the greatest such number where there are more.
+pub fn field_count(fields: usize) -> u32
+    ensures { result ≡ field_count fields }
+{
+    fields.min(4_294_967_295) as u32
+}
+
 /// How many points a run along the last axis has.
 pub fn run_length(axes: &[Axis]) -> u64
     ensures { result ≡ line_of axes.now }

@@ -3,9 +3,10 @@
 //! A Boolean stands as 0 or 1; the static kind of an expression says which it is. Arithmetic is exact and then tested
 //! against 64 bits. (WCPS, OGC 08-068r2: induced operations; the range of the integers is this server's own.)
 
-ghost use Rattle.std.specs.Prelude.{◌≡◌, ℤ, ◌+ℤ◌, ◌-ℤ◌, ◌*ℤ◌, neg_ℤ, pos, nat_abs, int_lt, int_le, SomeIff, FitsSigned, not, ◌&&◌, ◌||◌};
+ghost use Rattle.std.specs.Prelude.{◌≡◌, ◌≤◌, ℤ, ◌+ℤ◌, ◌-ℤ◌, ◌*ℤ◌, neg_ℤ, pos, nat_abs, int_lt, int_le, SomeIff, FitsSigned, cond, not, ◌&&◌, ◌||◌};
 ghost use Rattle.std.specs.Int.{w64};
-ghost use Rattle.wcps_mean.specs.Cells.{ranged, truth, is_true, quotient, bit, int_eq, exact1, exact2, operate1, operate2};
+ghost use Rattle.arr_core.specs.Cells.{truth_of};
+ghost use Rattle.wcps_mean.specs.Cells.{ranged, truth, quotient, bit, int_eq, exact1, exact2, operate1, operate2};
 
 use arr_core::Refusal;
 use wcps_text::{BinaryOperator, UnaryOperator};
@@ -70,7 +71,7 @@ pub(crate) fn range_test(exact: i128) -> Outcome
 }
 
 /// A truth value as a cell's number: 1 or 0.
-pub(crate) fn truth_value(b: bool) -> Outcome
+pub fn truth_value(b: bool) -> Outcome
     ensures { result ≡ truth b }
 {
     Outcome::Value(if b { 1 } else { 0 })
@@ -135,9 +136,17 @@ fn bit_of(x: i64, place: i64) -> Outcome
 
 /// Whether a Boolean that stands as a number is true.
 pub fn is_set(x: i64) -> bool
-    ensures { result ≡ is_true x }
+    ensures { result ≡ truth_of x }
 {
     x != 0
+}
+
+/// 1 for a Boolean that is true and 0 for one that is false.
+pub fn weight(x: i64) -> u32
+    ensures value { result ≡ cond (truth_of x) 1 0 }
+    ensures small { result ≤ 1 }
+{
+    if is_set(x) { 1 } else { 0 }
 }
 
 /// An operation on a value.

@@ -1,6 +1,6 @@
 //! Evaluation at a point.
 
-ghost use Rattle.std.specs.Prelude.{◌≡◌, ℕ, ◌+◌, ◌<◌, ◌≤◌, ℤ, pos, List, [], ◌∷◌, ◌++◌, length, slice_index_or, OnOk, map, drop, insert, vec_len};
+ghost use Rattle.std.specs.Prelude.{◌≡◌, ℕ, ◌+◌, ◌<◌, ◌≤◌, ℤ, List, [], ◌∷◌, ◌++◌, length, OnOk, map, drop, insert, vec_len};
 ghost use Rattle.arr_core.specs.Domains.{points as box_points};
 ghost use Rattle.wcps_mean.specs.declared.cell.Outcome.{Outcome};
 ghost use Rattle.wcps_mean.specs.Cells.{at_position, TestsAs};
@@ -14,6 +14,7 @@ ghost use Rattle.wcps_types.specs.Renamed.{renamed};
 
 use crate::cell::{Outcome, PointFault, operate, operate_both};
 use crate::cells::{CellError, Cells};
+use crate::lookup::{coordinate_at, item_at, place_at};
 use crate::points::push_point;
 use crate::running::Running;
 use crate::scope::Scope;
@@ -38,9 +39,9 @@ pub(crate) fn eval<C: Cells>(
 {
     match e {
         Node::Number(z) => Ok(Outcome::Value(*z)),
-        Node::Iterator(k) => Ok(Outcome::Value(iterator(&scope.iterators, *k))),
+        Node::Iterator(k) => Ok(Outcome::Value(coordinate_at(&scope.iterators, *k))),
         Node::Coverage(variable) => {
-            let place = coverage_at(scope.coverages, *variable);
+            let place = place_at(scope.coverages, *variable);
             let z = cells.cell(place, field, &scope.points[scope.base..])?;
             Ok(Outcome::Value(z))
         }
@@ -236,36 +237,6 @@ fn put_in(list: &mut Vec<i32>, at: usize, z: i32) -> Result<(), AllocError>
 {
     list.insert(at, z)?;
     Ok(())
-}
-
-/// The coverage that a variable stands for.
-fn coverage_at(coverages: &[usize], variable: usize) -> usize
-    ensures { result ≡ slice_index_or coverages.now variable 0 }
-{
-    match coverages.get(variable) {
-        Some(coverage) => *coverage,
-        None => 0,
-    }
-}
-
-/// The number that an iterator is bound to.
-fn iterator(env: &[i32], k: usize) -> i64
-    ensures { result ≡ slice_index_or env.now k (pos 0) }
-{
-    match env.get(k) {
-        Some(x) => *x as i64,
-        None => 0,
-    }
-}
-
-/// The item at a place, or 0 where there is none.
-pub fn item_at(items: &[i64], place: u64) -> i64
-    ensures { result ≡ slice_index_or items.now place (pos 0) }
-{
-    match items.get(place as usize) {
-        Some(z) => *z,
-        None => 0,
-    }
 }
 
 /// The coordinate of a position that lies in its interval, or its fault.

@@ -57,6 +57,17 @@ impl Product {
         }
     }
 
+    /// With the factors of another product.
+    pub fn with(self, other: Product) -> Product
+        ensures { (zs ws : List ℤ) → StandsFor self zs → StandsFor other ws → StandsFor result (zs ++ ws) }
+    {
+        Product {
+            has_zero: self.has_zero || other.has_zero,
+            negative: are_unlike(self.negative, other.negative),
+            magnitude: capped(self.magnitude, other.magnitude),
+        }
+    }
+
     /// The exact product, tested.
     pub fn finish(self) -> Outcome
         ensures { (zs : List ℤ) → StandsFor self zs → result ≡ ranged (product zs) }

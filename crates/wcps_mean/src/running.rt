@@ -1,12 +1,11 @@
 //! A condenser that is fed the outcomes of its points in row-major order.
 
-ghost use Rattle.std.specs.Prelude.{◌≡◌, ℕ, ◌+◌, ◌*◌, ◌<◌, ◌≤◌, ◌^◌, ℤ, pos, neg_ℤ, ◌+ℤ◌, ◌≤ℤ◌, List, [], ◌∷◌, length, cond, IsTrue, IsFalse};
+ghost use Rattle.std.specs.Prelude.{◌≡◌, ℕ, ◌+◌, ◌*◌, ◌<◌, ◌≤◌, ◌^◌, ℤ, pos, neg_ℤ, ◌+ℤ◌, ◌≤ℤ◌, List, [], ◌∷◌, length, IsTrue, IsFalse};
 ghost use Rattle.arr_core.specs.Limits.{max_points};
-ghost use Rattle.wcps_mean.specs.Cells.{is_true};
 ghost use Rattle.wcps_mean.specs.Condensers.{combined, total, floor_of};
 ghost use Rattle.wcps_mean.specs.Best.{greatest_of, least_of, top_of, bottom_of};
 
-use crate::cell::{Outcome, PointFault, is_set, range_test, truth_value};
+use crate::cell::{Outcome, PointFault, is_set, range_test, truth_value, weight};
 use crate::product::Product;
 use wcps_text::Aggregate;
 
@@ -179,14 +178,6 @@ fn lesser(before: Option<i64>, x: i64) -> i64
         None => x,
         Some(m) => { if m <= x { m } else { x } }
     }
-}
-
-/// 1 for true and 0 for false.
-fn weight(x: i64) -> u32
-    ensures value { result ≡ cond (is_true x) 1 0 }
-    ensures small { result ≤ 1 }
-{
-    if is_set(x) { 1 } else { 0 }
 }
 
 /// The value, or the fault of a greatest or least of nothing.

@@ -1,6 +1,6 @@
 //! Bodies whose closed folds become passes. A body is rewritten in its place.
 
-ghost use Rattle.std.specs.Prelude.{◌≡◌, ◌++◌, [], ◌∷◌, OnOk, slice_index_or};
+ghost use Rattle.std.specs.Prelude.{◌≡◌, ◌++◌, [], ◌∷◌, OnOk};
 ghost use Rattle.plan_ir.specs.Bodies.{body_view};
 ghost use Rattle.plan_ir.specs.Plans.{pass_view};
 ghost use Rattle.plan_rewrite.specs.HoistedParts.{body_hoisted, deeper_hoisted, inner_pass, inner_passes};
@@ -11,6 +11,7 @@ use crate::variables::{with_interval, with_spans};
 use plan_ir::{Body, Fold, Interval, fold_is_from};
 use std::alloc::{AllocError, Global};
 use std::mem;
+use wcps_mean::place_at;
 
 /// What is around a body: the place of each old register, and the interval of each variable.
 #[derive(Clone, Copy)]
@@ -112,14 +113,4 @@ fn push_pass(passes: &mut Vec<Fold>, pass: Box<Fold>) -> Result<(), AllocError>
 {
     passes.push(Box::into_inner(pass))?;
     Ok(())
-}
-
-/// The place of an old register.
-fn place_at(regs: &[usize], k: usize) -> usize
-    ensures { result ≡ slice_index_or regs.now k 0 }
-{
-    match regs.get(k) {
-        Some(place) => *place,
-        None => 0,
-    }
 }

@@ -20,7 +20,7 @@ eval-returns-in_ok-z-in-Read-clause-value g t c h =
     let coverages = c.args.frame.now.coverages.items in
     let vars = c.args.vars.now.items in
     let fits : SFits w64 c.in_ok-z-in-Read.z = search rules in
-    let place = c.coverage_at-place.ensures ∙ ap (λ l. slice_index_or l c.in-Read.coverage 0) c.deref-in-Read-3.ensures.value in
+    let place = c.place_at-place.ensures ∙ ap (λ l. slice_index_or l c.in-Read.coverage 0) c.deref-in-Read-3.ensures.value in
     let point = c.deref-in-Read-4.ensures.value ∙ c.in_ok-point-in-Read.ensures
     ∙ ap (λ v. numbers_at v c.deref-in-Read-2.result.now) c.deref-in-Read.ensures.value
     ∙ ap (numbers_at vars) c.deref-in-Read-2.ensures.value in

@@ -54,7 +54,7 @@ returns-clause-fits g c =
       below = places_below i qs (cells_told places own all (length places)) inside (written_places i qs places all (cells_told places own all (length places)) ranks columns written);
       fresh = λ z. c.in_ok-fresh.ensures z ∙ ap (λ n. count i.domain * n) (sym width);
       line = c.run_length.ensures ∙ ap line_of c.axes.ensures.value;
-      fields = c.count_of.ensures ∙ ap field_count (ap length c.deref-4.ensures.value ∙ sym width);
+      fields = c.field_count.ensures ∙ ap field_count (let n = c.len-2.ensures in omega (arith, n, width));
     }
 
 pub returns-clause-tells : goal.returns-clause-tells

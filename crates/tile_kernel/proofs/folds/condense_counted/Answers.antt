@@ -1,6 +1,6 @@
 -- The condition's values choose the runs.
 use Rattle.std.proofs.Common.{arith, length, cond, get_or}
-use Rattle.wcps_mean.specs.Cells.{is_true}
+use Rattle.arr_core.specs.Cells.{truth_of}
 use Rattle.tile_kernel.proofs.Tellings.{runs_where, at_most, counted_all, chosen_at_most}
 use Rattle.tile_kernel.proofs.folds.condense_counted.Goals as goal
 
@@ -9,7 +9,7 @@ condense_view-requires-clause-few g c =
     let v = g.V.Operand.value c.args.condition in
     let ns = c.args.counts.now in
     let n = length c.args.column.now in
-    let m = at_most (λ k. cond (is_true (v k)) (get_or ns k 0) 0) (λ k. get_or ns k 0) n (λ k. chosen_at_most (is_true (v k)) (get_or ns k 0)) in
+    let m = at_most (λ k. cond (truth_of (v k)) (get_or ns k 0) 0) (λ k. get_or ns k 0) n (λ k. chosen_at_most (truth_of (v k)) (get_or ns k 0)) in
     omega (arith, m, counted_all ns n c.requires.column, c.requires.few)
 
 pub returns : goal.returns

@@ -1,7 +1,7 @@
 -- The condition's values choose the places, and one value for all of them chooses each place or none.
 use Rattle.std.proofs.Common.{◌≡◌, ◌∙◌, ap, sym, arith, refl, length, SFits, w64, rules, true, false}
 use Rattle.std.proofs.lemmas.Int.{to_z-of_z}
-use Rattle.wcps_mean.specs.Cells.{is_true}
+use Rattle.arr_core.specs.Cells.{truth_of}
 use Rattle.tile_kernel.proofs.Places.{places_are, value_there, narrow_places, narrow_there, same_there}
 use Rattle.tile_kernel.proofs.Tellings.{each_where_true, each_where_false}
 use Rattle.tile_kernel.proofs.folds.condense_each_where.Goals as goal
@@ -25,13 +25,13 @@ returns-in-Narrow c =
 pub returns-then-is_set : goal.returns-then-is_set
 returns-then-is_set c =
     let fits : SFits w64 c.in-Value.x = search rules in
-    let yes : is_true c.in-Value.x ≡ true = ap is_true (sym (to_z-of_z w64 c.in-Value.x fits)) ∙ sym c.is_set.ensures ∙ c.if-is_set.true in
+    let yes : truth_of c.in-Value.x ≡ true = ap truth_of (sym (to_z-of_z w64 c.in-Value.x fits)) ∙ sym c.is_set.ensures ∙ c.if-is_set.true in
     each_where_true c.condense_each.result c.args.op c.args.condition.now c.args.column.now c.in-Value.x c.requires
     (λ k lt. same_there _ _ _ _ _ _ _ k c.in-Same.is c.condition.view_is c.condition.invariant lt ∙ c.in-Value.is) yes c.condense_each.ensures.stands c.condense_each.ensures.op
 
 pub returns-in-Value : goal.returns-in-Value
 returns-in-Value c =
     let fits : SFits w64 c.in-Value.x = search rules in
-    let no : is_true c.in-Value.x ≡ false = ap is_true (sym (to_z-of_z w64 c.in-Value.x fits)) ∙ sym c.is_set.ensures ∙ c.if-is_set.false in
+    let no : truth_of c.in-Value.x ≡ false = ap truth_of (sym (to_z-of_z w64 c.in-Value.x fits)) ∙ sym c.is_set.ensures ∙ c.if-is_set.false in
     each_where_false c.empty.result c.args.op c.args.condition.now c.args.column.now c.in-Value.x c.requires
     (λ k lt. same_there _ _ _ _ _ _ _ k c.in-Same.is c.condition.view_is c.condition.invariant lt ∙ c.in-Value.is) no c.empty.ensures.op c.empty.ensures.stands

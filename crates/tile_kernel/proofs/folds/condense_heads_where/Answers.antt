@@ -1,7 +1,7 @@
 -- The condition's values choose the runs, and one value for all of them chooses each run or none.
 use Rattle.std.proofs.Common.{◌≡◌, ◌∙◌, ap, sym, arith, refl, length, SFits, w64, rules, true, false}
 use Rattle.std.proofs.lemmas.Int.{to_z-of_z}
-use Rattle.wcps_mean.specs.Cells.{is_true}
+use Rattle.arr_core.specs.Cells.{truth_of}
 use Rattle.tile_kernel.proofs.Places.{places_are, value_there, narrow_places, narrow_there, same_there}
 use Rattle.tile_kernel.proofs.Tellings.{runs_where_true, runs_where_false, counted_all}
 use Rattle.tile_kernel.proofs.folds.condense_heads_where.Goals as goal
@@ -30,13 +30,13 @@ returns-in-Narrow c =
 pub returns-then-is_set : goal.returns-then-is_set
 returns-then-is_set c =
     let fits : SFits w64 c.in-Value.x = search rules in
-    let yes : is_true c.in-Value.x ≡ true = ap is_true (sym (to_z-of_z w64 c.in-Value.x fits)) ∙ sym c.is_set.ensures ∙ c.if-is_set.true in
+    let yes : truth_of c.in-Value.x ≡ true = ap truth_of (sym (to_z-of_z w64 c.in-Value.x fits)) ∙ sym c.is_set.ensures ∙ c.if-is_set.true in
     runs_where_true c.condense_view.result c.args.op c.args.chosen.now c.args.column.now c.args.counts.now c.in-Value.x c.requires.condition c.requires.column
     (λ k lt. same_there _ _ _ _ _ _ _ k c.in-Same.is c.chosen.view_is c.chosen.invariant lt ∙ c.in-Value.is) yes c.condense_view.ensures.stands c.condense_view.ensures.op
 
 pub returns-in-Value : goal.returns-in-Value
 returns-in-Value c =
     let fits : SFits w64 c.in-Value.x = search rules in
-    let no : is_true c.in-Value.x ≡ false = ap is_true (sym (to_z-of_z w64 c.in-Value.x fits)) ∙ sym c.is_set.ensures ∙ c.if-is_set.false in
+    let no : truth_of c.in-Value.x ≡ false = ap truth_of (sym (to_z-of_z w64 c.in-Value.x fits)) ∙ sym c.is_set.ensures ∙ c.if-is_set.false in
     runs_where_false c.empty.result c.args.op c.args.chosen.now c.args.column.now c.args.counts.now c.in-Value.x c.requires.condition c.requires.column
     (λ k lt. same_there _ _ _ _ _ _ _ k c.in-Same.is c.chosen.view_is c.chosen.invariant lt ∙ c.in-Value.is) no c.empty.ensures.op c.empty.ensures.stands

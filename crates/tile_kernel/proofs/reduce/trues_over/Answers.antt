@@ -2,7 +2,7 @@
 use Rattle.std.proofs.Common.{◌≡◌, ◌*◌, ◌∙◌, ap, arith, rules, SFits, w64, cond}
 use Rattle.std.proofs.Math.Nat.{mul-le-mul_left}
 use Rattle.std.proofs.lemmas.Int.{to_z-of_z}
-use Rattle.wcps_mean.specs.Cells.{is_true}
+use Rattle.arr_core.specs.Cells.{truth_of}
 use Rattle.tile_kernel.specs.Selected.{taken_in}
 use Rattle.tile_kernel.proofs.Reductions.{trues_next, length_next, selected_before, length-selected}
 use Rattle.tile_kernel.proofs.reduce.trues_over.Goals as goal
@@ -32,9 +32,9 @@ loop-place-preserved g c =
     let next = trues_next t v k in
     let more = length_next t v k in
     let p = mul-le-mul_left c.times-times.result c.weight-one.ensures.small in
-    let product : c.times-times.result * c.weight-one.result ≡ t k * cond (is_true (v k)) 1 0 =
+    let product : c.times-times.result * c.weight-one.result ≡ t k * cond (truth_of (v k)) 1 0 =
     ap (λ n. n * c.weight-one.result) c.times-times.ensures
-    ∙ ap (λ n. t k * n) (c.weight-one.ensures.value ∙ ap (λ x. cond (is_true x) 1 0) (to_z-of_z w64 c.value.result fits ∙ c.value.ensures)) in
+    ∙ ap (λ n. t k * n) (c.weight-one.ensures.value ∙ ap (λ x. cond (truth_of x) 1 0) (to_z-of_z w64 c.value.result fits ∙ c.value.ensures)) in
     record { value = omega (arith, c.loop-place.invariant.value, next, product); few = omega (arith, p, more, c.times-times.ensures, c.loop-place.invariant.few) }
 
 pub returns-clause-few : goal.returns-clause-few

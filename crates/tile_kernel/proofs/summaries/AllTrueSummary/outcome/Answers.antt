@@ -5,4 +5,4 @@ use Rattle.tile_kernel.proofs.Condensing.{every_unordered}
 use Rattle.tile_kernel.proofs.summaries.AllTrueSummary.outcome.Goals as goal
 
 pub returns : goal.returns
-returns c = λ told ordered p h. c.truth.ensures ∙ ap truth (every_unordered c.args.self.all told ordered p h)
+returns c = λ told ordered p h. c.truth_value.ensures ∙ ap truth (every_unordered c.args.self.all told ordered p h)
