@@ -20,7 +20,7 @@ use Rattle.block_file.proofs.Times.{one_same, times_none, times-cons}
 use Rattle.catalogue.proofs.Held.{contains_here, contains_later, contains_cases, nothing_in_nil}
 use Rattle.catalogue.specs.Bytes.{catalogue_bytes}
 use Rattle.catalogue.specs.Signatures.{names_of, IsCatalogue}
-use Rattle.metadata.specs.Metadata.{IsMetadata, IsOfVersion, AreCounted}
+use Rattle.metadata.specs.Metadata.{IsMetadata, IsOfVersion, AreCounted, indexes_of}
 use Rattle.tile_index.specs.declared.index.TileIndex.{TileIndex}
 use Rattle.tile_store.specs.Listing.{listed}
 use Rattle.raster_store.specs.Views.{Index, RasterView, listed_fields, listed_all, metadata_size, reserve, coverage_in, coverages_in, AreBelow}
@@ -28,7 +28,7 @@ use Rattle.raster_store.proofs.Totals.{listed_all-nil, listed_all-push}
 use Rattle.coverage_server.specs.Disk.{AreTiles, DiskView, IsTileBlock, IsLaidOut, HoldsStore, IsWant, IsNoStore, Lists}
 use Rattle.tile_store.specs.declared.fault.Fault.{Fault}
 use Rattle.tile_store.specs.declared.fault.Fault.TheVariants as device
-use Rattle.coverage_server.specs.Opening.{items_of, IsListed, ClaimsListed, CannotClaim, ClaimsLayout, IsNotLaidOut, Departs, TellsAttach}
+use Rattle.coverage_server.specs.Opening.{IsListed, ClaimsListed, CannotClaim, ClaimsLayout, IsNotLaidOut, Departs, TellsAttach}
 use Rattle.block_file.specs.declared.fault.OpenFault.{OpenFault}
 use Rattle.block_file.specs.declared.fault.OpenFault.TheVariants as opening
 use Rattle.coverage_server.specs.Sessions.{IsNotOpened}
@@ -41,15 +41,15 @@ use Rattle.coverage_server.proofs.FreeLemmas.{IsReady, free_unlisted}
 use Rattle.coverage_server.proofs.StoreLemmas.{fresh_found}
 
 -- one more coverage of those whose blocks are listed
-pub items_more : (indexes : List (Vec TileIndex Global)) (j : ℕ) (d : Vec TileIndex Global) → j < length indexes → items_of (take (j + 1) indexes) ≡ items_of (take j indexes) ++ (get_or indexes j d).items ∷ []
+pub items_more : (indexes : List (Vec TileIndex Global)) (j : ℕ) (d : Vec TileIndex Global) → j < length indexes → indexes_of (take (j + 1) indexes) ≡ indexes_of (take j indexes) ++ (get_or indexes j d).items ∷ []
 items_more indexes j d h =
-    ap items_of (take_more indexes j d h) ∙ map-append (λ (v : Vec TileIndex Global). v.items) (take j indexes) (get_or indexes j d ∷ [])
+    ap indexes_of (take_more indexes j d h) ∙ map-append (λ (v : Vec TileIndex Global). v.items) (take j indexes) (get_or indexes j d ∷ [])
 
 pub listed_more : (indexes : List (Vec TileIndex Global)) (j : ℕ) (d : Vec TileIndex Global) (k : ℕ) → j < length indexes → d ≡ get_or indexes j d
-    → listed_all (items_of (take (j + 1) indexes)) k ≡ listed_all (items_of (take j indexes)) k + listed_fields d.items k
+    → listed_all (indexes_of (take (j + 1) indexes)) k ≡ listed_all (indexes_of (take j indexes)) k + listed_fields d.items k
 listed_more indexes j d k h is =
-    ap (λ (l : List (List Index)). listed_all l k) (items_more indexes j d h) ∙ listed_all-push k (items_of (take j indexes)) (get_or indexes j d).items
-    ∙ ap (λ (v : Vec TileIndex Global). listed_all (items_of (take j indexes)) k + listed_fields v.items k) (sym is)
+    ap (λ (l : List (List Index)). listed_all l k) (items_more indexes j d h) ∙ listed_all-push k (indexes_of (take j indexes)) (get_or indexes j d).items
+    ∙ ap (λ (v : Vec TileIndex Global). listed_all (indexes_of (take j indexes)) k + listed_fields v.items k) (sym is)
 
 -- the coverages that are attached: those of the first signatures, one for each of the first indexes
 pub record IsAttached (content : List ℕ) (signatures : List Signature) (indexes : List (List Index)) (store : Store) (held : List (List Index)) (place : ℕ) : Type 0 where
@@ -421,8 +421,8 @@ not_opened fault old left why content honest inside tells = record {
 }
 
 -- the coverages that are attached, the next one, and those that are left
-pub items_split : (all yielded rest later : List (Vec TileIndex Global)) (x : Vec TileIndex Global) → all ≡ yielded ++ rest → rest ≡ x ∷ later → items_of all ≡ items_of yielded ++ x.items ∷ items_of later
-items_split all yielded rest later x e next = ap items_of (e ∙ ap (λ (r : List (Vec TileIndex Global)). yielded ++ r) next) ∙ map-append (λ (v : Vec TileIndex Global). v.items) yielded (x ∷ later)
+pub items_split : (all yielded rest later : List (Vec TileIndex Global)) (x : Vec TileIndex Global) → all ≡ yielded ++ rest → rest ≡ x ∷ later → indexes_of all ≡ indexes_of yielded ++ x.items ∷ indexes_of later
+items_split all yielded rest later x e next = ap indexes_of (e ∙ ap (λ (r : List (Vec TileIndex Global)). yielded ++ r) next) ∙ map-append (λ (v : Vec TileIndex Global). v.items) yielded (x ∷ later)
 
 -- the next place is one of the signatures
 pub place_within : (content : List ℕ) (signatures : List Signature) (before : List (List Index)) (new : List Index) (after all : List (List Index)) (store : Store) (held : List (List Index)) (place : ℕ)
@@ -444,15 +444,15 @@ next_tiles content signatures before new after all store held place s a counted 
 
 -- all coverages are attached
 pub all_attached : (content : List ℕ) (signatures : List Signature) (all : List (List Index)) (yielded rest : List (Vec TileIndex Global)) (store : Store) (held : List (List Index)) (place : ℕ)
-    → IsAttached content signatures (items_of yielded) store held place → AreCounted signatures all → all ≡ items_of (yielded ++ rest) → rest ≡ []
+    → IsAttached content signatures (indexes_of yielded) store held place → AreCounted signatures all → all ≡ indexes_of (yielded ++ rest) → rest ≡ []
     → (store ≡ coverages_in content signatures all) × (held ≡ all) × AreTiles signatures all
 all_attached content signatures all yielded rest store held place a counted is none =
-    let same : all ≡ items_of yielded = is ∙ ap (λ (r : List (Vec TileIndex Global)). items_of (yielded ++ r)) none ∙ ap items_of (append-nil yielded) in
+    let same : all ≡ indexes_of yielded = is ∙ ap (λ (r : List (Vec TileIndex Global)). indexes_of (yielded ++ r)) none ∙ ap indexes_of (append-nil yielded) in
     let long : length signatures ≤ place = omega (arith, a.count, counted_all signatures all counted, ap (λ (l : List (List Index)). length l) same) in
     let taken : take place signatures ≡ signatures = take_all place signatures long in (
-      a.values ∙ ap (λ (l : List Signature). coverages_in content l (items_of yielded)) taken ∙ ap (λ (l : List (List Index)). coverages_in content signatures l) (sym same),
+      a.values ∙ ap (λ (l : List Signature). coverages_in content l (indexes_of yielded)) taken ∙ ap (λ (l : List (List Index)). coverages_in content signatures l) (sym same),
       a.listed ∙ sym same,
-      subst (λ (l : List (List Index)). AreTiles signatures l) (sym same) (subst (λ (l : List Signature). AreTiles l (items_of yielded)) taken a.tiles),
+      subst (λ (l : List (List Index)). AreTiles signatures l) (sym same) (subst (λ (l : List Signature). AreTiles l (indexes_of yielded)) taken a.tiles),
     )
 
 -- what metadata lists is counted
@@ -464,7 +464,7 @@ listed_counted v metadata signatures indexes l = elim (some_bytes metadata) [
   | inr h ↦ (l.read h).counted
 ]
 
-pub items_push : (yielded : List (Vec TileIndex Global)) (x : Vec TileIndex Global) → items_of (yielded ++ x ∷ []) ≡ items_of yielded ++ x.items ∷ []
+pub items_push : (yielded : List (Vec TileIndex Global)) (x : Vec TileIndex Global) → indexes_of (yielded ++ x ∷ []) ≡ indexes_of yielded ++ x.items ∷ []
 items_push yielded x = map-append (λ (v : Vec TileIndex Global). v.items) yielded (x ∷ [])
 
 pub none_left : {X : Type 0} (xs : List X) → length xs ≡ 0 → xs ≡ []

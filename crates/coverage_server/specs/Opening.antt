@@ -1,15 +1,13 @@
 -- What the parts of an opening make of a file.
-use Rattle.std.specs.Prelude.{◌≡◌, ℕ, ◌+◌, ◌<◌, ◌≤◌, IsTrue, List, [], ◌∷◌, ◌++◌, length, map, Vec, ⊤}
-use Rattle.std.specs.declared.alloc.Global.{Global}
+use Rattle.std.specs.Prelude.{◌≡◌, ℕ, ◌+◌, ◌<◌, ◌≤◌, IsTrue, List, [], ◌∷◌, ◌++◌, length, ⊤}
 use Rattle.arr_core.specs.declared.signature.Signature.{Signature}
 use Rattle.block_file.specs.State.{BlocksState, times}
 use Rattle.block_file.specs.Uses.{CanClaim, Claims, uses_of}
 use Rattle.block_file.specs.View.{BlockFileView}
 use Rattle.catalogue.specs.Bytes.{catalogue_bytes}
 use Rattle.file_bytes.specs.declared.form.Version.{Version}
-use Rattle.metadata.specs.Metadata.{IsMetadata, IsOfVersion}
+use Rattle.metadata.specs.Metadata.{IsMetadata, IsOfVersion, indexes_of}
 use Rattle.metadata.specs.declared.reading.Metadata.{Metadata}
-use Rattle.tile_index.specs.declared.index.TileIndex.{TileIndex}
 use Rattle.tile_store.specs.declared.fault.Fault.{Fault}
 use Rattle.tile_store.specs.declared.fault.Fault.TheVariants as device
 use Rattle.raster_store.specs.Calls.{MayAttach}
@@ -18,10 +16,6 @@ use Rattle.block_file.specs.declared.fault.OpenFault.{OpenFault}
 use Rattle.block_file.specs.declared.fault.OpenFault.TheVariants as opening
 use Rattle.coverage_server.specs.Disk.{AreTiles, DiskView, IsLaidOut, Lists}
 use Rattle.coverage_server.specs.Views.{ServerView, free_in}
-
--- the indexes of coverages, as lists
-abbrev pub items_of : List (Vec TileIndex Global) → List (List Index)
-items_of indexes = map (λ (v : Vec TileIndex Global). v.items) indexes
 
 -- what metadata of a file of a version lists, and nothing else: without a byte no coverage
 pub record IsListed (version : Version) (metadata : List ℕ) (signatures : List Signature) (indexes : List (List Index)) : Type 0 where
@@ -65,7 +59,7 @@ pub record ClaimsLayout (version : Version) (metadata : List ℕ) (signatures : 
 
 -- so it is with what was read of metadata
 abbrev pub ClaimsRead : Version → List ℕ → List ℕ → List ℕ → Metadata → Type 0
-ClaimsRead version metadata old new m = ClaimsLayout version metadata m.catalogue (items_of m.indexes.items) old new
+ClaimsRead version metadata old new m = ClaimsLayout version metadata m.catalogue (indexes_of m.indexes.items) old new
 
 -- no metadata of any signatures and indexes is laid out
 abbrev pub IsNotLaidOut : List ℕ → Type 0

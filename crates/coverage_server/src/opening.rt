@@ -4,10 +4,10 @@ ghost use Rattle.std.specs.Prelude.{◌≡◌, ◌+◌, [], ℕ, IsTrue, IfOk, I
 ghost use Rattle.block_file.specs.State.{times};
 ghost use Rattle.block_file.specs.Uses.{IsFresh};
 ghost use Rattle.block_file.specs.View.{IsOpened, IsOfVersion};
-ghost use Rattle.metadata.specs.Metadata.{AreCounted};
+ghost use Rattle.metadata.specs.Metadata.{AreCounted, indexes_of};
 ghost use Rattle.raster_store.specs.Views.{listed_all, listed_fields};
 ghost use Rattle.coverage_server.specs.Disk.{AreTiles, disk_view};
-ghost use Rattle.coverage_server.specs.Opening.{items_of, IsListed, IsUnread, ClaimsListed, CannotClaim, ClaimsRead};
+ghost use Rattle.coverage_server.specs.Opening.{IsListed, IsUnread, ClaimsListed, CannotClaim, ClaimsRead};
 ghost use Rattle.coverage_server.specs.Opening.{Attaches, MayAttachAll, ListsFile, ShowsFile, GivesBack};
 ghost use Rattle.coverage_server.specs.Opening.{Departs, IsNoLayout, TellsAttach};
 ghost use Rattle.tile_store.specs.declared.fault.Fault.TheVariants as device;
@@ -45,7 +45,7 @@ fn push_blocks(alloc: Global, fields: &[TileIndex], blocks: &mut Vec<u32>) -> Re
 
 /// The blocks that indexes list.
 fn blocks_of(alloc: Global, indexes: &[Vec<TileIndex>]) -> Result<Vec<u32>, AllocError>
-    ensures { IfOk result (λ blocks. (k : ℕ) → times blocks.items k ≡ listed_all (items_of indexes.now) k) }
+    ensures { IfOk result (λ blocks. (k : ℕ) → times blocks.items k ≡ listed_all (indexes_of indexes.now) k) }
 {
     let mut blocks = Vec::new(alloc);
     for fields in indexes {
@@ -56,7 +56,7 @@ fn blocks_of(alloc: Global, indexes: &[Vec<TileIndex>]) -> Result<Vec<u32>, Allo
 
 /// The catalogue and the indexes that metadata has in a file of a version. Without a byte there are none.
 fn read_layout(alloc: Global, version: Version, metadata: &[u8]) -> Result<Metadata, OpenFault>
-    ensures listed { IfOk result (λ m. IsListed version metadata.now m.catalogue (items_of m.indexes.items)) }
+    ensures listed { IfOk result (λ m. IsListed version metadata.now m.catalogue (indexes_of m.indexes.items)) }
     ensures refused { IfErr result (Departs (IsUnread version metadata.now)) }
 {
     if metadata.is_empty() {
@@ -78,8 +78,8 @@ fn claim_listed<D: Disk>(
     file: &mut BlockFile<D>,
     indexes: &[Vec<TileIndex>],
 ) -> Result<(), OpenFault>
-    ensures claims { OnOk result (ClaimsListed (items_of indexes.now) file.old.marks file.new.marks) }
-    ensures refused { IfErr result (Departs (CannotClaim (items_of indexes.now) file.old.marks)) }
+    ensures claims { OnOk result (ClaimsListed (indexes_of indexes.now) file.old.marks file.new.marks) }
+    ensures refused { IfErr result (Departs (CannotClaim (indexes_of indexes.now) file.old.marks)) }
     ensures content { file.new.content ≡ file.old.content }
     ensures failures { file.new.failures ≡ file.old.failures }
     ensures overreads { file.new.overreads ≡ file.old.overreads }
@@ -144,13 +144,13 @@ fn attach_all<B: Blocks>(
     requires coverages { cells.old.coverages ≡ [] }
     requires indexes { cells.old.indexes ≡ [] }
     requires unheld { cells.old.snapshots ≡ [] }
-    requires counted { AreCounted catalogue.now (items_of indexes.items) }
-    requires blocks { MayAttachAll (B.state cells.old.blocks) (items_of indexes.items) }
-    ensures attached { OnOk result
-        (Attaches (B.state cells.old.blocks) catalogue.now (items_of indexes.items) cells.new) }
+    requires counted { AreCounted catalogue.now (indexes_of indexes.items) }
+    requires blocks { MayAttachAll (B.state cells.old.blocks) (indexes_of indexes.items) }
+    ensures listed { OnOk result
+        (Attaches (B.state cells.old.blocks) catalogue.now (indexes_of indexes.items) cells.new) }
     ensures unheld { cells.new.snapshots ≡ [] }
     ensures fetched { cells.new.fetched ≡ cells.old.fetched }
-    ensures refused { IfErr result (Departs (AreTiles catalogue.now (items_of indexes.items) → ⊥)) }
+    ensures refused { IfErr result (Departs (AreTiles catalogue.now (indexes_of indexes.items) → ⊥)) }
     ensures blocks { cells.new.blocks ≡ cells.old.blocks }
 {
     let _catalogue = catalogue.len();

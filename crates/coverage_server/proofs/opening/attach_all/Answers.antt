@@ -4,7 +4,7 @@ use Rattle.arr_core.specs.declared.signature.Signature.{Signature}
 use Rattle.std.specs.declared.alloc.Global.{Global}
 use Rattle.tile_index.specs.declared.index.TileIndex.{TileIndex}
 use Rattle.raster_store.specs.Views.{Index}
-use Rattle.coverage_server.specs.Opening.{items_of}
+use Rattle.metadata.specs.Metadata.{indexes_of}
 use Rattle.coverage_server.proofs.OpeningLemmas.{IsAttached, items_split, place_within, next_fresh, next_fields, next_tiles, next_attached, all_attached, items_push, attach_departs, none_left}
 use Rattle.coverage_server.proofs.opening.attach_all.Goals as goal
 
@@ -58,7 +58,7 @@ returns-in-Err-clause-refused g c =
     attach_departs _ c.in-Err.fault c.attach_fault.result (λ e tiles. c.in-Err.ensures.why.for_damage (ap Err e)
     (next_tiles _ _ _ _ _ _ _ _ _ _ c.loop-fields.invariant.0 c.requires.counted split (rw c.in_ok-signatures.ensures at c.index.ensures) tiles)) c.attach_fault.ensures
 
-pub returns-clause-attached : goal.returns-clause-attached
-returns-clause-attached g c =
-    let all = all_attached _ _ _ _ _ _ _ _ c.loop-fields.invariant.0 c.requires.counted (ap items_of c.loop-fields.invariant.2) (none_left _ (omega (arith, c.in-None.ensures.steps.0, c.loop-fields.fields-iterator.rest.ok))) in
+pub returns-clause-listed : goal.returns-clause-listed
+returns-clause-listed g c =
+    let all = all_attached _ _ _ _ _ _ _ _ c.loop-fields.invariant.0 c.requires.counted (ap indexes_of c.loop-fields.invariant.2) (none_left _ (omega (arith, c.in-None.ensures.steps.0, c.loop-fields.fields-iterator.rest.ok))) in
     record { coverages = all.0; indexes = all.1; tiles = all.2 }

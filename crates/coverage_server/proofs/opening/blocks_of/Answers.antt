@@ -6,7 +6,7 @@ use Rattle.block_file.proofs.Times.{times_none}
 use Rattle.tile_index.specs.declared.index.TileIndex.{TileIndex}
 use Rattle.raster_store.specs.Views.{Index, listed_fields, listed_all}
 use Rattle.raster_store.proofs.Totals.{listed_all-nil}
-use Rattle.coverage_server.specs.Opening.{items_of}
+use Rattle.metadata.specs.Metadata.{indexes_of}
 use Rattle.coverage_server.proofs.OpeningLemmas.{listed_more}
 use Rattle.coverage_server.proofs.opening.blocks_of.Goals as goal
 
@@ -22,4 +22,4 @@ loop-fields-preserved c k =
 pub returns : goal.returns
 returns c k =
     c.loop-fields.invariant k
-    ∙ ap (λ (l : List (Vec TileIndex Global)). listed_all (items_of l) k) (take_all c.loop-fields.fields-index c.args.indexes.now c.loop-fields-test.false)
+    ∙ ap (λ (l : List (Vec TileIndex Global)). listed_all (indexes_of l) k) (take_all c.loop-fields.fields-index c.args.indexes.now c.loop-fields-test.false)

@@ -1,6 +1,6 @@
 -- What is claimed leaves the metadata room, and an honest disk is found damaged only where nothing is laid out.
 use Rattle.std.proofs.Common.{arith}
-use Rattle.coverage_server.specs.Opening.{items_of}
+use Rattle.metadata.specs.Metadata.{indexes_of}
 use Rattle.coverage_server.proofs.OpeningLemmas.{layout_room, room_there, departs_map, unclaimed}
 use Rattle.coverage_server.proofs.opening.claim_layout.Goals as goal
 
@@ -10,7 +10,7 @@ returns-clause-claims g c =
     record {
       listed = c.in_ok-layout.ensures.listed;
       claims = claims;
-      room = layout_room c.args.version c.args.metadata.now c.args.file.now.marks c.claim_listed.new.file.marks c.in_ok-layout.layout.catalogue (items_of c.in_ok-layout.layout.indexes.items) c.requires.fresh
+      room = layout_room c.args.version c.args.metadata.now c.args.file.now.marks c.claim_listed.new.file.marks c.in_ok-layout.layout.catalogue (indexes_of c.in_ok-layout.layout.indexes.items) c.requires.fresh
           c.in_ok-layout.ensures.listed claims (omega (arith, c.if-div_ceil-free.false, c.free.ensures, c.div_ceil.ensures));
     }
 
