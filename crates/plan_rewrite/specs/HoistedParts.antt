@@ -15,29 +15,21 @@ use Rattle.plan_rewrite.specs.Views.{passes_in, pass_of, condition_in, GainsBind
 use Rattle.plan_rewrite.specs.Hoisting.{Hoist, hoisting}
 use Rattle.plan_rewrite.specs.HoistedPlans.{Places, HoistedCondition, HoistedFields, HoistedItem, with_pass, with_passes, hoisted_condition, hoisted_fields, hoisted_item}
 
--- how many variables there are
-abbrev pub depth : Around → ℕ
-depth at = length at.scope.now
-
 abbrev pub body_hoisted : Around → Vec Fold Global → Body → Hoist
-body_hoisted at passes e = hoisting at.regs.now (depth at) (passes_in passes) (body_view e)
-
--- under one variable more
-abbrev pub deeper_hoisted : Around → Vec Fold Global → Body → Hoist
-deeper_hoisted at passes e = hoisting at.regs.now (depth at + 1) (passes_in passes) (body_view e)
+body_hoisted at passes e = hoisting at.regs.now at.depth (passes_in passes) (body_view e)
 
 -- a fold whose condition and body have been hoisted
 abbrev pub inner_pass : Around → Vec Fold Global → Fold → PassTree
 inner_pass at passes f =
-    pass_of f.op f.domain (hoisting at.regs.now (depth at + length f.domain) (passes_in passes) (condition_view f.condition)).body
-    (hoisting at.regs.now (depth at + length f.domain)
-    (hoisting at.regs.now (depth at + length f.domain) (passes_in passes) (condition_view f.condition)).passes (body_view f.body)).body
+    pass_of f.op f.domain (hoisting at.regs.now (at.depth + length f.domain) (passes_in passes) (condition_view f.condition)).body
+    (hoisting at.regs.now (at.depth + length f.domain)
+    (hoisting at.regs.now (at.depth + length f.domain) (passes_in passes) (condition_view f.condition)).passes (body_view f.body)).body
 
 -- all passes then
 abbrev pub inner_passes : Around → Vec Fold Global → Fold → List PassTree
 inner_passes at passes f =
-    (hoisting at.regs.now (depth at + length f.domain)
-    (hoisting at.regs.now (depth at + length f.domain) (passes_in passes) (condition_view f.condition)).passes (body_view f.body)).passes
+    (hoisting at.regs.now (at.depth + length f.domain)
+    (hoisting at.regs.now (at.depth + length f.domain) (passes_in passes) (condition_view f.condition)).passes (body_view f.body)).passes
 
 -- the places of old passes among all passes so far
 abbrev pub places : List ℕ → Vec Fold Global → Places
@@ -57,12 +49,12 @@ abbrev pub condition_hoisted : List ℕ → Vec Fold Global → Option Body → 
 condition_hoisted regs passes c = hoisted_condition (places regs passes) (condition_in c)
 
 abbrev pub fields_hoisted : Around → Vec Fold Global → IntoIter Field Global → HoistedFields
-fields_hoisted at passes fields = hoisted_fields at.regs.now (depth at) (passes_in passes) (map field_view (into_iter_items fields))
+fields_hoisted at passes fields = hoisted_fields at.regs.now at.depth (passes_in passes) (map field_view (into_iter_items fields))
 
 -- the binds that are left, and the fields behind them
 abbrev pub rest_hoisted : Around → Vec Fold Global → IntoIter Bind Global → IntoIter Field Global → HoistedItem
 rest_hoisted at passes binds fields =
-    hoisted_item at.regs.now (depth at) (passes_in passes) (map bind_view (into_iter_items binds)) (map field_view (into_iter_items fields))
+    hoisted_item at.regs.now at.depth (passes_in passes) (map bind_view (into_iter_items binds)) (map field_view (into_iter_items fields))
 
 -- an item gets these binds behind what it had
 abbrev pub HasBinds : Item → Item → HoistedItem → Type 0

@@ -10,7 +10,6 @@ ghost use Rattle.plan_rewrite.specs.Rewritten.{MeansSame, NoFoldIsClosed};
 ghost use Rattle.plan_rewrite.specs.Views.{passes_in, condition_in, GainsFields};
 
 use crate::hoisting::folds::{Around, hoist_body, hoist_fold};
-use crate::variables::{with_interval, with_spans};
 use plan_ir::{Bind, Body, Field, Fold, Item, Plan, Steps};
 use std::alloc::{AllocError, Global};
 use std::mem;
@@ -52,14 +51,13 @@ fn hoist_steps(alloc: Global, steps: &mut Steps) -> Result<(), AllocError>
 {
     let mut old = mem::replace(&mut steps.passes, Vec::new(alloc)).into_iter();
     let mut regs = Vec::new(alloc);
-    hoist_passes(alloc, &mut old, &mut regs, &mut steps.passes)?;
-    hoist_condition(alloc, &regs, &mut steps.condition, &mut steps.passes)?;
+    hoist_passes(&mut old, &mut regs, &mut steps.passes)?;
+    hoist_condition(&regs, &mut steps.condition, &mut steps.passes)?;
     hoist_item(alloc, &regs, &mut steps.item, &mut steps.passes)
 }
 
 /// Puts passes at the end of those so far, each behind what its own closed folds become; `regs` gets their places.
 fn hoist_passes(
-    alloc: Global,
     old: &mut IntoIter<Fold>,
     regs: &mut Vec<usize>,
     passes: &mut Vec<Fold>,
@@ -70,16 +68,15 @@ fn hoist_passes(
     match old.next() {
         None => Ok(()),
         Some(mut pass) => {
-            hoist_pass(alloc, &mut pass, regs, passes)?;
+            hoist_pass(&mut pass, regs, passes)?;
             passes.push(pass)?;
-            hoist_passes(alloc, old, regs, passes)
+            hoist_passes(old, regs, passes)
         }
     }
 }
 
 /// Hoists the closed folds of a pass, which is to come next: `regs` gets its place.
 fn hoist_pass(
-    alloc: Global,
     pass: &mut Fold,
     regs: &mut Vec<usize>,
     passes: &mut Vec<Fold>,
@@ -87,15 +84,13 @@ fn hoist_pass(
     ensures regs { OnOk result (regs.new.items ≡ (pass_hoisted regs.old passes.old pass.old).regs) }
     ensures passes { OnOk result (with_last passes.new pass.new ≡ (pass_hoisted regs.old passes.old pass.old).passes) }
 {
-    let at = Around { regs, scope: &[] };
-    hoist_fold(alloc, &at, pass, passes)?;
+    hoist_fold(&Around { regs, depth: 0 }, pass, passes)?;
     regs.push(passes.len())?;
     Ok(())
 }
 
 /// Hoists the closed folds of a condition, if there is one.
 fn hoist_condition(
-    alloc: Global,
     regs: &[usize],
     c: &mut Option<Body>,
     passes: &mut Vec<Fold>,
@@ -105,7 +100,7 @@ fn hoist_condition(
 {
     match c {
         None => Ok(()),
-        Some(body) => hoist_body(alloc, &Around { regs, scope: &[] }, body, passes),
+        Some(body) => hoist_body(&Around { regs, depth: 0 }, body, passes),
     }
 }
 
@@ -119,19 +114,17 @@ fn hoist_item(
     ensures item { OnOk result (item_view item.new ≡ item_on item.old.domain (item_hoisted regs.now passes.old item.old)) }
     ensures passes { OnOk result (passes_in passes.new ≡ (item_hoisted regs.now passes.old item.old).passes) }
 {
-    let scope = with_spans(alloc, &[], item.domain.axes())?;
     let at = Around {
         regs,
-        scope: &scope,
+        depth: item.domain.axes().len(),
     };
     let mut binds = mem::replace(&mut item.binds, Vec::new(alloc)).into_iter();
     let mut fields = mem::replace(&mut item.fields, Vec::new(alloc)).into_iter();
-    hoist_binds(alloc, &at, &mut binds, &mut fields, passes, item)
+    hoist_binds(&at, &mut binds, &mut fields, passes, item)
 }
 
 /// Puts binds and the fields behind them at the ends of those of an item.
 fn hoist_binds(
-    alloc: Global,
     at: &Around,
     binds: &mut IntoIter<Bind>,
     fields: &mut IntoIter<Field>,
@@ -144,24 +137,17 @@ fn hoist_binds(
     ensures passes { OnOk result (passes_in passes.new ≡ (rest_hoisted at.now passes.old binds.old fields.old).passes) }
 {
     match binds.next() {
-        None => hoist_fields(alloc, at, fields, passes, &mut item.fields),
+        None => hoist_fields(at, fields, passes, &mut item.fields),
         Some(mut bind) => {
-            let interval = bind.interval;
-            hoist_body(alloc, at, &mut bind.position, passes)?;
+            hoist_body(at, &mut bind.position, passes)?;
             item.binds.push(bind)?;
-            let scope = with_interval(alloc, at.scope, interval)?;
-            let inner = Around {
-                regs: at.regs,
-                scope: &scope,
-            };
-            hoist_binds(alloc, &inner, binds, fields, passes, item)
+            hoist_binds(&at.under(1)?, binds, fields, passes, item)
         }
     }
 }
 
 /// Puts fields at the end of a list.
 fn hoist_fields(
-    alloc: Global,
     at: &Around,
     fields: &mut IntoIter<Field>,
     passes: &mut Vec<Fold>,
@@ -173,9 +159,9 @@ fn hoist_fields(
     match fields.next() {
         None => Ok(()),
         Some(mut field) => {
-            hoist_body(alloc, at, &mut field.body, passes)?;
+            hoist_body(at, &mut field.body, passes)?;
             list.push(field)?;
-            hoist_fields(alloc, at, fields, passes, list)
+            hoist_fields(at, fields, passes, list)
         }
     }
 }
