@@ -8,7 +8,7 @@ the code and once in the definitions, in the files that HOMES names, and so do t
 coordinates; a limit stands where its constant does, which docs/LIMITS.md names. All else says these facts by their names.
 This reads `src` and `specs` of the crates that hold code, without comments, and prints every line that says one of them
 again; every arm that answers want of memory to another error; and every function, definition and enum that stands in two
-crates, whatever the names in it (`doubles.py`), but for those that KNOWN lists. `scripts/check.py` fails where there is one.
+crates, whatever the names in it (`doubles.py`). `scripts/check.py` fails where there is one.
 """
 
 import functools
@@ -37,18 +37,6 @@ HOMES = {
     "the distance of two coordinates": {"arr_core/src/axes.rt", "arr_core/specs/Domains.antt"},
     "an error that is told as want of memory": set(),
 }
-
-# What stands in several crates and is known to: a function, a definition or an enum, by its files and its names there. What no
-# longer stands a second time has to go from here.
-KNOWN = [
-    # a coordinate by its place along an axis, an axis by its name, the tile of a point, and the box of a tile
-    {"arr_core/src/domain.rt coordinate", "tile_columns/src/tiling.rt coordinate"},
-    {"arr_core/specs/Domains.antt place_of", "wcps_types/specs/Names.antt axis_place"},
-    {"plan_ir/specs/Units.antt tile_number", "tile_store/specs/Stored.antt tile_number"},
-    {"tile_columns/specs/TileOrder.antt tile_of", "tile_store/specs/Stored.antt tile_box"},
-    # a field with a name
-    {"catalogue/specs/Signatures.antt IsField", "map_templates/specs/Queries.antt IsField"},
-]
 
 # Words that are spelled as keywords and mean something else: the keys of requests, and the values of cells.
 NO_KEYWORDS = {"kvp_front": {"coverage", "values", "true", "false"}, "csv_out": {"true", "false"}}
@@ -189,11 +177,11 @@ def owners():
 
 @functools.cache
 def few():
-    """Of each crate the numbers from two digits up to the cells of a tile that its definitions or those below it have a word for."""
+    """Of each crate the numbers from the axes of a domain up to the cells of a tile that its definitions or those below it have a word for."""
     own = {}
     for crate in crates():
         told = [DEFINED.match(text)[2] for path, _, text in lines(crate) if DEFINED.match(text) and "/specs/" in path]
-        own[crate] = {int(it) for it in told if it.isdigit() and 10 <= int(it) <= 4096}
+        own[crate] = {int(it) for it in told if it.isdigit() and 6 <= int(it) <= 4096}
     return {it: own[it].union(*(own.get(other, ()) for other in crate_table.standing()[it])) for it in own}
 
 
@@ -276,18 +264,13 @@ def are_doubles(places):
 
 
 def copies():
-    """What stands in two crates without being known, and what is known and no longer stands in two."""
+    """What stands in two crates."""
     there = {shape: places for shape, places in shapes().items() if are_doubles(places)}
     for (what, _), places in there.items():
-        for it in sorted(min((places.keys() - known for known in [set(), *KNOWN]), key=len)):
+        for it in sorted(places):
             path, name = it.split()
             other = next(place for place in places if are_doubles([place, it])).split()
             yield f"{path}:{places[it]}: {name}: {what}, as {other[1]} in {other[0]}"
-    for known in KNOWN:
-        stand = [places.keys() & known for places in there.values()]
-        for it in sorted(known):
-            if not any(it in found and are_doubles(found) for found in stand):
-                yield f"scripts/homes.py: KNOWN has {it}, which stands nowhere else"
 
 
 def faults():

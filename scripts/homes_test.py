@@ -46,6 +46,7 @@ LINES = [
     ("job_desk/src/desk.rt", "    requires few { length jobs.now ≤ 64 }", LIMIT),
     ("job_desk/src/step.rt", "        if self.jobs.len() >= 64 {", LIMIT),
     ("job_desk/specs/Steps.antt", "AreFull jobs = 64 ≤ length jobs", LIMIT),
+    ("wcps_types/src/boxes.rt", "    requires few { length axes.now ≤ 6 }", LIMIT),
     ("kvp_front/specs/Contents.antt", "AreSome fields = (1 ≤ length fields) × (length fields ≤ 16)", LIMIT),
     ("tile_columns/src/part.rt", "    match axes {\n        2 => 64,\n        _ => 4,\n    }", EDGE),
     ("raster_store/src/sizes.rt", "        1 => 4096,", EDGE),
@@ -91,6 +92,11 @@ COPIES = [
     ("arr_core/src/axes.rt", "fn rank_of", "wcps_mean/src/points.rt", "rank_of place_of axes box rest more"),
     ("arr_core/specs/Domains.antt", "rank_of", "tile_index/specs/Entries.antt", "rank_of place_in axes box"),
     ("arr_core/specs/Domains.antt", "size_of", "metadata/specs/Parts.antt", "size_of width a axis"),
+    ("arr_core/src/domain.rt", "fn coordinate", "tile_columns/src/tiling.rt", "coordinate corner place steps"),
+    ("arr_core/specs/Domains.antt", "axis_place", "wcps_types/specs/Names.antt", "axis_place place_on a axis"),
+    ("arr_core/specs/Fields.antt", "IsField", "map_templates/specs/Queries.antt", "IsField HasName f field"),
+    ("arr_core/specs/Tiles.antt", "tile_box", "tile_store/specs/Stored.antt", "tile_box box_of axes domain n tile"),
+    ("arr_core/specs/Meeting.antt", "tile_number", "plan_ir/specs/Units.antt", "tile_number number_at axes domain"),
     ("tile_kernel/src/first_fault.rt", "fn least", "tile_exec/src/found.rt", "least earlier self a other b"),
     ("tile_kernel/src/first_fault.rt", "fn least", "tile_exec/src/row.rt", "FirstFault First fault told place at"),
     ("plan_rewrite/src/inlining/body.rt", "fn inline_body", "plan_ir/src/body.rt", "inline_body rebuilt e tree"),
@@ -171,12 +177,6 @@ CHANGES = [
         "| `Index`, `Entries`, `Bytes` |",
         "| `Index`, `Pairs`, `Bytes` |",
         "docs/ARCHITECTURE.md: tile_index has no specs/Pairs.antt",
-    ),
-    (
-        "crates/tile_columns/src/tiling.rt",
-        "fn coordinate(axis: &Axis, steps: u64) -> i32",
-        "fn coordinate(axis: &Axis, steps: u32) -> i32",
-        "scripts/homes.py: KNOWN has tile_columns/src/tiling.rt coordinate, which stands nowhere else",
     ),
 ]
 

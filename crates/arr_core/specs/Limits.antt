@@ -9,6 +9,10 @@ max_name = 64
 abbrev pub max_fields : ℕ
 max_fields = 16
 
+-- the most axes of a domain
+abbrev pub max_axes : ℕ
+max_axes = 6
+
 -- the most points of a domain
 abbrev pub max_points : ℕ
 max_points = 2 ^ 24

@@ -3,7 +3,7 @@
 
 ghost use Rattle.std.specs.Prelude.{◌≡◌, ℕ, ◌+◌, ◌*◌, ◌<◌, ◌≤◌, ◌^◌, List, [], length};
 ghost use Rattle.arr_core.specs.Domains.{gap, size_of, count, AreOrdered, rank_of};
-ghost use Rattle.arr_core.specs.Limits.{max_points};
+ghost use Rattle.arr_core.specs.Limits.{max_axes, max_points};
 
 use crate::domain::Axis;
 
@@ -43,7 +43,7 @@ pub fn count_points(axes: &[Axis]) -> u64
 pub fn rank_of(axes: &[Axis], point: &[i32]) -> u64
     requires ordered { AreOrdered axes.now }
     requires few { count axes.now ≤ max_points }
-    requires few_axes { length axes.now ≤ 6 }
+    requires few_axes { length axes.now ≤ max_axes }
     ensures rank { result ≡ rank_of axes.now point.now }
     ensures below { result ≤ length axes.now * 2 ^ 56 }
 {

@@ -7,7 +7,8 @@ use Rattle.file_bytes.specs.declared.form.Version.TheVariants.{One, Two}
 use Rattle.block_file.specs.State.{block_at}
 use Rattle.block_file.specs.declared.header.State.{State}
 use Rattle.block_file.specs.declared.header.State.TheVariants.{Open, Closed}
-use Rattle.block_file.specs.Limits.{block_bytes, max_blocks, max_metadata}
+use Rattle.file_bytes.specs.Limits.{block_bytes, blocks_filled}
+use Rattle.block_file.specs.Limits.{chain_bytes, max_blocks, max_metadata}
 
 -- the number in the n bytes from place `at` on, the lowest first
 unfoldable pub number_at : ℕ → ℕ → List ℕ → ℕ
@@ -64,7 +65,7 @@ link block first (suc i) = next_of block (link block first i)
 
 -- how many blocks a chain needs for so many bytes: each holds 4,092 behind the number of the next
 abbrev pub chain_blocks : ℕ → ℕ
-chain_blocks size = (size + 4091) / 4092
+chain_blocks size = (size + 4091) / chain_bytes
 
 -- The metadata lies in a chain of blocks from block `first` on: whole blocks, distinct, none of them the header,
 -- exactly as many as it fills.
@@ -76,12 +77,12 @@ pub record IsChain (block : ℕ → List ℕ) (first : ℕ) (metadata : List ℕ
       → link block first i ≡ link block first j → i ≡ j
   pub ends : link block first (chain_blocks (length metadata)) ≡ 0
   pub bytes : (j : ℕ) → j < length metadata
-      → slice_index metadata j ≡ slice_index (block (link block first (j / 4092))) (4 + j % 4092)
+      → slice_index metadata j ≡ slice_index (block (link block first (j / chain_bytes))) (4 + j % chain_bytes)
 
 -- what a chain of so many bytes has behind them is zeros
 abbrev pub IsPadded : (ℕ → List ℕ) → ℕ → ℕ → Type 0
 IsPadded block first size =
-    (i j : ℕ) → i < chain_blocks size → j < 4092 → size ≤ 4092 * i + j
+    (i j : ℕ) → i < chain_blocks size → j < chain_bytes → size ≤ chain_bytes * i + j
     → slice_index (block (link block first i)) (4 + j) ≡ 0
 
 -- the first metadata block, as the header has it
@@ -108,7 +109,7 @@ pub record HeaderWritten (state : State) (first size : ℕ) (old new : List ℕ)
   pub header : IsHeader new state (length new / block_bytes) first size
   pub version : TellsVersion Two new
   pub whole : block_bytes * (length new / block_bytes) ≡ length new
-  pub fewest : length new / block_bytes ≡ max 1 ((length old + 4095) / block_bytes)
+  pub fewest : length new / block_bytes ≡ max 1 (blocks_filled (length old))
   pub kept : (i : ℕ) → block_bytes ≤ i → i < length old → slice_index new i ≡ slice_index old i
   pub filled : (i : ℕ) → block_bytes ≤ i → length old ≤ i → slice_index new i ≡ 0
   pub few : length new / block_bytes ≤ max_blocks
@@ -117,7 +118,7 @@ pub record HeaderWritten (state : State) (first size : ℕ) (old new : List ℕ)
 -- However the write of a header ended: no byte behind the header has changed, and no block was begun but the header.
 pub record HeaderTorn (old new : List ℕ) : Type 0 where
   pub no_shorter : length old ≤ length new
-  pub no_longer : length new ≤ block_bytes * max 1 ((length old + 4095) / block_bytes)
+  pub no_longer : length new ≤ block_bytes * max 1 (blocks_filled (length old))
   pub kept : (i : ℕ) → block_bytes ≤ i → i < length old → slice_index new i ≡ slice_index old i
 
 -- a header that was there still is
@@ -140,14 +141,14 @@ Closes first size old new =
 
 -- a last block that was cut short is filled with zeros; the number of blocks counts the header
 pub record Filled (old new : List ℕ) (blocks : ℕ) : Type 0 where
-  pub whole : length new ≡ block_bytes * ((length old + 4095) / block_bytes)
-  pub count : blocks ≡ max 1 ((length old + 4095) / block_bytes)
+  pub whole : length new ≡ block_bytes * blocks_filled (length old)
+  pub count : blocks ≡ max 1 (blocks_filled (length old))
   pub zeros : (i : ℕ) → length old ≤ i → slice_index new i ≡ 0
 
 -- what was there still is, and no block was begun
 pub record Extends (old new : List ℕ) : Type 0 where
   pub no_shorter : length old ≤ length new
-  pub no_longer : length new ≤ block_bytes * ((length old + 4095) / block_bytes)
+  pub no_longer : length new ≤ block_bytes * blocks_filled (length old)
   pub kept : (i : ℕ) → i < length old → slice_index new i ≡ slice_index old i
 
 -- A byte of the header has changed only where all that lies behind the header was synced before.

@@ -1,9 +1,9 @@
 -- The limits of a block file.
 use Rattle.std.specs.Prelude.{ℕ}
 
--- the bytes of a block
-abbrev pub block_bytes : ℕ
-block_bytes = 4096
+-- the bytes of metadata in a block of the chain, behind the number of the next one
+abbrev pub chain_bytes : ℕ
+chain_bytes = 4092
 
 -- the most blocks of a file
 abbrev pub max_blocks : ℕ

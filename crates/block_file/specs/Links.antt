@@ -8,7 +8,8 @@ use Rattle.block_file.specs.declared.header.State.TheVariants.{Closed}
 use Rattle.block_file.specs.State.{BlocksState, block, block_at}
 use Rattle.block_file.specs.Format.{number_at, TellsVersion, IsStoreFile, IsHeader, IsChain}
 use Rattle.block_file.specs.Uses.{IsFresh, MarksChain}
-use Rattle.block_file.specs.Limits.{block_bytes}
+use Rattle.file_bytes.specs.Limits.{block_bytes}
+use Rattle.block_file.specs.Limits.{chain_bytes}
 
 -- the header of a closed file whose length is the number of blocks that it tells, and its version
 pub record IsClosedHeader (header : Header) (content : List ℕ) : Type 0 where
@@ -60,7 +61,7 @@ pub record AddsLink (bytes : List ℕ) (following part : ℕ) (old new : List �
 pub record HoldsLink (bytes : List ℕ) (i : ℕ) (ks metadata : List ℕ) : Type 0 where
   pub whole : length bytes ≡ block_bytes
   pub next : number_at 0 4 bytes ≡ slice_index ks (i + 1)
-  pub part : (j : ℕ) → j < 4092 → slice_index bytes (4 + j) ≡ slice_index metadata (4092 * i + j)
+  pub part : (j : ℕ) → j < chain_bytes → slice_index bytes (4 + j) ≡ slice_index metadata (chain_bytes * i + j)
 
 -- on an honest disk the blocks ks hold the links of a chain
 abbrev pub HoldsLinks : List ℕ → List ℕ → BlocksState → Type 0

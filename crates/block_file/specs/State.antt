@@ -1,6 +1,6 @@
 -- What is known of the blocks of a file, as of one moment.
 use Rattle.std.specs.Prelude.{◌≡◌, ℕ, zero, suc, ◌+◌, ◌-◌, ◌*◌, ◌<◌, nat_eq, if◌then◌else◌, Bool, List, take, drop, sum_by}
-use Rattle.block_file.specs.Limits.{block_bytes}
+use Rattle.file_bytes.specs.Limits.{block_bytes}
 
 -- The bytes of the file, and those that are there whatever comes; how often each block is in use; how many blocks there
 -- are at most; how many calls of the disk have failed; an honest disk's count of reads past the end; and whether it

@@ -2,12 +2,13 @@
 use Rattle.std.specs.Prelude.{◌≡◌, ℕ, ◌*◌, ◌/◌, ◌<◌, ◌≤◌, max, Bool, IsTrue, List, [], length, ⊤}
 use Rattle.file_bytes.specs.declared.form.Version.{Version}
 use Rattle.file_bytes.specs.declared.form.Version.TheVariants.{Two}
+use Rattle.file_bytes.specs.Limits.{block_bytes}
 use Rattle.block_file.specs.declared.fault.OpenFault.{OpenFault}
 use Rattle.block_file.specs.declared.fault.OpenFault.TheVariants.{NoMemory, DiskFault, Damaged, NotAStore, NotClosed}
 use Rattle.block_file.specs.State.{BlocksState, block_at, overreads_of}
 use Rattle.block_file.specs.Format.{number_at, first_of, TellsVersion, IsStoreFile, IsClosed, IsDamaged}
 use Rattle.block_file.specs.Uses.{uses_of, MarksChain}
-use Rattle.block_file.specs.Limits.{block_bytes, max_blocks, max_metadata}
+use Rattle.block_file.specs.Limits.{max_blocks, max_metadata}
 
 -- The file's bytes and those that are synced, a mark for each of its blocks, and what is known of the disk.
 -- A mark is how often the block is in use, or 4294967295 for a free block that holds metadata and may not be claimed.

@@ -5,7 +5,7 @@ use Rattle.block_file.specs.declared.header.State.{State}
 use Rattle.block_file.specs.declared.header.State.TheVariants.{Closed}
 use Rattle.block_file.specs.State.{BlocksState, block, IsFree, times}
 use Rattle.block_file.specs.Format.{IsChain, IsPadded, link, chain_blocks, HeaderWritten, HeaderTorn, HeaderLast, Closes}
-use Rattle.block_file.specs.Limits.{block_bytes}
+use Rattle.file_bytes.specs.Limits.{block_bytes}
 
 -- Blocks were asked for, so often each. Nothing has changed but the count of failures; and where they are whole, none was
 -- read past the end of an honest disk.

@@ -1,7 +1,8 @@
 //! A store file in a disk.
 ghost use Rattle.std.specs.Prelude.{◌≡◌, ◌≤◌, ◌<◌, ◌*◌, length, IfOk, IfErr, IsErr, OnOk, OnErr, IsErrOf, IsTrue};
 ghost use Rattle.disk_face.specs.Disk.{Tells, OnlyRead};
-ghost use Rattle.block_file.specs.Limits.{block_bytes, max_blocks, max_metadata};
+ghost use Rattle.file_bytes.specs.Limits.{block_bytes};
+ghost use Rattle.block_file.specs.Limits.{max_blocks, max_metadata};
 ghost use Rattle.block_file.specs.State.{times, none, overreads_of};
 ghost use Rattle.block_file.specs.Words.{Recounts};
 ghost use Rattle.block_file.specs.Format.{Filled, Extends};
@@ -12,9 +13,9 @@ ghost use Rattle.block_file.specs.Links.{IsClosedHeader};
 use crate::chain::{Layout, read_chain};
 use crate::header::{Header, header_bytes, parse_header};
 use crate::marks::Marks;
-use crate::{BLOCK_BYTES, Blocks, Damaged, MAX_BLOCKS, MAX_METADATA, OpenFault, State, TakeFault};
+use crate::{Blocks, Damaged, MAX_BLOCKS, MAX_METADATA, OpenFault, State, TakeFault};
 use disk_face::{Disk, DiskFault};
-use file_bytes::Version;
+use file_bytes::{BLOCK_BYTES, Version};
 use std::alloc::{AllocError, Global};
 use std::marker::Model;
 
@@ -130,7 +131,7 @@ impl<D: Disk> Blocks for BlockFile<D> {
 
     ghost state = { λ s. state_of s };
 
-    fn read(&mut self, k: u32, bytes: &mut [u8; 4096]) -> Result<(), DiskFault> {
+    fn read(&mut self, k: u32, bytes: &mut [u8; BLOCK_BYTES]) -> Result<(), DiskFault> {
         self.disk.read_at(BLOCK_BYTES as u64 * k as u64, bytes)?;
         Ok(())
     }
@@ -144,7 +145,7 @@ impl<D: Disk> Blocks for BlockFile<D> {
         Ok(())
     }
 
-    fn write(&mut self, k: u32, bytes: &[u8; 4096]) -> Result<(), DiskFault> {
+    fn write(&mut self, k: u32, bytes: &[u8; BLOCK_BYTES]) -> Result<(), DiskFault> {
         self.disk.write_at(BLOCK_BYTES as u64 * k as u64, bytes)?;
         Ok(())
     }

@@ -1,7 +1,8 @@
 //! The chain of metadata blocks: how it is read and how it is written.
 ghost use Rattle.std.specs.Prelude.{◌≡◌, ◌≤◌, ◌<◌, ◌+◌, ◌*◌, ℕ, length, slice_index, IsTrue, IsErr, IfOk, IfErr, OnOk, IsErrOf};
 ghost use Rattle.disk_face.specs.Disk.{Tells, OnlyRead};
-ghost use Rattle.block_file.specs.Limits.{block_bytes, max_blocks};
+ghost use Rattle.file_bytes.specs.Limits.{block_bytes};
+ghost use Rattle.block_file.specs.Limits.{chain_bytes, max_blocks};
 ghost use Rattle.block_file.specs.State.{free_of, times, none};
 ghost use Rattle.block_file.specs.Words.{Moves, HoldsChain};
 ghost use Rattle.block_file.specs.Format.{number_at, chain_blocks};
@@ -9,9 +10,9 @@ ghost use Rattle.block_file.specs.Links.{IsNoChain, IsLayoutOf, ReadsChain, Adds
 
 use crate::header::{Header, put_number, u32_at};
 use crate::marks::Marks;
-use crate::{BLOCK_BYTES, Blocks, CHAIN_BYTES, CloseFault, OpenFault, TakeFault};
+use crate::{Blocks, CHAIN_BYTES, CloseFault, OpenFault, TakeFault};
 use disk_face::{Disk, DiskFault};
-use file_bytes::Version;
+use file_bytes::{BLOCK_BYTES, Version};
 use std::alloc::{AllocError, Global};
 
 /// The version of a file, the marks of its blocks, and the metadata.
@@ -24,8 +25,12 @@ pub(crate) struct Layout {
 
 /// Adds the bytes of a block of a chain behind the number of the next block, as many as `part`, to the metadata. Gives
 /// the number of the next block.
-fn push_link(bytes: &[u8; 4096], part: usize, metadata: &mut Vec<u8>) -> Result<u32, AllocError>
-    requires { part ≤ 4092 }
+fn push_link(
+    bytes: &[u8; BLOCK_BYTES],
+    part: usize,
+    metadata: &mut Vec<u8>,
+) -> Result<u32, AllocError>
+    requires { part ≤ chain_bytes }
     ensures { IfOk result (λ next. AddsLink bytes.now next part metadata.old.items metadata.new.items) }
 {
     metadata.extend_from_slice(&bytes[4..4 + part])?;
@@ -126,8 +131,8 @@ fn next_in(ks: &[u32], i: usize) -> u32
 }
 
 /// The bytes of a block of the chain: the number of the next one, a part of the metadata, and zeros.
-fn link_bytes(next: u32, part: &[u8]) -> [u8; 4096]
-    requires { length part.now ≤ 4092 }
+fn link_bytes(next: u32, part: &[u8]) -> [u8; BLOCK_BYTES]
+    requires { length part.now ≤ chain_bytes }
     ensures next { number_at 0 4 result ≡ next }
     ensures part { (j : ℕ) → slice_index result (4 + j) ≡ slice_index part.now j }
 {

@@ -5,9 +5,9 @@ ghost use Rattle.file_bytes.specs.declared.form.Version.TheVariants.{Two};
 ghost use Rattle.block_file.specs.Format.{number_at, magic_bytes, state_number, version_number, TellsVersion, Put, IsHeader};
 ghost use Rattle.block_file.specs.Links.{IsNoHeader};
 
-use crate::{BLOCK_BYTES, OpenFault};
+use crate::OpenFault;
 use byteorder::{ByteOrder, LittleEndian};
-use file_bytes::Version;
+use file_bytes::{BLOCK_BYTES, Version};
 
 /// What each store file begins with.
 const MAGIC: &[u8; 8] = b"WCPSTORE";
@@ -81,7 +81,7 @@ pub(crate) fn put_number(bytes: &mut [u8], at: usize, width: usize, n: u64)
 }
 
 /// A header whose fields are all zero.
-fn blank_header() -> [u8; 4096]
+fn blank_header() -> [u8; BLOCK_BYTES]
     ensures magic { take 8 result ≡ magic_bytes }
     ensures zeros { (i : ℕ) → 8 ≤ i → slice_index result i ≡ 0 }
 {
@@ -91,7 +91,7 @@ fn blank_header() -> [u8; 4096]
 }
 
 /// The bytes of a header of version 2.
-pub(crate) fn header_bytes(state: State, blocks: u32, first: u32, length: u64) -> [u8; 4096]
+pub(crate) fn header_bytes(state: State, blocks: u32, first: u32, length: u64) -> [u8; BLOCK_BYTES]
     ensures header { IsHeader result state blocks first length }
     ensures version { TellsVersion Two result }
 {
@@ -106,7 +106,7 @@ pub(crate) fn header_bytes(state: State, blocks: u32, first: u32, length: u64) -
 
 /// Reads the header of a closed store file. Refused as no store file for another magic or version, then as not closed
 /// for the state of an open one, then as damaged for another state or bytes behind the fields that are not zero.
-pub(crate) fn parse_header(bytes: &[u8; 4096]) -> Result<Header, OpenFault>
+pub(crate) fn parse_header(bytes: &[u8; BLOCK_BYTES]) -> Result<Header, OpenFault>
     ensures ok { IfOk result (λ header. IsHeader bytes.now State.Closed header.blocks header.first header.length) }
     ensures version { IfOk result (λ header. TellsVersion header.version bytes.now) }
     ensures refused { IfErr result (λ fault. IsNoHeader fault bytes.now) }

@@ -4,7 +4,7 @@
 
 ghost use Rattle.std.specs.Prelude.{◌≡◌, ℕ, ◌+◌, ◌*◌, ◌%◌, ◌<◌, ◌↔◌, length, IsTrue, IsErr, OnOk, OnErr, IfOk, IsErrOf};
 ghost use Rattle.disk_face.specs.Disk.{Torn, Tells};
-ghost use Rattle.block_file.specs.Limits.{block_bytes};
+ghost use Rattle.file_bytes.specs.Limits.{block_bytes};
 ghost use Rattle.block_file.specs.State.{BlocksState, block, free_of, one, times, none};
 ghost use Rattle.block_file.specs.Words.{OnlyReads, Recounts, Moves, AreLowestFree, AreUsed, AreBytesOf, blocks_from, Covers, OthersKept, OnlyHeader, WritesHeader};
 
@@ -18,11 +18,9 @@ pub use block_file::{BlockFile, NotOpened, Opened};
 pub use chain::write_chain;
 use disk_face::DiskFault;
 pub use fault::{CloseFault, Damaged, OpenFault, TakeFault};
+use file_bytes::BLOCK_BYTES;
 pub use header::State;
 use std::alloc::AllocError;
-
-/// How many bytes a block has.
-pub const BLOCK_BYTES: usize = 4096;
 
 /// How many blocks a file has at most.
 pub const MAX_BLOCKS: usize = 1048576;
@@ -40,7 +38,7 @@ pub trait Blocks {
     ghost state: { Self → BlocksState };
 
     /// What block k holds as of its last write. Refused only where the disk has counted a failure.
-    fn read(&mut self, k: u32, bytes: &mut [u8; 4096]) -> Result<(), DiskFault>
+    fn read(&mut self, k: u32, bytes: &mut [u8; BLOCK_BYTES]) -> Result<(), DiskFault>
         requires { 0 < (state self.old).uses k }
         ensures value { OnOk result (IsTrue (state self.old).honest → bytes.new ≡ block (state self.old) k) }
         ensures frame { OnlyReads (one k) (state self.old) (state self.new) }
@@ -58,7 +56,7 @@ pub trait Blocks {
     /// Writes block k, which is in use once, and nothing else but zeros in a gap before it. A write that fails leaves
     /// any bytes in both, and each other whole block, in use or not, as it was. Refused only where the disk has counted
     /// a failure.
-    fn write(&mut self, k: u32, bytes: &[u8; 4096]) -> Result<(), DiskFault>
+    fn write(&mut self, k: u32, bytes: &[u8; BLOCK_BYTES]) -> Result<(), DiskFault>
         requires { (state self.old).uses k ≡ 1 }
         ensures written { OnOk result (IsTrue (state self.old).honest → block (state self.new) k ≡ bytes.now) }
         ensures others { OthersKept k (block (state self.old)) (block (state self.new)) }

@@ -9,7 +9,8 @@ use Rattle.file_bytes.specs.Codes.{signed_bytes}
 use Rattle.arr_core.specs.declared.domain.Axis.{Axis}
 use Rattle.arr_core.specs.declared.field.Field.{Field}
 use Rattle.arr_core.specs.declared.signature.Signature.{Signature}
-use Rattle.catalogue.specs.Signatures.{IsAxis, IsField, IsSignature}
+use Rattle.arr_core.specs.Fields.{IsField}
+use Rattle.catalogue.specs.Signatures.{IsAxis, IsSignature}
 use Rattle.catalogue.specs.Bytes.{name_bytes, type_number, axis_bytes, domain_bytes, field_bytes, fields_bytes, signature_bytes, catalogue_bytes}
 use Rattle.catalogue.proofs.Names.{name_short}
 

@@ -7,7 +7,7 @@ use Rattle.arr_core.specs.declared.field.Field.{Field}
 use Rattle.arr_core.specs.declared.signature.Signature.{Signature}
 use Rattle.arr_core.specs.Names.{IsName, AreDistinct}
 use Rattle.arr_core.specs.Domains.{IsDomain}
-use Rattle.arr_core.specs.Fields.{AreFields}
+use Rattle.arr_core.specs.Fields.{AreFields, IsField}
 use Rattle.arr_core.specs.Limits.{max_coverages}
 use Rattle.file_bytes.specs.declared.form.Version.{Version}
 use Rattle.file_bytes.specs.declared.form.Version.TheVariants.{One, Two}
@@ -25,10 +25,6 @@ pub record IsCoverageDomain (axes : List Axis) : Type 0 where
   pub some : 1 ≤ length axes
   pub each : All IsAxis axes
   pub domain : IsDomain axes
-
--- a field: its name, and one of the five types
-abbrev pub IsField : Field → Type 0
-IsField f = IsName f.name
 
 -- the fields of a coverage
 pub record AreCoverageFields (fields : List Field) : Type 0 where

@@ -5,8 +5,9 @@ ghost use Rattle.arr_core.specs.declared.cell.FieldType.{FieldType};
 ghost use Rattle.arr_core.specs.declared.signature.Signature.{Signature};
 ghost use Rattle.arr_core.specs.Limits.{max_coverages};
 ghost use Rattle.arr_core.specs.Names.{IsName};
+ghost use Rattle.arr_core.specs.Fields.{IsField};
 ghost use Rattle.file_bytes.specs.Codes.{IsRead, NoneIsRead};
-ghost use Rattle.catalogue.specs.Signatures.{IsAxis, IsCoverageDomain, IsField, AreCoverageFields, IsSignature, IsCatalogue, HaveAxesOf};
+ghost use Rattle.catalogue.specs.Signatures.{IsAxis, IsCoverageDomain, AreCoverageFields, IsSignature, IsCatalogue, HaveAxesOf};
 ghost use Rattle.catalogue.specs.Bytes.{name_bytes, type_number, axis_bytes, domain_bytes, field_bytes, fields_bytes, signature_bytes, catalogue_bytes};
 ghost use Rattle.catalogue.specs.Reading.{AreMany, AreManyRead, IsCatalogueOf, AreOfNoCatalogue, AreOfNoOther};
 

@@ -7,14 +7,13 @@ use Rattle.std.specs.Str.{bytes_eq}
 use Rattle.arr_core.specs.declared.domain.Axis.{Axis}
 use Rattle.arr_core.specs.declared.field.Field.{Field}
 use Rattle.arr_core.specs.Names.{AreDistinct}
-use Rattle.arr_core.specs.Tiles.{tile_boxes}
+use Rattle.arr_core.specs.Tiles.{tile_boxes, tile_box, TileMeets}
 use Rattle.catalogue.specs.Signatures.{names_of}
 use Rattle.catalogue.proofs.Held.{contains_here, contains_later}
 use Rattle.arr_core.specs.Stores.{Coverage, Store, found}
 use Rattle.arr_core.specs.Domains.{IsBoxOf}
-use Rattle.arr_core.specs.Fields.{place_of as field_place}
-use Rattle.tile_store.specs.Reading.{Meets}
-use Rattle.tile_store.specs.Stored.{IsTileSpelled, IsSpelled, tile_box}
+use Rattle.arr_core.specs.Fields.{field_place}
+use Rattle.tile_store.specs.Stored.{IsTileSpelled, IsSpelled}
 use Rattle.raster_store.specs.Views.{Index, SnapshotView, AreIntact, FieldsIntact}
 use Rattle.raster_store.specs.Snapshots.{held_for}
 use Rattle.raster_store.specs.Calls.{index_of}
@@ -135,7 +134,7 @@ no_text text v sound x = x.2 (λ k d l. sound_spelled v sound _)
 no_write : (name : List ℕ) (field : ℕ) (box : List Axis) (v : ServerView) → IsSound v → SpoilsWrite name field box v → ⊥
 no_write name field box v sound x =
     some_out (found name v.store)
-    {P = λ (c : Coverage). (tile : ℕ) × Meets c.domain box tile × (IsBoxOf box (tile_box c.domain tile) → ⊥) × (IsSpelledOf name field tile v.content v.store v.indexes → ⊥)}
+    {P = λ (c : Coverage). (tile : ℕ) × TileMeets c.domain tile box × (IsBoxOf box (tile_box c.domain tile) → ⊥) × (IsSpelledOf name field tile v.content v.store v.indexes → ⊥)}
     (λ c u. u.3 (intact_named v.content v.store v.indexes name field u.0 sound.intact)) x
 
 no_held : (number : ℕ) (v : ServerView) → IsSound v → SpoilsHeld number v → ⊥

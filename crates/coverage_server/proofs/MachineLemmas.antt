@@ -11,7 +11,7 @@ use Rattle.arr_core.specs.declared.domain.Axis.{Axis}
 use Rattle.arr_core.specs.declared.field.Field.{Field}
 use Rattle.arr_core.specs.declared.signature.Signature.{Signature}
 use Rattle.arr_core.specs.Domains.{IsBoxOf}
-use Rattle.arr_core.specs.Fields.{AreFields, place_of as field_place}
+use Rattle.arr_core.specs.Fields.{AreFields, field_place}
 use Rattle.arr_core.specs.Stores.{Coverage, Store, found, inserted, updated}
 use Rattle.http_front.specs.declared.reply.Reply.{Reply}
 use Rattle.http_front.specs.declared.reply.Reply.TheVariants.{Text, Refused}

@@ -6,18 +6,16 @@ use Rattle.std.proofs.lemmas.Option.{slice_get_cases}
 use Rattle.arr_core.specs.declared.domain.Axis.{Axis}
 use Rattle.arr_core.specs.declared.signature.Signature.{Signature}
 use Rattle.arr_core.specs.Domains.{IsBoxOf}
-use Rattle.arr_core.specs.Fields.{place_of as field_place}
 use Rattle.arr_core.specs.Names.{AreDistinct}
 use Rattle.arr_core.specs.Stores.{Coverage, Store, found}
-use Rattle.arr_core.specs.Tiles.{tile_boxes}
+use Rattle.arr_core.specs.Tiles.{tile_boxes, tile_box, TileMeets}
+use Rattle.arr_core.specs.Fields.{field_place}
 use Rattle.catalogue.specs.Signatures.{names_of}
 use Rattle.kvp_front.specs.Requests.{Asks, insert_coverage, update_coverage, delete_coverage, list_coverages, describe_coverage, process_coverages, submit_query, step_job, fetch_job, cancel_job, expand_template, process_template}
 use Rattle.raster_store.specs.declared.reading.TileAt.{TileAt}
 use Rattle.raster_store.specs.Fetches.{HasTile, IsSpelledOf}
 use Rattle.raster_store.specs.Snapshots.{held_for}
 use Rattle.raster_store.specs.Views.{SnapshotView}
-use Rattle.tile_store.specs.Reading.{Meets}
-use Rattle.tile_store.specs.Stored.{tile_box}
 use Rattle.coverage_server.specs.Asking.{TextTyped}
 use Rattle.coverage_server.specs.Damage.{IsIntactNamed, AreIntactHeld, IsSpelledNamed, IsSpelledPlace, SpoilsText, SpoilsWrite, SpoilsHeld, Spoils}
 use Rattle.coverage_server.specs.Machine.{axes_of}
@@ -45,7 +43,7 @@ write_named : (name : List ℕ) (field : ℕ) (box : List Axis) (v : ServerView)
     → SpoilsWrite name field box v → ⊥
 write_named name field box v whole x =
     some_out (found name v.store)
-    {P = λ (c : Coverage). (tile : ℕ) × Meets c.domain box tile × (IsBoxOf box (tile_box c.domain tile) → ⊥)
+    {P = λ (c : Coverage). (tile : ℕ) × TileMeets c.domain tile box × (IsBoxOf box (tile_box c.domain tile) → ⊥)
     × (IsSpelledOf name field tile v.content v.store v.indexes → ⊥)}
     (λ c u. u.3 (whole field u.0)) x
 

@@ -5,9 +5,9 @@ use Rattle.std.proofs.lemmas.List.Elements.{All-cons, All-weaker}
 use Rattle.std.proofs.lemmas.Bool.{lt-ltb}
 use Rattle.arr_core.specs.Refusals.{number_of}
 use Rattle.arr_core.specs.declared.signature.Signature.{Signature}
-use Rattle.arr_core.specs.Fields.{place_of as field_place}
 use Rattle.arr_core.specs.Names.{AreDistinct}
 use Rattle.arr_core.specs.Stores.{Coverage, Store, found}
+use Rattle.arr_core.specs.Fields.{field_place}
 use Rattle.block_file.specs.State.{block_at}
 use Rattle.catalogue.specs.Signatures.{IsCatalogue, names_of}
 use Rattle.disk_face.specs.Disk.{Rose}

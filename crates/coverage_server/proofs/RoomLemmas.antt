@@ -11,13 +11,12 @@ use Rattle.arr_core.specs.declared.domain.Axis.{Axis}
 use Rattle.arr_core.specs.declared.field.Field.{Field}
 use Rattle.arr_core.specs.Domains.{points, count, point_at, rank_of, IsInside, IsBoxOf, AreOrdered}
 use Rattle.arr_core.specs.Stores.{Coverage, Store, found, value_at}
-use Rattle.arr_core.specs.Tiles.{grid, edge_of}
+use Rattle.arr_core.specs.Tiles.{grid, edge_of, tile_box, TileMeets}
 use Rattle.arr_core.proofs.Points.{at_rank, at_place, length-points, point-inside, rank_of-lt-count}
 use Rattle.arr_core.proofs.Boxes.{IsBoxOf-box}
 use Rattle.arr_core.proofs.Grids.{ordered-grid, edge-some, length-tile_boxes, get_or-tile_boxes}
-use Rattle.tile_store.specs.Reading.{Meets}
 use Rattle.tile_store.specs.Room.{AreMeeting, listed_bytes, patched_at, tile_blocks, room_for}
-use Rattle.tile_store.specs.Stored.{field_values, number_at, tile_box}
+use Rattle.tile_store.specs.Stored.{field_values, number_at}
 use Rattle.raster_store.specs.Views.{Index, values_in, coverage_in, coverages_in}
 use Rattle.raster_store.specs.Calls.{signature_of, index_of, blocks_with}
 use Rattle.raster_store.proofs.Contents.{values-at}
@@ -88,7 +87,7 @@ ordered_by (a ∷ axes) [] h = absurd h
 ordered_by (a ∷ axes) (x ∷ p) h = (omega (arith, ints, h.0, h.1), ordered_by axes p h.2)
 
 -- a tile that a box meets is a box of the domain
-met_within : (domain area : List Axis) (tile : ℕ) → IsBoxOf domain area → Meets domain area tile
+met_within : (domain area : List Axis) (tile : ℕ) → IsBoxOf domain area → TileMeets domain tile area
     → AreOrdered (tile_box domain tile) × IsBoxOf domain (tile_box domain tile)
 met_within domain area tile box (low, (p, here, there)) =
     let ordered = ordered_by domain p (box_inside domain area p box there) in
@@ -103,7 +102,7 @@ met_within domain area tile box (low, (p, here, there)) =
 -- they take as many blocks by the store as by the bytes below
 blocks_alike : (content : List ℕ) (c : Coverage) (field : ℕ) (f : Field) (i : Index) (area : List Axis)
     (numbers : List ℤ) (tile : ℕ) → IsListedAs content c field i
-    → slice_get c.fields field ≡ Some f → IsBoxOf c.domain area → Meets c.domain area tile
+    → slice_get c.fields field ≡ Some f → IsBoxOf c.domain area → TileMeets c.domain tile area
     → blocks_with c f i content area numbers tile ≡ blocks_put c field f.kind area numbers tile
 blocks_alike content c field f i area numbers tile l at box meets =
     let part = tile_box c.domain tile in

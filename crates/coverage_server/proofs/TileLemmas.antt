@@ -10,11 +10,11 @@ use Rattle.arr_core.specs.declared.field.Field.{Field}
 use Rattle.arr_core.specs.declared.signature.Signature.{Signature}
 use Rattle.arr_core.specs.Domains.{points, is_inside, IsInside, IsDomain, count, point_at}
 use Rattle.arr_core.specs.Stores.{Coverage, Store, found, value_at}
-use Rattle.arr_core.specs.Tiles.{tile_boxes}
+use Rattle.arr_core.specs.Tiles.{tile_boxes, tile_box}
 use Rattle.arr_core.proofs.Points.{at_place, length-points, point-inside}
 use Rattle.block_file.specs.View.{BlockFileView, state_of}
 use Rattle.tile_columns.specs.Sources.{HasTile as AskedTile, box_of, OnlyReads}
-use Rattle.tile_store.specs.Stored.{tile_box, IsTileSpelled, IsSpelled}
+use Rattle.tile_store.specs.Stored.{IsTileSpelled, IsSpelled}
 use Rattle.raster_store.proofs.Readings.{box_inside, tile_is_box}
 use Rattle.raster_store.specs.declared.reading.TileAt.{TileAt}
 use Rattle.raster_store.specs.Calls.{signature_of}

@@ -5,8 +5,8 @@ use Rattle.std.specs.declared.alloc.Global.{Global}
 use Rattle.arr_core.specs.declared.refusal.Refusal.TheVariants.{OutsideDomain}
 use Rattle.arr_core.specs.Refusals.{number_of}
 use Rattle.arr_core.specs.declared.field.Field.{Field}
-use Rattle.arr_core.specs.Fields.{place_of as field_place}
 use Rattle.arr_core.specs.Stores.{Coverage, Store, found, updated}
+use Rattle.arr_core.specs.Fields.{field_place}
 use Rattle.disk_face.specs.Disk.{Rose}
 use Rattle.raster_store.specs.Calls.{HasField}
 use Rattle.kvp_front.specs.Contents.{Cells}

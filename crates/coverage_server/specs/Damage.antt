@@ -3,12 +3,11 @@ use Rattle.std.specs.Prelude.{◌≡◌, ℕ, ◌<◌, List, [], ◌∷◌, leng
 use Rattle.arr_core.specs.declared.domain.Axis.{Axis}
 use Rattle.arr_core.specs.declared.signature.Signature.{Signature}
 use Rattle.arr_core.specs.Domains.{IsBoxOf}
-use Rattle.arr_core.specs.Fields.{place_of as field_place}
 use Rattle.arr_core.specs.Stores.{Coverage, Store, found}
-use Rattle.block_file.specs.Limits.{block_bytes}
+use Rattle.arr_core.specs.Tiles.{tile_box, TileMeets}
+use Rattle.arr_core.specs.Fields.{field_place}
+use Rattle.file_bytes.specs.Limits.{block_bytes}
 use Rattle.block_file.specs.State.{block_at}
-use Rattle.tile_store.specs.Reading.{Meets}
-use Rattle.tile_store.specs.Stored.{tile_box}
 use Rattle.raster_store.specs.declared.reading.TileAt.{TileAt}
 use Rattle.raster_store.specs.Fetches.{HasTile, IsSpelledAt, IsSpelledOf}
 use Rattle.raster_store.specs.Snapshots.{held_for}
@@ -79,7 +78,7 @@ AreSpelled asked v = All (λ (s : Signature). IsSpelledNamed s.name v) asked
 abbrev pub SpoilsWrite : List ℕ → ℕ → List Axis → ServerView → Type 0
 SpoilsWrite name field box v =
     IsSomeAnd (found name v.store)
-    (λ c. (tile : ℕ) × Meets c.domain box tile × (IsBoxOf box (tile_box c.domain tile) → ⊥)
+    (λ c. (tile : ℕ) × TileMeets c.domain tile box × (IsBoxOf box (tile_box c.domain tile) → ⊥)
     × (IsSpelledOf name field tile v.content v.store v.indexes → ⊥))
 
 -- the same of the field with a name

@@ -2,12 +2,12 @@
 use Rattle.std.specs.Prelude.{◌≡◌, ◌≢◌, ℕ, ◌/◌, ◌<◌, ◌⊎◌, Bool, List, [], ◌∷◌, length, ⊤}
 use Rattle.arr_core.specs.declared.signature.Signature.{Signature}
 use Rattle.arr_core.specs.Stores.{Store}
-use Rattle.block_file.specs.Limits.{block_bytes}
 use Rattle.block_file.specs.State.{block_at, overreads_of}
 use Rattle.disk_face.specs.declared.Disk.{Ghosts}
 use Rattle.block_file.specs.declared.header.State.TheVariants.{Open}
 use Rattle.file_bytes.specs.declared.form.Version.{Version}
 use Rattle.file_bytes.specs.declared.form.Version.TheVariants.{Two}
+use Rattle.file_bytes.specs.Limits.{block_bytes}
 use Rattle.block_file.specs.Format.{IsHeader, IsStoreFile, TellsVersion, IsClosed, number_at, link, first_of, chain_blocks}
 use Rattle.metadata.specs.Metadata.{IsMetadata, IsOfVersion}
 use Rattle.block_file.specs.declared.fault.OpenFault.{OpenFault}

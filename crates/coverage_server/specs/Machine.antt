@@ -13,7 +13,7 @@ use Rattle.arr_core.specs.declared.field.Field.{Field}
 use Rattle.arr_core.specs.declared.signature.Signature.{Signature}
 use Rattle.arr_core.specs.Cells.{stored, Holds}
 use Rattle.arr_core.specs.Domains.{count, IsDomain, IsBoxOf}
-use Rattle.arr_core.specs.Fields.{AreFields, place_of as field_place}
+use Rattle.arr_core.specs.Fields.{AreFields, field_place}
 use Rattle.arr_core.specs.Limits.{max_coverages}
 use Rattle.arr_core.specs.Numbers.{number_after}
 use Rattle.arr_core.specs.Stores.{Coverage, Store, found, inserted, deleted, updated}

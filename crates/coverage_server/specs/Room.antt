@@ -8,12 +8,12 @@ use Rattle.arr_core.specs.declared.field.Field.{Field}
 use Rattle.arr_core.specs.declared.signature.Signature.{Signature}
 use Rattle.arr_core.specs.Cells.{stored}
 use Rattle.arr_core.specs.Domains.{count, points}
-use Rattle.arr_core.specs.Fields.{place_of as field_place}
 use Rattle.arr_core.specs.Stores.{Coverage, Store, found, value_at}
+use Rattle.arr_core.specs.Tiles.{tile_box}
+use Rattle.arr_core.specs.Fields.{field_place}
 use Rattle.catalogue.specs.Bytes.{catalogue_bytes}
 use Rattle.tile_index.specs.Bytes.{index_bytes}
 use Rattle.tile_store.specs.Room.{AreMeeting, patched_at, tile_blocks, room_for}
-use Rattle.tile_store.specs.Stored.{tile_box}
 use Rattle.raster_store.specs.Views.{Index, metadata_size, reserve}
 use Rattle.raster_store.specs.Calls.{index_of, indexes_with}
 use Rattle.kvp_front.specs.Contents.{Cells, fill, values}

@@ -15,6 +15,9 @@ pub use form::{Form, Version};
 use std::alloc::AllocError;
 use std::marker::Model;
 
+/// How many bytes a block of a file has.
+pub const BLOCK_BYTES: usize = 4096;
+
 /// What is left to be read of some bytes.
 #[derive(Drop)]
 pub struct Reader<'a> {

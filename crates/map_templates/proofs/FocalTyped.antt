@@ -10,7 +10,7 @@ use Rattle.arr_core.specs.declared.signature.Signature.{Signature}
 use Rattle.arr_core.specs.Domains.{size_of, IsDomain}
 use Rattle.arr_core.specs.Names.{is_name}
 use Rattle.wcps_text.specs.Tree.{only}
-use Rattle.wcps_types.specs.declared.names.Bound.{Bound}
+use Rattle.wcps_types.specs.declared.bound.Bound.{Bound}
 use Rattle.wcps_types.specs.declared.refusal.TypeRefusal.TheVariants.{NeedsInteger}
 use Rattle.wcps_types.specs.Typed.{Typed, bracket, condense_where, TypedTree}
 use Rattle.wcps_types.specs.Shapes.{unnamed}

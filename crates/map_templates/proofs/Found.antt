@@ -9,7 +9,7 @@ use Rattle.arr_core.specs.declared.domain.Axis.{Axis}
 use Rattle.arr_core.specs.declared.field.Field.{Field}
 use Rattle.arr_core.specs.declared.signature.Signature.{Signature}
 use Rattle.arr_core.specs.Domains.{AreOrdered}
-use Rattle.arr_core.specs.Fields.{place_of}
+use Rattle.arr_core.specs.Fields.{IsField, field_place}
 use Rattle.arr_core.specs.Names.{IsName}
 use Rattle.wcps_types.specs.Names.{coverage_place}
 use Rattle.wcps_types.specs.Bindings.{signature_at}
@@ -23,7 +23,7 @@ use Rattle.map_templates.specs.declared.template.LocalOperation.{LocalOperation}
 use Rattle.map_templates.specs.declared.template.Summary.{Summary}
 use Rattle.map_templates.specs.Refusals.{Answer, Says}
 use Rattle.map_templates.specs.Expansion.{Operation, local_on, focal_on, zonal_on, coverage_of, field_found, field_at, field_of, second_of, radius_of, local_operation, on_plane, focal_operation, zonal_operation, text_of, as_text}
-use Rattle.map_templates.specs.Queries.{IsAxis, IsField, IsCoverage}
+use Rattle.map_templates.specs.Queries.{IsAxis, IsCoverage}
 use Rattle.map_templates.proofs.Written.{IsLayer, IsFieldName, AreAxes}
 use Rattle.map_templates.proofs.Same.{Decides-same}
 
@@ -73,11 +73,11 @@ at_place P name signatures s (Some k) is all e =
 pub found_named : (signatures : List Signature) (layer : Layer) (s : Signature) (f : ℕ) → IsFound signatures layer s f → All IsCoverage signatures → (s.name ≡ layer.coverage) × IsCoverage s
 found_named signatures layer s f h all = at_place IsCoverage layer.coverage signatures s (coverage_place layer.coverage signatures) refl all h.found
 
-field_place : (o : Option ℕ) (f : ℕ) → field_found o ≡ Ok f → o ≡ Some f
-field_place None f e = no_answer e
-field_place (Some k) f e = ap (λ (x : ℕ). Some x) (same_answer e)
+found_field : (o : Option ℕ) (f : ℕ) → field_found o ≡ Ok f → o ≡ Some f
+found_field None f e = no_answer e
+found_field (Some k) f e = ap (λ (x : ℕ). Some x) (same_answer e)
 
-field_named : (fields : List Field) (name : List ℕ) (f : ℕ) (o : Option ℕ) → place_of name fields ≡ o → o ≡ Some f → All IsField fields → IsName name
+field_named : (fields : List Field) (name : List ℕ) (f : ℕ) (o : Option ℕ) → field_place name fields ≡ o → o ≡ Some f → All IsField fields → IsName name
 field_named [] name f o is e all = none_some (is ∙ e)
 field_named (d ∷ fields) name f o is e all =
     let at = position-Some (λ (x : Field). bytes_eq x.name name) (d ∷ fields) f d (is ∙ e) in
@@ -85,7 +85,7 @@ field_named (d ∷ fields) name f o is e all =
 
 name_of_field : (o : Option (List ℕ)) (fields : List Field) (f : ℕ) → field_at o fields ≡ Ok f → All IsField fields → IsFieldName o
 name_of_field None fields f e all = tt
-name_of_field (Some name) fields f e all = field_named fields name f (place_of name fields) refl (field_place (place_of name fields) f e) all
+name_of_field (Some name) fields f e all = field_named fields name f (field_place name fields) refl (found_field (field_place name fields) f e) all
 
 pub layer_named : (signatures : List Signature) (layer : Layer) (s : Signature) (f : ℕ) → IsFound signatures layer s f → All IsCoverage signatures → IsLayer layer
 layer_named signatures layer s f h all =

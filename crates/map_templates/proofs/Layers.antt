@@ -8,16 +8,16 @@ use Rattle.std.proofs.lemmas.Slice.Eq.{bytes_eq-Decides}
 use Rattle.arr_core.specs.declared.domain.Axis.{Axis}
 use Rattle.arr_core.specs.declared.field.Field.{Field}
 use Rattle.arr_core.specs.declared.signature.Signature.{Signature}
-use Rattle.arr_core.specs.Fields.{place_of}
 use Rattle.wcps_text.specs.Tree as tree
 use Rattle.wcps_text.specs.Tree.{Tree, QueryTree}
-use Rattle.wcps_types.specs.declared.names.Bound.{Bound}
+use Rattle.wcps_types.specs.declared.bound.Bound.{Bound}
 use Rattle.wcps_types.specs.declared.refusal.TypeRefusal.{TypeRefusal}
 use Rattle.wcps_types.specs.declared.refusal.TypeRefusal.TheVariants.{DomainMismatch, ResultTooLarge, TooMuchWork}
 use Rattle.wcps_text.specs.declared.operator.BinaryOperator.{BinaryOperator}
 use Rattle.wcps_types.specs.Typed.{Typed, cell, select, binary, TypedTree, CombinationTree}
 use Rattle.wcps_types.specs.Shapes.{ShapeTree, Answer, then_of, unnamed, is_scalar}
 use Rattle.arr_core.specs.Cells.{is_bool}
+use Rattle.arr_core.specs.Fields.{field_place}
 use Rattle.wcps_types.specs.Variables.{cells_from, variable}
 use Rattle.wcps_types.specs.Operators.{selected, numeric, are_same}
 use Rattle.wcps_types.specs.Typing.{typ}
@@ -61,7 +61,7 @@ selected_at name axes c k (x ∷ fields) (suc f) d lt at before =
     let same : (k + 1) + f ≡ k + suc f = omega arith in
     record { name = more.name; boolean = more.boolean; is = rw (before 0 (omega arith)) (subst (λ (j : ℕ). selected name axes (cells_from c (k + 1) fields) ≡ Ok (one axes more.name more.boolean (select (cell c j)))) same more.is) }
 
-field_selected : (name : List ℕ) (axes : List Axis) (c : ℕ) (fields : List Field) (f : ℕ) → place_of name fields ≡ Some f → IsOne (selected name axes (cells_from c 0 fields)) axes (select (cell c f))
+field_selected : (name : List ℕ) (axes : List Axis) (c : ℕ) (fields : List Field) (f : ℕ) → field_place name fields ≡ Some f → IsOne (selected name axes (cells_from c 0 fields)) axes (select (cell c f))
 field_selected name axes c [] f e = none_some e
 field_selected name axes c (d ∷ fields) f e =
     let at = position-Some (λ (x : Field). bytes_eq x.name name) (d ∷ fields) f d e in
@@ -89,7 +89,7 @@ layer_typed cs bound scope v None s c f var e =
     let at = only_field_at s.domain c s.fields f e in
     record { name = at.name; boolean = at.boolean; is = var ∙ at.is }
 layer_typed cs bound scope v (Some x) s c f var e =
-    let at = field_selected x s.domain c s.fields f (found_place (place_of x s.fields) f e) in
+    let at = field_selected x s.domain c s.fields f (found_place (field_place x s.fields) f e) in
     record { name = at.name; boolean = at.boolean; is = ap (λ (a : Answer ShapeTree). then_of a (λ (t : ShapeTree). selected x t.domain t.fields)) var ∙ at.is }
 
 -- it gives the cells of the coverage

@@ -5,12 +5,12 @@ use Rattle.std.proofs.lemmas.List.Edits.{remove-append_right}
 use Rattle.std.specs.Str.{bytes_eq}
 use Rattle.arr_core.specs.declared.domain.Axis.{Axis}
 use Rattle.arr_core.specs.declared.signature.Signature.{Signature}
-use Rattle.arr_core.specs.Domains.{IsDomain, names_of}
+use Rattle.arr_core.specs.Domains.{IsDomain, names_of, axis_place}
 use Rattle.wcps_text.specs.Tree as tree
 use Rattle.wcps_text.specs.Tree.{Tree, Iters, no_iters, iter, bounds, Subs, no_subs, sub, at, only}
-use Rattle.wcps_types.specs.declared.names.Bound.{Bound}
+use Rattle.wcps_types.specs.declared.bound.Bound.{Bound}
 use Rattle.wcps_types.specs.Typed.{Typed, bracket}
-use Rattle.wcps_types.specs.Names.{axis_place, name_place}
+use Rattle.wcps_types.specs.Names.{name_place}
 use Rattle.wcps_types.specs.Shapes.{unnamed}
 use Rattle.wcps_types.specs.Boxes.{is_taken}
 use Rattle.wcps_types.specs.Brackets.{CutTree, cut_out, all_cut_out}

@@ -3,7 +3,7 @@ use Rattle.std.specs.Prelude.{ℕ, ℤ, pos, List, [], ◌∷◌, length, nat_eq
 use Rattle.arr_core.specs.declared.domain.Axis.{Axis}
 use Rattle.arr_core.specs.declared.field.Field.{Field}
 use Rattle.arr_core.specs.declared.signature.Signature.{Signature}
-use Rattle.arr_core.specs.Fields.{place_of}
+use Rattle.arr_core.specs.Fields.{field_place}
 use Rattle.wcps_types.specs.Names.{coverage_place}
 use Rattle.wcps_types.specs.Bindings.{signature_at}
 use Rattle.wcps_types.specs.Shapes.{then_of}
@@ -29,7 +29,7 @@ field_found (Some k) = Ok k
 
 abbrev pub field_at : Option (List ℕ) → List Field → Answer ℕ
 field_at None fields = cond (nat_eq (length fields) 1) (Ok 0) (Err BadParameter)
-field_at (Some name) fields = field_found (place_of name fields)
+field_at (Some name) fields = field_found (field_place name fields)
 
 -- the place of the field that a layer takes: the one that it names, or the only one
 abbrev pub field_of : Layer → Signature → Answer ℕ

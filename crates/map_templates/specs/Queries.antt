@@ -1,9 +1,9 @@
 -- That the text of a template is a query of the language, and what its answer is.
 use Rattle.std.specs.Prelude.{◌≡◌, ℕ, ◌≤◌, List, length, All, Result, IfOk, Ok, String, string_bytes}
 use Rattle.arr_core.specs.declared.domain.Axis.{Axis}
-use Rattle.arr_core.specs.declared.field.Field.{Field}
 use Rattle.arr_core.specs.declared.signature.Signature.{Signature}
 use Rattle.arr_core.specs.Domains.{IsDomain}
+use Rattle.arr_core.specs.Fields.{IsField}
 use Rattle.arr_core.specs.Names.{IsName}
 use Rattle.wcps_text.specs.Lexing.{Piece, Lexed, tokens_of}
 use Rattle.wcps_text.specs.Tree.{QueryTree}
@@ -22,9 +22,6 @@ use Rattle.map_templates.specs.Laws.{IsSmall}
 pub record IsAxis (a : Axis) : Type 0 where
   pub named : IsName a.name
   pub small : IsSmall a
-
-abbrev pub IsField : Field → Type 0
-IsField f = IsName f.name
 
 -- what is known of a coverage: it has a name, a domain with at least one axis, and fields with names
 pub record IsCoverage (s : Signature) : Type 0 where

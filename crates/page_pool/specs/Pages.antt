@@ -2,7 +2,7 @@
 use Rattle.std.specs.Prelude.{◌≡◌, ◌≢◌, ℕ, Bool, IsTrue, List, [], length, Option, Some, None, nat_eq}
 use Rattle.std.specs.Map.{lookup}
 use Rattle.lru.specs.LruCache.{LruCache}
-use Rattle.block_file.specs.Limits.{block_bytes}
+use Rattle.file_bytes.specs.Limits.{block_bytes}
 use Rattle.block_file.specs.State.{block_at}
 
 -- the pages of a cache that may be left out

@@ -1,7 +1,7 @@
 //! One page.
 ghost use Rattle.std.specs.Prelude.{◌≡◌, IfOk};
 
-use block_file::BLOCK_BYTES;
+use file_bytes::BLOCK_BYTES;
 use std::alloc::{AllocError, Global};
 use std::marker::Model;
 
@@ -13,7 +13,7 @@ pub(crate) struct Page {
 
 impl Model for Page {
     ghost use Rattle.std.specs.Prelude.{◌≡◌, ℕ, List, length};
-    ghost use Rattle.block_file.specs.Limits.{block_bytes};
+    ghost use Rattle.file_bytes.specs.Limits.{block_bytes};
 
     ghost Value = { List ℕ };
 
@@ -24,7 +24,7 @@ impl Model for Page {
 
 impl Page {
     /// A page with these bytes.
-    pub(crate) fn new(alloc: Global, bytes: &[u8; 4096]) -> Result<Page, AllocError>
+    pub(crate) fn new(alloc: Global, bytes: &[u8; BLOCK_BYTES]) -> Result<Page, AllocError>
         ensures { IfOk result (λ page. page ≡ bytes.now) }
     {
         let mut page = Vec::with_capacity(alloc, BLOCK_BYTES)?;
@@ -33,14 +33,14 @@ impl Page {
     }
 
     /// Copies the page.
-    pub(crate) fn read(&self, bytes: &mut [u8; 4096])
+    pub(crate) fn read(&self, bytes: &mut [u8; BLOCK_BYTES])
         ensures { bytes.new ≡ self.now }
     {
         bytes.copy_from_slice(&self.bytes);
     }
 
     /// Makes the page one with these bytes.
-    pub(crate) fn write(&mut self, bytes: &[u8; 4096])
+    pub(crate) fn write(&mut self, bytes: &[u8; BLOCK_BYTES])
         ensures { self.new ≡ bytes.now }
     {
         self.bytes.copy_from_slice(bytes);

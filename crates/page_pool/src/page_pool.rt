@@ -4,6 +4,7 @@ ghost use Rattle.std.specs.Prelude.{◌≡◌};
 use crate::pages::Pages;
 use block_file::{BlockFile, Blocks, State, TakeFault};
 use disk_face::{Disk, DiskFault};
+use file_bytes::BLOCK_BYTES;
 use std::alloc::{AllocError, Global};
 use std::marker::Model;
 
@@ -58,7 +59,7 @@ impl<D: Disk> Blocks for PagePool<D> {
 
     ghost state = { λ s. state_of s };
 
-    fn read(&mut self, k: u32, bytes: &mut [u8; 4096]) -> Result<(), DiskFault> {
+    fn read(&mut self, k: u32, bytes: &mut [u8; BLOCK_BYTES]) -> Result<(), DiskFault> {
         if self.pages.get(k, bytes) {
             return Ok(());
         }
@@ -72,7 +73,7 @@ impl<D: Disk> Blocks for PagePool<D> {
         self.file.read_run(k, bytes)
     }
 
-    fn write(&mut self, k: u32, bytes: &[u8; 4096]) -> Result<(), DiskFault> {
+    fn write(&mut self, k: u32, bytes: &[u8; BLOCK_BYTES]) -> Result<(), DiskFault> {
         match self.file.write(k, bytes) {
             Ok(()) => {
                 self.pages.renew(k, bytes);

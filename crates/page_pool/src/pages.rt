@@ -3,6 +3,7 @@ ghost use Rattle.std.specs.Prelude.{◌≡◌, [], Some, None, IsTrue, IsFalse, 
 ghost use Rattle.page_pool.specs.Pages.{page_of, SamePages, NoneAdded, Forgets, Renews};
 
 use crate::page::Page;
+use file_bytes::BLOCK_BYTES;
 use lru::LruCache;
 use std::alloc::{AllocError, Global};
 use std::marker::Model;
@@ -79,7 +80,7 @@ impl Pages {
     }
 
     /// Copies the page of block k, where there is one, which it tells.
-    pub(crate) fn get(&mut self, k: u32, bytes: &mut [u8; 4096]) -> bool
+    pub(crate) fn get(&mut self, k: u32, bytes: &mut [u8; BLOCK_BYTES]) -> bool
         ensures kept { IsTrue result → page_of self.old k ≡ Some bytes.new }
         ensures absent { IsFalse result → page_of self.old k ≡ None }
         ensures same { SamePages self.old self.new }
@@ -95,7 +96,7 @@ impl Pages {
     }
 
     /// Keeps a page of block k, of which there is none, where the block was asked for lately.
-    pub(crate) fn offer(&mut self, k: u32, bytes: &[u8; 4096])
+    pub(crate) fn offer(&mut self, k: u32, bytes: &[u8; BLOCK_BYTES])
         requires { page_of self.old k ≡ None }
         ensures { Renews k bytes.now self.old self.new }
     {
@@ -116,7 +117,7 @@ impl Pages {
     }
 
     /// Writes these bytes into the page of block k, where there is one.
-    pub(crate) fn renew(&mut self, k: u32, bytes: &[u8; 4096])
+    pub(crate) fn renew(&mut self, k: u32, bytes: &[u8; BLOCK_BYTES])
         ensures { Renews k bytes.now self.old self.new }
     {
         let Some(kept) = &mut self.kept else {

@@ -1,12 +1,12 @@
 -- The units of a plan: its boxes in the order in which they are done, how many points they have, and how many tiles the
 -- evaluation of one may fetch.
-use Rattle.std.specs.Prelude.{ℕ, ◌+◌, ◌*◌, nat_lt, nat_eq, cond, Bool, true, ℤ, List, [], ◌∷◌, ◌++◌, map, length, slice_get, Option, Some, None, sum_by}
+use Rattle.std.specs.Prelude.{ℕ, ◌+◌, ◌*◌, nat_lt, nat_eq, cond, Bool, true, List, [], ◌∷◌, ◌++◌, map, length, slice_get, Option, Some, None, sum_by}
 use Rattle.std.specs.List.{flat_map, list_any, list_all}
 use Rattle.arr_core.specs.declared.domain.Axis.{Axis}
 use Rattle.arr_core.specs.declared.signature.Signature.{Signature}
-use Rattle.arr_core.specs.Domains.{points, count, rank_of}
-use Rattle.arr_core.specs.Tiles.{edge_of, grid, tile_boxes}
-use Rattle.arr_core.specs.Meeting.{tile_at}
+use Rattle.arr_core.specs.Domains.{points, count}
+use Rattle.arr_core.specs.Tiles.{tile_boxes}
+use Rattle.arr_core.specs.Meeting.{tile_number}
 use Rattle.plan_ir.specs.declared.body.Index.{Index}
 use Rattle.plan_ir.specs.declared.body.Index.TheVariants.{Const, Var}
 use Rattle.plan_ir.specs.Bodies.{Tree, lit, var, reg, op1, op2, read, table, bind, fold}
@@ -82,10 +82,6 @@ distinct_after seen (n ∷ ns) = distinct_after (added seen n) ns
 -- the different numbers of a list, in order of their first place
 abbrev pub distinct : List ℕ → List ℕ
 distinct ns = distinct_after [] ns
-
--- the number of the tile that a point of a coverage is in
-abbrev pub tile_number : List Axis → List ℤ → ℕ
-tile_number axes p = rank_of (grid (edge_of (length axes)) axes) (tile_at (edge_of (length axes)) axes p)
 
 -- the tiles that hold a point which the indexes give from a point of the box
 abbrev pub tiles_read : List Axis → List Axis → List Index → List ℕ

@@ -10,10 +10,11 @@ use Rattle.arr_core.specs.declared.field.Field.{Field}
 use Rattle.arr_core.specs.declared.domain.Axis.{Axis}
 use Rattle.arr_core.specs.Domains.{IsBoxOf, points, count, point_at, rank_of, IsInside, IsDomain, AreOrdered}
 use Rattle.arr_core.specs.Stores.{Coverage, Store, found, value_at}
-use Rattle.arr_core.specs.Tiles.{tile_boxes, grid, edge_of}
+use Rattle.arr_core.specs.Tiles.{tile_boxes, grid, edge_of, tile_box, TileMeets}
 use Rattle.arr_core.proofs.Points.{at_rank, at_place, length-points, point-inside, rank_of-lt-count}
 use Rattle.arr_core.proofs.Boxes.{IsDomain-box, IsBoxOf-box}
 use Rattle.arr_core.proofs.Grids.{ordered-grid, edge-some, length-tile_boxes, get_or-tile_boxes}
+use Rattle.arr_core.specs.Meeting.{tile_number}
 use Rattle.block_file.specs.State.{BlocksState, block}
 use Rattle.block_file.specs.Words.{Covers}
 use Rattle.tile_store.specs.declared.numbers.Numbers.{Numbers}
@@ -21,8 +22,8 @@ use Rattle.tile_store.specs.Numbers.{AreNumbers}
 use Rattle.tile_store.specs.Listing.{IsBelow, IsSound}
 use Rattle.tile_store.specs.declared.field.FieldTiles.{FieldTiles}
 use Rattle.tile_store.specs.Picking.{picked}
-use Rattle.tile_store.specs.Reading.{number_in, ArePicked, IsSpelledIn, IsTileRead, Meets}
-use Rattle.tile_store.specs.Stored.{field_values, number_at, tile_box, tile_number, IsSpelled, IsTileSpelled}
+use Rattle.tile_store.specs.Reading.{number_in, ArePicked, IsSpelledIn, IsTileRead}
+use Rattle.tile_store.specs.Stored.{field_values, number_at, IsSpelled, IsTileSpelled}
 use Rattle.raster_store.specs.declared.held.Held.{Held}
 use Rattle.raster_store.specs.declared.reading.TileAt.{TileAt}
 use Rattle.raster_store.specs.Views.{FieldsIntact, AreIntact, listed_fields, Index}
@@ -291,13 +292,13 @@ module _ (s : BlocksState) (held : List Held) (name : List ℕ) (field : ℕ) (h
   pub cell_damaged : (p : List ℤ) → IsBadHere (tile_number h.signature.domain p) → IsSomeAnd (found name (coverages_of s.content held)) (λ c. IsBad (tile_number c.domain p))
   cell_damaged p bad = some_at (found name (coverages_of s.content held)) (coverage_of s.content h) (λ c. IsBad (tile_number c.domain p)) (known_named s held name h is_held is).at (is_bad (tile_number h.signature.domain p) bad)
 
-  pub box_damaged : (area : List Axis) (tile : ℕ) → Meets h.signature.domain area tile → IsBadHere tile → IsSomeAnd (found name (coverages_of s.content held)) (λ c. (t : ℕ) × Meets c.domain area t × IsBad t)
-  box_damaged area tile meets bad = some_at (found name (coverages_of s.content held)) (coverage_of s.content h) (λ c. (t : ℕ) × Meets c.domain area t × IsBad t) (known_named s held name h is_held is).at (tile, meets, is_bad tile bad)
+  pub box_damaged : (area : List Axis) (tile : ℕ) → TileMeets h.signature.domain tile area → IsBadHere tile → IsSomeAnd (found name (coverages_of s.content held)) (λ c. (t : ℕ) × TileMeets c.domain t area × IsBad t)
+  box_damaged area tile meets bad = some_at (found name (coverages_of s.content held)) (coverage_of s.content h) (λ c. (t : ℕ) × TileMeets c.domain t area × IsBad t) (known_named s held name h is_held is).at (tile, meets, is_bad tile bad)
 
-  pub under_damaged : (area : List Axis) (tile : ℕ) → Meets h.signature.domain area tile → (IsBoxOf area (tile_box h.signature.domain tile) → ⊥) → IsBadHere tile
-      → IsSomeAnd (found name (coverages_of s.content held)) (λ c. (t : ℕ) × Meets c.domain area t × (IsBoxOf area (tile_box c.domain t) → ⊥) × IsBad t)
+  pub under_damaged : (area : List Axis) (tile : ℕ) → TileMeets h.signature.domain tile area → (IsBoxOf area (tile_box h.signature.domain tile) → ⊥) → IsBadHere tile
+      → IsSomeAnd (found name (coverages_of s.content held)) (λ c. (t : ℕ) × TileMeets c.domain t area × (IsBoxOf area (tile_box c.domain t) → ⊥) × IsBad t)
   under_damaged area tile meets open_ bad =
-      some_at (found name (coverages_of s.content held)) (coverage_of s.content h) (λ c. (t : ℕ) × Meets c.domain area t × (IsBoxOf area (tile_box c.domain t) → ⊥) × IsBad t) (known_named s held name h is_held is).at
+      some_at (found name (coverages_of s.content held)) (coverage_of s.content h) (λ c. (t : ℕ) × TileMeets c.domain t area × (IsBoxOf area (tile_box c.domain t) → ⊥) × IsBad t) (known_named s held name h is_held is).at
       (tile, meets, open_, is_bad tile bad)
 
 -- so is it at the coverage's place

@@ -14,7 +14,7 @@ use Rattle.arr_core.specs.declared.field.Field.{Field}
 use Rattle.arr_core.specs.declared.signature.Signature.{Signature}
 use Rattle.arr_core.specs.Domains.{points, count, point_at, rank_of, is_inside, IsInside, IsBoxOf, AreOrdered}
 use Rattle.arr_core.specs.Stores.{Coverage, Store, found, value_at, updated_coverage, updated}
-use Rattle.arr_core.specs.Tiles.{grid, edge_of}
+use Rattle.arr_core.specs.Tiles.{grid, edge_of, tile_box, TileMeets}
 use Rattle.arr_core.proofs.Points.{at_rank, at_place, length-points, point-inside, rank_of-lt-count}
 use Rattle.arr_core.proofs.Boxes.{IsBoxOf-box}
 use Rattle.arr_core.proofs.Grids.{ordered-grid, edge-some, length-tile_boxes, get_or-tile_boxes}
@@ -23,9 +23,8 @@ use Rattle.tile_index.specs.declared.entry.Entry.{Entry}
 use Rattle.tile_index.specs.Index.{found_at}
 use Rattle.tile_store.specs.declared.numbers.Patch.{Patch}
 use Rattle.tile_store.specs.Patches.{IsPatched, numbers_of}
-use Rattle.tile_store.specs.Reading.{Meets}
 use Rattle.tile_store.specs.Room.{entry_blocks, tile_blocks, cells_after, patched_at}
-use Rattle.tile_store.specs.Stored.{field_values, number_at, tile_box, IsTileSpelled, IsPadded, KeepsListed}
+use Rattle.tile_store.specs.Stored.{field_values, number_at, IsTileSpelled, IsPadded, KeepsListed}
 use Rattle.tile_store.proofs.Kept.{tile_kept, padded_kept}
 use Rattle.raster_store.specs.declared.held.Held.{Held}
 use Rattle.raster_store.specs.Views.{Index, SnapshotView, values_in}
@@ -47,7 +46,7 @@ ordered_by (a ∷ axes) [] h = absurd h
 ordered_by (a ∷ axes) (x ∷ p) h = (omega (arith, ints, h.0, h.1), ordered_by axes p h.2)
 
 -- a tile that a box meets is a box of the domain
-tile_within : (domain area : List Axis) (tile : ℕ) → IsBoxOf domain area → Meets domain area tile → AreOrdered (tile_box domain tile) × IsBoxOf domain (tile_box domain tile)
+tile_within : (domain area : List Axis) (tile : ℕ) → IsBoxOf domain area → TileMeets domain tile area → AreOrdered (tile_box domain tile) × IsBoxOf domain (tile_box domain tile)
 tile_within domain area tile box (low, (p, here, there)) =
     let ordered = ordered_by domain p (box_inside domain area p box there) in
     let e = edge_of (length domain) in
@@ -82,7 +81,7 @@ number_there content h j kind p is within inside =
     ∙ get_or-map number (points domain) (rank_of domain p) [] (pos 0) below ∙ ap number (at_rank domain p [] inside)
 
 -- the values of a tile after an update are its cells after the numbers were put into it
-tile_put : (content : List ℕ) (h : Held) (j : ℕ) (kind : FieldType) (area : List Axis) (numbers : List ℤ) (tile : ℕ) → HasKind h.signature.fields j kind → j < length h.fields.items → IsBoxOf h.signature.domain area → Meets h.signature.domain area tile
+tile_put : (content : List ℕ) (h : Held) (j : ℕ) (kind : FieldType) (area : List Axis) (numbers : List ℤ) (tile : ℕ) → HasKind h.signature.fields j kind → j < length h.fields.items → IsBoxOf h.signature.domain area → TileMeets h.signature.domain tile area
     → values_of_tile (updated_coverage j area numbers (coverage_of content h)) j tile ≡ cells_after kind h.signature.domain (index_at h j) content area numbers tile
 tile_put content h j kind area numbers tile is within box meets =
     let domain = h.signature.domain in
@@ -296,13 +295,13 @@ this_or n name f j = elim (cases_Bool (bytes_eq n name)) [
 module _ {B : Type 0} (state : B → BlocksState) (old new : B) {held : List Held} {name : List ℕ} {i j : ℕ} {kind : FieldType} {h h' : Held} {x' : Index} (w : Exchange (state old) (state new).content held name i j kind h h' x') (xs xs' : List SnapshotView) (fetched : ℕ)
     (u : Patch) (domain : u.domain.now ≡ h.signature.domain) (same : u.kind ≡ kind) (box : IsBoxOf h.signature.domain u.area.now) (done : IsPatched u (state old) (index_at h j) (state new) x')
     (put : coverages_of (state new).content (set held i h') ≡ updated name j u.area.now (numbers_of u) (coverages_of (state old).content held)) where
-  meets : (tile : ℕ) → IsSomeAnd (found name (coverages_of (state old).content held)) (λ c. Meets c.domain u.area.now tile) → Meets h.signature.domain u.area.now tile
+  meets : (tile : ℕ) → IsSomeAnd (found name (coverages_of (state old).content held)) (λ c. TileMeets c.domain tile u.area.now) → TileMeets h.signature.domain tile u.area.now
   meets tile met = rw (found_before w) at met
 
-  meets_store : (tile : ℕ) → Meets h.signature.domain u.area.now tile → IsSomeAnd (found name (coverages_of (state old).content held)) (λ c. Meets c.domain u.area.now tile)
-  meets_store tile met = some_at (found name (coverages_of (state old).content held)) (coverage_of (state old).content h) (λ c. Meets c.domain u.area.now tile) (found_before w) met
+  meets_store : (tile : ℕ) → TileMeets h.signature.domain tile u.area.now → IsSomeAnd (found name (coverages_of (state old).content held)) (λ c. TileMeets c.domain tile u.area.now)
+  meets_store tile met = some_at (found name (coverages_of (state old).content held)) (coverage_of (state old).content h) (λ c. TileMeets c.domain tile u.area.now) (found_before w) met
 
-  takes_here : (tile : ℕ) → Meets h.signature.domain u.area.now tile → TakesItsBlocks name j tile (view_of state new (set held i h') xs' fetched)
+  takes_here : (tile : ℕ) → TileMeets h.signature.domain tile u.area.now → TakesItsBlocks name j tile (view_of state new (set held i h') xs' fetched)
   takes_here tile met =
       let content = (state old).content in
       let after = coverages_of (state new).content (set held i h') in
@@ -315,14 +314,14 @@ module _ {B : Type 0} (state : B → BlocksState) (old new : B) {held : List Hel
       some_at (found name after) c (λ c. IsSomeAnd (slice_get c.fields j) (λ (f : Field). entry_blocks (found_at tile (unwrap_or (index_of name j after indexes) [])) ≡ tile_blocks f.kind (values_of_tile c j tile))) is_found
       (kind_gives (slice_get h.signature.fields j) kind (λ (k : FieldType). entry_blocks (found_at tile (unwrap_or (index_of name j after indexes) [])) ≡ tile_blocks k (values_of_tile c j tile)) w.of_kind fact)
 
-  entry_here : (tile : ℕ) → (Meets h.signature.domain u.area.now tile → ⊥) → entry_in name j tile (view_of state new (set held i h') xs' fetched) ≡ entry_in name j tile (view_of state old held xs fetched)
+  entry_here : (tile : ℕ) → (TileMeets h.signature.domain tile u.area.now → ⊥) → entry_in name j tile (view_of state new (set held i h') xs' fetched) ≡ entry_in name j tile (view_of state old held xs fetched)
   entry_here tile apart =
       ap (λ (o : Option Index). found_at tile (unwrap_or o [])) (index_here w) ∙ (rw domain at (done.same tile)) apart ∙ sym (ap (λ (o : Option Index). found_at tile (unwrap_or o [])) (index_before w))
 
   still_spelled : (tile : ℕ) → IsSpelledOf name j tile (state old).content (coverages_of (state old).content held) (indexes_of held) → IsTileSpelled kind h.signature.domain x' (state new).content tile
   still_spelled tile spelled = (rw (same, domain) at (done.others tile)) (spelled_named (state old) held name j h kind tile w.is_held (i, w.at, w.was) w.of_kind w.field spelled)
 
-  padded_here : (tile : ℕ) → Meets h.signature.domain u.area.now tile ⊎ IsPaddedAt tile (state old).content (index_of name j (coverages_of (state old).content held) (indexes_of held))
+  padded_here : (tile : ℕ) → TileMeets h.signature.domain tile u.area.now ⊎ IsPaddedAt tile (state old).content (index_of name j (coverages_of (state old).content held) (indexes_of held))
       → IsPaddedAt tile (state new).content (index_of name j (coverages_of (state new).content (set held i h')) (indexes_of (set held i h')))
   padded_here tile was =
       subst (IsPaddedAt tile (state new).content) (sym (index_here w))

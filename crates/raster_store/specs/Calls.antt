@@ -9,7 +9,7 @@ use Rattle.arr_core.specs.declared.signature.Signature.{Signature}
 use Rattle.arr_core.specs.Cells.{Holds}
 use Rattle.arr_core.specs.Domains.{count, IsBoxOf}
 use Rattle.arr_core.specs.Stores.{Coverage, Store, found}
-use Rattle.block_file.specs.Limits.{block_bytes}
+use Rattle.file_bytes.specs.Limits.{block_bytes}
 use Rattle.block_file.specs.State.{BlocksState, block, free_of}
 use Rattle.block_file.specs.Words.{Covers}
 use Rattle.tile_index.specs.Bytes.{index_bytes}

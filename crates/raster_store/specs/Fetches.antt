@@ -4,10 +4,10 @@ use Rattle.arr_core.specs.declared.field.Field.{Field}
 use Rattle.arr_core.specs.declared.domain.Axis.{Axis}
 use Rattle.arr_core.specs.Domains.{points, count, IsBoxOf}
 use Rattle.arr_core.specs.Stores.{Coverage, Store, found, value_at}
-use Rattle.arr_core.specs.Tiles.{tile_boxes}
+use Rattle.arr_core.specs.Tiles.{tile_boxes, tile_box, TileMeets}
+use Rattle.arr_core.specs.Meeting.{tile_number}
 use Rattle.block_file.specs.State.{BlocksState}
-use Rattle.tile_store.specs.Reading.{Meets}
-use Rattle.tile_store.specs.Stored.{tile_box, tile_number, IsTileSpelled}
+use Rattle.tile_store.specs.Stored.{IsTileSpelled}
 use Rattle.raster_store.specs.Views.{Index, RasterView}
 use Rattle.raster_store.specs.Calls.{index_of}
 use Rattle.raster_store.specs.declared.reading.TileAt.{TileAt}
@@ -112,10 +112,10 @@ IsDamagedCell state name field p v = IsTrue (state v.blocks).honest
 
 abbrev pub IsDamagedBox : {B : Type 0} → (B → BlocksState) → List ℕ → ℕ → List Axis → RasterView B → Type 0
 IsDamagedBox state name field area v = IsTrue (state v.blocks).honest
-    → IsSomeAnd (found name v.coverages) (λ c. (tile : ℕ) × Meets c.domain area tile × IsBadTile state name field tile v)
+    → IsSomeAnd (found name v.coverages) (λ c. (tile : ℕ) × TileMeets c.domain tile area × IsBadTile state name field tile v)
 
 abbrev pub IsDamagedUnder : {B : Type 0} → (B → BlocksState) → List ℕ → ℕ → List Axis → RasterView B → Type 0
 IsDamagedUnder state name field area v = IsTrue (state v.blocks).honest
     → IsSomeAnd (found name v.coverages)
-    (λ c. (tile : ℕ) × Meets c.domain area tile × (IsBoxOf area (tile_box c.domain tile) → ⊥)
+    (λ c. (tile : ℕ) × TileMeets c.domain tile area × (IsBoxOf area (tile_box c.domain tile) → ⊥)
     × IsBadTile state name field tile v)

@@ -5,12 +5,12 @@ use Rattle.arr_core.specs.declared.domain.Axis.{Axis}
 use Rattle.arr_core.specs.declared.field.Field.{Field}
 use Rattle.arr_core.specs.Domains.{points}
 use Rattle.arr_core.specs.Stores.{Coverage, found, value_at}
+use Rattle.arr_core.specs.Tiles.{tile_box, TileMeets}
 use Rattle.block_file.specs.State.{BlocksState}
 use Rattle.tile_index.specs.declared.entry.Entry.{Entry}
 use Rattle.tile_index.specs.Index.{found_at}
-use Rattle.tile_store.specs.Reading.{Meets}
 use Rattle.tile_store.specs.Room.{entry_blocks, tile_blocks}
-use Rattle.tile_store.specs.Stored.{tile_box, IsPadded}
+use Rattle.tile_store.specs.Stored.{IsPadded}
 use Rattle.raster_store.specs.Views.{RasterView}
 use Rattle.raster_store.specs.Calls.{index_of}
 use Rattle.raster_store.specs.Fetches.{IsSpelledOf}
@@ -26,7 +26,7 @@ blocks_in name field tile v = entry_blocks (entry_in name field tile v)
 -- the tile is one of a field that a box meets
 abbrev pub IsMet : {B : Type 0} → List ℕ → ℕ → List Axis → RasterView B → List ℕ → ℕ → ℕ → Type 0
 IsMet name field area v n f tile =
-    (n ≡ name) × (f ≡ field) × IsSomeAnd (found name v.coverages) (λ c. Meets c.domain area tile)
+    (n ≡ name) × (f ≡ field) × IsSomeAnd (found name v.coverages) (λ c. TileMeets c.domain tile area)
 
 -- the values of a field at the points of a tile, in row-major order
 abbrev pub values_of_tile : Coverage → ℕ → ℕ → List ℤ

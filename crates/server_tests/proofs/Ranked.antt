@@ -5,7 +5,7 @@ use Rattle.std.proofs.lemmas.Option.{none-some, same_Some}
 use Rattle.arr_core.specs.declared.signature.Signature.{Signature}
 use Rattle.arr_core.specs.Domains.{count}
 use Rattle.arr_core.specs.Stores.{Coverage, found}
-use Rattle.tile_store.specs.Stored.{tile_box}
+use Rattle.arr_core.specs.Tiles.{tile_box}
 use Rattle.raster_store.specs.declared.reading.TileAt.{TileAt}
 use Rattle.raster_store.specs.Calls.{signature_in, signature_of}
 use Rattle.raster_store.specs.Fetches.{IsPlaceOf, HasRanks}

@@ -7,9 +7,10 @@ use Rattle.arr_core.specs.declared.domain.Axis.{Axis}
 use Rattle.arr_core.specs.declared.signature.Signature.{Signature}
 use Rattle.arr_core.specs.Domains.{points, count, IsInside, IsBoxOf, AreOrdered}
 use Rattle.arr_core.proofs.Points.{length-points, at_place, point-inside}
+use Rattle.arr_core.specs.Meeting.{tile_number}
 use Rattle.plan_ir.specs.Bodies.{Tree, lit, var, reg, op1, op2, read, table, bind, fold}
 use Rattle.plan_ir.specs.Placed.{spans}
-use Rattle.plan_ir.specs.Units.{bound_of, bound_times, index_below, distinct, tile_number, domain_of}
+use Rattle.plan_ir.specs.Units.{bound_of, bound_times, index_below, distinct, domain_of}
 use Rattle.plan_ir.specs.Run.{numbers_at}
 use Rattle.tile_columns.specs.Evaluating.{AreWithin, fetches}
 

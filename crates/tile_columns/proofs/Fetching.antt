@@ -8,11 +8,12 @@ use Rattle.std.proofs.lemmas.List.{length-map}
 use Rattle.std.proofs.lemmas.List.FromFn.{get_or-map-range_with_len}
 use Rattle.arr_core.specs.declared.signature.Signature.{Signature}
 use Rattle.arr_core.specs.Domains.{count}
+use Rattle.arr_core.specs.Meeting.{tile_number}
 use Rattle.plan_ir.specs.declared.body.Index.{Index}
 use Rattle.plan_ir.specs.declared.body.Index.TheVariants.{Const, Var}
 use Rattle.plan_ir.specs.Bodies.{Tree, lit, var, reg, op1, op2, read, table, bind, fold}
 use Rattle.plan_ir.specs.Run.{number_at, numbers_at}
-use Rattle.plan_ir.specs.Units.{added, distinct_after, distinct, tile_number, index_below, domain_of, bound_times}
+use Rattle.plan_ir.specs.Units.{added, distinct_after, distinct, index_below, domain_of, bound_times}
 use Rattle.tile_columns.specs.Frames.{extended}
 use Rattle.tile_columns.specs.Evaluating.{fetches}
 use Rattle.tile_columns.proofs.Ranges.{map_map, same_over, by_places}

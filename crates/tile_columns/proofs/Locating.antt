@@ -10,14 +10,13 @@ use Rattle.arr_core.specs.declared.domain.Axis.{Axis}
 use Rattle.arr_core.specs.declared.signature.Signature.{Signature}
 use Rattle.arr_core.specs.Domains.{gap, size_of, points, count, IsDomain, IsInside, rank_of, point_at}
 use Rattle.arr_core.specs.Tiles.{edge_of, grid, part_of, box_at, tile_boxes}
-use Rattle.arr_core.specs.Meeting.{tile_at}
+use Rattle.arr_core.specs.Meeting.{tile_at, tile_number}
 use Rattle.arr_core.proofs.Points.{lo-add-gap, count-pos, length-points, rank_of-lt-count, at_rank, point-rank}
 use Rattle.arr_core.proofs.Grids.{cell_of, size-cell, count-grid, tile_at-inside, at-box, get_or-tile_boxes, length-tile_boxes, edge-some, part-hi}
 use Rattle.arr_core.proofs.Boxes.{tile-small}
 use Rattle.wcps_mean.proofs.Ranks.{cut}
 use Rattle.plan_ir.specs.declared.body.Index.{Index}
 use Rattle.plan_ir.specs.Run.{number_at, numbers_at}
-use Rattle.plan_ir.specs.Units.{tile_number}
 use Rattle.tile_columns.specs.Sources.{IsRead, HasTile, box_of}
 use Rattle.tile_columns.specs.Locating.{rank_in_tile, tile_on, rank_on, tile_from, rank_from}
 use Rattle.tile_columns.proofs.Ranges.{by_places}

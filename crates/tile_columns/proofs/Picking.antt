@@ -7,9 +7,10 @@ use Rattle.std.proofs.lemmas.List.Elements.{All-head, All-tail, All-map, All-wea
 use Rattle.arr_core.specs.declared.domain.Axis.{Axis}
 use Rattle.arr_core.specs.Domains.{points, count, IsInside}
 use Rattle.arr_core.specs.Tiles.{tile_boxes}
+use Rattle.arr_core.specs.Meeting.{tile_number}
 use Rattle.plan_ir.specs.declared.body.Index.{Index}
 use Rattle.plan_ir.specs.Run.{numbers_at}
-use Rattle.plan_ir.specs.Units.{tile_number, distinct}
+use Rattle.plan_ir.specs.Units.{distinct}
 use Rattle.tile_columns.specs.declared.spots.Spot.{Spot}
 use Rattle.tile_columns.specs.Locating.{rank_in_tile}
 use Rattle.tile_columns.specs.Spots.{spot_at, tiles_in, AreInOrder, IsStretch, WritesWanted}

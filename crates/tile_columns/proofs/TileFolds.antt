@@ -8,7 +8,7 @@ use Rattle.std.proofs.lemmas.List.Elements.{All-map, All-cons, All-nil}
 use Rattle.arr_core.specs.declared.domain.Axis.{Axis}
 use Rattle.arr_core.specs.declared.signature.Signature.{Signature}
 use Rattle.arr_core.specs.Domains.{points, count, point_at, rank_of, IsBoxOf, AreOrdered, IsDomain}
-use Rattle.arr_core.specs.Tiles.{tile_boxes}
+use Rattle.arr_core.specs.Tiles.{tile_boxes, tile_box}
 use Rattle.arr_core.proofs.Points.{length-points, rank-point}
 use Rattle.wcps_text.specs.declared.operator.Aggregate.{Aggregate}
 use Rattle.wcps_text.specs.declared.operator.Aggregate.TheVariants.{Sum, Product, Greatest, Least, Every, Any, Count, Average}
@@ -29,7 +29,7 @@ use Rattle.tile_kernel.specs.Standing.{Stands, TakesIn, EachTakesIn, HaveAtMost}
 use Rattle.tile_kernel.proofs.Orders.{total-permuted, trues-permuted, every-permuted, any-permuted, has_zero-permuted, sign-permuted, size-permuted, greatest-permuted, least-permuted}
 use Rattle.tile_columns.specs.Evaluating.{AreWithin, HasPlace, HasPlaceUnder}
 use Rattle.tile_columns.specs.Condensing.{told_of, under_vars, told_ranked, demands, MergesAt}
-use Rattle.tile_columns.specs.TileOrder.{tile_of, points_to}
+use Rattle.tile_columns.specs.TileOrder.{points_to}
 use Rattle.tile_columns.proofs.Boxes.{points_within}
 use Rattle.tile_columns.proofs.Condensings.{takes_nothing, takes_then, takes_same}
 use Rattle.tile_columns.proofs.Fetching.{times_both}
@@ -107,7 +107,7 @@ no_tile box c e envs folds =
     (λ k lt. sym (ap (λ l. flat_map (told_ranked box c e (get_or envs k [])) (flat_map points l)) (take_none (tile_boxes box))))
 
 -- one more tile
-pub tile_more : (box : List Axis) (c e : List ℤ → Outcome) (envs : List (List ℤ)) (part : List Axis) (t : ℕ) (before mid after : List Accumulator) → t < length (tile_boxes box) → part ≡ tile_of box t
+pub tile_more : (box : List Axis) (c e : List ℤ → Outcome) (envs : List (List ℤ)) (part : List Axis) (t : ℕ) (before mid after : List Accumulator) → t < length (tile_boxes box) → part ≡ tile_box box t
     → EachTakesIn before mid (λ k. flat_map (told_ranked box c e (get_or envs k [])) (points_to box t))
     → EachTakesIn mid after (λ k. flat_map (told_ranked box c e (get_or envs k [])) (points part))
     → EachTakesIn before after (λ k. flat_map (told_ranked box c e (get_or envs k [])) (points_to box (t + 1)))
@@ -117,12 +117,12 @@ tile_more box c e envs part t before mid after lt is h g =
     (λ k l. ap (λ b. flat_map (told_ranked box c e (get_or envs k [])) (points_to box t) ++ flat_map (told_ranked box c e (get_or envs k [])) (points b)) is ∙ sym (told_more (told_ranked box c e (get_or envs k [])) box t lt))
 
 -- how many points the tiles with one more have
-pub points_next : (box part : List Axis) (t : ℕ) → t < length (tile_boxes box) → part ≡ tile_of box t → length (points_to box (t + 1)) ≡ length (points_to box t) + length (points part)
+pub points_next : (box part : List Axis) (t : ℕ) → t < length (tile_boxes box) → part ≡ tile_box box t → length (points_to box (t + 1)) ≡ length (points_to box t) + length (points part)
 points_next box part t lt is =
-    ap length (points_more box t lt) ∙ length-append (points_to box t) (points (tile_of box t)) ∙ ap (λ b. length (points_to box t) + length (points b)) (sym is)
+    ap length (points_more box t lt) ∙ length-append (points_to box t) (points (tile_box box t)) ∙ ap (λ b. length (points_to box t) + length (points b)) (sym is)
 
 -- there is room for one more tile
-pub room_more : (box part : List Axis) (t : ℕ) (folds : List Accumulator) → IsDomain box → t < length (tile_boxes box) → part ≡ tile_of box t → HaveAtMost (length (points_to box t)) folds → HaveAtMost (2 ^ 24 - length (points part)) folds
+pub room_more : (box part : List Axis) (t : ℕ) (folds : List Accumulator) → IsDomain box → t < length (tile_boxes box) → part ≡ tile_box box t → HaveAtMost (length (points_to box t)) folds → HaveAtMost (2 ^ 24 - length (points part)) folds
 room_more box part t folds d lt is h =
     let n = points_next box part t lt is in
     let few = points_few box (t + 1) d in
@@ -201,7 +201,7 @@ pub times_parts : (n a b : ℕ) (e : Tree) → bound_times (n * (a + b)) e ≡ b
 times_parts n a b e = let m : n * (a + b) ≡ n * a + n * b = grind arith in ap (λ j. bound_times j e) m ∙ times_both (n * a) (n * b) e
 
 -- one more tile
-pub times_tile : (n : ℕ) (box part : List Axis) (t : ℕ) (e : Tree) → t < length (tile_boxes box) → part ≡ tile_of box t → bound_times (n * length (points_to box (t + 1))) e ≡ bound_times (n * length (points_to box t)) e + bound_times (n * count part) e
+pub times_tile : (n : ℕ) (box part : List Axis) (t : ℕ) (e : Tree) → t < length (tile_boxes box) → part ≡ tile_box box t → bound_times (n * length (points_to box (t + 1))) e ≡ bound_times (n * length (points_to box t)) e + bound_times (n * count part) e
 times_tile n box part t e lt is =
     ap (λ m. bound_times (n * m) e) (points_next box part t lt is ∙ ap (λ m. length (points_to box t) + m) (length-points part))
     ∙ times_parts n (length (points_to box t)) (count part) e

@@ -7,10 +7,10 @@ use Rattle.std.proofs.lemmas.List.Folds.{flat_map-map}
 use Rattle.std.proofs.lemmas.Grind.{flat_map-append}
 use Rattle.arr_core.specs.declared.domain.Axis.{Axis}
 use Rattle.arr_core.specs.Domains.{points, count, point_at, IsDomain, AreOrdered}
-use Rattle.arr_core.specs.Tiles.{edge_of, grid, box_at, tile_boxes}
+use Rattle.arr_core.specs.Tiles.{edge_of, grid, box_at, tile_boxes, tile_box}
 use Rattle.arr_core.proofs.Points.{length-points, at_place, count-pos}
 use Rattle.arr_core.proofs.Grids.{edge-some, length-tile_boxes, count-grid}
-use Rattle.tile_columns.specs.TileOrder.{points_to, tile_of}
+use Rattle.tile_columns.specs.TileOrder.{points_to}
 use Rattle.tile_columns.proofs.Ranges.{by_places, same_over}
 use Rattle.tile_columns.proofs.Reorders.{tiles_reordered, flat_map_nested}
 
@@ -28,15 +28,15 @@ take_more (suc n) (x ∷ xs) d h =
     let e : suc n + 1 ≡ suc (n + 1) = omega arith in
     ap (λ k. take k (x ∷ xs)) e ∙ ap (λ l. x ∷ l) (take_more n xs d (omega arith))
 
-pub points_more : (area : List Axis) (t : ℕ) → t < length (tile_boxes area) → points_to area (t + 1) ≡ points_to area t ++ points (tile_of area t)
+pub points_more : (area : List Axis) (t : ℕ) → t < length (tile_boxes area) → points_to area (t + 1) ≡ points_to area t ++ points (tile_box area t)
 points_more area t lt =
     ap (flat_map points) (take_more t (tile_boxes area) [] lt)
-    ∙ flat_map-append points (take t (tile_boxes area)) (tile_of area t ∷ [])
-    ∙ ap (λ l. points_to area t ++ l) (append-nil (points (tile_of area t)))
+    ∙ flat_map-append points (take t (tile_boxes area)) (tile_box area t ∷ [])
+    ∙ ap (λ l. points_to area t ++ l) (append-nil (points (tile_box area t)))
 
 -- what one more tile tells comes behind
-pub told_more : {Y : Type 0} (g : List ℤ → List Y) (area : List Axis) (t : ℕ) → t < length (tile_boxes area) → flat_map g (points_to area (t + 1)) ≡ flat_map g (points_to area t) ++ flat_map g (points (tile_of area t))
-told_more g area t lt = ap (flat_map g) (points_more area t lt) ∙ flat_map-append g (points_to area t) (points (tile_of area t))
+pub told_more : {Y : Type 0} (g : List ℤ → List Y) (area : List Axis) (t : ℕ) → t < length (tile_boxes area) → flat_map g (points_to area (t + 1)) ≡ flat_map g (points_to area t) ++ flat_map g (points (tile_box area t))
+told_more g area t lt = ap (flat_map g) (points_more area t lt) ∙ flat_map-append g (points_to area t) (points (tile_box area t))
 
 pub told_all : {Y : Type 0} (g : List ℤ → List Y) (area : List Axis) → AreOrdered area → IsPermutation (flat_map g (points_to area (length (tile_boxes area)))) (flat_map g (points area))
 told_all g area ordered =

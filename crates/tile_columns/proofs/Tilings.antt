@@ -9,7 +9,7 @@ use Rattle.std.proofs.lemmas.List.{map-id}
 use Rattle.std.proofs.lemmas.List.Elements.{All-cons, All-nil}
 use Rattle.arr_core.specs.declared.domain.Axis.{Axis}
 use Rattle.arr_core.specs.Domains.{gap, size_of, points, count, AreOrdered, IsDomain, IsBoxOf, point_at}
-use Rattle.arr_core.specs.Tiles.{edge_of, grid, part_of, box_at, tile_boxes}
+use Rattle.arr_core.specs.Tiles.{edge_of, grid, part_of, box_at, tile_boxes, tile_box}
 use Rattle.arr_core.proofs.Points.{count-pos, point-inside}
 use Rattle.arr_core.proofs.Grids.{mul-mono, size-cell, get_or-tile_boxes, length-tile_boxes, ordered-grid, edge-some}
 use Rattle.arr_core.proofs.Boxes.{IsDomain-box, IsBoxOf-box, tile-small}
@@ -18,7 +18,6 @@ use Rattle.tile_columns.specs.declared.frame.Variable.TheVariants as variable
 use Rattle.tile_columns.specs.declared.tiling.Behind.{Behind}
 use Rattle.tile_columns.specs.Frames.{environment, environments, turn, turns, HasPlaces}
 use Rattle.tile_columns.specs.Covering.{box_of_tile}
-use Rattle.tile_columns.specs.TileOrder.{tile_of}
 use Rattle.tile_columns.specs.Tiling.{variables_of, last_box, AddsTile}
 use Rattle.tile_columns.proofs.Turns.{box_under}
 use Rattle.tile_columns.proofs.Coverings.{in_front}
@@ -89,10 +88,10 @@ box_whole n (a ∷ axes) o = All-cons (HasPlaces n) (variable.Axis a.lo a.hi (co
 
 -- the box of a tile is one of the domain, and small
 pub record IsTileBox (axes : List Axis) (n : ℕ) : Type 0 where
-  pub box : last_box (edge_of (length axes)) axes n ≡ tile_of axes n
-  pub inside : IsBoxOf axes (tile_of axes n)
-  pub ordered : AreOrdered (tile_of axes n)
-  pub few : count (tile_of axes n) ≤ 4096
+  pub box : last_box (edge_of (length axes)) axes n ≡ tile_box axes n
+  pub inside : IsBoxOf axes (tile_box axes n)
+  pub ordered : AreOrdered (tile_box axes n)
+  pub few : count (tile_box axes n) ≤ 4096
 
 pub tile_is : (axes : List Axis) (n : ℕ) → IsDomain axes → n < length (tile_boxes axes) → IsTileBox axes n
 tile_is axes n d lt =
@@ -101,7 +100,7 @@ tile_is axes n d lt =
     let some = edge-some (length axes) in
     let below : n < count cells = omega (arith, lt, length-tile_boxes axes) in
     let within = point-inside cells n below (ordered-grid edge axes) in
-    let at : tile_of axes n ≡ box_at edge axes (point_at cells n) = get_or-tile_boxes axes n [] below in
+    let at : tile_box axes n ≡ box_at edge axes (point_at cells n) = get_or-tile_boxes axes n [] below in
     record {
       box = ap (box_of_tile edge axes) (mod-eq_of_lt below) ∙ sym at;
       inside = subst (IsBoxOf axes) (sym at) (IsBoxOf-box edge axes (point_at cells n) some d.ordered within);
@@ -111,14 +110,14 @@ tile_is axes n d lt =
 
 -- variables that were added for a tile are a frame over its box
 pub record IsOverTile (domain : List Axis) (tile : ℕ) (variables : List Variable) (n : ℕ) : Type 0 where
-  pub shown : environments n variables ≡ points (tile_of domain tile)
+  pub shown : environments n variables ≡ points (tile_box domain tile)
   pub few : n ≤ 4096
   pub whole : All (HasPlaces n) variables
 
 pub over_tile : (domain axes : List Axis) (tile edge : ℕ) (old new : List Variable) (b : Behind) → IsDomain domain → tile < length (tile_boxes domain) → axes ≡ domain → edge ≡ edge_of (length domain) → old ≡ [] → AddsTile edge axes tile old new b → IsOverTile domain tile new b.points
 over_tile domain axes tile edge old new b d lt e w o added =
     let it = tile_is domain tile d lt in
-    let box = tile_of domain tile in
+    let box = tile_box domain tile in
     let here : last_box edge axes tile ≡ box = ap (λ x. last_box edge x tile) e ∙ ap (λ k. last_box k domain tile) w ∙ it.box in
     let items : new ≡ variables_of box = added.items ∙ ap (λ l. l ++ variables_of (last_box edge axes tile)) o ∙ ap variables_of here in
     let n : b.points ≡ count box = added.points ∙ ap count here in

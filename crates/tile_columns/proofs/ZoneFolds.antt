@@ -7,7 +7,7 @@ use Rattle.std.proofs.lemmas.List.{get_or-map, length-map}
 use Rattle.arr_core.specs.declared.domain.Axis.{Axis}
 use Rattle.arr_core.specs.declared.signature.Signature.{Signature}
 use Rattle.arr_core.specs.Domains.{count, rank_of}
-use Rattle.arr_core.specs.Tiles.{tile_boxes}
+use Rattle.arr_core.specs.Tiles.{tile_boxes, tile_box}
 use Rattle.arr_core.proofs.Points.{length-points}
 use Rattle.wcps_text.specs.declared.operator.Aggregate.{Aggregate}
 use Rattle.wcps_text.specs.declared.operator.BinaryOperator.TheVariants.{Equal}
@@ -28,7 +28,7 @@ use Rattle.tile_kernel.specs.Told.{Told, told_at, demanded_of, demanded_at}
 use Rattle.tile_kernel.specs.Standing.{Stands, TakesIn, EachTakesIn, AreOf, HaveAtMost}
 use Rattle.tile_columns.specs.Condensing.{told_ranked, MergesAt}
 use Rattle.tile_columns.specs.Evaluating.{AreWithin, HasPlace}
-use Rattle.tile_columns.specs.TileOrder.{tile_of, points_to}
+use Rattle.tile_columns.specs.TileOrder.{points_to}
 use Rattle.tile_columns.specs.declared.shapes.Shape.{Shape}
 use Rattle.tile_columns.specs.declared.shapes.Shape.TheVariants.{Alone, First, Second}
 use Rattle.tile_columns.specs.declared.zones.Role.{Role}
@@ -293,7 +293,7 @@ zone_bound places n role condition body own key first depth z some more =
     omega (arith, k, o, r, c, w)
 
 -- one more tile
-pub times_next : (box part : List Axis) (t : ℕ) (e : Tree) → t < length (tile_boxes box) → part ≡ tile_of box t → bound_times (length (points_to box (t + 1))) e ≡ bound_times (length (points_to box t)) e + bound_times (count part) e
+pub times_next : (box part : List Axis) (t : ℕ) (e : Tree) → t < length (tile_boxes box) → part ≡ tile_box box t → bound_times (length (points_to box (t + 1))) e ≡ bound_times (length (points_to box t)) e + bound_times (count part) e
 times_next box part t e lt is =
     ap (λ m. bound_times m e) (points_next box part t lt is ∙ ap (λ m. length (points_to box t) + m) (length-points part))
     ∙ times_both (length (points_to box t)) (count part) e

@@ -2,7 +2,8 @@
 use Rattle.std.specs.Prelude.{ℤ, List, map}
 use Rattle.plan_ir.specs.Bodies.{Tree, read}
 use Rattle.plan_ir.specs.Run.{numbers_at}
-use Rattle.plan_ir.specs.Units.{tile_number, domain_of}
+use Rattle.arr_core.specs.Meeting.{tile_number}
+use Rattle.plan_ir.specs.Units.{domain_of}
 use Rattle.tile_columns.specs.declared.ground.Ground.{Ground}
 use Rattle.tile_columns.specs.declared.ground.BodyRead.{BodyRead}
 use Rattle.tile_columns.specs.declared.source.Tiles.{Ghosts}

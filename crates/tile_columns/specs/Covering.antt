@@ -1,8 +1,8 @@
 -- Tiles over whose boxes indexes go.
-use Rattle.std.specs.Prelude.{◌≡◌, ℕ, ◌<◌, ◌≤◌, ◌/◌, ℤ, pos, List, [], length, map, slice_index_or}
+use Rattle.std.specs.Prelude.{◌≡◌, ℕ, ◌<◌, ◌≤◌, ◌/◌, ℤ, pos, List, [], length, map}
 use Rattle.arr_core.specs.declared.domain.Axis.{Axis}
 use Rattle.arr_core.specs.Domains.{gap, size_of, points, count, point_at}
-use Rattle.arr_core.specs.Tiles.{grid, part_of, box_at, tile_boxes}
+use Rattle.arr_core.specs.Tiles.{grid, part_of, box_at, tile_boxes, tile_box}
 use Rattle.plan_ir.specs.declared.body.Index.{Index}
 use Rattle.plan_ir.specs.Run.{number_at, numbers_at}
 use Rattle.tile_columns.specs.declared.frame.Variable.{Variable}
@@ -29,4 +29,4 @@ pub record TurnsOver (edge : ℕ) (variables : List Variable) (is : List Index) 
 
 -- indexes go over the box of the tile with a number, point for point
 abbrev pub GoesOver : List Axis → List Index → List (List ℤ) → ℕ → Type 0
-GoesOver axes is envs n = (n < length (tile_boxes axes)) × (map (λ e. numbers_at e is) envs ≡ points (slice_index_or (tile_boxes axes) n []))
+GoesOver axes is envs n = (n < length (tile_boxes axes)) × (map (λ e. numbers_at e is) envs ≡ points (tile_box axes n))

@@ -3,11 +3,12 @@ use Rattle.std.specs.Prelude.{ℕ, ◌+◌, ◌*◌, ◌≤ℤ◌, cond, ℤ, Li
 use Rattle.std.specs.List.{All, list_all}
 use Rattle.arr_core.specs.declared.signature.Signature.{Signature}
 use Rattle.arr_core.specs.Domains.{count}
+use Rattle.arr_core.specs.Meeting.{tile_number}
 use Rattle.plan_ir.specs.declared.body.Interval.{Interval}
 use Rattle.plan_ir.specs.Bodies.{Tree, lit, var, reg, op1, op2, read, table, bind, fold}
 use Rattle.plan_ir.specs.Run.{numbers_at}
 use Rattle.plan_ir.specs.Placed.{IsPlaced}
-use Rattle.plan_ir.specs.Units.{tile_number, distinct, index_below, domain_of, bound_times}
+use Rattle.plan_ir.specs.Units.{distinct, index_below, domain_of, bound_times}
 
 -- each number lies in its interval
 abbrev pub AreWithin : List Interval → List ℤ → Type 0

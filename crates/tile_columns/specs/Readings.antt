@@ -1,11 +1,11 @@
 -- What is read at the places of a frame.
-use Rattle.std.specs.Prelude.{◌≡◌, ℕ, ◌<◌, ℤ, List, [], map, length, slice_get, slice_index_or}
+use Rattle.std.specs.Prelude.{◌≡◌, ℕ, ◌<◌, ℤ, List, [], map, length, slice_get}
 use Rattle.arr_core.specs.Domains.{points}
-use Rattle.arr_core.specs.Tiles.{tile_boxes}
+use Rattle.arr_core.specs.Tiles.{tile_boxes, tile_box}
+use Rattle.arr_core.specs.Meeting.{tile_number}
 use Rattle.wcps_mean.specs.declared.cell.Outcome.{Outcome}
 use Rattle.wcps_mean.specs.declared.cell.Outcome.TheVariants.{Value}
 use Rattle.plan_ir.specs.Run.{numbers_at}
-use Rattle.plan_ir.specs.Units.{tile_number}
 use Rattle.tile_columns.specs.declared.gather.Reading.{Reading}
 use Rattle.tile_columns.specs.Sources.{SourceState, IsRead, box_in}
 use Rattle.tile_columns.specs.Locating.{AreInside, rank_in_tile}
@@ -41,7 +41,7 @@ IsColumnRead s r envs column = s.intact → column ≡ map (λ e. Value (cell_re
 -- the points that are read are those of the box of a tile
 abbrev pub ReadsWhole : Reading → List (List ℤ) → ℕ → Type 0
 ReadsWhole r envs n =
-    (0 < length envs) × (n < length (tile_boxes r.domain.now)) × (map (λ e. numbers_at e r.indexes.now) envs ≡ points (slice_index_or (tile_boxes r.domain.now) n []))
+    (0 < length envs) × (n < length (tile_boxes r.domain.now)) × (map (λ e. numbers_at e r.indexes.now) envs ≡ points (tile_box r.domain.now n))
 
 -- a column has the values of the cells of a tile
 abbrev pub IsTileColumn : {K : Type 0} → SourceState K → Reading → ℕ → List Outcome → Type 0

@@ -3,7 +3,7 @@ use Rattle.std.specs.Prelude.{◌≡◌, ℕ, ◌+◌, ◌-◌, ◌^◌, ◌<◌
 use Rattle.arr_core.specs.declared.domain.Axis.{Axis}
 use Rattle.arr_core.specs.declared.signature.Signature.{Signature}
 use Rattle.arr_core.specs.Domains.{points}
-use Rattle.arr_core.specs.Tiles.{tile_boxes}
+use Rattle.arr_core.specs.Tiles.{tile_boxes, tile_box}
 use Rattle.wcps_mean.specs.declared.cells.CellError.{CellError}
 use Rattle.wcps_mean.specs.Reports.{Reports}
 
@@ -19,7 +19,7 @@ HasTile (Some c) field tile = (field < length c.fields) × (tile < length (tile_
 -- the box of a tile
 abbrev pub box_of : Option Signature → ℕ → List Axis
 box_of None tile = []
-box_of (Some c) tile = slice_index_or (tile_boxes c.domain) tile []
+box_of (Some c) tile = tile_box c.domain tile
 
 -- the coverage is there, and has that field and that domain
 abbrev pub IsRead : Option Signature → ℕ → List Axis → Type 0

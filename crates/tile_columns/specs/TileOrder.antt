@@ -1,15 +1,11 @@
 -- The points of a box tile by tile.
-use Rattle.std.specs.Prelude.{◌≡◌, ℕ, ◌≤◌, ℤ, List, [], map, take, slice_index_or}
+use Rattle.std.specs.Prelude.{◌≡◌, ℕ, ◌≤◌, ℤ, List, [], map, take}
 use Rattle.std.specs.List.{flat_map}
 use Rattle.arr_core.specs.Limits.{max_tile}
 use Rattle.arr_core.specs.declared.domain.Axis.{Axis}
 use Rattle.arr_core.specs.Domains.{points, count, rank_of, AreOrdered, IsBoxOf}
 use Rattle.arr_core.specs.Tiles.{tile_boxes}
 use Rattle.tile_columns.specs.declared.part.Part.{Part}
-
--- the box of a tile
-abbrev pub tile_of : List Axis → ℕ → List Axis
-tile_of area t = slice_index_or (tile_boxes area) t []
 
 -- the points of the first t tiles, tile by tile
 abbrev pub points_to : List Axis → ℕ → List (List ℤ)

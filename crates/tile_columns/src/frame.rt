@@ -4,11 +4,10 @@ ghost use Rattle.std.specs.Prelude.{◌≡◌, ℕ, ◌+◌, ◌*◌, ◌<◌, �
 ghost use Rattle.std.specs.List.{All};
 ghost use Rattle.arr_core.specs.Limits.{max_tile};
 ghost use Rattle.arr_core.specs.Domains.{gap, size_of, points, count, AreOrdered};
-ghost use Rattle.arr_core.specs.Tiles.{tile_boxes};
+ghost use Rattle.arr_core.specs.Tiles.{tile_boxes, tile_box};
 ghost use Rattle.plan_ir.specs.Run.{number_at, numbers_at};
 ghost use Rattle.tile_columns.specs.Frames.{turn, number_of, environment, HasPlaces, under, extended, turns, TellsAt, Adds, number_there, by_place, StayWhole};
 ghost use Rattle.tile_columns.specs.Covering.{GoesOver};
-ghost use Rattle.tile_columns.specs.TileOrder.{tile_of};
 
 use crate::covering::tile_covered;
 use crate::numbers::fill_list;
@@ -251,7 +250,7 @@ impl Frame {
     /// The coordinates of the box of a tile, in row-major order.
     pub fn of_tile(alloc: Global, domain: &Domain, tile: u64) -> Result<Frame, AllocError>
         requires { tile < length (tile_boxes domain.now) }
-        ensures { IfOk result (λ f. f ≡ points (tile_of domain.now tile)) }
+        ensures { IfOk result (λ f. f ≡ points (tile_box domain.now tile)) }
     {
         let mut variables = Vec::new(alloc);
         let behind = push_tile(&mut variables, domain.axes(), domain.tile_edge(), tile)?;

@@ -4,8 +4,8 @@ ghost use Rattle.std.specs.Prelude.{◌≡◌, ◌+◌, ◌<◌, ◌≤◌, ◌^
 ghost use Rattle.std.specs.List.{range_with_len};
 ghost use Rattle.arr_core.specs.Domains.{gap, size_of, points, count, AreOrdered, IsBoxOf, rank_of};
 ghost use Rattle.arr_core.specs.Limits.{max_points};
-ghost use Rattle.arr_core.specs.Tiles.{tile_boxes};
-ghost use Rattle.tile_columns.specs.TileOrder.{tile_of, IsPart};
+ghost use Rattle.arr_core.specs.Tiles.{tile_boxes, tile_box};
+ghost use Rattle.tile_columns.specs.TileOrder.{IsPart};
 
 use arr_core::{Axis, Domain, count_points, distance};
 use std::alloc::{AllocError, Global};
@@ -83,7 +83,7 @@ pub fn ranks(list: &mut Vec<u64>, area: &Domain, part: &Domain) -> Result<(), Al
 /// The part of a box that the tile with a number has.
 pub(crate) fn part_at(alloc: Global, area: &Domain, tile: u64) -> Result<Part, AllocError>
     requires { tile < length (tile_boxes area.now) }
-    ensures tile { IfOk result (λ p. p.area ≡ tile_of area.now tile) }
+    ensures tile { IfOk result (λ p. p.area ≡ tile_box area.now tile) }
     ensures part { IfOk result (λ p. IsPart area.now p) }
 {
     let part = area.tile_box(alloc, tile)?;

@@ -7,8 +7,7 @@ ghost use Rattle.arr_core.specs.Tiles.{part_of};
 ghost use Rattle.tile_columns.specs.Tiling.{AddsTile};
 
 use crate::frame::Variable;
-use arr_core::{Axis, distance};
-use plan_ir::Interval;
+use arr_core::{Axis, distance, tile_bounds, tiles_along};
 use std::alloc::AllocError;
 
 /// A tile of some axes among those of these and of axes in front of them: its number among the tiles of the axes in
@@ -17,35 +16,6 @@ use std::alloc::AllocError;
 pub(crate) struct Behind {
     pub ahead: u64,
     pub points: u64,
-}
-
-/// The coordinate so many steps behind the first one of an axis.
-fn coordinate(axis: &Axis, steps: u64) -> i32
-    requires ordered { axis.now.lo ≤ℤ axis.now.hi }
-    requires inside { steps ≤ gap axis.now.lo axis.now.hi }
-    ensures { result ≡ axis.now.lo +ℤ pos steps }
-{
-    let _hi = axis.hi;
-    (axis.lo as i64 + steps as i64) as i32
-}
-
-/// The coordinates that tiles at one place along an axis have of it.
-fn interval_at(axis: &Axis, edge: u64, place: u64) -> Interval
-    requires ordered { axis.now.lo ≤ℤ axis.now.hi }
-    requires some { 0 < edge }
-    requires small { edge ≤ max_tile }
-    requires within { place * edge ≤ gap axis.now.lo axis.now.hi }
-    ensures lo { result.lo ≡ (part_of edge axis.now (pos place)).lo }
-    ensures hi { result.hi ≡ (part_of edge axis.now (pos place)).hi }
-    ensures small { gap result.lo result.hi ≤ gap axis.now.lo axis.now.hi }
-{
-    let last = distance(axis.lo, axis.hi);
-    let from = place * edge;
-    let to = last.min(from + (edge - 1));
-    Interval {
-        lo: coordinate(axis, from),
-        hi: coordinate(axis, to),
-    }
 }
 
 /// Puts a variable at the end for each axis, which turns over the box of a tile, the last one fastest. The number is that
@@ -72,12 +42,12 @@ pub(crate) fn push_tile(
             let level = variables.len();
             variables.push(Variable::Const(0))?;
             let behind = push_tile(variables, rest, edge, number)?;
-            let along = distance(axis.lo, axis.hi) / edge + 1;
-            let part = interval_at(axis, edge, behind.ahead % along);
-            variables[level] = Variable::Axis(part.lo, part.hi, behind.points);
+            let along = tiles_along(axis, edge);
+            let (lo, hi) = tile_bounds(axis, edge, behind.ahead % along);
+            variables[level] = Variable::Axis(lo, hi, behind.points);
             Ok(Behind {
                 ahead: behind.ahead / along,
-                points: (distance(part.lo, part.hi) + 1) * behind.points,
+                points: (distance(lo, hi) + 1) * behind.points,
             })
         }
     }

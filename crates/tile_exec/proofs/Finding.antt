@@ -5,7 +5,7 @@ use Rattle.std.specs.List.{All, flat_map}
 use Rattle.std.proofs.lemmas.List.{length-take-le, length-drop}
 use Rattle.std.proofs.lemmas.List.Concat.{flat_map-cons}
 use Rattle.arr_core.specs.declared.domain.Axis.{Axis}
-use Rattle.arr_core.specs.Tiles.{tile_boxes}
+use Rattle.arr_core.specs.Tiles.{tile_boxes, tile_box}
 use Rattle.plan_ir.specs.declared.body.Fold.{Fold}
 use Rattle.plan_ir.specs.declared.plan.Plan.{Plan}
 use Rattle.plan_ir.specs.declared.plan.Steps.{Steps}
@@ -23,7 +23,6 @@ use Rattle.tile_exec.specs.declared.task.Part.TheVariants as part
 use Rattle.tile_exec.specs.declared.state.State.{State}
 use Rattle.tile_exec.specs.Tasks.{PartTree, TaskTree, pass, condition, item, fieldless, area_of, bodies_of, stages_of}
 use Rattle.tile_columns.specs.Evaluating.{HasPlace, fetches}
-use Rattle.tile_columns.specs.TileOrder.{tile_of}
 use Rattle.tile_columns.proofs.Boxes.{points_within, points_deep, fetches_bound}
 use Rattle.tile_exec.specs.Passes.{told_to_pass}
 use Rattle.tile_exec.specs.Standing.{plan_of, tasks_left, boxes_left, IsPartOf, IsTask, AreTasks, MovesOver}
@@ -120,7 +119,7 @@ first_there plan f (suc n) (x ∷ xs) ys h = first_there plan f n xs ys (omega a
 
 -- the box of the next unit bounds what it fetches
 pub next_bound : (e : State) (t : TaskTree) (ts : List TaskTree) → tasks_left e ≡ t ∷ ts → e.tile < length (tile_boxes (area_of t.part))
-    → first_bound (plan_of e) (boxes_left e) ≡ sum_by (bound_of (signature_of (plan_of e).coverages t.coverages) (tile_of (area_of t.part) e.tile)) (bodies_of t.part)
+    → first_bound (plan_of e) (boxes_left e) ≡ sum_by (bound_of (signature_of (plan_of e).coverages t.coverages) (tile_box (area_of t.part) e.tile)) (bodies_of t.part)
 next_bound e t ts h lt =
     ap (λ l. first_bound (plan_of e) (drop e.tile (flat_map stages_of l))) h
     ∙ ap (λ l. first_bound (plan_of e) (drop e.tile l)) (flat_map-cons stages_of t ts)

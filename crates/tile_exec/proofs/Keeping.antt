@@ -5,7 +5,7 @@ use Rattle.std.specs.List.{flat_map}
 use Rattle.arr_core.specs.declared.domain.Axis.{Axis}
 use Rattle.arr_core.specs.declared.signature.Signature.{Signature}
 use Rattle.arr_core.specs.Domains.{points, IsDomain}
-use Rattle.arr_core.specs.Tiles.{tile_boxes}
+use Rattle.arr_core.specs.Tiles.{tile_boxes, tile_box}
 use Rattle.wcps_mean.specs.declared.cell.PointFault.{PointFault}
 use Rattle.wcps_mean.specs.declared.cell.Outcome.{Outcome}
 use Rattle.wcps_mean.specs.declared.item.Item.{Item}
@@ -24,7 +24,7 @@ use Rattle.tile_exec.specs.declared.found.Found.TheVariants as found
 use Rattle.tile_exec.specs.declared.state.State.{State}
 use Rattle.tile_exec.specs.Tasks.{PartTree, TaskTree, pass, condition, item, fieldless, area_of, stages_of, AreReady, IsPartPlaced, registers_made}
 use Rattle.tile_exec.specs.Progress.{Progress, read_by, after_part, after_condition, after_item}
-use Rattle.tile_columns.specs.TileOrder.{points_to, tile_of}
+use Rattle.tile_columns.specs.TileOrder.{points_to}
 use Rattle.tile_exec.specs.Passes.{told_to_pass}
 use Rattle.tile_exec.specs.Standing.{plan_of, tasks_left, progress_of, HasRoom, IsSound, IsUnder, IsAt, HasCells, AtItem, AtPart, AtTask, AreTasks}
 use Rattle.tile_exec.specs.Units.{Fits, FitsPart, TellsTask, TellsPart, IsLast, IsNotGiven, AfterSkipped, LosesFirst, Keeps}
@@ -50,7 +50,7 @@ pub record PassAt (e : State) (last : Bool) (a : Accumulator) : Type 0 where
   pub is : task.part ≡ pass pass_tree
   pub last_tile : IsLast last e.tile (length (tile_boxes pass_tree.domain))
   pub op : a.running.op ≡ pass_tree.op
-  pub few : a.running.count ≤ length (points (tile_of pass_tree.domain e.tile))
+  pub few : a.running.count ≤ length (points (tile_box pass_tree.domain e.tile))
 
 pass_in : (e : State) (last : Bool) (a : Accumulator) (task : TaskTree) (tasks : List TaskTree) (p : PartTree) → tasks_left e ≡ task ∷ tasks → task.part ≡ p
     → IsLast last e.tile (length (tile_boxes (area_of p))) → FitsPart e.tile e.status p (found.Pass a) → PassAt e last a
@@ -84,7 +84,7 @@ pass_few e last a x n sound h =
     let area = x.pass_tree.domain in
     let u = pass_under e last a x sound in
     let more = ap length (points_more area e.tile u.0) in
-    let sum = length-append (points_to area e.tile) (points (tile_of area e.tile)) in
+    let sum = length-append (points_to area e.tile) (points (tile_box area e.tile)) in
     let few = points_few area (e.tile + 1) (pass_domain e last a x sound) in
     let own = x.few in
     (omega (arith, h, more, sum, few, own), omega (arith, h, more, sum, own))
@@ -116,7 +116,7 @@ pass_further e a m l sound fits left op counted stands =
           let told = λ (k : ℕ). flat_map (told_to_pass c regs p) (points_to p.domain k) in
           let now : AtPart c regs e (pass p) = subst (AtPart c regs e) x.is (stands_at s e x.task x.tasks x.hand st) in
           let here : TellsPart c regs e.tile (pass p) (found.Pass a) = subst (λ q. TellsPart c regs e.tile q (found.Pass a)) x.is (subst (λ l. TellsTask s e l (found.Pass a)) x.hand t) in
-          let all = subst (Stands m) (sym (told_more (told_to_pass c regs p) p.domain e.tile u.0)) (stands told (flat_map (told_to_pass c regs p) (points (tile_of p.domain e.tile))) refl now here) in
+          let all = subst (Stands m) (sym (told_more (told_to_pass c regs p) p.domain e.tile u.0)) (stands told (flat_map (told_to_pass c regs p) (points (tile_box p.domain e.tile))) refl now here) in
           stands_further s e d x.task x.tasks g (subst (AtPart c regs d) (sym x.is) (λ k. all)) st;
     }
 
@@ -153,7 +153,7 @@ pass_next e a m w v o l sound fits left op stands comes items room =
           let told = λ (k : ℕ). flat_map (told_to_pass c regs p) (points_to p.domain k) in
           let now : AtPart c regs e (pass p) = subst (AtPart c regs e) x.is (stands_at s e x.task x.tasks x.hand st) in
           let here : TellsPart c regs e.tile (pass p) (found.Pass a) = subst (λ q. TellsPart c regs e.tile q (found.Pass a)) x.is (subst (λ l. TellsTask s e l (found.Pass a)) x.hand t) in
-          let all = subst (Stands m) (sym (told_more (told_to_pass c regs p) p.domain e.tile u.0)) (stands told (flat_map (told_to_pass c regs p) (points (tile_of p.domain e.tile))) refl now here) in
+          let all = subst (Stands m) (sym (told_more (told_to_pass c regs p) p.domain e.tile u.0)) (stands told (flat_map (told_to_pass c regs p) (points (tile_box p.domain e.tile))) refl now here) in
           let whole = subst (λ k. Stands m (told k)) x.last_tile all in
           let out : o ≡ pass_outcome c regs p = passed c regs p o (pass_domain e true a x sound) (subst (λ q. ComesTo q (told (length (tile_boxes p.domain))) o) (op ∙ x.op) (comes (told (length (tile_boxes p.domain))) whole)) in
           let regs_now : v.items ≡ e.registers.items ++ pass_outcome c regs p ∷ [] = items ∙ ap (λ o. e.registers.items ++ o ∷ []) out in

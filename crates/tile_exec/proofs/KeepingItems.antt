@@ -5,7 +5,7 @@ use Rattle.std.specs.List.{flat_map}
 use Rattle.std.proofs.lemmas.List.Elements.{All-nil}
 use Rattle.arr_core.specs.declared.cell.Cell.{Cell}
 use Rattle.arr_core.specs.Domains.{points, IsDomain}
-use Rattle.arr_core.specs.Tiles.{tile_boxes}
+use Rattle.arr_core.specs.Tiles.{tile_boxes, tile_box}
 use Rattle.wcps_mean.specs.declared.cell.PointFault.{PointFault}
 use Rattle.wcps_mean.specs.declared.cell.Outcome.{Outcome}
 use Rattle.wcps_mean.specs.declared.item.Item.{Item}
@@ -23,7 +23,7 @@ use Rattle.tile_exec.specs.declared.found.Found.TheVariants as found
 use Rattle.tile_exec.specs.declared.state.State.{State}
 use Rattle.tile_exec.specs.Tasks.{PartTree, TaskTree, pass, condition, item, fieldless, area_of, IsPartPlaced, registers_made}
 use Rattle.tile_exec.specs.Progress.{read_by, after_part, after_item}
-use Rattle.tile_columns.specs.TileOrder.{points_to, tile_of}
+use Rattle.tile_columns.specs.TileOrder.{points_to}
 use Rattle.tile_exec.specs.Items.{Fills, all_cells, told_to_item, places_of, AreWritten, AreWrittenTo, cell_count}
 use Rattle.tile_exec.specs.Known.{IsKnown}
 use Rattle.tile_exec.specs.Rows.{all_cells_told}
@@ -122,7 +122,7 @@ fills_more s regs i e x before cells first now known lt h t k =
     record {
       written = subst (AreWritten all cells) (ap (λ l. places e.tile ++ l) t.places ∙ sym (told_more (places_of i) i.domain e.tile lt)) is;
       first = subst (IsFirstOf now) (sym (told_more (told_to_item s regs i) i.domain e.tile lt))
-          (k.joined (told e.tile) (flat_map (told_to_item s regs i) (points (tile_of i.domain e.tile))) (k.begun told refl (λ some. (h some).first)) t.first);
+          (k.joined (told e.tile) (flat_map (told_to_item s regs i) (points (tile_box i.domain e.tile))) (k.begun told refl (λ some. (h some).first)) t.first);
     }
 
 -- what is known after one more tile

@@ -2,7 +2,7 @@
 use Rattle.std.specs.Prelude.{ℕ, ◌<◌, List, length, sum_by, Result, OnOk}
 use Rattle.arr_core.specs.declared.domain.Axis.{Axis}
 use Rattle.arr_core.specs.Domains.{points}
-use Rattle.arr_core.specs.Tiles.{tile_boxes}
+use Rattle.arr_core.specs.Tiles.{tile_boxes, tile_box}
 use Rattle.wcps_mean.specs.declared.cell.Outcome.{Outcome}
 use Rattle.wcps_mean.specs.declared.cells.CellError.{CellError}
 use Rattle.plan_ir.specs.declared.body.Body.{Body}
@@ -16,7 +16,6 @@ use Rattle.tile_columns.specs.declared.source.Tiles.{Ghosts}
 use Rattle.tile_columns.specs.Sources.{SourceState, FetchesAtMost}
 use Rattle.tile_columns.specs.Meaning.{chosen}
 use Rattle.tile_columns.specs.Fields.{HavePlaceOver, AreColumnsOf}
-use Rattle.tile_columns.specs.TileOrder.{tile_of}
 use Rattle.tile_exec.specs.declared.task.AtHand.{AtHand}
 use Rattle.tile_exec.specs.Tasks.{PartTree, pass, condition, item, area_of, bodies_of, IsPartPlaced}
 use Rattle.tile_exec.specs.Units.{HasPart}
@@ -56,4 +55,4 @@ abbrev pub FetchesOver : {S A : Type 0} → Result A CellError → Ground → Li
 FetchesOver result g box t old new p = OnOk result (FetchesAtMost (sum_by (bound_of (chosen (t.state old) g) box) (bodies_of p)) (t.state old) (t.state new))
 
 abbrev pub FetchesTile : {S A : Type 0} → Result A CellError → Ground → ℕ → Ghosts S → S → S → PartTree → Type 0
-FetchesTile result g tile t old new p = FetchesOver result g (tile_of (area_of p) tile) t old new p
+FetchesTile result g tile t old new p = FetchesOver result g (tile_box (area_of p) tile) t old new p

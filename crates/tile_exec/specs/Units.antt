@@ -4,7 +4,7 @@ use Rattle.std.specs.List.{All, flat_map}
 use Rattle.arr_core.specs.declared.cell.Cell.{Cell}
 use Rattle.arr_core.specs.Domains.{points}
 use Rattle.arr_core.specs.Limits.{max_points}
-use Rattle.arr_core.specs.Tiles.{tile_boxes}
+use Rattle.arr_core.specs.Tiles.{tile_boxes, tile_box}
 use Rattle.wcps_mean.specs.declared.cell.PointFault.{PointFault}
 use Rattle.wcps_mean.specs.declared.cell.Outcome.{Outcome}
 use Rattle.wcps_mean.specs.Answer.{line_of, field_count}
@@ -28,7 +28,6 @@ use Rattle.tile_exec.specs.Tasks.{PartTree, TaskTree, pass, condition, item, fie
 use Rattle.tile_exec.specs.Progress.{read_by}
 use Rattle.tile_columns.specs.declared.ground.Ground.{Ground}
 use Rattle.tile_columns.specs.Sources.{SourceState}
-use Rattle.tile_columns.specs.TileOrder.{tile_of}
 use Rattle.tile_exec.specs.Passes.{told_by_tile}
 use Rattle.tile_columns.specs.Fields.{HavePlaces}
 use Rattle.tile_exec.specs.Rows.{all_cells_told}
@@ -76,7 +75,7 @@ AfterSkipped (Failed f) after = after ≡ Failed f
 
 -- what is found is of the kind of the task
 abbrev pub FitsPart : ℕ → Status → PartTree → Found → Type 0
-FitsPart tile status (pass p) (found.Pass a) = (a.running.op ≡ p.op) × (a.running.count ≤ length (points (tile_of p.domain tile)))
+FitsPart tile status (pass p) (found.Pass a) = (a.running.op ≡ p.op) × (a.running.count ≤ length (points (tile_box p.domain tile)))
 FitsPart tile status (condition c) (found.Condition o) = Unit {0}
 FitsPart tile status (item i) (found.Item x) = FitsItem i tile status x
 FitsPart tile status (item i) found.Skipped = IsNotGiven status
@@ -95,9 +94,9 @@ Fits e (t ∷ tasks) last x = FitsUnit e.tile e.status t.part last x
 
 -- the cells and the first fault of a tile of an item, and what is known of it
 pub record TellsItem (s : CellsOf) (regs : List Outcome) (i : ItemTree) (t : ℕ) (x : ItemTile) : Type 0 where
-  pub places : places_written (cells_placed x) ≡ flat_map (places_of i) (points (tile_of i.domain t))
+  pub places : places_written (cells_placed x) ≡ flat_map (places_of i) (points (tile_box i.domain t))
   pub cells : ArePlaced (all_cells s regs i) (cells_placed x)
-  pub first : IsFirstOf x.first (flat_map (told_to_item s regs i) (points (tile_of i.domain t)))
+  pub first : IsFirstOf x.first (flat_map (told_to_item s regs i) (points (tile_box i.domain t)))
   pub known : IsKnown s regs i x.known
 
 -- what is found is that of the tile at hand

@@ -2,12 +2,11 @@
 
 ghost use Rattle.std.specs.Prelude.{◌≡◌, ◌<◌, ◌≤◌, [], length, IfOk, OnOk};
 ghost use Rattle.arr_core.specs.Domains.{points};
-ghost use Rattle.arr_core.specs.Tiles.{tile_boxes};
+ghost use Rattle.arr_core.specs.Tiles.{tile_boxes, tile_box};
 ghost use Rattle.tile_kernel.specs.Told.{told_at, demanded_at};
 ghost use Rattle.tile_kernel.specs.Standing.{Stands};
 ghost use Rattle.tile_columns.specs.Calling.{Reads};
 ghost use Rattle.tile_columns.specs.Meaning.{IsGroundOf};
-ghost use Rattle.tile_columns.specs.TileOrder.{tile_of};
 ghost use Rattle.tile_exec.specs.declared.found.Found.TheVariants.{Pass, Condition};
 ghost use Rattle.tile_exec.specs.Passes.{ranks_of};
 ghost use Rattle.tile_exec.specs.Units.{IsFound};
@@ -52,7 +51,7 @@ fn fold_part(
     places: &mut Vec<u64>,
 ) -> Result<Accumulator, AllocError>
     requires tile { of.tile < length (tile_boxes of.area.now) }
-    requires column { length column.now ≡ length (points (tile_of of.area.now of.tile)) }
+    requires column { length column.now ≡ length (points (tile_box of.area.now of.tile)) }
     ensures stands { IfOk result (λ a. Stands a (told_at (ranks_of of.entry) column.now)) }
     ensures op { IfOk result (λ a. a.running.op ≡ op) }
     ensures count { IfOk result (λ a. a.running.count ≡ length column.now) }
@@ -76,7 +75,7 @@ fn fold_part_where(
     places: &mut Vec<u64>,
 ) -> Result<Accumulator, AllocError>
     requires tile { of.tile < length (tile_boxes of.area.now) }
-    requires column { length column.now ≡ length (points (tile_of of.area.now of.tile)) }
+    requires column { length column.now ≡ length (points (tile_box of.area.now of.tile)) }
     requires condition { length condition.now ≡ length column.now }
     ensures stands { IfOk result (λ a. Stands a (demanded_at (ranks_of of.entry) condition.now column.now)) }
     ensures op { IfOk result (λ a. a.running.op ≡ op) }
@@ -103,7 +102,7 @@ pub(crate) fn pass_tile<S: Tiles>(
     requires placed { IsPartOver (S.state source.old) ground.now (as_pass pass.now) }
     requires tile { tile < length (tile_boxes pass.now.domain) }
     ensures op { IfOk result (λ a. a.running.op ≡ pass.now.op) }
-    ensures count { IfOk result (λ a. a.running.count ≤ length (points (tile_of pass.now.domain tile))) }
+    ensures count { IfOk result (λ a. a.running.count ≤ length (points (tile_box pass.now.domain tile))) }
     ensures stands { IfOk result (λ a. IsFound (S.state source.old) ground.now tile (Pass a) (as_pass pass.now)) }
     ensures reads { Reads S.Tiles result source.old source.new }
     ensures fetched { FetchesTile result ground.now tile S.Tiles source.old source.new (as_pass pass.now) }

@@ -7,7 +7,8 @@ use Rattle.file_bytes.proofs.Codes.{begins, same-lists}
 use Rattle.tile_index.specs.declared.entry.Entry.{Entry}
 use Rattle.file_bytes.specs.declared.form.Form.{Form}
 use Rattle.file_bytes.specs.declared.form.Form.TheVariants.{Runs, Raw}
-use Rattle.tile_index.specs.Entries.{blocks_filled, most_bytes}
+use Rattle.file_bytes.specs.Limits.{blocks_filled}
+use Rattle.tile_index.specs.Entries.{most_bytes}
 use Rattle.tile_index.specs.Index.{IsPair, ArePairs, AreSoMany, IsIndex}
 use Rattle.tile_index.specs.Bytes.{number_bytes, length_number, entry_bytes, index_bytes}
 

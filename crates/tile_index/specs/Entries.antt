@@ -1,14 +1,11 @@
 -- Where the bytes of a tile lie.
-use Rattle.std.specs.Prelude.{◌≡◌, ℕ, ◌+◌, ◌/◌, ◌<◌, ◌≤◌, ◌^◌, List, length, All}
+use Rattle.std.specs.Prelude.{◌≡◌, ℕ, ◌<◌, ◌≤◌, ◌^◌, List, length, All}
 use Rattle.file_bytes.specs.declared.form.Form.{Form}
 use Rattle.file_bytes.specs.declared.form.Form.TheVariants.{Runs, Raw}
 use Rattle.file_bytes.specs.declared.form.Version.{Version}
 use Rattle.file_bytes.specs.declared.form.Version.TheVariants.{One, Two}
+use Rattle.file_bytes.specs.Limits.{blocks_filled}
 use Rattle.tile_index.specs.declared.entry.Entry.{Entry}
-
--- how many blocks of 4,096 bytes so many bytes fill, the last one perhaps in part
-abbrev pub blocks_filled : ℕ → ℕ
-blocks_filled bytes = (bytes + 4095) / 4096
 
 -- the most bytes of a tile: 4,096 runs of 10, or 4,096 cells of 8
 abbrev pub most_bytes : Form → ℕ

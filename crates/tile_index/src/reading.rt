@@ -8,7 +8,7 @@ ghost use Rattle.tile_index.specs.Bytes.{number_bytes, length_number, entry_byte
 
 use crate::entry::{BlockList, Entry};
 use crate::index::TileIndex;
-use file_bytes::{Form, ReadError, Reader, Version};
+use file_bytes::{BLOCK_BYTES, Form, ReadError, Reader, Version};
 use std::alloc::Global;
 
 /// What a number that tells a form and a length has besides the length for raw cells: its highest bit.
@@ -75,7 +75,7 @@ fn read_entry(bytes: &mut Reader) -> Option<(u64, Entry)>
     if !(1..=most_bytes(form)).contains(&length) {
         return None;
     }
-    let Some(blocks) = read_numbers(bytes, length.div_ceil(4096) as usize) else {
+    let Some(blocks) = read_numbers(bytes, length.div_ceil(BLOCK_BYTES as u32) as usize) else {
         return None;
     };
     let entry = Entry {

@@ -51,7 +51,7 @@ impl<'a> Runs<'a> {
 
     /// The outcomes at all places, by their values in `room`, if each fits 32 bits.
     pub fn spread_narrow<'b>(&'b self, room: &'b mut [i32]) -> Option<View<'b>>
-        requires { length room.old ≡ 4104 }
+        requires { length room.old ≡ max_tile + 8 }
         ensures { IfSome result (λ view. view ≡ runs_shown self.now) }
     {
         if !spread_narrow_over(self.values, self.counts, room) {

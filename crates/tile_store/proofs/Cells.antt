@@ -7,7 +7,7 @@ use Rattle.std.proofs.lemmas.List.{ext_get_or, get_or-map, length-map, get_or_de
 use Rattle.arr_core.specs.declared.cell.FieldType.{FieldType}
 use Rattle.arr_core.specs.declared.domain.Axis.{Axis}
 use Rattle.arr_core.specs.Domains.{points, count, rank_of, point_at, AreOrdered, IsInside, IsBoxOf, is_inside}
-use Rattle.arr_core.specs.Tiles.{tile_boxes, IsInTile}
+use Rattle.arr_core.specs.Tiles.{tile_boxes, IsInTile, tile_box, TileMeets}
 use Rattle.arr_core.proofs.Grids.{in-no-other, in-own-tile}
 use Rattle.file_bytes.specs.declared.form.Form.{Form}
 use Rattle.file_bytes.specs.declared.form.Form.TheVariants.{Runs, Raw}
@@ -16,14 +16,15 @@ use Rattle.tile_index.specs.declared.entry.Entry.{Entry}
 use Rattle.tile_index.specs.Index.{found_at}
 use Rattle.block_file.specs.State.{BlocksState, block_at}
 use Rattle.tile_store.specs.Listing.{entry_times}
-use Rattle.tile_store.specs.Stored.{entry_data, IsPadded, cells_read, tile_cells, tile_box, tile_number, number_at, IsTileSpelled, KeepsListed}
+use Rattle.tile_store.specs.Stored.{entry_data, IsPadded, cells_read, tile_cells, number_at, IsTileSpelled, KeepsListed}
 use Rattle.tile_store.specs.declared.field.FieldTiles.{FieldTiles}
 use Rattle.tile_store.specs.declared.numbers.Numbers.TheVariants.{Each}
 use Rattle.tile_store.specs.Numbers.{AreNumbers, number_of}
-use Rattle.tile_store.specs.Reading.{IsTileRead, Meets, number_in}
+use Rattle.tile_store.specs.Reading.{IsTileRead, number_in}
 use Rattle.tile_store.specs.Room.{tile_blocks, cells_after, AreMeeting}
 use Rattle.tile_store.specs.Written.{EntrySpells, HasCells, IsWritten, IsRead}
 use Rattle.arr_core.proofs.Points.{length-points, rank-point, point-inside, at_rank, rank_of-lt-count}
+use Rattle.arr_core.specs.Meeting.{tile_number}
 use Rattle.tile_store.specs.Overlays.{Overlaid}
 use Rattle.tile_store.proofs.Fitting.{fits_spelled}
 use Rattle.tile_store.proofs.Rows.{inside_cases, overlaid_same}
@@ -154,7 +155,7 @@ tiles_copied domain area tiles i f old new h done overlaid j lt p inside at = el
 ]
 
 -- the tiles of a list meet the box
-pub meets_at : (domain area : List Axis) (tiles : List ℕ) (i : ℕ) → AreMeeting domain area tiles → i < length tiles → Meets domain area (get_or tiles i 0)
+pub meets_at : (domain area : List Axis) (tiles : List ℕ) (i : ℕ) → AreMeeting domain area tiles → i < length tiles → TileMeets domain (get_or tiles i 0) area
 meets_at domain area tiles i meeting h = (meeting.exact (get_or tiles i 0)).0 (Contains-get_or tiles i 0 h)
 
 pub listed_at : (tiles : List ℕ) (t : ℕ) (c : Contains tiles t) → get_or tiles c.0 0 ≡ t

@@ -4,13 +4,15 @@ use Rattle.std.proofs.lemmas.List.Concat.{flat_map-cons}
 use Rattle.arr_core.specs.declared.cell.FieldType.{FieldType}
 use Rattle.arr_core.specs.declared.domain.Axis.{Axis}
 use Rattle.arr_core.specs.Domains.{points, count}
+use Rattle.arr_core.specs.Meeting.{tile_number}
+use Rattle.arr_core.specs.Tiles.{tile_box}
 use Rattle.tile_index.specs.declared.entry.Entry.{Entry}
 use Rattle.tile_index.specs.Index.{found_at}
 use Rattle.block_file.specs.State.{BlocksState, block, block_at, times, none}
 use Rattle.block_file.specs.Words.{Moves}
 use Rattle.block_file.proofs.Times.{one_same, times-cons}
 use Rattle.tile_store.specs.Listing.{listed, IsSound}
-use Rattle.tile_store.specs.Stored.{entry_data, IsPadded, cells_read, SpellsMany, tile_cells, tile_box, tile_number, number_at, field_values, IsTileSpelled, IsSpelled, KeepsListed}
+use Rattle.tile_store.specs.Stored.{entry_data, IsPadded, cells_read, SpellsMany, tile_cells, number_at, field_values, IsTileSpelled, IsSpelled, KeepsListed}
 use Rattle.tile_store.proofs.Listed.{listed_found}
 
 -- bytes of blocks that hold the same

@@ -8,9 +8,10 @@ use Rattle.arr_core.specs.declared.cell.FieldType.{FieldType}
 use Rattle.arr_core.specs.declared.domain.Axis.{Axis}
 use Rattle.arr_core.specs.Domains.{points, rank_of, AreOrdered, IsDomain, IsInside}
 use Rattle.arr_core.specs.Stores.{updated_values}
-use Rattle.arr_core.specs.Tiles.{tile_boxes, edge_of, IsInTile}
+use Rattle.arr_core.specs.Tiles.{tile_boxes, edge_of, IsInTile, tile_box}
 use Rattle.arr_core.proofs.Grids.{in-own-tile, length-tile_boxes, count-grid}
 use Rattle.arr_core.proofs.Points.{length-points}
+use Rattle.arr_core.specs.Meeting.{tile_number}
 use Rattle.block_file.specs.State.{BlocksState, block, block_at, times, none}
 use Rattle.block_file.specs.Words.{OnlyReads}
 use Rattle.block_file.proofs.Times.{times_none}
@@ -23,7 +24,7 @@ use Rattle.tile_store.specs.Listing.{listed, tiles_of, IsSound, Takes}
 use Rattle.tile_store.proofs.Takes.{reads_whole}
 use Rattle.tile_store.specs.Patches.{CoversTile, MeetsTile, IsSpelledFor, numbers_of, values_for, patched, IsPatched}
 use Rattle.tile_store.specs.Room.{entry_blocks, tile_blocks, patched_at}
-use Rattle.tile_store.specs.Stored.{tile_box, tile_number, number_at, field_values, KeepsListed}
+use Rattle.tile_store.specs.Stored.{number_at, field_values, KeepsListed}
 use Rattle.tile_store.specs.Written.{IsWritten, AreWritten, AreAfter, IsNewTile}
 use Rattle.tile_store.proofs.Cells.{cells_listed, cell_listed, number_in_tile, written_kept, after_kept}
 use Rattle.tile_store.proofs.Kept.{cells_kept, padded_kept, tile_kept, keeps_listed}

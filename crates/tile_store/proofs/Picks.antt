@@ -6,7 +6,7 @@ use Rattle.arr_core.specs.declared.cell.FieldType.{FieldType}
 use Rattle.arr_core.specs.declared.cell.FieldType.TheVariants as kind
 use Rattle.arr_core.specs.declared.domain.Axis.{Axis}
 use Rattle.arr_core.specs.Domains.{points, count, rank_of, point_at, AreOrdered, IsDomain, IsInside}
-use Rattle.arr_core.specs.Tiles.{tile_boxes, grid, edge_of}
+use Rattle.arr_core.specs.Tiles.{tile_boxes, grid, edge_of, tile_box}
 use Rattle.arr_core.proofs.Boxes.{IsDomain-box, tile-small}
 use Rattle.arr_core.proofs.Grids.{ordered-grid, edge-some, length-tile_boxes, get_or-tile_boxes}
 use Rattle.arr_core.proofs.Points.{at_place, length-points, point-inside, rank-point}
@@ -30,7 +30,7 @@ use Rattle.tile_store.specs.declared.field.FieldTiles.{FieldTiles}
 use Rattle.tile_store.specs.Listing.{entry_times, IsSound}
 use Rattle.tile_store.specs.Picking.{IsEntryIn, cells_as, IsLast, ArePicks, LackPicks}
 use Rattle.tile_store.specs.Reading.{number_in, ArePicked, IsSpelledIn}
-use Rattle.tile_store.specs.Stored.{entry_data, cells_read, tile_cells, tile_box}
+use Rattle.tile_store.specs.Stored.{entry_data, cells_read, tile_cells}
 use Rattle.tile_store.proofs.Cells.{number_in_tile}
 use Rattle.tile_store.proofs.Kept.{map_same}
 use Rattle.tile_store.proofs.Listed.{found_covered, found_times}

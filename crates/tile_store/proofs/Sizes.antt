@@ -7,7 +7,8 @@ use Rattle.tile_index.specs.declared.entry.Entry.{Entry}
 use Rattle.tile_index.specs.Bytes.{number_bytes, length_number, entry_bytes, index_bytes}
 use Rattle.file_bytes.specs.declared.form.Form.{Form}
 use Rattle.file_bytes.specs.declared.form.Form.TheVariants.{Runs, Raw}
-use Rattle.tile_index.specs.Entries.{IsEntry, blocks_filled, most_bytes}
+use Rattle.file_bytes.specs.Limits.{blocks_filled}
+use Rattle.tile_index.specs.Entries.{IsEntry, most_bytes}
 use Rattle.tile_index.specs.Index.{found_at, changed_at, IsPair, IsIndex}
 use Rattle.tile_index.proofs.Between.{few-between}
 use Rattle.tile_index.proofs.Codes.{length-numbers, index-parts}

@@ -1,6 +1,6 @@
 -- Which blocks tiles, indexes and changes list: how often each block stands there.
 use Rattle.std.specs.Prelude.{◌≡◌, ℕ, ◌+◌, ◌-◌, ◌<◌, ◌≤◌, max, IsTrue, List, length, map, sum_by, All, Option, Some, None}
-use Rattle.block_file.specs.Limits.{block_bytes}
+use Rattle.file_bytes.specs.Limits.{block_bytes}
 use Rattle.block_file.specs.State.{BlocksState, block, times, none, free_of}
 use Rattle.block_file.specs.Words.{Moves, Covers}
 use Rattle.arr_core.specs.declared.domain.Axis.{Axis}

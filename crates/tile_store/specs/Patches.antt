@@ -2,14 +2,14 @@
 use Rattle.std.specs.Prelude.{◌≡◌, ◌⊎◌, ℕ, ◌<◌, ℤ, pos, IsTrue, List, All, None, Result}
 use Rattle.arr_core.specs.Domains.{IsBoxOf}
 use Rattle.arr_core.specs.Stores.{updated_values}
+use Rattle.arr_core.specs.Tiles.{tile_box, TileMeets}
 use Rattle.block_file.specs.State.{BlocksState, free_of}
 use Rattle.tile_store.specs.declared.fault.Fault.{Fault}
 use Rattle.tile_index.specs.Index.{found_at}
 use Rattle.tile_store.specs.declared.numbers.Patch.{Patch}
 use Rattle.tile_store.specs.Listing.{Index, IsSound}
 use Rattle.tile_store.specs.Numbers.{AreNumbers, numbers_in}
-use Rattle.tile_store.specs.Reading.{Meets}
-use Rattle.tile_store.specs.Stored.{tile_box, field_values, IsTileSpelled, IsTilePadded}
+use Rattle.tile_store.specs.Stored.{field_values, IsTileSpelled, IsTilePadded}
 use Rattle.tile_store.specs.Faults.{Refuses}
 use Rattle.tile_store.specs.Room.{cells_after, tile_blocks, entry_blocks, room_for, AreMeeting}
 
@@ -29,7 +29,7 @@ CoversTile u tile = IsBoxOf u.area.now (tile_box u.domain.now tile)
 
 -- the box has a point in common with a tile of the domain
 abbrev pub MeetsTile : Patch → ℕ → Type 0
-MeetsTile u tile = Meets u.domain.now u.area.now tile
+MeetsTile u tile = TileMeets u.domain.now tile u.area.now
 
 -- the numbers for the box, in order of its points
 abbrev pub numbers_of : Patch → List ℤ

@@ -1,10 +1,10 @@
 -- Cells of a tile at ranks, read without the others.
 use Rattle.std.specs.Prelude.{◌≡◌, ℕ, ◌<◌, ℤ, pos, IsTrue, List, length, slice_index_or, Option, Some}
 use Rattle.arr_core.specs.declared.cell.FieldType.{FieldType}
-use Rattle.block_file.specs.Limits.{block_bytes}
 use Rattle.block_file.specs.State.{BlocksState, block, times}
 use Rattle.block_file.specs.Words.{Covers}
 use Rattle.file_bytes.specs.declared.form.Form.{Form}
+use Rattle.file_bytes.specs.Limits.{block_bytes}
 pub use Rattle.run_tile.specs.Picking.{picked, AreRanks}
 use Rattle.tile_index.specs.declared.entry.Entry.{Entry}
 use Rattle.tile_index.specs.Entries.{IsEntry}

@@ -4,11 +4,12 @@ use Rattle.std.specs.Prelude.{◌≡◌, ℕ, ◌<◌, ℤ, IsTrue, List, [], ma
 use Rattle.arr_core.specs.declared.domain.Axis.{Axis}
 use Rattle.arr_core.specs.Cells.{Fits}
 use Rattle.arr_core.specs.Domains.{points}
-use Rattle.arr_core.specs.Tiles.{tile_boxes, Meet}
+use Rattle.arr_core.specs.Tiles.{tile_box, TileMeets}
+use Rattle.arr_core.specs.Meeting.{tile_number}
 use Rattle.block_file.specs.State.{BlocksState}
 use Rattle.tile_store.specs.declared.field.FieldTiles.{FieldTiles}
 use Rattle.tile_store.specs.Overlays.{Overlaid}
-use Rattle.tile_store.specs.Stored.{tile_box, tile_number, number_at, IsTileSpelled}
+use Rattle.tile_store.specs.Stored.{number_at, IsTileSpelled}
 
 -- the number that a field has at a point
 abbrev pub number_in : FieldTiles → BlocksState → List ℤ → ℤ
@@ -17,10 +18,6 @@ number_in f s p = number_at f.kind f.domain.now f.index.now s.content p
 -- a tile of a field is spelled
 abbrev pub IsSpelledIn : FieldTiles → BlocksState → ℕ → Type 0
 IsSpelledIn f s tile = IsTileSpelled f.kind f.domain.now f.index.now s.content tile
-
--- the tile is one of the domain's, and has a point in common with a box
-abbrev pub Meets : List Axis → List Axis → ℕ → Type 0
-Meets domain area tile = (tile < length (tile_boxes domain)) × Meet (tile_box domain tile) area
 
 -- these are the cells of a tile, at its points in row-major order
 pub record IsTileRead (f : FieldTiles) (tile : ℕ) (s : BlocksState) (cells : List ℤ) : Type 0 where
@@ -56,8 +53,8 @@ pub record IsAreaRead (f : FieldTiles) (area : List Axis) (s : BlocksState) (cel
   pub counted : length cells ≡ length (points area)
   pub fit : All (Fits f.kind) cells
   pub numbers : IsTrue s.honest → cells ≡ map (number_in f s) (points area)
-  pub spelled : IsTrue s.honest → (tile : ℕ) → Meets f.domain.now area tile → IsSpelledIn f s tile
+  pub spelled : IsTrue s.honest → (tile : ℕ) → TileMeets f.domain.now tile area → IsSpelledIn f s tile
 
 -- a tile that a box meets is not spelled as the format says
 abbrev pub IsAreaDamaged : FieldTiles → List Axis → BlocksState → Type 0
-IsAreaDamaged f area s = IsTrue s.honest → (tile : ℕ) × Meets f.domain.now area tile × (IsSpelledIn f s tile → ⊥)
+IsAreaDamaged f area s = IsTrue s.honest → (tile : ℕ) × TileMeets f.domain.now tile area × (IsSpelledIn f s tile → ⊥)

@@ -6,20 +6,20 @@ use Rattle.std.specs.Ordering.{int_eq}
 use Rattle.arr_core.specs.declared.cell.FieldType.{FieldType}
 use Rattle.arr_core.specs.declared.domain.Axis.{Axis}
 use Rattle.arr_core.specs.Domains.{points, is_inside, rank_of}
-use Rattle.arr_core.specs.Tiles.{tile_boxes, Meet}
+use Rattle.arr_core.specs.Tiles.{tile_box, TileMeets}
 use Rattle.run_tile.specs.Raw.{tile_size}
 use Rattle.tile_index.specs.declared.entry.Entry.{Entry}
-use Rattle.tile_index.specs.Entries.{blocks_filled}
+use Rattle.file_bytes.specs.Limits.{blocks_filled}
 use Rattle.tile_index.specs.Index.{found_at}
 use Rattle.tile_index.specs.Bytes.{index_bytes}
 use Rattle.block_file.specs.Format.{chain_blocks}
-use Rattle.tile_store.specs.Stored.{tile_box, number_at}
+use Rattle.tile_store.specs.Stored.{number_at}
 use Rattle.block_file.specs.State.{BlocksState, free_of}
 
 -- the tiles that have a point in common with a box, rising
 pub record AreMeeting (domain area : List Axis) (tiles : List ℕ) : Type 0 where
   pub rising : IsStrictlyIncreasing tiles
-  pub exact : (n : ℕ) → Contains tiles n ↔ ((n < length (tile_boxes domain)) × Meet (tile_box domain n) area)
+  pub exact : (n : ℕ) → Contains tiles n ↔ TileMeets domain n area
 
 -- how many blocks a tile with these cells takes: none where all are 0, else those that its
 -- bytes fill in the shorter form

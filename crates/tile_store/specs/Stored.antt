@@ -4,8 +4,8 @@ use Rattle.std.specs.List.{flat_map}
 use Rattle.arr_core.specs.declared.cell.FieldType.{FieldType}
 use Rattle.arr_core.specs.declared.domain.Axis.{Axis}
 use Rattle.arr_core.specs.Domains.{points, count, rank_of}
-use Rattle.arr_core.specs.Tiles.{tile_boxes, grid, edge_of}
-use Rattle.arr_core.specs.Meeting.{tile_at}
+use Rattle.arr_core.specs.Tiles.{tile_box}
+use Rattle.arr_core.specs.Meeting.{tile_number}
 use Rattle.file_bytes.specs.declared.form.Form.{Form}
 use Rattle.run_tile.specs.Raw.{Spells, cells_in}
 use Rattle.tile_index.specs.declared.entry.Entry.{Entry}
@@ -34,14 +34,6 @@ tile_cells kind content (Some e) = cells_read e.form kind (entry_data content e)
 abbrev pub SpellsMany : Form → FieldType → List ℕ → ℕ → Type 0
 SpellsMany form kind bytes n =
     Spells form kind bytes (cells_read form kind bytes) × (length (cells_read form kind bytes) ≡ n)
-
--- the box of a tile of a domain
-abbrev pub tile_box : List Axis → ℕ → List Axis
-tile_box domain tile = slice_index_or (tile_boxes domain) tile []
-
--- the number of the tile that a point is in
-abbrev pub tile_number : List Axis → List ℤ → ℕ
-tile_number domain p = rank_of (grid (edge_of (length domain)) domain) (tile_at (edge_of (length domain)) domain p)
 
 -- the stored number at a point: the one that its tile has there, and 0 where that tile is not listed
 unfoldable pub number_at : FieldType → List Axis → List (ℕ × Entry) → List ℕ → List ℤ → ℤ

@@ -5,7 +5,8 @@ use Rattle.arr_core.specs.declared.cell.FieldType.{FieldType}
 use Rattle.arr_core.specs.Cells.{Fits}
 use Rattle.arr_core.specs.Domains.{count, IsDomain, IsInside, is_inside}
 use Rattle.arr_core.specs.Limits.{max_points, max_tile}
-use Rattle.block_file.specs.Limits.{block_bytes}
+use Rattle.arr_core.specs.Tiles.{tile_box}
+use Rattle.file_bytes.specs.Limits.{block_bytes}
 use Rattle.block_file.specs.State.{BlocksState, block, times, none, free_of}
 use Rattle.block_file.specs.Words.{Recounts, Covers}
 use Rattle.tile_index.specs.declared.entry.Entry.{Entry}
@@ -21,7 +22,7 @@ use Rattle.tile_store.specs.Listing.{Index, entry_times, listed_for, tiles_of, g
 use Rattle.tile_store.specs.Overlays.{cell_at}
 use Rattle.tile_store.specs.Patches.{CoversTile, IsSpelledFor, patched, HasDamaged, blocks_after}
 use Rattle.tile_store.specs.Room.{tile_blocks, entry_blocks, new_blocks, replaced_bytes, given_bytes, AreMeeting}
-use Rattle.tile_store.specs.Stored.{SpellsMany, entry_data, IsPadded, tile_cells, tile_box, number_at}
+use Rattle.tile_store.specs.Stored.{SpellsMany, entry_data, IsPadded, tile_cells, number_at}
 
 -- a block holds the part of some bytes that stands at a place, counted in blocks, and zeros behind the last of them
 pub record HoldsPart (block : List ℕ) (place : ℕ) (bytes : List ℕ) : Type 0 where

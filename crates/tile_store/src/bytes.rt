@@ -2,15 +2,16 @@
 
 ghost use Rattle.std.specs.Prelude.{◌+◌, ◌*◌, ◌<◌, ◌≤◌, ◌^◌, length, IsErr, IsErrOf, OnOk, IsTrue};
 ghost use Rattle.disk_face.specs.Disk.{Tells};
-ghost use Rattle.block_file.specs.Limits.{block_bytes};
+ghost use Rattle.file_bytes.specs.Limits.{block_bytes};
 ghost use Rattle.block_file.specs.State.{times};
 ghost use Rattle.block_file.specs.Words.{OnlyReads, Moves, Covers, AreBytesOf};
 ghost use Rattle.tile_store.specs.Faults.{Refuses};
 ghost use Rattle.tile_store.specs.Written.{AreNeighbours, IsDataRead, HoldsPart, HoldsBytes, AreFresh};
 
 use crate::fault::Fault;
-use block_file::{BLOCK_BYTES, Blocks};
+use block_file::Blocks;
 use disk_face::DiskFault;
+use file_bytes::BLOCK_BYTES;
 use tile_index::Entry;
 
 /// How many neighbouring blocks are read at once at most: as many as a tile has.
@@ -65,7 +66,7 @@ fn read_each<B: Blocks>(blocks: &mut B, numbers: &[u32], bytes: &mut Vec<u8>) ->
 {
     bytes.clear();
     for k in numbers {
-        let mut block = [0u8; 4096];
+        let mut block = [0u8; BLOCK_BYTES];
         blocks.read(*k, &mut block)?;
         bytes.extend_from_slice(&block)?;
     }
@@ -104,13 +105,13 @@ pub(crate) fn read_bytes<B: Blocks>(
 }
 
 /// The bytes that stand in the block at a place of a tile's blocks, and zeros after the last one.
-fn block_of(bytes: &[u8], place: usize) -> [u8; 4096]
+fn block_of(bytes: &[u8], place: usize) -> [u8; BLOCK_BYTES]
     requires { place < 2 ^ 32 }
     ensures { HoldsPart result place bytes.now }
 {
     let from = bytes.len().min(place * BLOCK_BYTES);
     let count = BLOCK_BYTES.min(bytes.len() - from);
-    let mut part = [0u8; 4096];
+    let mut part = [0u8; BLOCK_BYTES];
     part[..count].copy_from_slice(&bytes[from..from + count]);
     part
 }

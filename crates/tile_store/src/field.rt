@@ -3,7 +3,7 @@
 ghost use Rattle.std.specs.Prelude.{◌≡◌, ◌<◌, ◌≤◌, [], length, option_copied, All, IsErrOf, IfOk, OnOk, OnErr, IsTrue};
 ghost use Rattle.arr_core.specs.Cells.{Fits};
 ghost use Rattle.arr_core.specs.Domains.{count, IsInside, IsBoxOf};
-ghost use Rattle.arr_core.specs.Tiles.{tile_boxes};
+ghost use Rattle.arr_core.specs.Tiles.{tile_boxes, tile_box};
 ghost use Rattle.arr_core.specs.Limits.{max_tile};
 ghost use Rattle.disk_face.specs.Disk.{Tells};
 ghost use Rattle.block_file.specs.State.{none, times};
@@ -15,7 +15,6 @@ ghost use Rattle.tile_store.specs.Listing.{listed, IsSound, UsesOnce, Relists};
 ghost use Rattle.tile_store.specs.Patches.{CanPatch, Patches, RefusesPatch};
 ghost use Rattle.tile_store.specs.Reading.{IsTileRead, IsTileDamaged, IsPointRead, IsPointDamaged, IsCopied, IsAreaRead, IsAreaDamaged};
 ghost use Rattle.tile_store.specs.Room.{AreMeeting, HasRoom};
-ghost use Rattle.tile_store.specs.Stored.{tile_box};
 ghost use Rattle.tile_store.specs.Written.{CanExchange, Exchanges, GivesBack};
 
 use crate::fault::Fault;

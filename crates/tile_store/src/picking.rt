@@ -3,7 +3,7 @@
 
 ghost use Rattle.std.specs.Prelude.{◌≡◌, ◌<◌, [], ◌∷◌, length, Some, All, IfOk, IsErrOf, OnOk};
 ghost use Rattle.arr_core.specs.Domains.{count};
-ghost use Rattle.arr_core.specs.Tiles.{tile_boxes};
+ghost use Rattle.arr_core.specs.Tiles.{tile_boxes, tile_box};
 ghost use Rattle.disk_face.specs.Disk.{Tells};
 ghost use Rattle.block_file.specs.State.{one, times};
 ghost use Rattle.block_file.specs.Words.{OnlyReads};
@@ -12,14 +12,13 @@ ghost use Rattle.tile_store.specs.Faults.{Refuses};
 ghost use Rattle.tile_store.specs.Listing.{listed, IsSound};
 ghost use Rattle.tile_store.specs.Picking.{IsEntryIn, IsLast, IsPick, ArePicks, LackPicks};
 ghost use Rattle.tile_store.specs.Reading.{ArePicked, IsTileDamaged};
-ghost use Rattle.tile_store.specs.Stored.{tile_box};
 
 use crate::bytes::read_bytes;
 use crate::fault::Fault;
 use crate::field::FieldTiles;
 use arr_core::FieldType;
-use block_file::{BLOCK_BYTES, Blocks};
-use file_bytes::Form;
+use block_file::Blocks;
+use file_bytes::{BLOCK_BYTES, Form};
 use run_tile::{pick_runs, raw_cell, width};
 use tile_index::Entry;
 
@@ -27,7 +26,7 @@ use tile_index::Entry;
 fn turn_to<B: Blocks>(
     blocks: &mut B,
     last: &mut Option<u32>,
-    bytes: &mut [u8; 4096],
+    bytes: &mut [u8; BLOCK_BYTES],
     number: u32,
 ) -> Result<(), Fault>
     requires used { 0 < (B.state blocks.old).uses number }
@@ -49,7 +48,7 @@ fn turn_to<B: Blocks>(
 fn read_raw_cell<B: Blocks>(
     blocks: &mut B,
     last: &mut Option<u32>,
-    bytes: &mut [u8; 4096],
+    bytes: &mut [u8; BLOCK_BYTES],
     kind: FieldType,
     entry: &Entry,
     rank: u64,
@@ -80,7 +79,7 @@ fn pick_raw<B: Blocks>(
     kind: FieldType,
     entry: &Entry,
     ranks: &[u64],
-    bytes: &mut [u8; 4096],
+    bytes: &mut [u8; BLOCK_BYTES],
     cells: &mut [i64],
 ) -> Result<(), Fault>
     requires entry { IsEntryIn (B.state blocks.old) entry.now }
@@ -114,7 +113,7 @@ fn pick_blocks<B: Blocks>(
     ensures told { Tells (IsErrOf result Fault.DiskFault) (B.state blocks.old).failures (B.state blocks.new).failures }
 {
     bytes.resize(BLOCK_BYTES, 0)?;
-    match bytes.first_chunk_mut::<4096>() {
+    match bytes.first_chunk_mut::<BLOCK_BYTES>() {
         Some(block) => pick_raw(blocks, kind, entry, ranks, block, cells),
         None => unreachable!(),
     }

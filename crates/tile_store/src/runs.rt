@@ -3,14 +3,13 @@
 ghost use Rattle.std.specs.Prelude.{◌≡◌, ◌<◌, ◌≤◌, pos, length, option_copied, replicate, IsErrOf, OnOk};
 ghost use Rattle.arr_core.specs.Domains.{points};
 ghost use Rattle.arr_core.specs.Runs.{cells_of};
-ghost use Rattle.arr_core.specs.Tiles.{tile_boxes};
+ghost use Rattle.arr_core.specs.Tiles.{tile_boxes, tile_box};
 ghost use Rattle.arr_core.specs.Limits.{max_tile};
 ghost use Rattle.disk_face.specs.Disk.{Tells};
 ghost use Rattle.block_file.specs.Words.{OnlyReads, Covers};
 ghost use Rattle.tile_store.specs.Faults.{Refuses};
 ghost use Rattle.tile_store.specs.Listing.{listed, entry_times};
 ghost use Rattle.tile_store.specs.Reading.{IsTileRead, IsTileDamaged};
-ghost use Rattle.tile_store.specs.Stored.{tile_box};
 ghost use Rattle.tile_store.specs.Written.{IsRead, IsEntryDamaged};
 
 use crate::bytes::read_bytes;

@@ -17,7 +17,8 @@ ghost use Rattle.tile_store.specs.Written.{IsRead, IsEntryDamaged, IsNewTile, Ar
 use crate::bytes::{read_bytes, write_bytes};
 use crate::fault::Fault;
 use arr_core::{Domain, FieldType, count_points};
-use block_file::{BLOCK_BYTES, Blocks};
+use block_file::Blocks;
+use file_bytes::BLOCK_BYTES;
 use run_tile::{decode_into, encode};
 use std::alloc::{AllocError, Global};
 use tile_index::{BlockList, Entry};

@@ -1,7 +1,7 @@
 //! New tiles written to fresh blocks.
 
 ghost use Rattle.std.specs.Prelude.{◌≡◌, ◌≢◌, ℕ, ◌+◌, ◌<◌, ◌≤◌, ◌^◌, [], length, All, Option, Some, IsErrOf, IfOk, OnOk, OnErr, option_copied, sum_by};
-ghost use Rattle.arr_core.specs.Tiles.{tile_boxes};
+ghost use Rattle.arr_core.specs.Tiles.{tile_boxes, tile_box};
 ghost use Rattle.disk_face.specs.Disk.{Tells};
 ghost use Rattle.block_file.specs.State.{times, none};
 ghost use Rattle.block_file.specs.Words.{OnlyReads, Moves, Covers};
@@ -11,7 +11,6 @@ ghost use Rattle.tile_store.specs.Faults.{Refuses};
 ghost use Rattle.tile_store.specs.Listing.{AddsBlocks, listed, listed_for, IsSound, Takes};
 ghost use Rattle.tile_store.specs.Patches.{CanPatch, IsPatch, RefusesPatch};
 ghost use Rattle.tile_store.specs.Room.{AreMeeting, replaced_bytes, given_bytes};
-ghost use Rattle.tile_store.specs.Stored.{tile_box};
 ghost use Rattle.tile_store.specs.Written.{AreBefore, AreAfter, IsCutDamaged, Writes, RefusesTiles, IsSized, IsReady};
 
 use crate::fault::Fault;

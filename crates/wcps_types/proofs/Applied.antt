@@ -2,7 +2,7 @@
 use Rattle.std.proofs.Common.{◌≡◌, ℕ, List, [], ◌∷◌, ◌++◌, map, refl, ap, sym, ◌∙◌}
 use Rattle.std.specs.Prelude.{Some, slice_get, remove, option_map}
 use Rattle.arr_core.specs.declared.domain.Axis.{Axis}
-use Rattle.wcps_types.specs.Names.{axis_place}
+use Rattle.arr_core.specs.Domains.{axis_place}
 use Rattle.wcps_types.specs.Shapes.{SlotTree, ShapeTree}
 use Rattle.wcps_types.specs.Brackets.{BoundsOf, bounds_of, CutTree, sliced_slot, cut_between, cut_at, cut_out, all_cut_out}
 

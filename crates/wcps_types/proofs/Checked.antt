@@ -6,7 +6,7 @@ use Rattle.arr_core.specs.declared.signature.Signature.{Signature}
 use Rattle.wcps_text.specs.Tree.{QueryTree}
 use Rattle.wcps_types.specs.declared.refusal.TypeRefusal.TheVariants.{ResultTooLarge, TooMuchWork}
 use Rattle.wcps_types.specs.declared.bindings.Choice.{Choice}
-use Rattle.wcps_types.specs.declared.names.Bound.{Bound}
+use Rattle.wcps_types.specs.declared.bound.Bound.{Bound}
 use Rattle.wcps_types.specs.declared.typed_query.Combination.{Combination}
 use Rattle.wcps_types.specs.declared.typed_query.Maker.{Maker}
 use Rattle.wcps_types.specs.Typed.{CombinationTree}

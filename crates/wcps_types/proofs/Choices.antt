@@ -9,7 +9,7 @@ use Rattle.std.proofs.lemmas.Grind.{elements}
 use Rattle.std.specs.List.{flat_map}
 use Rattle.std.proofs.Math.Seq.{drop-cons, drop-length}
 use Rattle.wcps_types.specs.declared.bindings.Choice.{Choice}
-use Rattle.wcps_types.specs.declared.names.Bound.{Bound}
+use Rattle.wcps_types.specs.declared.bound.Bound.{Bound}
 use Rattle.wcps_types.specs.Bindings.{ChoiceTree, choice_view, combinations, combination_count, combination_at, bound_to}
 use Rattle.wcps_types.proofs.Caps.{min_times}
 

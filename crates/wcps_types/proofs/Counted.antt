@@ -4,7 +4,7 @@ use Rattle.std.specs.Prelude.{nat_eq, nat_lt, Ok, Err}
 use Rattle.arr_core.specs.declared.signature.Signature.{Signature}
 use Rattle.wcps_text.specs.Tree.{QueryTree}
 use Rattle.wcps_types.specs.declared.refusal.TypeRefusal.TheVariants.{BadSyntax, TooManyCombinations}
-use Rattle.wcps_types.specs.declared.names.Bound.{Bound}
+use Rattle.wcps_types.specs.declared.bound.Bound.{Bound}
 use Rattle.wcps_types.specs.Typed.{CombinationTree}
 use Rattle.wcps_types.specs.Shapes.{Answer}
 use Rattle.wcps_types.specs.Bindings.{ChoiceTree, combinations, combination_count, max_combinations, few_combinations}

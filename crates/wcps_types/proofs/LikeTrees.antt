@@ -6,7 +6,7 @@ use Rattle.std.proofs.lemmas.List.{map-append, length-map}
 use Rattle.std.proofs.Math.Seq.{drop-cons}
 use Rattle.arr_core.specs.declared.signature.Signature.{Signature}
 use Rattle.wcps_text.specs.Tree.{QueryTree}
-use Rattle.wcps_types.specs.declared.names.Bound.{Bound}
+use Rattle.wcps_types.specs.declared.bound.Bound.{Bound}
 use Rattle.wcps_types.specs.declared.typed.Tree.{Tree}
 use Rattle.wcps_types.specs.declared.typed_query.Combination.{Combination}
 use Rattle.wcps_types.specs.declared.typed_query.Maker.{Maker}

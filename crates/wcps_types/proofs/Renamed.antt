@@ -10,16 +10,17 @@ use Rattle.arr_core.specs.declared.field.Field.{Field}
 use Rattle.arr_core.specs.declared.signature.Signature.{Signature}
 use Rattle.wcps_text.specs.Tree as tree
 use Rattle.wcps_text.specs.Tree.{Tree, Parts, no_parts, part, Subs, no_subs, sub, PlaceTree, trim, at, IntervalTree, bounds, Iters, no_iters, iter, Condition, always, only, QueryTree, encode, plain}
-use Rattle.wcps_types.specs.declared.names.Bound.{Bound}
+use Rattle.wcps_types.specs.declared.bound.Bound.{Bound}
 use Rattle.wcps_types.specs.Typed.{Typed, cell, FieldTree}
 use Rattle.wcps_types.specs.Renamed.{renamed, renamed_field, renamed_item, renamed_combination}
-use Rattle.wcps_types.specs.Names.{bound_place, name_place, axis_place}
+use Rattle.wcps_types.specs.Names.{bound_place, name_place}
 use Rattle.wcps_types.specs.Shapes.{SlotTree, ShapeTree, ScalarOf, Answer, then_of, is_scalar, only_field, only_scalar}
 use Rattle.wcps_types.specs.Operators as operators
 use Rattle.wcps_types.specs.Brackets.{BracketTree, opened, place_to_cut, position_of, with_position}
 use Rattle.wcps_types.specs.Records.{PieceTrees, no_pieces, is_part, with_part}
 use Rattle.wcps_types.specs.Boxes.{IteratorTrees, no_iterators, is_taken, with_iterator, box_of, condition_of, condensed, value_list}
 use Rattle.arr_core.specs.Cells.{is_bool}
+use Rattle.arr_core.specs.Domains.{axis_place}
 use Rattle.wcps_types.specs.Variables.{cells_from, coverage_at, bound_at, bound_of, iterator_or}
 use Rattle.wcps_types.specs.Typing.{some_condition, closed_on, array_of, condition_tree, typ, typ_parts, typ_subs, typ_place, typ_interval, typ_iters, typ_condition}
 use Rattle.wcps_types.specs.Queries.{field_of_slot, item_of, plain_item, typ_item, combination_of, typ_combination}

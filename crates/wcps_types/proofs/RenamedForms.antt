@@ -4,7 +4,7 @@ use Rattle.std.specs.Prelude.{ℤ, nat_eq, length, Option, Some, None, option_ma
 use Rattle.std.specs.List.{list_all}
 use Rattle.std.specs.Str.{bytes_eq}
 use Rattle.std.proofs.lemmas.List.{map-append}
-use Rattle.arr_core.specs.Domains.{count}
+use Rattle.arr_core.specs.Domains.{count, axis_place}
 use Rattle.arr_core.specs.declared.domain.Axis.{Axis}
 use Rattle.wcps_text.specs.declared.operator.UnaryOperator.{UnaryOperator}
 use Rattle.wcps_text.specs.declared.operator.UnaryOperator.TheVariants as unaries
@@ -16,7 +16,6 @@ use Rattle.wcps_text.specs.declared.tree.ListItem.{ListItem}
 use Rattle.wcps_types.specs.Typed as typed
 use Rattle.wcps_types.specs.Typed.{Typed, condense_of}
 use Rattle.wcps_types.specs.Renamed.{renamed}
-use Rattle.wcps_types.specs.Names.{axis_place}
 use Rattle.wcps_types.specs.Shapes.{SlotTree, ShapeTree, FieldOf, ScalarOf, Answer, then_of, is_scalar, unnamed, only_field, without_domain, only_scalar}
 use Rattle.wcps_types.specs.Operators.{selected, made_of, negated, unary, are_same, OperandTrees, joined, binary_shape, numeric, logical, binary, reduced_integer, integer_reduction, reduced_boolean, boolean_reduction, reduction}
 use Rattle.wcps_types.specs.Brackets.{BoundsOf, CutTree, BracketTree, bounds_of, trimmed_at, with_trim, integer_tree, position_of, sliced_slot, cut_between, cut_at, cut_out, all_cut_out, bracketed_slot, bracketed, closed}

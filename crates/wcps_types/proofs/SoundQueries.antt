@@ -5,7 +5,7 @@ use Rattle.arr_core.specs.declared.domain.Axis.{Axis}
 use Rattle.arr_core.specs.declared.signature.Signature.{Signature}
 use Rattle.wcps_text.specs.Tree as tree
 use Rattle.wcps_text.specs.Tree.{QueryTree, encode, plain}
-use Rattle.wcps_types.specs.declared.names.Bound.{Bound}
+use Rattle.wcps_types.specs.declared.bound.Bound.{Bound}
 use Rattle.wcps_types.specs.Typed.{ItemTree, CombinationTree}
 use Rattle.wcps_types.specs.Shapes.{SlotTree, ShapeTree, is_scalar}
 use Rattle.wcps_types.specs.Typing.{typ, typ_condition}

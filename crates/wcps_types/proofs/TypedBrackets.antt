@@ -5,9 +5,8 @@ use Rattle.std.proofs.lemmas.Int.{ints}
 use Rattle.std.proofs.lemmas.Bool.{true≢false}
 use Rattle.arr_core.specs.declared.domain.Axis.{Axis}
 use Rattle.arr_core.specs.declared.signature.Signature.{Signature}
-use Rattle.arr_core.specs.Domains.{narrowed}
+use Rattle.arr_core.specs.Domains.{narrowed, axis_place}
 use Rattle.wcps_types.specs.Typed.{Typed, scalar}
-use Rattle.wcps_types.specs.Names.{axis_place}
 use Rattle.wcps_types.specs.Shapes.{SlotTree, ShapeTree, FieldOf, is_scalar, only_scalar}
 use Rattle.wcps_types.specs.Operators.{are_same}
 use Rattle.wcps_types.specs.Brackets.{BoundsOf, bounds_of, CutTree, BracketTree, opened, trimmed_at, with_trim, integer_tree, position_of, with_position, sliced_slot, cut_between, cut_at, all_cut_out, bracketed_slot, closed}

@@ -18,7 +18,7 @@ use Rattle.wcps_text.specs.declared.operator.BinaryOperator.TheVariants as binar
 use Rattle.wcps_text.specs.declared.operator.Aggregate.{Aggregate}
 use Rattle.wcps_text.specs.declared.operator.Aggregate.TheVariants as aggregates
 use Rattle.wcps_text.specs.declared.tree.ListItem.{ListItem}
-use Rattle.wcps_types.specs.declared.names.Bound.{Bound}
+use Rattle.wcps_types.specs.declared.bound.Bound.{Bound}
 use Rattle.wcps_types.specs.Typed.{Typed, condense_of}
 use Rattle.wcps_types.specs.Names.{name_place, bound_place, is_name_of}
 use Rattle.wcps_types.specs.Shapes.{SlotTree, ShapeTree, FieldOf, ScalarOf, Answer, then_of, only_field, only_scalar}

@@ -5,7 +5,7 @@ use Rattle.std.specs.Str.{bytes_eq}
 use Rattle.arr_core.specs.declared.signature.Signature.{Signature}
 use Rattle.wcps_text.specs.Tree.{BindingTree}
 use Rattle.wcps_types.specs.declared.refusal.TypeRefusal.TheVariants.{NoSuchCoverage, BadSyntax, NameTaken, TooManyCombinations}
-use Rattle.wcps_types.specs.declared.names.Bound.{Bound}
+use Rattle.wcps_types.specs.declared.bound.Bound.{Bound}
 use Rattle.wcps_types.specs.declared.bindings.Choice.{Choice}
 use Rattle.wcps_types.specs.declared.bindings.Bindings.{Bindings}
 use Rattle.wcps_types.specs.declared.bindings.PlacedOne.{PlacedOne}

@@ -12,7 +12,7 @@ use Rattle.wcps_text.specs.declared.tree.ListItem.{ListItem}
 use Rattle.wcps_text.specs.declared.tree.ListItem.TheVariants.{Int, Truth}
 use Rattle.wcps_types.specs.declared.refusal.TypeRefusal.{TypeRefusal}
 use Rattle.wcps_types.specs.declared.refusal.TypeRefusal.TheVariants.{NoSuchAxis, BadInterval, NeedsBoolean, NeedsInteger, ListLength}
-use Rattle.wcps_types.specs.declared.names.Bound.{Bound}
+use Rattle.wcps_types.specs.declared.bound.Bound.{Bound}
 use Rattle.wcps_types.specs.declared.boxes.Iterators.{Iterators}
 use Rattle.wcps_types.specs.Typed.{Typed, array, listed, condense_of}
 use Rattle.wcps_types.specs.Names.{bound_place, name_place}

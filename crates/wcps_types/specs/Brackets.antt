@@ -1,13 +1,13 @@
 -- Brackets: narrowing axes, and taking axes out at positions.
 use Rattle.std.specs.Prelude.{ℕ, ℤ, pos, negsuc, List, [], ◌∷◌, ◌++◌, map, Bool, cond, ◌&&◌, ◌||◌, int_le, int_lt, Option, Some, None, is_some, slice_get, remove, option_map, Ok, Err}
 use Rattle.arr_core.specs.declared.domain.Axis.{Axis}
-use Rattle.arr_core.specs.Domains.{narrowed}
+use Rattle.arr_core.specs.Domains.{narrowed, axis_place}
 use Rattle.wcps_types.specs.declared.refusal.TypeRefusal.TheVariants.{NoSuchAxis, AxisTwice, TrimOutside, NeedsInteger, BadInterval}
 use Rattle.wcps_types.specs.declared.bounds.Bounds.{Bounds}
 use Rattle.wcps_types.specs.declared.brackets.Cut.{Cut}
 use Rattle.wcps_types.specs.declared.brackets.Bracket.{Bracket}
 use Rattle.wcps_types.specs.Typed.{Typed, slice, bracket, boxed_tree}
-use Rattle.wcps_types.specs.Names.{axis_place, name_place}
+use Rattle.wcps_types.specs.Names.{name_place}
 use Rattle.wcps_types.specs.Shapes.{SlotTree, ShapeTree, ScalarOf, Answer, then_of, only_scalar}
 
 -- the integers from lo to hi

@@ -2,7 +2,7 @@
 use Rattle.std.specs.Prelude.{◌≡◌, ℕ, List, map, Option, Some, None, Box, slice_get}
 use Rattle.std.specs.Global.{Global}
 use Rattle.wcps_text.specs.Tree.{query_view}
-use Rattle.wcps_types.specs.declared.names.Bound.{Bound}
+use Rattle.wcps_types.specs.declared.bound.Bound.{Bound}
 use Rattle.wcps_types.specs.declared.query.Latest.{Latest}
 use Rattle.wcps_types.specs.declared.query.Making.{Making}
 use Rattle.wcps_types.specs.declared.query.Combined.{Combined}

@@ -1,13 +1,8 @@
 -- Looking names up in lists: the place of the first one of that name.
 use Rattle.std.specs.Prelude.{◌≡◌, ℕ, List, Option, Some, None, Bool, false, cond, position}
 use Rattle.std.specs.Str.{bytes_eq}
-use Rattle.arr_core.specs.declared.domain.Axis.{Axis}
 use Rattle.arr_core.specs.declared.signature.Signature.{Signature}
-use Rattle.wcps_types.specs.declared.names.Bound.{Bound}
-
--- the place of the axis of that name
-abbrev pub axis_place : List ℕ → List Axis → Option ℕ
-axis_place name axes = position (λ (a : Axis). bytes_eq a.name name) axes
+use Rattle.wcps_types.specs.declared.bound.Bound.{Bound}
 
 -- the place of the coverage of that name
 abbrev pub coverage_place : List ℕ → List Signature → Option ℕ

@@ -4,7 +4,7 @@ use Rattle.arr_core.specs.declared.signature.Signature.{Signature}
 use Rattle.wcps_text.specs.Tree as tree
 use Rattle.wcps_text.specs.Tree.{QueryTree, encode, plain}
 use Rattle.wcps_types.specs.declared.refusal.TypeRefusal.TheVariants.{MustEncode, TooMuchWork, ResultTooLarge}
-use Rattle.wcps_types.specs.declared.names.Bound.{Bound}
+use Rattle.wcps_types.specs.declared.bound.Bound.{Bound}
 use Rattle.wcps_types.specs.declared.labels.Label.{Label}
 use Rattle.wcps_types.specs.Typed.{Typed, FieldTree, ItemTree, CombinationTree, TypedTree}
 use Rattle.wcps_types.specs.Shapes.{SlotTree, ShapeTree, Answer, then_of, is_scalar}

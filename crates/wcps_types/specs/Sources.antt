@@ -1,7 +1,7 @@
 -- What is said of a source: of its query, its coverages and its variables.
 use Rattle.std.specs.Prelude.{ℕ, List, []}
 use Rattle.wcps_text.specs.Tree.{query_view}
-use Rattle.wcps_types.specs.declared.names.Bound.{Bound}
+use Rattle.wcps_types.specs.declared.bound.Bound.{Bound}
 use Rattle.wcps_types.specs.declared.source.Source.{Source}
 use Rattle.wcps_types.specs.Typed.{CombinationTree}
 use Rattle.wcps_types.specs.Shapes.{Answer}

@@ -2,13 +2,13 @@
 use Rattle.std.specs.Prelude.{ℕ, pos, List, [], ◌++◌, true, false, cond, Option, Some, None, is_some, Ok, Err}
 use Rattle.arr_core.specs.declared.domain.Axis.{Axis}
 use Rattle.arr_core.specs.declared.signature.Signature.{Signature}
+use Rattle.arr_core.specs.Domains.{axis_place}
 use Rattle.wcps_text.specs.Tree as tree
 use Rattle.wcps_text.specs.Tree.{Tree, Parts, no_parts, part, Subs, no_subs, sub, PlaceTree, trim, at, IntervalTree, bounds, Iters, no_iters, iter, Condition, always, only}
 use Rattle.wcps_types.specs.declared.refusal.TypeRefusal.TheVariants.{NameTaken, AxisTwice}
-use Rattle.wcps_types.specs.declared.names.Bound.{Bound}
+use Rattle.wcps_types.specs.declared.bound.Bound.{Bound}
 use Rattle.wcps_types.specs.Typed as typed
 use Rattle.wcps_types.specs.Typed.{Typed}
-use Rattle.wcps_types.specs.Names.{axis_place}
 use Rattle.wcps_types.specs.Shapes.{ShapeTree, FieldOf, ScalarOf, Answer, then_of, unnamed, only_field, only_scalar}
 use Rattle.wcps_types.specs.Operators as operators
 use Rattle.wcps_types.specs.Brackets.{BoundsOf, BracketTree, written_bounds, bounds_of_axis, opened, place_to_cut, with_trim, position_of, with_position, closed}

@@ -4,7 +4,7 @@ use Rattle.std.specs.Borrow.{Bor}
 use Rattle.arr_core.specs.declared.field.Field.{Field}
 use Rattle.arr_core.specs.declared.signature.Signature.{Signature}
 use Rattle.wcps_types.specs.declared.refusal.TypeRefusal.TheVariants.{UnknownName}
-use Rattle.wcps_types.specs.declared.names.Bound.{Bound}
+use Rattle.wcps_types.specs.declared.bound.Bound.{Bound}
 use Rattle.wcps_types.specs.Typed.{iterator, cell}
 use Rattle.wcps_types.specs.Names.{bound_place, name_place}
 use Rattle.arr_core.specs.Cells.{is_bool}

@@ -8,7 +8,8 @@ ghost use Rattle.wcps_types.specs.declared.bindings.Choice.{Choice};
 ghost use Rattle.wcps_types.specs.Shapes.{Says};
 ghost use Rattle.wcps_types.specs.Bindings.{placed_view, placed_all_view, choice_view, bindings_view, no_bindings, resolved, resolved_all, is_bound, with_binding, bound_from, combination_count, few_combinations, combination_at};
 
-use crate::names::{Bound, coverage_place, is_same};
+use crate::bound::Bound;
+use crate::names::{coverage_place, is_same};
 use crate::refusal::{CheckError, TypeRefusal};
 use arr_core::Signature;
 use std::alloc::{AllocError, Global};

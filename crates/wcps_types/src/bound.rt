@@ -5,10 +5,16 @@ ghost use Rattle.std.specs.BTreeMap.{get_by_text};
 ghost use Rattle.wcps_types.specs.Bindings.{bound_to};
 ghost use Rattle.wcps_types.specs.Names.{bound_place, AddsPlace};
 
-use crate::names::Bound;
 use std::alloc::{AllocError, Global};
 use std::collections::BTreeMap;
 use wcps_text::QueryName;
+
+/// A variable of the `for` list, and the place of the coverage that it stands for in one combination.
+#[derive(Drop)]
+pub struct Bound {
+    pub variable: QueryName,
+    pub coverage: usize,
+}
 
 /// Variables in order. The place of each is kept by its name too, so that it is soon found among many.
 #[derive(Drop)]

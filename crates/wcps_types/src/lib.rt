@@ -15,6 +15,7 @@ mod extent;
 mod frames;
 mod item;
 mod labels;
+mod name_tokens;
 mod names;
 mod nodes;
 mod operators;
@@ -32,7 +33,7 @@ mod typed_query;
 mod variables;
 
 pub use effort::work;
-pub use names::names_are_tokens;
+pub use name_tokens::names_are_tokens;
 pub use query::check;
 pub use refusal::{CheckError, TypeRefusal};
 pub use source::tree_at;

@@ -1,21 +1,12 @@
 //! Looking names up.
 
-ghost use Rattle.std.specs.Prelude.{◌≡◌, ◌↔◌, ℕ, List, Ok, is_some};
+ghost use Rattle.std.specs.Prelude.{◌≡◌};
 ghost use Rattle.std.specs.Str.{bytes_eq};
-ghost use Rattle.arr_core.specs.Names.{IsName};
-ghost use Rattle.wcps_text.specs.Lexing.{Reads};
-ghost use Rattle.wcps_text.specs.Token as token;
-ghost use Rattle.wcps_types.specs.Names.{axis_place, coverage_place, name_place, is_name_of};
+ghost use Rattle.arr_core.specs.Domains.{axis_place};
+ghost use Rattle.wcps_types.specs.Names.{coverage_place, name_place, is_name_of};
 
 use arr_core::{Axis, Signature};
 use wcps_text::QueryName;
-
-/// A variable of the `for` list, and the place of the coverage that it stands for in one combination.
-#[derive(Drop)]
-pub struct Bound {
-    pub variable: QueryName,
-    pub coverage: usize,
-}
 
 /// Whether two lists of bytes are the same.
 fn are_same_bytes(a: &[u8], b: &[u8]) -> bool
@@ -75,9 +66,3 @@ pub fn is_name_of(own: &Option<QueryName>, name: &QueryName) -> bool
         None => false,
     }
 }
-
-/// What may be the name of a coverage, a field or an axis is just what a text has as one token that is a name without
-/// `$`.
-pub fn names_are_tokens()
-    ensures { (w : List ℕ) → IsName w ↔ Reads w (Ok (token.name w)) }
-{}

@@ -13,10 +13,9 @@ ghost use Rattle.wcps_types.specs.Resolved.{resolved_view, IsSound};
 ghost use Rattle.wcps_types.specs.Queries.{typ_query};
 
 use crate::bindings::{Choice, combination_at, combination_count, resolve_bindings};
-use crate::bound::Variables;
+use crate::bound::{Bound, Variables};
 use crate::cells::{MAX_CELLS, combinations_cells, tree_cells};
 use crate::effort::{MAX_WORK, combinations_work, tree_work};
-use crate::names::Bound;
 use crate::refusal::{CheckError, TypeRefusal};
 use crate::same::is_same_tree;
 use crate::sharing::{own_variables, place_of_like, places_of};

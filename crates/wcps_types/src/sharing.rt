@@ -6,8 +6,7 @@ ghost use Rattle.wcps_types.specs.Variables.{signatures_in};
 ghost use Rattle.wcps_types.specs.Sharing.{own_choices, coverages_in, signatures_at, AlikeAt, Alike, IsLike};
 
 use crate::bindings::Choice;
-use crate::bound::{Variables, with_variable};
-use crate::names::Bound;
+use crate::bound::{Bound, Variables, with_variable};
 use crate::typed_query::Maker;
 use arr_core::{Field, Signature};
 use std::alloc::{AllocError, Global};

@@ -2,8 +2,7 @@
 
 ghost use Rattle.std.specs.Prelude.{◌≡◌, ◌<◌, length, All, IfOk, IfSome, IsTrue};
 ghost use Rattle.arr_core.specs.Domains.{count, points};
-ghost use Rattle.arr_core.specs.Tiles.{tile_boxes};
-ghost use Rattle.tile_store.specs.Stored.{tile_box};
+ghost use Rattle.arr_core.specs.Tiles.{tile_boxes, tile_box};
 ghost use Rattle.raster_store.specs.Fetches.{HasTile, HasRanks};
 ghost use Rattle.raster_store.specs.Snapshots.{OnHeldFor};
 

@@ -3,8 +3,8 @@ use Rattle.std.proofs.Common.{◌≡◌, ◌+◌, ◌∙◌, ◌++◌, ◌∷◌
 use Rattle.std.specs.Prelude.{slice_get}
 use Rattle.std.proofs.lemmas.List.{length-map, get_or-map, take_more}
 use Rattle.arr_core.specs.Domains.{points, count}
+use Rattle.arr_core.specs.Meeting.{tile_number}
 use Rattle.plan_ir.specs.Run.{numbers_at}
-use Rattle.plan_ir.specs.Units.{tile_number}
 use Rattle.tile_columns.specs.Locating.{rank_in_tile}
 use Rattle.tile_columns.proofs.Ranges.{at_same}
 use Rattle.tile_columns.proofs.Gathers.{Gathered, number_of_place, gathered_more}

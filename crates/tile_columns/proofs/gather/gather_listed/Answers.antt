@@ -4,7 +4,8 @@ use Rattle.std.proofs.lemmas.Result.{err_from_is_err_and}
 use Rattle.std.proofs.lemmas.List.{length-map, take_all}
 use Rattle.wcps_mean.proofs.Told.{tells-from}
 use Rattle.plan_ir.specs.Run.{numbers_at}
-use Rattle.plan_ir.specs.Units.{tile_number, distinct}
+use Rattle.arr_core.specs.Meeting.{tile_number}
+use Rattle.plan_ir.specs.Units.{distinct}
 use Rattle.tile_columns.specs.declared.scratch.Scratch.{Scratch}
 use Rattle.tile_columns.specs.Readings.{cell_read}
 use Rattle.tile_columns.proofs.Calls.{reads_on}

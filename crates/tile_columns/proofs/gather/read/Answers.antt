@@ -4,9 +4,9 @@ use Rattle.std.specs.Prelude.{slice_get}
 use Rattle.std.proofs.lemmas.List.{length-map}
 use Rattle.arr_core.specs.Domains.{points, count}
 use Rattle.arr_core.specs.Tiles.{tile_boxes}
+use Rattle.arr_core.specs.Meeting.{tile_number}
 use Rattle.wcps_mean.specs.declared.cell.Outcome.TheVariants.{Value}
 use Rattle.plan_ir.specs.Run.{numbers_at}
-use Rattle.plan_ir.specs.Units.{tile_number}
 use Rattle.tile_columns.specs.Sources.{box_in}
 use Rattle.tile_columns.proofs.Fetching.{on_ok}
 use Rattle.tile_columns.proofs.Ranges.{map_map}

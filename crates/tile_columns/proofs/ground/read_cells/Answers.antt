@@ -2,7 +2,8 @@
 use Rattle.std.proofs.Common.{◌+◌, ◌≤◌, map, length, subst}
 use Rattle.std.specs.Prelude.{OnOk}
 use Rattle.plan_ir.specs.Run.{numbers_at}
-use Rattle.plan_ir.specs.Units.{tile_number, distinct}
+use Rattle.arr_core.specs.Meeting.{tile_number}
+use Rattle.plan_ir.specs.Units.{distinct}
 use Rattle.tile_columns.proofs.Placing.{points_there, domain_there}
 use Rattle.tile_columns.proofs.ground.read_cells.Goals as goal
 

@@ -2,7 +2,8 @@
 use Rattle.std.proofs.Common.{◌+◌, ◌≤◌, ◌∙◌, sym, subst, arith, length, get_or, take, [], List, ℕ, ℤ}
 use Rattle.std.proofs.lemmas.List.{length-map}
 use Rattle.plan_ir.specs.Run.{numbers_at}
-use Rattle.plan_ir.specs.Units.{tile_number, distinct}
+use Rattle.arr_core.specs.Meeting.{tile_number}
+use Rattle.plan_ir.specs.Units.{distinct}
 use Rattle.tile_columns.specs.declared.spots.Spot.{Spot}
 use Rattle.tile_columns.specs.Readings.{tiles_of, ranks_of, cell_read}
 use Rattle.tile_columns.specs.Spots.{AreInOrder, tiles_in}

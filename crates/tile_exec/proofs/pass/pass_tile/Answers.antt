@@ -1,6 +1,7 @@
 -- With a condition or without, what the tile's points tell is taken in, and no more is fetched than the bound.
 use Rattle.std.proofs.Common.{arith, ◌≡◌, sym, ap, ◌∙◌, subst, length, map}
 use Rattle.arr_core.specs.Domains.{points, rank_of}
+use Rattle.arr_core.specs.Tiles.{tile_box}
 use Rattle.plan_ir.specs.Bodies.{body_view, condition_view}
 use Rattle.plan_ir.specs.Run.{run}
 use Rattle.plan_ir.specs.Plans.{signature_of, pass_view}
@@ -10,7 +11,6 @@ use Rattle.plan_ir.specs.Units.{bound_of}
 use Rattle.tile_kernel.specs.Told.{told_at, demanded_at}
 use Rattle.tile_kernel.specs.Standing.{Stands}
 use Rattle.tile_columns.specs.Evaluating.{HasPlace}
-use Rattle.tile_columns.specs.TileOrder.{tile_of}
 use Rattle.tile_columns.proofs.Tilings.{tile_is}
 use Rattle.tile_exec.proofs.Finding.{told_always, told_where, placed_within, bounded_over}
 use Rattle.tile_exec.proofs.pass.pass_tile.Goals as goal
@@ -22,7 +22,7 @@ column_at-requires-clause-place g c =
     let area = c.args.pass.now.domain in
     let tile = tile_is area c.args.tile c.axes-axes.ensures.domain c.requires.tile in
     let body = body_view c.args.pass.now.body in
-    subst (HasPlace cs regs body) (sym c.in_ok-frame.ensures) (placed_within cs regs area (tile_of area c.args.tile) body c.requires.placed.2 tile.inside tile.ordered)
+    subst (HasPlace cs regs body) (sym c.in_ok-frame.ensures) (placed_within cs regs area (tile_box area c.args.tile) body c.requires.placed.2 tile.inside tile.ordered)
 
 pub column_at-requires-in-Some-clause-place : goal.column_at-requires-in-Some-clause-place
 column_at-requires-in-Some-clause-place g c =
@@ -33,7 +33,7 @@ column_at-requires-in-Some-clause-place g c =
     let tree : condition_view c.args.pass.now.condition ≡ body_view c.in-Some.condition = ap condition_view c.in-Some.is in
     let body = body_view c.in-Some.condition in
     subst (HasPlace cs regs body) (sym c.in_ok-frame.ensures)
-    (placed_within cs regs area (tile_of area c.args.tile) body (subst (IsPlaced cs regs (spans area)) tree c.requires.placed.1) tile.inside tile.ordered)
+    (placed_within cs regs area (tile_box area c.args.tile) body (subst (IsPlaced cs regs (spans area)) tree c.requires.placed.1) tile.inside tile.ordered)
 
 pub column_at-requires-in-Some-2-clause-place : goal.column_at-requires-in-Some-2-clause-place
 column_at-requires-in-Some-2-clause-place g c =
@@ -43,7 +43,7 @@ column_at-requires-in-Some-2-clause-place g c =
     let tile = tile_is area c.args.tile c.axes-axes.ensures.domain c.requires.tile in
     let body = body_view c.args.pass.now.body in
     let first = c.in_ok-column_at-in-Some.ensures in
-    let here = placed_within (signature_of (g.S.Tiles.state c.args.source.now).coverages cov) regs area (tile_of area c.args.tile) body c.requires.placed.2 tile.inside tile.ordered in
+    let here = placed_within (signature_of (g.S.Tiles.state c.args.source.now).coverages cov) regs area (tile_box area c.args.tile) body c.requires.placed.2 tile.inside tile.ordered in
     let there = subst (HasPlace (signature_of (g.S.Tiles.state c.args.source.now).coverages cov) regs body) (sym (first.frame ∙ c.in_ok-frame.ensures)) here in
     subst (λ a. HasPlace (signature_of a cov) regs body c.column_at-in-Some.new.frame) (sym first.reads.only.coverages) there
 
@@ -59,7 +59,7 @@ returns-in-None-clause-stands g c = λ intact.
     let p = pass_view c.args.pass.now in
     let s = cells_of (g.S.Tiles.state c.args.source.now).cells c.args.ground.now.coverages.now in
     let regs = c.args.ground.now.registers.now in
-    let part = tile_of p.domain c.args.tile in
+    let part = tile_box p.domain c.args.tile in
     let column = c.in_ok-column_at-in-None.ensures.value intact ∙ ap (map (run s regs p.body)) c.in_ok-frame.ensures in
     subst (Stands c.in_ok-told-in-None.told)
     (ap (told_at (map (rank_of p.domain) (points part))) column ∙ told_always s regs p (points part) (ap condition_view c.in-None.is))
@@ -71,7 +71,7 @@ returns-in-None-clause-fetched g c =
     let s = g.S.Tiles.state c.args.source.now in
     let cs = signature_of s.coverages c.args.ground.now.coverages.now in
     let tile = tile_is area c.args.tile c.axes-axes.ensures.domain c.requires.tile in
-    let f = bounded_over cs (tile_of area c.args.tile) c.in_ok-frame.frame (body_view c.args.pass.now.body) s.fetched (g.S.Tiles.state c.column_at.new.source).fetched c.in_ok-frame.ensures tile.ordered c.in_ok-column_at-in-None.ensures.fetched in
+    let f = bounded_over cs (tile_box area c.args.tile) c.in_ok-frame.frame (body_view c.args.pass.now.body) s.fetched (g.S.Tiles.state c.column_at.new.source).fetched c.in_ok-frame.ensures tile.ordered c.in_ok-column_at-in-None.ensures.fetched in
     omega (arith, f)
 
 pub returns-clause-count : goal.returns-clause-count
@@ -94,7 +94,7 @@ returns-clause-stands g c = λ intact.
     let cov = c.args.ground.now.coverages.now in
     let s = cells_of (g.S.Tiles.state c.args.source.now).cells cov in
     let regs = c.args.ground.now.registers.now in
-    let part = tile_of p.domain c.args.tile in
+    let part = tile_box p.domain c.args.tile in
     let first = c.in_ok-column_at-in-Some.ensures in
     let frame = first.frame ∙ c.in_ok-frame.ensures in
     let tree : condition_view c.args.pass.now.condition ≡ body_view c.in-Some.condition = ap condition_view c.in-Some.is in
@@ -107,7 +107,7 @@ returns-clause-stands g c = λ intact.
 pub returns-clause-fetched : goal.returns-clause-fetched
 returns-clause-fetched g c =
     let area = c.args.pass.now.domain in
-    let part = tile_of area c.args.tile in
+    let part = tile_box area c.args.tile in
     let cov = c.args.ground.now.coverages.now in
     let s = g.S.Tiles.state c.args.source.now in
     let cs = signature_of s.coverages cov in

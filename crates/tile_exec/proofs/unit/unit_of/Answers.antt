@@ -1,11 +1,10 @@
 -- A tile of a pass gives what its points tell, and neither it nor one of an item fetches more than its bound.
 use Rattle.std.proofs.Common.{sym, ap, ◌∙◌, ◌<◌, [], subst, arith, length, true}
 use Rattle.std.specs.Prelude.{slice_get, sum_by}
-use Rattle.arr_core.specs.Tiles.{tile_boxes}
+use Rattle.arr_core.specs.Tiles.{tile_boxes, tile_box}
 use Rattle.plan_ir.specs.Units.{bound_of}
 use Rattle.tile_columns.specs.Sources.{FetchesAtMost}
 use Rattle.tile_columns.specs.Meaning.{chosen}
-use Rattle.tile_columns.specs.TileOrder.{tile_of}
 use Rattle.tile_exec.specs.declared.found.Found.TheVariants as found
 use Rattle.tile_exec.specs.Tasks.{area_of, bodies_of}
 use Rattle.tile_exec.specs.Standing.{IsPartOf}
@@ -37,7 +36,7 @@ returns-in_ok-a-in-Some-clause-fetched g c = λ p h.
     let n = c.args.at.now.task.count in
     let at = ap (λ l. slice_get l n) (sym c.deref.ensures.value) ∙ sym c.in-Some.ensures in
     let e = is_pass s n c.in-Some.pass.now p at (subst (λ k. IsPartOf s n k p) c.in-Pass.is h) in
-    subst (λ p. FetchesAtMost (sum_by (bound_of (chosen (g.S.Tiles.state c.args.source.now) c.args.ground.now) (tile_of (area_of p) c.args.at.now.tile)) (bodies_of p)) (g.S.Tiles.state c.args.source.now) (g.S.Tiles.state c.pass_tile.new.source)) (sym e)
+    subst (λ p. FetchesAtMost (sum_by (bound_of (chosen (g.S.Tiles.state c.args.source.now) c.args.ground.now) (tile_box (area_of p) c.args.at.now.tile)) (bodies_of p)) (g.S.Tiles.state c.args.source.now) (g.S.Tiles.state c.pass_tile.new.source)) (sym e)
     c.in_ok-a-in-Some.ensures.fetched
 
 pub returns-in_ok-x-in-Giving-clause-tells : goal.returns-in_ok-x-in-Giving-clause-tells
@@ -53,7 +52,7 @@ returns-in_ok-x-in-Giving-clause-fetched g c = λ p h.
     let s = c.args.at.now.steps.now in
     let n = c.args.at.now.task.count in
     let e = is_item s n p (subst (λ k. IsPartOf s n k p) c.in-Item.is h) in
-    subst (λ p. FetchesAtMost (sum_by (bound_of (chosen (g.S.Tiles.state c.args.source.now) c.args.ground.now) (tile_of (area_of p) c.args.at.now.tile)) (bodies_of p)) (g.S.Tiles.state c.args.source.now) (g.S.Tiles.state c.item_tile.new.source)) (sym e)
+    subst (λ p. FetchesAtMost (sum_by (bound_of (chosen (g.S.Tiles.state c.args.source.now) c.args.ground.now) (tile_box (area_of p) c.args.at.now.tile)) (bodies_of p)) (g.S.Tiles.state c.args.source.now) (g.S.Tiles.state c.item_tile.new.source)) (sym e)
     c.in_ok-x-in-Giving.ensures.fetched
 
 pub returns-in-Fieldless-clause-fits : goal.returns-in-Fieldless-clause-fits

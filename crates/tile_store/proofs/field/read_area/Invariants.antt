@@ -1,10 +1,10 @@
 use Rattle.std.proofs.Common.{◌≡◌, ℕ, ◌<◌, List, length, get_or, All, IsTrue, ℤ, pos}
 use Rattle.arr_core.specs.Cells.{Fits}
 use Rattle.arr_core.specs.Domains.{count, rank_of, IsInside}
+use Rattle.arr_core.specs.Tiles.{tile_box}
 use Rattle.block_file.specs.Words.{OnlyReads}
 use Rattle.tile_store.specs.Listing.{listed}
 use Rattle.tile_store.specs.Reading.{number_in, IsSpelledIn}
-use Rattle.tile_store.specs.Stored.{tile_box}
 use Rattle.tile_store.proofs.field.read_area.Given as goal
 
 abbrev pub invariant-loop-tile : goal.invariant-loop-tile

@@ -5,8 +5,9 @@ use Rattle.std.proofs.lemmas.List.{get_or_read}
 use Rattle.arr_core.specs.declared.domain.Axis.{Axis}
 use Rattle.arr_core.specs.Domains.{points, IsInside, rank_of}
 use Rattle.arr_core.proofs.Grids.{in-no-other}
+use Rattle.arr_core.specs.Meeting.{tile_number}
+use Rattle.arr_core.specs.Tiles.{tile_box}
 use Rattle.tile_store.specs.Reading.{IsSpelledIn, number_in}
-use Rattle.tile_store.specs.Stored.{tile_box, tile_number}
 use Rattle.tile_store.proofs.Cells.{cell_listed}
 use Rattle.tile_store.proofs.Takes.{refuses_as}
 use Rattle.tile_store.proofs.field.read_point.Goals as goal

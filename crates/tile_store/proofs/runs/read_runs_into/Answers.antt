@@ -3,7 +3,7 @@ use Rattle.std.proofs.Common.{refl, rules, arith, ◌∙◌, ◌≡◌, ◌<◌,
 use Rattle.arr_core.specs.Domains.{count}
 use Rattle.arr_core.specs.Runs.{cells_of}
 use Rattle.arr_core.proofs.Points.{length-points, count-pos}
-use Rattle.tile_store.specs.Stored.{tile_box}
+use Rattle.arr_core.specs.Tiles.{tile_box}
 use Rattle.tile_store.proofs.Cells.{tile_spells, tile_read}
 use Rattle.tile_store.proofs.Listed.{found_covered, found_times}
 use Rattle.tile_store.proofs.Picks.{tile_ordered, tile_few}

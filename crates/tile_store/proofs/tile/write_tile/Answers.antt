@@ -3,7 +3,7 @@ use Rattle.std.proofs.Common.{◌≡◌, ℕ, ◌+◌, ◌∙◌, ap, sym, refl,
 use Rattle.std.proofs.lemmas.Grind.{common_steps}
 use Rattle.block_file.specs.State.{times}
 use Rattle.block_file.proofs.Times.{times_append}
-use Rattle.tile_index.specs.Entries.{blocks_filled}
+use Rattle.file_bytes.specs.Limits.{blocks_filled}
 use Rattle.tile_store.proofs.Cells.{written_some}
 use Rattle.tile_store.proofs.Parts.{data_written, padded_written}
 use Rattle.tile_store.proofs.Sizes.{made_entry}

@@ -4,8 +4,8 @@ use Rattle.std.proofs.lemmas.Grind.{common_steps}
 use Rattle.arr_core.specs.Cells.{Fits}
 use Rattle.arr_core.specs.Domains.{count}
 use Rattle.arr_core.proofs.Points.{count-pos}
+use Rattle.arr_core.specs.Tiles.{tile_box}
 use Rattle.tile_store.specs.Numbers.{numbers_in}
-use Rattle.tile_store.specs.Stored.{tile_box}
 use Rattle.tile_store.proofs.Cells.{updated_listed}
 use Rattle.tile_store.proofs.Fitting.{all_overlaid, number_fits, number_listed, has_numbers}
 use Rattle.tile_store.proofs.update.cells_after.Goals as goal

@@ -3,7 +3,8 @@ use Rattle.std.proofs.Common.{rules, arith, ◌∙◌, ap, inl, inr, List, get_o
 use Rattle.std.proofs.lemmas.Grind.{common_steps}
 use Rattle.arr_core.specs.Domains.{rank_of, IsBoxOf}
 use Rattle.arr_core.proofs.Points.{length-points}
-use Rattle.tile_store.specs.Stored.{tile_box, number_at}
+use Rattle.arr_core.specs.Tiles.{tile_box}
+use Rattle.tile_store.specs.Stored.{number_at}
 use Rattle.tile_store.proofs.Cells.{not_outside, inside_box, cell_listed}
 use Rattle.tile_store.proofs.Fitting.{fits_zeros}
 use Rattle.tile_store.proofs.update.cells_before.Goals as goal

@@ -2,10 +2,10 @@
 use Rattle.std.proofs.Common.{◌≡◌, ◌∙◌, ap, sym, map, List, rules}
 use Rattle.std.specs.Prelude.{Some, slice_get, remove, option_map}
 use Rattle.arr_core.specs.declared.domain.Axis.{Axis}
+use Rattle.arr_core.specs.Domains.{axis_place}
 use Rattle.wcps_types.specs.declared.typed.Node.{Node}
 use Rattle.wcps_types.specs.declared.typed.Node.TheVariants as nodes
 use Rattle.wcps_types.specs.Typed.{boxed_tree}
-use Rattle.wcps_types.specs.Names.{axis_place}
 use Rattle.wcps_types.specs.Labels.{labels_in}
 use Rattle.wcps_types.specs.Shapes.{labels_view, shape_view}
 use Rattle.wcps_types.specs.Brackets.{bounds_of, bounds_view, cut_view, sliced_slot}

@@ -7,7 +7,7 @@ use Rattle.plan_ir.specs.Planned.{cells_of}
 use Rattle.plan_ir.specs.Units.{bound_of}
 use Rattle.tile_exec.specs.declared.found.Found.TheVariants as found
 use Rattle.tile_exec.specs.Tasks.{PartTree, area_of, bodies_of, IsPartPlaced}
-use Rattle.tile_columns.specs.TileOrder.{tile_of}
+use Rattle.arr_core.specs.Tiles.{tile_box}
 use Rattle.tile_exec.specs.Progress.{read_by}
 use Rattle.tile_exec.specs.Standing.{IsPartOf, IsStepsOf, StandsFor, plan_of, tasks_left, boxes_left}
 use Rattle.tile_exec.specs.Units.{Fits, FitsUnit, KnowsPartOf, TellsTask, TellsPart, first_bound}
@@ -129,10 +129,10 @@ returns-in-Some-clause-fetched g c =
     let new = (g.S.Tiles.state c.unit_of.new.source).fetched in
     let old = (g.S.Tiles.state c.args.source.now).fetched in
     let bound = next_bound e x.tree x.rest x.hand (at_hand e x.tree x.rest x.hand c.requires.sound).0 in
-    on_ok c.unit_of.result (new ≤ old + sum_by (bound_of (signature_of (g.S.Tiles.state c.args.source.now).coverages c.deref-in-Some-2.result.now) (tile_of (area_of p) e.tile)) (bodies_of p)) (new ≤ old + first_bound (plan_of e) (boxes_left e))
+    on_ok c.unit_of.result (new ≤ old + sum_by (bound_of (signature_of (g.S.Tiles.state c.args.source.now).coverages c.deref-in-Some-2.result.now) (tile_box (area_of p) e.tile)) (bodies_of p)) (new ≤ old + first_bound (plan_of e) (boxes_left e))
     (λ f. subst (λ n. new ≤ old + n) (sym bound)
-    (subst (λ v. new ≤ old + sum_by (bound_of (signature_of (plan_of e).coverages v) (tile_of (area_of p) e.tile)) (bodies_of p)) coverages
-    (subst (λ a. new ≤ old + sum_by (bound_of (signature_of a c.deref-in-Some-2.result.now) (tile_of (area_of p) e.tile)) (bodies_of p)) c.requires.coverages f))) (c.unit_of.ensures.fetched p is)
+    (subst (λ v. new ≤ old + sum_by (bound_of (signature_of (plan_of e).coverages v) (tile_box (area_of p) e.tile)) (bodies_of p)) coverages
+    (subst (λ a. new ≤ old + sum_by (bound_of (signature_of a c.deref-in-Some-2.result.now) (tile_box (area_of p) e.tile)) (bodies_of p)) c.requires.coverages f))) (c.unit_of.ensures.fetched p is)
 
 pub registers_from-requires : goal.registers_from-requires
 registers_from-requires g c =

@@ -1,0 +1,13 @@
+-- The tiles begin at the first coordinate of their place, and end at the last one or where the axis ends.
+use Rattle.std.proofs.Common.{rules, ◌≡◌, ◌∙◌, ap, min, ◌+◌, ◌*◌, ◌-◌, w32, SFits}
+use Rattle.std.specs.Prelude.{pos, ◌+ℤ◌}
+use Rattle.std.proofs.lemmas.Int.{to_z-of_z}
+use Rattle.arr_core.specs.Domains.{gap}
+use Rattle.arr_core.proofs.Grids.{part-hi}
+use Rattle.arr_core.proofs.tile.tile_bounds.Goals as goal
+
+pub returns-clause-hi : goal.returns-clause-hi
+returns-clause-hi c =
+    let high : SFits w32 c.coordinate-2.result = search rules in
+    let to : c.min-to.result ≡ min (gap c.args.axis.now.lo c.args.axis.now.hi) (c.args.place * c.args.edge + (c.args.edge - 1)) = search rules in
+    to_z-of_z w32 c.coordinate-2.result high ∙ c.coordinate-2.ensures ∙ ap (λ n. c.args.axis.now.lo +ℤ pos n) to ∙ part-hi c.args.edge c.args.axis.now c.args.place c.requires.ordered
