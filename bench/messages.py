@@ -19,6 +19,7 @@ import sys
 import time
 
 from compiled import compiled
+from sockets import free_port
 
 TOP = os.path.dirname(os.path.dirname(os.path.abspath(__file__)))
 PROGRAM = f"{TOP}/crates/rasterd/out/rasterd"
@@ -32,12 +33,6 @@ KINDS = [
     ("GET", b"GET /ows?request=ListCoverages HTTP/1.1\r\n\r\n", 0),
     ("POST", b"POST /ows HTTP/1.1\r\nContent-Length: 21\r\n\r\n" + BODY, len(BODY)),
 ]
-
-
-def free_port():
-    with socket.socket() as probe:
-        probe.bind(("127.0.0.1", 0))
-        return probe.getsockname()[1]
 
 
 def asked(port, stream):

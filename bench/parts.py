@@ -12,8 +12,6 @@ python3-numpy, python3-xarray, python3-dask and python3-distributed.
 
 import contextlib
 import os
-import socket
-import subprocess
 import sys
 import time
 
@@ -33,7 +31,7 @@ except ImportError as missing:
     sys.exit(
         f"{missing}: install python3-xarray, python3-dask and python3-distributed, and run this with /usr/bin/python3"
     )
-from served import free_port
+from served import server
 
 SIDE = 4096
 BOX = {"y": (2000, 2099), "x": (2000, 2099)}
@@ -58,21 +56,6 @@ def figures(heights, zones):
         ("mean by dask over cells that come here", lambda it: it.array("height").mean().compute(), mean),
         ("a window of 100 x 100 across seams", lambda it: it.cells("height", BOX), window),
     ]
-
-
-@contextlib.contextmanager
-def server(program):
-    """The port of the program on a store in memory, and its process."""
-    port = free_port()
-    with subprocess.Popen([program, "-", "listen", str(port), "1000000"]) as process:
-        try:
-            for _ in range(100):
-                with contextlib.suppress(OSError), socket.create_connection(("127.0.0.1", port), 1):
-                    break
-                time.sleep(0.05)
-            yield port, process.pid
-        finally:
-            process.kill()
 
 
 def spent(processes):

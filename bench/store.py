@@ -9,9 +9,9 @@ window of 64 x 64 read and added, that crosses the edges of four tiles (window),
 (put). The figure is the processor time that one more round takes, so that starting, making the noise and what else the
 machine does do not count.
 
-All but `fill` work on noise: hardly two neighbours are the same, so that each cell is a run of its own of four bytes,
-and a tile of 4,096 cells fills four blocks. A grid of 4096 x 4096 cells then takes 64 MiB in runs of one cell, where a
-plain array of i16 takes 32 MiB. The loops in C work on the plain array, and are compiled here by cc -O2.
+All but `fill` work on noise: hardly two neighbours are the same, so that tiles are written raw, and one of 4,096 cells
+fills two blocks. A grid of 4096 x 4096 cells then takes 32 MiB, as a plain array of i16 does. The loops in C work on such
+an array, and are compiled here by cc -O2.
 """
 import os
 import resource

@@ -22,7 +22,7 @@ sys.dont_write_bytecode = True
 
 import scripts
 import shim
-from failing import shown_by
+from failing import content_of, shown_by
 
 sys.path.append(f"{shim.TOP}/scripts")
 
@@ -75,8 +75,7 @@ def faults(program, path, closed):
                 with open(path, "wb") as file:
                     file.write(content)
                 status = how(program, path, streams)
-                with open(path, "rb") as file:
-                    left = file.read()
+                left = content_of(path)
                 is_same = shown_by(left) == shown_by(closed) if content is closed else left == content
                 if not is_same or status != wanted:
                     names = ", ".join(NAMES[it] for it in streams)

@@ -21,7 +21,7 @@ sys.dont_write_bytecode = True
 
 import scripts
 import shim
-from failing import shown_by
+from failing import content_of, shown_by
 
 SECTOR = 512
 
@@ -74,11 +74,6 @@ def session(program, made, path, log, messages):
     return content_of(path), shim.calls(log)[0]
 
 
-def content_of(path):
-    with open(path, "rb") as file:
-        return file.read()
-
-
 def said(program, path, image):
     """What the program says of an image: 0 where it opens, or the number of its refusal."""
     with open(path, "wb") as file:
@@ -90,7 +85,7 @@ def said(program, path, image):
 def main(program, times="12", seed="1"):
     program, chance = os.path.abspath(program), random.Random(seed)
     counts, wrong = collections.Counter(), 0
-    with shim.library() as made, tempfile.TemporaryDirectory() as folder:
+    with shim.library(program) as made, tempfile.TemporaryDirectory() as folder:
         path = f"{folder}/store"
         for before, messages in [
             (b"", scripts.SHORT),

@@ -16,7 +16,7 @@ it is not, the file holds the store. A failed read or write of the connection en
 An interrupted read or write is made again, so that all replies come; where each call from one on is interrupted, the connection
 ends as by any fault. One growth alone that is refused at the close loses nothing, since the close is made once more, without
 the jobs and what is kept.
-Prints counts and what was wrong, and ends with status 1 where something was.
+Prints counts and what was wrong, and ends with status 1 where something was, or where the library cannot be loaded.
 """
 
 import collections
@@ -31,6 +31,7 @@ sys.path.append(os.path.join(os.path.dirname(os.path.dirname(os.path.abspath(__f
 import scripts
 import shim
 import store
+from files import content_of
 from language import Refused
 from machine import Machine, served
 from meaning import Coverage
@@ -105,10 +106,7 @@ class Trials:
             os.remove(self.log)
 
     def content(self):
-        if self.in_memory:
-            return b""
-        with open(self.path, "rb") as file:
-            return file.read()
+        return b"" if self.in_memory else content_of(self.path)
 
     def fails(self, what, told):
         self.wrong += 1
@@ -254,12 +252,9 @@ class Trials:
 
 def main(program, *words):
     program = os.path.abspath(program)
-    if not shim.is_dynamic(program):
-        print("the program is linked by itself: no library can be loaded before it, and nothing was tried")
-        return 0
     parts = ["disk", "lies", "memory", "stream"]
     wrong = 0
-    with shim.library() as made, tempfile.TemporaryDirectory() as folder:
+    with shim.library(program) as made, tempfile.TemporaryDirectory() as folder:
         for name in [it for it in parts if it in words] or parts:
             trials = Trials(program, made, folder, words)
             getattr(trials, name)()

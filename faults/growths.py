@@ -8,7 +8,8 @@ refused` up to the next section, under the library of shim.c: the program then a
 and says on standard error of each row `growths` how often a script was played and what was refused. Without the library no
 growth is, and a script is played once.
 
-Prints what the program says, and ends with status 1 where a row differs, or where of a row no growth was refused.
+Prints what the program says, and ends with status 1 where a row differs, where of a row no growth was refused, or where
+the library cannot be loaded.
 """
 
 import os
@@ -39,11 +40,8 @@ def main(program, rows):
     if not asked:
         print(f"{rows} has no rows of scripts")
         return 1
-    if not shim.is_dynamic(program):
-        print("the program is linked by itself: no library can be loaded before it, and nothing was tried")
-        return 0
     where = IN_MEMORY if os.path.isdir(IN_MEMORY) else None
-    with shim.library() as made, tempfile.TemporaryDirectory(dir=where) as folder:
+    with shim.library(program) as made, tempfile.TemporaryDirectory(dir=where) as folder:
         ran = subprocess.run(
             [program], input=text, capture_output=True, text=True, check=False, cwd=folder, env=shim.environment(made)
         )

@@ -12,7 +12,7 @@ second one open the file. This one has to be refused as 91, and to leave the fil
 the file has to hold what it wrote. A server that comes behind the first one's first write is refused as well, and one that comes
 after its close opens the file.
 
-Ends with status 1 where something was wrong.
+Ends with status 1 where something was wrong, or where shim.c cannot be loaded.
 """
 
 import contextlib
@@ -30,7 +30,7 @@ sys.dont_write_bytecode = True
 
 import scripts
 import shim
-from failing import shown_by
+from failing import content_of, shown_by
 
 sys.path.append(f"{shim.TOP}/scripts")
 
@@ -122,8 +122,7 @@ def stopped(program, folder, connections):
             status = server.wait(60)
         finally:
             server.kill()
-    with open(path, "rb") as file:
-        held = shown_by(file.read())
+    held = shown_by(content_of(path))
     lost = held if isinstance(held, int) else sum(cell not in may for cell, may in zip(held[0][3][0], cells))
     print(
         f"stopped {len(times)} times under {connections} connections: {lacking} ended without a reply,"
@@ -131,11 +130,6 @@ def stopped(program, folder, connections):
         flush=True,
     )
     return bool(lacking or wrong or lost or status)
-
-
-def content(path):
-    with open(path, "rb") as file:
-        return file.read()
 
 
 def two(program, made, folder):
@@ -150,7 +144,7 @@ def two(program, made, folder):
     one = shim.Run(program, path, shim.environment(made, "disk", first_write, shim.STOPPED))
     os.waitid(os.P_PID, one.process.pid, os.WSTOPPED | os.WEXITED | os.WNOWAIT)
     before = shim.Run(program, path, None).end()
-    is_untouched = content(path) == scripts.lai()
+    is_untouched = content_of(path) == scripts.lai()
     one.process.send_signal(signal.SIGCONT)
     answered = [one.ask(it) for it in writes("a")]
     behind = shim.Run(program, path, None).end()
@@ -169,7 +163,7 @@ def two(program, made, folder):
 
 def names_in(path):
     """The coverages that a file holds, or the number of its refusal."""
-    held = shown_by(content(path))
+    held = shown_by(content_of(path))
     return held if isinstance(held, int) else [it[0] for it in held]
 
 
@@ -181,9 +175,8 @@ def main(program, connections="200"):
     program = os.path.abspath(program)
     with tempfile.TemporaryDirectory() as folder:
         wrong = stopped(program, folder, int(connections))
-        if shim.is_dynamic(program):
-            with shim.library() as made:
-                wrong |= two(program, made, folder)
+        with shim.library(program) as made:
+            wrong |= two(program, made, folder)
     return 1 if wrong else 0
 
 

@@ -68,8 +68,8 @@ PLAIN = SHORT[:5] + SHORT[6:]
 
 CELLS = "3,1,4,1,5,9,2,6"
 
-# all requests, types of cells and numbers of axes, some faults, five jobs, three templates; between the steps of jobs what
-# they read is written, and deleted and inserted anew
+# all requests and types of cells, one to four axes, some faults, five jobs, three templates; between the steps of jobs
+# what they read is written, and deleted and inserted anew
 LONG = [
     message(request="ListCoverages"),
     query("for c in (lai) return encode(c, csv)"),

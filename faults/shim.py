@@ -6,6 +6,7 @@ import os
 import re
 import shutil
 import subprocess
+import sys
 import tempfile
 
 TOP = os.path.dirname(os.path.dirname(os.path.abspath(__file__)))
@@ -23,8 +24,11 @@ def is_dynamic(program):
 
 
 @contextlib.contextmanager
-def library():
-    """The path of the library, made by the toolchain's own compiler where `rt` is, else by `cc`, while it is needed."""
+def library(program):
+    """The path of the library, made by the toolchain's own compiler where `rt` is, else by `cc`, while it is needed.
+    Ends with status 1 where it cannot be loaded before the program."""
+    if not is_dynamic(program):
+        sys.exit("the program is linked by itself: no library is loaded before it, and what needs one was not tried")
     rt = shutil.which("rt")
     tools = os.path.join(os.path.dirname(os.path.dirname(os.path.realpath(rt))), "toolchain/bin") if rt else ""
     own = [f"{tools}/clang", "--target=x86_64-unknown-linux-gnu", "-fuse-ld=lld", "-B", tools]

@@ -26,7 +26,7 @@ sys.dont_write_bytecode = True
 
 import sessions
 import store
-from files import known_tiles, posted, replies_in
+from files import content_of, known_tiles, posted, replies_in
 from language import Refused
 from machine import Machine, number_in, served, units_in
 from meaning import Coverage, count, points, rank, submitted
@@ -253,14 +253,9 @@ def run(program, path, messages):
     return out
 
 
-def content(path):
-    with open(path, "rb") as file:
-        return file.read()
-
-
 def asked_over(program, path, chance, wide, met):
     """Damages the file, asks messages over it, and compares the replies and what it holds then."""
-    data = damaged(chance, content(path))
+    data = damaged(chance, content_of(path))
     with open(path, "wb") as file:
         file.write(data)
     made = Asking(chance, Guide(sessions.SOME_UNITS), wide)
@@ -279,7 +274,7 @@ def asked_over(program, path, chance, wide, met):
         if came.endswith(DAMAGED):
             request = next(value for key, value in machine.pairs if key.lower() == "request")
             met[f"93 for {request}"] += 1
-    if shown(held(content(path))) != shown(machine.store):
+    if shown(held(content_of(path))) != shown(machine.store):
         raise Different("the file holds another store", b"".join(messages))
     met.update(machine.met)
 

@@ -14,6 +14,12 @@ def posted(pairs):
     return b"POST /ows HTTP/1.1\r\nContent-Length: %d\r\n\r\n%s" % (len(body), body)
 
 
+def content_of(path):
+    """The bytes of a file."""
+    with open(path, "rb") as file:
+        return file.read()
+
+
 def replies_in(out):
     """The head and the body of each reply; the last may lack its body."""
     found = []

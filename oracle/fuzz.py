@@ -26,7 +26,7 @@ sys.dont_write_bytecode = True
 import meaning
 import sessions
 import store
-from files import Asks, posted, replies_in
+from files import Asks, content_of, posted, replies_in
 from language import Refused
 from machine import Machine, interval_in, listed_in, served
 from meaning import count
@@ -193,7 +193,7 @@ class Fuzz:
         if os.path.exists(self.path):
             os.remove(self.path)
         run = self.ran(name, stream)
-        machine, data = Bounded(sessions.units_in(run.out)), self.content()
+        machine, data = Bounded(sessions.units_in(run.out)), content_of(self.path)
         expected = served(machine, stream)
         if any(count(it.axes) > MOST_POINTS for it in machine.store.values()):
             raise Beyond
@@ -214,7 +214,7 @@ class Fuzz:
             line = f"not opened: {refusal.number} {FILE_REFUSALS[refusal.number]}\n".encode()
             run = self.ran(name, LIST)
             self.counted(f"files refused as {refusal.number}")
-            if self.ended(name, run, (3, line)) and (run.out or self.content() != data):
+            if self.ended(name, run, (3, line)) and (run.out or content_of(self.path) != data):
                 self.wrong(name, "a file that was refused, and is not as it was")
             return
         if any(count(it.axes) > MOST_POINTS for it in found.values()):
@@ -229,15 +229,11 @@ class Fuzz:
             if body != wanted.encode():
                 return self.wrong(name, "another reply over a file", message, "wanted:", wanted, "came:", body)
         try:
-            again = Asks.known(store.read(self.content()))
+            again = Asks.known(store.read(content_of(self.path)))
         except Refused as refusal:
             return self.wrong(name, f"a file that is refused as {refusal.number} after its close")
         if len(came) != len(asks.made) or again != asks.after:
             self.wrong(name, "a file that holds another store after its close")
-
-    def content(self):
-        with open(self.path, "rb") as file:
-            return file.read()
 
 
 FILE_REFUSALS = {93: "Damaged", 94: "NotAStore", 95: "NotClosed"}

@@ -431,7 +431,7 @@ def served(machine, stream):
             for name, value in fields
         )
         last = closes or found[3] == b"0" or messages == MOST_MESSAGES
-        path, mark, query = found[2].partition(b"?")
+        path, _, query = found[2].partition(b"?")
         if found[1] not in (b"GET", b"POST"):
             reply, last = 4, True
         elif path != b"/ows":

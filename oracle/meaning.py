@@ -6,7 +6,7 @@ import math
 from dataclasses import dataclass
 from typing import Callable
 
-from language import Refused, Tree, parsed
+from language import Refused, parsed
 
 MOST_AXES, MOST_POINTS, MOST_CELLS, MOST_WORK = 6, 2**24, 2**20, 2**32
 MOST_BOUND, MOST_COMBINATIONS = 2**31 - 1, 64

@@ -3,6 +3,8 @@
 import re
 
 from language import KEYWORDS
+from machine import MOST_BODY, MOST_FIELDS, MOST_HEAD, MOST_HEAD_FIELDS, MOST_JOBS, MOST_MESSAGES
+from meaning import MOST_AXES
 
 
 class Chance:
@@ -113,26 +115,27 @@ class Streams(Chance):
         kind = self.chance.randrange(5)
         end = stream.find(b"\r\n\r\n") + 2
         if kind == 0:
-            return b"GET /ows?request=ListCoverages HTTP/1.1\r\n\r\n" * self.chance.randrange(990, 1010) + stream
+            times = MOST_MESSAGES + self.chance.randrange(-10, 10)
+            return b"GET /ows?request=ListCoverages HTTP/1.1\r\n\r\n" * times + stream
         if kind == 4:
             return self.crowd() + stream
         if end < 2:
             return stream
         if kind == 1:
-            return stream[:end] + b"A: b\r\n" * self.chance.randrange(60, 68) + stream[end:]
+            return stream[:end] + b"A: b\r\n" * (MOST_HEAD_FIELDS + self.chance.randrange(-4, 4)) + stream[end:]
         if kind == 2:
-            fill = 16384 - 2 - end - 5 + self.chance.choice([-1, 0, 0, 1, 1, 2])
+            fill = MOST_HEAD - 2 - end - 5 + self.chance.choice([-1, 0, 0, 1, 1, 2])
             return stream[:end] + b"A: " + b"b" * max(0, fill) + b"\r\n" + stream[end:]
-        body = b"request=ListCoverages&other=" + b"b" * (1048576 - 28 + self.chance.choice([-1, 0, 1]))
+        body = b"request=ListCoverages&other=" + b"b" * (MOST_BODY - 28 + self.chance.choice([-1, 0, 1]))
         return b"POST /ows HTTP/1.1\r\nContent-Length: %d\r\n\r\n%s" % (len(body), body) + stream
 
     def crowd(self):
         """Messages at the limits of axes, fields and jobs."""
-        axes = ",".join(f"a{k}(0:1)" for k in range(self.chance.choice([4, 5])))
-        fields = ",".join(f"f{k}:u8" for k in range(self.chance.choice([16, 17])))
+        axes = ",".join(f"a{k}(0:1)" for k in range(MOST_AXES + self.chance.randrange(2)))
+        fields = ",".join(f"f{k}:u8" for k in range(MOST_FIELDS + self.chance.randrange(2)))
         insertion = f"request=InsertCoverage&coverage=wide&domain={axes}&fields={fields}"
         submission = "request=SubmitQuery&query=for+c+in+(wide)+return+1"
-        listed = [insertion] + [submission] * self.chance.choice([1, 63, 64, 65])
+        listed = [insertion] + [submission] * self.chance.choice([1, MOST_JOBS - 1, MOST_JOBS, MOST_JOBS + 1])
         return b"".join(b"GET /ows?%s HTTP/1.1\r\n\r\n" % it.encode() for it in listed)
 
     def doubled_field(self, stream):

@@ -8,7 +8,7 @@ import struct
 import store
 from language import Refused
 from machine import Machine
-from meaning import MOST_POINTS, count, points, rank
+from meaning import MOST_POINTS, points, rank
 
 LINK = 4092
 # in the nearly full file: one coverage in 2^21 tiles, of which each that is listed takes ten blocks

@@ -25,9 +25,10 @@ from dataclasses import dataclass
 sys.dont_write_bytecode = True
 
 import store
-from files import posted
+from files import content_of, posted
 from machine import RANGES, served
 from met import Met
+from mutants import Chance
 from room import Filler, Roomy
 from texts import NAMES, Texts
 
@@ -46,15 +47,13 @@ class Unasked(Roomy):
         return ""
 
 
-class Session:
+class Session(Chance):
     """A stream of messages by chance; what the machine would hold after them guides the later ones."""
 
     def __init__(self, chance, machine=None, wide=False):
-        self.chance, self.machine, self.about_jobs, self.wide = chance, machine or Unasked(), machine is not None, wide
+        super().__init__(chance)
+        self.machine, self.about_jobs, self.wide = machine or Unasked(), machine is not None, wide
         self.texts = Texts(chance, self.machine.store)
-
-    def one_in(self, n):
-        return self.chance.randrange(n) == 0
 
     def pairs(self):
         if not self.machine.store or self.one_in(5):
@@ -374,10 +373,8 @@ def differs(program, path, runs):
         if came.returncode or came.stdout != expected:
             told = f"run {number}, status {came.returncode} {came.stderr.decode()}"
             return machine.met, replies, (told, stream, expected, came.stdout)
-    if runs.on_file and runs.spare is None:
-        with open(path, "rb") as it:
-            if not store.is_same(store.read(it.read()), machine.store):
-                return machine.met, replies, ("the file holds another store", b"".join(runs.streams), b"", b"")
+    if runs.on_file and runs.spare is None and not store.is_same(store.read(content_of(path)), machine.store):
+        return machine.met, replies, ("the file holds another store", b"".join(runs.streams), b"", b"")
     return machine.met, replies, None
 
 

@@ -1,17 +1,16 @@
 """Queries by chance, over the coverages of a store."""
 
+from mutants import Chance
+
 AXES, NAMES = ["x", "y", "t", "k", "m", "n"], ["lai", "hill", "g", "z", "a_1"]
 
 
-class Texts:
+class Texts(Chance):
     """Makes queries, mostly such as types accept."""
 
     def __init__(self, chance, store):
-        self.chance, self.store = chance, store
-        self.fresh = 0
-
-    def one_in(self, n):
-        return self.chance.randrange(n) == 0
+        super().__init__(chance)
+        self.store, self.fresh = store, 0
 
     def name(self):
         known = list(self.store)

@@ -21,7 +21,7 @@ from dataclasses import dataclass
 sys.dont_write_bytecode = True
 
 import store
-from files import Asks, csv_of, posted, replies_in
+from files import Asks, content_of, csv_of, posted, replies_in
 from language import Refused
 from meaning import cell_text, count, points, rank
 from runs import run
@@ -180,11 +180,6 @@ def data_of(name):
     return bytes(data)
 
 
-def content(path):
-    with open(path, "rb") as file:
-        return file.read()
-
-
 def put(path, data):
     with open(path, "wb") as file:
         file.write(data)
@@ -210,7 +205,7 @@ def wrong(program, name, path):
     put(path, data)
     if told := session(program, path, list(asked(coverages))):
         return told
-    closed = content(path)
+    closed = content_of(path)
     if closed[8:12] != b"\2\0\0\0":
         return "after its close it is no file of version 2"
     if not holds(closed, coverages) or tiles(closed) != tiles(data):
@@ -218,7 +213,7 @@ def wrong(program, name, path):
     asks = Asks(random.Random(name), store.read(closed))
     if told := session(program, path, asks.made):
         return f"when it was opened again: {told}"
-    if Asks.known(store.read(content(path))) != asks.after:
+    if Asks.known(store.read(content_of(path))) != asks.after:
         return "after its updates it holds something else"
     return None
 
@@ -241,7 +236,7 @@ def make_texts(program):
         for name, made in FILES.items():
             stream = list(messages(made()))
             told = session(os.path.abspath(program), f"{folder}/{name}", [(it, "ok\n") for it in stream])
-            data = content(f"{folder}/{name}")
+            data = content_of(f"{folder}/{name}")
             if told or data[8] != 1:
                 sys.exit(f"{name}: {told or 'the program does not write version 1'}")
             put(f"{FOLDER}/{name}.txt", text_of(data).encode())

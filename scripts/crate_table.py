@@ -3,21 +3,10 @@
 import os
 import re
 
-from surface import TOP
+from surface import TOP, dependencies, read
 
-TABLE = f"{TOP}/docs/ARCHITECTURE.md"
-LIST = f"{TOP}/docs/PROVED.md"
-
-
-def read(path):
-    with open(path, encoding="utf-8") as file:
-        return file.read()
-
-
-def standing():
-    """Each crate with the libraries that crates.txt gives it."""
-    lines = [line.split(":") for line in read(f"{TOP}/crates.txt").splitlines() if ":" in line and line[0] != "#"]
-    return {name.split()[0]: libraries.split() for name, libraries in lines}
+TABLE = "docs/ARCHITECTURE.md"
+LIST = "docs/PROVED.md"
 
 
 def rows():
@@ -34,7 +23,7 @@ def twice(page, names):
 
 def table_faults():
     """What differs between the table and the crates, their libraries and their definitions."""
-    crates, told = standing(), list(rows())
+    crates, told = dependencies(), list(rows())
     names = [name for name, _, _ in told]
     found = [f"docs/ARCHITECTURE.md has no row of {name}" for name in crates if name not in names]
     found += [f"docs/ARCHITECTURE.md has a row of {name}, which is no crate" for name in names if name not in crates]
@@ -54,7 +43,7 @@ def table_faults():
 def list_faults():
     """What differs between the crates and those that docs/PROVED.md begins its points with."""
     heads = re.findall(r"^- ((?:`\w+`(?:, )?)+):", read(LIST), re.M)
-    crates, listed = standing(), [name for head in heads for name in re.findall(r"\w+", head)]
+    crates, listed = dependencies(), [name for head in heads for name in re.findall(r"\w+", head)]
     return [
         *(f"docs/PROVED.md does not list {name}" for name in crates if name not in listed),
         *(f"docs/PROVED.md lists {name}, which is no crate" for name in sorted(set(listed) - set(crates))),

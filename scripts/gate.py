@@ -15,7 +15,8 @@ import sys
 import tempfile
 
 sys.dont_write_bytecode = True
-from must_fail import closed, dependencies, recorded, said_by, sum_of, sums, texts_below, tried
+from must_fail import closed, recorded, said_by, sum_of, sums, texts_below, tried
+from surface import dependencies
 
 
 def minutes():
@@ -47,7 +48,7 @@ def copied():
 
 def not_laid_out():
     """The crates that `rt fmt` changes, in a tree where it may: `rt ci` proves none of them, and tells so in its turn."""
-    for it in dependencies():
+    for it in dependencies("."):
         was = texts_below(f"crates/{it}")
         subprocess.run(["rt", "fmt"], cwd=f"crates/{it}", stdin=subprocess.DEVNULL, capture_output=True, check=True)
         if texts_below(f"crates/{it}") != was:

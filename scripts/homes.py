@@ -18,11 +18,10 @@ import sys
 
 sys.dont_write_bytecode = True
 
-import crate_table
 import doubles
 import limits
 import refusals
-from surface import TOP, crates, source
+from surface import TOP, crates, dependencies, read, source
 
 REFUSALS = {"arr_core/src/refusal.rt", "arr_core/specs/Refusals.antt"}
 HOMES = {
@@ -72,11 +71,6 @@ KEYWORD = re.compile(r'Keyword::\w+ => "(\w+)",')
 
 # A number that is two limits, the cells of a tile and the bytes of a block, and the ends of the types of integers.
 SHARED = {4096} | {2**bits - less for bits in (8, 15, 31, 32, 63, 64) for less in (0, 1)} | {2**16 - 1}
-
-
-def read(path):
-    with open(f"{TOP}/{path}", encoding="utf-8") as file:
-        return file.read()
 
 
 def files(crate, part):
@@ -182,7 +176,7 @@ def few():
     for crate in crates():
         told = [DEFINED.match(text)[2] for path, _, text in lines(crate) if DEFINED.match(text) and "/specs/" in path]
         own[crate] = {int(it) for it in told if it.isdigit() and 6 <= int(it) <= 4096}
-    return {it: own[it].union(*(own.get(other, ()) for other in crate_table.standing()[it])) for it in own}
+    return {it: own[it].union(*(own.get(other, ()) for other in dependencies()[it])) for it in own}
 
 
 def compared(path, text):
@@ -205,10 +199,15 @@ SAYS = dict(zip(HOMES, (says_number, says_name, says_status, says_keyword, says_
 
 
 @functools.cache
+def edge_arms():
+    """The arms of `edge_of` in the code: a number of axes, or `_` for all others, and the edge or its name."""
+    body = source("arr_core", "tile").partition("\nfn edge_of")[2].partition("\n}")[0]
+    return re.findall(r"^ +(?:\d \| )*(\w) => (\w+),", body, re.M)
+
+
 def edges():
     """What says the edge of a tile by a number of axes: an arm or a condition, or a list of them all."""
-    body = source("arr_core", "tile").partition("\nfn edge_of")[2].partition("\n}")[0]
-    there, told = limits.constants(), re.findall(r"^ +(\d) => (\w+),", body, re.M)
+    there, told = limits.constants(), [(axes, edge) for axes, edge in edge_arms() if axes.isdigit()]
     for k, (axes, edge) in enumerate(told):
         if not edge.isdigit():
             told[k] = (axes, f"(?:{edge}|{edge.lower()}|{there['arr_core/tile.rt', edge]})")

@@ -4,12 +4,11 @@ A row of the page has a value, and a cell with the places where it stands: `NAME
 name where that constant has another value than the row; or the number in `crate/file.rt`, where it has no name.
 """
 
-import os
 import re
 
-from surface import TOP, crates, modules, source
+from surface import crates, modules, read, source
 
-PAGE = f"{TOP}/docs/LIMITS.md"
+PAGE = "docs/LIMITS.md"
 NO_LIMITS = "## Numbers that are no limits"
 CONSTANT = re.compile(r"^ *(?:pub(?:\([a-z]+\))? )?const (\w+): [ui](?:8|16|32|64|128|size) = ([^;]+);", re.M)
 NAMED = re.compile(r"`(\w+)`(?: = ([\d,]+))? in `([\w/]+\.rt)`")
@@ -41,8 +40,7 @@ def constants():
 
 def rows(of_limits=False):
     """Of each row of the page what it is about, its value and the places that it names; of its limits alone where it is asked."""
-    with open(PAGE, encoding="utf-8") as file:
-        text = file.read().partition(NO_LIMITS if of_limits else "\0")[0]
+    text = read(PAGE).partition(NO_LIMITS if of_limits else "\0")[0]
     cells = [[it.strip() for it in line.split("|")[1:-1]] for line in text.splitlines() if line.startswith("| ")]
     for what, first, where, *_ in cells:
         if given := re.match(r"-?\d[\d,]*", first):

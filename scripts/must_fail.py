@@ -16,6 +16,8 @@ import subprocess
 import sys
 
 sys.dont_write_bytecode = True
+from surface import dependencies
+
 RECORD = "scripts/must_fail.txt"
 
 
@@ -37,16 +39,9 @@ def texts_below(folder):
     return found
 
 
-def dependencies():
-    """What each crate stands on, by its line in crates.txt."""
-    with open("crates.txt", encoding="utf-8") as file:
-        lines = [line.partition("#")[0].partition(":") for line in file]
-    return {head.split()[0]: deps.split() for head, colon, deps in lines if colon}
-
-
 def sums():
     """What the edits of each crate rest on, as one sum."""
-    lines, kit = dependencies(), said_by("rt", "version")
+    lines, kit = dependencies("."), said_by("rt", "version")
     with open("HANDLES", encoding="utf-8") as file:
         handles = file.read()
 

@@ -6,8 +6,8 @@ A name has an underscore or a capital inside, or is a path of a file. Folders be
 import os
 import re
 
-from homes import files, read
-from surface import TOP
+from homes import files
+from surface import TOP, read
 
 PAGES = [
     "ARCHITECTURE",

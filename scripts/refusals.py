@@ -8,7 +8,7 @@ import os
 import re
 import sys
 
-from surface import TOP, source
+from surface import TOP, read, source
 
 sys.path.insert(0, f"{TOP}/oracle")
 
@@ -22,11 +22,6 @@ ROW = re.compile(r"^\| (\d+) (\w+) \| (\d*) ?\|", re.M)
 MENTION = re.compile(r"(?<![\w.,-])(\d{1,2}) ([A-Z]\w+)")
 FOLDERS = ("docs", "oracle", "clients", "web", "faults", "examples", "deploy", "bench")
 ENDS = (".md", ".py", ".js", ".html", ".1")
-
-
-def read(path):
-    with open(f"{TOP}/{path}", encoding="utf-8") as file:
-        return file.read()
 
 
 @functools.cache

@@ -13,15 +13,22 @@ def free_port():
 
 
 @contextlib.contextmanager
-def served(program, folder=None):
-    """The port at which the program listens, run in a folder; it is ended afterwards."""
+def server(program, folder=None):
+    """The port at which the program listens, run in a folder, and its process; it is ended afterwards."""
     port = free_port()
-    with subprocess.Popen([program, "-", "listen", str(port), "100000"], cwd=folder) as server:
+    with subprocess.Popen([program, "-", "listen", str(port), "100000"], cwd=folder) as process:
         try:
             for _ in range(100):
                 with contextlib.suppress(OSError), socket.create_connection(("127.0.0.1", port), 1):
                     break
                 time.sleep(0.05)
-            yield port
+            yield port, process.pid
         finally:
-            server.kill()
+            process.kill()
+
+
+@contextlib.contextmanager
+def served(program, folder=None):
+    """The port alone."""
+    with server(program, folder) as (port, _):
+        yield port

@@ -22,7 +22,7 @@ from dataclasses import dataclass
 
 sys.dont_write_bytecode = True
 TOP = os.path.dirname(os.path.dirname(os.path.abspath(__file__)))
-PAGE = f"{TOP}/docs/SURFACE.md"
+PAGE = "docs/SURFACE.md"
 TABLE = "| call | what it promises |\n|---|---|\n"
 CONDITION = "Condition: "
 ROW = re.compile(r"\| `(.+?)` \| (.*) \|")
@@ -42,14 +42,17 @@ class Call:
     is_bound: bool = False
 
 
+def read(path):
+    """The text of a file, by its path below TOP."""
+    with open(f"{TOP}/{path}", encoding="utf-8") as file:
+        return file.read()
+
+
 @functools.cache
 def source(crate, module):
     """The text of a module of a crate, by its path below src; empty where there is none."""
-    path = f"{TOP}/crates/{crate}/src/{module}.rt"
-    if not os.path.isfile(path):
-        return ""
-    with open(path, encoding="utf-8") as file:
-        return file.read()
+    path = f"crates/{crate}/src/{module}.rt"
+    return read(path) if os.path.isfile(f"{TOP}/{path}") else ""
 
 
 @functools.cache
@@ -61,11 +64,16 @@ def modules(crate):
     )
 
 
+def dependencies(top=TOP):
+    """What each crate of a tree stands on, by its line in crates.txt."""
+    with open(f"{top}/crates.txt", encoding="utf-8") as file:
+        lines = [line.partition("#")[0].partition(":") for line in file]
+    return {head.split()[0]: deps.split() for head, colon, deps in lines if colon}
+
+
 def crates():
     """The crates of crates.txt that hold code: those that have definitions."""
-    with open(f"{TOP}/crates.txt", encoding="utf-8") as file:
-        names = [line.split(":")[0] for line in file if ":" in line and not line.startswith("#")]
-    return [name for name in names if os.path.isdir(f"{TOP}/crates/{name}/specs")]
+    return [name for name in dependencies() if os.path.isdir(f"{TOP}/crates/{name}/specs")]
 
 
 def doc_of(text, at):
@@ -267,11 +275,6 @@ def known(text):
     return item[0] if item else re.split(r"[(<]", text)[0]
 
 
-def read_page():
-    with open(PAGE, encoding="utf-8") as file:
-        return file.read()
-
-
 def crate_faults(crate, rows):
     """Where the rows of a crate's section and the crate differ."""
     there, told = {cell(it): it for it in surface(crate)}, dict(rows)
@@ -293,7 +296,7 @@ def crate_faults(crate, rows):
 
 def faults():
     """Where the page and the crates differ."""
-    rows = listed(read_page())
+    rows = listed(read(PAGE))
     stray = [it for it in rows if it not in crates()]
     return [it for crate in crates() for it in crate_faults(crate, rows.get(crate, []))] + [
         f"docs/SURFACE.md has a section of {it}, which is no crate that holds code" for it in stray
@@ -316,8 +319,8 @@ def drafted(page):
 
 def main(*words):
     if words == ("draft",):
-        page = drafted(read_page())
-        with open(PAGE, "w", encoding="utf-8") as file:
+        page = drafted(read(PAGE))
+        with open(f"{TOP}/{PAGE}", "w", encoding="utf-8") as file:
             file.write(page)
     elif words:
         sys.exit(__doc__)

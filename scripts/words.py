@@ -1,4 +1,5 @@
-"""What documents, the page and the independent reading in oracle/ say of keywords, types of fields and limits, beside their homes.
+"""What documents, the page, the clients and the independent reading in oracle/ say of keywords, types of fields, limits
+and edges of tiles, beside their homes.
 
 docs/LIMITS.md, which `limits.py` compares with the constants, is the home of limits for the other pages.
 """
@@ -8,8 +9,8 @@ import re
 import sys
 
 import limits
-from homes import keywords, read, type_names
-from surface import TOP
+from homes import edge_arms, keywords, type_names
+from surface import TOP, read
 
 sys.path.insert(0, f"{TOP}/oracle")
 
@@ -18,11 +19,11 @@ BRACKETS, FORMS, HEIGHT = "brackets open at once", "words `condense` and `covera
 COMBINATIONS, CELLS, WORK = "combinations of listed coverages", "cells of a result", "work"
 NAME, QUERY, FIELDS, COVERAGES = "bytes of a name", "bytes of a query's text", "fields of a coverage", "coverages"
 HEAD, HEAD_FIELDS, BODY = "bytes of a head", "fields of a head", "bytes of a body"
-JOBS, UNITS = "jobs held", "units of one StepJob"
+JOBS, UNITS, NUMBER = "jobs held", "units of one StepJob", "a number"
 
 # Where a page says limits, and which rows of docs/LIMITS.md these are.
 PAGES = [
-    ("LANGUAGE", r"query text; a number \| ([\d,]+) bytes; (\d+) ", QUERY, "a number"),
+    ("LANGUAGE", r"query text; a number \| ([\d,]+) bytes; (\d+) ", QUERY, NUMBER),
     ("LANGUAGE", r"height of the tree \| (\d+); (\d+); (\d+) ", BRACKETS, FORMS, HEIGHT),
     ("LANGUAGE", r"work \| (\d+); (2\^\d+); (2\^\d+) ", COMBINATIONS, CELLS, WORK),
     ("LANGUAGE", r"bounds of an axis \| (\d+); (2\^\d+);", AXES, POINTS),
@@ -47,9 +48,28 @@ PAGES = [
     ("FILE-FORMAT", r"of 4,096 bytes, at most ([\d,]+) of them", "blocks of a file"),
     ("FILE-FORMAT", r"in bytes, at most ([\d,]+) in a closed file", "bytes of metadata"),
 ]
+# The same of the clients and of the page in a browser, by path.
+ASK, PARTS = "clients/python/rasterd-ask", "clients/python/rasterd_parts.py"
+CLIENTS = [
+    ("clients/python/rasterd.py", r"MAX_VALUES = ([\d_]+)", BODY),
+    ("clients/python/rasterd-load", r"more than ([\d,]+) cells", POINTS),
+    ("clients/python/rasterd-load", r"MOST_POINTS, SIDE = \S+ (2\*\*\d+)", POINTS),
+    ("clients/python/rasterd_algebra.py", r"MOST_CELLS, MANY = (2\*\*\d+)", CELLS),
+    (PARTS, r"MOST_CELLS = (2\*\*\d+)\nMOST_POINTS = (2\*\*\d+)", CELLS, POINTS),
+    (PARTS, r"of the (2\^\d+) that the server takes", WORK),
+    ("web/syntax.js", r"MOST_NUMBER = (\d+)n", NUMBER),
+    ("web/syntax.js", r"MOST_NAME = (\d+)", NAME),
+    ("web/refusals.js", r"at most ([\d,]+) bytes", QUERY),
+    ("web/refusals.js", r"number is above (\d+)", NUMBER),
+    ("web/refusals.js", r"higher than (\d+)", HEIGHT),
+    ("web/refusals.js", r"more than ([\d,]+) points", POINTS),
+    ("web/refusals.js", r"More than ([\d,]+) cells", CELLS),
+    ("web/refusals.js", r"More than (\d+) combinations", COMBINATIONS),
+    ("web/refusals.js", r"(\d+) jobs are held", JOBS),
+]
 # The same for the constants of the independent reading, by module and name.
 READING = {
-    ("language", "MOST_NUMBER"): "a number",
+    ("language", "MOST_NUMBER"): NUMBER,
     ("language", "MOST_NAME"): NAME,
     ("language", "MOST_DEPTH"): BRACKETS,
     ("language", "MOST_FORMS"): FORMS,
@@ -103,17 +123,29 @@ def uncompared(modules):
 
 
 def value(text):
-    """A number as a page has it, as 1,024 or 2^20."""
-    return 2 ** int(text[2:]) if text.startswith("2^") else limits.number(text)
+    """A number as a page has it, as 1,024 or 2^20, or as Python does, as 2**20."""
+    power = re.fullmatch(r"2(?:\^|\*\*)(\d+)", text)
+    return 2 ** int(power[1]) if power else limits.number(text)
 
 
 def limits_said(modules):
-    """Each limit that a page or the independent reading says: where, which one, and what is said of it."""
-    for page, pattern, *named in PAGES:
-        found = re.search(pattern, read(f"docs/{page}.md"))
-        yield from ((f"docs/{page}.md", it, found and value(found[k])) for k, it in enumerate(named, 1))
+    """Each limit that a page, a client or the independent reading says: where, which one, and what is said of it."""
+    for path, pattern, *named in [(f"docs/{page}.md", *rest) for page, *rest in PAGES] + CLIENTS:
+        found = re.search(pattern, read(path))
+        yield from ((path, it, found and value(found[k])) for k, it in enumerate(named, 1))
     for (module, name), limit in READING.items():
         yield f"oracle/{module}.py", limit, getattr(modules[module], name)
+
+
+def other_edges(modules):
+    """Where the edges of tiles, by the number of axes, are others than those of `edge_of` in the code."""
+    there = limits.constants()
+    arms = {axes: there.get(("arr_core/tile.rt", it), it) for axes, it in edge_arms()}
+    edges = {axes: int(arms.get(str(axes), arms["_"])) for axes in range(1, modules["meaning"].MOST_AXES + 1)}
+    if modules["store"].EDGES != edges:
+        yield f"oracle/store.py has other edges of tiles than {edges}"
+    if f"\nTILE = {edges}\n" not in read(PARTS):
+        yield f"{PARTS} has other edges of tiles than {edges}"
 
 
 def faults():
@@ -126,6 +158,7 @@ def faults():
     return [
         *unlike("docs/LANGUAGE.md", "keyword", page, keywords()),
         *unlike("web/syntax.js", "keyword", " ".join(syntax).split(), keywords()),
+        *unlike(ASK, "keyword", said(ASK, r'KEYWORDS = ([\w\s"(]*)'), keywords()),
         *unlike("oracle/language.py", "keyword", modules["language"].KEYWORDS, keywords()),
         *unlike("docs/REQUESTS.md", "type", types, type_names()),
         *unlike("oracle/machine.py", "type", modules["machine"].RANGES, type_names()),
@@ -136,4 +169,5 @@ def faults():
             if told != there.get(what)
         ),
         *uncompared(modules),
+        *other_edges(modules),
     ]

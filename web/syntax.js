@@ -22,7 +22,7 @@ const SIGNS = {
   "#": "There are no comments.",
 };
 const FUNCTIONS = "abs, bit, count, some, all, add, avg, min, max";
-const MOST_NUMBER = 2n ** 63n - 1n;
+const MOST_NUMBER = 9223372036854775807n;
 const MOST_NAME = 64;
 
 export class Fault extends Error {

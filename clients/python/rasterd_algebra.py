@@ -15,7 +15,7 @@ other clients are served meanwhile. Arrays are numpy's; `zonal` and `histogram` 
 import rasterd
 
 # The most cells of an answer, and from how many cell comparisons on a query goes as a job.
-MOST_CELLS, MANY = 1 << 20, 1 << 24
+MOST_CELLS, MANY = 2**20, 2**24
 
 
 def expression(variable, layer):

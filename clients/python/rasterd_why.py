@@ -165,17 +165,21 @@ def misspelled(text):
     for start, end in found:
         if text[start].isdigit() and int(text[start:end]) > language.MOST_NUMBER:
             return f"{place(text, start)}: a number is at most {language.MOST_NUMBER}"
-        if end - start > 64 and re.match(r"[\w$]", text[start]):
-            return f"{place(text, start)}: a name has at most 64 bytes"
+        if end - start > language.MOST_NAME and re.match(r"[\w$]", text[start]):
+            return f"{place(text, start)}: a name has at most {language.MOST_NAME} bytes"
     parser = Pointing(text)
     if language.too_deep(parser.listed):
-        return "more than 512 brackets are open at once, or there are more than 256 words `condense` and `coverage`"
+        return (
+            f"more than {language.MOST_DEPTH} brackets are open at once, or there are more than {language.MOST_FORMS}"
+            " words `condense` and `coverage`"
+        )
     try:
         *_, condition, _, item = parser.query()
     except language.Refused:
         return stopped(parser)
-    if max(item.height(), condition.height() if condition else 0) > 64:
-        return "the query is nested more than 64 deep: ask a part of it first, and write its answer into the query"
+    most = language.MOST_HEIGHT
+    if max(item.height(), condition.height() if condition else 0) > most:
+        return f"the query is nested more than {most} deep: ask a part of it first, and write its answer into the query"
     return None
 
 
@@ -249,7 +253,8 @@ def of_words(parser, at, word, before, after):
 def spelled_name(text):
     if text.lower() in language.KEYWORDS:
         return f"`{text}` is a word of the language, and no name"
-    return f"{shown(text)} is no name: a letter or `_`, then letters, digits and `_`, at most 64 in all"
+    most = language.MOST_NAME
+    return f"{shown(text)} is no name: a letter or `_`, then letters, digits and `_`, at most {most} in all"
 
 
 def spelled_interval(text):
@@ -282,9 +287,9 @@ KEYS = {
     "fields": (machine.field_in, True, spelled_field),
     "fill": (machine.cell_in, False, spelled_cell),
     "values": (machine.cell_in, True, spelled_cell),
-    "query": (machine.query_in, False, lambda text: f"the text has {len(text.encode())} bytes, and at most 65,536 go"),
+    "query": (machine.query_in, False, lambda text: f"{len(text.encode())} bytes, of at most {machine.MOST_QUERY:,}"),
     "job": (machine.number_in, False, lambda text: f"{shown(text)} is no job's number"),
-    "units": (machine.units_in, False, lambda text: f"{shown(text)} is not within 1 to 1000"),
+    "units": (machine.units_in, False, lambda text: f"{shown(text)} is not within 1 to {machine.MOST_UNITS}"),
     "layer": (machine.layer_in, False, lambda text: f"{shown(text)} is neither a coverage nor `coverage.field`"),
     "second": (machine.layer_in, False, lambda text: f"{shown(text)} is neither a coverage nor `coverage.field`"),
     "radius": (machine.signed_in, False, lambda text: f"{shown(text)} is no whole number"),
@@ -361,7 +366,8 @@ SAID = {
     50: lambda e, parts, bound: f"it has several fields: select one, as `.{first_of_several(parts)}`",
     51: lambda e, parts, bound: f"it has {len(e.data[1])} items, and its box another number of points",
     52: lambda e, parts, bound: "it has axes: write encode(.., csv) around it",
-    53: lambda e, parts, bound: "a lower bound stands above its upper one, or the box has more than 6 axes or 2^24 points",
+    53: lambda e, parts, bound: "a lower bound stands above its upper one, or the box has more than"
+    f" {meaning.MOST_AXES} axes or {meaning.MOST_POINTS:,} points",
 }
 
 
@@ -398,17 +404,17 @@ def coverage_of(axes, fields):
 # All together
 
 ADVICE = {
-    2: "a body has at most 1,048,576 bytes: send the cells in several updates, as Session.write does",
+    2: f"a body has at most {machine.MOST_BODY:,} bytes: send the cells in several updates, as Session.write does",
     3: "the path is /ows, or what a proxy makes of it",
     11: "requests are InsertCoverage, UpdateCoverage, DeleteCoverage, ListCoverages, DescribeCoverage, ProcessCoverages,"
     " SubmitQuery, StepJob, FetchJob, CancelJob, ExpandTemplate, ProcessTemplate",
     20: "ListCoverages tells the names, which are case-sensitive",
-    22: "a coverage has one to six axes, each named once, bounds of 32 bits with the lower one first, and at most 16,777,216"
-    " points: rasterd-load --parts cuts a larger raster",
-    23: "a coverage has one to sixteen fields, each named once",
+    22: f"a coverage has 1 to {meaning.MOST_AXES} axes, each named once, bounds of 32 bits with the lower one first,"
+    f" and at most {meaning.MOST_POINTS:,} points: rasterd-load --parts cuts a larger raster",
+    23: f"a coverage has 1 to {machine.MOST_FIELDS} fields, each named once",
     54: "ask what is the same for all cells first, as avg(c), and write the number into the query; or ask for a smaller box:"
     " zonal, stretch and histogram of rasterd_algebra do so",
-    55: "ask for parts of at most 1,048,576 cells, as c[y(0:99)]",
+    55: f"ask for parts of at most {meaning.MOST_CELLS:,} cells, as c[y(0:99)]",
     60: "a number leaves 64 bits",
     61: "exclude the zeros: `c / (d + (d = 0))`, or condense `where d != 0`",
     62: "`and` asks both sides: put the test into the `where` of a condense, or trim first",

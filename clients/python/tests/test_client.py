@@ -1,7 +1,6 @@
 """The client beside the server: requests, jobs, connections, and the shell."""
 
 import contextlib
-import os
 import socket
 import tempfile
 import threading

@@ -121,12 +121,12 @@ REQUESTS = [
     (
         "InsertCoverage",
         dict(coverage="a", domain="y(0:4999),x(0:4999)", fields="v:u8"),
-        "22 BadDomain: a coverage has one",
+        "22 BadDomain: a coverage has 1 to",
     ),
     (
         "InsertCoverage",
         dict(coverage="a", domain="a(0:1),b(0:1),c(0:1),d(0:1),e(0:1),f(0:1),g(0:1)", fields="v:u8"),
-        "22 BadDomain: a coverage has one to six axes",
+        "22 BadDomain: a coverage has 1 to 6 axes",
     ),
     ("DeleteCoverage", dict(coverage="Hill"), "20 NoSuchCoverage: ListCoverages tells the names, which are case-sens"),
     (
@@ -162,7 +162,7 @@ class Mistakes(OverLoopback):
             for text, said in TEXTS:
                 with self.subTest(text=text):
                     found = self.refusal(lambda: session.query(text))
-                    self.assertIn(said or str(found), str(found))
+                    self.assertIn(said, str(found))
 
     def test_requests(self):
         with self.session() as session:

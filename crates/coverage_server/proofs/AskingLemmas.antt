@@ -1,5 +1,5 @@
 -- The answer of a query, from what the steps give.
-use Rattle.std.proofs.Common.{◌≡◌, ℕ, ◌<◌, ◌≤◌, Bool, true, false, List, [], ◌∷◌, length, map, Result, Ok, Err, refl, sym, ap, ◌∙◌, subst, arith, inl, inr, nat_lt}
+use Rattle.std.proofs.Common.{◌≡◌, ◌≢◌, ℕ, ◌<◌, ◌≤◌, Bool, true, false, List, [], ◌∷◌, length, map, Result, Ok, Err, refl, sym, ap, ◌∙◌, subst, arith, inl, inr, nat_lt}
 use Rattle.std.specs.Prelude.{IsTrue, ◌⊎◌, String, string_bytes, nat_le}
 use Rattle.std.specs.declared.alloc.Global.{Global}
 use borrow.Author.Tests.{ltb-true, ltb-false, le-leb, lt-leb}
@@ -14,6 +14,9 @@ use Rattle.wcps_text.specs.Limits.{deepest, forms, query_height}
 use Rattle.wcps_text.specs.Grammar.{IsSpelled}
 use Rattle.wcps_text.specs.Tree.{QueryTree, query_view}
 use Rattle.wcps_parse.specs.Outcome.{IsWithinLimits, IsTooDeep}
+use Rattle.wcps_parse.specs.Refusals.{refusal_of as syntax_refusal}
+use Rattle.wcps_parse.specs.declared.error.ParseError.{ParseError}
+use Rattle.wcps_parse.specs.declared.error.ParseError.TheVariants as parsing
 use Rattle.wcps_types.specs.Queries.{typ_query}
 use Rattle.wcps_types.specs.declared.typed_query.TypedQuery.{TypedQuery}
 use Rattle.wcps_types.specs.TypedQueries.{query_view as typed_view}
@@ -21,7 +24,7 @@ use Rattle.raster_store.specs.Calls.{signature_of}
 use Rattle.coverage_server.specs.Damage.{SpoilsText}
 use Rattle.coverage_server.specs.Views.{ServerView}
 use Rattle.coverage_server.proofs.TypedLemmas.{typed-held, typed-some}
-use Rattle.coverage_server.specs.Asking.{TypedAnswer, typed_answer, tree_typed, TokensTyped, too_deep, query, TextTyped, no_tokens, lexed, evaluated, TextAnswer}
+use Rattle.coverage_server.specs.Asking.{TypedAnswer, typed_answer, tree_typed, TokensTyped, too_deep, no_query, query, TextTyped, no_tokens, lexed, evaluated, TextAnswer}
 use Rattle.coverage_server.specs.Stages.{GivesTokens, GivesQuery, GivesTyped, GivesText, GivesValues, FailsReading}
 use Rattle.coverage_server.specs.Answered.{Answered}
 use Rattle.coverage_server.specs.Machine.{Answers}
@@ -129,3 +132,11 @@ pub refused_depth : (store : Store) (ts : List Tok) → IsTooDeep ts → TokensT
 refused_depth store ts (inl x) = too_deep (λ within. absurd (omega (arith, x, within.brackets)))
 refused_depth store ts (inr (inl x)) = too_deep (λ within. absurd (omega (arith, x, within.words)))
 refused_depth store ts (inr (inr x)) = too_high store ts x.tree x.spelled x.high
+
+-- tokens that the parser refuses, but for want of memory
+pub refused_tokens : (store : Store) (ts : List Tok) (e : ParseError) → e ≢ parsing.NoMemory
+    → (e ≡ parsing.BadSyntax → IsWithinLimits ts) → (e ≡ parsing.BadSyntax → (q : QueryTree) → IsSpelled ts q → ⊥)
+    → (e ≡ parsing.TooDeep → IsTooDeep ts) → TokensTyped store ts (Err (syntax_refusal e))
+refused_tokens store ts parsing.BadSyntax other within none deep = no_query (within refl) (none refl)
+refused_tokens store ts parsing.TooDeep other within none deep = refused_depth store ts (deep refl)
+refused_tokens store ts parsing.NoMemory other within none deep = absurd (other refl)

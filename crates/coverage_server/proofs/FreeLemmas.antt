@@ -27,7 +27,7 @@ use Rattle.coverage_server.specs.Holding.{HoldsFor, ReleasesFor}
 use Rattle.coverage_server.specs.Views.{ServerView, IsClosable, IsUnchanged, KeepsHeld, still_of, signatures_of, uses_in, free_in, free_blocks, without_held}
 use Rattle.coverage_server.specs.Writing.{device_refusal, insert_refusal, InsertRefused}
 use Rattle.coverage_server.proofs.StoreLemmas.{signatures_inserted}
-use Rattle.coverage_server.proofs.HeldLemmas.{lists_push, lists_left, picked_lists, same_snapshots, same_after, same_lists, intact_push, intact_left}
+use Rattle.coverage_server.proofs.HeldLemmas.{lists_push, lists_left, copied_lists, same_snapshots, same_after, same_lists, intact_push, intact_left}
 use Rattle.coverage_server.proofs.RemovalLemmas.{signatures_deleted, listed_left, no_fewer_free, room_left}
 
 -- a server's view of its cells
@@ -183,7 +183,7 @@ holds_ready catalogue number names old new ready h =
     let own : (k : ℕ) → listed_all new.indexes k ≡ listed_all old.indexes k = λ k. ap (λ (i : List (List Index)). listed_all i k) h.same.indexes in
     let free : free_in new.indexes new.snapshots ≡ free_in old.indexes old.snapshots =
     free_same 1048575 (uses_in old.indexes old.snapshots) (uses_in new.indexes new.snapshots)
-    (λ k positive within. as_free _ _ _ _ _ (lists k) (own k) (picked_lists old.coverages old.indexes x.coverages x.indexes k h.is.picked)) in
+    (λ k positive within. as_free _ _ _ _ _ (lists k) (own k) (copied_lists old.coverages old.indexes x.coverages x.indexes k h.is.copied)) in
     let reserved = ap (λ (i : List (List Index)). reserve (length (catalogue_bytes catalogue)) i) h.same.indexes in
     let room = ready.room in
     record {

@@ -8,7 +8,7 @@ use Rattle.arr_core.specs.Stores.{Coverage, Store, found}
 use Rattle.std.specs.Str.{bytes_eq}
 use Rattle.raster_store.specs.Views.{Index, SnapshotView, AreIntact, listed_fields, listed_all, listed_snapshots}
 use Rattle.raster_store.specs.Calls.{signature_of, AreSameSignatures}
-use Rattle.raster_store.specs.Snapshots.{held_for, without_job, ArePicked, AreIntactSnapshots, AreSameSnapshots}
+use Rattle.raster_store.specs.Snapshots.{held_for, without_job, AreCopied, AreIntactSnapshots, AreSameSnapshots}
 use Rattle.raster_store.proofs.Totals.{listed_all-nil, listed_all-cons}
 use Rattle.coverage_server.specs.Holding.{AreHeldOnce}
 use Rattle.coverage_server.specs.Views.{IsHeld}
@@ -46,12 +46,12 @@ at_place [] place i k e = absurd cc
 at_place (j ∷ indexes) zero i k e = let same : j ≡ i = cc in rw (← same) (omega (arith, listed_all-cons k j indexes))
 at_place (j ∷ indexes) (suc place) i k e = omega (arith, at_place indexes place i k e, listed_all-cons k j indexes)
 
-pub picked_lists : (coverages : Store) (indexes : List (List Index)) (picked : Store) (chosen : List (List Index)) (k : ℕ) → ArePicked coverages indexes picked chosen
+pub copied_lists : (coverages : Store) (indexes : List (List Index)) (picked : Store) (chosen : List (List Index)) (k : ℕ) → AreCopied coverages indexes picked chosen
     → 1 ≤ listed_all chosen k → 1 ≤ listed_all indexes k
-picked_lists coverages indexes [] [] k p some = absurd (omega (arith, some, listed_all-nil k))
-picked_lists coverages indexes [] (i ∷ chosen) k p some = absurd p
-picked_lists coverages indexes (c ∷ picked) [] k p some = absurd p
-picked_lists coverages indexes (c ∷ picked) (i ∷ chosen) k p some = by_first (λ more. picked_lists coverages indexes picked chosen k p.1 more) (listed_fields i k) refl
+copied_lists coverages indexes [] [] k p some = absurd (omega (arith, some, listed_all-nil k))
+copied_lists coverages indexes [] (i ∷ chosen) k p some = absurd p
+copied_lists coverages indexes (c ∷ picked) [] k p some = absurd p
+copied_lists coverages indexes (c ∷ picked) (i ∷ chosen) k p some = by_first (λ more. copied_lists coverages indexes picked chosen k p.1 more) (listed_fields i k) refl
   where
     by_first : (1 ≤ listed_all chosen k → 1 ≤ listed_all indexes k) → (n : ℕ) → listed_fields i k ≡ n → 1 ≤ listed_all indexes k
     by_first rest zero e = rest (omega (arith, some, e, listed_all-cons k i chosen))

@@ -13,14 +13,14 @@ use Rattle.catalogue.specs.Signatures.{names_of}
 use Rattle.tile_store.specs.Listing.{listed}
 use Rattle.tile_store.specs.Stored.{IsTileSpelled}
 use Rattle.tile_store.proofs.Kept.{tile_kept}
-use Rattle.raster_store.specs.Snapshots.{ArePicked, held_for, without_job}
+use Rattle.raster_store.specs.Snapshots.{AreCopied, held_for, without_job}
 use Rattle.raster_store.specs.Views.{Index, SnapshotView, listed_all, listed_fields, listed_snapshots}
 use Rattle.raster_store.proofs.Snapshots.{no_field_lists}
 use Rattle.coverage_server.specs.Damage.{IsIntactIn, IsIntactHeld, AreIntactHeld, AreHeldWhole, IsSpelledPlace}
 use Rattle.coverage_server.specs.Runs.{names_for, without_number}
 use Rattle.coverage_server.specs.Views.{signatures_of}
 use Rattle.coverage_server.proofs.DamageLemmas.{at_place}
-use Rattle.coverage_server.proofs.HeldLemmas.{lists-cons, lists_left, lists_push, picked_lists}
+use Rattle.coverage_server.proofs.HeldLemmas.{lists-cons, lists_left, lists_push, copied_lists}
 
 some_map : {X : Type 0} (o : Option X) (P Q : X → Type 0) → ((x : X) → P x → Q x) → IsSomeAnd o P → IsSomeAnd o Q
 some_map None P Q f h = absurd h
@@ -109,14 +109,14 @@ held_push content (y ∷ held) (l ∷ names) x m is own a = (a.0, a.1, held_push
 
 pub whole_push : (content : List ℕ) (store : Store) (indexes : List (List Index)) (held : List SnapshotView) (x : SnapshotView)
     → ((k : ℕ) → 0 < listed_all indexes k → length (block_at content k) ≡ 4096)
-    → ArePicked store indexes x.coverages x.indexes → AreHeldWhole content held → AreHeldWhole content (held ++ x ∷ [])
+    → AreCopied store indexes x.coverages x.indexes → AreHeldWhole content held → AreHeldWhole content (held ++ x ∷ [])
 whole_push content store indexes held x blocks picked whole k more =
     let both = lists_push held x k in
     elim (cases_lt 0 (listed_snapshots held k)) [
       | inl some ↦ whole k some
       | inr none ↦
           let own : 0 < listed_all x.indexes k = omega (arith, both, more, none) in
-          blocks k (picked_lists store indexes x.coverages x.indexes k picked own)
+          blocks k (copied_lists store indexes x.coverages x.indexes k picked own)
     ]
 
 index_is : {X : Type 0} (xs : List X) (n : ℕ) (x d : X) → slice_get xs n ≡ Some x → slice_index_or xs n d ≡ x
@@ -125,16 +125,16 @@ index_is (y ∷ xs) zero x d e = cc
 index_is (y ∷ xs) (suc n) x d e = index_is xs n x d e
 
 -- a coverage that is picked is spelled where the store's own is
-picked_at : (content : List ℕ) (store : Store) (indexes : List (List Index)) (names : List (List ℕ))
+copied_at : (content : List ℕ) (store : Store) (indexes : List (List Index)) (names : List (List ℕ))
     → AreDistinct (names_of (signatures_of store)) → All (IsIntactIn content store indexes) names
-    → (picked : Store) (chosen : List (List Index)) (place field tile : ℕ) → ArePicked store indexes picked chosen
+    → (picked : Store) (chosen : List (List Index)) (place field tile : ℕ) → AreCopied store indexes picked chosen
     → IsSomeAnd (slice_get picked place) (λ (c : Coverage). Contains names c.name)
     → IsSomeAnd (slice_get picked place) (λ (c : Coverage). field < length c.fields)
     → IsSomeAnd (slice_get picked place) (λ (c : Coverage). IsSomeAnd (slice_get c.fields field) (λ (f : Field).
     IsTileSpelled f.kind c.domain (slice_index_or (slice_index_or chosen place []) field []) content tile))
-picked_at content store indexes names apart whole [] chosen place field tile p here within = absurd within
-picked_at content store indexes names apart whole (c ∷ picked) [] place field tile p here within = absurd p
-picked_at content store indexes names apart whole (c ∷ picked) (i ∷ chosen) zero field tile p here within =
+copied_at content store indexes names apart whole [] chosen place field tile p here within = absurd within
+copied_at content store indexes names apart whole (c ∷ picked) [] place field tile p here within = absurd p
+copied_at content store indexes names apart whole (c ∷ picked) (i ∷ chosen) zero field tile p here within =
     let from : ℕ = p.0.0 in
     let at : slice_get store from ≡ Some c = p.0.1 in
     let index : slice_index_or indexes from [] ≡ i = index_is indexes from i [] p.0.2 in
@@ -146,14 +146,14 @@ picked_at content store indexes names apart whole (c ∷ picked) (i ∷ chosen) 
     IsTileSpelled f.kind c.domain (slice_index_or j field []) content tile)) index
     (subst (λ (o : Option Coverage). IsSomeAnd o (λ (d : Coverage). IsSomeAnd (slice_get d.fields field) (λ (f : Field).
     IsTileSpelled f.kind d.domain (slice_index_or (slice_index_or indexes from []) field []) content tile))) at own)
-picked_at content store indexes names apart whole (c ∷ picked) (i ∷ chosen) (suc place) field tile p here within =
-    picked_at content store indexes names apart whole picked chosen place field tile p.1 here within
+copied_at content store indexes names apart whole (c ∷ picked) (i ∷ chosen) (suc place) field tile p here within =
+    copied_at content store indexes names apart whole picked chosen place field tile p.1 here within
 
-pub picked_intact : (content : List ℕ) (store : Store) (indexes : List (List Index)) (names : List (List ℕ))
+pub copied_intact : (content : List ℕ) (store : Store) (indexes : List (List Index)) (names : List (List ℕ))
     → AreDistinct (names_of (signatures_of store)) → All (IsIntactIn content store indexes) names → (x : SnapshotView)
-    → ArePicked store indexes x.coverages x.indexes → IsIntactHeld content names x
-picked_intact content store indexes names apart whole x picked place here at is has =
-    picked_at content store indexes names apart whole x.coverages x.indexes at.coverage at.field at.tile picked
+    → AreCopied store indexes x.coverages x.indexes → IsIntactHeld content names x
+copied_intact content store indexes names apart whole x picked place here at is has =
+    copied_at content store indexes names apart whole x.coverages x.indexes at.coverage at.field at.tile picked
     (subst (λ (n : ℕ). IsSomeAnd (slice_get x.coverages n) (λ (c : Coverage). Contains names c.name)) (sym is) here)
     (some_map (slice_get x.coverages at.coverage)
     (λ (c : Coverage). (at.field < length c.fields) × (at.tile < length (tile_boxes c.domain)))

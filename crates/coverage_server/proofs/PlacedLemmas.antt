@@ -35,7 +35,7 @@ use Rattle.coverage_server.specs.Room.{LacksRoom}
 use Rattle.coverage_server.specs.Runs.{Placed, reading as numbers_of, intact_after, intact_with, HoldsNames, HoldsNamesBy, with_failures, without_number}
 use Rattle.coverage_server.specs.Views.{ServerView, SessionView, IsUnchanged, still_of, signatures_of}
 use Rattle.coverage_server.proofs.HoldingLemmas.{more_left, none_left}
-use Rattle.coverage_server.proofs.IntactLemmas.{held_kept, held_left, held_numbers, held_push, picked_intact, whole_kept, whole_left, whole_push}
+use Rattle.coverage_server.proofs.IntactLemmas.{held_kept, held_left, held_numbers, held_push, copied_intact, whole_kept, whole_left, whole_push}
 use Rattle.coverage_server.proofs.SpelledLemmas.{inserts_to}
 use Rattle.coverage_server.proofs.StandingLemmas.{represents-same}
 use Rattle.coverage_server.proofs.TileLemmas.{some_out}
@@ -196,14 +196,14 @@ module _ (v w : ServerView) (intact : List (List ℕ)) (names : List (ℕ × Lis
   came query x =
       let more : w.held ≡ v.held ++ x.snapshot ∷ [] = ap (λ (l : Layout). l.held) x.held in
       let grown : List (ℕ × List (List ℕ)) = names ++ (x.snapshot.job, intact) ∷ [] in
-      let own = picked_intact v.content v.store v.indexes intact apart intact_now x.snapshot x.is.picked in
+      let own = copied_intact v.content v.store v.indexes intact apart intact_now x.snapshot x.is.copied in
       record {
         names = grown;
         by = subst (λ (o : Option ℕ). IsSomeAnd o (λ (n : ℕ). grown ≡ names ++ (n, intact) ∷ [])) (sym x.number) refl;
         are = subst (λ (l : List SnapshotView). AreIntactHeld v.content l grown) (sym more)
             (held_push v.content v.held names x.snapshot (x.snapshot.job, intact) refl own held);
         whole = subst (AreHeldWhole v.content) (sym more)
-            (whole_push v.content v.store v.indexes v.held x.snapshot blocks x.is.picked whole);
+            (whole_push v.content v.store v.indexes v.held x.snapshot blocks x.is.copied whole);
       }
 
   answered_names : (asks : Asks) → Lays asks v.store next w.store (layout_of v) (layout_of w)

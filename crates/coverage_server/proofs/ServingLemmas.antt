@@ -11,7 +11,7 @@ use Rattle.http_front.specs.declared.conn.Next.{Next}
 use Rattle.http_front.specs.declared.conn.Next.TheVariants as next
 use Rattle.http_front.specs.declared.reply.Reply.{Reply}
 use Rattle.http_front.specs.Replies.{reply_bytes}
-use Rattle.http_front.specs.Stream.{HasNoMessage, Item, at_end, at_fault, Messages, Taken, Fronts, TellsNext}
+use Rattle.http_front.specs.Stream.{HasNoMessage, Item, Messages, Taken, Fronts, TellsNext}
 use Rattle.http_front.proofs.TakenLemmas.{Taken-append, Taken-push, Messages-after, Begins-after, rest_of, rest_at_end, all_of, last_message, one_message, whole_message, room_after}
 use Rattle.coverage_server.specs.declared.server.ConnEnd.TheVariants.{Finished, ReadFault, WriteFault}
 use Rattle.coverage_server.specs.Runs.{Placed, MessageStep, Run}
@@ -80,30 +80,28 @@ module _ {before now : SourceView} {held holds : SinkView} {old new : Placed} {b
   ended end none =
       let nothing : (buffer ++ more) ++ rest_of later.remaining ≡ [] =
       ap (λ (l : List ℕ). (buffer ++ more) ++ l) (rest_at_end later.remaining end) ∙ append-nil (buffer ++ more) ∙ none in
-      let messages = Messages-after at_end 0 count _ s.items [] _ from_zero taken_all nothing in
+      let messages = Messages-after 0 count _ s.items [] _ from_zero taken_all nothing in
       record {
         bytes = (s.came ++ more) ++ rest_of later.remaining;
         items = s.items;
         replies = s.replies;
         asked = (
           all_of before.remaining later.remaining (s.came ++ more) took_all,
-          subst (Messages at_end 0 ((s.came ++ more) ++ rest_of later.remaining)) (append-nil s.items) messages,
+          subst (Messages 0 ((s.came ++ more) ++ rest_of later.remaining)) (append-nil s.items) messages,
         );
         run = s.run;
         sent = (s.sent, s.flushed);
       }
 
   pub faulted : HasNoMessage (buffer ++ more) → ServesConnection (ends before later held holds) old new ReadFault
-  faulted none =
-      let messages = Messages-after at_fault 0 count _ s.items [] _ from_zero (Taken-append 0 s.came s.items buffer more s.taken) none in
-      record {
-        bytes = s.came ++ more;
-        items = s.items;
-        replies = s.replies;
-        asked = (took_all, subst (Messages at_fault 0 (s.came ++ more)) (append-nil s.items) messages);
-        run = s.run;
-        sent = (s.sent, s.flushed);
-      }
+  faulted none = record {
+    bytes = s.came ++ more;
+    items = s.items;
+    replies = s.replies;
+    asked = (took_all, buffer ++ more, Taken-append 0 s.came s.items buffer more s.taken, none);
+    run = s.run;
+    sent = (s.sent, s.flushed);
+  }
 
   module _ (left : List ℕ) (item : Item) (x : Fronts count (buffer ++ more) left later.remaining item) (newer : Placed)
       (reply : Reply) (step : MessageStep new item.asked reply newer)
@@ -128,7 +126,7 @@ module _ {before now : SourceView} {held holds : SinkView} {old new : Placed} {b
       replies = s.replies ++ reply_bytes item.last item.bare reply ∷ [];
       asked = (
         all_of before.remaining later.remaining (s.came ++ more) took_all,
-        Messages-after at_end 0 count _ s.items (item ∷ []) _ from_zero taken_all
+        Messages-after 0 count _ s.items (item ∷ []) _ from_zero taken_all
             (last_message count (buffer ++ more) left later.remaining item x (sym is ∙ closed)),
       );
       run = ran;

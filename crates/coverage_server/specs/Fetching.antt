@@ -8,6 +8,8 @@ use Rattle.plan_ir.specs.Placed.{IsPlan}
 use Rattle.plan_ir.specs.Planned.{planned}
 use Rattle.plan_ir.specs.Plans.{PlanTree}
 use Rattle.plan_ir.specs.Units.{boxes, bound, units}
+use Rattle.plan_rewrite.specs.Everywhere.{Everywhere}
+use Rattle.plan_rewrite.specs.Rewritten.{NoInlinableBind, NoFoldIsClosed}
 use Rattle.tile_exec.specs.Standing.{most_fetched}
 use Rattle.wcps_mean.specs.Answer.{answer}
 use Rattle.wcps_types.specs.Work.{query_work}
@@ -22,13 +24,16 @@ use Rattle.coverage_server.specs.Leaving.{refusal_number}
 use Rattle.coverage_server.specs.Templates.{expansion}
 use Rattle.coverage_server.specs.Views.{ServerView, SessionView, session}
 
--- the plan of a typed query reads the query's coverages, gives its answer over any cells, and has few units
+-- A plan of a typed query reads the query's coverages, gives its answer over any cells, and has few units. No bind is left in
+-- it that could be inlined, and no fold that could be a pass.
 pub record IsPlanOf (q : TypedTree) (plan : PlanTree) : Type 0 where
   pub placed : IsPlan plan
   pub coverages : plan.coverages ≡ q.coverages
   pub planned : (s : ℕ → ℕ → List ℤ → ℤ) → planned s plan ≡ answer s q
   pub units : units plan ≤ length q.combinations * (2 + query_work q.combinations)
   pub some : 1 ≤ length q.combinations
+  pub reduced : Everywhere NoInlinableBind plan
+  pub no_closed : Everywhere NoFoldIsClosed plan
 
 -- no tile was fetched
 abbrev pub FetchesNone : ServerView → ServerView → Type 0

@@ -1,10 +1,9 @@
 -- Which requests are refused for want of room: an insertion or an update, where fewer blocks are free than those of its
 -- new tiles and those that the metadata of the state after it takes. A block is free that no index lists, and nothing
 -- that is held for jobs.
-use Rattle.std.specs.Prelude.{◌≡◌, ℕ, ◌+◌, ◌<◌, ℤ, List, [], ◌∷◌, ◌++◌, map, length, replicate, slice_get, IsSomeAnd}
+use Rattle.std.specs.Prelude.{ℕ, ◌<◌, ℤ, List, [], ◌∷◌, ◌++◌, map, length, replicate, IsSomeAnd}
 use Rattle.arr_core.specs.declared.domain.Axis.{Axis}
 use Rattle.arr_core.specs.declared.cell.FieldType.{FieldType}
-use Rattle.arr_core.specs.declared.field.Field.{Field}
 use Rattle.arr_core.specs.declared.signature.Signature.{Signature}
 use Rattle.arr_core.specs.Cells.{stored}
 use Rattle.arr_core.specs.Domains.{count, points}
@@ -12,10 +11,9 @@ use Rattle.arr_core.specs.Stores.{Coverage, Store, found, value_at}
 use Rattle.arr_core.specs.Tiles.{tile_box}
 use Rattle.arr_core.specs.Fields.{field_place}
 use Rattle.catalogue.specs.Bytes.{catalogue_bytes}
-use Rattle.tile_index.specs.Bytes.{index_bytes}
-use Rattle.tile_store.specs.Room.{AreMeeting, patched_at, tile_blocks, room_for}
-use Rattle.raster_store.specs.Views.{Index, metadata_size, reserve}
-use Rattle.raster_store.specs.Calls.{index_of, indexes_with}
+use Rattle.tile_store.specs.Room.{patched_at, tile_blocks}
+use Rattle.raster_store.specs.Views.{reserve}
+use Rattle.raster_store.specs.Calls.{LacksBlocks, indexes_with}
 use Rattle.kvp_front.specs.Contents.{Cells, fill, values}
 use Rattle.kvp_front.specs.Requests.{Asks, insert_coverage, update_coverage, delete_coverage, list_coverages, describe_coverage, process_coverages, submit_query, step_job, fetch_job, cancel_job, expand_template, process_template}
 use Rattle.coverage_server.specs.Machine.{axes_of}
@@ -42,21 +40,11 @@ abbrev pub blocks_put : Coverage → ℕ → FieldType → List Axis → List �
 blocks_put c field kind box numbers tile =
     tile_blocks kind (map (patched_at box numbers (value_at c field)) (points (tile_box c.domain tile)))
 
--- the new tiles of a box, its field's index after them, and other metadata of `rest` bytes take more blocks than are
--- free
-abbrev pub LacksBlocks : Coverage → ℕ → Field → Index → List Axis → List ℤ → ℕ → Layout → Type 0
-LacksBlocks c field f index box numbers rest l =
-    (tiles : List ℕ) × AreMeeting c.domain box tiles
-    × (free_of l < room_for (blocks_put c field f.kind box numbers) index tiles rest)
-
 -- the new tiles of a box and the metadata take more blocks than are free
 abbrev pub LacksRoomToWrite : List ℕ → ℕ → List Axis → Cells → Store → Layout → Type 0
 LacksRoomToWrite name field box cells store l =
-    IsSomeAnd (found name store) (λ c. IsSomeAnd (slice_get c.fields field) (λ (f : Field).
-    IsSomeAnd (index_of name field store l.indexes) (λ i.
-    (rest : ℕ)
-    × (rest + length (index_bytes i) ≡ metadata_size (length (catalogue_bytes (signatures_of store))) l.indexes)
-    × LacksBlocks c field f i box (numbers_of box cells) rest l)))
+    LacksBlocks (λ c f i. blocks_put c field f.kind box (numbers_of box cells)) name field box
+    (length (catalogue_bytes (signatures_of store))) (free_of l) store l.indexes
 
 -- the same of the field with a name
 abbrev pub LacksRoomToUpdate : List ℕ → List ℕ → List Interval → Cells → Store → Layout → Type 0

@@ -6,7 +6,7 @@ use Rattle.arr_core.specs.declared.refusal.Refusal.{Refusal}
 use Rattle.stream_face.specs.Faults.{AppendsPrefix, fault_told}
 use Rattle.stream_face.specs.Views.{SourceView, SinkView}
 use Rattle.stream_face.specs.Waiting.{IsFlushed}
-use Rattle.http_front.specs.Stream.{Item, at_end, at_fault, Messages, Begins, Shows}
+use Rattle.http_front.specs.Stream.{HasNoMessage, Item, Messages, Begins, Taken, Shows}
 use Rattle.http_front.specs.declared.conn.Next.{Next}
 use Rattle.http_front.specs.declared.reply.Reply.{Reply}
 use Rattle.coverage_server.specs.Represents.{Refines}
@@ -34,12 +34,14 @@ TellsEnd e Finished = (e.source_after.failed ≡ e.source.failed) × (e.sink_aft
 TellsEnd e ReadFault = (e.source_after.failed ≡ fault_told e.source.failed) × (e.sink_after.failed ≡ e.sink.failed)
 TellsEnd e WriteFault = (e.source_after.failed ≡ e.source.failed) × (e.sink_after.failed ≡ fault_told e.sink.failed)
 
--- Which messages of the reader's bytes were asked: all of the stream; those that had come whole before a read failed; the
--- first ones, up to the one whose reply was not written. The reader has told all its bytes where these are known.
+-- Which messages of the reader's bytes were asked: all of the stream; those that had come whole before a read failed, none
+-- of which ended the connection; the first ones, up to the one whose reply was not written. The reader has told all its bytes
+-- where these are known.
 abbrev pub AreAsked : Ends → ConnEnd → List ℕ → List Item → Type 0
-AreAsked e Finished bytes items = IfSome e.source.remaining (λ all. bytes ≡ all) × Messages at_end 0 bytes items
+AreAsked e Finished bytes items = IfSome e.source.remaining (λ all. bytes ≡ all) × Messages 0 bytes items
 AreAsked e ReadFault bytes items =
-    Consumes e.source.remaining e.source_after.remaining bytes × Messages at_fault 0 bytes items
+    Consumes e.source.remaining e.source_after.remaining bytes
+    × (rest : List ℕ) × Taken 0 bytes items rest × HasNoMessage rest
 AreAsked e WriteFault bytes items = IfSome e.source.remaining (λ all. bytes ≡ all) × Begins 0 bytes items
 
 -- these replies went out, and none of their bytes waits, if none waited before

@@ -36,9 +36,8 @@ fn tokens_of(alloc: Global, text: &str) -> Result<Vec<Token<'_>>, AnswerError>
 {
     match lex(alloc, text) {
         Ok(tokens) => Ok(tokens),
-        Err(LexError::BadToken) => Err(AnswerError::Named(Refusal::BadToken)),
-        Err(LexError::NumberTooLarge) => Err(AnswerError::Named(Refusal::NumberTooLarge)),
         Err(LexError::NoMemory) => Err(AnswerError::NoMemory),
+        Err(error) => Err(AnswerError::Named(error.refusal())),
     }
 }
 
@@ -48,9 +47,8 @@ fn query_of(alloc: Global, tokens: &[Token]) -> Result<Query, AnswerError>
 {
     match parse(alloc, tokens) {
         Ok(query) => Ok(query),
-        Err(ParseError::BadSyntax) => Err(AnswerError::Named(Refusal::BadSyntax)),
-        Err(ParseError::TooDeep) => Err(AnswerError::Named(Refusal::TooDeep)),
         Err(ParseError::NoMemory) => Err(AnswerError::NoMemory),
+        Err(error) => Err(AnswerError::Named(error.refusal())),
     }
 }
 

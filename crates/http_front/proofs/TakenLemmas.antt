@@ -8,7 +8,7 @@ use Rattle.arr_core.specs.declared.refusal.Refusal.{Refusal}
 use Rattle.http_front.specs.declared.conn.Next.{Next}
 use Rattle.http_front.specs.declared.conn.Next.TheVariants.{Message, Refused, Ended, ReadFault}
 use Rattle.http_front.specs.Head.{framing, is_last}
-use Rattle.http_front.specs.Stream.{ReadsHead, HasNoMessage, IsBareAt, Item, bad_head, Frames, Whole, Stop, at_end, Broken, Messages, Begins, Taken, Fronts, Finds, FindsItem}
+use Rattle.http_front.specs.Stream.{ReadsHead, HasNoMessage, IsBareAt, Item, bad_head, Frames, Whole, Broken, Messages, Begins, Taken, Fronts, Finds, FindsItem}
 
 -- a head stays the same head, whatever follows
 pub ReadsHead-append : {bytes rest : List ℕ} {h : _} → ReadsHead bytes h rest → (more : List ℕ) → ReadsHead (bytes ++ more) h (rest ++ more)
@@ -54,13 +54,13 @@ closed_match : (b : Bool) (P Q : Type 0) → b ≡ true → P → MatchBool b P 
 closed_match true P Q e p = p
 closed_match false P Q e p = absurd cc
 
-pub Messages-after : (stop : Stop) (n m : ℕ) (bytes : List ℕ) (items last : List Item) (rest : List ℕ) → m ≡ n + length items
-    → Taken n bytes items rest → Messages stop m rest last → Messages stop n bytes (items ++ last)
-Messages-after stop n m bytes [] last rest e x y =
+pub Messages-after : (n m : ℕ) (bytes : List ℕ) (items last : List Item) (rest : List ℕ) → m ≡ n + length items
+    → Taken n bytes items rest → Messages m rest last → Messages n bytes (items ++ last)
+Messages-after n m bytes [] last rest e x y =
     let here : m ≡ n = omega (arith, e) in
-    subst (λ k. Messages stop k bytes last) here (subst (λ (l : List ℕ). Messages stop m l last) (sym x) y)
-Messages-after stop n m bytes (item ∷ items) last rest e x y =
-    inr (x.0, x.1, open_match item.last _ _ x.2 (Messages-after stop (n + 1) m x.0 items last rest (omega (arith, e)) x.3 y))
+    subst (λ k. Messages k bytes last) here (subst (λ (l : List ℕ). Messages m l last) (sym x) y)
+Messages-after n m bytes (item ∷ items) last rest e x y =
+    inr (x.0, x.1, open_match item.last _ _ x.2 (Messages-after (n + 1) m x.0 items last rest (omega (arith, e)) x.3 y))
 
 pub Begins-after : (n m : ℕ) (bytes : List ℕ) (items last : List Item) (rest : List ℕ) → m ≡ n + length items
     → Taken n bytes items rest → Begins m rest last → Begins n bytes (items ++ last)
@@ -90,7 +90,7 @@ nonempty_append (x ∷ a) b ne e = cc
 
 -- an item at the front is one of the whole stream
 pub broken_or_whole : (n : ℕ) (known left : List ℕ) (future : Option (List ℕ)) (item : Item) → Fronts n known left future item
-    → Broken at_end (known ++ rest_of future) (item ∷ []) ⊎ Whole n (known ++ rest_of future) item (left ++ rest_of future)
+    → Broken (known ++ rest_of future) (item ∷ []) ⊎ Whole n (known ++ rest_of future) item (left ++ rest_of future)
 broken_or_whole n known left future item (inl whole) = inr (Whole-append whole (rest_of future))
 broken_or_whole n known left future item (inr (inl (is, ne, never))) =
     let shown : item.bare ≡ false = ap (λ (i : Item). i.bare) is in
@@ -112,7 +112,7 @@ broken_or_whole n known left future item (inr (inr (is, ne, end, none, bare))) =
     )
 
 pub last_message : (n : ℕ) (known left : List ℕ) (future : Option (List ℕ)) (item : Item) → Fronts n known left future item
-    → item.last ≡ true → Messages at_end n (known ++ rest_of future) (item ∷ [])
+    → item.last ≡ true → Messages n (known ++ rest_of future) (item ∷ [])
 last_message n known left future item x closed =
     elim (broken_or_whole n known left future item x) [
       | inl broken ↦ inl broken

@@ -62,31 +62,24 @@ pub record Whole (n : ℕ) (bytes : List ℕ) (item : Item) (rest : List ℕ) : 
 abbrev pub HasNoMessage : List ℕ → Type 0
 HasNoMessage bytes = (n : ℕ) (item : Item) (rest : List ℕ) → ¬ (Whole n bytes item rest)
 
--- how a stream of bytes stops
-pub data Stop : Type 0 where
-  at_end at_fault : Stop
-
--- What a stream that stops so asks at a front with no whole message: at its end one refusal, unless nothing is left;
--- at a fault nothing, but a refusal may stand where no head can come of it.
-abbrev pub Broken : Stop → List ℕ → List Item → Type 0
-Broken at_end bytes [] = bytes ≡ []
-Broken at_end bytes (item ∷ items) =
+-- what the end of a stream asks with no whole message before it: one refusal, unless nothing is left
+abbrev pub Broken : List ℕ → List Item → Type 0
+Broken bytes [] = bytes ≡ []
+Broken bytes (item ∷ items) =
     HasNoMessage bytes × (bytes ≢ []) × IsBareAt bytes item.bare × (item ≡ bad_head item.bare) × (items ≡ [])
-Broken at_fault bytes [] = HasNoMessage bytes
-Broken at_fault bytes (item ∷ items) = NeverHasHead bytes × (item ≡ bad_head false) × (items ≡ [])
 
--- the messages of a stream that stops so, from this number on
-abbrev pub Messages : Stop → ℕ → List ℕ → List Item → Type 0
-Messages stop n bytes [] = Broken stop bytes []
-Messages stop n bytes (item ∷ items) =
-    Broken stop bytes (item ∷ items)
-    ⊎ ((rest : List ℕ) × Whole n bytes item rest × MatchBool item.last (items ≡ []) (Messages stop (n + 1) rest items))
+-- the messages of a stream, from this number on
+abbrev pub Messages : ℕ → List ℕ → List Item → Type 0
+Messages n bytes [] = Broken bytes []
+Messages n bytes (item ∷ items) =
+    Broken bytes (item ∷ items)
+    ⊎ ((rest : List ℕ) × Whole n bytes item rest × MatchBool item.last (items ≡ []) (Messages (n + 1) rest items))
 
 -- the first messages of a stream
 abbrev pub Begins : ℕ → List ℕ → List Item → Type 0
 Begins n bytes [] = ⊤
 Begins n bytes (item ∷ items) =
-    Broken at_end bytes (item ∷ items)
+    Broken bytes (item ∷ items)
     ⊎ ((rest : List ℕ) × Whole n bytes item rest × MatchBool item.last (items ≡ []) (Begins (n + 1) rest items))
 
 -- The bytes begin with these messages, none of them the last, and then comes the rest.

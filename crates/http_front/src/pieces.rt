@@ -97,6 +97,7 @@ impl Read for PieceReader<'_> {
         ensures fails { FailsToRead self.old → IsErr result }
         ensures kind { IfErr result (λ e. error_kind e ≡ self.old.kind) }
         ensures cut { IfOk result (λ n. self.new.cut ≡ self.old.cut - n) }
+        ensures refused { OnErr result (self.new.cut ≡ self.old.cut) }
         ensures same { (self.new.step ≡ self.old.step) × (self.new.breaks ≡ self.old.breaks) × (self.new.kind ≡ self.old.kind) }
         ensures due { self.new.due ≡ self.old.due - 1 }
     {
@@ -226,11 +227,12 @@ impl Write for PieceWriter {
 
     /// Fails where its turn has come.
     fn flush(&mut self) -> io::Result<()>
-        ensures bytes { self.new.text ≡ self.old.text }
         ensures fails { self.old.due ≡ 1 → IsErr result }
         ensures kind { self.old.due ≡ 1 → IfErr result (λ e. error_kind e ≡ self.old.kind) }
         ensures works { self.old.due ≢ 1 → IsOk result × (self.new.flushed ≡ length self.old.text) }
         ensures due { self.new.due ≡ self.old.due - 1 }
+        ensures refused { OnErr result (self.new.flushed ≡ self.old.flushed) }
+        ensures same { self.new ≡ record self.old { flushed = self.new.flushed; due = self.new.due } }
     {
         let kind = self.kind;
         if self.is_due() {

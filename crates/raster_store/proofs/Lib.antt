@@ -8,7 +8,7 @@ mod Tiles
 mod Written
 mod Cells
 pub mod Snapshots
-mod Picked
+mod Copied
 mod ReadFor
 pub mod Versions
 pub mod Stored

@@ -21,7 +21,7 @@ use Rattle.raster_store.specs.Views.{Index, coverage_in, listed_fields, listed_a
 use Rattle.raster_store.specs.Fetches.{IsDecoded, ArePickedIn, AreTileCells, HasTile, HasRanks, IsSpelledAt, HasTileCount}
 use Rattle.raster_store.specs.Decoded.{Known, Kept, nothing, IsKept, NoneAdded, Adds}
 use Rattle.raster_store.specs.Holding.{coverages_of, indexes_of, IsWhole, IsHeld, Version, told_by, tile_in, IsTileIn, IsTileOf, Renews, AreOf, AddsOf, AreVersions, AreDecoded}
-use Rattle.raster_store.specs.Picking.{IsPicked}
+use Rattle.raster_store.specs.Copying.{IsCopyOf}
 use Rattle.raster_store.proofs.Contents.{KeepsFields, KeepsAll, values_as, named_within, apart_none, apart_push}
 use Rattle.raster_store.proofs.Readings.{some_weaker, placed, place_within}
 use Rattle.raster_store.proofs.Totals.{sums, field_parts, all_parts, listed_none, listed_all-nil, listed_all-cons}
@@ -162,7 +162,7 @@ versions_push s table next following kept held h known is a =
 told_as : (h g : Held) → h.signature ≡ g.signature → h.fields.items ≡ g.fields.items → told_by h ≡ told_by g
 told_as h g signature fields = rw (signature, fields) refl
 
-versions_picked : (s : BlocksState) (table : ℕ → Version) (next : ℕ) (kept : Kept) (held copies : List Held) → All (IsPicked held) copies → AreVersions s table next kept held → AreVersions s table next kept copies
+versions_picked : (s : BlocksState) (table : ℕ → Version) (next : ℕ) (kept : Kept) (held copies : List Held) → All (IsCopyOf held) copies → AreVersions s table next kept held → AreVersions s table next kept copies
 versions_picked s table next kept held copies from a = record {
   like = λ n i d lt e.
       let h = get_or copies i d in
@@ -182,7 +182,7 @@ versions_picked s table next kept held copies from a = record {
       subst (λ (v : Version). IsTileIn s v key cells) (sym (told_as h p.from p.signature p.fields)) (there (sym p.version ∙ e));
 }
   where
-    within : (h : Held) (p : IsPicked held h) → p.named.0 < length held
+    within : (h : Held) (p : IsCopyOf held h) → p.named.0 < length held
     within h p = named_within h.signature.name held p.named.0 p.named.1
 
 -- ---- all that is kept of a store, and of what is held of it for jobs
@@ -298,7 +298,7 @@ decoded_written s s' next following kept held xs i h is honest keeps jobs a = re
 pub decoded_removed : (s : BlocksState) (next : ℕ) (kept : Kept) (held : List Held) (xs : List Snapshot) (i : ℕ) → AreDecoded s next kept held xs → AreDecoded s next kept (remove held i) xs
 decoded_removed s next kept held xs i a = record { table = a.table; known = a.known; own = versions_remove s a.table next kept held i a.own; jobs = a.jobs }
 
-pub decoded_held : (s : BlocksState) (next : ℕ) (kept : Kept) (held : List Held) (xs : List Snapshot) (x : Snapshot) → All (IsPicked held) x.coverages.items → AreDecoded s next kept held xs → AreDecoded s next kept held (xs ++ x ∷ [])
+pub decoded_held : (s : BlocksState) (next : ℕ) (kept : Kept) (held : List Held) (xs : List Snapshot) (x : Snapshot) → All (IsCopyOf held) x.coverages.items → AreDecoded s next kept held xs → AreDecoded s next kept held (xs ++ x ∷ [])
 decoded_held s next kept held xs x from a = record {
   table = a.table;
   known = a.known;

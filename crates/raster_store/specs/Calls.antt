@@ -69,13 +69,13 @@ abbrev pub filled : List Axis → Cell → List Cell
 filled area cell = replicate (count area) cell
 
 -- a box of a domain, and cells for the field at a place
-abbrev pub MayHold : Signature → ℕ → List Axis → List Cell → Type 0
-MayHold s field area cells = IsBoxOf s.domain area × AreCells area cells (slice_get s.fields field)
+abbrev pub MayHaveCells : Signature → ℕ → List Axis → List Cell → Type 0
+MayHaveCells s field area cells = IsBoxOf s.domain area × AreCells area cells (slice_get s.fields field)
 
 -- a box of the coverage, and cells for the field
 abbrev pub HasNumbers : List ℕ → ℕ → List Axis → List Cell → Store → Type 0
 HasNumbers name field area cells coverages =
-    IsSomeAnd (found name coverages) (λ c. MayHold (signature_of c) field area cells)
+    IsSomeAnd (found name coverages) (λ c. MayHaveCells (signature_of c) field area cells)
 
 -- which refusal comes: first for the box, then for the number of cells, then for their types, and then for the device
 abbrev pub RefusesCells : Signature → ℕ → List Axis → List Cell → WriteFault → Type 0
@@ -84,7 +84,7 @@ RefusesCells s field area cells ValueCount = IsBoxOf s.domain area × (¬ (lengt
 RefusesCells s field area cells ValueRange =
     IsBoxOf s.domain area × (length cells ≡ count area)
     × IsSomeAnd (slice_get s.fields field) (λ (f : Field). ¬ (All (Holds f.kind) cells))
-RefusesCells s field area cells (Device fault) = MayHold s field area cells
+RefusesCells s field area cells (Device fault) = MayHaveCells s field area cells
 
 -- the index of a field of the coverage with a name
 abbrev pub index_of : List ℕ → ℕ → Store → List (List Index) → Option Index
@@ -110,16 +110,17 @@ abbrev pub blocks_with : Coverage → Field → Index → List ℕ → List Axis
 blocks_with c f index content area numbers tile =
     tile_blocks f.kind (cells_after f.kind c.domain index content area numbers tile)
 
--- Fewer blocks are free than the new tiles of a box of a field and an index and other metadata of `rest` bytes need.
-abbrev pub LacksBlocks : Coverage → Field → Index → List Axis → List ℤ → ℕ → BlocksState → Type 0
-LacksBlocks c f index area numbers rest s =
-    (tiles : List ℕ) × AreMeeting c.domain area tiles
-    × (free_of s < room_for (blocks_with c f index s.content area numbers) index tiles rest)
-
--- Fewer blocks are free than the new tiles of a box and the metadata after it need.
-abbrev pub LacksRoomFor : List ℕ → ℕ → List Axis → List ℤ → ℕ → BlocksState → Store → List (List Index) → Type 0
-LacksRoomFor name field area numbers catalogue s coverages indexes =
+-- Fewer blocks are free than the new tiles of a box and the metadata after it need, which are the field's index and other
+-- metadata of `rest` bytes; `blocks` says how many a new tile of a field takes.
+abbrev pub LacksBlocks : (Coverage → Field → Index → ℕ → ℕ) → List ℕ → ℕ → List Axis → ℕ → ℕ → Store → List (List Index)
+    → Type 0
+LacksBlocks blocks name field area catalogue free coverages indexes =
     IsSomeAnd (found name coverages) (λ c. IsSomeAnd (slice_get c.fields field) (λ (f : Field).
     IsSomeAnd (index_of name field coverages indexes) (λ i.
     (rest : ℕ) × (rest + length (index_bytes i) ≡ metadata_size catalogue indexes)
-    × LacksBlocks c f i area numbers rest s)))
+    × ((tiles : List ℕ) × AreMeeting c.domain area tiles × (free < room_for (blocks c f i) i tiles rest)))))
+
+-- so it is where these numbers are put into the box
+abbrev pub LacksRoomFor : List ℕ → ℕ → List Axis → List ℤ → ℕ → BlocksState → Store → List (List Index) → Type 0
+LacksRoomFor name field area numbers catalogue s coverages indexes =
+    LacksBlocks (λ c f i. blocks_with c f i s.content area numbers) name field area catalogue (free_of s) coverages indexes

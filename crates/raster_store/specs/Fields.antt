@@ -15,7 +15,7 @@ use Rattle.tile_store.specs.Numbers.{AreNumbers, numbers_in}
 use Rattle.raster_store.specs.declared.held.Held.{Held}
 use Rattle.raster_store.specs.declared.writing.Cells.{Cells}
 use Rattle.raster_store.specs.declared.writing.Cells.TheVariants as written
-use Rattle.raster_store.specs.Calls.{MayHold, filled}
+use Rattle.raster_store.specs.Calls.{MayHaveCells, filled}
 use Rattle.tile_index.specs.Bytes.{index_bytes}
 use Rattle.tile_store.specs.declared.fault.Fault.{Fault}
 use Rattle.tile_store.specs.Faults.{Refuses}
@@ -60,7 +60,7 @@ RefusesPutCells state name field area cells catalogue v fault =
 -- the field at a place may have cells in a box, and these numbers are what they are stored as
 abbrev pub AreStored : Signature → ℕ → List Axis → List Cell → Numbers → Type 0
 AreStored s field area cells numbers =
-    MayHold s field area cells
+    MayHaveCells s field area cells
     × IsSomeAnd (slice_get s.fields field) (λ (f : Field). AreNumbers f.kind area numbers)
     × (numbers_in area numbers ≡ map stored cells)
 

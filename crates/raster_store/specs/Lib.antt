@@ -7,5 +7,5 @@ pub mod Fields
 pub mod Fetches
 pub mod Decoded
 pub mod Snapshots
-pub mod Picking
+pub mod Copying
 pub mod Fetching

@@ -39,13 +39,13 @@ abbrev pub AreNames : List (List ℕ) → Store → Type 0
 AreNames names coverages = All (λ (n : List ℕ). found n coverages ≡ None → ⊥) names
 
 -- these are coverages of a store, with the indexes that they have there
-abbrev pub ArePicked : Store → List (List Index) → Store → List (List Index) → Type 0
-ArePicked coverages indexes [] [] = Unit {0}
-ArePicked coverages indexes (c ∷ picked) (i ∷ chosen) =
+abbrev pub AreCopied : Store → List (List Index) → Store → List (List Index) → Type 0
+AreCopied coverages indexes [] [] = Unit {0}
+AreCopied coverages indexes (c ∷ copies) (i ∷ chosen) =
     ((place : ℕ) × (slice_get coverages place ≡ Some c) × (slice_get indexes place ≡ Some i))
-    × ArePicked coverages indexes picked chosen
-ArePicked coverages indexes [] (i ∷ chosen) = ⊥
-ArePicked coverages indexes (c ∷ picked) [] = ⊥
+    × AreCopied coverages indexes copies chosen
+AreCopied coverages indexes [] (i ∷ chosen) = ⊥
+AreCopied coverages indexes (c ∷ copies) [] = ⊥
 
 -- names, each at its first place alone
 unfoldable pub distinct : List (List ℕ) → List (List ℕ)
@@ -56,7 +56,7 @@ distinct (n ∷ names) = n ∷ filter (λ (m : List ℕ). not (bytes_eq m n)) (d
 pub record IsSnapshot (names : List (List ℕ)) (coverages : Store) (indexes : List (List Index)) (x : SnapshotView)
     : Type 0 where
   pub named : All (λ (n : List ℕ). found n x.coverages ≡ found n coverages) names
-  pub picked : ArePicked coverages indexes x.coverages x.indexes
+  pub copied : AreCopied coverages indexes x.coverages x.indexes
   pub once : map (λ (c : Coverage). c.name) x.coverages ≡ distinct names
 
 -- every listed tile of what is held spells its cells

@@ -6,7 +6,7 @@ ghost use Rattle.block_file.specs.Words.{Recounts, Covers};
 ghost use Rattle.raster_store.specs.declared.snapshot.Snapshot.{Snapshot};
 ghost use Rattle.raster_store.specs.Views.{listed_fields, listed_all};
 ghost use Rattle.raster_store.specs.Holding.{indexes_of, coverages_for, AreApart, NoneNamed, NoneHeld, IsHeldAt};
-ghost use Rattle.raster_store.specs.Picking.{ArePickedFrom, AddsCopy};
+ghost use Rattle.raster_store.specs.Copying.{AreCopiesOf, AddsCopy};
 
 use crate::held::{Held, named, place_of};
 use arr_core::Name;
@@ -81,7 +81,7 @@ pub(crate) fn copies_of(
 ) -> Result<Vec<Held>, AllocError>
     requires apart { AreApart held.now }
     requires names { All (λ n. NoneNamed n held.now → ⊥) names.now }
-    ensures { IfOk result (λ copies. ArePickedFrom held.now names.now copies.items) }
+    ensures { IfOk result (λ copies. AreCopiesOf held.now names.now copies.items) }
 {
     let mut copies = Vec::new(alloc);
     for name in names {

@@ -1,8 +1,8 @@
 //! Sockets: connections at a port of this machine, one after the other, over one store.
 
-use crate::lines::{say, tell};
+use crate::lines::say;
 use crate::resumed::Resumed;
-use crate::session::{CLOSED, NOT_CLOSED, NOT_OPENED};
+use crate::session::{CLOSED, not_closed, not_opened};
 use arr_core::Refusal;
 use coverage_server::Server;
 use disk_face::{Disk, FileDisk, MemDisk};
@@ -42,10 +42,7 @@ fn serve_listener<D: Disk + Drop, E: Sink>(
 ) -> u8 {
     let mut server = match Server::open(alloc, disk) {
         Ok(server) => server,
-        Err(refused) => {
-            tell(errors, "not opened", refused.fault.refusal());
-            return NOT_OPENED;
-        }
+        Err(refused) => return not_opened(errors, refused.fault.refusal()),
     };
     for _connection in 0..count {
         match listener.accept() {
@@ -56,9 +53,9 @@ fn serve_listener<D: Disk + Drop, E: Sink>(
     match server.close_with_retry() {
         Ok(_disk) => CLOSED,
         Err(refused) => {
-            tell(errors, "not closed", refused.fault.refusal());
+            let status = not_closed(errors, refused.fault.refusal());
             drop(refused);
-            NOT_CLOSED
+            status
         }
     }
 }
@@ -77,9 +74,6 @@ pub fn listen<E: Sink>(rt: &HostRuntime, file: &str, port: u16, count: u32, erro
     }
     match FileDisk::open(rt, file) {
         Ok(disk) => serve_listener(alloc, disk, &listener, count, errors),
-        Err(_) => {
-            tell(errors, "not opened", Refusal::DiskFault);
-            NOT_OPENED
-        }
+        Err(_) => not_opened(errors, Refusal::DiskFault),
     }
 }

@@ -12,10 +12,10 @@ mod words;
 use arr_core::Refusal;
 use commands::Command;
 use disk_face::{FileDisk, MemDisk};
-use lines::{say, tell};
+use lines::say;
 use listening::listen;
 use resumed::Resumed;
-use session::{NOT_OPENED, session_status};
+use session::{not_opened, session_status};
 use std::env;
 use std::process::ExitCode;
 use stream_face::{Sink, Source};
@@ -43,10 +43,7 @@ fn serve_file<R: Source, W: Sink, E: Sink>(
     }
     match FileDisk::open(rt, file) {
         Ok(disk) => session_status(alloc, disk, connection, errors).0,
-        Err(_) => {
-            tell(errors, "not opened", Refusal::DiskFault);
-            NOT_OPENED
-        }
+        Err(_) => not_opened(errors, Refusal::DiskFault),
     }
 }
 
@@ -86,8 +83,7 @@ fn main(rt: HostRuntime) -> ExitCode {
     let _null_streams = null_streams(&rt);
     let mut errors = Resumed::new(rt.stderr());
     let Some(words) = words_of(&rt) else {
-        tell(&mut errors, "not opened", Refusal::NoMemory);
-        return ExitCode::from(NOT_OPENED);
+        return ExitCode::from(not_opened(&mut errors, Refusal::NoMemory));
     };
     let mut connection = [(Resumed::new(rt.stdin().lock()), Resumed::new(rt.stdout()))];
     ExitCode::from(run(&rt, &words, &mut connection, &mut errors))

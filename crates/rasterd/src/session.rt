@@ -1,9 +1,11 @@
 //! One session of the program, with its status.
-ghost use Rattle.std.specs.Prelude.{◌≡◌, IsSomeAnd};
+ghost use Rattle.std.specs.Prelude.{◌≡◌, IsSomeAnd, codes};
 ghost use Rattle.coverage_server.specs.Sessions.{StaysHonest, ends_all};
+ghost use Rattle.rasterd.specs.Lines.{Says, fault_line};
 ghost use Rattle.rasterd.specs.Sessions.{EndsAs};
 
 use crate::lines::tell;
+use arr_core::Refusal;
 use coverage_server::{SessionFault, serve_session};
 use disk_face::Disk;
 use std::alloc::Global;
@@ -13,10 +15,28 @@ use stream_face::{Sink, Source};
 pub const CLOSED: u8 = 0;
 
 /// The status where the store was not opened.
-pub const NOT_OPENED: u8 = 3;
+const NOT_OPENED: u8 = 3;
 
 /// The status where the store was not closed.
-pub const NOT_CLOSED: u8 = 4;
+const NOT_CLOSED: u8 = 4;
+
+/// Says on a line why a store was not opened. Gives the status of that.
+pub fn not_opened<E: Sink>(errors: &mut E, refusal: Refusal) -> u8
+    ensures status { result ≡ 3 }
+    ensures says { Says (E.view errors.old) (E.view errors.new) (fault_line (codes "not opened") refusal) }
+{
+    tell(errors, "not opened", refusal);
+    NOT_OPENED
+}
+
+/// Says on a line why a store was not closed. Gives the status of that.
+pub fn not_closed<E: Sink>(errors: &mut E, refusal: Refusal) -> u8
+    ensures status { result ≡ 4 }
+    ensures says { Says (E.view errors.old) (E.view errors.new) (fault_line (codes "not closed") refusal) }
+{
+    tell(errors, "not closed", refusal);
+    NOT_CLOSED
+}
 
 /// Opens the store that a disk holds, serves one connection, its reader and its writer, and closes the store. Gives the
 /// status of the program, and the disk where it came back: `CLOSED`; or `NOT_OPENED`, where the reader and the writer are
@@ -35,13 +55,13 @@ pub fn session_status<D: Disk + Drop, R: Source, W: Sink, E: Sink>(
     match serve_session(alloc, disk, streams) {
         Ok(disk) => (CLOSED, Some(disk)),
         Err(SessionFault::NotOpened(disk, fault)) => {
-            tell(errors, "not opened", fault.refusal());
-            (NOT_OPENED, Some(disk))
+            let status = not_opened(errors, fault.refusal());
+            (status, Some(disk))
         }
         Err(SessionFault::NotClosed(server, fault)) => {
-            tell(errors, "not closed", fault.refusal());
+            let status = not_closed(errors, fault.refusal());
             drop(server);
-            (NOT_CLOSED, None)
+            (status, None)
         }
     }
 }

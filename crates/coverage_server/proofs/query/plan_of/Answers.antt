@@ -9,4 +9,6 @@ returns c = record {
   planned = λ s. c.in_ok-plan.ensures.planned c.in_ok-lowered.ensures.placed s ∙ c.in_ok-lowered.ensures.planned s;
   units = omega (arith, c.in_ok-plan.ensures.units, c.in_ok-lowered.ensures.units);
   some = c.requires;
+  reduced = c.in_ok-plan.ensures.reduced;
+  no_closed = c.in_ok-plan.ensures.open;
 }

@@ -1,16 +1,15 @@
 -- The tokens spell the query within the limits, and a refusal of their syntax or depth is so over each store.
+use Rattle.std.proofs.Common.{◌≢◌, rules}
 use Rattle.wcps_text.specs.Token.{toks}
-use Rattle.coverage_server.specs.Asking.{no_query}
-use Rattle.coverage_server.proofs.AskingLemmas.{refused_depth}
+use Rattle.wcps_parse.specs.declared.error.ParseError.TheVariants.{NoMemory}
+use Rattle.coverage_server.proofs.AskingLemmas.{refused_tokens}
 use Rattle.coverage_server.proofs.query.query_of.Goals as goal
 
 pub returns-in-Ok : goal.returns-in-Ok
 returns-in-Ok c = (c.in-Ok.ensures.within, c.in-Ok.ensures.spelled, c.in-Ok.ensures.low)
 
-pub returns-in-Err-BadSyntax : goal.returns-in-Err-BadSyntax
-returns-in-Err-BadSyntax c =
-    λ store. no_query (c.in-Err-BadSyntax.ensures.syntax c.in-Err-BadSyntax.field-0-is) (c.in-Err-BadSyntax.ensures.no_query c.in-Err-BadSyntax.field-0-is)
-
-pub returns-in-Err-TooDeep : goal.returns-in-Err-TooDeep
-returns-in-Err-TooDeep c =
-    λ store. refused_depth store (toks c.args.tokens.now) (c.in-Err-TooDeep.ensures.deep c.in-Err-TooDeep.field-0-is)
+pub returns-in-Err : goal.returns-in-Err
+returns-in-Err c =
+    let e = c.in-Err.ensures in
+    let other : c.in-Err.error ≢ NoMemory = search rules in
+    λ store. rw c.refusal.ensures (refused_tokens store (toks c.args.tokens.now) c.in-Err.error other e.syntax e.no_query e.deep)

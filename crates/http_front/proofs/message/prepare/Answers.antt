@@ -1,5 +1,5 @@
 -- Where no memory is found, or no body is kept, want of memory is told.
-use Rattle.std.proofs.Common.{◌≡◌, Ok, refl, sym, subst, inr}
+use Rattle.std.proofs.Common.{refl, sym, subst, inr}
 use Rattle.std.specs.Prelude.{IsOk}
 use Rattle.arr_core.specs.declared.refusal.Refusal.TheVariants.{NoMemory}
 use Rattle.http_front.specs.Head.{asked_at}

@@ -1,11 +1,11 @@
 -- One name after the other has its coverage.
 use Rattle.std.proofs.Common.{ℕ, List, sym, subst}
 use Rattle.raster_store.specs.Holding.{NoneNamed}
-use Rattle.raster_store.proofs.Picked.{picked_none, picked_step}
+use Rattle.raster_store.proofs.Copied.{copied_none, copied_step}
 use Rattle.raster_store.proofs.snapshot.copies_of.Goals as goal
 
 pub loop-name-init : goal.loop-name-init
-loop-name-init c = rw c.new-copies.ensures.items (picked_none c.args.held.now)
+loop-name-init c = rw c.new-copies.ensures.items (copied_none c.args.held.now)
 
 pub add_copy-requires : goal.add_copy-requires
 add_copy-requires c = record {
@@ -15,4 +15,4 @@ add_copy-requires c = record {
 }
 
 pub loop-name-preserved : goal.loop-name-preserved
-loop-name-preserved c = picked_step _ c.args.names.now c.loop-name.name-index c.name-item.result _ _ c.loop-name-test.true c.name-item.is c.loop-name.invariant c.in_ok-add_copy.ensures
+loop-name-preserved c = copied_step _ c.args.names.now c.loop-name.name-index c.name-item.result _ _ c.loop-name-test.true c.name-item.is c.loop-name.invariant c.in_ok-add_copy.ensures

@@ -5,7 +5,7 @@ use Rattle.rasterd.proofs.session.session_status.Goals as goal
 
 pub returns-in-Err-NotOpened-clause-end : goal.returns-in-Err-NotOpened-clause-end
 returns-in-Err-NotOpened-clause-end g c =
-    let line = rw c.refusal.ensures at c.tell.ensures in
+    let line = rw c.refusal.ensures at c.not_opened-status.ensures.says in
     record {
       end = Err c.in-Err-NotOpened.field-0;
       session = c.in-Err-NotOpened.ensures.ends;
@@ -16,7 +16,7 @@ returns-in-Err-NotOpened-clause-end g c =
 
 pub returns-in-Err-NotClosed-clause-end : goal.returns-in-Err-NotClosed-clause-end
 returns-in-Err-NotClosed-clause-end g c =
-    let line = rw c.refusal-in-Err-NotClosed.ensures at c.tell-in-Err-NotClosed.ensures in
+    let line = rw c.refusal-in-Err-NotClosed.ensures at c.not_closed-status.ensures.says in
     record {
       end = Err c.in-Err-NotClosed.field-0;
       session = c.in-Err-NotClosed.ensures.ends;
