@@ -13,9 +13,9 @@ import struct
 import subprocess
 import sys
 import tempfile
-import time
 
 from layers import CORNERS, LAYERS, SIDE, cells_of, on_processor
+from served import until
 
 TILE = 64
 FOUND = sorted(glob.glob("/usr/share/postgresql/*/extension/postgis_raster.control"))
@@ -165,11 +165,7 @@ def command(folder, *statements, copied=None):
 
 def load(folder, loops):
     """Makes the tables, once the server is ready."""
-    given_up = time.monotonic() + 60
-    while subprocess.run(["pg_isready", "-q", "-h", folder]).returncode != 0:
-        if time.monotonic() > given_up:
-            sys.exit("PostgreSQL did not start")
-        time.sleep(0.1)
+    until(lambda: subprocess.run(["pg_isready", "-q", "-h", folder]).returncode == 0, "the start of PostgreSQL")
     command(folder, "CREATE EXTENSION postgis", "CREATE EXTENSION postgis_raster")
     for layer in LAYERS:
         cells = cells_of(loops, layer)

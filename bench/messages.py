@@ -18,14 +18,16 @@ import subprocess
 import sys
 import time
 
-from compiled import compiled
-from sockets import free_port
-
+sys.dont_write_bytecode = True
 TOP = os.path.dirname(os.path.dirname(os.path.abspath(__file__)))
+sys.path.append(f"{TOP}/scripts")
+
+from compiled import compiled
+from served import connected, free_port
+
 PROGRAM = f"{TOP}/crates/rasterd/out/rasterd"
 CONNECTIONS = int(sys.argv[1]) if len(sys.argv) > 1 else 2000
 MESSAGES = 500
-LONGEST = 60
 BODY = b"request=ListCoverages"
 REPLY = b"HTTP/1.1 200 OK\r\nContent-Type: text/plain\r\nContent-Length: 0\r\n\r\n"
 # each kind of message, its bytes, and how many of them are its body
@@ -36,23 +38,11 @@ KINDS = [
 
 
 def asked(port, stream):
-    """What a server writes for a connection that sends a stream and then nothing."""
-    with socket.create_connection(("127.0.0.1", port), timeout=LONGEST) as client:
+    """What a server writes, once it listens, for a connection that sends a stream and then nothing."""
+    with connected(port) as client:
         client.sendall(stream)
         client.shutdown(socket.SHUT_WR)
         return b"".join(iter(lambda: client.recv(1 << 16), b""))
-
-
-def first_asked(port, stream):
-    """The same, once the server listens."""
-    given_up = time.monotonic() + LONGEST
-    while True:
-        try:
-            return asked(port, stream)
-        except ConnectionRefusedError:
-            if time.monotonic() > given_up:
-                raise
-            time.sleep(0.01)
 
 
 def served(words, message):
@@ -60,7 +50,7 @@ def served(words, message):
     port = free_port()
     server = subprocess.Popen([str(port) if it is None else it for it in words], stdin=subprocess.DEVNULL)
     try:
-        said = first_asked(port, message * 3)
+        said = asked(port, message * 3)
         if said != REPLY * 3:
             sys.exit(f"another reply than that of the loop: {said!r}")
         begun, length = time.perf_counter(), len(REPLY) * MESSAGES

@@ -18,7 +18,6 @@ import os
 import re
 import shutil
 import signal
-import socket
 import ssl
 import subprocess
 import sys
@@ -27,9 +26,10 @@ import time
 
 sys.dont_write_bytecode = True
 TOP = os.path.dirname(os.path.dirname(os.path.abspath(__file__)))
-sys.path.insert(0, f"{TOP}/clients/python")
+sys.path[:0] = [f"{TOP}/clients/python", f"{TOP}/scripts"]
 
 import rasterd
+from served import LONGEST, connected, free_port, until
 
 PROGRAM = os.environ.get("SERVER", f"{TOP}/crates/rasterd/out/rasterd")
 NGINX = shutil.which("nginx") or "/usr/sbin/nginx"
@@ -39,34 +39,13 @@ LIST = "request=ListCoverages"
 PASSWORD = {"Authorization": "Basic " + base64.b64encode(b"editor:secret").decode()}
 
 
-def free_ports(count):
-    probes = [socket.socket() for _ in range(count)]
-    for probe in probes:
-        probe.bind(("127.0.0.1", 0))
-    ports = [probe.getsockname()[1] for probe in probes]
-    for probe in probes:
-        probe.close()
-    return ports
-
-
-def wait_for(port):
-    end = time.monotonic() + 20
-    while time.monotonic() < end:
-        try:
-            socket.create_connection(("127.0.0.1", port), 1).close()
-            return
-        except OSError:
-            time.sleep(0.05)
-    raise SystemExit(f"nothing listens on {port}")
-
-
 class Site:
     """The servers and nginx, in a folder."""
 
     def __init__(self, folder):
         self.folder = folder
         self.running = []
-        self.writer, self.front, *self.readers = free_ports(6)
+        self.writer, self.front, *self.readers = (free_port() for _ in range(6))
         self.make_certificate()
 
     def make_certificate(self):
@@ -89,7 +68,7 @@ class Site:
                 start_new_session=True,
             )
         )
-        wait_for(port)
+        connected(port, self.running[-1]).close()
 
     def start_nginx(self, readers):
         with open(f"{TOP}/deploy/nginx.conf") as file:
@@ -112,16 +91,16 @@ class Site:
             file.write("daemon off;\nuser root;\n" + text)
         words = [NGINX, "-p", self.folder, "-c", f"{self.folder}/nginx.conf", "-e", f"{self.folder}/error.log"]
         self.nginx = subprocess.Popen(words, start_new_session=True)
-        wait_for(self.front)
+        connected(self.front, self.nginx).close()
 
     def stop_nginx(self):
         self.nginx.terminate()
-        self.nginx.wait(20)
+        self.nginx.wait(LONGEST)
 
     def stop_servers(self):
         for script in self.running:
             os.killpg(script.pid, signal.SIGTERM)
-        ends = [script.wait(60) for script in self.running]
+        ends = [script.wait(LONGEST) for script in self.running]
         self.running = []
         if any(ends):
             raise SystemExit(f"WRONG: deploy/serve ended with {ends}")
@@ -132,7 +111,7 @@ class Site:
         return context
 
     def client(self):
-        return http.client.HTTPSConnection("127.0.0.1", self.front, timeout=60, context=self.tls())
+        return http.client.HTTPSConnection("127.0.0.1", self.front, timeout=LONGEST, context=self.tls())
 
     def session(self, path):
         return rasterd.Session(port=self.front, path=path, tls=self.tls())
@@ -153,13 +132,8 @@ def same(found, wanted):
 
 
 def ask_again(site, *words):
-    """What is answered where the client asks again, up to 200 times, when it is told 502: a run has ended, the next begins."""
-    for _ in range(200):
-        found = site.ask(*words)
-        if found[0] != 502:
-            return found
-        time.sleep(0.02)
-    return found
+    """What is answered where the client asks again when it is told 502: a run has ended, the next begins."""
+    return until(lambda: found if (found := site.ask(*words))[0] != 502 else None, "an answer of a run")
 
 
 def fill(site):
@@ -253,7 +227,7 @@ def main():
             for script in site.running:
                 os.killpg(script.pid, signal.SIGTERM)
         for script in site.running:
-            script.wait(60)
+            script.wait(LONGEST)
     print(
         f"sum of {SIDE} x {SIDE} cells over TLS, 16 clients: {one:.0f} requests a second by one server, {four:.0f} by four, {four / one:.2f} times"
     )

@@ -34,7 +34,7 @@ import by_postgis
 from compiled import compiled
 from layers import FOLDER, PROGRAM, SIDE, STORE, Connection, Session, cells_of, is_made, make_store, message, updates
 from room import FILLER, Filler
-from served import free_port
+from served import connected, free_port
 
 # no more askings of a query once they took so many seconds
 ENOUGH = 20
@@ -233,18 +233,6 @@ def listener(*words):
             client.setsockopt(socket.IPPROTO_TCP, socket.TCP_NODELAY, 1)
             with client.makefile("wb") as messages, client.makefile("rb") as replies:
                 yield Connection(process, messages, replies)
-
-
-def connected(port):
-    """A connection to a server, once it listens."""
-    given_up = time.monotonic() + ENOUGH
-    while True:
-        try:
-            return socket.create_connection(("127.0.0.1", port))
-        except ConnectionRefusedError:
-            if time.monotonic() > given_up:
-                raise
-            time.sleep(0.01)
 
 
 def echo(program, request, body):

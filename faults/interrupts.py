@@ -31,10 +31,7 @@ sys.dont_write_bytecode = True
 import scripts
 import shim
 from failing import content_of, shown_by
-
-sys.path.append(f"{shim.TOP}/scripts")
-
-from served import free_port
+from served import LONGEST, connected, free_port, until
 
 CELLS = 64
 
@@ -56,14 +53,6 @@ def in_pieces(client, chance, data):
             data = data[size:]
             time.sleep(chance.random() * 0.01)
         client.shutdown(socket.SHUT_WR)
-
-
-def connected(port):
-    for _ in range(500):
-        with contextlib.suppress(OSError):
-            return socket.create_connection(("127.0.0.1", port), timeout=60)
-        time.sleep(0.02)
-    sys.exit("no server")
 
 
 def ok(kind, body):
@@ -114,12 +103,12 @@ def stopped(program, folder, connections):
     words = [program, path, "listen", str(port), str(connections + 1)]
     with subprocess.Popen(words, stdin=subprocess.DEVNULL) as server:
         try:
-            with connected(port) as client:
+            with connected(port, server) as client:
                 in_pieces(client, random.Random(0), scripts.insert("w", f"x(0:{CELLS - 1})", "v:u8"))
                 rest(client)
             with stopping(server.pid) as times:
                 cells, lacking, wrong = load(port, random.Random(2), connections)
-            status = server.wait(60)
+            status = server.wait(LONGEST)
         finally:
             server.kill()
     held = shown_by(content_of(path))
@@ -142,7 +131,8 @@ def two(program, made, folder):
     with open(path, "wb") as file:
         file.write(scripts.lai())
     one = shim.Run(program, path, shim.environment(made, "disk", first_write, shim.STOPPED))
-    os.waitid(os.P_PID, one.process.pid, os.WSTOPPED | os.WEXITED | os.WNOWAIT)
+    ways = os.WSTOPPED | os.WEXITED | os.WNOWAIT | os.WNOHANG
+    until(lambda: os.waitid(os.P_PID, one.process.pid, ways), "the stop of a server")
     before = shim.Run(program, path, None).end()
     is_untouched = content_of(path) == scripts.lai()
     one.process.send_signal(signal.SIGCONT)

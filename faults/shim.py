@@ -10,12 +10,15 @@ import sys
 import tempfile
 
 TOP = os.path.dirname(os.path.dirname(os.path.abspath(__file__)))
+sys.path.append(f"{TOP}/scripts")
+
+from served import LONGEST
+
 # what becomes of a call, beside error numbers
 HALF, NOTHING, INVERTED, HALF_THEN_EIO, STOPPED, ONE = range(1001, 1007)
 EIO, ENOSPC, EINTR = errno.EIO, errno.ENOSPC, errno.EINTR
 # more calls than a run makes
 ALL = 10**9
-LONGEST = 120
 
 
 def is_dynamic(program):

@@ -244,13 +244,11 @@ class Different(Exception):
 
 def run(program, path, messages):
     """What the program wrote for messages over a file."""
-    with subprocess.Popen(
-        [program, path, "run"], stdin=subprocess.PIPE, stdout=subprocess.PIPE, stderr=subprocess.PIPE
-    ) as process:
-        out, errors = process.communicate(b"".join(messages), timeout=LIMIT)
-    if process.returncode or errors:
-        raise Different(f"status {process.returncode}, {errors.decode()}", b"".join(messages))
-    return out
+    stream = b"".join(messages)
+    ended = subprocess.run([program, path, "run"], input=stream, capture_output=True, timeout=LIMIT, check=False)
+    if ended.returncode or ended.stderr:
+        raise Different(f"status {ended.returncode}, {ended.stderr.decode()}", stream)
+    return ended.stdout
 
 
 def asked_over(program, path, chance, wide, met):

@@ -20,7 +20,7 @@ sys.dont_write_bytecode = True
 TOP = os.path.dirname(os.path.dirname(os.path.abspath(__file__)))
 
 from check import SAYS, examples
-from served import free_port
+from served import LONGEST, free_port
 
 
 class Timer:
@@ -93,7 +93,7 @@ def main():
             finally:
                 # rt ends what it has started
                 os.killpg(running.pid, signal.SIGINT)
-                running.wait(60)
+                running.wait(LONGEST)
         if "--proved" in sys.argv[1:]:
             proved(text, listed, folder, checkout, timer)
 

@@ -12,11 +12,10 @@ import socket
 import subprocess
 import sys
 import tempfile
-import time
 
 sys.dont_write_bytecode = True
 
-from served import free_port
+from served import LONGEST, connected, free_port
 
 LINES = "GET /ows?request=%s HTTP/1.1\r\n\r\n"
 # inserts a coverage and fills it with 7; asks for its greatest cell
@@ -66,9 +65,8 @@ class Trials:
 
     def ran(self, words, sent=""):
         """The status of a run, what it wrote, and what it said of errors."""
-        done = subprocess.run(
-            [self.program, *words], input=sent.encode(), capture_output=True, cwd=self.folder, timeout=60, check=False
-        )
+        words, given = [self.program, *words], sent.encode()
+        done = subprocess.run(words, input=given, capture_output=True, cwd=self.folder, timeout=LONGEST, check=False)
         return done.returncode, done.stdout.decode(), done.stderr.decode()
 
     def file(self, name, content):
@@ -129,13 +127,14 @@ class Trials:
             [self.program, *words], stdin=subprocess.DEVNULL, stderr=subprocess.PIPE, cwd=self.folder
         ) as server:
             done = 0
-            while done < most and server.poll() is None:
-                time.sleep(0.01)
-                with contextlib.suppress(OSError), socket.create_connection(("127.0.0.1", port), 60) as client:
-                    client.sendall((LINES % "ListCoverages").encode())
-                    client.shutdown(socket.SHUT_WR)
-                    done += client.recv(1 << 16) == (HEAD % ("plain", 0)).encode()
-            return done, server.wait(60), server.stderr.read().decode()
+            try:
+                while done < most and server.poll() is None:
+                    with contextlib.suppress(ConnectionError), connected(port, server) as client:
+                        client.sendall((LINES % "ListCoverages").encode())
+                        done += client.recv(1 << 16) == (HEAD % ("plain", 0)).encode()
+                return done, server.wait(LONGEST), server.stderr.read().decode()
+            finally:
+                server.kill()
 
 
 def main(program):

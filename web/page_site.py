@@ -8,7 +8,6 @@ import socket
 import subprocess
 import sys
 import tempfile
-import time
 
 TOP = os.path.dirname(os.path.dirname(os.path.abspath(__file__)))
 sys.path[:0] = [f"{TOP}/clients/python", f"{TOP}/examples", f"{TOP}/scripts"]
@@ -16,7 +15,7 @@ sys.path[:0] = [f"{TOP}/clients/python", f"{TOP}/examples", f"{TOP}/scripts"]
 import data
 import numpy
 import rasterd
-from served import free_port
+from served import LONGEST, free_port, until
 
 FAR = 2**53 + 1
 
@@ -73,12 +72,14 @@ class Site:
         """As a person stops it; until nothing listens."""
         with contextlib.suppress(ProcessLookupError):
             os.killpg(self.shell.pid, signal.SIGTERM)
-        self.shell.wait(60)
-        end = time.monotonic() + 60
+        self.shell.wait(LONGEST)
+        until(self.is_silent, "the end of the server")
+
+    def is_silent(self):
+        """Whether nothing listens at the server's port."""
         with contextlib.suppress(ConnectionRefusedError):
-            while time.monotonic() < end:
-                socket.create_connection(("127.0.0.1", self.port), 1).close()
-                time.sleep(0.1)
+            return socket.create_connection(("127.0.0.1", self.port), LONGEST).close()
+        return True
 
     def stop(self):
         self.nginx("-s", "stop")

@@ -3,8 +3,8 @@
 
     web/test_page.py PROGRAM [--shots]
 
-The lines below README's heading `Look at it` are run in a copy of the tree, on free ports; the first test measures the time from
-there to a picture of a coverage. With --shots the pictures in web/pictures are made anew. It needs Debian's packages
+The lines below README's heading `Look at it` are run in a copy of the tree, on free ports, and the time from there to a
+picture of a coverage is printed. With --shots the pictures in web/pictures are made anew. It needs Debian's packages
 nginx-light, curl, openssl, chromium, chromium-driver, python3-numpy and python3-gdal, and says so where one is missing.
 """
 
@@ -14,7 +14,6 @@ import os
 import random
 import re
 import shutil
-import socket
 import ssl
 import subprocess
 import sys
@@ -39,20 +38,20 @@ import data
 import looks
 import rasterd
 from page_site import FAR, Site, load
-from served import free_port, served
+from served import LONGEST, connected, free_port, served, until
 from webdriver import Browser
 
 SHOTS = "--shots" in sys.argv
 if SHOTS:
     sys.argv.remove("--shots")
 PROGRAM = os.path.abspath(sys.argv.pop(1)) if len(sys.argv) > 1 else sys.exit(__doc__)
-LONGEST = 60
 WIDE = (1440, 900)
 SHOT = (1280, 800)
 PHONE = (390, 844)
 
-# Scripts for the browser: a place in the answer's picture, the text that is selected, which of some texts are read as queries,
-# a list of what the progress was, and a dot of the first picture.
+# Scripts for the browser: whether the first picture is README's, a place in the answer's picture, the text that is selected,
+# which of some texts are read as queries, a list of what the progress was, and a dot of the first picture.
+PICTURE = "return document.querySelector('#first canvas')?.height == 480"
 CORNER = """
 const it = document.querySelector('#answer canvas');
 it.scrollIntoView();
@@ -75,6 +74,13 @@ return [...context.getImageData(arguments[0], arguments[1], 1, 1).data];
 """
 
 
+def shown(browser, url, script):
+    """What a script soon gives in the page, which is opened again, as a person would; or nothing."""
+    with contextlib.suppress(AssertionError):
+        browser.go(url)
+        return browser.wait(script, seconds=2)
+
+
 class Page(unittest.TestCase):
     @classmethod
     def setUpClass(cls):
@@ -83,22 +89,13 @@ class Page(unittest.TestCase):
         cls.addClassCleanup(cls.browser.close)
         began = time.monotonic()
         cls.url = cls.site.start()
-        cls.until_picture()
-        cls.seconds = time.monotonic() - began
+        try:
+            until(lambda: shown(cls.browser, cls.url, PICTURE), "a picture")
+        except AssertionError as late:
+            with open(f"{cls.site.folder}/log", encoding="utf-8") as file:
+                raise SystemExit(f"{late}: {file.read()}") from late
+        print(f"from README's lines to a picture: {time.monotonic() - began:.1f} s", file=sys.stderr)
         cls.heights, cls.classes = load(cls.site.port)
-
-    @classmethod
-    def until_picture(cls):
-        """Opens the page again until it shows a picture, as a person would."""
-        end = time.monotonic() + LONGEST
-        while time.monotonic() < end:
-            with contextlib.suppress(AssertionError):
-                cls.browser.go(cls.url)
-                cls.browser.wait("return document.querySelector('#first canvas')?.height == 480", seconds=2)
-                return
-            time.sleep(0.2)
-        with open(f"{cls.site.folder}/log", encoding="utf-8") as file:
-            raise SystemExit(f"no picture in {LONGEST} s: {file.read()}")
 
     def setUp(self):
         self.browser.screen(*WIDE)
@@ -137,8 +134,7 @@ class Page(unittest.TestCase):
 
     def told(self):
         return self.browser.wait(
-            "return !document.getElementById('ask').disabled && document.getElementById('told').textContent",
-            seconds=120,
+            "return !document.getElementById('ask').disabled && document.getElementById('told').textContent"
         )
 
     def lines(self, css="#answer table"):
@@ -166,8 +162,8 @@ class Page(unittest.TestCase):
     # The tests
 
     def test_readme_lines_show_a_picture(self):
-        print(f"from README's lines to a picture: {self.seconds:.1f} s", file=sys.stderr)
-        self.assertLess(self.seconds, LONGEST)
+        self.open("relief")
+        self.assertEqual(self.dots()[0], 480)
 
     def test_coverages(self):
         self.open("rain")
@@ -298,7 +294,7 @@ class Page(unittest.TestCase):
                 with self.subTest(coverage=name, example=title):
                     self.browser.run("document.getElementById('text').value = ''")
                     self.browser.choose("#examples", title)
-                    query = self.browser.wait("return document.getElementById('text').value", seconds=60)
+                    query = self.browser.wait("return document.getElementById('text').value")
                     told = self.ask(query)
                     # a sum of numbers near 2^63 leaves 64 bits, and a mean of them too
                     self.assertRegex(told, "^refused 60|^1 item" if name == "far" else "^1 item")
@@ -331,7 +327,7 @@ class Page(unittest.TestCase):
 
     def is_at_hand(self, job):
         """Whether a job is there that has units left."""
-        with rasterd.Session(port=self.site.port, timeout=60) as session:
+        with rasterd.Session(port=self.site.port, timeout=LONGEST) as session:
             try:
                 session.fetch(job)
             except rasterd.Refused as refusal:
@@ -361,20 +357,14 @@ class Page(unittest.TestCase):
         job = self.job()
         self.assertTrue(self.is_at_hand(job))
         self.browser.send(f"{self.browser.base}/url", {"url": "about:blank"})
-        self.soon_gone(job)
+        until(lambda: not self.is_at_hand(job), "the end of a job")
         with self.browser.another_tab():
             self.browser.screen(*WIDE)
             self.open()
             self.long_job()
             job = self.job()
             self.assertTrue(self.is_at_hand(job))
-        self.soon_gone(job)
-
-    def soon_gone(self, job):
-        end = time.monotonic() + 10
-        while self.is_at_hand(job) and time.monotonic() < end:
-            time.sleep(0.1)
-        self.assertFalse(self.is_at_hand(job))
+        until(lambda: not self.is_at_hand(job), "the end of a job")
 
     def test_templates(self):
         self.open("cover")
@@ -523,9 +513,7 @@ class Page(unittest.TestCase):
         self.open()
         self.ask("for c in (terrain) return encode(c[y(0:1), x(0:2)], csv)")
         self.browser.click("#save")
-        end = time.monotonic() + 20
-        while os.listdir(folder) != ["answer.csv"] and time.monotonic() < end:
-            time.sleep(0.1)
+        until(lambda: os.listdir(folder) == ["answer.csv"], "a file")
         with open(f"{folder}/answer.csv", encoding="utf-8") as file:
             self.assertEqual(file.read(), "".join(",".join(map(str, line)) + "\n" for line in self.heights[:2, :3]))
 
@@ -614,11 +602,8 @@ class Troubles(unittest.TestCase):
         self.addCleanup(site.stop)
         self.addCleanup(browser.close)
         url = site.start()
-        for _ in range(100):
-            with contextlib.suppress(AssertionError):
-                browser.go(url)
-                browser.wait("return document.querySelectorAll('#list li').length == 1", seconds=2)
-                break
+        listed = "return document.querySelectorAll('#list li').length == 1"
+        until(lambda: shown(browser, url, listed), "the coverage of README's lines")
         with rasterd.Session(port=site.port) as session:
             session.delete("relief")
         browser.screen(*WIDE)
@@ -667,10 +652,7 @@ class Deployed(unittest.TestCase):
         self.addCleanup(nginx.terminate)
         self.context = ssl.create_default_context(cafile=f"{self.folder}/certificate.pem")
         self.context.check_hostname = False
-        for _ in range(100):
-            with contextlib.suppress(OSError), socket.create_connection(("127.0.0.1", self.front), 1):
-                break
-            time.sleep(0.05)
+        connected(self.front, nginx).close()
 
     def configuration(self):
         with open(f"{TOP}/deploy/nginx.conf", encoding="utf-8") as file:
@@ -687,7 +669,7 @@ class Deployed(unittest.TestCase):
 
     def got(self, path):
         """The head and the body of what is at a path."""
-        client = http.client.HTTPSConnection("127.0.0.1", self.front, timeout=60, context=self.context)
+        client = http.client.HTTPSConnection("127.0.0.1", self.front, timeout=LONGEST, context=self.context)
         client.request("GET", path)
         reply = client.getresponse()
         found = reply.status, dict(reply.getheaders()), reply.read().decode()

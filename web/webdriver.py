@@ -11,7 +11,7 @@ import time
 import urllib.request
 
 sys.path.append(f"{os.path.dirname(os.path.abspath(__file__))}/../scripts")
-from served import free_port
+from served import LONGEST, connected, free_port
 
 for program in ("chromium", "chromedriver"):
     if not shutil.which(program):
@@ -26,19 +26,11 @@ class Browser:
         self.port = free_port()
         silent = {"stdout": subprocess.DEVNULL, "stderr": subprocess.DEVNULL}
         self.driver = subprocess.Popen(["chromedriver", f"--port={self.port}"], **silent)
-        self.wait_for_driver()
+        connected(self.port, self.driver).close()
         words = ["--headless=new", "--no-sandbox", "--disable-gpu", "--hide-scrollbars", "--no-proxy-server"]
         options = {"args": [*words, f"--window-size={width},{height}"]}
         made = self.send("/session", {"capabilities": {"alwaysMatch": {"goog:chromeOptions": options}}})
         self.base = f"/session/{made['sessionId']}"
-
-    def wait_for_driver(self):
-        for _ in range(200):
-            with contextlib.suppress(OSError):
-                urllib.request.urlopen(f"http://127.0.0.1:{self.port}/status", timeout=1).close()
-                return
-            time.sleep(0.1)
-        raise SystemExit("chromedriver does not answer")
 
     def send(self, path, body=None, method=None):
         data = None if body is None else json.dumps(body).encode()
@@ -54,7 +46,7 @@ class Browser:
         with contextlib.suppress(Exception):
             self.send(self.base, method="DELETE")
         self.driver.terminate()
-        self.driver.wait(10)
+        self.driver.wait(LONGEST)
 
     @contextlib.contextmanager
     def another_tab(self):
@@ -81,7 +73,7 @@ class Browser:
         """What the script gives to its last argument, a function."""
         return self.send(f"{self.base}/execute/async", {"script": script, "args": list(args)})
 
-    def wait(self, script, *args, seconds=60):
+    def wait(self, script, *args, seconds=LONGEST):
         """What a script gives once it gives something true."""
         end = time.monotonic() + seconds
         while time.monotonic() < end:

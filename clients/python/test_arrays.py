@@ -8,13 +8,11 @@ python3-gdal for a raster of GDAL's, and python3-nbclient, python3-nbformat, pyt
 notebook; it says so where one is missing.
 """
 
-import contextlib
 import importlib.util
 import json
 import logging
 import os
 import shutil
-import socket
 import subprocess
 import sys
 import tempfile
@@ -41,7 +39,7 @@ import rasterd
 import rasterd_parts
 import rasterd_xarray
 import xarray
-from served import free_port, served
+from served import LONGEST, connected, free_port, served
 
 PROGRAM = os.path.abspath(sys.argv.pop(1)) if __name__ == "__main__" and len(sys.argv) > 1 else None
 SIDE = 400
@@ -82,10 +80,7 @@ class Server:
             file = f"{self.file}.{time.monotonic_ns()}"
             shutil.copy(self.file, file)
         self.program = subprocess.Popen([PROGRAM, file, "listen", str(self.port), "1000000"])
-        for _ in range(200):
-            with contextlib.suppress(OSError), socket.create_connection(("127.0.0.1", self.port), 1):
-                return
-            time.sleep(0.05)
+        connected(self.port, self.program).close()
 
     def kill(self):
         self.program.kill()
@@ -96,10 +91,7 @@ def stored(path, coverages):
     """Makes a closed file with some coverages, each a name, a domain and its fields as arrays."""
     port = free_port()
     with subprocess.Popen([PROGRAM, path, "listen", str(port), "2"]) as program:
-        for _ in range(200):
-            with contextlib.suppress(OSError), socket.create_connection(("127.0.0.1", port), 1):
-                break
-            time.sleep(0.05)
+        connected(port, program).close()
         with rasterd.Session(port=port, timeout=600) as session:
             for name, domain, fields in coverages:
                 session.insert(
@@ -107,7 +99,7 @@ def stored(path, coverages):
                 )
                 for field, cells in fields.items():
                     session.write(name, field, cells, domain)
-        if program.wait(60):
+        if program.wait(LONGEST):
             raise SystemExit("the store was not closed")
 
 
@@ -370,7 +362,7 @@ class FourServers(unittest.TestCase):
             time.sleep(3)
             self.assertEqual(ended, [])
             self.servers[3].start()
-            work.join(120)
+            work.join(LONGEST)
         wanted = int(self.data.far.values.sum()), int(self.data.v.values.sum(dtype="int64"))
         self.assertEqual(ended, [wanted])
         named = f"no answer from {self.names[3]}, which has terrain_1_1 with y(92:299),x(128:399)"
@@ -440,10 +432,8 @@ class Cutting(unittest.TestCase):
     def test_a_layout_of_many_parts(self):
         boxes = [box_of(64 * y, 64 * y + 63, 64 * x, 64 * x + 63) for y in range(100) for x in range(100)]
         parts = [rasterd_parts.Part(f"c_{k}", box, ("s",)) for k, box in enumerate(boxes)]
-        began = time.monotonic()
         raster = rasterd_parts.Raster("c", {"v": "u8"}, parts)
         self.assertEqual(raster.array("v").numblocks, (100, 100))
-        self.assertLess(time.monotonic() - began, 20)
 
 
 class Notebook(unittest.TestCase):

@@ -6,14 +6,11 @@
 It needs Debian's packages python3-numpy and python3-gdal, and says so where one is missing.
 """
 
-import contextlib
 import json
 import os
-import socket
 import subprocess
 import sys
 import tempfile
-import time
 import unittest
 import urllib.error
 import urllib.request
@@ -28,7 +25,7 @@ except ImportError as missing:
 HERE = os.path.dirname(os.path.abspath(__file__))
 sys.path[:0] = [HERE, f"{HERE}/../../scripts"]
 import rasterd
-from served import free_port, served
+from served import connected, free_port, served
 
 PROGRAM = os.path.abspath(sys.argv.pop(1)) if len(sys.argv) > 1 else sys.exit(__doc__)
 WKT = """PROJCS["WGS 84 / UTM zone 32N",GEOGCS["WGS 84",DATUM["WGS_1984",SPHEROID["WGS 84",6378137,298.257223563]],
@@ -67,10 +64,7 @@ class Tiles(unittest.TestCase):
         gateway = subprocess.Popen([sys.executable, f"{HERE}/rasterd-tiles", *words])
         cls.addClassCleanup(gateway.wait)
         cls.addClassCleanup(gateway.kill)
-        for _ in range(100):
-            with contextlib.suppress(OSError), socket.create_connection(("127.0.0.1", cls.front), 1):
-                break
-            time.sleep(0.05)
+        connected(cls.front, gateway).close()
 
     def opened(self, path):
         return gdal.Open(f"/vsicurl/http://127.0.0.1:{self.front}/{path}")
@@ -134,10 +128,7 @@ class Away(unittest.TestCase):
         )
         self.addCleanup(gateway.wait)
         self.addCleanup(gateway.kill)
-        for _ in range(100):
-            with contextlib.suppress(OSError), socket.create_connection(("127.0.0.1", front), 1):
-                break
-            time.sleep(0.05)
+        connected(front, gateway).close()
         with self.assertRaises(urllib.error.HTTPError) as raised:
             urllib.request.urlopen(f"http://127.0.0.1:{front}/land/kind.vrt")
         self.assertEqual(raised.exception.code, 502)

@@ -11,7 +11,7 @@ CLIENTS = f"{TOP}/clients/python"
 sys.path[:0] = [CLIENTS, f"{TOP}/examples", f"{TOP}/scripts"]
 
 import rasterd
-from served import served
+from served import LONGEST, served
 
 PROGRAM = os.environ["SERVER"]
 
@@ -24,8 +24,8 @@ class OverLoopback(unittest.TestCase):
         self.port = server.__enter__()
         self.addCleanup(server.__exit__, None, None, None)
 
-    def session(self, **words):
-        return rasterd.Session(port=self.port, **words)
+    def session(self, timeout=LONGEST, **words):
+        return rasterd.Session(port=self.port, timeout=timeout, **words)
 
     def assert_refused(self, number, asked):
         """What the refusal says."""

@@ -4,13 +4,13 @@ import contextlib
 import socket
 import tempfile
 import threading
-import time
 import unittest
 
 from over_loopback import OverLoopback, rasterd
+from served import LONGEST, until
 
-# How long a client may wait beside another one's job, in seconds.
-LONGEST_WAIT = 0.2
+# How long a client waits that has to be served before the server lets a silent one go, which it does after 60 seconds.
+BEFORE_SILENCE = 50
 FOCAL = (
     "for c in (wide) return encode(coverage f over $y y(3:796), $x x(3:796) values"
     " condense + over $v y(-3:3), $u x(-3:3) using c[y($y + $v), x($x + $u)], csv)"
@@ -159,48 +159,36 @@ class Jobs(OverLoopback):
         self.assertEqual((raised.exception.number, cancelled), (70, []))
 
     def test_another_client_beside_a_job(self):
-        session, waits, ended = self.session(), [], threading.Event()
+        """Between any two steps it is answered, and asks and is answered once more."""
+        session, answers, counts, over = self.session(), [], [], threading.Event()
         session.insert("wide", {"y": (0, 799), "x": (0, 799)}, {"v": "i16"})
         session.fill("wide", "v", 2)
-        unit = self.least_step(session)
 
         def other():
-            while not ended.is_set():
-                begin = time.monotonic()
-                self.session().list()
-                waits.append(time.monotonic() - begin)
+            while not over.is_set():
+                answers.append(self.session(BEFORE_SILENCE).list())
+
+        def step(done, whole):
+            counts.append(len(answers))
+            until(lambda: len(answers) > counts[-1] + 1, "an answer to another client")
 
         beside = threading.Thread(target=other)
         beside.start()
         try:
-            answer = session.run(FOCAL, progress=None)
+            answer = session.run(FOCAL, progress=step)
         finally:
-            ended.set()
+            over.set()
             beside.join()
         self.assertEqual(set(answer.replace("\n", ",").split(",")), {"98", ""})
-        self.assertGreater(len(waits), 10)
-        # of the half that other work of the machine has held up least; where that is much, a unit takes longer too
-        self.assertLess(sorted(waits)[len(waits) // 2], max(LONGEST_WAIT, 3 * unit))
-
-    def least_step(self, session):
-        """The seconds of a unit: a job can be done in no smaller steps."""
-        job, _ = session.submit(FOCAL)
-        took = []
-        for _ in range(3):
-            begin = time.monotonic()
-            session.step(job)
-            took.append(time.monotonic() - begin)
-        session.cancel(job)
-        return max(took)
+        self.assertTrue(all(it == ["wide"] for it in answers))
+        self.assertGreater(counts[-1] - counts[0], 10)
 
 
 class Connections(OverLoopback):
     def test_nobody_waits_for_a_session_that_asks_nothing(self):
         idle = self.session()
         idle.list()
-        begin = time.monotonic()
-        self.session().list()
-        self.assertLess(time.monotonic() - begin, LONGEST_WAIT)
+        self.session(BEFORE_SILENCE).list()
 
     def test_a_with_keeps_its_connection_and_its_end_lets_it_go(self):
         with self.session() as session:
@@ -222,17 +210,19 @@ class Connections(OverLoopback):
 class Faults(unittest.TestCase):
     """A server of the test's own, which says of each connection what is wanted."""
 
-    def answers(self, *said):
-        """The port of a server that says one of these at each connection, some parts with half a second between, and ends it."""
+    def answers(self, *said, more=None):
+        """The port of a server that says one of these at each connection and ends it. Before each part but the first it
+        waits for an event."""
         listener = socket.create_server(("127.0.0.1", 0))
 
         def serve():
-            for parts in said:
+            for first, *others in said:
                 with contextlib.suppress(OSError), listener.accept()[0] as client:
                     client.recv(65536)
-                    for part in parts:
+                    client.sendall(first)
+                    for part in others:
+                        more.wait()
                         client.sendall(part)
-                        time.sleep(0.5 * (part is not parts[-1]))
 
         threading.Thread(target=serve, daemon=True).start()
         self.addCleanup(listener.close)
@@ -241,19 +231,21 @@ class Faults(unittest.TestCase):
     def test_what_is_left_of_a_reply_is_not_that_of_the_next_request(self):
         whole = b"HTTP/1.1 200 OK\r\nContent-Length: 4\r\n\r\nlai\n"
         for cut in [[whole[:-2]], [whole[:-2], whole[-2:]]]:
-            with rasterd.Session(port=self.answers(cut, [whole], [whole]), timeout=0.3) as session:
+            more = threading.Event()
+            with rasterd.Session(port=self.answers(cut, [whole], [whole], more=more), timeout=0.3) as session:
                 with self.assertRaises(Exception):
                     session.list()
-                session.connection.timeout = 5
+                more.set()
+                session.connection.timeout = LONGEST
                 self.assertEqual(session.list(), ["lai"])
-                # the server has ended the connection meanwhile, without having said so
-                time.sleep(0.2)
+                # the server ends the connection, and does not say so
+                until(lambda: rasterd.has_come(session.connection.sock), "the end of a connection")
                 self.assertEqual(session.list(), ["lai"])
 
     def test_an_answer_of_another_server(self):
         text = b"HTTP/1.1 502 Bad Gateway\r\nContent-Length: 15\r\n\r\n<html>no</html>"
         with self.assertRaisesRegex(rasterd.NotUnderstood, "status 502"):
-            rasterd.Session(port=self.answers([text]), timeout=5).list()
+            rasterd.Session(port=self.answers([text]), timeout=LONGEST).list()
 
 
 class Parts(unittest.TestCase):

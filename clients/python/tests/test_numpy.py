@@ -3,11 +3,8 @@
 import time
 
 import numpy
-from over_loopback import OverLoopback, rasterd
+from over_loopback import OverLoopback
 import rasterd_algebra
-
-# Microseconds a cell of the client's own, on an idle machine 0.3 and 0.1.
-MOST_WRITTEN, MOST_READ = 1.5, 0.6
 
 
 class Arrays(OverLoopback):
@@ -57,21 +54,6 @@ class Arrays(OverLoopback):
             self.assertGreater(len(told), 2)
             self.assertEqual(told[-1], (700 * 900, 700 * 900))
             numpy.testing.assert_array_equal(session.array("for c in (big) return encode(c, csv)"), cells)
-
-    def test_the_cost_of_a_cell(self):
-        """Of the client alone: the least of five, since the machine may do other work."""
-        cells = numpy.random.default_rng(2).integers(0, 1000, 1 << 18, numpy.int16)
-        text = ",".join(map(str, cells.tolist())) + "\n"
-        for name, most, work in [
-            ("written", MOST_WRITTEN, lambda: ",".join(rasterd.texts_of(cells))),
-            ("read", MOST_READ, lambda: rasterd.arrays_of(text)),
-        ]:
-            took = []
-            for _ in range(5):
-                begin = time.process_time()
-                work()
-                took.append(time.process_time() - begin)
-            self.assertLess(min(took) / len(cells) * 1e6, most, name)
 
 
 class Algebra(OverLoopback):

@@ -8,7 +8,7 @@ import tempfile
 import unittest
 
 from over_loopback import PROGRAM, TOP, rasterd
-from served import free_port, served
+from served import LONGEST, free_port, served
 
 NEEDED = [
     "usr/bin/rasterd",
@@ -91,7 +91,7 @@ class Package(unittest.TestCase):
             found = subprocess.run(words, env=self.environment, cwd="/", capture_output=True, text=True, check=False)
             self.assertIn("it is called `add` here", found.stderr)
             serving.send_signal(signal.SIGTERM)
-            self.assertEqual(serving.wait(20), 0)
+            self.assertEqual(serving.wait(LONGEST), 0)
         with open(store, "rb") as file:
             self.assertEqual(file.read(13)[12], 2)
 

@@ -7,13 +7,12 @@ import signal
 import subprocess
 import sys
 import tempfile
-import time
 
 import numpy
 from osgeo import gdal, osr
 from osgeo_utils import gdalcompare
 from over_loopback import CLIENTS, PROGRAM, TOP, OverLoopback, rasterd
-from served import free_port
+from served import LONGEST, free_port, until
 
 import data
 import workflows
@@ -257,12 +256,11 @@ class Faults(InAFolder):
         return made(self.path("a.tif"), [cells], gdal.GDT_Byte), cells
 
     @contextlib.contextmanager
-    def loading(self, source, port=None):
+    def loading(self, source):
         """A load, from when its coverage is there."""
-        words = [sys.executable, f"{CLIENTS}/rasterd-load", source, "a", "--port", str(port or self.port)]
+        words = [sys.executable, f"{CLIENTS}/rasterd-load", source, "a", "--port", str(self.port)]
         with subprocess.Popen(words, stderr=subprocess.PIPE, text=True) as running:
-            while running.poll() is None and "a" not in rasterd.Session(port=port or self.port).list():
-                time.sleep(0.01)
+            until(lambda: running.poll() is not None or "a" in self.session().list(), "the coverage of a load")
             self.assertIsNone(running.poll())
             yield running
 
@@ -270,7 +268,7 @@ class Faults(InAFolder):
         for number in [signal.SIGINT, signal.SIGTERM]:
             with self.loading(self.large()[0]) as running:
                 running.send_signal(number)
-                said = running.communicate(timeout=30)[1]
+                said = running.communicate(timeout=LONGEST)[1]
             self.assertEqual((running.returncode, said.splitlines()[-1]), (1, "stopped"))
             self.assertEqual(self.session().list(), [])
 
@@ -278,7 +276,7 @@ class Faults(InAFolder):
         """The coverage is deleted meanwhile."""
         with self.loading(self.large()[0]) as running:
             self.session().delete("a")
-            said = running.communicate(timeout=30)[1]
+            said = running.communicate(timeout=LONGEST)[1]
         self.assertEqual(running.returncode, 1)
         self.assertIn("refused 20 NoSuchCoverage", said.splitlines()[-1])
         self.assertEqual(self.session().list(), [])
@@ -289,7 +287,7 @@ class Faults(InAFolder):
         with self.loading(source) as running:
             job, left = self.session().submit("for c in (a) return add(c)")
             part = int(self.session().query("for c in (a) return add(c)"))
-            said = running.communicate(timeout=60)[1]
+            said = running.communicate(timeout=LONGEST)[1]
         self.assertEqual(running.returncode, 0, said)
         session = self.session()
         while left:
@@ -302,18 +300,17 @@ class Faults(InAFolder):
         words = [f"{TOP}/deploy/serve", self.path("store"), str(port), "7"]
         with subprocess.Popen(words, env={**os.environ, "SERVER": PROGRAM}, stderr=subprocess.DEVNULL) as serving:
             try:
-                while not os.path.exists(self.path("store")):
-                    time.sleep(0.05)
+                until(lambda: os.path.exists(self.path("store")), "the file of a server")
                 status, said = self.tool("rasterd-load", source, "a", port=port)
                 self.assertEqual(status, 0, said)
-                for _ in range(50):
-                    with contextlib.suppress(OSError):
-                        found = rasterd.Session(port=port).query("for c in (a) return add(c)")
-                        break
-                    time.sleep(0.1)
-                self.assertEqual(int(found), int(cells.sum()))
+                self.assertEqual(int(until(lambda: self.added(port), "an answer of a run")), int(cells.sum()))
             finally:
                 serving.terminate()
+
+    def added(self, port):
+        """The sum of the cells, or nothing where a run has ended."""
+        with contextlib.suppress(ConnectionError):
+            return rasterd.Session(port=port, timeout=LONGEST).query("for c in (a) return add(c)")
 
     def test_a_picture(self):
         with self.session() as session:
