@@ -2,8 +2,8 @@
 """The gate, on a copy of this tree: the layout of the crates, `rt ci` without the must-fail edits, then, over the program
 that it built, what `trials` lists, and over its libraries the edits.
 
-In CI's clone those edits alone are tried that are not recorded as refused on the text that stands here. Where these
-are less than a twelfth of all edits, those of some crates are tried besides, which the commit decides.
+In CI's clone those edits alone are tried that are not recorded as refused on the text that stands here, and where all
+are recorded, those of one crate, which the commit decides.
 """
 
 import contextlib
@@ -71,17 +71,8 @@ def without_edits(names):
 
 
 def to_try(now, then, commit):
-    """The crates whose edits are not recorded, and where these have less than a twelfth of all edits, others besides, in
-    an order that the commit decides, until they have so many. The last of them may bring more, and where more than that
-    is not recorded nothing comes on top of it, so that a run has time for it."""
-    edits = {it: len(os.listdir(f"crates/{it}/must-fail")) for it in now}
-    names = [it for it in now if then.get(it) != now[it]]
-    count = sum(edits[it] for it in names)
-    for it in sorted(now.keys() - names, key=lambda it: sum_of(commit, it)):
-        if 12 * count >= sum(edits.values()):
-            break
-        names, count = [*names, it], count + edits[it]
-    return names
+    """The crates whose edits are not recorded, and where there is none, one that the commit decides."""
+    return [it for it in now if then.get(it) != now[it]] or [min(now, key=lambda it: sum_of(commit, it))]
 
 
 def lacking(*commands):
@@ -116,7 +107,9 @@ def trials(seed):
 
 
 def run_trials(seed):
-    """Runs the trials one after the other, and returns those that failed."""
+    """Runs the trials one after the other, and returns those that failed. What `rt ci` has left to be written to the disk
+    is written before, so that no trial waits for it."""
+    os.sync()
     failed = []
     for what, command, lacks in trials(seed):
         if lacks:

@@ -4,9 +4,9 @@
   scripts/must_fail.py               names the crates whose edits are not recorded as refused on the text that stands here
   scripts/must_fail.py try [NAME..]  tries those, or the named ones, and records each crate whose edits were all refused
 
-What an edit comes to follows from the toolchain, the crate's text and that of the crates below it. The record,
-scripts/must_fail.txt, has the sum of all these for each crate, as it was when its edits were last all refused. A changed byte
-changes the sum, and the edits are tried again. Which other crates are tried besides, the commit decides.
+What an edit comes to follows from the toolchain, the crate's text and that of the crates below it, but not from comments. The
+record, scripts/must_fail.txt, has the sum of all these for each crate, as it was when its edits were last all refused. Any other
+change changes the sum, and the edits are tried again.
 """
 
 import hashlib
@@ -19,6 +19,11 @@ sys.dont_write_bytecode = True
 from surface import dependencies
 
 RECORD = "scripts/must_fail.txt"
+# a text or a character, which is kept, or a comment
+COMMENTS = {
+    ".rt": re.compile(r'("(?:\\.|[^"\\])*"|\'(?:\\[^\n]+?|[^\'\\\n])\')|//[^\n]*', re.S),
+    ".antt": re.compile(r"^()[ ]*--[^\n]*", re.M),
+}
 
 
 def said_by(*words):
@@ -27,6 +32,15 @@ def said_by(*words):
 
 def sum_of(*parts):
     return hashlib.sha256(repr(parts).encode()).hexdigest()
+
+
+def without_comments(name, data):
+    """The bytes of a file without its comments and empty lines, on which no proof rests."""
+    comment = COMMENTS.get(os.path.splitext(name)[1])
+    if comment is None:
+        return data
+    lines = comment.sub(lambda it: it[1] or "", data.decode()).splitlines()
+    return "\n".join(it.rstrip() for it in lines if it.strip()).encode()
 
 
 def texts_below(folder):
@@ -49,8 +63,8 @@ def sums():
         return {it for dep in lines[name] if dep in lines for it in [dep, *below(dep)]}
 
     def of_crate(name):
-        parts = [texts_below(f"crates/{name}/{part}") for part in ("src", "specs", "proofs")]
-        return sum_of(name, lines[name], parts)
+        texts = [it for part in ("src", "specs", "proofs") for it in texts_below(f"crates/{name}/{part}")]
+        return sum_of(name, lines[name], [(it, without_comments(it, text)) for it, text in texts])
 
     own = {name: of_crate(name) for name in lines}
     with_edits = [name for name in lines if os.path.isdir(f"crates/{name}/must-fail")]

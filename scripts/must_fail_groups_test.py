@@ -74,25 +74,29 @@ def outcome(*edits):
 def draws():
     """What is wrong with the choice of crates in the tree that this runs in."""
     now = must_fail.sums()
-    edits = {it: len(os.listdir(f"crates/{it}/must-fail")) for it in now}
-    enough = sum(edits.values()) / 12
-    stale, *others, largest = sorted(now, key=edits.get)
-    drawn = [gate.to_try(now, now | {stale: ""}, str(commit)) for commit in range(200)]
-    if any(it[0] != stale for it in drawn):
-        yield f"{stale}, whose edits are not recorded, is left out"
-    for it in {*others, largest}.difference(*drawn):
-        yield f"{it} is tried at no commit of 200"
-    for names in drawn:
-        *before, last = [edits[it] for it in names]
-        if not sum(before) < enough <= sum(before) + last:
-            yield f"beside {stale}, {', '.join(names[1:])} are tried"
-    if edits[largest] >= enough and gate.to_try(now, now | {largest: ""}, "") != [largest]:
-        yield f"others are tried beside {largest}, which has a twelfth of all edits"
+    if len(chosen := gate.to_try(now, now, "")) != 1:
+        yield f"where all edits are recorded, those of {', '.join(chosen)} are tried"
+    for it in now.keys() - {name for commit in range(400) for name in gate.to_try(now, now, str(commit))}:
+        yield f"{it} is tried at no commit of 400"
+    for stale in (list(now)[:1], list(now)[1:]):
+        if (chosen := gate.to_try(now, now | dict.fromkeys(stale, ""), "")) != stale:
+            yield f"{', '.join(chosen)} are tried, where the edits of {', '.join(stale)} are not recorded"
+
+
+def comments():
+    """What is wrong with what is taken for a comment."""
+    for name, text, wanted in [
+        ("a.rt", '//! Of a.\nfn f() { // of f\n\n    g("//", \'"\'); // "\n}\n', 'fn f() {\n    g("//", \'"\');\n}'),
+        ("A.antt", "-- of a\na-b : A\n  -- of b\na-b = a --b\n", "a-b : A\na-b = a --b"),
+        ("a.edit", "new: // a\n", "new: // a\n"),
+    ]:
+        if (left := must_fail.without_comments(name, text.encode()).decode()) != wanted:
+            yield f"{text!r} is {left!r} without comments"
 
 
 def faults():
-    """What is wrong with the trier and with the choice: nothing, if all is well."""
-    found = [*draws()]
+    """What is wrong with the trier, with the choice and with the sums: nothing, if all is well."""
+    found = [*draws(), *comments()]
 
     def expect(what, told, *wanted):
         if len(told) != len(wanted) or any(a != b or words not in text for (a, text), (b, words) in zip(told, wanted)):
