@@ -1,6 +1,6 @@
 -- The bytes of a store file, of either version. Numbers stand lowest byte first. Blocks have 4,096 bytes, and block 0
 -- is the header.
-use Rattle.std.specs.Prelude.{◌≡◌, ◌≢◌, ℕ, zero, suc, ◌+◌, ◌*◌, ◌/◌, ◌%◌, ◌<◌, ◌≤◌, max, List, length, take, slice_index, codes}
+use Rattle.std.specs.Prelude.{◌≡◌, ◌≢◌, ℕ, zero, suc, ◌+◌, ◌-◌, ◌*◌, ◌/◌, ◌%◌, ◌<◌, ◌≤◌, max, List, length, take, slice_index, codes}
 use Rattle.byteorder.specs.Endian.{little_from}
 use Rattle.file_bytes.specs.declared.form.Version.{Version}
 use Rattle.file_bytes.specs.declared.form.Version.TheVariants.{One, Two}
@@ -65,7 +65,7 @@ link block first (suc i) = next_of block (link block first i)
 
 -- how many blocks a chain needs for so many bytes: each holds 4,092 behind the number of the next
 abbrev pub chain_blocks : ℕ → ℕ
-chain_blocks size = (size + 4091) / chain_bytes
+chain_blocks size = (size + (chain_bytes - 1)) / chain_bytes
 
 -- The metadata lies in a chain of blocks from block `first` on: whole blocks, distinct, none of them the header,
 -- exactly as many as it fills.

@@ -1,13 +1,17 @@
--- How often each block of a file is in use, by its mark: a number, or 4294967295 for a free block that holds metadata
--- and may not be claimed. The header has the mark 1.
+-- How often each block of a file is in use, by its mark: a number, or that of a free block that holds metadata and may
+-- not be claimed. The header has the mark 1.
 use Rattle.std.specs.Prelude.{◌≡◌, ◌≢◌, ℕ, zero, suc, ◌+◌, ◌<◌, ◌≤◌, nat_lt, if◌then◌else◌, List, length, slice_index}
 use Rattle.block_file.specs.State.{free_up_to, times}
 use Rattle.block_file.specs.Format.{link, chain_blocks}
-use Rattle.block_file.specs.Limits.{max_blocks}
+use Rattle.block_file.specs.Limits.{max_blocks, last_block}
+
+-- the mark of a free block that holds metadata
+abbrev pub kept_mark : ℕ
+kept_mark = 4294967295
 
 -- how often a block with this mark is in use
 abbrev pub use_count : ℕ → ℕ
-use_count mark = if nat_lt mark 4294967295 then mark else 0
+use_count mark = if nat_lt mark kept_mark then mark else 0
 
 -- how often block k is in use; the header is in no use, and neither are blocks past the last
 abbrev pub uses_of : List ℕ → ℕ → ℕ
@@ -21,7 +25,7 @@ IsFresh marks = (k : ℕ) → uses_of marks k ≡ 0
 -- the blocks of a chain that holds so many bytes are marked as metadata, and of the others but the header none is
 -- marked
 pub record MarksChain (block : ℕ → List ℕ) (first size : ℕ) (marks : List ℕ) : Type 0 where
-  pub chain : (i : ℕ) → i < chain_blocks size → slice_index marks (link block first i) ≡ 4294967295
+  pub chain : (i : ℕ) → i < chain_blocks size → slice_index marks (link block first i) ≡ kept_mark
   pub others : (k : ℕ) → 0 < k → ((i : ℕ) → i < chain_blocks size → link block first i ≢ k) → slice_index marks k ≡ 0
 
 -- these blocks may be claimed: each once, inside the file, and neither the header nor claimed nor metadata
@@ -64,5 +68,5 @@ pub record NoneFreeBelow (lowest : ℕ) (marks : List ℕ) : Type 0 where
 pub record AreMarks (marks : List ℕ) (free lowest : ℕ) : Type 0 where
   pub header : slice_index marks 0 ≡ 1
   pub few : length marks ≤ max_blocks
-  pub counted : free ≡ free_up_to 1048575 (uses_of marks)
+  pub counted : free ≡ free_up_to last_block (uses_of marks)
   pub below : NoneFreeBelow lowest marks

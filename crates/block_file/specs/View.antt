@@ -11,7 +11,7 @@ use Rattle.block_file.specs.Uses.{uses_of, MarksChain}
 use Rattle.block_file.specs.Limits.{max_blocks, max_metadata}
 
 -- The file's bytes and those that are synced, a mark for each of its blocks, and what is known of the disk.
--- A mark is how often the block is in use, or 4294967295 for a free block that holds metadata and may not be claimed.
+-- A mark is how often the block is in use, or `kept_mark` for a free block that holds metadata and may not be claimed.
 pub record BlockFileView : Type 0 where
   pub content : List ℕ
   pub synced : List ℕ

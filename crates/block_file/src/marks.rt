@@ -1,9 +1,9 @@
 //! How often each block of a file is in use.
 ghost use Rattle.std.specs.Prelude.{◌≡◌, ◌≤◌, ◌<◌, ◌+◌, ◌-◌, ◌↔◌, [], ℕ, length, slice_index, slice_set, vec_capacity, IsTrue, IfOk, OnOk, OnErr};
 ghost use Rattle.std.specs.Bool.{OnTrue, OnFalse};
-ghost use Rattle.block_file.specs.Limits.{max_blocks};
+ghost use Rattle.block_file.specs.Limits.{max_blocks, last_block};
 ghost use Rattle.block_file.specs.State.{free_up_to, one, times};
-ghost use Rattle.block_file.specs.Uses.{use_count, uses_of, CanClaim, Claims, NoneFreeBelow, Raises, TakesLowest};
+ghost use Rattle.block_file.specs.Uses.{kept_mark, use_count, uses_of, CanClaim, Claims, NoneFreeBelow, Raises, TakesLowest};
 
 use crate::MAX_BLOCKS;
 use std::alloc::{AllocError, Global};
@@ -61,8 +61,8 @@ impl Marks {
     /// How many blocks are free.
     #[tactic(auto, using(crate::proofs::Free::free_le))]
     pub(crate) fn free(&self) -> usize
-        ensures free { result ≡ free_up_to 1048575 (uses_of self.now) }
-        ensures few { result ≤ 1048575 }
+        ensures free { result ≡ free_up_to last_block (uses_of self.now) }
+        ensures few { result ≤ last_block }
     {
         self.free
     }
@@ -87,7 +87,7 @@ impl Marks {
         ensures above_zero { OnTrue result (0 < k) }
         ensures inside { OnTrue result (k < length self.old) }
         ensures unmarked { OnTrue result (slice_index self.old k ≡ 0) }
-        ensures marked { OnTrue result (self.new ≡ slice_set self.old k 4294967295) }
+        ensures marked { OnTrue result (self.new ≡ slice_set self.old k kept_mark) }
         ensures refused { OnFalse result (k < length self.old → slice_index self.old k ≡ 0 → ⊥) }
     {
         let at = k as usize;
@@ -100,7 +100,7 @@ impl Marks {
 
     /// Makes room for the marks of n more blocks in use.
     pub(crate) fn reserve(&mut self, n: usize) -> Result<(), AllocError>
-        requires { n ≤ free_up_to 1048575 (uses_of self.old) }
+        requires { n ≤ free_up_to last_block (uses_of self.old) }
         ensures uses { (k : ℕ) → uses_of self.new k ≡ uses_of self.old k }
         ensures no_shorter { length self.old ≤ length self.new }
         ensures enough { OnOk result (n ≤ free_up_to (length self.new - 1) (uses_of self.new)) }

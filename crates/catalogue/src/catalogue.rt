@@ -1,6 +1,6 @@
 //! The catalogue: signatures in the order of their insertion, each under its name.
 
-ghost use Rattle.std.specs.Prelude.{◌≡◌, ◌≤◌, ◌<◌, [], ◌∷◌, ◌++◌, length, Contains, option_copied, IfOk, OnOk, IfErr, OnErr, IsErrOf, IsTrue, ◌↔◌};
+ghost use Rattle.std.specs.Prelude.{◌≡◌, ◌≤◌, ◌<◌, [], ◌∷◌, ◌++◌, length, slice_get, Contains, option_copied, Some, IfOk, OnOk, IfErr, OnErr, IsErrOf, IsTrue, ◌↔◌};
 ghost use Rattle.arr_core.specs.Fields.{AreFields};
 ghost use Rattle.catalogue.specs.Signatures.{names_of, listed, without, MayInsert, IsRefused, IsSignature, IsCatalogue};
 ghost use Rattle.catalogue.specs.Bytes.{catalogue_bytes};
@@ -144,6 +144,17 @@ impl Catalogue {
         ensures { IsTrue result ↔ (self.now ≡ []) }
     {
         self.signatures.is_empty()
+    }
+
+    /// The signature at a place, in the order of insertion. Takes no memory.
+    pub fn at(&self, place: usize) -> &Signature
+        requires { place < length self.now }
+        ensures { slice_get self.now place ≡ Some result.now }
+    {
+        match self.signatures.get_index(place) {
+            Some((_name, signature)) => signature,
+            None => unreachable!(),
+        }
     }
 
     /// The signatures, in the order of their insertion.

@@ -1,106 +1,46 @@
 -- The metadata that a closing writes is that of the store, and the disk then holds it.
 use Rattle.std.proofs.Common.{◌≡◌, ◌≢◌, ℕ, ◌+◌, ◌/◌, ◌<◌, ◌≤◌, Bool, true, false, List, [], ◌∷◌, ◌++◌, length, take, get_or, Option, None, Some, Err, refl, sym, ap, ◌∙◌, subst, arith, Contains, inl, inr, append_assoc, append-nil}
-use Rattle.std.specs.Prelude.{IsErrOf, IsSomeAnd, IsTrue, slice_get}
+use Rattle.std.specs.Prelude.{IsErrOf, IsTrue, slice_get}
 use Rattle.std.specs.List.{flat_map}
-use Rattle.std.specs.Str.{bytes_eq}
-use Rattle.std.proofs.lemmas.Grind.{flat_map-append}
-use Rattle.std.proofs.lemmas.List.{take_more, take_all}
+use Rattle.std.proofs.lemmas.List.{flat_map_more, take_more}
 use Rattle.std.proofs.lemmas.Option.{slice_get_within, get_or_from_slice_get}
 use Rattle.std.proofs.lemmas.Bool.{cases_eq}
-use Rattle.std.proofs.lemmas.Slice.Eq.{bytes_eq-Decides}
 use Rattle.arr_core.specs.declared.signature.Signature.{Signature}
-use Rattle.arr_core.specs.Names.{AreDistinct}
-use Rattle.arr_core.specs.Stores.{Coverage, Store, found}
+use Rattle.arr_core.specs.Stores.{Store}
 use Rattle.catalogue.specs.Bytes.{catalogue_bytes}
-use Rattle.catalogue.specs.Signatures.{names_of, IsCatalogue}
-use Rattle.catalogue.proofs.Held.{contains_here, contains_later}
+use Rattle.catalogue.specs.Signatures.{IsCatalogue}
 use Rattle.block_file.specs.State.{BlocksState, block, block_at, free_up_to}
 use Rattle.file_bytes.specs.declared.form.Version.{Version}
 use Rattle.file_bytes.specs.declared.form.Version.TheVariants.{One, Two}
+use Rattle.block_file.specs.Limits.{last_block}
 use Rattle.block_file.specs.Format.{Closes, TellsVersion, link, chain_blocks}
 use Rattle.block_file.specs.Words.{HoldsChain}
 use Rattle.block_file.proofs.Places.{whole_inside}
 use Rattle.metadata.proofs.Sizes.{length_metadata}
-use Rattle.metadata.specs.Metadata.{IsOfVersion, part_bytes, indexes_bytes, metadata_bytes, AreCounted}
-use Rattle.tile_index.specs.Bytes.{index_bytes}
+use Rattle.metadata.specs.Metadata.{IsOfVersion, metadata_bytes, AreCounted}
 use Rattle.raster_store.specs.Views.{Index, SnapshotView, listed_all, metadata_size, fields_size, AreIntact}
-use Rattle.raster_store.specs.Calls.{index_of, AreWhole, AreListed}
+use Rattle.raster_store.specs.Calls.{AreWhole, AreListed}
 use Rattle.coverage_server.specs.Damage.{IsIntactIn, IsIntactNamed}
 use Rattle.coverage_server.specs.Sessions.{IsNotClosed}
 use Rattle.coverage_server.specs.Views.{ServerView, signatures_of, uses_in, IsClosable}
 use Rattle.block_file.specs.declared.fault.CloseFault.{CloseFault}
-use Rattle.coverage_server.specs.Closing.{indexes_named, field_indexes, bytes_named, bytes_written, IsWritten}
+use Rattle.coverage_server.specs.Closing.{IsWritten}
 use Rattle.coverage_server.specs.Disk.{AreTiles, ListsStore, HoldsStore}
 use Rattle.coverage_server.proofs.FreeLemmas.{free_unlisted}
 
--- the index of a field is one of those of its coverage
-pub index_named : (name : List ℕ) (field : ℕ) (store : Store) (indexes : List (List Index)) → index_of name field store indexes ≡ slice_get (indexes_named name store indexes) field
-index_named name field [] indexes = refl
-index_named name field (c ∷ store) [] = refl
-index_named name field (c ∷ store) (i ∷ indexes) = by_test (bytes_eq c.name name) refl (index_named name field store indexes)
-  where
-    by_test : (b : Bool) → bytes_eq c.name name ≡ b → index_of name field store indexes ≡ slice_get (indexes_named name store indexes) field
-        → index_of name field (c ∷ store) (i ∷ indexes) ≡ slice_get (indexes_named name (c ∷ store) (i ∷ indexes)) field
-    by_test true t later = rw t refl
-    by_test false t later = rw t later
+-- what one element more of a list writes behind others
+pub one_further : {X : Type 0} (f : X → List ℕ) (bytes before after : List ℕ) (xs : List X) (i : ℕ) (x : X) → slice_get xs i ≡ Some x → before ≡ bytes ++ flat_map f (take i xs)
+    → after ≡ before ++ f x → after ≡ bytes ++ flat_map f (take (i + 1) xs)
+one_further f bytes before after xs i x is so_far put =
+    let more : take (i + 1) xs ≡ take i xs ++ x ∷ [] = take_more xs i x (slice_get_within xs i x is) ∙ ap (λ y. take i xs ++ y ∷ []) (get_or_from_slice_get xs i x x is) in
+    put ∙ ap (λ (l : List ℕ). l ++ f x) so_far ∙ flat_map_more f bytes (take i xs) x ∙ ap (λ l. bytes ++ flat_map f l) (sym more)
 
--- one index more
-pub index_pushed : (bytes before after index : List ℕ) (indexes : List Index) (field : ℕ) → before ≡ bytes ++ indexes_bytes (take field indexes)
-    → IsSomeAnd (slice_get indexes field) (λ i. index ≡ index_bytes i) → after ≡ before ++ part_bytes index → after ≡ bytes ++ indexes_bytes (take (field + 1) indexes)
-unfolding indexes_bytes
-index_pushed bytes before after index indexes field so_far is put = there (slice_get indexes field) refl is
-  where
-    f : Index → List ℕ
-    f i = part_bytes (index_bytes i)
-
-    there : (o : Option Index) → slice_get indexes field ≡ o → IsSomeAnd o (λ i. index ≡ index_bytes i) → after ≡ bytes ++ flat_map f (take (field + 1) indexes)
-    there None e x = absurd x
-    there (Some i) e x =
-        let within : field < length indexes = slice_get_within indexes field i e in
-        let last : get_or indexes field i ≡ i = get_or_from_slice_get indexes field i i e in
-        let more : take (field + 1) indexes ≡ take field indexes ++ i ∷ [] = take_more indexes field i within ∙ ap (λ (j : Index). take field indexes ++ j ∷ []) last in
-        put ∙ ap (λ (l : List ℕ). l ++ part_bytes index) so_far ∙ append_assoc bytes (flat_map f (take field indexes)) (part_bytes index)
-        ∙ ap (λ (l : List ℕ). bytes ++ (flat_map f (take field indexes) ++ part_bytes l)) x
-        ∙ ap (λ (l : List ℕ). bytes ++ (flat_map f (take field indexes) ++ l)) (sym (append-nil (f i)))
-        ∙ ap (λ (l : List ℕ). bytes ++ l) (sym (flat_map-append f (take field indexes) (i ∷ [])))
-        ∙ ap (λ (l : List Index). bytes ++ flat_map f l) (sym more)
-
-other_name : (a b : List ℕ) → a ≢ b → bytes_eq a b ≡ false
-other_name a b n = by_test (bytes_eq a b) refl
-  where
-    by_test : (t : Bool) → bytes_eq a b ≡ t → bytes_eq a b ≡ false
-    by_test true e = absurd (n ((bytes_eq-Decides a b).0 e))
-    by_test false e = e
-
--- a coverage in front of others does not change what those write
-later_alike : (c : Coverage) (i : List Index) (store : Store) (indexes : List (List Index)) (signatures : List Signature) → (Contains (names_of signatures) c.name → ⊥)
-    → flat_map (λ (s : Signature). bytes_named s.name (c ∷ store) (i ∷ indexes)) signatures ≡ flat_map (λ (s : Signature). bytes_named s.name store indexes) signatures
-later_alike c i store indexes [] n = refl
-later_alike c i store indexes (s ∷ signatures) n =
-    let differs : bytes_eq c.name s.name ≡ false =
-    other_name c.name s.name (λ e. n (subst (λ x. Contains (s.name ∷ names_of signatures) x) (sym e) (contains_here s.name (names_of signatures)))) in
-    let alike : bytes_named s.name (c ∷ store) (i ∷ indexes) ≡ bytes_named s.name store indexes = rw differs refl in
-    ap (λ (l : List ℕ). l ++ flat_map (λ (t : Signature). bytes_named t.name (c ∷ store) (i ∷ indexes)) signatures) alike
-    ∙ ap (λ (l : List ℕ). bytes_named s.name store indexes ++ l) (later_alike c i store indexes signatures (λ k. n (contains_later s.name (names_of signatures) c.name k)))
-
--- what is written are the indexes in their order
-written_alike : (store : Store) (indexes : List (List Index)) → AreWhole store indexes → AreDistinct (names_of (signatures_of store))
-    → flat_map (λ (s : Signature). bytes_named s.name store indexes) (signatures_of store) ≡ flat_map indexes_bytes indexes
-written_alike [] [] w d = refl
-written_alike [] (i ∷ indexes) w d = absurd w
-written_alike (c ∷ store) [] w d = absurd w
-written_alike (c ∷ store) (i ∷ indexes) w d =
-    let same : bytes_eq c.name c.name ≡ true = (bytes_eq-Decides c.name c.name).1 refl in
-    let size = w.0 in
-    let all : length i ≤ length c.fields = omega (arith, size) in
-    let head : bytes_named c.name (c ∷ store) (i ∷ indexes) ≡ indexes_bytes i = rw same (ap indexes_bytes (take_all (length c.fields) i all)) in
-    ap (λ (l : List ℕ). l ++ flat_map (λ (t : Signature). bytes_named t.name (c ∷ store) (i ∷ indexes)) (signatures_of store)) head
-    ∙ ap (λ (l : List ℕ). indexes_bytes i ++ l) (later_alike c i store indexes (signatures_of store) d.0 ∙ written_alike store indexes w.3 d.1)
-
-pub metadata_written : (store : Store) (indexes : List (List Index)) → AreWhole store indexes → IsCatalogue (signatures_of store)
-    → bytes_written store indexes ≡ metadata_bytes (signatures_of store) indexes
-unfolding metadata_bytes
-metadata_written store indexes w k = ap (λ (l : List ℕ). part_bytes (catalogue_bytes (signatures_of store)) ++ l) (written_alike store indexes w k.distinct)
+-- a store has as many lists of indexes as coverages
+pub as_many : (store : Store) (indexes : List (List Index)) → AreWhole store indexes → length indexes ≡ length store
+as_many [] [] w = refl
+as_many [] (i ∷ indexes) w = absurd w
+as_many (c ∷ store) [] w = absurd w
+as_many (c ∷ store) (i ∷ indexes) w = let rest = as_many store indexes w.3 in omega (arith, rest)
 
 -- each coverage's indexes are counted, and list tiles of its domain
 pub are_counted : (store : Store) (indexes : List (List Index)) → AreWhole store indexes → AreCounted (signatures_of store) indexes
@@ -186,29 +126,17 @@ pub metadata_some : (catalogue : ℕ) (indexes : List (List Index)) → 0 < meta
 unfolding metadata_size
 metadata_some catalogue indexes = omega arith
 
-pub written_fits : (metadata : List ℕ) (catalogue : List Signature) (store : Store) (indexes : List (List Index)) (held : List SnapshotView) (uses : ℕ → ℕ) → metadata ≡ bytes_written store indexes
-    → AreWhole store indexes → IsCatalogue catalogue → IsClosable catalogue store indexes held uses
-    → (metadata ≡ metadata_bytes (signatures_of store) indexes) × (0 < length metadata) × (chain_blocks (length metadata) ≤ free_up_to 1048575 uses)
-written_fits metadata catalogue store indexes held uses is w k ready =
-    let known : IsCatalogue (signatures_of store) = subst IsCatalogue ready.signatures k in
-    let same : metadata ≡ metadata_bytes (signatures_of store) indexes = is ∙ metadata_written store indexes w known in
+pub written_fits : (metadata : List ℕ) (catalogue : List Signature) (store : Store) (indexes : List (List Index)) (held : List SnapshotView) (uses : ℕ → ℕ)
+    → metadata ≡ metadata_bytes (signatures_of store) indexes → IsClosable catalogue store indexes held uses
+    → (0 < length metadata) × (chain_blocks (length metadata) ≤ free_up_to last_block uses)
+written_fits metadata catalogue store indexes held uses is ready =
     let size : length metadata ≡ metadata_size (length (catalogue_bytes catalogue)) indexes =
-    ap (λ (l : List ℕ). length l) same ∙ metadata_length (signatures_of store) indexes
+    ap (λ (l : List ℕ). length l) is ∙ metadata_length (signatures_of store) indexes
     ∙ ap (λ (l : List Signature). metadata_size (length (catalogue_bytes l)) indexes) (sym ready.signatures) in
     let free = free_unlisted uses indexes held ready.counted in (
-      same,
       subst (λ (n : ℕ). 0 < n) (sym size) (metadata_some (length (catalogue_bytes catalogue)) indexes),
       rw (size, free) ready.room,
     )
-
--- where nothing is listed nothing is written
-pub nothing_written : (bytes : List ℕ) → bytes ≡ bytes ++ indexes_bytes []
-unfolding indexes_bytes
-nothing_written bytes = sym (append-nil bytes)
-
-pub nothing_named : (bytes name : List ℕ) (store : Store) (indexes : List (List Index)) → found name store ≡ None → bytes ≡ bytes ++ bytes_named name store indexes
-nothing_named bytes name store indexes none =
-    nothing_written bytes ∙ ap (λ (o : Option Coverage). bytes ++ indexes_bytes (field_indexes o (indexes_named name store indexes))) (sym none)
 
 -- a close that was refused, and then another
 pub spelled_again : (fault : CloseFault) (old mid : ServerView) (content : List ℕ) → IsNotClosed fault old mid

@@ -30,6 +30,7 @@ pub mod RoomLemmas
 pub mod PlacedLemmas
 pub mod HoldingLemmas
 pub mod JobLemmas
+pub mod LayerLemmas
 pub mod StepLemmas
 pub mod FetchingLemmas
 pub mod ValueLemmas

@@ -1,8 +1,9 @@
 -- The parts of an opening: the blocks that indexes list, the coverages that are attached so far, and what a disk lists.
-use Rattle.std.proofs.Common.{◌≡◌, ℕ, zero, suc, ◌+◌, ◌/◌, ◌<◌, ◌≤◌, max, List, [], ◌∷◌, ◌++◌, length, take, get_or, Vec, Contains, None, arith, refl, sym, ◌∙◌, ap, subst, inl, inr, append-nil}
-use Rattle.std.specs.Prelude.{◌⊎◌, IsTrue}
+use Rattle.std.proofs.Common.{◌≡◌, ℕ, zero, suc, ◌+◌, ◌/◌, ◌<◌, ◌≤◌, max, List, [], ◌∷◌, ◌++◌, length, take, get_or, Vec, Contains, Some, None, arith, refl, sym, ◌∙◌, ap, subst, inl, inr, append-nil}
+use Rattle.std.specs.Prelude.{◌⊎◌, IsTrue, slice_get}
 use Rattle.std.specs.declared.alloc.Global.{Global}
 use Rattle.std.proofs.lemmas.Bool.{cases_lt}
+use Rattle.std.proofs.lemmas.Option.{get_or_from_slice_get}
 use Rattle.std.proofs.lemmas.List.{take_more, take_all, map-append, length_push}
 use Rattle.arr_core.specs.declared.signature.Signature.{Signature}
 use Rattle.arr_core.specs.Names.{AreDistinct}
@@ -127,6 +128,10 @@ pub place_taken : (signatures : List Signature) (place : ℕ) → place < length
 place_taken [] place h = absurd (omega arith)
 place_taken (s ∷ signatures) zero h = refl
 place_taken (s ∷ signatures) (suc place) h = ap suc (place_taken signatures place (omega (arith, h)))
+
+-- the signature at a place, as a look-up with a default finds it
+pub placed : (signatures : List Signature) (place : ℕ) (s : Signature) → slice_get signatures place ≡ Some s → s ≡ get_or signatures place s
+placed signatures place s is = sym (get_or_from_slice_get signatures place s s is)
 
 pub next_fresh : (content : List ℕ) (signatures : List Signature) (before : List (List Index)) (store : Store) (held : List (List Index)) (place : ℕ) (s : Signature)
     → IsAttached content signatures before store held place → place < length signatures → s ≡ get_or signatures place s → IsCatalogue signatures → found s.name store ≡ None

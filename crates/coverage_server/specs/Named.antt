@@ -1,8 +1,10 @@
--- The coverages that a query names, by their signatures.
+-- The coverages that a query or a template names, by their signatures.
 use Rattle.std.specs.Prelude.{◌≡◌, ◌⊎◌, ℕ, List, None}
 use Rattle.arr_core.specs.declared.signature.Signature.{Signature}
 use Rattle.wcps_text.specs.Tree.{QueryTree}
 use Rattle.wcps_types.specs.Queries.{typ_query}
+use Rattle.map_templates.specs.declared.params.Params.{Params}
+use Rattle.map_templates.specs.Expansion.{asked}
 use Rattle.catalogue.specs.Signatures.{listed}
 
 -- a name is found among some signatures as it is among all
@@ -20,3 +22,7 @@ StayFound all old new = (name : List ℕ) → IsFoundIn all old name → IsFound
 -- a query is typed over some coverages as it is over all
 abbrev pub IsTypedAlike : List Signature → List Signature → QueryTree → Type 0
 IsTypedAlike all some q = typ_query some q ≡ typ_query all q
+
+-- with these parameters each template asks of some coverages what it asks of all
+abbrev pub IsAskedAlike : List Signature → List Signature → Params → Type 0
+IsAskedAlike all some params = (template : List ℕ) → asked template params some ≡ asked template params all

@@ -2,6 +2,7 @@
 use Rattle.std.specs.Prelude.{◌≡◌, ℕ, ◌+◌, ◌≤◌, Bool, IsTrue, IsSomeAnd, List, [], map, length}
 use Rattle.arr_core.specs.declared.signature.Signature.{Signature}
 use Rattle.arr_core.specs.Stores.{Store, found}
+use Rattle.block_file.specs.Limits.{last_block}
 use Rattle.block_file.specs.State.{free_up_to}
 use Rattle.catalogue.specs.Bytes.{catalogue_bytes}
 use Rattle.job_desk.specs.Desks.{DeskView}
@@ -59,10 +60,10 @@ pub record IsUnchanged (old new : ServerView) : Type 0 where
 abbrev pub uses_in : List (List Index) → List SnapshotView → ℕ → ℕ
 uses_in indexes held k = listed_all indexes k + listed_snapshots held k
 
--- How many blocks of a disk are free: of those from 1 to 1,048,575 as many as no index lists and nothing that is held for
--- jobs. Block 0 is the header.
+-- How many blocks of a disk are free: of those behind the header as many as no index lists and nothing that is held for
+-- jobs.
 abbrev pub free_in : List (List Index) → List SnapshotView → ℕ
-free_in indexes held = free_up_to 1048575 (uses_in indexes held)
+free_in indexes held = free_up_to last_block (uses_in indexes held)
 
 abbrev pub free_blocks : ServerView → ℕ
 free_blocks v = free_in v.indexes v.held

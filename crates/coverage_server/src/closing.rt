@@ -2,7 +2,8 @@
 ghost use Rattle.std.specs.Prelude.{◌≡◌, ◌++◌, IsErrOf, IfOk, IfErr, IsTrue, OnOk};
 ghost use Rattle.block_file.specs.Format.{KeepsHeader};
 ghost use Rattle.disk_face.specs.Disk.{Tells};
-ghost use Rattle.coverage_server.specs.Closing.{bytes_written, indexes_held, WritesHeld};
+ghost use Rattle.metadata.specs.Metadata.{indexes_bytes};
+ghost use Rattle.coverage_server.specs.Closing.{metadata_held, WritesHeld};
 ghost use Rattle.coverage_server.specs.Damage.{KeepsSpelled};
 ghost use Rattle.coverage_server.specs.Disk.{disk_view};
 ghost use Rattle.coverage_server.specs.Sessions.{IsClosedTo, IsNotClosed, IsLeft};
@@ -11,12 +12,12 @@ ghost use Rattle.coverage_server.specs.Views.{IsSound, IsUnchanged, without_jobs
 use crate::cells::AskedCells;
 use crate::coverages::Coverages;
 use crate::server::Server;
-use arr_core::Name;
 use block_file::CloseFault;
 use disk_face::Disk;
 use metadata::push_part;
 use std::alloc::{AllocError, Global};
 use tile_exec::Workspace;
+use tile_store::FieldIndex;
 
 /// A server that was not closed, and why. It has its store, and may be closed again.
 #[derive(Drop)]
@@ -25,20 +26,12 @@ pub struct NotClosed<D: Disk> {
     pub fault: CloseFault,
 }
 
-/// Puts the indexes of the coverage with a name behind the others.
-fn push_indexes<D: Disk>(
-    alloc: Global,
-    coverages: &Coverages<D>,
-    name: &Name,
-    bytes: &mut Vec<u8>,
-) -> Result<(), AllocError>
-    ensures { OnOk result (bytes.new.items ≡ bytes.old.items ++ indexes_held name.now coverages.now) }
+/// Puts the indexes of the fields of a coverage behind the others.
+fn push_indexes(alloc: Global, fields: &[FieldIndex], bytes: &mut Vec<u8>) -> Result<(), AllocError>
+    ensures { OnOk result (bytes.new.items ≡ bytes.old.items ++ indexes_bytes fields.now) }
 {
-    let Some(signature) = coverages.signature(name) else {
-        return Ok(());
-    };
-    for field in 0..signature.fields.len() {
-        let index = coverages.index_bytes(alloc, name, field)?;
+    for field in fields {
+        let index = field.index().to_bytes(alloc)?;
         push_part(bytes, &index)?;
     }
     Ok(())
@@ -46,13 +39,11 @@ fn push_indexes<D: Disk>(
 
 /// The metadata: the catalogue, and the indexes of each coverage.
 fn metadata_of<D: Disk>(alloc: Global, coverages: &Coverages<D>) -> Result<Vec<u8>, AllocError>
-    ensures { IfOk result (λ bytes. bytes.items ≡ bytes_written coverages.now.store coverages.now.indexes) }
+    ensures { IfOk result (λ bytes. bytes.items ≡ metadata_held coverages.now) }
 {
-    let listed = coverages.signatures(alloc)?;
-    let signatures = listed.as_slice();
     let mut bytes = coverages.catalogue_part(alloc)?;
-    for signature in signatures {
-        push_indexes(alloc, coverages, &signature.name, &mut bytes)?;
+    for place in 0..coverages.len() {
+        push_indexes(alloc, coverages.indexes(place), &mut bytes)?;
     }
     Ok(bytes)
 }

@@ -1,5 +1,5 @@
 //! The coverages of a disk: their catalogue, and their cells in tiles.
-ghost use Rattle.std.specs.Prelude.{◌≡◌, ◌≤◌, None, length, IfOk, IfErr, IfSome, IfNone, OnOk, OnErr};
+ghost use Rattle.std.specs.Prelude.{◌≡◌, ◌<◌, ◌≤◌, None, Some, length, IfOk, IfErr, IfSome, IfNone, OnOk, OnErr};
 ghost use Rattle.std.specs.Prelude.{IsErr, IsErrOf, IsTrue, option_copied, option_map, slice_get};
 ghost use Rattle.arr_core.specs.Runs.{cells_of};
 ghost use Rattle.arr_core.specs.Stores.{deleted, found};
@@ -9,7 +9,7 @@ ghost use Rattle.catalogue.specs.Bytes.{catalogue_bytes};
 ghost use Rattle.metadata.specs.Metadata.{part_bytes};
 ghost use Rattle.catalogue.specs.Signatures.{IsCatalogue, listed};
 ghost use Rattle.tile_store.specs.Faults.{Refuses};
-ghost use Rattle.raster_store.specs.Calls.{AreWhole, HasField, IsIndexOf, indexes_without};
+ghost use Rattle.raster_store.specs.Calls.{AreWhole, HasField, indexes_without};
 ghost use Rattle.raster_store.specs.Views.{Fetched, SnapshotView};
 ghost use Rattle.raster_store.specs.Fetches.{IsPlaceOf, HasTile, HasRanks, HasTileCount, AreTileCells};
 ghost use Rattle.raster_store.specs.Snapshots.{held_for};
@@ -19,7 +19,7 @@ ghost use Rattle.coverage_server.specs.Leaving.{Continues, KeepsDisk};
 ghost use Rattle.coverage_server.specs.Tiles.{ArePickedFor, IsSpelledFor, store_for};
 ghost use Rattle.disk_face.specs.Disk.{Tells};
 ghost use Rattle.kvp_front.specs.Contents.{content_view};
-ghost use Rattle.coverage_server.specs.Closing.{bytes_written, ClosesFile, HoldsClosed, WritesHeld};
+ghost use Rattle.coverage_server.specs.Closing.{metadata_held, ClosesFile, HoldsClosed, WritesHeld};
 ghost use Rattle.tile_store.specs.declared.fault.Fault.TheVariants as device;
 ghost use Rattle.kvp_front.specs.Contents as contents;
 ghost use Rattle.coverage_server.specs.Disk.{IsOpenFile};
@@ -38,6 +38,7 @@ use page_pool::PagePool;
 use raster_store::{Fault, RasterStore, TileAt, WriteFault};
 use std::alloc::{AllocError, Global};
 use std::marker::Model;
+use tile_store::FieldIndex;
 
 /// The coverages of a disk. As many blocks stay free as the metadata takes, so that the disk can be closed.
 #[derive(Drop)]
@@ -142,12 +143,12 @@ impl<D: Disk> Coverages<D> {
         self.catalogue.len()
     }
 
-    /// The signatures of the coverages, in the order of their insertion.
-    pub fn signatures(&self, alloc: Global) -> Result<Vec<Signature>, AllocError>
-        ensures { IfOk result (λ list. list.items ≡ signatures_of self.now.store) }
+    /// The signature of the coverage at a place, in the order of insertion.
+    pub fn at(&self, place: usize) -> &Signature
+        requires { place < length self.now.store }
+        ensures { slice_get (signatures_of self.now.store) place ≡ Some result.now }
     {
-        let list = self.catalogue.list(alloc)?;
-        Ok(list)
+        self.catalogue.at(place)
     }
 
     /// The signature of the coverage with a name.
@@ -387,24 +388,18 @@ impl<D: Disk> Coverages<D> {
         Ok(part)
     }
 
-    /// The bytes of the index of a field, by its place, of the coverage with a name.
-    pub fn index_bytes(
-        &self,
-        alloc: Global,
-        name: &Name,
-        field: usize,
-    ) -> Result<Vec<u8>, AllocError>
-        requires field { HasField name.now field self.now.store }
-        ensures { IfOk result (λ bytes. IsIndexOf name.now field self.now.store self.now.indexes bytes.items) }
+    /// The indexes of the fields of the coverage at a place.
+    pub fn indexes(&self, place: usize) -> &[FieldIndex]
+        requires { place < length self.now.store }
+        ensures { slice_get self.now.indexes place ≡ Some result.now }
     {
-        let bytes = self.cells.index_bytes(alloc, name, field)?;
-        Ok(bytes)
+        self.cells.indexes(place)
     }
 
     /// Writes the metadata into blocks that are free, and then the header of a closed file. Refused for memory, or
     /// where the disk has counted a failure.
     pub fn write_metadata(&mut self, metadata: &[u8]) -> Result<(), CloseFault>
-        requires { metadata.now ≡ bytes_written self.old.store self.old.indexes }
+        requires { metadata.now ≡ metadata_held self.old }
         ensures written { OnOk result (WritesHeld self.old self.new) }
         ensures unchanged { IsUnchanged self.old self.new }
         ensures sound { IsSound self.old → IsSound self.new }

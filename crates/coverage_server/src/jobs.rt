@@ -162,7 +162,7 @@ pub fn step_job<D: Disk>(
         return Err(AnswerError::Named(Refusal::NoSuchJob));
     };
     let Some(coverages) = desk.coverages(number) else {
-        return Err(AnswerError::Named(Refusal::NoSuchJob));
+        unreachable!();
     };
     let reply = format!(in cells.alloc; "left {}\n", left.saturating_sub(units))?;
     if left == 0 {

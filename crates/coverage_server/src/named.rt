@@ -1,4 +1,5 @@
-//! The signatures of the coverages that a query names, so that a query is typed without a copy of all others.
+//! The signatures of the coverages that a query or a template names: what is asked of these alone is what is asked of
+//! all, of which no copy is made.
 
 ghost use Rattle.std.specs.Prelude.{◌≡◌, [], All, IfOk, OnOk};
 ghost use Rattle.std.specs.List.{list_any};
@@ -6,12 +7,13 @@ ghost use Rattle.std.specs.Str.{bytes_eq};
 ghost use Rattle.arr_core.specs.declared.signature.Signature.{Signature};
 ghost use Rattle.wcps_text.specs.declared.tree.Binding.{Binding};
 ghost use Rattle.wcps_text.specs.Tree.{query_view};
-ghost use Rattle.coverage_server.specs.Named.{AreAmong, IsFoundIn, IsTypedAlike, StayFound};
+ghost use Rattle.coverage_server.specs.Named.{AreAmong, IsAskedAlike, IsFoundIn, IsTypedAlike, StayFound};
 ghost use Rattle.coverage_server.specs.Views.{signatures_of};
 
 use crate::coverages::Coverages;
 use arr_core::Signature;
 use disk_face::Disk;
+use map_templates::Params;
 use std::alloc::{AllocError, Global};
 use wcps_text::{Binding, Query, QueryName};
 
@@ -79,5 +81,27 @@ pub fn signatures_for<D: Disk>(
     for binding in &query.bindings {
         push_names(alloc, coverages, &binding.coverages, &mut signatures)?;
     }
+    Ok(signatures)
+}
+
+/// The signatures of the coverages that the layers of a template name, each once.
+pub fn signatures_of_layers<D: Disk>(
+    alloc: Global,
+    coverages: &Coverages<D>,
+    params: &Params,
+) -> Result<Vec<Signature>, AllocError>
+    ensures { IfOk result (λ list. IsAskedAlike (signatures_of coverages.now.store) list.items params.now) }
+{
+    let mut signatures = Vec::new(alloc);
+    push_named(
+        alloc,
+        coverages,
+        params.layer.coverage.as_str(),
+        &mut signatures,
+    )?;
+    let Some(second) = &params.second else {
+        return Ok(signatures);
+    };
+    push_named(alloc, coverages, second.coverage.as_str(), &mut signatures)?;
     Ok(signatures)
 }

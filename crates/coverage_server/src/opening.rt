@@ -16,7 +16,6 @@ ghost use Rattle.coverage_server.specs.Sessions.{IsOpenedFrom, LeavesUnopened};
 use crate::cells::AskedCells;
 use crate::coverages::Coverages;
 use crate::server::Server;
-use arr_core::Signature;
 use block_file::{BlockFile, Blocks, CHAIN_BYTES, NotOpened, OpenFault, Opened, State};
 use catalogue::Catalogue;
 use disk_face::Disk;
@@ -33,12 +32,11 @@ use tile_index::TileIndex;
 const PAGES: usize = 256;
 
 /// Puts the blocks that the indexes of fields list behind others.
-fn push_blocks(alloc: Global, fields: &[TileIndex], blocks: &mut Vec<u32>) -> Result<(), AllocError>
+fn push_blocks(fields: &[TileIndex], blocks: &mut Vec<u32>) -> Result<(), AllocError>
     ensures { OnOk result ((k : ℕ) → times blocks.new.items k ≡ times blocks.old.items k + listed_fields fields.now k) }
 {
     for index in fields {
-        let listed = index.blocks(alloc)?;
-        blocks.extend_from_slice(&listed)?;
+        index.push_blocks(blocks)?;
     }
     Ok(())
 }
@@ -49,7 +47,7 @@ fn blocks_of(alloc: Global, indexes: &[Vec<TileIndex>]) -> Result<Vec<u32>, Allo
 {
     let mut blocks = Vec::new(alloc);
     for fields in indexes {
-        push_blocks(alloc, fields, &mut blocks)?;
+        push_blocks(fields, &mut blocks)?;
     }
     Ok(blocks)
 }
@@ -136,7 +134,6 @@ fn attach_fault(fault: Fault) -> OpenFault
 
 /// Attaches the coverages of a catalogue, in order, to cells without one.
 fn attach_all<B: Blocks>(
-    alloc: Global,
     cells: &mut RasterStore<B>,
     catalogue: &Catalogue,
     indexes: Vec<Vec<TileIndex>>,
@@ -154,10 +151,9 @@ fn attach_all<B: Blocks>(
     ensures blocks { cells.new.blocks ≡ cells.old.blocks }
 {
     let _catalogue = catalogue.len();
-    let signatures = catalogue.list(alloc)?;
     let mut place = 0usize;
     for fields in indexes {
-        if let Err(fault) = cells.attach(&signatures[place], fields) {
+        if let Err(fault) = cells.attach(catalogue.at(place), fields) {
             return Err(attach_fault(fault));
         }
         place += 1;
@@ -191,7 +187,7 @@ fn coverages_of<D: Disk>(alloc: Global, opened: Opened<D>) -> Result<Coverages<D
     };
     let pool = PagePool::new(alloc, file, PAGES);
     let mut cells = RasterStore::new(alloc, pool);
-    match attach_all(alloc, &mut cells, &catalogue, indexes) {
+    match attach_all(&mut cells, &catalogue, indexes) {
         Ok(()) => Ok(Coverages::new(catalogue, cells)),
         Err(fault) => Err(NotOpened {
             disk: cells.into_blocks().into_file().into_disk(),

@@ -116,10 +116,8 @@ pub fn list<D: Disk>(alloc: Global, coverages: &Coverages<D>) -> Result<Reply, A
     ensures answer { IfOk result IsAnswer }
 {
     let mut text = String::new(alloc);
-    let listed = coverages.signatures(alloc)?;
-    let signatures = listed.as_slice();
-    for signature in signatures {
-        text.push_str(signature.name.as_str())?;
+    for place in 0..coverages.len() {
+        text.push_str(coverages.at(place).name.as_str())?;
         text.push_str("\n")?;
     }
     Ok(Reply::Text(text))

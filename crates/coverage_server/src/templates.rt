@@ -13,6 +13,7 @@ ghost use Rattle.coverage_server.specs.Views.{still_of};
 use crate::cells::AskedCells;
 use crate::coverages::Coverages;
 use crate::error::AnswerError;
+use crate::named::signatures_of_layers;
 use crate::query::process;
 use arr_core::Signature;
 use disk_face::Disk;
@@ -90,7 +91,7 @@ fn expansion<D: Disk>(
     ensures { GivesExpansion (expansion (template_view request.now) coverages.now.store) result }
 {
     let params = params_of(alloc, request)?;
-    let signatures = coverages.signatures(alloc)?;
+    let signatures = signatures_of_layers(alloc, coverages, &params)?;
     expanded(alloc, request, &params, &signatures)
 }
 

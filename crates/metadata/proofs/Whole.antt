@@ -23,7 +23,7 @@ metadata-parts v = pairs (IsCatalogueIn v) catalogue_part_bytes (AreCountedIn v)
 pub of-version : {v : Version} {bytes : List ℕ} {signatures : List Signature} {indexes : List (List Index)} → IsMetadata bytes signatures indexes → IsOfVersion v signatures indexes → IsWhole v (signatures, indexes)
 of-version {v} {bytes} {signatures} {indexes} m o = ((m.catalogue, o.axes), counted-in v signatures indexes m.counted o.forms)
 
-pub read-whole : (v : Version) {bytes mid end : List ℕ} {held shown listed : List Signature} {indexes : List (List Index)} → shown ≡ listed
-    → listed ≡ held → IsRead (IsCatalogueIn v) catalogue_part_bytes bytes held mid → IsRead (AreCountedIn v shown) (flat_map indexes_bytes) mid indexes end
+pub read-whole : (v : Version) {bytes mid end : List ℕ} {held : List Signature} {indexes : List (List Index)}
+    → IsRead (IsCatalogueIn v) catalogue_part_bytes bytes held mid → IsRead (AreCountedIn v held) (flat_map indexes_bytes) mid indexes end
     → IsRead (IsWhole v) whole_bytes bytes (held, indexes) end
-read-whole v e l r s = read-both (metadata-parts v) r (rw (e ∙ l) at s)
+read-whole v r s = read-both (metadata-parts v) r s

@@ -7,7 +7,6 @@ ghost use Rattle.metadata.specs.Metadata.{indexes_of, IsMetadata, IsOfVersion, A
 ghost use Rattle.metadata.specs.Parts.{catalogue_part_bytes, index_part_bytes, IsCatalogueIn, IsIndexIn, IsPartRead, NoPartIsRead};
 ghost use Rattle.metadata.specs.Parts.{AreFieldsRead, NoFieldsAreRead, AreIndexesRead, NoIndexesAreRead};
 
-use arr_core::Signature;
 use byteorder::{ByteOrder, LittleEndian};
 use catalogue::Catalogue;
 use file_bytes::{ReadError, Reader, Version};
@@ -89,19 +88,20 @@ fn read_fields(
     Ok(indexes)
 }
 
-/// For each of the coverages in order, the indexes of its fields.
+/// For each coverage of a catalogue in order, the indexes of its fields.
 fn read_indexes(
     alloc: Global,
     version: Version,
     bytes: &mut Reader,
-    signatures: &[Signature],
+    catalogue: &Catalogue,
 ) -> Result<Vec<Vec<TileIndex>>, ReadError>
-    ensures read { IfOk result (λ m. AreIndexesRead version signatures.now bytes.old (indexes_of m.items) bytes.new) }
-    ensures damaged { IsErrOf result ReadError.Damaged → NoIndexesAreRead version signatures.now bytes.old }
+    ensures read { IfOk result (λ m. AreIndexesRead version catalogue.now bytes.old (indexes_of m.items) bytes.new) }
+    ensures damaged { IsErrOf result ReadError.Damaged → NoIndexesAreRead version catalogue.now bytes.old }
 {
     let mut indexes = Vec::new(alloc);
-    for signature in signatures {
-        let fields = read_fields(alloc, version, bytes, signature.fields.len())?;
+    for place in 0..catalogue.len() {
+        let count = catalogue.at(place).fields.len();
+        let fields = read_fields(alloc, version, bytes, count)?;
         indexes.push(fields)?;
     }
     Ok(indexes)
@@ -117,8 +117,7 @@ pub fn read_metadata(alloc: Global, version: Version, bytes: &[u8]) -> Result<Me
 {
     let mut rest = Reader::new(bytes);
     let catalogue = read_catalogue(alloc, version, &mut rest)?;
-    let signatures = catalogue.list(alloc)?;
-    let indexes = read_indexes(alloc, version, &mut rest, &signatures)?;
+    let indexes = read_indexes(alloc, version, &mut rest, &catalogue)?;
     if rest.len() != 0 {
         return Err(ReadError::Damaged);
     }

@@ -91,16 +91,11 @@ pub(crate) fn copies_of(
 }
 
 /// Puts the blocks of all tiles of fields behind others.
-fn push_blocks(
-    alloc: Global,
-    fields: &[FieldIndex],
-    blocks: &mut Vec<u32>,
-) -> Result<(), AllocError>
+fn push_blocks(fields: &[FieldIndex], blocks: &mut Vec<u32>) -> Result<(), AllocError>
     ensures { OnOk result ((k : ℕ) → times blocks.new.items k ≡ times blocks.old.items k + listed_fields fields.now k) }
 {
     for field in fields {
-        let listed = field.index().blocks(alloc)?;
-        blocks.extend_from_slice(&listed)?;
+        field.index().push_blocks(blocks)?;
     }
     Ok(())
 }
@@ -111,7 +106,7 @@ pub(crate) fn blocks_of(alloc: Global, held: &[Held]) -> Result<Vec<u32>, AllocE
 {
     let mut blocks = Vec::new(alloc);
     for coverage in held {
-        push_blocks(alloc, &coverage.fields, &mut blocks)?;
+        push_blocks(&coverage.fields, &mut blocks)?;
     }
     Ok(blocks)
 }

@@ -1,6 +1,6 @@
 //! Coverages by their names: functions on boxes.
 
-ghost use Rattle.std.specs.Prelude.{◌≡◌, ◌<◌, ◌≤◌, [], length, None, IsSomeAnd, IsErr, IsErrOf, IfOk, IfErr, IfSome};
+ghost use Rattle.std.specs.Prelude.{◌≡◌, ◌<◌, ◌≤◌, [], length, None, Some, IsSomeAnd, IsErr, IsErrOf, IfOk, IfErr, IfSome};
 ghost use Rattle.std.specs.Prelude.{IfNone, OnOk, OnErr, IsTrue, option_copied, option_map, slice_get};
 ghost use Rattle.std.specs.Bool.{OnTrue, OnFalse};
 ghost use Rattle.arr_core.specs.Domains.{IsInside, IsBoxOf};
@@ -36,7 +36,7 @@ use disk_face::DiskFault;
 use std::alloc::{AllocError, Global};
 use std::marker::Model;
 use tile_index::TileIndex;
-use tile_store::{Fault, Numbers, Patch, read_area, read_point, write_area};
+use tile_store::{Fault, FieldIndex, Numbers, Patch, read_area, read_point, write_area};
 
 /// The coverages in the order of their insertion, over blocks; the version that the next one to come or to be written
 /// gets; the tiles that are kept decoded, by the versions of their coverages; the buffer that the bytes of a tile are
@@ -635,6 +635,14 @@ impl<B: Blocks> RasterStore<B> {
         ensures held { AreListed (B.state self.now.blocks) self.now.coverages self.now.indexes }
     {
         self.coverages.len()
+    }
+
+    /// The indexes of the fields of the coverage at a place. Takes no memory.
+    pub fn indexes(&self, place: usize) -> &[FieldIndex]
+        requires { place < length self.now.coverages }
+        ensures { slice_get self.now.indexes place ≡ Some result.now }
+    {
+        &self.coverages[place].fields
     }
 
     /// The bytes of the index of a field, by its place, of the coverage with a name.

@@ -1,5 +1,5 @@
 -- The bytes of numbers, entries and indexes can be told apart with whatever follows them.
-use Rattle.std.proofs.Common.{◌≡◌, ℕ, ◌*◌, ◌<◌, ◌≤◌, ◌^◌, List, [], ◌∷◌, ◌++◌, length, flat_map, refl, sym, ap, ap₂, subst, ◌∙◌, arith, append_assoc, append-nil, length-append, All}
+use Rattle.std.proofs.Common.{◌≡◌, ℕ, ◌+◌, ◌*◌, ◌<◌, ◌≤◌, ◌^◌, List, [], ◌∷◌, ◌++◌, length, flat_map, refl, sym, ap, ap₂, subst, ◌∙◌, arith, append_assoc, append-nil, length-append, All}
 use Rattle.std.proofs.lemmas.List.{get_or_at, get_or_append_left, flat_map_more}
 use Rattle.file_bytes.specs.Codes.{IsPrefixCode, IsRead}
 use Rattle.file_bytes.proofs.Numbers.{same-numbers}
@@ -18,6 +18,13 @@ number-code x y a b hx hy e = same-numbers 4 x y a b hx hy e
 pub length-numbers : (xs : List ℕ) → length (flat_map number_bytes xs) ≡ 4 * length xs
 length-numbers [] = refl
 length-numbers (x ∷ xs) = let ih = length-numbers xs in omega (arith, ih)
+
+-- how many bytes the entry of a tile has
+pub entry_length : (x : ℕ × Entry) → length (entry_bytes x) ≡ 8 + 4 * length x.1.blocks
+unfolding entry_bytes
+entry_length x =
+    let numbers = number_bytes (length_number x.1.form x.1.length) ++ flat_map number_bytes x.1.blocks in
+    omega (arith, length-append (number_bytes x.0) numbers, length-append (number_bytes (length_number x.1.form x.1.length)) (flat_map number_bytes x.1.blocks), length-numbers x.1.blocks)
 
 pub entry-parts : (x : ℕ × Entry) (rest : List ℕ) → entry_bytes x ++ rest ≡ number_bytes x.0 ++ (number_bytes (length_number x.1.form x.1.length) ++ (flat_map number_bytes x.1.blocks ++ rest))
 unfolding entry_bytes

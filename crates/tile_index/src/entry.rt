@@ -1,36 +1,41 @@
 //! Where the bytes of a tile lie.
 
-ghost use Rattle.std.specs.Prelude.{◌≡◌, ◌<◌, ◌≤◌, ◌^◌, ◌++◌, ◌∷◌, [], length, All};
+ghost use Rattle.std.specs.Prelude.{◌≡◌, ◌<◌, ◌≤◌, ◌^◌, ◌+◌, ◌*◌, ◌++◌, ◌∷◌, ℕ, [], length, All};
+ghost use Rattle.tile_index.specs.Bytes.{entry_bytes};
+ghost use Rattle.tile_index.specs.Limits.{max_tile_blocks};
 
 use file_bytes::Form;
 use std::marker::Model;
 
-/// The numbers of the blocks of a tile, in the order of its bytes: at most ten, which 40,960 bytes fill. They take no
-/// memory of their own.
+/// How many blocks a tile may have.
+pub const MAX_TILE_BLOCKS: usize = 10;
+
+/// The numbers of the blocks of a tile, in the order of its bytes. They take no memory of their own.
 #[derive(Drop)]
 pub struct BlockList {
-    numbers: [u32; 10],
+    numbers: [u32; MAX_TILE_BLOCKS],
     count: usize,
 }
 
 impl Model for BlockList {
     ghost use Rattle.std.specs.Prelude.{List, ℕ, ◌≤◌, take};
+    ghost use Rattle.tile_index.specs.Limits.{max_tile_blocks};
 
     ghost Value = { List ℕ };
 
     ghost view = { λ b. take b.count b.numbers };
 
-    ghost invariant = { λ b. b.count ≤ 10 };
+    ghost invariant = { λ b. b.count ≤ max_tile_blocks };
 }
 
 impl BlockList {
     /// The blocks of a list, in its order.
     pub fn new(numbers: &[u32]) -> BlockList
-        requires { length numbers.now ≤ 10 }
+        requires { length numbers.now ≤ max_tile_blocks }
         ensures blocks { result ≡ numbers.now }
         ensures numbers { All (λ b. b < 2 ^ 32) numbers.now }
     {
-        let mut kept = [0; 10];
+        let mut kept = [0; MAX_TILE_BLOCKS];
         kept[..numbers.len()].copy_from_slice(numbers);
         BlockList {
             numbers: kept,
@@ -43,18 +48,26 @@ impl BlockList {
         ensures { result ≡ [] }
     {
         BlockList {
-            numbers: [0; 10],
+            numbers: [0; MAX_TILE_BLOCKS],
             count: 0,
         }
     }
 
     /// One block more.
     pub(crate) fn push(&mut self, number: u32)
-        requires { length self.old < 10 }
+        requires { length self.old < max_tile_blocks }
         ensures { self.new ≡ self.old ++ number ∷ [] }
     {
         self.numbers[self.count] = number;
         self.count += 1;
+    }
+
+    /// How many blocks there are.
+    fn len(&self) -> usize
+        ensures len { result ≡ length self.now }
+        ensures few { result ≤ max_tile_blocks }
+    {
+        self.count
     }
 
     /// The blocks as a slice.
@@ -84,6 +97,15 @@ pub struct Entry {
 }
 
 impl Entry {
+    /// How many bytes an index has for the entry and its tile.
+    #[tactic(auto, using(crate::proofs::Codes::entry_length))]
+    pub fn bytes_len(&self) -> u64
+        ensures value { (tile : ℕ) → result ≡ length (entry_bytes (tile, self.now)) }
+        ensures small { result ≤ 8 + 4 * max_tile_blocks }
+    {
+        8 + 4 * self.blocks.len() as u64
+    }
+
     /// The same entry again.
     pub(crate) fn copy(&self) -> Entry
         ensures { result ≡ self.now }

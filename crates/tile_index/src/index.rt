@@ -2,6 +2,7 @@
 
 ghost use Rattle.std.specs.Prelude.{◌≡◌, ◌<◌, ◌≤◌, ◌^◌, ℕ, [], ◌++◌, length, flat_map, All, Option, None, Some, IfOk, OnOk, OnErr, option_copied, get_or, slice_index_or};
 ghost use Rattle.tile_index.specs.declared.entry.Entry.{Entry};
+ghost use Rattle.tile_index.specs.Bytes.{index_bytes};
 ghost use Rattle.tile_index.specs.Entries.{IsEntry};
 ghost use Rattle.tile_index.specs.Index.{found_at, changed_at, IsRising, AreSmall, AreEntries, IsIndex};
 
@@ -100,14 +101,35 @@ impl TileIndex {
         Ok(TileIndex { entries })
     }
 
+    /// Puts the blocks of all entries behind others, in the order of the tiles.
+    pub fn push_blocks(&self, blocks: &mut Vec<u32>) -> Result<(), AllocError>
+        ensures { OnOk result
+            (blocks.new.items ≡ blocks.old.items ++ flat_map (λ (x : ℕ × Entry). x.1.blocks) self.now) }
+    {
+        for (_tile, entry) in &self.entries {
+            blocks.extend_from_slice(entry.blocks.as_slice())?;
+        }
+        Ok(())
+    }
+
     /// The blocks of all entries, in the order of the tiles.
     pub fn blocks(&self, alloc: Global) -> Result<Vec<u32>, AllocError>
         ensures { IfOk result (λ blocks. blocks.items ≡ flat_map (λ (x : ℕ × Entry). x.1.blocks) self.now) }
     {
         let mut blocks = Vec::new(alloc);
-        for (_tile, entry) in &self.entries {
-            blocks.extend_from_slice(entry.blocks.as_slice())?;
-        }
+        self.push_blocks(&mut blocks)?;
         Ok(blocks)
+    }
+
+    /// How many bytes `to_bytes` gives.
+    pub fn bytes_len(&self) -> u64
+        ensures value { result ≡ length (index_bytes self.now) }
+        ensures index { IsIndex self.now }
+    {
+        let mut bytes = 4;
+        for (_tile, entry) in &self.entries {
+            bytes += entry.bytes_len();
+        }
+        bytes
     }
 }

@@ -8,5 +8,5 @@ mod index;
 mod reading;
 mod writing;
 
-pub use entry::{BlockList, Entry};
+pub use entry::{BlockList, Entry, MAX_TILE_BLOCKS};
 pub use index::TileIndex;

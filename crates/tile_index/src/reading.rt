@@ -3,6 +3,7 @@
 ghost use Rattle.std.specs.Prelude.{◌≡◌, ◌++◌, ◌<◌, ◌≤◌, ◌*◌, ◌^◌, ◌↔◌, length, flat_map, All, IfOk, IfSome, IfNone, IsErrOf, IsTrue};
 ghost use Rattle.file_bytes.specs.Codes.{NoneIsRead};
 ghost use Rattle.tile_index.specs.Index.{IsIndex, IsPair, ArePairs, AreSoMany};
+ghost use Rattle.tile_index.specs.Limits.{max_tile_blocks};
 ghost use Rattle.tile_index.specs.Entries.{most_bytes, AreOf};
 ghost use Rattle.tile_index.specs.Bytes.{number_bytes, length_number, entry_bytes, index_bytes, IsOfNoIndex, IsOfNoOther};
 
@@ -43,7 +44,7 @@ fn parts_of(number: u32) -> (Form, u32)
 
 /// The next `count` numbers.
 fn read_numbers(bytes: &mut Reader, count: usize) -> Option<BlockList>
-    requires { count ≤ 10 }
+    requires { count ≤ max_tile_blocks }
     ensures counted { IfSome result (λ numbers. length numbers ≡ count) }
     ensures small { IfSome result (λ numbers. All (λ b. b < 2 ^ 32) numbers) }
     ensures read { IfSome result (λ numbers. bytes.old ≡ flat_map number_bytes numbers ++ bytes.new) }

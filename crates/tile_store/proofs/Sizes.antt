@@ -4,14 +4,14 @@ use Rattle.std.proofs.lemmas.List.{length-map}
 use Rattle.std.proofs.lemmas.List.Sums.{sum_by-cons, sum_by-le}
 use Rattle.std.proofs.lemmas.List.Concat.{length-flat_map}
 use Rattle.tile_index.specs.declared.entry.Entry.{Entry}
-use Rattle.tile_index.specs.Bytes.{number_bytes, length_number, entry_bytes, index_bytes}
+use Rattle.tile_index.specs.Bytes.{number_bytes, entry_bytes, index_bytes}
 use Rattle.file_bytes.specs.declared.form.Form.{Form}
 use Rattle.file_bytes.specs.declared.form.Form.TheVariants.{Runs, Raw}
 use Rattle.file_bytes.specs.Limits.{blocks_filled}
 use Rattle.tile_index.specs.Entries.{IsEntry, most_bytes}
 use Rattle.tile_index.specs.Index.{found_at, changed_at, IsPair, IsIndex}
 use Rattle.tile_index.proofs.Between.{few-between}
-use Rattle.tile_index.proofs.Codes.{length-numbers, index-parts}
+use Rattle.tile_index.proofs.Codes.{entry_length, index-parts}
 use Rattle.tile_index.proofs.Found.{found_is}
 use Rattle.tile_store.specs.Listing.{tiles_of, AreChanges}
 use Rattle.tile_store.specs.Room.{entry_blocks, listed_bytes}
@@ -48,23 +48,15 @@ entry_small e is = (let few = (entry_few e is).1 in omega (arith, entry_bytes_ar
 number_long : (n : ℕ) → length (number_bytes n) ≡ 4
 number_long n = refl
 
-entry_long : (x : ℕ × Entry) → length (entry_bytes x) ≡ 8 + 4 * length x.1.blocks
-unfolding entry_bytes
-entry_long x =
-    omega (arith, length-append (number_bytes x.0) (number_bytes (length_number x.1.form x.1.length) ++ flat_map number_bytes x.1.blocks), length-append (number_bytes (length_number x.1.form x.1.length)) (flat_map number_bytes x.1.blocks), number_long x.0, number_long (length_number x.1.form x.1.length), length-numbers x.1.blocks)
-
 entries_long : (index : List (ℕ × Entry)) → All IsPair index → sum_by (λ (x : ℕ × Entry). length (entry_bytes x)) index ≡ sum_by pair_bytes index
 entries_long [] h = refl
 entries_long (x ∷ xs) h =
-    omega (arith, sum_by-cons (λ (y : ℕ × Entry). length (entry_bytes y)) x xs, sum_by-cons pair_bytes x xs, entries_long xs (λ i d lt. h (suc i) d (omega (arith, lt))), entry_long x, entry_bytes_are x.1 (h 0 x (omega arith)).1)
+    omega (arith, sum_by-cons (λ (y : ℕ × Entry). length (entry_bytes y)) x xs, sum_by-cons pair_bytes x xs, entries_long xs (λ i d lt. h (suc i) d (omega (arith, lt))), entry_length x, entry_bytes_are x.1 (h 0 x (omega arith)).1)
 
 -- how many bytes an index is written in
 pub index_long : (index : List (ℕ × Entry)) → IsIndex index → length (index_bytes index) ≡ 4 + sum_by pair_bytes index
 index_long index is =
     omega (arith, ap length (index-parts index), length-append (number_bytes (length index)) (flat_map entry_bytes index), number_long (length index), length-flat_map entry_bytes index, entries_long index is.pairs.each)
-
-pub no_pairs : IsIndex []
-no_pairs = record { pairs = record { rising = λ i j d lt below. absurd (omega (arith, below)); each = λ k d h. absurd (omega (arith, h)) }; few = omega arith }
 
 -- the entries of an index
 pub pair_entry : (index : List (ℕ × Entry)) (i : ℕ) (x : ℕ × Entry) → IsIndex index → i < length index → x ≡ get_or index i x → IsEntry x.1

@@ -5,6 +5,7 @@ ghost use Rattle.disk_face.specs.Disk.{Tells};
 ghost use Rattle.file_bytes.specs.Limits.{block_bytes};
 ghost use Rattle.block_file.specs.State.{times};
 ghost use Rattle.block_file.specs.Words.{OnlyReads, Moves, Covers, AreBytesOf};
+ghost use Rattle.tile_index.specs.Limits.{max_tile_blocks};
 ghost use Rattle.tile_store.specs.Faults.{Refuses};
 ghost use Rattle.tile_store.specs.Written.{AreNeighbours, IsDataRead, HoldsPart, HoldsBytes, AreFresh};
 
@@ -12,18 +13,15 @@ use crate::fault::Fault;
 use block_file::Blocks;
 use disk_face::DiskFault;
 use file_bytes::BLOCK_BYTES;
-use tile_index::Entry;
-
-/// How many neighbouring blocks are read at once at most: as many as a tile has.
-const MAX_AT_ONCE: usize = 10;
+use tile_index::{Entry, MAX_TILE_BLOCKS};
 
 /// Whether there are blocks, no more than a tile has, and each is the one behind the one before it.
 fn are_neighbours(numbers: &[u32]) -> bool
     ensures some { IsTrue result → 0 < length numbers.now }
-    ensures few { IsTrue result → length numbers.now ≤ 10 }
+    ensures few { IsTrue result → length numbers.now ≤ max_tile_blocks }
     ensures rising { IsTrue result → AreNeighbours numbers.now }
 {
-    if numbers.len() == 0 || MAX_AT_ONCE < numbers.len() {
+    if numbers.len() == 0 || MAX_TILE_BLOCKS < numbers.len() {
         return false;
     }
     let first = numbers[0] as usize;
@@ -43,7 +41,7 @@ fn read_neighbours<B: Blocks>(
 ) -> Result<(), Fault>
     requires used { Covers (B.state blocks.old) (times numbers.now) }
     requires some { 0 < length numbers.now }
-    requires few { length numbers.now ≤ 10 }
+    requires few { length numbers.now ≤ max_tile_blocks }
     requires rising { AreNeighbours numbers.now }
     ensures value { OnOk result (AreBytesOf numbers.now (B.state blocks.old) bytes.new.items) }
     ensures why { Refuses result ⊥ ⊥ }

@@ -20,7 +20,7 @@ ghost use Rattle.tile_store.specs.Written.{CanExchange, Exchanges, GivesBack};
 use crate::fault::Fault;
 use crate::numbers::{Numbers, Patch};
 use crate::overlay::overlay;
-use crate::reserve::{EMPTY_INDEX, has_room, index_size};
+use crate::reserve::has_room;
 use crate::tile::{cell_count, fill_tile, zeros};
 use crate::update::{Fresh, Ready, prepare};
 use arr_core::{Domain, FieldType};
@@ -55,17 +55,14 @@ impl FieldIndex {
     pub fn empty(alloc: Global) -> FieldIndex
         ensures { result ≡ [] }
     {
-        FieldIndex {
-            index: TileIndex::new(alloc),
-            size: EMPTY_INDEX,
-        }
+        FieldIndex::new(TileIndex::new(alloc))
     }
 
     /// An index that was read, with its size.
     pub fn new(index: TileIndex) -> FieldIndex
         ensures { result ≡ index }
     {
-        let size = index_size(&index);
+        let size = index.bytes_len();
         FieldIndex { index, size }
     }
 

@@ -1,9 +1,8 @@
-//! How many bytes the index of a field is written in, and how many blocks have to stay free for the metadata.
+//! How many bytes changes give the index of a field, and how many blocks have to stay free for the metadata.
 
 ghost use Rattle.std.specs.Prelude.{◌≡◌, ℕ, ◌+◌, ◌*◌, ◌<◌, ◌≤◌, ◌^◌, length, sum_by, All, Option, Some, IsTrue, false, option_copied};
 ghost use Rattle.block_file.specs.Format.{chain_blocks};
 ghost use Rattle.tile_index.specs.declared.entry.Entry.{Entry};
-ghost use Rattle.tile_index.specs.Bytes.{index_bytes};
 ghost use Rattle.tile_index.specs.Entries.{IsEntry};
 ghost use Rattle.tile_index.specs.Index.{IsIndex};
 ghost use Rattle.tile_store.specs.Room.{listed_bytes, entry_blocks, replaced_bytes, given_bytes};
@@ -11,11 +10,7 @@ ghost use Rattle.tile_store.specs.Room.{listed_bytes, entry_blocks, replaced_byt
 use block_file::CHAIN_BYTES;
 use tile_index::{Entry, TileIndex};
 
-/// How many bytes an index has without tiles.
-pub(crate) const EMPTY_INDEX: u64 = 4;
-
-/// How many bytes an entry has in an index: its tile, its length, and the numbers of its blocks. Without one there are
-/// none.
+/// How many bytes an index has for a tile, by its entry: none without one.
 fn entry_size(entry: Option<&Entry>) -> u64
     requires { (e : Entry) → option_copied entry ≡ Some e → IsEntry e }
     ensures value { result ≡ listed_bytes (entry_blocks (option_copied entry.entry)) }
@@ -23,21 +18,8 @@ fn entry_size(entry: Option<&Entry>) -> u64
 {
     match entry {
         None => 0,
-        Some(entry) => 8 + 4 * entry.blocks.as_slice().len() as u64,
+        Some(entry) => entry.bytes_len(),
     }
-}
-
-/// How many bytes an index has.
-pub(crate) fn index_size(index: &TileIndex) -> u64
-    ensures value { result ≡ length (index_bytes index.now) }
-    ensures index { IsIndex index.now }
-{
-    let entries = index.as_slice();
-    let mut size = EMPTY_INDEX;
-    for (_tile, entry) in entries {
-        size += entry_size(Some(entry));
-    }
-    size
 }
 
 /// How many bytes the entries of some tiles have in an index.

@@ -121,12 +121,6 @@ returns-in_default-clause-jobs g c = inl refl
 pub returns-in_default-clause-fetches : goal.returns-in_default-clause-fetches
 returns-in_default-clause-fetches g c = inr (inl refl)
 
-pub returns-in_default-coverages-clause-jobs : goal.returns-in_default-coverages-clause-jobs
-returns-in_default-coverages-clause-jobs g c = inl refl
-
-pub returns-in_default-coverages-clause-fetches : goal.returns-in_default-coverages-clause-fetches
-returns-in_default-coverages-clause-fetches g c = inr (inl refl)
-
 pub returns-in_err-reply-clause-jobs : goal.returns-in_err-reply-clause-jobs
 returns-in_err-reply-clause-jobs g c = any_err _ _ (inl refl)
 
@@ -156,9 +150,6 @@ returns-in-Ok-clause-lays g c =
 
 pub returns-in_default-clause-told : goal.returns-in_default-clause-told
 returns-in_default-clause-told g c = told_none _ _ _ (λ f. absurd cc) refl
-
-pub returns-in_default-coverages-clause-told : goal.returns-in_default-coverages-clause-told
-returns-in_default-coverages-clause-told g c = told_none _ _ _ (λ f. absurd cc) refl
 
 pub returns-in_err-reply-clause-told : goal.returns-in_err-reply-clause-told
 returns-in_err-reply-clause-told g c =

@@ -12,8 +12,8 @@ loop-index-init c k = omega (arith, no_field_lists k)
 
 pub loop-index-preserved : goal.loop-index-preserved
 loop-index-preserved c k =
-    let new = ap (λ (l : List ℕ). times l k) (c.in_ok-extend_from_slice.ensures.items) ∙ times_append c.loop-index.blocks.items c.deref.result.now k in
-    let listed = ap (λ (l : List ℕ). times l k) (c.deref.ensures.value ∙ c.in_ok-listed.ensures) ∙ times_listed c.index-item.result k in
+    let new = ap (λ (l : List ℕ). times l k) c.in_ok-push_blocks.ensures ∙ times_append c.loop-index.blocks.items _ k in
+    let listed = times_listed c.index-item.result k in
     omega (arith, new, listed, c.loop-index.invariant k, one_field_more k c.args.fields.now c.loop-index.index-index c.index-item.result c.loop-index-test.true (c.index-item.is))
 
 pub returns : goal.returns

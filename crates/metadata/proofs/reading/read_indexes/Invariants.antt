@@ -4,7 +4,7 @@ use Rattle.metadata.specs.Metadata.{indexes_bytes, indexes_of}
 use Rattle.metadata.specs.Parts.{AreCountedIn}
 use Rattle.metadata.proofs.reading.read_indexes.Given as goal
 
-abbrev pub invariant-loop-signature : goal.invariant-loop-signature
-invariant-loop-signature l =
-    ReadSoFar (AreCountedIn l.version l.signatures) indexes_bytes l.initial.bytes (indexes_of l.indexes.items) l.bytes l.signature-index
-    × AreCountedIn l.version (take l.signature-index l.signatures) (indexes_of l.indexes.items)
+abbrev pub invariant-loop-place : goal.invariant-loop-place
+invariant-loop-place l =
+    ReadSoFar (AreCountedIn l.version l.catalogue) indexes_bytes l.initial.bytes (indexes_of l.indexes.items) l.bytes l.place
+    × AreCountedIn l.version (take l.place l.catalogue) (indexes_of l.indexes.items)

@@ -12,19 +12,18 @@ returns-in_err-catalogue-clause-damaged c h signatures indexes m o =
 
 pub returns-in_err-indexes-clause-damaged : goal.returns-in_err-indexes-clause-damaged
 returns-in_err-indexes-clause-damaged c h signatures indexes m o =
-    let listed = c.deref.ensures.value ∙ c.in_ok-signatures.ensures in
-    let none = rw listed at (c.in_err-indexes.ensures.damaged (handed_on _ c.from_residual-in_err-indexes.ensures.1 h)) in
+    let none = c.in_err-indexes.ensures.damaged (handed_on _ c.from_residual-in_err-indexes.ensures.1 h) in
     none-second (metadata-parts c.args.version) c.in_ok-catalogue.ensures.read none (signatures, indexes) [] (of-version m o)
     (c.new-rest.ensures ∙ m.written ∙ sym (append-nil _))
 
 pub returns-then-len-ne0-clause-damaged : goal.returns-then-len-ne0-clause-damaged
 returns-then-len-ne0-clause-damaged c _ signatures indexes m o =
-    let whole = read-whole c.args.version c.deref.ensures.value c.in_ok-signatures.ensures c.in_ok-catalogue.ensures.read c.in_ok-indexes.ensures.read in
+    let whole = read-whole c.args.version c.in_ok-catalogue.ensures.read c.in_ok-indexes.ensures.read in
     omega (arith, ap length (whole-only whole (signatures, indexes) (of-version m o) (c.new-rest.ensures ∙ m.written)).1)
 
 pub returns-clause-read : goal.returns-clause-read
 returns-clause-read c =
-    let whole = read-whole c.args.version c.deref.ensures.value c.in_ok-signatures.ensures c.in_ok-catalogue.ensures.read c.in_ok-indexes.ensures.read in
+    let whole = read-whole c.args.version c.in_ok-catalogue.ensures.read c.in_ok-indexes.ensures.read in
     record {
       catalogue = whole.value.0.0;
       counted = (counted-out c.args.version _ _ whole.value.1).0;
@@ -33,7 +32,7 @@ returns-clause-read c =
 
 pub returns-clause-version : goal.returns-clause-version
 returns-clause-version c =
-    let whole = read-whole c.args.version c.deref.ensures.value c.in_ok-signatures.ensures c.in_ok-catalogue.ensures.read c.in_ok-indexes.ensures.read in
+    let whole = read-whole c.args.version c.in_ok-catalogue.ensures.read c.in_ok-indexes.ensures.read in
     record {
       axes = whole.value.0.1;
       forms = (counted-out c.args.version _ _ whole.value.1).1;
@@ -41,6 +40,6 @@ returns-clause-version c =
 
 pub returns-clause-only : goal.returns-clause-only
 returns-clause-only c signatures indexes m o =
-    let whole = read-whole c.args.version c.deref.ensures.value c.in_ok-signatures.ensures c.in_ok-catalogue.ensures.read c.in_ok-indexes.ensures.read in
+    let whole = read-whole c.args.version c.in_ok-catalogue.ensures.read c.in_ok-indexes.ensures.read in
     let one = (whole-only whole (signatures, indexes) (of-version m o) (c.new-rest.ensures ∙ m.written)).0 in
     (ap (λ p. p.0) one, ap (λ p. p.1) one)

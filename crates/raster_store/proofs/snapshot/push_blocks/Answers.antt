@@ -13,8 +13,8 @@ loop-field-init c k = omega (arith, no_field_lists k)
 
 pub loop-field-preserved : goal.loop-field-preserved
 loop-field-preserved c k =
-    let new = ap (λ (l : List ℕ). times l k) (c.in_ok-extend_from_slice.ensures.items) ∙ times_append c.loop-field.blocks.items c.deref.result.now k in
-    let more = ap (λ (l : List ℕ). times l k) (c.deref.ensures.value ∙ c.in_ok-listed.ensures) ∙ times_listed c.index.result.now k in
+    let new = ap (λ (l : List ℕ). times l k) c.in_ok-push_blocks.ensures ∙ times_append c.loop-field.blocks.items _ k in
+    let more = times_listed c.index.result.now k in
     let value : listed c.index.result.now k ≡ listed c.field-item.result k = ap (λ (i : Index). listed i k) c.index.ensures.value in
     omega (arith, new, more, value, c.loop-field.invariant k, one_field_more k c.args.fields.now c.loop-field.field-index c.field-item.result c.loop-field-test.true (c.field-item.is))
 

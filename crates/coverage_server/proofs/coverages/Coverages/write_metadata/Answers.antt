@@ -6,7 +6,7 @@ use Rattle.block_file.proofs.Headers.{keeps_header}
 use Rattle.block_file.specs.Uses.{uses_of}
 use Rattle.block_file.specs.View.{state_of}
 use Rattle.metadata.specs.Metadata.{metadata_bytes}
-use Rattle.coverage_server.specs.Closing.{bytes_written}
+use Rattle.coverage_server.specs.Closing.{metadata_held}
 use Rattle.coverage_server.specs.Views.{ServerView, signatures_of}
 use Rattle.coverage_server.proofs.ClosingLemmas.{written_fits, is_written}
 use Rattle.coverage_server.proofs.FaultLemmas.{tells_after, tells_as}
@@ -15,25 +15,28 @@ use Rattle.coverage_server.proofs.SpelledLemmas.{spelled_after, stays_spelled}
 use Rattle.coverage_server.proofs.FreeLemmas.{stays_ready, stays_unchanged, unchanged_after}
 use Rattle.coverage_server.proofs.coverages.Coverages.write_metadata.Goals as goal
 
+pub write_meta-requires-clause-some : goal.write_meta-requires-clause-some
+write_meta-requires-clause-some g c =
+    let is = subst (λ (v : ServerView). c.args.metadata.now ≡ metadata_held v) (sym c.self.view_is) c.requires in
+    (written_fits c.args.metadata.now c.self.inside.catalogue c.self.inside.cells.coverages c.self.inside.cells.indexes c.self.inside.cells.snapshots (uses_of c.self.inside.cells.blocks.marks) is c.self.invariant).0
+
 pub write_meta-requires-clause-room : goal.write_meta-requires-clause-room
 write_meta-requires-clause-room g c =
-    let is = subst (λ (v : ServerView). c.args.metadata.now ≡ bytes_written v.store v.indexes) (sym c.self.view_is) c.requires in
-    let fits = written_fits c.args.metadata.now c.self.inside.catalogue c.self.inside.cells.coverages c.self.inside.cells.indexes c.self.inside.cells.snapshots (uses_of c.self.inside.cells.blocks.marks) is
-    c.len-whole.ensures.whole c.len-catalogue.ensures.catalogue c.self.invariant in
-    fits.2
+    let is = subst (λ (v : ServerView). c.args.metadata.now ≡ metadata_held v) (sym c.self.view_is) c.requires in
+    let fits = written_fits c.args.metadata.now c.self.inside.catalogue c.self.inside.cells.coverages c.self.inside.cells.indexes c.self.inside.cells.snapshots (uses_of c.self.inside.cells.blocks.marks) is c.self.invariant in
+    fits.1
 
 pub returns-clause-written : goal.returns-clause-written
 returns-clause-written g c =
-    let is = subst (λ (v : ServerView). c.args.metadata.now ≡ bytes_written v.store v.indexes) (sym c.self.view_is) c.requires in
-    let fits = written_fits c.args.metadata.now c.self.inside.catalogue c.self.inside.cells.coverages c.self.inside.cells.indexes c.self.inside.cells.snapshots (uses_of c.self.inside.cells.blocks.marks) is
-    c.len-whole.ensures.whole c.len-catalogue.ensures.catalogue c.self.invariant in
+    let is = subst (λ (v : ServerView). c.args.metadata.now ≡ metadata_held v) (sym c.self.view_is) c.requires in
+    let fits = written_fits c.args.metadata.now c.self.inside.catalogue c.self.inside.cells.coverages c.self.inside.cells.indexes c.self.inside.cells.snapshots (uses_of c.self.inside.cells.blocks.marks) is c.self.invariant in
     let ready = stays_ready c.self.inside.catalogue c.self.inside.cells c.write_meta.new.self c.self.invariant c.write_meta.ensures.frame c.write_meta.ensures.snapshots in
     rw (← c.self.view_is)
     (λ (sure : IsTrue _).
     let honest = subst (λ (b : Bool). IsTrue b) (sym c.write_meta.ensures.frame.moves.honest) sure in
     let closes = c.in_ok-write_header.ensures.closes honest in
     is_written c.in_ok-first.first (state_of c.write_meta.new.self.blocks) c.write_header.new.self.content c.args.metadata.now
-    (metadata_bytes (signatures_of c.self.inside.cells.coverages) c.self.inside.cells.indexes) c.write_meta.new.self.indexes c.write_header.new.self.indexes c.write_meta.new.self.snapshots honest fits.0
+    (metadata_bytes (signatures_of c.self.inside.cells.coverages) c.self.inside.cells.indexes) c.write_meta.new.self.indexes c.write_header.new.self.indexes c.write_meta.new.self.snapshots honest is
     closes.1 c.in_ok-first.ensures.chain closes.0 ready.counted c.write_header.ensures.unchanged.indexes)
 
 pub returns-clause-unchanged : goal.returns-clause-unchanged
