@@ -6,7 +6,7 @@ import subprocess
 import time
 
 # The seconds that are waited for what has to come: enough for a slow machine, where one sync of a file may take many.
-LONGEST = 120
+LONGEST = 300
 KEPT = []
 
 
