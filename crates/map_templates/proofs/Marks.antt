@@ -1,18 +1,17 @@
 -- Texts as tokens and the spaces between them.
-use Rattle.std.proofs.Common.{◌≡◌, ◌==◌, ℕ, ◌+◌, ◌-◌, ◌*◌, ◌/◌, ◌%◌, ◌^◌, ◌<◌, ◌≤◌, Bool, true, false, ◌&&◌, List, [], ◌∷◌, ◌++◌, length, drop, Some, None, Result, Ok, decimal as decimal_text, refl, sym, ap, ◌∙◌, arith, subst, append_assoc}
+use Rattle.std.proofs.Common.{◌≡◌, ◌==◌, ℕ, ◌+◌, ◌≤◌, Bool, true, false, ◌&&◌, List, [], ◌∷◌, ◌++◌, length, drop, None, Result, Ok, decimal as decimal_text, refl, sym, ap, ◌∙◌, arith, subst, append_assoc}
 use Rattle.std.proofs.lemmas.Bool.Decides.{nat_tests}
-use Rattle.std.proofs.lemmas.Fmt.{decimal_by_steps}
 use Rattle.std.specs.Char.{is_ascii_digit}
 use Rattle.wcps_text.specs.declared.token.Symbol.{Symbol}
 use Rattle.wcps_text.specs.declared.token.Symbol.TheVariants as signs
-use Rattle.arr_core.specs.declared.keyword.Keyword.{Keyword}
-use Rattle.arr_core.specs.declared.keyword.Keyword.TheVariants as words
 use Rattle.wcps_text.specs.declared.error.LexError.{LexError}
 use Rattle.wcps_text.specs.Runs.{Stops}
 use Rattle.wcps_text.specs.Token.{Tok, number, name, dollar, quoted, word, sign}
 use Rattle.arr_core.specs.Keywords.{keyword_text}
-use Rattle.wcps_text.specs.Lexing.{begins_name, continues_name, Every, decimal, decimal_from, symbol_text, double, IsWord, is_word, IsDigits, is_digits, Reads, numeral, plain, reserved, marked, one_byte, two_bytes, IsLongest, Piece, Lexed, at_end, past_space, past_token, tokens_of}
-use Rattle.wcps_text.proofs.Fronts.{AtMost, fits, digit_most, letter_most, dollar_most, none_equal, true_false}
+use Rattle.wcps_text.specs.Lexing.{begins_name, continues_name, symbol_text, double, IsWord, is_word, IsDigits, is_digits, Reads, numeral, plain, reserved, marked, IsLongest, Piece, Lexed, at_end, past_space, past_token, tokens_of}
+use Rattle.wcps_text.specs.Fronts.{IsOther}
+use Rattle.wcps_text.proofs.Fronts.{fits, digit_most, letter_most, dollar_most, other_most, none_equal, true_false}
+use Rattle.wcps_text.proofs.Lexemes.{Written, number_text, word_text, sign_text}
 
 -- a space, or a token
 pub data Mark : Type 0 where
@@ -43,15 +42,6 @@ toks_of (tk t ∷ ms) = t ∷ toks_of ms
 abbrev pub is_equals : ℕ → Bool
 is_equals b = b == 61
 
--- bytes that read as the token, which is no string
-abbrev pub Written : Tok → Type 0
-Written (number n) = n < 2 ^ 63
-Written (name x) = Reads x (Ok (name x))
-Written (dollar x) = Reads x (Ok (dollar x))
-Written (quoted w) = ⊥
-Written (word k) = Unit {0}
-Written (sign s) = Unit {0}
-
 -- no byte behind it belongs to it
 abbrev pub Ends : Tok → List ℕ → Type 0
 Ends (number n) rest = Stops continues_name rest
@@ -68,96 +58,6 @@ abbrev pub Cleared : List Mark → Type 0
 Cleared [] = Unit {0}
 Cleared (gap ∷ ms) = Cleared ms
 Cleared (tk t ∷ ms) = Written t × Ends t (text_of ms) × Cleared ms
-
--- ---- the digits of a number
-
-record IsText (n : ℕ) (ds : List ℕ) : Type 0 where
-  digits : IsDigits ds
-  value : decimal ds ≡ n
-
-every_push : (p : ℕ → Bool) (ds : List ℕ) (d : ℕ) → Every p ds → p d ≡ true → Every p (ds ++ d ∷ [])
-every_push p [] d all h = (h, tt)
-every_push p (x ∷ ds) d all h = (all.0, every_push p ds d all.1 h)
-
-decimal_push : (m : ℕ) (ds : List ℕ) (d : ℕ) → decimal_from m (ds ++ d ∷ []) ≡ decimal_from m ds * 10 + (d - 48)
-decimal_push m [] d = refl
-decimal_push m (x ∷ ds) d = decimal_push (m * 10 + (x - 48)) ds d
-
-digits_push : (ds : List ℕ) (d : ℕ) → IsDigits ds → is_ascii_digit d ≡ true → IsDigits (ds ++ d ∷ [])
-digits_push ds d (is_digits {d = x} {ds = xs} first more) h = is_digits first (every_push is_ascii_digit xs d more h)
-
-digit : (n : ℕ) → n < 10 → is_ascii_digit (48 + n) ≡ true
-digit n lt = grind (arith, nat_tests)
-
-one_digit : (n : ℕ) → n < 10 → IsText n ((48 + n) ∷ [])
-one_digit n lt = record { digits = is_digits (digit n lt) tt; value = omega arith }
-
-more_digits : (n : ℕ) (ds : List ℕ) → 10 ≤ n → IsText (n / 10) ds → IsText n (ds ++ ((48 + n % 10) ∷ []))
-more_digits n ds le t =
-    let small : n % 10 < 10 = omega arith in
-    record {
-      digits = digits_push ds (48 + n % 10) t.digits (digit (n % 10) small);
-      value = decimal_push 0 ds (48 + n % 10) ∙ rw t.value (omega arith);
-    }
-
-number_text : (n : ℕ) → n < 2 ^ 64 → IsText n (decimal_text n)
-number_text n lt = decimal_by_steps IsText one_digit more_digits n lt
-
--- ---- words and signs
-
-word_text : (k : Keyword) → IsWord (keyword_text k) × (length (keyword_text k) ≤ 64)
-word_text words.For = (is_word refl (refl, (refl, tt)), omega arith)
-word_text words.In = (is_word refl (refl, tt), omega arith)
-word_text words.Where = (is_word refl (refl, (refl, (refl, (refl, tt)))), omega arith)
-word_text words.Return = (is_word refl (refl, (refl, (refl, (refl, (refl, tt))))), omega arith)
-word_text words.Encode = (is_word refl (refl, (refl, (refl, (refl, (refl, tt))))), omega arith)
-word_text words.Csv = (is_word refl (refl, (refl, tt)), omega arith)
-word_text words.Coverage = (is_word refl (refl, (refl, (refl, (refl, (refl, (refl, (refl, tt))))))), omega arith)
-word_text words.Over = (is_word refl (refl, (refl, (refl, tt))), omega arith)
-word_text words.Values = (is_word refl (refl, (refl, (refl, (refl, (refl, tt))))), omega arith)
-word_text words.Value = (is_word refl (refl, (refl, (refl, (refl, tt)))), omega arith)
-word_text words.List = (is_word refl (refl, (refl, (refl, tt))), omega arith)
-word_text words.Condense = (is_word refl (refl, (refl, (refl, (refl, (refl, (refl, (refl, tt))))))), omega arith)
-word_text words.Using = (is_word refl (refl, (refl, (refl, (refl, tt)))), omega arith)
-word_text words.And = (is_word refl (refl, (refl, tt)), omega arith)
-word_text words.Or = (is_word refl (refl, tt), omega arith)
-word_text words.Xor = (is_word refl (refl, (refl, tt)), omega arith)
-word_text words.Not = (is_word refl (refl, (refl, tt)), omega arith)
-word_text words.Abs = (is_word refl (refl, (refl, tt)), omega arith)
-word_text words.Bit = (is_word refl (refl, (refl, tt)), omega arith)
-word_text words.True = (is_word refl (refl, (refl, (refl, tt))), omega arith)
-word_text words.False = (is_word refl (refl, (refl, (refl, (refl, tt)))), omega arith)
-word_text words.Count = (is_word refl (refl, (refl, (refl, (refl, tt)))), omega arith)
-word_text words.Some = (is_word refl (refl, (refl, (refl, tt))), omega arith)
-word_text words.All = (is_word refl (refl, (refl, tt)), omega arith)
-word_text words.Add = (is_word refl (refl, (refl, tt)), omega arith)
-word_text words.Avg = (is_word refl (refl, (refl, tt)), omega arith)
-word_text words.Min = (is_word refl (refl, (refl, tt)), omega arith)
-word_text words.Max = (is_word refl (refl, (refl, tt)), omega arith)
-word_text words.ImageCrsDomain = (is_word refl (refl, (refl, (refl, (refl, (refl, (refl, (refl, (refl, (refl, (refl, (refl, (refl, (refl, tt))))))))))))), omega arith)
-
--- each token reads as itself
-sign_reads : (s : Symbol) → Reads (symbol_text s) (Ok (sign s))
-sign_reads signs.LeftParen = one_byte refl
-sign_reads signs.RightParen = one_byte refl
-sign_reads signs.LeftBracket = one_byte refl
-sign_reads signs.RightBracket = one_byte refl
-sign_reads signs.LeftBrace = one_byte refl
-sign_reads signs.RightBrace = one_byte refl
-sign_reads signs.Comma = one_byte refl
-sign_reads signs.Semicolon = one_byte refl
-sign_reads signs.Colon = one_byte refl
-sign_reads signs.Dot = one_byte refl
-sign_reads signs.Less = one_byte refl
-sign_reads signs.LessEqual = two_bytes refl
-sign_reads signs.Greater = one_byte refl
-sign_reads signs.GreaterEqual = two_bytes refl
-sign_reads signs.Equal = one_byte refl
-sign_reads signs.NotEqual = two_bytes refl
-sign_reads signs.Plus = one_byte refl
-sign_reads signs.Minus = one_byte refl
-sign_reads signs.Star = one_byte refl
-sign_reads signs.Slash = one_byte refl
 
 -- ---- the longest token
 
@@ -200,35 +100,18 @@ name_longest w _ rest (plain is short free) h = name_bound w rest is h
 not_equals : (rest us : List ℕ) → Stops is_equals rest → rest ≡ 61 ∷ us → ⊥
 not_equals rest us h e = true_false refl (subst (λ (t : List ℕ). Stops is_equals t) e h)
 
--- what a byte is that begins no other token than a symbol
-record IsSign (b : ℕ) : Type 0 where
-  no_digit : is_ascii_digit b ≡ false
-  no_letter : begins_name b ≡ false
-  no_dollar : b ≡ 36 → ⊥
-  no_quote : b ≡ 34 → ⊥
-
-sign_most : (b n : ℕ) (rest : List ℕ) → IsSign b → 1 ≤ n → ((s : Symbol) (us : List ℕ) → double b ≡ Some s → rest ≡ 61 ∷ us → 2 ≤ n) → AtMost b rest n
-sign_most b n rest is one two = record {
-  digits = λ e. absurd (true_false e is.no_digit);
-  letters = λ e. absurd (true_false e is.no_letter);
-  dollars = λ e. absurd (is.no_dollar e);
-  quotes = λ e. absurd (is.no_quote e);
-  ones = λ _ _. one;
-  twos = two;
-}
-
 -- a symbol that is never the front of a longer one
-alone_bound : (b : ℕ) (rest : List ℕ) → IsSign b → double b ≡ None → Bound (b ∷ []) rest
-alone_bound b rest is none = λ v us q form same. fits (sign_most b 1 rest is (omega arith) (λ s vs both _. absurd (none_equal none both))) v us q form same
+alone_bound : (b : ℕ) (rest : List ℕ) → IsOther b → double b ≡ None → Bound (b ∷ []) rest
+alone_bound b rest is none = λ v us q form same. fits (other_most b 1 rest is (λ _ _. omega arith) (λ s vs both _. absurd (none_equal none both))) v us q form same
 
 -- `<` or `>` alone
-narrow_bound : (b : ℕ) (rest : List ℕ) → IsSign b → Stops is_equals rest → Bound (b ∷ []) rest
-narrow_bound b rest is h = λ v us q form same. fits (sign_most b 1 rest is (omega arith) (λ s vs _ e. absurd (not_equals rest vs h e))) v us q form same
+narrow_bound : (b : ℕ) (rest : List ℕ) → IsOther b → Stops is_equals rest → Bound (b ∷ []) rest
+narrow_bound b rest is h = λ v us q form same. fits (other_most b 1 rest is (λ _ _. omega arith) (λ s vs _ e. absurd (not_equals rest vs h e))) v us q form same
 
-wide_bound : (b : ℕ) (rest : List ℕ) → IsSign b → Bound (b ∷ 61 ∷ []) rest
-wide_bound b rest is = λ v us q form same. fits (sign_most b 2 (61 ∷ rest) is (omega arith) (λ s vs _ e. omega arith)) v us q form same
+wide_bound : (b : ℕ) (rest : List ℕ) → IsOther b → Bound (b ∷ 61 ∷ []) rest
+wide_bound b rest is = λ v us q form same. fits (other_most b 2 (61 ∷ rest) is (λ _ _. omega arith) (λ s vs _ e. omega arith)) v us q form same
 
-byte_sign : (b : ℕ) → is_ascii_digit b ≡ false → begins_name b ≡ false → (b == 36) ≡ false → (b == 34) ≡ false → IsSign b
+byte_sign : (b : ℕ) → is_ascii_digit b ≡ false → begins_name b ≡ false → (b == 36) ≡ false → (b == 34) ≡ false → IsOther b
 byte_sign b hd hl hs hq = record {
   no_digit = hd;
   no_letter = hl;
@@ -266,7 +149,7 @@ front (name x) rest reads h = longest x rest (Ok (name x)) reads (name_longest x
 front (dollar x) rest reads h = longest x rest (Ok (dollar x)) reads (dollar_longest x x rest reads h)
 front (quoted x) rest none h = absurd none
 front (word k) rest none h = let t = word_text k in longest (keyword_text k) rest (Ok (word k)) (reserved t.0 t.1 refl) (name_bound (keyword_text k) rest t.0 h)
-front (sign s) rest none h = longest (symbol_text s) rest (Ok (sign s)) (sign_reads s) (sign_bound s rest h)
+front (sign s) rest none h = longest (symbol_text s) rest (Ok (sign s)) (sign_text s) (sign_bound s rest h)
 
 -- ---- whole texts
 

@@ -1,12 +1,9 @@
 -- Names are read as names.
-use Rattle.std.proofs.Common.{◌≡◌, ℕ, ◌≤◌, ◌<◌, Bool, true, false, not, ◌&&◌, nat_le, List, [], ◌∷◌, ◌++◌, length, get_or, codes, decimal, ◌+◌, Ok, refl, sym, subst, arith}
+use Rattle.std.proofs.Common.{◌≡◌, ℕ, ◌≤◌, ◌<◌, Bool, true, false, not, ◌&&◌, nat_le, List, [], ◌∷◌, ◌++◌, length, codes, decimal, ◌+◌, Ok, refl, sym, subst, arith}
 use Rattle.std.proofs.lemmas.Bool.Decides.{nat_tests}
 use Rattle.std.proofs.lemmas.Fmt.{decimal_by_steps}
-use Rattle.std.proofs.lemmas.List.Folds.{list_any_at}
-use Rattle.std.proofs.lemmas.Slice.Eq.{bytes_eq-Decides}
 use Rattle.std.specs.Char.{is_ascii_digit}
 use Rattle.std.specs.List.{list_all}
-use Rattle.std.specs.Str.{str_eq_ignore_ascii_case}
 use Rattle.arr_core.specs.Names as names
 use Rattle.arr_core.specs.Keywords.{is_keyword}
 use Rattle.arr_core.specs.Names.{goes_on_name, is_spelled}
@@ -14,6 +11,7 @@ use Rattle.arr_core.proofs.Keywords.{unwritten}
 use Rattle.wcps_text.specs.Token.{name, dollar}
 use Rattle.wcps_text.specs.Lexing.{continues_name, Every, IsWord, is_word, Reads, plain, marked}
 use Rattle.wcps_text.proofs.Fronts.{true_false}
+use Rattle.wcps_text.proofs.Lexemes.{digit}
 
 goes_on : (b : ℕ) → goes_on_name b ≡ true → continues_name b ≡ true
 goes_on b h = grind (arith, nat_tests)
@@ -102,9 +100,6 @@ v_reads = marked (is_word refl tt) (omega arith)
 -- the digit of a number
 pub one_digit : (k : ℕ) → k < 10 → decimal k ≡ (48 + k) ∷ []
 one_digit k lt = decimal_by_steps (λ (n : ℕ) (ds : List ℕ). n < 10 → ds ≡ (48 + n) ∷ []) (λ n small _. refl) (λ n ds large _ small. absurd (omega arith)) k (omega arith) lt
-
-digit : (k : ℕ) → k < 10 → is_ascii_digit (48 + k) ≡ true
-digit k lt = grind (arith, nat_tests)
 
 -- the variables with a digit
 pub p_number : (k : ℕ) → k < 10 → Reads (codes "$p" ++ decimal k) (Ok (dollar (codes "$p" ++ decimal k)))

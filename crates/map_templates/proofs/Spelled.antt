@@ -1,6 +1,5 @@
 -- The tokens of the templates spell their queries.
 use Rattle.std.proofs.Common.{◌≡◌, ℕ, suc, ◌+◌, ◌≤◌, ℤ, pos, negsuc, ◌-ℤ◌, List, [], ◌∷◌, length, codes, Option, Some, None, refl, arith, subst}
-use Rattle.std.proofs.lemmas.Int.{ints}
 use Rattle.arr_core.specs.declared.domain.Axis.{Axis}
 use Rattle.wcps_text.specs.declared.token.Symbol.TheVariants as signs
 use Rattle.arr_core.specs.declared.keyword.Keyword.TheVariants as words
@@ -11,6 +10,7 @@ use Rattle.wcps_text.specs.Token.{Tok, number, name, dollar, word, sign}
 use Rattle.wcps_text.specs.Tree as tree
 use Rattle.wcps_text.specs.Tree.{Tree, Subs, no_subs, sub, at, bounds, Iters, no_iters, iter, only, always, encode, BindingTree, QueryTree}
 use Rattle.wcps_text.specs.Grammar.{rank_of, binary_token, Condenses, by_sum, by_greatest, by_least, closed, open_ended, SpellsInt, unsigned, negative, Spells, post, coverage, condense, unary, tighter, binary, negate, parens, SpellsPost, literal, variable, grouped, field, brackets, SpellsSub, of_axis, SpellsSubs, last_sub, more_subs, position, SpellsInterval, between, SpellsIter, iterator, SpellsIters, last_iter, more_iters, conditional, plain_name, dollar_name, last_name, stands_for, last_binding, more_bindings, csv_word, encoded, for_all, IsSpelled, query}
+use Rattle.wcps_text.proofs.Lexemes.{below_zero}
 use Rattle.map_templates.specs.declared.params.Layer.{Layer}
 use Rattle.map_templates.specs.declared.template.LocalOperation.{LocalOperation}
 use Rattle.map_templates.specs.declared.template.LocalOperation.TheVariants as locals
@@ -100,12 +100,9 @@ local_query_spelled op first second =
 
 -- ---- bounds
 
-below : (n : ℕ) → pos 0 -ℤ pos (suc n) ≡ negsuc n
-below n = omega (arith, ints)
-
 bound_int : (z : ℤ) (rest : List Mark) → SpellsInt (toks_of (bound_marks z rest)) z (toks_of rest)
 bound_int (pos n) rest = unsigned
-bound_int (negsuc n) rest = subst (λ (z : ℤ). SpellsInt (sign signs.Minus ∷ number (suc n) ∷ toks_of rest) z (toks_of rest)) (below n) negative
+bound_int (negsuc n) rest = subst (λ (z : ℤ). SpellsInt (sign signs.Minus ∷ number (suc n) ∷ toks_of rest) z (toks_of rest)) (below_zero n) negative
 
 -- a bound as an expression: a sign is an operator
 abbrev pub bound_expr : ℤ → Tree

@@ -1,7 +1,5 @@
 -- What some tokens spell, the printed tokens spell too.
-use Rattle.std.proofs.Common.{◌≡◌, ℕ, zero, suc, ◌-◌, ◌^◌, ◌<◌, cond, ltb, ℤ, pos, negsuc, ◌-ℤ◌, Bool, true, false, List, [], ◌∷◌, length, map, codes, refl, sym, ap, arith, subst}
-use Rattle.std.proofs.lemmas.Bool.Decides.{nat_tests}
-use Rattle.std.specs.Char.{to_ascii_lowercase}
+use Rattle.std.proofs.Common.{◌≡◌, ℕ, zero, suc, ◌-◌, ◌^◌, ◌<◌, ℤ, pos, ◌-ℤ◌, true, false, List, [], ◌∷◌, codes, refl, sym, arith, subst}
 use Rattle.wcps_text.specs.declared.token.Symbol.TheVariants as signs
 use Rattle.arr_core.specs.declared.keyword.Keyword.{Keyword}
 use Rattle.arr_core.specs.declared.keyword.Keyword.TheVariants as words
@@ -16,14 +14,15 @@ use Rattle.wcps_text.specs.declared.tree.ListItem.TheVariants as list_items
 use Rattle.wcps_text.specs.Token.{Tok, number, name, word, sign}
 use Rattle.wcps_text.specs.Tree as tree
 use Rattle.wcps_text.specs.Tree.{Tree, Parts, no_parts, part, Subs, no_subs, sub, PlaceTree, trim, at, IntervalTree, bounds, domain, Iters, no_iters, iter, Condition, always, only, BindingTree, ItemTree, encode, plain, QueryTree}
-use Rattle.arr_core.specs.Keywords.{keyword_text, IsWritten, is_keyword}
+use Rattle.arr_core.specs.Keywords.{IsWritten, is_keyword}
 use Rattle.arr_core.proofs.Keywords.{unwritten}
 use Rattle.wcps_text.specs.Lexing.{is_word, plain as plain_form}
 use Rattle.wcps_text.specs.Grammar.{Prefixes, negate, plus, not, binary_token, truth_word, Reduces, to_count, to_any, to_every, to_sum, to_average, to_least, to_greatest, Condenses, by_sum, by_product, by_greatest, by_least, by_every, by_any, rank_of, max_rank, Openness, closed, open_ended, SpellsInt, unsigned, positive, negative, SpellsItem, int_item, truth_item, SpellsItems, last_item, more_items, SpellsVariable, plain_name, dollar_name, Spells, post, coverage, condense, unary, tighter, binary, SpellsInParens, parens, SpellsPost, literal, truth, variable, grouped, abs, bit, reduce, parts, value_list, field, brackets, named, SpellsParts, last_part, more_parts, of_axis, SpellsSubs, last_sub, more_subs, SpellsPlace, trimmed, position, SpellsInterval, between, domain_of, iterator, SpellsIters, last_iter, more_iters, SpellsCondition, unconditional, conditional, SpellsNames, last_name, more_names, stands_for, SpellsBindings, last_binding, more_bindings, csv_word, SpellsReturn, encoded, unencoded, SpellsEnd, for_all, for_some, IsSpelled, query}
 use Rattle.wcps_text.proofs.Ranks.{rank_most, rank_suc, raised}
+use Rattle.wcps_text.proofs.Lexemes.{Written, below_zero}
 use Rattle.wcps_print.specs.Printing.{name_token, int_tokens, unary_token, between_tokens, reduce_token, condense_token, items_tokens, expr_tokens, parts_tokens, subs_tokens, place_tokens, interval_tokens, iters_tokens, condition_tokens, names_tokens, bindings_tokens, item_tokens, query_tokens}
 use Rattle.wcps_print.proofs.Operators.{between as between_same}
-use Rattle.wcps_print.proofs.Written.{Proper, Written, Each, name_as_name, dollar_as_dollar}
+use Rattle.wcps_print.proofs.Written.{Proper, Each, name_as_name, dollar_as_dollar}
 
 -- what an expression is printed as spells it, before any rest
 pub record Again (e : Tree) : Type 0 where
@@ -124,13 +123,6 @@ again_variable (dollar_name {x}) p = (record { spelled = λ rest. rw (dollar_as_
 pub record AgainInt (z : ℤ) : Type 0 where
   pub spelled : (rest : List Tok) → SpellsInt (int_tokens z rest) z rest
   pub written : (rest : List Tok) → Each Written rest → Each Written (int_tokens z rest)
-
-below_zero : (n : ℕ) → pos 0 -ℤ pos (suc n) ≡ negsuc n
-below_zero n = chosen (ltb 0 (suc n)) (suc n - 1) n (0 - suc n) (grind (arith, nat_tests)) (omega arith)
-  where
-    chosen : (b : Bool) (m n k : ℕ) → b ≡ true → m ≡ n → cond b (negsuc m) (pos k) ≡ negsuc n
-    chosen true m n k e same = ap negsuc same
-    chosen false m n k e same = absurd cc
 
 int_negative : (n : ℕ) → n < 2 ^ 63 → AgainInt (pos 0 -ℤ pos n)
 int_negative zero small = record { spelled = λ rest. unsigned; written = λ rest w. (small, w) }

@@ -1,4 +1,4 @@
--- Tokens that a text can have, and of them those that a printed query can have.
+-- Tokens that a text can have, and the tokens of names.
 use Rattle.std.proofs.Common.{◌≡◌, ℕ, ◌^◌, ◌<◌, List, [], ◌∷◌, get_or, Ok, refl, arith, ⊎_elim}
 use Rattle.std.proofs.lemmas.Bool.Decides.{eqb_tells}
 use Rattle.wcps_text.specs.Token.{Tok, number, name, dollar, quoted, word, sign}
@@ -14,15 +14,6 @@ Proper (dollar x) = Reads x (Ok (dollar x))
 Proper (quoted w) = Unit {0}
 Proper (word k) = Unit {0}
 Proper (sign s) = Unit {0}
-
--- the same, and no string
-abbrev pub Written : Tok → Type 0
-Written (number n) = n < 2 ^ 63
-Written (name x) = Reads x (Ok (name x))
-Written (dollar x) = Reads x (Ok (dollar x))
-Written (quoted w) = ⊥
-Written (word k) = Unit {0}
-Written (sign s) = Unit {0}
 
 abbrev pub Each : (Tok → Type 0) → List Tok → Type 0
 Each P [] = Unit {0}

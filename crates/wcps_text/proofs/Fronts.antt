@@ -264,7 +264,7 @@ pub text_refused : (bytes : List ℕ) (m : ℕ) → get_or bytes 0 0 ≡ 34 → 
 text_refused [] m first some run none = absurd (omega arith)
 text_refused (b ∷ bs) m first some run none = subst (λ (a : ℕ). Refused (a ∷ bs) errors.BadToken) (sym first) (refused 34 bs refl (open_quote m bs run none))
 
-other_most : (b n : ℕ) (bs : List ℕ) → IsOther b → ((s : Symbol) → single b ≡ Some s → 1 ≤ n) → ((s : Symbol) (us : List ℕ) → double b ≡ Some s → bs ≡ 61 ∷ us → 2 ≤ n) → AtMost b bs n
+pub other_most : (b n : ℕ) (bs : List ℕ) → IsOther b → ((s : Symbol) → single b ≡ Some s → 1 ≤ n) → ((s : Symbol) (us : List ℕ) → double b ≡ Some s → bs ≡ 61 ∷ us → 2 ≤ n) → AtMost b bs n
 other_most b n bs other ones twos = record {
   digits = λ h. absurd (true_false h other.no_digit);
   letters = λ h. absurd (true_false h other.no_letter);

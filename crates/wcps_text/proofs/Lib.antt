@@ -3,3 +3,4 @@ pub mod Bytes
 pub mod Fronts
 pub mod Steps
 pub mod Ranks
+pub mod Lexemes
