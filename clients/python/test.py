@@ -19,6 +19,7 @@ import argparse
 import importlib.util
 import os
 import shutil
+import signal
 import sys
 import unittest
 
@@ -49,7 +50,15 @@ def is_here(it):
     return bool(shutil.which(it) or shutil.which(f"/usr/sbin/{it}") or importlib.util.find_spec(it))
 
 
+def heed_signals():
+    """Has what the tests start heed the signals that a program in the background, or behind `nohup`, does not."""
+    for number in (signal.SIGHUP, signal.SIGINT, signal.SIGQUIT):
+        if signal.getsignal(number) == signal.SIG_IGN:
+            signal.signal(number, signal.SIG_DFL)
+
+
 def main():
+    heed_signals()
     words = argparse.ArgumentParser(description=__doc__, formatter_class=argparse.RawDescriptionHelpFormatter)
     words.add_argument("program")
     words.add_argument("parts", nargs="*", choices=[*PARTS, "all", []], metavar="PART")
